@@ -1,0 +1,2 @@
+//! Fields of bits and of whole octets, as numbers with and without sign.
+#![tactic(auto)]

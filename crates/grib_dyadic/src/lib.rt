@@ -1,0 +1,2 @@
+//! Reference values as exact numbers.
+#![tactic(auto)]
