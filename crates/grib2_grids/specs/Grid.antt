@@ -1,0 +1,73 @@
+-- Section 3, the grid definition section (WMO-No. 306, Volume I.2, FM 92 GRIB edition 2, grid definition
+-- templates 3.0, 3.1, 3.10, 3.20, 3.30 and 3.40).
+use Rattle.std.specs.Prelude.{ℕ, ◌+◌, ◌-◌, ◌*◌, ◌/◌, min, Bool, not, cond, ◌&&◌, ◌||◌, List, [], ◌∷◌, length, map, nat_lt, ◌==◌, sum}
+use Rattle.std.specs.List.{list_any, range_with_len}
+use Rattle.grib_bits.specs.Octets.{octets}
+use Rattle.grib_io.specs.declared.fault.Reason.TheVariants.{SectionLength, GridSource, GridTemplate, PointCount, ListShape}
+use Rattle.grib_io.specs.Rows.{Row, row}
+use Rattle.grib2_sections.specs.Template.{Template, template, is_template, least_length}
+
+-- the grid templates of the profile, each with its least length in octets
+abbrev pub grid_templates : List Template
+grid_templates = template 0 72 ∷ template 1 84 ∷ template 10 72 ∷ template 20 65 ∷ template 30 81 ∷ template 40 72 ∷ []
+
+-- The numbers of Section 3 that decide acceptance, by their octets.
+abbrev pub grid_source : List ℕ → ℕ
+grid_source s = octets s 6 6
+
+abbrev pub grid_points : List ℕ → ℕ
+grid_points s = octets s 7 10
+
+abbrev pub list_octets : List ℕ → ℕ
+list_octets s = octets s 11 11
+
+abbrev pub list_meaning : List ℕ → ℕ
+list_meaning s = octets s 12 12
+
+abbrev pub grid_template : List ℕ → ℕ
+grid_template s = octets s 13 14
+
+abbrev pub ni : List ℕ → ℕ
+ni s = octets s 31 34
+
+abbrev pub nj : List ℕ → ℕ
+nj s = octets s 35 38
+
+-- the octet at which the list of the numbers of points of each row begins
+abbrev pub list_start : List ℕ → ℕ
+list_start s = cond (grid_template s == 1) 85 73
+
+-- the list: Nj numbers of octet 11 octets each, as far as the section goes; none where octet 11 is 0
+abbrev pub row_list : List ℕ → List ℕ
+row_list s =
+  let size = list_octets s in
+  let f = list_start s in
+  let stand = (length s + 1 - f) / size in
+  map (λ j. octets s (f + j * size) (f + j * size + size - 1)) (range_with_len 0 (cond (size == 0) 0 (min (nj s) stand)))
+
+-- whether the template may have a list of rows
+abbrev pub may_have_list : ℕ → Bool
+may_have_list t = list_any (λ n. n == t) (0 ∷ 1 ∷ 40 ∷ [])
+
+-- rows S3.1 to S3.11, for a section that begins at octet `start` of the message
+abbrev pub grid_rows : List ℕ → ℕ → List Row
+grid_rows s start =
+  let l = length s in
+  let t = grid_template s in
+  let points = grid_points s in
+  let size = list_octets s in
+  let meaning = list_meaning s in
+  let listed = not (size == 0) in
+  let f = list_start s in
+  row (nat_lt l 14) start SectionLength l
+    ∷ row (not (grid_source s == 0)) (start + 5) GridSource (grid_source s)
+    ∷ row (not (is_template grid_templates t)) (start + 12) GridTemplate t
+    ∷ row (nat_lt l (least_length grid_templates t)) start SectionLength l
+    ∷ row (points == 0 || nat_lt 33554432 points) (start + 6) PointCount points
+    ∷ row (listed && not (meaning == 1) && not (meaning == 2)) (start + 11) ListShape meaning
+    ∷ row (nat_lt 4 size || (listed && not (may_have_list t))) (start + 10) ListShape size
+    ∷ row (listed && (nj s == 0 || nj s == 4294967295)) (start + 34) ListShape (nj s)
+    ∷ row (listed && nat_lt l (f - 1 + size * nj s)) (start + (f - 1)) ListShape (nj s)
+    ∷ row (listed && not (sum (row_list s) == points)) (start + 6) PointCount (sum (row_list s))
+    ∷ row (not listed && not (ni s * nj s == points)) (start + 6) PointCount (ni s * nj s)
+    ∷ []

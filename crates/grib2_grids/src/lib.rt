@@ -1,0 +1,2 @@
+//! Grids: Section 3 of edition 2.
+#![tactic(auto)]

@@ -1,0 +1,80 @@
+-- Which octets are a message of edition 2, and why others are refused (WMO-No. 306, Volume I.2, FM 92
+-- GRIB edition 2, in the profile of docs/PROFILE.md): the rows of Section 0, then, for each section in
+-- turn, the rows of its frame and those of its contents. The first row that fails gives the refusal.
+use Rattle.std.specs.Prelude.{ℕ, zero, suc, ◌+◌, Bool, true, false, Option, Some, None, List, [], ◌∷◌, length, get_or}
+use Rattle.grib_io.specs.declared.fault.Fault.{Fault}
+use Rattle.grib_io.specs.declared.fault.Reason.TheVariants.{Truncated}
+use Rattle.grib_io.specs.Rows.{first_fault, refusal}
+use Rattle.grib2_sections.specs.Verdict.{Verdict, Accepted, Refused}
+use Rattle.grib2_sections.specs.Head.{head_rows, total_length}
+use Rattle.grib2_sections.specs.Frame.{Placed, placed_at, section_number, mark_rows, frame_rows, ends_at, section_at}
+use Rattle.grib2_sections.specs.Identification.{identification_rows}
+use Rattle.grib2_grids.specs.Grid.{grid_rows}
+use Rattle.grib2_products.specs.Product.{product_rows}
+use Rattle.grib_bitmap.specs.Mask.{bitmap_rows}
+use Rattle.grib_simple.specs.Packing.{value_count}
+use Rattle.grib_complex.specs.Entries.{packing_fault, data_fault}
+use Rattle.grib2_message.specs.View.{last_number, octets_in_force, points_in_force, earlier_mask, section_count}
+
+-- the refusal of a section's contents, in view of the sections before it
+abbrev pub Contents : Type 0
+Contents = List Placed → Placed → Option Fault
+
+abbrev pub no_rows : Contents
+no_rows before s = None
+
+abbrev pub identification_fault : Contents
+identification_fault before s = first_fault (identification_rows s.octets s.start)
+
+abbrev pub grid_fault : Contents
+grid_fault before s = first_fault (grid_rows s.octets s.start)
+
+abbrev pub product_fault : Contents
+product_fault before s = first_fault (product_rows s.octets s.start (section_count 4 before + 1))
+
+abbrev pub representation_fault : Contents
+representation_fault before s = packing_fault s.octets s.start (points_in_force before)
+
+abbrev pub bitmap_fault : Contents
+bitmap_fault before s =
+  first_fault (bitmap_rows s.octets s.start (points_in_force before) (value_count (octets_in_force 5 before)) (earlier_mask before))
+
+abbrev pub values_fault : Contents
+values_fault before s = data_fault (octets_in_force 5 before) s.octets s.start
+
+-- by the number of the section, from 0 on; Section 2 has no rows
+abbrev pub contents_faults : List Contents
+contents_faults =
+  no_rows ∷ identification_fault ∷ no_rows ∷ grid_fault ∷ product_fault ∷ representation_fault ∷ bitmap_fault ∷ values_fault ∷ []
+
+abbrev pub section_fault : Contents
+section_fault before s = get_or contents_faults (section_number s.octets) no_rows before s
+
+-- refused, or whatever comes after
+abbrev pub unless_refused : Option Fault → (Unit {0} → Verdict) → Verdict
+unless_refused (Some fault) next = Refused fault
+unless_refused None next = next tt
+
+-- refused, or accepted where the message ends here, or whatever comes after
+abbrev pub at_mark : Option Fault → Bool → ℕ → (Unit {0} → Verdict) → Verdict
+at_mark (Some fault) ends total next = Refused fault
+at_mark None true total next = Accepted total
+at_mark None false total next = next tt
+
+-- From octet q on, after the sections before it. `turns` bounds the number of sections; with one for
+-- each octet the bound is never met, since a section takes five octets at least.
+abbrev pub verdict_from : ℕ → List ℕ → List Placed → ℕ → Verdict
+verdict_from zero message before q = Refused (refusal (length message + 1) Truncated (length message))
+verdict_from (suc turns) message before q =
+  let total = total_length message in
+  let last = last_number before in
+  at_mark (first_fault (mark_rows message total last q)) (ends_at message q) total
+    (λ _. unless_refused (first_fault (frame_rows message total last q))
+      (λ _. let s = section_at message q in
+        unless_refused (section_fault before (placed_at q s))
+          (λ _. verdict_from turns message (placed_at q s ∷ before) (q + length s))))
+
+-- Of the octets of an input from a `GRIB` on, whose octet 8, where it stands, is not 1: accepted, with
+-- the length of the message, or refused
+abbrev pub verdict : List ℕ → Verdict
+verdict rest = unless_refused (first_fault (head_rows rest)) (λ _. verdict_from (length rest + 1) rest [] 17)

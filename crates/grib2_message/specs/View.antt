@@ -1,0 +1,52 @@
+-- What is in force at a place of a message of edition 2: the sections before it, the newest first
+-- (WMO-No. 306, Volume I.2, FM 92 GRIB edition 2: what a group of sections does not repeat stays in force).
+use Rattle.std.specs.Prelude.{ℕ, Bool, cond, ◌&&◌, Option, Some, None, List, [], ◌∷◌, ◌==◌, count_by}
+use Rattle.grib_io.specs.Rows.{choose}
+use Rattle.grib2_sections.specs.Frame.{Placed, section_number}
+use Rattle.grib2_grids.specs.Grid.{grid_points}
+use Rattle.grib_bitmap.specs.Mask.{bitmap_indicator, own_mask, mask_of}
+
+abbrev pub is_numbered : ℕ → Placed → Bool
+is_numbered number s = section_number s.octets == number
+
+-- the number of the last section, 0 where only Section 0 stands before
+abbrev pub last_number : List Placed → ℕ
+last_number [] = 0
+last_number (s ∷ before) = section_number s.octets
+
+-- the last section with this number
+abbrev pub in_force : ℕ → List Placed → Option Placed
+in_force number [] = None
+in_force number (s ∷ before) = cond (is_numbered number s) (Some s) (in_force number before)
+
+abbrev pub octets_of : Option Placed → List ℕ
+octets_of None = []
+octets_of (Some s) = s.octets
+
+-- its octets, where it stands
+abbrev pub octets_in_force : ℕ → List Placed → List ℕ
+octets_in_force number before = octets_of (in_force number before)
+
+-- the number of grid points in force
+abbrev pub points_in_force : List Placed → ℕ
+points_in_force before = grid_points (octets_in_force 3 before)
+
+-- the mask of the last Section 6 with the indicator 0
+abbrev pub earlier_mask : List Placed → Option (List Bool)
+earlier_mask [] = None
+earlier_mask (s ∷ before) =
+  choose (is_numbered 6 s && (bitmap_indicator s.octets == 0))
+    (λ _. Some (own_mask s.octets (points_in_force before)))
+    (λ _. earlier_mask before)
+
+-- the mask of the last Section 6
+abbrev pub mask_in_force : List Placed → List Bool
+mask_in_force [] = []
+mask_in_force (s ∷ before) =
+  choose (is_numbered 6 s)
+    (λ _. mask_of s.octets (points_in_force before) (earlier_mask before))
+    (λ _. mask_in_force before)
+
+-- how many sections with this number stand before
+abbrev pub section_count : ℕ → List Placed → ℕ
+section_count number before = count_by (is_numbered number) before

@@ -1,0 +1,2 @@
+//! Messages of edition 2: acceptance, fields, columns.
+#![tactic(auto)]

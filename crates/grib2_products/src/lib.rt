@@ -1,0 +1,2 @@
+//! Products: Section 4 of edition 2.
+#![tactic(auto)]

@@ -1,0 +1,61 @@
+-- The frame of the sections after Section 0 (WMO-No. 306, Volume I.2, FM 92 GRIB edition 2): octets 1-4
+-- of a section are its length, octet 5 is its number, and `7777` ends the message.
+use Rattle.std.specs.Prelude.{ℕ, ◌+◌, ◌-◌, Bool, not, ◌&&◌, ◌||◌, List, [], ◌∷◌, length, get_or, nat_lt, ◌==◌}
+use Rattle.std.specs.List.{list_any}
+use Rattle.grib_bits.specs.Octets.{octets, octet_list}
+use Rattle.grib_io.specs.declared.fault.Reason.TheVariants.{Truncated, SectionOrder, LengthDisagrees, EndMark, SectionLength}
+use Rattle.grib_io.specs.Rows.{Row, row}
+
+abbrev pub section_length : List ℕ → ℕ
+section_length section = octets section 1 4
+
+abbrev pub section_number : List ℕ → ℕ
+section_number section = octets section 5 5
+
+-- What may follow each section, from Section 0 on; 8 is the end mark. A group of sections that does
+-- not begin with Section 2 or 3 keeps those in force.
+abbrev pub successors : List (List ℕ)
+successors = (1 ∷ []) ∷ (2 ∷ 3 ∷ []) ∷ (3 ∷ []) ∷ (4 ∷ []) ∷ (5 ∷ []) ∷ (6 ∷ []) ∷ (7 ∷ []) ∷ (2 ∷ 3 ∷ 4 ∷ 8 ∷ []) ∷ []
+
+abbrev pub may_follow : ℕ → ℕ → Bool
+may_follow last next = list_any (λ n. n == next) (get_or successors last [])
+
+-- whether the end mark stands at octet q
+abbrev pub ends_at : List ℕ → ℕ → Bool
+ends_at message q = octets message q (q + 3) == 926365495
+
+-- rows F1 to F4, at octet q of a message with this total length, where the section before has the
+-- number `last`
+abbrev pub mark_rows : List ℕ → ℕ → ℕ → ℕ → List Row
+mark_rows message total last q =
+  let k = length message in
+  let ends = ends_at message q in
+  row (nat_lt k (q + 3)) (k + 1) Truncated k
+    ∷ row (ends && not (may_follow last 8)) q SectionOrder 8
+    ∷ row (ends && nat_lt (q + 3) total) (q + 4) LengthDisagrees (total - (q + 3))
+    ∷ row (not ends && (q + 3 == total)) q EndMark (octets message q (q + 3))
+    ∷ []
+
+-- rows F5 to F8, where no end mark stands
+abbrev pub frame_rows : List ℕ → ℕ → ℕ → ℕ → List Row
+frame_rows message total last q =
+  let k = length message in
+  let l = octets message q (q + 3) in
+  let number = octets message (q + 4) (q + 4) in
+  row (nat_lt k (q + 4)) (k + 1) Truncated k
+    ∷ row (nat_lt l 5 || nat_lt total (q - 1 + l + 4)) q SectionLength l
+    ∷ row (not (may_follow last number)) (q + 4) SectionOrder number
+    ∷ row (nat_lt k (q - 1 + l)) (k + 1) Truncated k
+    ∷ []
+
+-- the section at octet q
+abbrev pub section_at : List ℕ → ℕ → List ℕ
+section_at message q = octet_list message q (q - 1 + octets message q (q + 3))
+
+-- a section and the octet of the message at which it begins
+pub record Placed : Type 0 where
+  pub start : ℕ
+  pub octets : List ℕ
+
+abbrev pub placed_at : ℕ → List ℕ → Placed
+placed_at start s = record { start = start; octets = s }

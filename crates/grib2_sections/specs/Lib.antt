@@ -1,0 +1,5 @@
+pub mod Template
+pub mod Verdict
+pub mod Head
+pub mod Frame
+pub mod Identification

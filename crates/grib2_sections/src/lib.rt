@@ -1,0 +1,2 @@
+//! Section 0, the frame of the sections that follow, and Section 1 of edition 2.
+#![tactic(auto)]

@@ -1,0 +1,2 @@
+//! Bitmaps: Section 6 of edition 2.
+#![tactic(auto)]

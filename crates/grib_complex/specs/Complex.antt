@@ -1,0 +1,46 @@
+-- Section 5 of complex packing, with and without spatial differencing (WMO-No. 306, Volume I.2, FM 92
+-- GRIB edition 2, data representation templates 5.2 and 5.3).
+use Rattle.std.specs.Prelude.{ℕ, ◌+◌, ◌*◌, not, cond, ◌&&◌, List, [], ◌∷◌, nat_lt, ◌==◌}
+use Rattle.grib_bits.specs.Octets.{octets}
+use Rattle.grib_io.specs.declared.fault.Reason.TheVariants.{MissingManagement, GroupCount, GroupWidth, GroupShape, DifferenceOrder, ExtraOctets}
+use Rattle.grib_io.specs.Rows.{Row, row}
+use Rattle.grib_groups.specs.declared.layout.Layout.{Layout}
+use Rattle.grib_simple.specs.Packing.{packing_template, value_count, bit_width}
+
+abbrev pub layout_of : List ℕ → Layout
+layout_of s = record {
+  groups = octets s 32 35;
+  reference_bits = bit_width s;
+  width_reference = octets s 36 36;
+  width_bits = octets s 37 37;
+  length_reference = octets s 38 41;
+  length_increment = octets s 42 42;
+  last_length = octets s 43 46;
+  length_bits = octets s 47 47;
+  management = octets s 23 23
+}
+
+-- the order of spatial differencing, and the octets of each extra descriptor; 0 for template 5.2
+abbrev pub difference_order : List ℕ → ℕ
+difference_order s = cond (packing_template s == 3) (octets s 48 48) 0
+
+abbrev pub extra_octets : List ℕ → ℕ
+extra_octets s = cond (packing_template s == 3) (octets s 49 49) 0
+
+-- the octets of the extra descriptors, which stand before the groups: the first values and the minimum
+abbrev pub descriptor_octets : List ℕ → ℕ
+descriptor_octets s = cond (packing_template s == 3) ((difference_order s + 1) * extra_octets s) 0
+
+-- rows S5.7 to S5.13, of templates 5.2 and 5.3, for a section that begins at octet `start` of the message
+abbrev pub complex_rows : List ℕ → ℕ → List Row
+complex_rows s start =
+  let layout = layout_of s in
+  let spatial = packing_template s == 3 in
+  row (nat_lt 2 layout.management) (start + 22) MissingManagement layout.management
+    ∷ row (nat_lt (value_count s) layout.groups) (start + 31) GroupCount layout.groups
+    ∷ row (nat_lt 32 layout.width_reference) (start + 35) GroupWidth layout.width_reference
+    ∷ row (nat_lt 32 layout.width_bits) (start + 36) GroupWidth layout.width_bits
+    ∷ row (nat_lt 32 layout.length_bits) (start + 46) GroupShape layout.length_bits
+    ∷ row (spatial && not (difference_order s == 1) && not (difference_order s == 2)) (start + 47) DifferenceOrder (difference_order s)
+    ∷ row (spatial && nat_lt 4 (extra_octets s)) (start + 48) ExtraOctets (extra_octets s)
+    ∷ []

@@ -1,0 +1,128 @@
+-- Section 7 of complex packing (WMO-No. 306, Volume I.2, FM 92 GRIB edition 2, data templates 7.2 and 7.3).
+use Rattle.std.specs.Prelude.{ℕ, ◌+◌, ◌-◌, ◌*◌, ◌^◌, Bool, false, cond, ◌&&◌, Option, List, [], ◌∷◌, ◌++◌, drop, map, replicate, Some, None, nat_lt, ◌==◌, position, ℤ, pos, nat_abs}
+use Rattle.std.specs.Option.{option_map_or}
+use Rattle.std.specs.List.{filter_map}
+use Rattle.grib_bits.specs.Octets.{octets, signed_octets}
+use Rattle.grib_io.specs.declared.code.Code.{Code}
+use Rattle.grib_io.specs.declared.code.Code.TheVariants.{Present, Primary, Secondary}
+use Rattle.grib_io.specs.declared.fault.Reason.TheVariants.{FirstValueSign, ScaledRange}
+use Rattle.grib_io.specs.declared.fault.Fault.{Fault}
+use Rattle.grib_io.specs.Rows.{Row, row, first_fault, or_then, choose}
+use Rattle.grib_groups.specs.Groups.{grouped, list_rows, group_rows}
+use Rattle.grib_simple.specs.Column.{column_with, placed}
+use Rattle.grib_simple.specs.Simple.{simple_rows, simple_entries}
+use Rattle.grib_simple.specs.declared.column.Column.{Column}
+use Rattle.grib_simple.specs.declared.column.Point.{Point}
+use Rattle.grib_simple.specs.declared.column.Point.TheVariants.{Scaled, Missing, Missing2}
+use Rattle.grib_simple.specs.Packing.{packing_template, value_count, packing_rows}
+use Rattle.grib_spatial.specs.Differences.{undone}
+use Rattle.grib_complex.specs.Complex.{layout_of, complex_rows, difference_order, extra_octets, descriptor_octets}
+
+-- whether there are no groups: then every value is 0 and Section 7 is not read
+abbrev pub has_no_groups : List ℕ → Bool
+has_no_groups s5 = octets s5 32 35 == 0
+
+-- The extra descriptors stand from octet 6 on, extra_octets each: the first values, as many as the
+-- order, without sign, and the minimum, with sign. The j-th, from 0, begins at:
+abbrev pub descriptor_place : List ℕ → ℕ → ℕ
+descriptor_place s5 j = 6 + j * extra_octets s5
+
+abbrev pub first_value : List ℕ → List ℕ → ℕ → ℕ
+first_value s5 s7 j = octets s7 (descriptor_place s5 j) (descriptor_place s5 (j + 1) - 1)
+
+abbrev pub minimum : List ℕ → List ℕ → ℤ
+minimum s5 s7 =
+  let j = difference_order s5 in
+  signed_octets s7 (descriptor_place s5 j) (descriptor_place s5 (j + 1) - 1)
+
+-- the codes of all values
+abbrev pub codes_of : List ℕ → List ℕ → List Code
+codes_of s5 s7 = grouped (layout_of s5) (drop (5 + descriptor_octets s5) s7)
+
+abbrev pub present_code : Code → Option ℕ
+present_code (Present n) = Some n
+present_code Primary = None
+present_code Secondary = None
+
+-- the scaled numbers of the values that are not missing: their codes, or the numbers whose differences
+-- the codes tell
+abbrev pub numbers_of : List ℕ → List ℕ → List ℤ
+numbers_of s5 s7 =
+  let present = filter_map present_code (codes_of s5 s7) in
+  cond (packing_template s5 == 3)
+    (undone (difference_order s5) (pos (first_value s5 s7 0)) (pos (first_value s5 s7 1)) (minimum s5 s7) present)
+    (map pos present)
+
+-- each value: missing by its code, or the next of the numbers (which are as many as the present codes)
+abbrev pub refilled : List Code → List ℤ → List Point
+refilled [] numbers = []
+refilled (Primary ∷ codes) numbers = Missing ∷ refilled codes numbers
+refilled (Secondary ∷ codes) numbers = Missing2 ∷ refilled codes numbers
+refilled (Present n ∷ codes) [] = []
+refilled (Present n ∷ codes) (x ∷ numbers) = Scaled x ∷ refilled codes numbers
+
+-- the entries of the present points of a field with groups, and of any field of templates 5.2 and 5.3
+abbrev pub group_entries : List ℕ → List ℕ → List Point
+group_entries s5 s7 = refilled (codes_of s5 s7) (numbers_of s5 s7)
+
+-- whether the top bit of the j-th first value, from 0, is set
+abbrev pub is_first_value_signed : List ℕ → List ℕ → ℕ → Bool
+is_first_value_signed s5 s7 j =
+  nat_lt j (difference_order s5) && nat_lt 0 (extra_octets s5) && nat_lt 127 (octets s7 (descriptor_place s5 j) (descriptor_place s5 j))
+
+-- row S7.3, by the two first values
+abbrev pub first_value_rows : List ℕ → List ℕ → ℕ → List Row
+first_value_rows s5 s7 start =
+  row (is_first_value_signed s5 s7 0) (start + 5) FirstValueSign 1
+    ∷ row (is_first_value_signed s5 s7 1) (start + 5 + extra_octets s5) FirstValueSign 2
+    ∷ []
+
+-- whether a number is outside plus and minus 2 ^ 60
+abbrev pub is_out_of_range : Point → Bool
+is_out_of_range (Scaled x) = nat_lt (2 ^ 60) (nat_abs x)
+is_out_of_range Missing = false
+is_out_of_range Missing2 = false
+
+-- the place, from 1, of the first value that is, else 0
+abbrev pub first_out_of_range : List Point → ℕ
+first_out_of_range entries = option_map_or (λ n. n + 1) (position is_out_of_range entries) 0
+
+-- rows S7.3 to S7.6, for a Section 7 that begins at octet `start` of the message and belongs to this
+-- Section 5
+abbrev pub group_data_rows : List ℕ → List ℕ → ℕ → List Row
+group_data_rows s5 s7 start =
+  first_value_rows s5 s7 start ++ group_rows (layout_of s5) s7 start (descriptor_octets s5) (value_count s5)
+
+-- row S7.7
+abbrev pub range_rows : List ℕ → List ℕ → ℕ → List Row
+range_rows s5 s7 start =
+  let place = first_out_of_range (group_entries s5 s7) in
+  row (packing_template s5 == 3 && nat_lt 0 place) start ScaledRange place ∷ []
+
+-- the refusal of a Section 7 of templates 5.2 and 5.3: row S7.2, then S7.3 to S7.6, then S7.7
+abbrev pub group_data_fault : List ℕ → List ℕ → ℕ → Option Fault
+group_data_fault s5 s7 start =
+  or_then (or_then (first_fault (list_rows (layout_of s5) s7 start (descriptor_octets s5))) (λ _. group_data_rows s5 s7 start))
+    (λ _. range_rows s5 s7 start)
+
+-- the refusal of a Section 7 by rows S7.1 to S7.7; where there are no groups, none is tried
+abbrev pub data_fault : List ℕ → List ℕ → ℕ → Option Fault
+data_fault s5 s7 start =
+  choose (packing_template s5 == 0) (λ _. first_fault (simple_rows s5 s7 start))
+    (λ _. choose (has_no_groups s5) (λ _. None) (λ _. group_data_fault s5 s7 start))
+
+-- the entries of the present points
+abbrev pub entries_of : List ℕ → List ℕ → List Point
+entries_of s5 s7 =
+  choose (packing_template s5 == 0) (λ _. simple_entries s5 s7)
+    (λ _. choose (has_no_groups s5) (λ _. replicate (value_count s5) (Scaled (pos 0))) (λ _. group_entries s5 s7))
+
+-- the column of a field with this Section 5, mask and Section 7
+abbrev pub column_from : List ℕ → List Bool → List ℕ → Column
+column_from s5 mask s7 = column_with s5 (placed mask (entries_of s5 s7))
+
+-- the refusal of a Section 5 by rows S5.1 to S5.13
+abbrev pub packing_fault : List ℕ → ℕ → ℕ → Option Fault
+packing_fault s start points =
+  or_then (first_fault (packing_rows s start points))
+    (λ _. choose (packing_template s == 0) (λ _. []) (λ _. complex_rows s start))

@@ -1,0 +1,2 @@
+pub mod Complex
+pub mod Entries

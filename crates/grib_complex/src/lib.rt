@@ -1,0 +1,2 @@
+//! Complex packing, with and without spatial differencing: templates 5.2 and 5.3.
+#![tactic(auto)]

@@ -1,0 +1,2 @@
+//! A stream of messages.
+#![tactic(auto)]

@@ -1,0 +1,119 @@
+-- Groups of complex packing (WMO-No. 306, Volume I.2, FM 92 GRIB edition 2, data template 7.2): group
+-- references, coded widths and coded lengths, each list from a whole octet on, and then, from a whole
+-- octet on, the packed numbers of all groups.
+use Rattle.std.specs.Prelude.{ℕ, ◌+◌, ◌-◌, ◌*◌, ◌/◌, ◌^◌, Bool, not, cond, ◌&&◌, List, [], ◌∷◌, ◌++◌, length, drop, map, nat_lt, ◌==◌, sum, position}
+use Rattle.std.specs.Option.{option_map_or}
+use Rattle.grib_bits.specs.Bits.{bits}
+use Rattle.grib_bits.specs.Plain.{plain}
+use Rattle.grib_io.specs.declared.code.Code.{Code}
+use Rattle.grib_io.specs.declared.code.Code.TheVariants.{Present, Primary, Secondary}
+use Rattle.grib_io.specs.declared.fault.Reason.TheVariants.{DataTooShort, GroupWidth, GroupShape}
+use Rattle.grib_io.specs.Rows.{Row, row}
+use Rattle.grib_groups.specs.declared.layout.Layout.{Layout}
+
+-- the octets that `count` numbers of w bits padded to whole octets
+abbrev pub octets_for : ℕ → ℕ → ℕ
+octets_for w count = (count * w + 7) / 8
+
+-- The octets of the three lists, which follow one another.
+abbrev pub reference_octets : Layout → ℕ
+reference_octets layout = octets_for layout.reference_bits layout.groups
+
+abbrev pub width_octets : Layout → ℕ
+width_octets layout = octets_for layout.width_bits layout.groups
+
+abbrev pub length_octets : Layout → ℕ
+length_octets layout = octets_for layout.length_bits layout.groups
+
+abbrev pub list_octets : Layout → ℕ
+list_octets layout = reference_octets layout + width_octets layout + length_octets layout
+
+-- a group: the reference of its codes, the width of its packed numbers in bits, its number of values
+pub record Group : Type 0 where
+  pub reference : ℕ
+  pub width : ℕ
+  pub length_of : ℕ
+
+-- The lists, of the octets that begin with the first of them.
+abbrev pub references : Layout → List ℕ → List ℕ
+references layout octets = plain (bits octets) layout.reference_bits layout.groups
+
+abbrev pub widths : Layout → List ℕ → List ℕ
+widths layout octets =
+  map (λ coded. layout.width_reference + coded) (plain (bits (drop (reference_octets layout) octets)) layout.width_bits layout.groups)
+
+-- the lengths, the last of which is the stated true length of the last group
+abbrev pub with_last : ℕ → List ℕ → List ℕ
+with_last last [] = []
+with_last last (n ∷ []) = last ∷ []
+with_last last (n ∷ m ∷ rest) = n ∷ with_last last (m ∷ rest)
+
+abbrev pub coded_lengths : Layout → List ℕ → List ℕ
+coded_lengths layout octets = plain (bits (drop (reference_octets layout + width_octets layout) octets)) layout.length_bits layout.groups
+
+abbrev pub lengths : Layout → List ℕ → List ℕ
+lengths layout octets =
+  with_last layout.last_length (map (λ coded. layout.length_reference + layout.length_increment * coded) (coded_lengths layout octets))
+
+abbrev pub groups_from : List ℕ → List ℕ → List ℕ → List Group
+groups_from (r ∷ rs) (w ∷ ws) (n ∷ ns) = record { reference = r; width = w; length_of = n } ∷ groups_from rs ws ns
+groups_from _ _ _ = []
+
+abbrev pub groups : Layout → List ℕ → List Group
+groups layout octets = groups_from (references layout octets) (widths layout octets) (lengths layout octets)
+
+-- The code of a packed number n: of a group of width 0 the reference itself says what is missing, of a
+-- wider one the packed number; `top` is the number of all ones in that field's bits, plus 1.
+abbrev pub marked : ℕ → ℕ → ℕ → Code → Code
+marked management field top present =
+  cond (not (management == 0) && (field + 1 == top)) Primary
+    (cond (management == 2 && (field + 2 == top)) Secondary present)
+
+abbrev pub code_of : Layout → Group → ℕ → Code
+code_of layout group n =
+  cond (group.width == 0)
+    (marked layout.management group.reference (2 ^ layout.reference_bits) (Present group.reference))
+    (marked layout.management n (2 ^ group.width) (Present (group.reference + n)))
+
+-- the codes of groups, of the bits that begin with the packed numbers of the first
+abbrev pub codes_from : Layout → List Group → List Bool → List Code
+codes_from layout [] numbers = []
+codes_from layout (group ∷ rest) numbers =
+  map (code_of layout group) (plain numbers group.width group.length_of)
+    ++ codes_from layout rest (drop (group.width * group.length_of) numbers)
+
+-- the codes of all values, of the octets that begin with the list of references
+abbrev pub grouped : Layout → List ℕ → List Code
+grouped layout octets = codes_from layout (groups layout octets) (bits (drop (list_octets layout) octets))
+
+-- the bits of all packed numbers
+abbrev pub packed_bits : List Group → ℕ
+packed_bits [] = 0
+packed_bits (group ∷ rest) = group.length_of * group.width + packed_bits rest
+
+-- the number of the first group that takes the sum of the lengths past the values, else of the last one;
+-- `n` groups stand before
+abbrev pub first_past : ℕ → ℕ → List ℕ → ℕ
+first_past values n [] = n
+first_past values n (l ∷ rest) = cond (nat_lt values l) (n + 1) (first_past (values - l) (n + 1) rest)
+
+-- the number of the first group whose width is over 32, else 0
+abbrev pub first_too_wide : List ℕ → ℕ
+first_too_wide ws = option_map_or (λ g. g + 1) (position (λ w. nat_lt 32 w) ws) 0
+
+-- Rows S7.2 and S7.4 to S7.6, for a Section 7 that begins at octet `start` of the message and has `skip`
+-- octets of extra descriptors after octet 5, where Section 5 has this many values. Row S7.2:
+abbrev pub list_rows : Layout → List ℕ → ℕ → ℕ → List Row
+list_rows layout s7 start skip = row (nat_lt (length s7) (5 + skip + list_octets layout)) start DataTooShort (length s7) ∷ []
+
+-- and rows S7.4 to S7.6
+abbrev pub group_rows : Layout → List ℕ → ℕ → ℕ → ℕ → List Row
+group_rows layout s7 start skip values =
+  let l = length s7 in
+  let octets = drop (5 + skip) s7 in
+  let before_numbers = 5 + skip + list_octets layout in
+  let too_wide = first_too_wide (widths layout octets) in
+  row (nat_lt 0 too_wide) (start + 5 + skip + reference_octets layout) GroupWidth too_wide
+    ∷ row (not (sum (lengths layout octets) == values)) start GroupShape (first_past values 0 (lengths layout octets))
+    ∷ row (nat_lt (8 * l) (8 * before_numbers + packed_bits (groups layout octets))) start DataTooShort l
+    ∷ []

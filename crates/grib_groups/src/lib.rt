@@ -1,0 +1,6 @@
+//! Groups of complex packing.
+#![tactic(auto)]
+
+mod layout;
+
+pub use layout::Layout;

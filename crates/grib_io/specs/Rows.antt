@@ -1,0 +1,32 @@
+-- What decides acceptance: rows that are tried in their order, as the tables of docs/PROFILE.md list
+-- them. The first row whose test holds gives the refusal.
+use Rattle.std.specs.Prelude.{ℕ, Bool, true, false, cond, Option, Some, None, List, [], ◌∷◌}
+use Rattle.grib_io.specs.declared.fault.Fault.{Fault}
+use Rattle.grib_io.specs.declared.fault.Reason.{Reason}
+
+-- a refusal at this octet, for this reason, with this detail
+abbrev pub refusal : ℕ → Reason → ℕ → Fault
+refusal octet reason detail = record { octet = octet; reason = reason; detail = detail }
+
+-- a test, and the refusal that it gives where it holds
+pub record Row : Type 0 where
+  pub fails : Bool
+  pub fault : Fault
+
+abbrev pub row : Bool → ℕ → Reason → ℕ → Row
+row fails octet reason detail = record { fails = fails; fault = refusal octet reason detail }
+
+-- the refusal of the first row that fails
+abbrev pub first_fault : List Row → Option Fault
+first_fault [] = None
+first_fault (r ∷ rows) = cond r.fails (Some r.fault) (first_fault rows)
+
+-- the rows of the second list are tried only where no row of the first fails
+abbrev pub or_then : Option Fault → (Unit {0} → List Row) → Option Fault
+or_then (Some fault) later = Some fault
+or_then None later = first_fault (later tt)
+
+-- a choice of which only one side is computed
+abbrev pub choose : {A : Type 0} → Bool → (Unit {0} → A) → (Unit {0} → A) → A
+choose true here there = here tt
+choose false here there = there tt

@@ -1,0 +1,18 @@
+-- What a field holds: one entry for each grid point, in the grid's order.
+use Rattle.std.specs.Prelude.{ℕ, Bool, true, false, List, [], ◌∷◌}
+use Rattle.grib_simple.specs.declared.column.Point.{Point}
+use Rattle.grib_simple.specs.declared.column.Point.TheVariants.{Missing}
+use Rattle.grib_simple.specs.declared.column.Column.{Column}
+use Rattle.grib_simple.specs.Packing.{reference_word, binary_scale, decimal_scale}
+
+-- the present points take the entries in their order; a point that the mask leaves out is missing
+-- (as a point without an entry would be, of which an accepted field has none)
+abbrev pub placed : List Bool → List Point → List Point
+placed [] entries = []
+placed (false ∷ mask) entries = Missing ∷ placed mask entries
+placed (true ∷ mask) [] = Missing ∷ placed mask []
+placed (true ∷ mask) (entry ∷ entries) = entry ∷ placed mask entries
+
+-- the column with these points and the numbers of Section 5
+abbrev pub column_with : List ℕ → List Point → Column
+column_with s5 points = record { reference = reference_word s5; e = binary_scale s5; d = decimal_scale s5; points = points }

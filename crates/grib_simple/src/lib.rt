@@ -1,0 +1,7 @@
+//! Columns of scaled numbers, the data representation section that all packings share, and simple
+//! packing: template 5.0.
+#![tactic(auto)]
+
+mod column;
+
+pub use column::{Column, Point};

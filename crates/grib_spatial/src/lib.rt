@@ -1,0 +1,2 @@
+//! Spatial differences.
+#![tactic(auto)]

@@ -1,0 +1,73 @@
+-- The lines that `check`, `list` and `dump` print, with their newline (10).
+use Rattle.std.specs.Prelude.{ℕ, ◌+◌, List, [], ◌∷◌, ◌++◌, codes, ℤ}
+use Rattle.std.specs.Fmt.{decimal, signed_decimal}
+use Rattle.grib_bits.specs.Octets.{octets, signed_octets}
+use Rattle.grib_dyadic.specs.Reference.{Binary}
+use Rattle.grib_simple.specs.declared.column.Point.{Point}
+use Rattle.grib_simple.specs.declared.column.Point.TheVariants.{Scaled, Missing, Missing2}
+use Rattle.grib2_sections.specs.Head.{discipline}
+use Rattle.grib2_message.specs.Grid.{grid_points, grid_template}
+use Rattle.grib2_message.specs.Product.{product_template}
+use Rattle.grib_simple.specs.Packing.{packing_template, bit_width, value_count}
+use Rattle.grib2_message.specs.Fields.{part_octets}
+use Rattle.grib_text.specs.Words.{filled, or_missing, signed_or_missing}
+
+-- of message m, which stands after `before` octets of the input
+abbrev pub check_line : ℕ → ℕ → ℕ → ℕ → ℕ → List ℕ
+check_line m before edition total fields =
+  codes "message " ++ decimal m ++ codes " at " ++ decimal before ++ codes " edition " ++ decimal edition
+    ++ codes " octets " ++ decimal total ++ codes " fields " ++ decimal fields ++ 10 ∷ []
+
+abbrev pub total_line : ℕ → ℕ → ℕ → List ℕ
+total_line messages fields skipped =
+  codes "messages " ++ decimal messages ++ codes " fields " ++ decimal fields ++ codes " skipped " ++ decimal skipped ++ 10 ∷ []
+
+-- the reference time: octets 13-19 of Section 1
+abbrev pub time_text : List ℕ → List ℕ
+time_text s1 =
+  filled 4 (octets s1 13 14) ++ codes "-" ++ filled 2 (octets s1 15 15) ++ codes "-" ++ filled 2 (octets s1 16 16)
+    ++ codes "T" ++ filled 2 (octets s1 17 17) ++ codes ":" ++ filled 2 (octets s1 18 18) ++ codes ":" ++ filled 2 (octets s1 19 19)
+
+-- the first fixed surface: its type, scale factor and scaled value, octets 23-28 of Section 4
+abbrev pub surface_text : List ℕ → List ℕ
+surface_text s4 =
+  or_missing 8 (octets s4 23 23) ++ codes ":" ++ signed_or_missing 8 (octets s4 24 24) ++ codes ":" ++ or_missing 32 (octets s4 25 28)
+
+-- discipline, parameter category and parameter number
+abbrev pub parameter_text : List ℕ → List ℕ → List ℕ
+parameter_text message s4 =
+  decimal (discipline message) ++ codes "." ++ decimal (octets s4 10 10) ++ codes "." ++ decimal (octets s4 11 11)
+
+-- of field i of message m
+abbrev pub list_line : List ℕ → ℕ → ℕ → List ℕ
+list_line message m i =
+  let s1 = part_octets message i 1 in
+  let s3 = part_octets message i 3 in
+  let s4 = part_octets message i 4 in
+  let s5 = part_octets message i 5 in
+  decimal m ++ codes "." ++ decimal i ++ codes " ed=2 centre=" ++ decimal (octets s1 6 7) ++ codes " time=" ++ time_text s1
+    ++ codes " grid=3." ++ decimal (grid_template s3) ++ codes " points=" ++ decimal (grid_points s3)
+    ++ codes " product=4." ++ decimal (product_template s4) ++ codes " param=" ++ parameter_text message s4
+    ++ codes " unit=" ++ decimal (octets s4 18 18) ++ codes " ahead=" ++ signed_decimal (signed_octets s4 19 22)
+    ++ codes " surface=" ++ surface_text s4 ++ codes " packing=5." ++ decimal (packing_template s5)
+    ++ codes " bits=" ++ decimal (bit_width s5) ++ codes " values=" ++ decimal (value_count s5) ++ 10 ∷ []
+
+-- a reduced reference value, and the scale factors E and D
+abbrev pub reference_line : Binary → ℤ → ℤ → List ℕ
+reference_line r e d =
+  codes "reference " ++ signed_decimal r.mantissa ++ codes "*2^" ++ signed_decimal r.exponent
+    ++ codes " binary " ++ signed_decimal e ++ codes " decimal " ++ signed_decimal d ++ 10 ∷ []
+
+abbrev pub point_text : Point → List ℕ
+point_text (Scaled x) = signed_decimal x
+point_text Missing = codes "missing"
+point_text Missing2 = codes "missing2"
+
+-- the point at a place of the grid, counted from 1
+abbrev pub point_line : ℕ → Point → List ℕ
+point_line place point = decimal place ++ codes " " ++ point_text point ++ 10 ∷ []
+
+-- the lines of points from a place on
+abbrev pub point_lines : ℕ → List Point → List ℕ
+point_lines place [] = []
+point_lines place (point ∷ points) = point_line place point ++ point_lines (place + 1) points

@@ -1,0 +1,5 @@
+//! The definitions tried on worked messages: each function is a law, whose clauses are computed from the
+//! definitions alone.
+#![tactic(auto)]
+
+pub mod acceptance;
