@@ -1,2 +1,5 @@
 pub mod Hex
 pub mod Messages
+pub mod Variations
+pub mod Columns
+pub mod Values

@@ -3,3 +3,7 @@
 #![tactic(auto)]
 
 pub mod acceptance;
+pub mod columns;
+pub mod lines;
+pub mod references;
+pub mod streams;

@@ -1,0 +1,42 @@
+-- Worked messages with whole sections exchanged.
+use Rattle.std.specs.Prelude.{ℕ, List, ◌++◌, codes, drop, length}
+use Rattle.grib_worked.specs.Hex.{hex, put}
+use Rattle.grib_worked.specs.Messages.{head, end, identification, grid, product, representation, no_bitmap, values, rotated, marks_only}
+
+-- M1 with a bitmap that has no bits
+abbrev pub bitmap_without_bits : List ℕ
+bitmap_without_bits =
+  head (hex (codes "00000000000000B7")) ++ identification ++ grid ++ product ++ representation ++ hex (codes "00000006 06 00") ++ values ++ end
+
+-- M1 as template 3.40 with a list of rows after 72 octets, 187 octets
+abbrev pub reduced_gaussian : List ℕ → List ℕ
+reduced_gaussian rows =
+  head (hex (codes "00000000000000BB")) ++ identification
+    ++ hex (codes "0000004C") ++ put (put (drop 4 grid) 7 (hex (codes "02 01 0028"))) 27 (hex (codes "FFFFFFFF")) ++ rows
+    ++ product ++ representation ++ no_bitmap ++ values ++ end
+
+-- T1 with a list of rows after 84 octets: `rows` of octet 11 = 2, meaning 1, Ni all ones
+abbrev pub listed_rotated : List ℕ → List ℕ → List ℕ → List ℕ
+listed_rotated total length_octets rows =
+  head total ++ identification
+    ++ length_octets ++ put (put rotated 7 (hex (codes "02 01"))) 27 (hex (codes "FFFFFFFF")) ++ rows
+    ++ product ++ representation ++ no_bitmap ++ values ++ end
+
+abbrev pub reduced_rotated : List ℕ
+reduced_rotated = listed_rotated (hex (codes "00000000000000C7")) (hex (codes "00000058")) (hex (codes "0001 0003"))
+
+-- the list cut after its first number
+abbrev pub reduced_rotated_cut : List ℕ
+reduced_rotated_cut = listed_rotated (hex (codes "00000000000000C5")) (hex (codes "00000056")) (hex (codes "0001"))
+
+-- M1 with numbers of 0 bits and an empty Section 7, 179 octets
+abbrev pub no_bits : List ℕ
+no_bits =
+  head (hex (codes "00000000000000B3")) ++ identification ++ grid ++ product ++ put representation 20 (hex (codes "00"))
+    ++ no_bitmap ++ hex (codes "00000005 07") ++ end
+
+-- C2 with no groups and an empty Section 7, 205 octets
+abbrev pub no_groups : List ℕ
+no_groups =
+  head (hex (codes "00000000000000CD")) ++ identification ++ grid ++ product ++ put marks_only 32 (hex (codes "00000000"))
+    ++ no_bitmap ++ hex (codes "00000005 07") ++ end

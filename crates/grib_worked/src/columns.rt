@@ -1,0 +1,67 @@
+//! What the fields of the worked messages hold.
+
+ghost use Rattle.std.specs.Prelude.{◌≡◌, List, [], ◌∷◌, ℤ, pos, negsuc};
+ghost use Rattle.grib_io.specs.declared.code.Code.TheVariants.{Present, Primary, Secondary};
+ghost use Rattle.grib_simple.specs.declared.column.Point.{Point};
+ghost use Rattle.grib_simple.specs.declared.column.Point.TheVariants.{Scaled, Missing, Missing2};
+ghost use Rattle.grib2_sections.specs.Verdict.{Accepted};
+ghost use Rattle.grib2_message.specs.Acceptance.{verdict};
+ghost use Rattle.grib2_message.specs.Fields.{column_of, field_count, field_mask, part_octets};
+ghost use Rattle.grib_complex.specs.Entries.{codes_of, minimum, first_value};
+ghost use Rattle.grib_worked.specs.Messages.{m1, m2, m3, c1, c2, w, representation};
+ghost use Rattle.grib_worked.specs.Variations.{no_bits, no_groups};
+ghost use Rattle.grib_worked.specs.Columns.{scaled, column};
+
+/// Simple packing: four numbers of 8 bits, with the raw octets of R, E and D beside them.
+pub fn plain_column()
+    ensures fields { field_count m1 ≡ 1 }
+    ensures column { column_of m1 1 ≡ column (scaled 0 ∷ scaled 1 ∷ scaled 2 ∷ scaled 255 ∷ []) }
+    ensures representation { part_octets m1 1 5 ≡ representation }
+{
+}
+
+/// Numbers of 0 bits are 0.
+pub fn numbers_without_bits()
+    ensures accepted { verdict no_bits ≡ Accepted 179 }
+    ensures column { column_of no_bits 1 ≡ column (scaled 0 ∷ scaled 0 ∷ scaled 0 ∷ scaled 0 ∷ []) }
+{
+}
+
+/// Numbers of 40 bits.
+pub fn wide_numbers()
+    ensures column { column_of w 1 ≡ column (scaled 0 ∷ scaled 1 ∷ scaled 2 ∷ scaled 4294967296 ∷ []) }
+{
+}
+
+/// A bitmap of its own, and the bitmap of an earlier field.
+pub fn masked_columns()
+    ensures fields { field_count m2 ≡ 2 }
+    ensures first { column_of m2 1 ≡ column (scaled 0 ∷ Missing ∷ scaled 1 ∷ scaled 2 ∷ []) }
+    ensures second { column_of m2 2 ≡ column (scaled 3 ∷ Missing ∷ scaled 4 ∷ scaled 5 ∷ []) }
+    ensures same_mask { field_mask m2 2 ≡ field_mask m2 1 }
+{
+}
+
+/// Complex packing with missing marks in a group of width 2, and of width 1.
+pub fn grouped_columns()
+    ensures primary { column_of c1 1 ≡ column (scaled 5 ∷ Missing ∷ scaled 6 ∷ []) }
+    ensures both { column_of c2 1 ≡ column (Missing ∷ Missing2 ∷ Missing ∷ Missing2 ∷ []) }
+    ensures codes { codes_of (part_octets c1 1 5) (part_octets c1 1 7) ≡ Present 5 ∷ Primary ∷ Present 6 ∷ [] }
+{
+}
+
+/// Where there are no groups every value is 0.
+pub fn column_without_groups()
+    ensures accepted { verdict no_groups ≡ Accepted 205 }
+    ensures column { column_of no_groups 1 ≡ column (scaled 0 ∷ scaled 0 ∷ scaled 0 ∷ scaled 0 ∷ []) }
+{
+}
+
+/// Spatial differencing of order 1: the first value 5, the minimum -10, the codes 0, 0, 16, 11.
+pub fn differenced_column()
+    ensures first_value { first_value (part_octets m3 1 5) (part_octets m3 1 7) 0 ≡ 5 }
+    ensures minimum { minimum (part_octets m3 1 5) (part_octets m3 1 7) ≡ negsuc 9 }
+    ensures codes { codes_of (part_octets m3 1 5) (part_octets m3 1 7) ≡ Present 0 ∷ Present 0 ∷ Present 16 ∷ Present 11 ∷ [] }
+    ensures column { column_of m3 1 ≡ column (scaled 5 ∷ Scaled (negsuc 4) ∷ scaled 1 ∷ scaled 2 ∷ []) }
+{
+}
