@@ -1,7 +1,14 @@
 -- Worked messages with whole sections exchanged.
-use Rattle.std.specs.Prelude.{ℕ, List, ◌++◌, codes, drop, length}
+use Rattle.std.specs.Prelude.{ℕ, ◌+◌, List, ◌++◌, codes, drop}
+use Rattle.grib_io.specs.declared.fault.Reason.TheVariants.{Truncated}
+use Rattle.grib_io.specs.Rows.{refusal}
+use Rattle.grib2_sections.specs.Verdict.{Verdict, Refused}
 use Rattle.grib_worked.specs.Hex.{hex, put}
 use Rattle.grib_worked.specs.Messages.{head, end, identification, grid, product, representation, no_bitmap, values, rotated, marks_only}
+
+-- what is said of a message that ends after k octets
+abbrev pub truncated_after : ℕ → Verdict
+truncated_after k = Refused (refusal (k + 1) Truncated k)
 
 -- M1 with a bitmap that has no bits
 abbrev pub bitmap_without_bits : List ℕ

@@ -1,13 +1,14 @@
 //! Which of the worked messages are accepted, and why others are refused.
 
-ghost use Rattle.std.specs.Prelude.{◌≡◌, ◌++◌, codes, take, length};
+ghost use Rattle.std.specs.Prelude.{◌≡◌, ◌++◌, codes, take, length, map};
+ghost use Rattle.std.specs.List.{range_with_len};
 ghost use Rattle.grib_io.specs.declared.fault.Reason.TheVariants.{BitWidth, BitmapSize, DataTooShort, DifferenceOrder, Edition, EndMark, ExtraOctets, FirstValueSign, GridSource, GridTemplate, GroupCount, GroupShape, GroupWidth, LengthDisagrees, ListShape, MissingManagement, NoEarlierBitmap, PngPacked, PointCount, ProductTemplate, ReferenceNotFinite, SectionLength, SectionOrder, TotalLength, Truncated};
 ghost use Rattle.grib_io.specs.Rows.{refusal};
 ghost use Rattle.grib2_sections.specs.Verdict.{Accepted, Refused};
 ghost use Rattle.grib2_message.specs.Acceptance.{verdict};
 ghost use Rattle.grib_worked.specs.Hex.{hex, put};
 ghost use Rattle.grib_worked.specs.Messages.{m1, m2, m3, c1, c2, t1, t2, w};
-ghost use Rattle.grib_worked.specs.Variations.{bitmap_without_bits, reduced_gaussian, reduced_rotated, reduced_rotated_cut};
+ghost use Rattle.grib_worked.specs.Variations.{truncated_after, bitmap_without_bits, reduced_gaussian, reduced_rotated, reduced_rotated_cut};
 
 /// The worked messages have their lengths, and each is accepted as a whole.
 pub fn worked_messages()
@@ -46,6 +47,14 @@ pub fn cut_messages()
     ensures after_17 { verdict (take 17 m1) ≡ Refused (refusal 18 Truncated 17) }
     ensures after_100 { verdict (take 100 m1) ≡ Refused (refusal 101 Truncated 100) }
     ensures after_182 { verdict (take 182 m1) ≡ Refused (refusal 183 Truncated 182) }
+{
+}
+
+/// So it is after each number of octets from 4 on.
+pub fn every_cut()
+    ensures plain { map (λ k. verdict (take k m1)) (range_with_len 4 179) ≡ map truncated_after (range_with_len 4 179) }
+    ensures two_fields { map (λ k. verdict (take k m2)) (range_with_len 4 248) ≡ map truncated_after (range_with_len 4 248) }
+    ensures differenced { map (λ k. verdict (take k m3)) (range_with_len 4 211) ≡ map truncated_after (range_with_len 4 211) }
 {
 }
 

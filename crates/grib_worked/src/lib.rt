@@ -4,6 +4,7 @@
 
 pub mod acceptance;
 pub mod columns;
+pub mod grammar;
 pub mod lines;
 pub mod references;
 pub mod streams;
