@@ -40,10 +40,10 @@ list_start s = cond (grid_template s == 1) 85 73
 -- the list: Nj numbers of octet 11 octets each, as far as the section goes; none where octet 11 is 0
 abbrev pub row_list : List ℕ → List ℕ
 row_list s =
-  let size = list_octets s in
-  let f = list_start s in
-  let stand = (length s + 1 - f) / size in
-  map (λ j. octets s (f + j * size) (f + j * size + size - 1)) (range_with_len 0 (cond (size == 0) 0 (min (nj s) stand)))
+    let size = list_octets s in
+    let f = list_start s in
+    let stand = (length s + 1 - f) / size in
+    map (λ j. octets s (f + j * size) (f + j * size + size - 1)) (range_with_len 0 (cond (size == 0) 0 (min (nj s) stand)))
 
 -- whether the template may have a list of rows
 abbrev pub may_have_list : ℕ → Bool
@@ -52,22 +52,22 @@ may_have_list t = list_any (λ n. n == t) (0 ∷ 1 ∷ 40 ∷ [])
 -- rows S3.1 to S3.11, for a section that begins at octet `start` of the message
 abbrev pub grid_rows : List ℕ → ℕ → List Row
 grid_rows s start =
-  let l = length s in
-  let t = grid_template s in
-  let points = grid_points s in
-  let size = list_octets s in
-  let meaning = list_meaning s in
-  let listed = not (size == 0) in
-  let f = list_start s in
-  row (nat_lt l 14) start SectionLength l
-    ∷ row (not (grid_source s == 0)) (start + 5) GridSource (grid_source s)
-    ∷ row (not (is_template grid_templates t)) (start + 12) GridTemplate t
-    ∷ row (nat_lt l (least_length grid_templates t)) start SectionLength l
-    ∷ row (points == 0 || nat_lt 33554432 points) (start + 6) PointCount points
-    ∷ row (listed && not (meaning == 1) && not (meaning == 2)) (start + 11) ListShape meaning
-    ∷ row (nat_lt 4 size || (listed && not (may_have_list t))) (start + 10) ListShape size
-    ∷ row (listed && (nj s == 0 || nj s == 4294967295)) (start + 34) ListShape (nj s)
-    ∷ row (listed && nat_lt l (f - 1 + size * nj s)) (start + (f - 1)) ListShape (nj s)
-    ∷ row (listed && not (sum (row_list s) == points)) (start + 6) PointCount (sum (row_list s))
-    ∷ row (not listed && not (ni s * nj s == points)) (start + 6) PointCount (ni s * nj s)
+    let l = length s in
+    let t = grid_template s in
+    let points = grid_points s in
+    let size = list_octets s in
+    let meaning = list_meaning s in
+    let listed = not (size == 0) in
+    let f = list_start s in
+    row (nat_lt l 14) start SectionLength l  -- S3.1
+    ∷ row (not (grid_source s == 0)) (start + 5) GridSource (grid_source s)  -- S3.2
+    ∷ row (not (is_template grid_templates t)) (start + 12) GridTemplate t  -- S3.3
+    ∷ row (nat_lt l (least_length grid_templates t)) start SectionLength l  -- S3.4
+    ∷ row (points == 0 || nat_lt 33554432 points) (start + 6) PointCount points  -- S3.5
+    ∷ row (listed && not (meaning == 1) && not (meaning == 2)) (start + 11) ListShape meaning  -- S3.6
+    ∷ row (nat_lt 4 size || (listed && not (may_have_list t))) (start + 10) ListShape size  -- S3.7
+    ∷ row (listed && (nj s == 0 || nj s == 4294967295)) (start + 34) ListShape (nj s)  -- S3.8
+    ∷ row (listed && nat_lt l (f - 1 + size * nj s)) (start + (f - 1)) ListShape (nj s)  -- S3.9
+    ∷ row (listed && not (sum (row_list s) == points)) (start + 6) PointCount (sum (row_list s))  -- S3.10
+    ∷ row (not listed && not (ni s * nj s == points)) (start + 6) PointCount (ni s * nj s)  -- S3.11
     ∷ []

@@ -37,7 +37,7 @@ representation_fault before s = packing_fault s.octets s.start (points_in_force 
 
 abbrev pub bitmap_fault : Contents
 bitmap_fault before s =
-  first_fault (bitmap_rows s.octets s.start (points_in_force before) (value_count (octets_in_force 5 before)) (earlier_mask before))
+    first_fault (bitmap_rows s.octets s.start (points_in_force before) (value_count (octets_in_force 5 before)) (earlier_mask before))
 
 abbrev pub values_fault : Contents
 values_fault before s = data_fault (octets_in_force 5 before) s.octets s.start
@@ -45,7 +45,7 @@ values_fault before s = data_fault (octets_in_force 5 before) s.octets s.start
 -- by the number of the section, from 0 on; Section 2 has no rows
 abbrev pub contents_faults : List Contents
 contents_faults =
-  no_rows ∷ identification_fault ∷ no_rows ∷ grid_fault ∷ product_fault ∷ representation_fault ∷ bitmap_fault ∷ values_fault ∷ []
+    no_rows ∷ identification_fault ∷ no_rows ∷ grid_fault ∷ product_fault ∷ representation_fault ∷ bitmap_fault ∷ values_fault ∷ []
 
 abbrev pub section_fault : Contents
 section_fault before s = get_or contents_faults (section_number s.octets) no_rows before s
@@ -66,13 +66,13 @@ at_mark None false total next = next tt
 abbrev pub verdict_from : ℕ → List ℕ → List Placed → ℕ → Verdict
 verdict_from zero message before q = Refused (refusal (length message + 1) Truncated (length message))
 verdict_from (suc turns) message before q =
-  let total = total_length message in
-  let last = last_number before in
-  at_mark (first_fault (mark_rows message total last q)) (ends_at message q) total
+    let total = total_length message in
+    let last = last_number before in
+    at_mark (first_fault (mark_rows message total last q)) (ends_at message q) total
     (λ _. unless_refused (first_fault (frame_rows message total last q))
-      (λ _. let s = section_at message q in
-        unless_refused (section_fault before (placed_at q s))
-          (λ _. verdict_from turns message (placed_at q s ∷ before) (q + length s))))
+    (λ _. let s = section_at message q in
+    unless_refused (section_fault before (placed_at q s))
+    (λ _. verdict_from turns message (placed_at q s ∷ before) (q + length s))))
 
 -- Of the octets of an input from a `GRIB` on, whose octet 8, where it stands, is not 1: accepted, with
 -- the length of the message, or refused

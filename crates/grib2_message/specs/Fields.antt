@@ -17,7 +17,7 @@ use Rattle.grib2_message.specs.View.{is_numbered, in_force, octets_in_force, mas
 abbrev pub sections_from : ℕ → List ℕ → ℕ → List Placed
 sections_from zero message q = []
 sections_from (suc turns) message q =
-  choose (ends_at message q) (λ _. [])
+    choose (ends_at message q) (λ _. [])
     (λ _. let s = section_at message q in placed_at q s ∷ sections_from turns message (q + length s))
 
 -- all sections after Section 0
@@ -31,8 +31,8 @@ field_count message = count_by (is_numbered 7) (sections_of message)
 abbrev pub up_to_field : ℕ → List Placed → List Placed → List Placed
 up_to_field i before [] = before
 up_to_field i before (s ∷ sections) =
-  let ends = is_numbered 7 s in
-  cond (ends && (i == 1)) (s ∷ before) (up_to_field (i - digit ends) (s ∷ before) sections)
+    let ends = is_numbered 7 s in
+    cond (ends && (i == 1)) (s ∷ before) (up_to_field (i - digit ends) (s ∷ before) sections)
 
 -- what is in force for field i
 abbrev pub field_sections : List ℕ → ℕ → List Placed

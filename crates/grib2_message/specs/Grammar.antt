@@ -18,7 +18,7 @@ pub record IsSection (before : List Placed) (start : ℕ) (s : List ℕ) : Type 
 abbrev pub AreSections : List Placed → ℕ → List (List ℕ) → Type 0
 AreSections before start [] = IsTrue (may_follow (last_number before) 8)
 AreSections before start (s ∷ sections) =
-  IsSection before start s × AreSections (placed_at start s ∷ before) (start + length s) sections
+    IsSection before start s × AreSections (placed_at start s ∷ before) (start + length s) sections
 
 -- the octets are a message with these sections after Section 0
 pub record Grammar2 (octets : List ℕ) (sections : List (List ℕ)) : Type 0 where

@@ -35,7 +35,7 @@ points_in_force before = grid_points (octets_in_force 3 before)
 abbrev pub earlier_mask : List Placed → Option (List Bool)
 earlier_mask [] = None
 earlier_mask (s ∷ before) =
-  choose (is_numbered 6 s && (bitmap_indicator s.octets == 0))
+    choose (is_numbered 6 s && (bitmap_indicator s.octets == 0))
     (λ _. Some (own_mask s.octets (points_in_force before)))
     (λ _. earlier_mask before)
 
@@ -43,7 +43,7 @@ earlier_mask (s ∷ before) =
 abbrev pub mask_in_force : List Placed → List Bool
 mask_in_force [] = []
 mask_in_force (s ∷ before) =
-  choose (is_numbered 6 s)
+    choose (is_numbered 6 s)
     (λ _. mask_of s.octets (points_in_force before) (earlier_mask before))
     (λ _. mask_in_force before)
 

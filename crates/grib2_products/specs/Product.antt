@@ -33,11 +33,11 @@ product_length s = template_length s + 4 * coordinate_count s
 -- 4 of it; for n = 1 the row FieldCount never fails
 abbrev pub product_rows : List ℕ → ℕ → ℕ → List Row
 product_rows s start n =
-  let l = length s in
-  let t = product_template s in
-  row (nat_lt l 9) start SectionLength l
-    ∷ row (nat_lt 4096 n) start FieldCount n
-    ∷ row (not (is_template product_templates t)) (start + 7) ProductTemplate t
-    ∷ row (nat_lt l (least_length product_templates t)) start SectionLength l
-    ∷ row (nat_lt l (product_length s)) start SectionLength l
+    let l = length s in
+    let t = product_template s in
+    row (nat_lt l 9) start SectionLength l  -- S4.1
+    ∷ row (nat_lt 4096 n) start FieldCount n  -- S4.2
+    ∷ row (not (is_template product_templates t)) (start + 7) ProductTemplate t  -- S4.3
+    ∷ row (nat_lt l (least_length product_templates t)) start SectionLength l  -- S4.4
+    ∷ row (nat_lt l (product_length s)) start SectionLength l  -- S4.5
     ∷ []

@@ -28,24 +28,24 @@ ends_at message q = octets message q (q + 3) == 926365495
 -- number `last`
 abbrev pub mark_rows : List ℕ → ℕ → ℕ → ℕ → List Row
 mark_rows message total last q =
-  let k = length message in
-  let ends = ends_at message q in
-  row (nat_lt k (q + 3)) (k + 1) Truncated k
-    ∷ row (ends && not (may_follow last 8)) q SectionOrder 8
-    ∷ row (ends && nat_lt (q + 3) total) (q + 4) LengthDisagrees (total - (q + 3))
-    ∷ row (not ends && (q + 3 == total)) q EndMark (octets message q (q + 3))
+    let k = length message in
+    let ends = ends_at message q in
+    row (nat_lt k (q + 3)) (k + 1) Truncated k  -- F1
+    ∷ row (ends && not (may_follow last 8)) q SectionOrder 8  -- F2
+    ∷ row (ends && nat_lt (q + 3) total) (q + 4) LengthDisagrees (total - (q + 3))  -- F3
+    ∷ row (not ends && (q + 3 == total)) q EndMark (octets message q (q + 3))  -- F4
     ∷ []
 
 -- rows F5 to F8, where no end mark stands
 abbrev pub frame_rows : List ℕ → ℕ → ℕ → ℕ → List Row
 frame_rows message total last q =
-  let k = length message in
-  let l = octets message q (q + 3) in
-  let number = octets message (q + 4) (q + 4) in
-  row (nat_lt k (q + 4)) (k + 1) Truncated k
-    ∷ row (nat_lt l 5 || nat_lt total (q - 1 + l + 4)) q SectionLength l
-    ∷ row (not (may_follow last number)) (q + 4) SectionOrder number
-    ∷ row (nat_lt k (q - 1 + l)) (k + 1) Truncated k
+    let k = length message in
+    let l = octets message q (q + 3) in
+    let number = octets message (q + 4) (q + 4) in
+    row (nat_lt k (q + 4)) (k + 1) Truncated k  -- F5
+    ∷ row (nat_lt l 5 || nat_lt total (q - 1 + l + 4)) q SectionLength l  -- F6
+    ∷ row (not (may_follow last number)) (q + 4) SectionOrder number  -- F7
+    ∷ row (nat_lt k (q - 1 + l)) (k + 1) Truncated k  -- F8
     ∷ []
 
 -- the section at octet q

@@ -29,13 +29,13 @@ total_length_1 message = octets message 5 7
 -- rows H1 to H5: the octets are those of the input from the message's first octet on
 abbrev pub head_rows : List ℕ → List Row
 head_rows message =
-  let k = length message in
-  let e = edition message in
-  let total = total_length message in
-  let total_1 = total_length_1 message in
-  row (nat_lt k 8) (k + 1) Truncated k
-    ∷ row (not (e == 1) && not (e == 2)) 8 Edition e
-    ∷ row (e == 2 && nat_lt k 16) (k + 1) Truncated k
-    ∷ row (e == 2 && (nat_lt total 20 || nat_lt 268435456 total)) 9 TotalLength total
-    ∷ row (e == 1 && nat_lt total_1 12) 5 TotalLength total_1
+    let k = length message in
+    let e = edition message in
+    let total = total_length message in
+    let total_1 = total_length_1 message in
+    row (nat_lt k 8) (k + 1) Truncated k  -- H1
+    ∷ row (not (e == 1) && not (e == 2)) 8 Edition e  -- H2
+    ∷ row (e == 2 && nat_lt k 16) (k + 1) Truncated k  -- H3
+    ∷ row (e == 2 && (nat_lt total 20 || nat_lt 268435456 total)) 9 TotalLength total  -- H4
+    ∷ row (e == 1 && nat_lt total_1 12) 5 TotalLength total_1  -- H5
     ∷ []

@@ -5,4 +5,5 @@ use Rattle.grib_io.specs.Rows.{Row, row}
 
 -- row S1.1, for a section that begins at octet `start` of the message
 abbrev pub identification_rows : List ℕ → ℕ → List Row
-identification_rows s start = row (nat_lt (length s) 21) start SectionLength (length s) ∷ []
+identification_rows s start = row (nat_lt (length s) 21) start SectionLength (length s)  -- S1.1
+    ∷ []

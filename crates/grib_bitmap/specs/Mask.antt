@@ -22,8 +22,8 @@ or_empty (Some mask) = mask
 -- which of the grid points are present
 abbrev pub mask_of : List ℕ → ℕ → Option (List Bool) → List Bool
 mask_of s points earlier =
-  let indicator = bitmap_indicator s in
-  cond (indicator == 255) (replicate points true) (cond (indicator == 254) (or_empty earlier) (own_mask s points))
+    let indicator = bitmap_indicator s in
+    cond (indicator == 255) (replicate points true) (cond (indicator == 254) (or_empty earlier) (own_mask s points))
 
 -- how many points are present
 abbrev pub present_count : List Bool → ℕ
@@ -34,14 +34,14 @@ present_count mask = count_by (λ present. present) mask
 -- the indicator 0
 abbrev pub bitmap_rows : List ℕ → ℕ → ℕ → ℕ → Option (List Bool) → List Row
 bitmap_rows s start points values earlier =
-  let l = length s in
-  let indicator = bitmap_indicator s in
-  let earlier_length = length (or_empty earlier) in
-  let present = present_count (mask_of s points earlier) in
-  row (nat_lt l 6) start SectionLength l
-    ∷ row (nat_lt 0 indicator && nat_lt indicator 254) (start + 5) BitmapIndicator indicator
-    ∷ row (indicator == 254 && is_none earlier) (start + 5) NoEarlierBitmap 254
-    ∷ row (indicator == 0 && nat_lt (8 * l) (points + 48)) start BitmapSize l
-    ∷ row (indicator == 254 && not (earlier_length == points)) (start + 5) BitmapSize earlier_length
-    ∷ row (not (present == values)) (start + 5) ValueCount present
+    let l = length s in
+    let indicator = bitmap_indicator s in
+    let earlier_length = length (or_empty earlier) in
+    let present = present_count (mask_of s points earlier) in
+    row (nat_lt l 6) start SectionLength l  -- S6.1
+    ∷ row (nat_lt 0 indicator && nat_lt indicator 254) (start + 5) BitmapIndicator indicator  -- S6.2
+    ∷ row (indicator == 254 && is_none earlier) (start + 5) NoEarlierBitmap 254  -- S6.3
+    ∷ row (indicator == 0 && nat_lt (8 * l) (points + 48)) start BitmapSize l  -- S6.4
+    ∷ row (indicator == 254 && not (earlier_length == points)) (start + 5) BitmapSize earlier_length  -- S6.5
+    ∷ row (not (present == values)) (start + 5) ValueCount present  -- S6.6
     ∷ []

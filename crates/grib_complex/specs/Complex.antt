@@ -17,7 +17,7 @@ layout_of s = record {
   length_increment = octets s 42 42;
   last_length = octets s 43 46;
   length_bits = octets s 47 47;
-  management = octets s 23 23
+  management = octets s 23 23;
 }
 
 -- the order of spatial differencing, and the octets of each extra descriptor; 0 for template 5.2
@@ -34,13 +34,13 @@ descriptor_octets s = cond (packing_template s == 3) ((difference_order s + 1) *
 -- rows S5.7 to S5.13, of templates 5.2 and 5.3, for a section that begins at octet `start` of the message
 abbrev pub complex_rows : List ℕ → ℕ → List Row
 complex_rows s start =
-  let layout = layout_of s in
-  let spatial = packing_template s == 3 in
-  row (nat_lt 2 layout.management) (start + 22) MissingManagement layout.management
-    ∷ row (nat_lt (value_count s) layout.groups) (start + 31) GroupCount layout.groups
-    ∷ row (nat_lt 32 layout.width_reference) (start + 35) GroupWidth layout.width_reference
-    ∷ row (nat_lt 32 layout.width_bits) (start + 36) GroupWidth layout.width_bits
-    ∷ row (nat_lt 32 layout.length_bits) (start + 46) GroupShape layout.length_bits
-    ∷ row (spatial && not (difference_order s == 1) && not (difference_order s == 2)) (start + 47) DifferenceOrder (difference_order s)
-    ∷ row (spatial && nat_lt 4 (extra_octets s)) (start + 48) ExtraOctets (extra_octets s)
+    let layout = layout_of s in
+    let spatial = packing_template s == 3 in
+    row (nat_lt 2 layout.management) (start + 22) MissingManagement layout.management  -- S5.7
+    ∷ row (nat_lt (value_count s) layout.groups) (start + 31) GroupCount layout.groups  -- S5.8
+    ∷ row (nat_lt 32 layout.width_reference) (start + 35) GroupWidth layout.width_reference  -- S5.9
+    ∷ row (nat_lt 32 layout.width_bits) (start + 36) GroupWidth layout.width_bits  -- S5.10
+    ∷ row (nat_lt 32 layout.length_bits) (start + 46) GroupShape layout.length_bits  -- S5.11
+    ∷ row (spatial && not (difference_order s == 1) && not (difference_order s == 2)) (start + 47) DifferenceOrder (difference_order s)  -- S5.12
+    ∷ row (spatial && nat_lt 4 (extra_octets s)) (start + 48) ExtraOctets (extra_octets s)  -- S5.13
     ∷ []

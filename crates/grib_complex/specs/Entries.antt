@@ -32,8 +32,8 @@ first_value s5 s7 j = octets s7 (descriptor_place s5 j) (descriptor_place s5 (j 
 
 abbrev pub minimum : List ℕ → List ℕ → ℤ
 minimum s5 s7 =
-  let j = difference_order s5 in
-  signed_octets s7 (descriptor_place s5 j) (descriptor_place s5 (j + 1) - 1)
+    let j = difference_order s5 in
+    signed_octets s7 (descriptor_place s5 j) (descriptor_place s5 (j + 1) - 1)
 
 -- the codes of all values
 abbrev pub codes_of : List ℕ → List ℕ → List Code
@@ -48,8 +48,8 @@ present_code Secondary = None
 -- the codes tell
 abbrev pub numbers_of : List ℕ → List ℕ → List ℤ
 numbers_of s5 s7 =
-  let present = filter_map present_code (codes_of s5 s7) in
-  cond (packing_template s5 == 3)
+    let present = filter_map present_code (codes_of s5 s7) in
+    cond (packing_template s5 == 3)
     (undone (difference_order s5) (pos (first_value s5 s7 0)) (pos (first_value s5 s7 1)) (minimum s5 s7) present)
     (map pos present)
 
@@ -68,13 +68,13 @@ group_entries s5 s7 = refilled (codes_of s5 s7) (numbers_of s5 s7)
 -- whether the top bit of the j-th first value, from 0, is set
 abbrev pub is_first_value_signed : List ℕ → List ℕ → ℕ → Bool
 is_first_value_signed s5 s7 j =
-  nat_lt j (difference_order s5) && nat_lt 0 (extra_octets s5) && nat_lt 127 (octets s7 (descriptor_place s5 j) (descriptor_place s5 j))
+    nat_lt j (difference_order s5) && nat_lt 0 (extra_octets s5) && nat_lt 127 (octets s7 (descriptor_place s5 j) (descriptor_place s5 j))
 
 -- row S7.3, by the two first values
 abbrev pub first_value_rows : List ℕ → List ℕ → ℕ → List Row
 first_value_rows s5 s7 start =
-  row (is_first_value_signed s5 s7 0) (start + 5) FirstValueSign 1
-    ∷ row (is_first_value_signed s5 s7 1) (start + 5 + extra_octets s5) FirstValueSign 2
+    row (is_first_value_signed s5 s7 0) (start + 5) FirstValueSign 1  -- S7.3, j = 1
+    ∷ row (is_first_value_signed s5 s7 1) (start + 5 + extra_octets s5) FirstValueSign 2  -- S7.3, j = 2
     ∷ []
 
 -- whether a number is outside plus and minus 2 ^ 60
@@ -91,30 +91,31 @@ first_out_of_range entries = option_map_or (λ n. n + 1) (position is_out_of_ran
 -- Section 5
 abbrev pub group_data_rows : List ℕ → List ℕ → ℕ → List Row
 group_data_rows s5 s7 start =
-  first_value_rows s5 s7 start ++ group_rows (layout_of s5) s7 start (descriptor_octets s5) (value_count s5)
+    first_value_rows s5 s7 start ++ group_rows (layout_of s5) s7 start (descriptor_octets s5) (value_count s5)
 
 -- row S7.7
 abbrev pub range_rows : List ℕ → List ℕ → ℕ → List Row
 range_rows s5 s7 start =
-  let place = first_out_of_range (group_entries s5 s7) in
-  row (packing_template s5 == 3 && nat_lt 0 place) start ScaledRange place ∷ []
+    let place = first_out_of_range (group_entries s5 s7) in
+    row (packing_template s5 == 3 && nat_lt 0 place) start ScaledRange place  -- S7.7
+    ∷ []
 
 -- the refusal of a Section 7 of templates 5.2 and 5.3: row S7.2, then S7.3 to S7.6, then S7.7
 abbrev pub group_data_fault : List ℕ → List ℕ → ℕ → Option Fault
 group_data_fault s5 s7 start =
-  or_then (or_then (first_fault (list_rows (layout_of s5) s7 start (descriptor_octets s5))) (λ _. group_data_rows s5 s7 start))
+    or_then (or_then (first_fault (list_rows (layout_of s5) s7 start (descriptor_octets s5))) (λ _. group_data_rows s5 s7 start))
     (λ _. range_rows s5 s7 start)
 
 -- the refusal of a Section 7 by rows S7.1 to S7.7; where there are no groups, none is tried
 abbrev pub data_fault : List ℕ → List ℕ → ℕ → Option Fault
 data_fault s5 s7 start =
-  choose (packing_template s5 == 0) (λ _. first_fault (simple_rows s5 s7 start))
+    choose (packing_template s5 == 0) (λ _. first_fault (simple_rows s5 s7 start))
     (λ _. choose (has_no_groups s5) (λ _. None) (λ _. group_data_fault s5 s7 start))
 
 -- the entries of the present points
 abbrev pub entries_of : List ℕ → List ℕ → List Point
 entries_of s5 s7 =
-  choose (packing_template s5 == 0) (λ _. simple_entries s5 s7)
+    choose (packing_template s5 == 0) (λ _. simple_entries s5 s7)
     (λ _. choose (has_no_groups s5) (λ _. replicate (value_count s5) (Scaled (pos 0))) (λ _. group_entries s5 s7))
 
 -- the column of a field with this Section 5, mask and Section 7
@@ -124,5 +125,5 @@ column_from s5 mask s7 = column_with s5 (placed mask (entries_of s5 s7))
 -- the refusal of a Section 5 by rows S5.1 to S5.13
 abbrev pub packing_fault : List ℕ → ℕ → ℕ → Option Fault
 packing_fault s start points =
-  or_then (first_fault (packing_rows s start points))
+    or_then (first_fault (packing_rows s start points))
     (λ _. choose (packing_template s == 0) (λ _. []) (λ _. complex_rows s start))

@@ -31,7 +31,7 @@ streamed messages end = record { messages = messages; end = end }
 abbrev pub octets_before_mark : ℕ → List ℕ → Option ℕ
 octets_before_mark n [] = None
 octets_before_mark n (octet ∷ octets) =
-  cond (starts_with nat_eq (octet ∷ octets) indicator) (Some n) (octets_before_mark (n + 1) octets)
+    cond (starts_with nat_eq (octet ∷ octets) indicator) (Some n) (octets_before_mark (n + 1) octets)
 
 abbrev pub followed_by : Found → Stream → Stream
 followed_by first stream = streamed (first ∷ stream.messages) stream.end
@@ -51,11 +51,11 @@ on_mark (Some n) over begun = begun n
 abbrev pub stream_from : ℕ → (List ℕ → Verdict) → ℕ → ℕ → ℕ → List ℕ → Stream
 stream_from zero verdict m place skipped left = streamed [] (Over (skipped + length left))
 stream_from (suc turns) verdict m place skipped left =
-  on_mark (octets_before_mark 0 left) (λ _. streamed [] (Over (skipped + length left)))
+    on_mark (octets_before_mark 0 left) (λ _. streamed [] (Over (skipped + length left)))
     (λ n. let rest = drop n left in
-      on_verdict (verdict rest) (λ fault. streamed [] (Refusing m fault))
-        (λ total. followed_by (found (place + n) (take total rest))
-          (stream_from turns verdict (m + 1) (place + n + total) (skipped + n) (drop total rest))))
+    on_verdict (verdict rest) (λ fault. streamed [] (Refusing m fault))
+    (λ total. followed_by (found (place + n) (take total rest))
+    (stream_from turns verdict (m + 1) (place + n + total) (skipped + n) (drop total rest))))
 
 -- the messages of an input, where `verdict` says what the octets from a `GRIB` on are
 abbrev pub stream : (List ℕ → Verdict) → List ℕ → Stream

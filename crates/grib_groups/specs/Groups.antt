@@ -40,7 +40,7 @@ references layout octets = plain (bits octets) layout.reference_bits layout.grou
 
 abbrev pub widths : Layout → List ℕ → List ℕ
 widths layout octets =
-  map (λ coded. layout.width_reference + coded) (plain (bits (drop (reference_octets layout) octets)) layout.width_bits layout.groups)
+    map (λ coded. layout.width_reference + coded) (plain (bits (drop (reference_octets layout) octets)) layout.width_bits layout.groups)
 
 -- the lengths, the last of which is the stated true length of the last group
 abbrev pub with_last : ℕ → List ℕ → List ℕ
@@ -53,7 +53,7 @@ coded_lengths layout octets = plain (bits (drop (reference_octets layout + width
 
 abbrev pub lengths : Layout → List ℕ → List ℕ
 lengths layout octets =
-  with_last layout.last_length (map (λ coded. layout.length_reference + layout.length_increment * coded) (coded_lengths layout octets))
+    with_last layout.last_length (map (λ coded. layout.length_reference + layout.length_increment * coded) (coded_lengths layout octets))
 
 abbrev pub groups_from : List ℕ → List ℕ → List ℕ → List Group
 groups_from (r ∷ rs) (w ∷ ws) (n ∷ ns) = record { reference = r; width = w; length_of = n } ∷ groups_from rs ws ns
@@ -66,12 +66,12 @@ groups layout octets = groups_from (references layout octets) (widths layout oct
 -- wider one the packed number; `top` is the number of all ones in that field's bits, plus 1.
 abbrev pub marked : ℕ → ℕ → ℕ → Code → Code
 marked management field top present =
-  cond (not (management == 0) && (field + 1 == top)) Primary
+    cond (not (management == 0) && (field + 1 == top)) Primary
     (cond (management == 2 && (field + 2 == top)) Secondary present)
 
 abbrev pub code_of : Layout → Group → ℕ → Code
 code_of layout group n =
-  cond (group.width == 0)
+    cond (group.width == 0)
     (marked layout.management group.reference (2 ^ layout.reference_bits) (Present group.reference))
     (marked layout.management n (2 ^ group.width) (Present (group.reference + n)))
 
@@ -79,7 +79,7 @@ code_of layout group n =
 abbrev pub codes_from : Layout → List Group → List Bool → List Code
 codes_from layout [] numbers = []
 codes_from layout (group ∷ rest) numbers =
-  map (code_of layout group) (plain numbers group.width group.length_of)
+    map (code_of layout group) (plain numbers group.width group.length_of)
     ++ codes_from layout rest (drop (group.width * group.length_of) numbers)
 
 -- the codes of all values, of the octets that begin with the list of references
@@ -104,16 +104,17 @@ first_too_wide ws = option_map_or (λ g. g + 1) (position (λ w. nat_lt 32 w) ws
 -- Rows S7.2 and S7.4 to S7.6, for a Section 7 that begins at octet `start` of the message and has `skip`
 -- octets of extra descriptors after octet 5, where Section 5 has this many values. Row S7.2:
 abbrev pub list_rows : Layout → List ℕ → ℕ → ℕ → List Row
-list_rows layout s7 start skip = row (nat_lt (length s7) (5 + skip + list_octets layout)) start DataTooShort (length s7) ∷ []
+list_rows layout s7 start skip = row (nat_lt (length s7) (5 + skip + list_octets layout)) start DataTooShort (length s7)  -- S7.2
+    ∷ []
 
 -- and rows S7.4 to S7.6
 abbrev pub group_rows : Layout → List ℕ → ℕ → ℕ → ℕ → List Row
 group_rows layout s7 start skip values =
-  let l = length s7 in
-  let octets = drop (5 + skip) s7 in
-  let before_numbers = 5 + skip + list_octets layout in
-  let too_wide = first_too_wide (widths layout octets) in
-  row (nat_lt 0 too_wide) (start + 5 + skip + reference_octets layout) GroupWidth too_wide
-    ∷ row (not (sum (lengths layout octets) == values)) start GroupShape (first_past values 0 (lengths layout octets))
-    ∷ row (nat_lt (8 * l) (8 * before_numbers + packed_bits (groups layout octets))) start DataTooShort l
+    let l = length s7 in
+    let octets = drop (5 + skip) s7 in
+    let before_numbers = 5 + skip + list_octets layout in
+    let too_wide = first_too_wide (widths layout octets) in
+    row (nat_lt 0 too_wide) (start + 5 + skip + reference_octets layout) GroupWidth too_wide  -- S7.4
+    ∷ row (not (sum (lengths layout octets) == values)) start GroupShape (first_past values 0 (lengths layout octets))  -- S7.5
+    ∷ row (nat_lt (8 * l) (8 * before_numbers + packed_bits (groups layout octets))) start DataTooShort l  -- S7.6
     ∷ []

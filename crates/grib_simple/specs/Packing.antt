@@ -49,12 +49,12 @@ most_bits t = cond (t == 0) 48 32
 -- message, where the grid has this many points
 abbrev pub packing_rows : List ℕ → ℕ → ℕ → List Row
 packing_rows s start points =
-  let l = length s in
-  let t = packing_template s in
-  row (nat_lt l 11) start SectionLength l
-    ∷ row (not (is_template packing_templates t)) (start + 9) (template_reason t) t
-    ∷ row (nat_lt l (least_length packing_templates t)) start SectionLength l
-    ∷ row (nat_lt points (value_count s)) (start + 5) ValueCount (value_count s)
-    ∷ row (exponent_field (reference_word s) == 255) (start + 11) ReferenceNotFinite (reference_word s)
-    ∷ row (nat_lt (most_bits t) (bit_width s)) (start + 19) BitWidth (bit_width s)
+    let l = length s in
+    let t = packing_template s in
+    row (nat_lt l 11) start SectionLength l  -- S5.1
+    ∷ row (not (is_template packing_templates t)) (start + 9) (template_reason t) t  -- S5.2
+    ∷ row (nat_lt l (least_length packing_templates t)) start SectionLength l  -- S5.3
+    ∷ row (nat_lt points (value_count s)) (start + 5) ValueCount (value_count s)  -- S5.4
+    ∷ row (exponent_field (reference_word s) == 255) (start + 11) ReferenceNotFinite (reference_word s)  -- S5.5
+    ∷ row (nat_lt (most_bits t) (bit_width s)) (start + 19) BitWidth (bit_width s)  -- S5.6
     ∷ []

@@ -14,7 +14,8 @@ plain_bits s5 = value_count s5 * bit_width s5
 
 -- row S7.1, for a Section 7 that begins at octet `start` of the message and belongs to this Section 5
 abbrev pub simple_rows : List ℕ → List ℕ → ℕ → List Row
-simple_rows s5 s7 start = row (nat_lt (8 * length s7) (plain_bits s5 + 40)) start DataTooShort (length s7) ∷ []
+simple_rows s5 s7 start = row (nat_lt (8 * length s7) (plain_bits s5 + 40)) start DataTooShort (length s7)  -- S7.1
+    ∷ []
 
 -- the entries of the present points: the plain numbers from octet 6 of Section 7 on
 abbrev pub simple_entries : List ℕ → List ℕ → List Point

@@ -9,9 +9,9 @@ pub record Differenced (order : ℕ) (f1 f2 m : ℤ) (codes : List ℕ) (xs : Li
   pub first : 0 < length xs → get_or xs 0 (pos 0) ≡ f1
   pub second : order ≡ 2 → 1 < length xs → get_or xs 1 (pos 0) ≡ f2
   pub order_1 : order ≡ 1 → (k : ℕ) → k + 1 < length xs
-    → (get_or xs (k + 1) (pos 0) -ℤ get_or xs k (pos 0)) ≡ (pos (get_or codes (k + 1) 0) +ℤ m)
+      → (get_or xs (k + 1) (pos 0) -ℤ get_or xs k (pos 0)) ≡ (pos (get_or codes (k + 1) 0) +ℤ m)
   pub order_2 : order ≡ 2 → (k : ℕ) → k + 2 < length xs
-    → ((get_or xs (k + 2) (pos 0) -ℤ (pos 2 *ℤ get_or xs (k + 1) (pos 0))) +ℤ get_or xs k (pos 0)) ≡ (pos (get_or codes (k + 2) 0) +ℤ m)
+      → ((get_or xs (k + 2) (pos 0) -ℤ (pos 2 *ℤ get_or xs (k + 1) (pos 0))) +ℤ get_or xs k (pos 0)) ≡ (pos (get_or codes (k + 2) 0) +ℤ m)
 
 -- The one list that has these codes, so that columns compute. After x, and after x and y:
 abbrev pub after_one : ℤ → ℤ → List ℕ → List ℤ

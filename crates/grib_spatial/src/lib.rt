@@ -1,2 +1,4 @@
 //! Spatial differences.
 #![tactic(auto)]
+
+pub mod laws;

@@ -15,37 +15,37 @@ use Rattle.grib_text.specs.Words.{filled, or_missing, signed_or_missing}
 -- of message m, which stands after `before` octets of the input
 abbrev pub check_line : ℕ → ℕ → ℕ → ℕ → ℕ → List ℕ
 check_line m before edition total fields =
-  codes "message " ++ decimal m ++ codes " at " ++ decimal before ++ codes " edition " ++ decimal edition
+    codes "message " ++ decimal m ++ codes " at " ++ decimal before ++ codes " edition " ++ decimal edition
     ++ codes " octets " ++ decimal total ++ codes " fields " ++ decimal fields ++ 10 ∷ []
 
 abbrev pub total_line : ℕ → ℕ → ℕ → List ℕ
 total_line messages fields skipped =
-  codes "messages " ++ decimal messages ++ codes " fields " ++ decimal fields ++ codes " skipped " ++ decimal skipped ++ 10 ∷ []
+    codes "messages " ++ decimal messages ++ codes " fields " ++ decimal fields ++ codes " skipped " ++ decimal skipped ++ 10 ∷ []
 
 -- the reference time: octets 13-19 of Section 1
 abbrev pub time_text : List ℕ → List ℕ
 time_text s1 =
-  filled 4 (octets s1 13 14) ++ codes "-" ++ filled 2 (octets s1 15 15) ++ codes "-" ++ filled 2 (octets s1 16 16)
+    filled 4 (octets s1 13 14) ++ codes "-" ++ filled 2 (octets s1 15 15) ++ codes "-" ++ filled 2 (octets s1 16 16)
     ++ codes "T" ++ filled 2 (octets s1 17 17) ++ codes ":" ++ filled 2 (octets s1 18 18) ++ codes ":" ++ filled 2 (octets s1 19 19)
 
 -- the first fixed surface: its type, scale factor and scaled value, octets 23-28 of Section 4
 abbrev pub surface_text : List ℕ → List ℕ
 surface_text s4 =
-  or_missing 8 (octets s4 23 23) ++ codes ":" ++ signed_or_missing 8 (octets s4 24 24) ++ codes ":" ++ or_missing 32 (octets s4 25 28)
+    or_missing 8 (octets s4 23 23) ++ codes ":" ++ signed_or_missing 8 (octets s4 24 24) ++ codes ":" ++ or_missing 32 (octets s4 25 28)
 
 -- discipline, parameter category and parameter number
 abbrev pub parameter_text : List ℕ → List ℕ → List ℕ
 parameter_text message s4 =
-  decimal (discipline message) ++ codes "." ++ decimal (octets s4 10 10) ++ codes "." ++ decimal (octets s4 11 11)
+    decimal (discipline message) ++ codes "." ++ decimal (octets s4 10 10) ++ codes "." ++ decimal (octets s4 11 11)
 
 -- of field i of message m
 abbrev pub list_line : List ℕ → ℕ → ℕ → List ℕ
 list_line message m i =
-  let s1 = part_octets message i 1 in
-  let s3 = part_octets message i 3 in
-  let s4 = part_octets message i 4 in
-  let s5 = part_octets message i 5 in
-  decimal m ++ codes "." ++ decimal i ++ codes " ed=2 centre=" ++ decimal (octets s1 6 7) ++ codes " time=" ++ time_text s1
+    let s1 = part_octets message i 1 in
+    let s3 = part_octets message i 3 in
+    let s4 = part_octets message i 4 in
+    let s5 = part_octets message i 5 in
+    decimal m ++ codes "." ++ decimal i ++ codes " ed=2 centre=" ++ decimal (octets s1 6 7) ++ codes " time=" ++ time_text s1
     ++ codes " grid=3." ++ decimal (grid_template s3) ++ codes " points=" ++ decimal (grid_points s3)
     ++ codes " product=4." ++ decimal (product_template s4) ++ codes " param=" ++ parameter_text message s4
     ++ codes " unit=" ++ decimal (octets s4 18 18) ++ codes " ahead=" ++ signed_decimal (signed_octets s4 19 22)
@@ -55,7 +55,7 @@ list_line message m i =
 -- a reduced reference value, and the scale factors E and D
 abbrev pub reference_line : Binary → ℤ → ℤ → List ℕ
 reference_line r e d =
-  codes "reference " ++ signed_decimal r.mantissa ++ codes "*2^" ++ signed_decimal r.exponent
+    codes "reference " ++ signed_decimal r.mantissa ++ codes "*2^" ++ signed_decimal r.exponent
     ++ codes " binary " ++ signed_decimal e ++ codes " decimal " ++ signed_decimal d ++ 10 ∷ []
 
 abbrev pub point_text : Point → List ℕ

@@ -47,5 +47,5 @@ reason_name ExtraFlags = codes "ExtraFlags"
 -- message m is refused
 abbrev pub refusal_note : ℕ → Fault → List ℕ
 refusal_note m fault =
-  codes "refused message " ++ decimal m ++ codes " octet " ++ decimal fault.octet ++ codes " " ++ reason_name fault.reason
+    codes "refused message " ++ decimal m ++ codes " octet " ++ decimal fault.octet ++ codes " " ++ reason_name fault.reason
     ++ codes " " ++ decimal fault.detail ++ 10 ∷ []

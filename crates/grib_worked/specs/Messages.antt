@@ -15,7 +15,7 @@ identification = hex (codes "00000015 01 0062 0000 02 00 01 07E8 01 0F 0C 00 00 
 
 abbrev pub grid : List ℕ
 grid =
-  hex (codes "00000048 03 00 00000004 00 00 0000 06 FF FFFFFFFF FF FFFFFFFF FF FFFFFFFF 00000002 00000002")
+    hex (codes "00000048 03 00 00000004 00 00 0000 06 FF FFFFFFFF FF FFFFFFFF FF FFFFFFFF 00000002 00000002")
     ++ hex (codes "00000000 FFFFFFFF 02FAF080 00989680 30 02EBAE40 00A7D8C0 000F4240 000F4240 00")
 
 abbrev pub product : List ℕ
@@ -41,7 +41,7 @@ three_values = put representation 6 (hex (codes "00000003"))
 -- M2, 252 octets: two fields, the second with the bitmap of the first
 abbrev pub m2 : List ℕ
 m2 =
-  head (hex (codes "00000000000000FC")) ++ identification ++ grid
+    head (hex (codes "00000000000000FC")) ++ identification ++ grid
     ++ product ++ three_values ++ hex (codes "00000007 06 00 B0") ++ hex (codes "00000008 07 000102")
     ++ product ++ three_values ++ hex (codes "00000006 06 FE") ++ hex (codes "00000008 07 030405")
     ++ end
@@ -49,7 +49,7 @@ m2 =
 -- M3, 215 octets: spatial differencing of order 1
 abbrev pub m3 : List ℕ
 m3 =
-  head (hex (codes "00000000000000D7")) ++ identification ++ grid ++ product
+    head (hex (codes "00000000000000D7")) ++ identification ++ grid ++ product
     ++ hex (codes "00000031 05 00000004 0003 C2ED4000 8003 0001 05 00 01 00 FFFFFFFF FFFFFFFF 00000002")
     ++ hex (codes "00 03 00000001 01 00000002 06 01 01")
     ++ no_bitmap ++ hex (codes "0000000D 07 05 8A 02C0 0C 0410 A0") ++ end
@@ -61,7 +61,7 @@ grid_3_by_1 = put (put grid 7 (hex (codes "00000003"))) 31 (hex (codes "00000003
 -- C1, 209 octets: complex packing with a primary missing value
 abbrev pub c1 : List ℕ
 c1 =
-  head (hex (codes "00000000000000D1")) ++ identification ++ grid_3_by_1 ++ product
+    head (hex (codes "00000000000000D1")) ++ identification ++ grid_3_by_1 ++ product
     ++ hex (codes "0000002F 05 00000003 0002 C2ED4000 8003 0001 03 00 01 01 FFFFFFFF FFFFFFFF 00000001")
     ++ hex (codes "00 02 00000001 01 00000003 06")
     ++ no_bitmap ++ hex (codes "00000009 07 A0 80 08 34") ++ end
@@ -69,13 +69,13 @@ c1 =
 -- Section 5 of C2
 abbrev pub marks_only : List ℕ
 marks_only =
-  hex (codes "0000002F 05 00000004 0002 C2ED4000 8003 0001 02 00 01 02 FFFFFFFF FFFFFFFF 00000001")
+    hex (codes "0000002F 05 00000004 0002 C2ED4000 8003 0001 02 00 01 02 FFFFFFFF FFFFFFFF 00000001")
     ++ hex (codes "00 01 00000001 01 00000004 06")
 
 -- C2, 209 octets: complex packing with primary and secondary missing values only
 abbrev pub c2 : List ℕ
 c2 =
-  head (hex (codes "00000000000000D1")) ++ identification ++ grid ++ product ++ marks_only
+    head (hex (codes "00000000000000D1")) ++ identification ++ grid ++ product ++ marks_only
     ++ no_bitmap ++ hex (codes "00000009 07 00 80 0C A0") ++ end
 
 -- Section 3 of M1 as template 3.1, without its length
@@ -85,13 +85,13 @@ rotated = put (drop 4 grid) 9 (hex (codes "0001")) ++ hex (codes "82625A00 00000
 -- T1, 195 octets: a rotated grid
 abbrev pub t1 : List ℕ
 t1 =
-  head (hex (codes "00000000000000C3")) ++ identification ++ hex (codes "00000054") ++ rotated
+    head (hex (codes "00000000000000C3")) ++ identification ++ hex (codes "00000054") ++ rotated
     ++ product ++ representation ++ no_bitmap ++ values ++ end
 
 -- T2, 210 octets: an ensemble member over an interval
 abbrev pub t2 : List ℕ
 t2 =
-  head (hex (codes "00000000000000D2")) ++ identification ++ grid
+    head (hex (codes "00000000000000D2")) ++ identification ++ grid
     ++ hex (codes "0000003D") ++ put (drop 4 product) 4 (hex (codes "000B"))
     ++ hex (codes "01 03 0A 07E8 01 0F 12 00 00 01 00000000 01 02 01 00000006 01 00000000")
     ++ representation ++ no_bitmap ++ values ++ end
@@ -99,5 +99,5 @@ t2 =
 -- W, 199 octets: numbers of 40 bits
 abbrev pub w : List ℕ
 w =
-  head (hex (codes "00000000000000C7")) ++ identification ++ grid ++ product ++ put representation 20 (hex (codes "28"))
+    head (hex (codes "00000000000000C7")) ++ identification ++ grid ++ product ++ put representation 20 (hex (codes "28"))
     ++ no_bitmap ++ hex (codes "00000019 07 0000000000 0000000001 0000000002 0100000000") ++ end

@@ -13,19 +13,19 @@ truncated_after k = Refused (refusal (k + 1) Truncated k)
 -- M1 with a bitmap that has no bits
 abbrev pub bitmap_without_bits : List ℕ
 bitmap_without_bits =
-  head (hex (codes "00000000000000B7")) ++ identification ++ grid ++ product ++ representation ++ hex (codes "00000006 06 00") ++ values ++ end
+    head (hex (codes "00000000000000B7")) ++ identification ++ grid ++ product ++ representation ++ hex (codes "00000006 06 00") ++ values ++ end
 
 -- M1 as template 3.40 with a list of rows after 72 octets, 187 octets
 abbrev pub reduced_gaussian : List ℕ → List ℕ
 reduced_gaussian rows =
-  head (hex (codes "00000000000000BB")) ++ identification
+    head (hex (codes "00000000000000BB")) ++ identification
     ++ hex (codes "0000004C") ++ put (put (drop 4 grid) 7 (hex (codes "02 01 0028"))) 27 (hex (codes "FFFFFFFF")) ++ rows
     ++ product ++ representation ++ no_bitmap ++ values ++ end
 
 -- T1 with a list of rows after 84 octets: `rows` of octet 11 = 2, meaning 1, Ni all ones
 abbrev pub listed_rotated : List ℕ → List ℕ → List ℕ → List ℕ
 listed_rotated total length_octets rows =
-  head total ++ identification
+    head total ++ identification
     ++ length_octets ++ put (put rotated 7 (hex (codes "02 01"))) 27 (hex (codes "FFFFFFFF")) ++ rows
     ++ product ++ representation ++ no_bitmap ++ values ++ end
 
@@ -39,11 +39,11 @@ reduced_rotated_cut = listed_rotated (hex (codes "00000000000000C5")) (hex (code
 -- M1 with numbers of 0 bits and an empty Section 7, 179 octets
 abbrev pub no_bits : List ℕ
 no_bits =
-  head (hex (codes "00000000000000B3")) ++ identification ++ grid ++ product ++ put representation 20 (hex (codes "00"))
+    head (hex (codes "00000000000000B3")) ++ identification ++ grid ++ product ++ put representation 20 (hex (codes "00"))
     ++ no_bitmap ++ hex (codes "00000005 07") ++ end
 
 -- C2 with no groups and an empty Section 7, 205 octets
 abbrev pub no_groups : List ℕ
 no_groups =
-  head (hex (codes "00000000000000CD")) ++ identification ++ grid ++ product ++ put marks_only 32 (hex (codes "00000000"))
+    head (hex (codes "00000000000000CD")) ++ identification ++ grid ++ product ++ put marks_only 32 (hex (codes "00000000"))
     ++ no_bitmap ++ hex (codes "00000005 07") ++ end

@@ -28,14 +28,12 @@ pub fn worked_messages()
     ensures t2 { verdict t2 ≡ Accepted 210 }
     ensures w_octets { length w ≡ 199 }
     ensures w { verdict w ≡ Accepted 199 }
-{
-}
+{}
 
 /// What follows a message does not change what it is.
 pub fn message_before_others()
     ensures accepted { verdict (m1 ++ m2) ≡ Accepted 183 }
-{
-}
+{}
 
 /// A message that is cut after some octets is refused at the next one.
 pub fn cut_messages()
@@ -47,67 +45,57 @@ pub fn cut_messages()
     ensures after_17 { verdict (take 17 m1) ≡ Refused (refusal 18 Truncated 17) }
     ensures after_100 { verdict (take 100 m1) ≡ Refused (refusal 101 Truncated 100) }
     ensures after_182 { verdict (take 182 m1) ≡ Refused (refusal 183 Truncated 182) }
-{
-}
+{}
 
 /// So it is after each number of octets from 4 on.
 pub fn every_cut()
     ensures plain { map (λ k. verdict (take k m1)) (range_with_len 4 179) ≡ map truncated_after (range_with_len 4 179) }
     ensures two_fields { map (λ k. verdict (take k m2)) (range_with_len 4 248) ≡ map truncated_after (range_with_len 4 248) }
     ensures differenced { map (λ k. verdict (take k m3)) (range_with_len 4 211) ≡ map truncated_after (range_with_len 4 211) }
-{
-}
+{}
 
 /// An edition that is neither 1 nor 2.
 pub fn other_edition()
     ensures refused { verdict (put m1 8 (hex (codes "03"))) ≡ Refused (refusal 8 Edition 3) }
-{
-}
+{}
 
 /// A reference value that is not finite is refused at its first octet.
 pub fn infinite_reference()
     ensures refused { verdict (put m1 155 (hex (codes "7F800000"))) ≡ Refused (refusal 155 ReferenceNotFinite 2139095040) }
-{
-}
+{}
 
 /// A total length that is one too long, and one too short.
 pub fn wrong_total_length()
     ensures too_long { verdict (put m1 9 (hex (codes "00000000000000B8"))) ≡ Refused (refusal 184 LengthDisagrees 1) }
     ensures too_short { verdict (put m1 9 (hex (codes "00000000000000B6"))) ≡ Refused (refusal 171 SectionLength 9) }
-{
-}
+{}
 
 /// A packing that is left out has a reason of its own.
 pub fn png_packing()
     ensures refused { verdict (put m1 153 (hex (codes "0029"))) ≡ Refused (refusal 153 PngPacked 41) }
-{
-}
+{}
 
 /// The bitmap of an earlier field, where there is none.
 pub fn no_earlier_bitmap()
     ensures refused { verdict (put m1 170 (hex (codes "FE"))) ≡ Refused (refusal 170 NoEarlierBitmap 254) }
-{
-}
+{}
 
 /// A bitmap with fewer bits than points.
 pub fn short_bitmap()
     ensures refused { verdict (bitmap_without_bits) ≡ Refused (refusal 165 BitmapSize 6) }
-{
-}
+{}
 
 /// A reduced Gaussian grid: its rows add up to the points, or not.
 pub fn reduced_grid()
     ensures accepted { verdict (reduced_gaussian (hex (codes "0001 0003"))) ≡ Accepted 187 }
     ensures too_few { verdict (reduced_gaussian (hex (codes "0001 0002"))) ≡ Refused (refusal 44 PointCount 3) }
-{
-}
+{}
 
 /// A reduced rotated grid: its list begins after a longer template, and does not go past the section.
 pub fn reduced_rotated_grid()
     ensures accepted { verdict reduced_rotated ≡ Accepted 199 }
     ensures list_cut { verdict (reduced_rotated_cut) ≡ Refused (refusal 122 ListShape 2) }
-{
-}
+{}
 
 /// Grids that are refused.
 pub fn refused_grids()
@@ -116,16 +104,14 @@ pub fn refused_grids()
     ensures template_too_long { verdict (put m1 50 (hex (codes "001E"))) ≡ Refused (refusal 38 SectionLength 72) }
     ensures list_meaning { verdict (put m1 48 (hex (codes "0103"))) ≡ Refused (refusal 49 ListShape 3) }
     ensures list_octets { verdict (put m1 48 (hex (codes "0501"))) ≡ Refused (refusal 48 ListShape 5) }
-{
-}
+{}
 
 /// Products that are refused.
 pub fn refused_products()
     ensures template { verdict (put m1 117 (hex (codes "0005"))) ≡ Refused (refusal 117 ProductTemplate 5) }
     ensures template_too_long { verdict (put m1 117 (hex (codes "0008"))) ≡ Refused (refusal 110 SectionLength 34) }
     ensures coordinate_value { verdict (put m1 115 (hex (codes "0001"))) ≡ Refused (refusal 110 SectionLength 34) }
-{
-}
+{}
 
 /// Complex packings that are refused.
 pub fn refused_groups()
@@ -135,8 +121,7 @@ pub fn refused_groups()
     ensures numbers_cut { verdict (put c1 179 (hex (codes "01"))) ≡ Refused (refusal 197 DataTooShort 9) }
     ensures lengths_too_short { verdict (put c1 186 (hex (codes "00000002"))) ≡ Refused (refusal 197 GroupShape 1) }
     ensures lengths_too_long { verdict (put c1 186 (hex (codes "00000004"))) ≡ Refused (refusal 197 GroupShape 1) }
-{
-}
+{}
 
 /// Spatial differences that are refused.
 pub fn refused_differences()
@@ -144,8 +129,7 @@ pub fn refused_differences()
     ensures extra_octets { verdict (put m3 192 (hex (codes "05"))) ≡ Refused (refusal 192 ExtraOctets 5) }
     ensures first_value { verdict (put m3 204 (hex (codes "85"))) ≡ Refused (refusal 204 FirstValueSign 1) }
     ensures group_count { verdict (put m3 175 (hex (codes "FFFFFFFF"))) ≡ Refused (refusal 175 GroupCount 4294967295) }
-{
-}
+{}
 
 /// Total lengths at and past the limits.
 pub fn hostile_total_lengths()
@@ -154,8 +138,7 @@ pub fn hostile_total_lengths()
     ensures the_most { verdict (put m1 9 (hex (codes "0000000010000000"))) ≡ Refused (refusal 184 LengthDisagrees 268435273) }
     ensures over_the_most { verdict (put m1 9 (hex (codes "0000000010000001"))) ≡ Refused (refusal 9 TotalLength 268435457) }
     ensures all_ones { verdict (put m1 9 (hex (codes "FFFFFFFFFFFFFFFF"))) ≡ Refused (refusal 9 TotalLength 18446744073709551615) }
-{
-}
+{}
 
 /// Frames of sections that no writer makes.
 pub fn hostile_frames()
@@ -163,8 +146,7 @@ pub fn hostile_frames()
     ensures length_all_ones { verdict (put m1 17 (hex (codes "FFFFFFFF"))) ≡ Refused (refusal 17 SectionLength 4294967295) }
     ensures order { verdict (put m1 21 (hex (codes "02"))) ≡ Refused (refusal 21 SectionOrder 2) }
     ensures end_mark { verdict (put m1 180 (hex (codes "37373738"))) ≡ Refused (refusal 180 EndMark 926365496) }
-{
-}
+{}
 
 /// Numbers of points and widths of packed numbers that no field has.
 pub fn hostile_counts()
@@ -172,11 +154,9 @@ pub fn hostile_counts()
     ensures most_points { verdict (put m1 68 (hex (codes "FFFFFFFFFFFFFFFF"))) ≡ Refused (refusal 44 PointCount 18446744065119617025) }
     ensures width_255 { verdict (put m1 163 (hex (codes "FF"))) ≡ Refused (refusal 163 BitWidth 255) }
     ensures width_32 { verdict (put m1 163 (hex (codes "20"))) ≡ Refused (refusal 171 DataTooShort 9) }
-{
-}
+{}
 
 /// Numbers of 48 bits at most.
 pub fn too_wide_numbers()
     ensures refused { verdict (put w 163 (hex (codes "31"))) ≡ Refused (refusal 163 BitWidth 49) }
-{
-}
+{}

@@ -17,21 +17,18 @@ pub fn plain_column()
     ensures fields { field_count m1 ≡ 1 }
     ensures column { column_of m1 1 ≡ column (scaled 0 ∷ scaled 1 ∷ scaled 2 ∷ scaled 255 ∷ []) }
     ensures representation { part_octets m1 1 5 ≡ representation }
-{
-}
+{}
 
 /// Numbers of 0 bits are 0.
 pub fn numbers_without_bits()
     ensures accepted { verdict no_bits ≡ Accepted 179 }
     ensures column { column_of no_bits 1 ≡ column (scaled 0 ∷ scaled 0 ∷ scaled 0 ∷ scaled 0 ∷ []) }
-{
-}
+{}
 
 /// Numbers of 40 bits.
 pub fn wide_numbers()
     ensures column { column_of w 1 ≡ column (scaled 0 ∷ scaled 1 ∷ scaled 2 ∷ scaled 4294967296 ∷ []) }
-{
-}
+{}
 
 /// A bitmap of its own, and the bitmap of an earlier field.
 pub fn masked_columns()
@@ -39,23 +36,20 @@ pub fn masked_columns()
     ensures first { column_of m2 1 ≡ column (scaled 0 ∷ Missing ∷ scaled 1 ∷ scaled 2 ∷ []) }
     ensures second { column_of m2 2 ≡ column (scaled 3 ∷ Missing ∷ scaled 4 ∷ scaled 5 ∷ []) }
     ensures same_mask { field_mask m2 2 ≡ field_mask m2 1 }
-{
-}
+{}
 
 /// Complex packing with missing marks in a group of width 2, and of width 1.
 pub fn grouped_columns()
     ensures primary { column_of c1 1 ≡ column (scaled 5 ∷ Missing ∷ scaled 6 ∷ []) }
     ensures both { column_of c2 1 ≡ column (Missing ∷ Missing2 ∷ Missing ∷ Missing2 ∷ []) }
     ensures codes { codes_of (part_octets c1 1 5) (part_octets c1 1 7) ≡ Present 5 ∷ Primary ∷ Present 6 ∷ [] }
-{
-}
+{}
 
 /// Where there are no groups every value is 0.
 pub fn column_without_groups()
     ensures accepted { verdict no_groups ≡ Accepted 205 }
     ensures column { column_of no_groups 1 ≡ column (scaled 0 ∷ scaled 0 ∷ scaled 0 ∷ scaled 0 ∷ []) }
-{
-}
+{}
 
 /// Spatial differencing of order 1: the first value 5, the minimum -10, the codes 0, 0, 16, 11.
 pub fn differenced_column()
@@ -63,5 +57,4 @@ pub fn differenced_column()
     ensures minimum { minimum (part_octets m3 1 5) (part_octets m3 1 7) ≡ negsuc 9 }
     ensures codes { codes_of (part_octets m3 1 5) (part_octets m3 1 7) ≡ Present 0 ∷ Present 0 ∷ Present 16 ∷ Present 11 ∷ [] }
     ensures column { column_of m3 1 ≡ column (scaled 5 ∷ Scaled (negsuc 4) ∷ scaled 1 ∷ scaled 2 ∷ []) }
-{
-}
+{}

@@ -9,12 +9,9 @@ ghost use Rattle.grib_worked.specs.Messages.{m1, m2, m3, c1, t2, identification,
 /// The plain message is its six sections, and each begins where the manual's octets say.
 pub fn plain_sections()
     ensures in_grammar { Grammar2 m1 (identification ∷ grid ∷ product ∷ representation ∷ no_bitmap ∷ values ∷ []) }
-    ensures places {
-        sections_of m1 ≡ placed_at 17 identification ∷ placed_at 38 grid ∷ placed_at 110 product ∷ placed_at 144 representation
-            ∷ placed_at 165 no_bitmap ∷ placed_at 171 values ∷ []
-    }
-{
-}
+    ensures places { sections_of m1 ≡ placed_at 17 identification ∷ placed_at 38 grid ∷ placed_at 110 product ∷ placed_at 144 representation
+        ∷ placed_at 165 no_bitmap ∷ placed_at 171 values ∷ [] }
+{}
 
 /// Two fields, complex packing, spatial differencing, an interval.
 pub fn other_messages()
@@ -22,5 +19,4 @@ pub fn other_messages()
     ensures grouped { Grammar2 c1 (map (λ s. s.octets) (sections_of c1)) }
     ensures differenced { Grammar2 m3 (map (λ s. s.octets) (sections_of m3)) }
     ensures interval { Grammar2 t2 (map (λ s. s.octets) (sections_of t2)) }
-{
-}
+{}

@@ -13,20 +13,15 @@ pub fn inputs_without_messages()
     ensures one { stream verdict (take 1 m1) ≡ streamed [] (Over 1) }
     ensures two { stream verdict (take 2 m1) ≡ streamed [] (Over 2) }
     ensures three { stream verdict (take 3 m1) ≡ streamed [] (Over 3) }
-{
-}
+{}
 
 /// The plain message twice, after a bulletin's heading and before five zeros: the octets outside are
 /// skipped and counted.
 pub fn messages_among_other_octets()
-    ensures found {
-        stream verdict (codes "SXXX01 EDZW\n" ++ m1 ++ m1 ++ replicate 5 0) ≡ streamed (found 12 m1 ∷ found 195 m1 ∷ []) (Over 17)
-    }
-{
-}
+    ensures found { stream verdict (codes "SXXX01 EDZW\n" ++ m1 ++ m1 ++ replicate 5 0) ≡ streamed (found 12 m1 ∷ found 195 m1 ∷ []) (Over 17) }
+{}
 
 /// A message after which a cut one stands.
 pub fn cut_second_message()
     ensures refused { stream verdict (m2 ++ take 100 m1) ≡ streamed (found 0 m2 ∷ []) (Refusing 2 (refusal 101 Truncated 100)) }
-{
-}
+{}
