@@ -11,7 +11,7 @@ use Rattle.grib_io.specs.declared.fault.Reason.TheVariants.{DataTooShort, GroupW
 use Rattle.grib_io.specs.Rows.{Row, row}
 use Rattle.grib_groups.specs.declared.layout.Layout.{Layout}
 
--- the octets that `count` numbers of w bits padded to whole octets
+-- the octets that `count` numbers of w bits take, padded to whole octets
 abbrev pub octets_for : ℕ → ℕ → ℕ
 octets_for w count = (count * w + 7) / 8
 
@@ -28,11 +28,12 @@ length_octets layout = octets_for layout.length_bits layout.groups
 abbrev pub list_octets : Layout → ℕ
 list_octets layout = reference_octets layout + width_octets layout + length_octets layout
 
--- a group: the reference of its codes, the width of its packed numbers in bits, its number of values
+-- a group: the reference of its codes, the width of its packed numbers in bits, and its length, which
+-- is how many values it has
 pub record Group : Type 0 where
   pub reference : ℕ
   pub width : ℕ
-  pub length_of : ℕ
+  pub count : ℕ
 
 -- The lists, of the octets that begin with the first of them.
 abbrev pub references : Layout → List ℕ → List ℕ
@@ -56,19 +57,21 @@ lengths layout octets =
     with_last layout.last_length (map (λ coded. layout.length_reference + layout.length_increment * coded) (coded_lengths layout octets))
 
 abbrev pub groups_from : List ℕ → List ℕ → List ℕ → List Group
-groups_from (r ∷ rs) (w ∷ ws) (n ∷ ns) = record { reference = r; width = w; length_of = n } ∷ groups_from rs ws ns
+groups_from (r ∷ rs) (w ∷ ws) (n ∷ ns) = record { reference = r; width = w; count = n } ∷ groups_from rs ws ns
 groups_from _ _ _ = []
 
 abbrev pub groups : Layout → List ℕ → List Group
 groups layout octets = groups_from (references layout octets) (widths layout octets) (lengths layout octets)
 
--- The code of a packed number n: of a group of width 0 the reference itself says what is missing, of a
--- wider one the packed number; `top` is the number of all ones in that field's bits, plus 1.
+-- What is missing by a number: under management 1 and 2 all ones mean primary missing, and under 2 one
+-- less means secondary missing; `top` is one more than all ones. Else the code is `present`.
 abbrev pub marked : ℕ → ℕ → ℕ → Code → Code
 marked management field top present =
     cond (not (management == 0) && (field + 1 == top)) Primary
     (cond (management == 2 && (field + 2 == top)) Secondary present)
 
+-- the code of a packed number n: in a group of width 0 the reference says what is missing, in a wider
+-- one the packed number
 abbrev pub code_of : Layout → Group → ℕ → Code
 code_of layout group n =
     cond (group.width == 0)
@@ -79,8 +82,8 @@ code_of layout group n =
 abbrev pub codes_from : Layout → List Group → List Bool → List Code
 codes_from layout [] numbers = []
 codes_from layout (group ∷ rest) numbers =
-    map (code_of layout group) (plain numbers group.width group.length_of)
-    ++ codes_from layout rest (drop (group.width * group.length_of) numbers)
+    map (code_of layout group) (plain numbers group.width group.count)
+    ++ codes_from layout rest (drop (group.width * group.count) numbers)
 
 -- the codes of all values, of the octets that begin with the list of references
 abbrev pub grouped : Layout → List ℕ → List Code
@@ -89,7 +92,7 @@ grouped layout octets = codes_from layout (groups layout octets) (bits (drop (li
 -- the bits of all packed numbers
 abbrev pub packed_bits : List Group → ℕ
 packed_bits [] = 0
-packed_bits (group ∷ rest) = group.length_of * group.width + packed_bits rest
+packed_bits (group ∷ rest) = group.count * group.width + packed_bits rest
 
 -- the number of the first group that takes the sum of the lengths past the values, else of the last one;
 -- `n` groups stand before

@@ -78,3 +78,21 @@ pub enum UnpackFault {
     /// Want of memory.
     Memory,
 }
+
+#[cfg(test)]
+mod tests {
+    use super::*;
+
+    #[test]
+    fn reasons_have_their_numbers(rt: HostRuntime) {
+        let table = [
+            (Reason::Truncated, 1),
+            (Reason::BitmapIndicator, 16),
+            (Reason::DataTooShort, 27),
+            (Reason::ExtraFlags, 37),
+        ];
+        for (reason, number) in table {
+            assert_eq!(rt; reason.number(), number);
+        }
+    }
+}

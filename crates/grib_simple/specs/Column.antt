@@ -5,8 +5,8 @@ use Rattle.grib_simple.specs.declared.column.Point.TheVariants.{Missing}
 use Rattle.grib_simple.specs.declared.column.Column.{Column}
 use Rattle.grib_simple.specs.Packing.{reference_word, binary_scale, decimal_scale}
 
--- the present points take the entries in their order; a point that the mask leaves out is missing
--- (as a point without an entry would be, of which an accepted field has none)
+-- The present points take the entries in their order, and a point that the mask leaves out is missing.
+-- A field that is accepted has an entry for each present point; one without would be missing too.
 abbrev pub placed : List Bool → List Point → List Point
 placed [] entries = []
 placed (false ∷ mask) entries = Missing ∷ placed mask entries
