@@ -88,13 +88,15 @@ t1 =
     head (hex (codes "00000000000000C3")) ++ identification ++ hex (codes "00000054") ++ rotated
     ++ product ++ representation ++ no_bitmap ++ values ++ end
 
+-- Section 4 of T2: an ensemble member over an interval, template 4.11
+abbrev pub interval : List ℕ
+interval =
+    hex (codes "0000003D") ++ put (drop 4 product) 4 (hex (codes "000B"))
+    ++ hex (codes "01 03 0A 07E8 01 0F 12 00 00 01 00000000 01 02 01 00000006 01 00000000")
+
 -- T2, 210 octets: an ensemble member over an interval
 abbrev pub t2 : List ℕ
-t2 =
-    head (hex (codes "00000000000000D2")) ++ identification ++ grid
-    ++ hex (codes "0000003D") ++ put (drop 4 product) 4 (hex (codes "000B"))
-    ++ hex (codes "01 03 0A 07E8 01 0F 12 00 00 01 00000000 01 02 01 00000006 01 00000000")
-    ++ representation ++ no_bitmap ++ values ++ end
+t2 = head (hex (codes "00000000000000D2")) ++ identification ++ grid ++ interval ++ representation ++ no_bitmap ++ values ++ end
 
 -- W, 199 octets: numbers of 40 bits
 abbrev pub w : List ℕ

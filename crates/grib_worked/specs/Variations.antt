@@ -4,7 +4,7 @@ use Rattle.grib_io.specs.declared.fault.Reason.TheVariants.{Truncated}
 use Rattle.grib_io.specs.Rows.{refusal}
 use Rattle.grib2_sections.specs.Verdict.{Verdict, Refused}
 use Rattle.grib_worked.specs.Hex.{hex, put}
-use Rattle.grib_worked.specs.Messages.{head, end, identification, grid, product, representation, no_bitmap, values, rotated, marks_only}
+use Rattle.grib_worked.specs.Messages.{head, end, identification, grid, product, representation, no_bitmap, values, rotated, marks_only, three_values, grid_3_by_1}
 
 -- what is said of a message that ends after k octets
 abbrev pub truncated_after : ℕ → Verdict
@@ -47,3 +47,16 @@ abbrev pub no_groups : List ℕ
 no_groups =
     head (hex (codes "00000000000000CD")) ++ identification ++ grid ++ product ++ put marks_only 32 (hex (codes "00000000"))
     ++ no_bitmap ++ hex (codes "00000005 07") ++ end
+
+-- Sections 0, 1 and 3 of M1 and the end mark, 113 octets
+abbrev pub ends_after_grid : List ℕ
+ends_after_grid = head (hex (codes "0000000000000071")) ++ identification ++ grid ++ end
+
+-- M2 with a second grid of three points before the second field, which has the bitmap of the first; 324
+-- octets
+abbrev pub other_grid_between : List ℕ
+other_grid_between =
+    head (hex (codes "0000000000000144")) ++ identification ++ grid
+    ++ product ++ three_values ++ hex (codes "00000007 06 00 B0") ++ hex (codes "00000008 07 000102")
+    ++ grid_3_by_1 ++ product ++ three_values ++ hex (codes "00000006 06 FE") ++ hex (codes "00000008 07 030405")
+    ++ end

@@ -7,4 +7,5 @@ pub mod columns;
 pub mod grammar;
 pub mod lines;
 pub mod references;
+pub mod rows;
 pub mod streams;
