@@ -60,3 +60,9 @@ other_grid_between =
     ++ product ++ three_values ++ hex (codes "00000007 06 00 B0") ++ hex (codes "00000008 07 000102")
     ++ grid_3_by_1 ++ product ++ three_values ++ hex (codes "00000006 06 FE") ++ hex (codes "00000008 07 030405")
     ++ end
+
+-- Section 5 of 24,000 values with second differences, all in one group of width 0
+abbrev pub steep : List ℕ
+steep =
+    hex (codes "00000031 05 00005DC0 0003 C2ED4000 8003 0001 20 00 01 00 FFFFFFFF FFFFFFFF 00000001")
+    ++ hex (codes "00 00 00000001 01 00005DC0 06 02 00")
