@@ -1,0 +1,9 @@
+pub mod Numbers
+pub mod Values
+pub mod Lengths
+pub mod Digits
+pub mod Reduced
+pub mod Words
+pub mod Signs
+pub mod IeeeWords
+pub mod IbmWords
