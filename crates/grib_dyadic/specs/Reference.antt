@@ -2,6 +2,7 @@
 -- 754 binary32 (Section 5, octets 12-15), edition 1 in the IBM single form (Section 4, octets 7-10).
 use Rattle.std.specs.Prelude.{◌≡◌, ℕ, ◌+◌, ◌*◌, ◌/◌, ◌%◌, ◌^◌, ◌<◌, ◌⊎◌, ◌==◌, cond, ℤ, pos, neg_ℤ, ◌+ℤ◌, ◌-ℤ◌, ◌*ℤ◌, ◌≤ℤ◌, nat_abs}
 use Rattle.std.specs.Int.{int_min}
+use Rattle.grib_dyadic.specs.Sign.{signed}
 
 -- stands for mantissa * 2 ^ exponent
 pub record Binary : Type 0 where
@@ -13,7 +14,7 @@ binary m k = record { mantissa = m; exponent = k }
 
 -- a magnitude with the sign that a sign bit of 0 or 1 gives it
 abbrev pub with_sign : ℕ → ℕ → ℤ
-with_sign sign magnitude = cond (sign == 1) (neg_ℤ (pos magnitude)) (pos magnitude)
+with_sign sign magnitude = signed (sign == 1) magnitude
 
 -- The fields of a binary32 word: 1 bit of sign, 8 of exponent, 23 of fraction.
 abbrev pub ieee_sign : ℕ → ℕ
