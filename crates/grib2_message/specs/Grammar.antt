@@ -3,7 +3,7 @@
 use Rattle.std.specs.Prelude.{◌≡◌, ℕ, ◌+◌, ◌≤◌, IsTrue, None, List, [], ◌∷◌, ◌++◌, length, take}
 use Rattle.std.specs.List.{concat}
 use Rattle.grib2_sections.specs.Head.{indicator, end_mark, edition, total_length}
-use Rattle.grib2_sections.specs.Frame.{Placed, placed_at, section_length, section_number, may_follow}
+use Rattle.grib2_sections.specs.Frame.{Placed, placed_at, section_length, section_number, may_follow, may_end}
 use Rattle.grib2_message.specs.View.{last_number}
 use Rattle.grib2_message.specs.Acceptance.{section_fault}
 
@@ -16,7 +16,7 @@ pub record IsSection (before : List Placed) (start : ℕ) (s : List ℕ) : Type 
 
 -- the sections may follow one another from octet `start` on, and the last may be the last
 abbrev pub AreSections : List Placed → ℕ → List (List ℕ) → Type 0
-AreSections before start [] = IsTrue (may_follow (last_number before) 8)
+AreSections before start [] = IsTrue (may_end (last_number before))
 AreSections before start (s ∷ sections) =
     IsSection before start s × AreSections (placed_at start s ∷ before) (start + length s) sections
 

@@ -12,13 +12,17 @@ section_length section = octets section 1 4
 abbrev pub section_number : List ℕ → ℕ
 section_number section = octets section 5 5
 
--- What may follow each section, from Section 0 on; 8 is the end mark. A group of sections that does
--- not begin with Section 2 or 3 keeps those in force.
+-- The sections that may follow each section, from Section 0 on. A group of sections that does not begin
+-- with Section 2 or 3 keeps those in force.
 abbrev pub successors : List (List ℕ)
-successors = (1 ∷ []) ∷ (2 ∷ 3 ∷ []) ∷ (3 ∷ []) ∷ (4 ∷ []) ∷ (5 ∷ []) ∷ (6 ∷ []) ∷ (7 ∷ []) ∷ (2 ∷ 3 ∷ 4 ∷ 8 ∷ []) ∷ []
+successors = (1 ∷ []) ∷ (2 ∷ 3 ∷ []) ∷ (3 ∷ []) ∷ (4 ∷ []) ∷ (5 ∷ []) ∷ (6 ∷ []) ∷ (7 ∷ []) ∷ (2 ∷ 3 ∷ 4 ∷ []) ∷ []
 
 abbrev pub may_follow : ℕ → ℕ → Bool
 may_follow last next = list_any (λ n. n == next) (get_or successors last [])
+
+-- the end mark follows Section 7 alone
+abbrev pub may_end : ℕ → Bool
+may_end last = last == 7
 
 -- whether the end mark stands at octet q
 abbrev pub ends_at : List ℕ → ℕ → Bool
@@ -31,7 +35,7 @@ mark_rows message total last q =
     let k = length message in
     let ends = ends_at message q in
     row (nat_lt k (q + 3)) (k + 1) Truncated k  -- F1
-    ∷ row (ends && not (may_follow last 8)) q SectionOrder 8  -- F2
+    ∷ row (ends && not (may_end last)) q SectionOrder 8  -- F2
     ∷ row (ends && nat_lt (q + 3) total) (q + 4) LengthDisagrees (total - (q + 3))  -- F3
     ∷ row (not ends && (q + 3 == total)) q EndMark (octets message q (q + 3))  -- F4
     ∷ []

@@ -160,3 +160,8 @@ pub fn hostile_counts()
 pub fn too_wide_numbers()
     ensures refused { verdict (put w 163 (hex (codes "31"))) ≡ Refused (refusal 163 BitWidth 49) }
 {}
+
+/// A section numbered 8 is no end mark: it follows no section, and is refused at its number.
+pub fn section_numbered_8()
+    ensures refused { verdict (put ((take 179 m1 ++ hex (codes "0000000508")) ++ hex (codes "37373737")) 9 (hex (codes "00000000000000BC"))) ≡ Refused (refusal 184 SectionOrder 8) }
+{}

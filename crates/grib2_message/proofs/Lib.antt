@@ -1,0 +1,7 @@
+pub mod Passed
+pub mod Parts
+pub mod Steps
+pub mod Walk
+pub mod Joined
+pub mod Placing
+pub mod Whole

@@ -1,0 +1,61 @@
+-- Rows that do not refuse, and what follows a verdict that accepts.
+use Rattle.std.proofs.Common.{◌≡◌, ℕ, Bool, true, false, cond, ◌⊎◌, Option, Some, None, List, [], ◌∷◌, refl, inl, inr}
+use Rattle.grib_io.specs.declared.fault.Fault.{Fault}
+use Rattle.grib_io.specs.Rows.{Row, first_fault}
+use Rattle.grib2_sections.specs.Verdict.{Verdict, Accepted}
+use Rattle.grib2_message.specs.Acceptance.{unless_refused, at_mark}
+
+-- no row's test holds
+abbrev pub AllPass : List Row → Type 0
+AllPass [] = Unit {0}
+AllPass (r ∷ rows) = (r.fails ≡ false) × AllPass rows
+
+-- where no fault comes out of a row and those after it, the row's test does not hold, nor do theirs refuse
+none_of_two : (b : Bool) (fault : Fault) (later : Option Fault) → cond b (Some fault) later ≡ None → (b ≡ false) × (later ≡ None)
+none_of_two true fault later e = cc
+none_of_two false fault later e = (refl, e)
+
+-- and where neither refuses, no fault comes out
+none_after : (b : Bool) (fault : Fault) (later : Option Fault) → b ≡ false → later ≡ None → cond b (Some fault) later ≡ None
+none_after true fault later off e = cc
+none_after false fault later off e = e
+
+-- where no row refuses, no row's test holds
+pub passes_from_none : (rows : List Row) → first_fault rows ≡ None → AllPass rows
+passes_from_none [] e = tt
+passes_from_none (r ∷ rows) e =
+    let both = none_of_two r.fails r.fault (first_fault rows) e in
+    (both.0, passes_from_none rows both.1)
+
+-- where no row's test holds, no row refuses
+pub none_from_passes : (rows : List Row) → AllPass rows → first_fault rows ≡ None
+none_from_passes [] p = refl
+none_from_passes (r ∷ rows) p = none_after r.fails r.fault (first_fault rows) p.0 (none_from_passes rows p.1)
+
+-- what comes after a place that does not refuse is accepted
+pub unless_tells : (fault : Option Fault) (next : Unit {0} → Verdict) (total : ℕ) → unless_refused fault next ≡ Accepted total
+    → (fault ≡ None) × (next tt ≡ Accepted total)
+unless_tells (Some fault) next total e = cc
+unless_tells None next total e = (refl, e)
+
+-- an end mark ends what is accepted; elsewhere what comes after is accepted
+pub mark_tells : (fault : Option Fault) (ends : Bool) (stated : ℕ) (next : Unit {0} → Verdict) (total : ℕ)
+    → at_mark fault ends stated next ≡ Accepted total
+    → (fault ≡ None) × (((ends ≡ true) × (stated ≡ total)) ⊎ ((ends ≡ false) × (next tt ≡ Accepted total)))
+mark_tells (Some fault) ends stated next total e = cc
+mark_tells None true stated next total e = (refl, inl (refl, cc))
+mark_tells None false stated next total e = (refl, inr (refl, e))
+
+-- where nothing is refused, what comes after is the verdict
+pub unless_none : (fault : Option Fault) (next : Unit {0} → Verdict) → fault ≡ None → unless_refused fault next ≡ next tt
+unless_none fault next e = rw e
+
+-- an end mark that is not refused is accepted
+pub mark_ends : (fault : Option Fault) (ends : Bool) (stated : ℕ) (next : Unit {0} → Verdict)
+    → fault ≡ None → ends ≡ true → at_mark fault ends stated next ≡ Accepted stated
+mark_ends fault ends stated next e on = rw (e, on)
+
+-- where no end mark stands and nothing is refused, what comes after is the verdict
+pub mark_goes : (fault : Option Fault) (ends : Bool) (stated : ℕ) (next : Unit {0} → Verdict)
+    → fault ≡ None → ends ≡ false → at_mark fault ends stated next ≡ next tt
+mark_goes fault ends stated next e off = rw (e, off)

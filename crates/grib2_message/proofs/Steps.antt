@@ -1,0 +1,60 @@
+-- One step of the walk that decides acceptance.
+use Rattle.std.proofs.Common.{◌≡◌, ℕ, suc, ◌+◌, true, false, ◌⊎◌, None, List, ◌∷◌, length, inl, inr}
+use Rattle.grib2_sections.specs.Verdict.{Verdict, Accepted}
+use Rattle.grib2_sections.specs.Head.{total_length}
+use Rattle.grib2_sections.specs.Frame.{Placed, placed_at, section_at, ends_at, mark_rows, frame_rows}
+use Rattle.grib2_message.specs.View.{last_number}
+use Rattle.grib2_message.specs.Acceptance.{verdict_from, section_fault, unless_refused}
+use Rattle.grib_io.specs.Rows.{first_fault}
+use Rattle.grib2_message.proofs.Passed.{AllPass, passes_from_none, mark_tells, unless_tells}
+
+-- the section at octet q
+abbrev pub here : List ℕ → ℕ → Placed
+here m q = placed_at q (section_at m q)
+
+-- the verdict after that section
+abbrev pub after_section : ℕ → List ℕ → List Placed → ℕ → Verdict
+after_section turns m before q = verdict_from turns m (here m q ∷ before) (q + length (section_at m q))
+
+-- the verdict from the rows of its contents on
+abbrev pub at_contents : ℕ → List ℕ → List Placed → ℕ → Verdict
+at_contents turns m before q = unless_refused (section_fault before (here m q)) (λ _. after_section turns m before q)
+
+-- the verdict from the rows of its frame on
+abbrev pub at_section : ℕ → List ℕ → List Placed → ℕ → Verdict
+at_section turns m before q =
+    unless_refused (first_fault (frame_rows m (total_length m) (last_number before) q)) (λ _. at_contents turns m before q)
+
+-- the end mark stands at q
+pub record Ended (m : List ℕ) (q total : ℕ) : Type 0 where
+  pub ends : ends_at m q ≡ true
+  pub states : total_length m ≡ total
+
+-- a section stands at q, and what comes after it is accepted
+pub record Went (turns : ℕ) (m : List ℕ) (before : List Placed) (q total : ℕ) : Type 0 where
+  pub goes : ends_at m q ≡ false
+  pub frame : AllPass (frame_rows m (total_length m) (last_number before) q)
+  pub contents : section_fault before (here m q) ≡ None
+  pub next : after_section turns m before q ≡ Accepted total
+
+-- it is so where no end mark stands and what is said of the section is accepted
+went : (turns : ℕ) (m : List ℕ) (before : List Placed) (q total : ℕ) → ends_at m q ≡ false → at_section turns m before q ≡ Accepted total
+    → Went turns m before q total
+went turns m before q total goes e =
+    let frame = unless_tells (first_fault (frame_rows m (total_length m) (last_number before) q)) (λ _. at_contents turns m before q) total e in
+    let contents = unless_tells (section_fault before (here m q)) (λ _. after_section turns m before q) total frame.1 in
+    record {
+      goes = goes;
+      frame = passes_from_none (frame_rows m (total_length m) (last_number before) q) frame.0;
+      contents = contents.0;
+      next = contents.1;
+    }
+
+-- what an accepting step tells
+pub step_tells : (turns : ℕ) (m : List ℕ) (before : List Placed) (q total : ℕ) → verdict_from (suc turns) m before q ≡ Accepted total
+    → AllPass (mark_rows m (total_length m) (last_number before) q) × (Ended m q total ⊎ Went turns m before q total)
+step_tells turns m before q total e =
+    let mark = mark_tells (first_fault (mark_rows m (total_length m) (last_number before) q)) (ends_at m q) (total_length m) (λ _. at_section turns m before q) total e in (
+      passes_from_none (mark_rows m (total_length m) (last_number before) q) mark.0,
+      elim mark.1 [ inl ends ↦ inl record { ends = ends.0; states = ends.1 } | inr goes ↦ inr (went turns m before q total goes.0 goes.1) ],
+    )
