@@ -1,6 +1,6 @@
 -- Section 5, the data representation section (WMO-No. 306, Volume I.2, FM 92 GRIB edition 2, data
 -- representation templates 5.0, 5.2 and 5.3): what all of them share.
-use Rattle.std.specs.Prelude.{ℕ, ◌+◌, ◌/◌, ◌%◌, ◌^◌, not, cond, ◌&&◌, ◌||◌, List, [], ◌∷◌, length, nat_lt, ◌==◌}
+use Rattle.std.specs.Prelude.{ℕ, ◌+◌, ◌/◌, ◌%◌, ◌^◌, not, cond, List, [], ◌∷◌, length, nat_lt, ◌==◌}
 use Rattle.grib_bits.specs.Octets.{octets}
 use Rattle.grib_io.specs.declared.fault.Reason.{Reason}
 use Rattle.grib_io.specs.declared.fault.Reason.TheVariants.{SectionLength, PackingTemplate, Jpeg2000, PngPacked, Ccsds, ValueCount, ReferenceNotFinite, BitWidth}

@@ -1,5 +1,5 @@
 -- How numbers are printed.
-use Rattle.std.specs.Prelude.{ℕ, ◌-◌, ◌^◌, cond, List, ◌++◌, length, replicate, codes, ◌==◌, ℤ}
+use Rattle.std.specs.Prelude.{ℕ, ◌-◌, ◌^◌, cond, List, ◌++◌, length, replicate, codes, ◌==◌}
 use Rattle.std.specs.Fmt.{decimal, signed_decimal}
 use Rattle.grib_bits.specs.Bits.{bits_of, signed}
 
