@@ -1,3 +1,4 @@
 pub mod Bits
 pub mod Octets
 pub mod Plain
+pub mod Written
