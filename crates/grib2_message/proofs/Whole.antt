@@ -7,7 +7,7 @@ use Rattle.grib_bits.specs.Octets.{octets, num_on}
 use Rattle.grib_io.specs.Rows.{first_fault}
 use Rattle.grib2_sections.specs.Verdict.{Accepted}
 use Rattle.grib2_sections.specs.Head.{indicator, end_mark, edition, total_length, total_length_1, head_rows}
-use Rattle.grib2_message.specs.Acceptance.{verdict, verdict_from}
+use Rattle.grib2_message.specs.Acceptance.{verdict_2, verdict_from}
 use Rattle.grib2_message.specs.Grammar.{Grammar2}
 use Rattle.grib2_message.specs.Fields.{sections_of}
 use Rattle.grib2_message.proofs.Passed.{AllPass, passes_from_none, none_from_passes, unless_tells, unless_none}
@@ -108,7 +108,7 @@ in_grammar rest total starts p f =
 
 -- what is accepted is in the grammar
 pub accepted_in_grammar : (rest : List ℕ) (total : ℕ) → All (λ octet. octet < 256) rest → take 4 rest ≡ indicator → edition rest ≢ 1
-    → verdict rest ≡ Accepted total → (sections : List (List ℕ)) × (total ≤ length rest) × Grammar2 (take total rest) sections
+    → verdict_2 rest ≡ Accepted total → (sections : List (List ℕ)) × (total ≤ length rest) × Grammar2 (take total rest) sections
 accepted_in_grammar rest total small starts other e =
     let told = unless_tells (first_fault (head_rows rest)) (λ _. verdict_from (length rest + 1) rest [] 17) total e in
     let p = head_passes rest other (passes_from_none (head_rows rest) told.0) in
@@ -135,7 +135,7 @@ stand_after message after sections g =
 
 -- what is in the grammar is accepted, whatever comes after it
 pub grammar_accepted : (message after : List ℕ) (sections : List (List ℕ)) → Grammar2 message sections
-    → verdict (message ++ after) ≡ Accepted (length message)
+    → verdict_2 (message ++ after) ≡ Accepted (length message)
 grammar_accepted message after sections g =
     let m : List ℕ = message ++ after in
     let long : length m ≡ length message + length after = length-append message after in

@@ -74,7 +74,8 @@ verdict_from (suc turns) message before q =
     unless_refused (section_fault before (placed_at q s))
     (λ _. verdict_from turns message (placed_at q s ∷ before) (q + length s))))
 
--- Of the octets of an input from a `GRIB` on, whose octet 8, where it stands, is not 1: accepted, with
--- the length of the message, or refused
-abbrev pub verdict : List ℕ → Verdict
-verdict rest = unless_refused (first_fault (head_rows rest)) (λ _. verdict_from (length rest + 1) rest [] 17)
+-- The verdict of edition 2 on the octets of an input from a `GRIB` on: accepted, with the length of the
+-- message, or refused. It is asked where octet 8 is not 1 or does not stand; edition 1 has a verdict of
+-- its own.
+abbrev pub verdict_2 : List ℕ → Verdict
+verdict_2 rest = unless_refused (first_fault (head_rows rest)) (λ _. verdict_from (length rest + 1) rest [] 17)

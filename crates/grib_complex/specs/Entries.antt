@@ -53,12 +53,13 @@ numbers_of s5 s7 =
     (undone (difference_order s5) (pos (first_value s5 s7 0)) (pos (first_value s5 s7 1)) (minimum s5 s7) present)
     (map pos present)
 
--- each value: missing by its code, or the next of the numbers (which are as many as the present codes)
+-- Each value: missing by its code, or the next of the numbers. There is one for each present code; a value
+-- without one would be missing too.
 abbrev pub refilled : List Code → List ℤ → List Point
 refilled [] numbers = []
 refilled (Primary ∷ codes) numbers = Missing ∷ refilled codes numbers
 refilled (Secondary ∷ codes) numbers = Missing2 ∷ refilled codes numbers
-refilled (Present n ∷ codes) [] = []
+refilled (Present n ∷ codes) [] = Missing ∷ refilled codes []
 refilled (Present n ∷ codes) (x ∷ numbers) = Scaled x ∷ refilled codes numbers
 
 -- the entries of the present points of a field with groups, and of any field of templates 5.2 and 5.3

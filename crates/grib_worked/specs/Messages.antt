@@ -46,12 +46,16 @@ m2 =
     ++ product ++ three_values ++ hex (codes "00000006 06 FE") ++ hex (codes "00000008 07 030405")
     ++ end
 
+-- Section 5 of M3
+abbrev pub differences : List ℕ
+differences =
+    hex (codes "00000031 05 00000004 0003 C2ED4000 8003 0001 05 00 01 00 FFFFFFFF FFFFFFFF 00000002")
+    ++ hex (codes "00 03 00000001 01 00000002 06 01 01")
+
 -- M3, 215 octets: spatial differencing of order 1
 abbrev pub m3 : List ℕ
 m3 =
-    head (hex (codes "00000000000000D7")) ++ identification ++ grid ++ product
-    ++ hex (codes "00000031 05 00000004 0003 C2ED4000 8003 0001 05 00 01 00 FFFFFFFF FFFFFFFF 00000002")
-    ++ hex (codes "00 03 00000001 01 00000002 06 01 01")
+    head (hex (codes "00000000000000D7")) ++ identification ++ grid ++ product ++ differences
     ++ no_bitmap ++ hex (codes "0000000D 07 05 8A 02C0 0C 0410 A0") ++ end
 
 -- Section 3 of M1 with three points, 3 by 1

@@ -4,7 +4,7 @@ use Rattle.grib_io.specs.declared.fault.Reason.TheVariants.{Truncated}
 use Rattle.grib_io.specs.Rows.{refusal}
 use Rattle.grib2_sections.specs.Verdict.{Verdict, Refused}
 use Rattle.grib_worked.specs.Hex.{hex, put}
-use Rattle.grib_worked.specs.Messages.{head, end, identification, grid, product, representation, no_bitmap, values, rotated, marks_only, three_values, grid_3_by_1}
+use Rattle.grib_worked.specs.Messages.{head, end, identification, grid, product, representation, no_bitmap, values, rotated, marks_only, three_values, grid_3_by_1, differences}
 
 -- what is said of a message that ends after k octets
 abbrev pub truncated_after : ℕ → Verdict
@@ -46,6 +46,12 @@ no_bits =
 abbrev pub no_groups : List ℕ
 no_groups =
     head (hex (codes "00000000000000CD")) ++ identification ++ grid ++ product ++ put marks_only 32 (hex (codes "00000000"))
+    ++ no_bitmap ++ hex (codes "00000005 07") ++ end
+
+-- M3 with no groups and an empty Section 7, 207 octets: shorter than the extra descriptors would be
+abbrev pub no_differences : List ℕ
+no_differences =
+    head (hex (codes "00000000000000CF")) ++ identification ++ grid ++ product ++ put differences 32 (hex (codes "00000000"))
     ++ no_bitmap ++ hex (codes "00000005 07") ++ end
 
 -- Sections 0, 1 and 3 of M1 and the end mark, 113 octets

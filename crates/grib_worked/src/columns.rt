@@ -5,11 +5,11 @@ ghost use Rattle.grib_io.specs.declared.code.Code.TheVariants.{Present, Primary,
 ghost use Rattle.grib_simple.specs.declared.column.Point.{Point};
 ghost use Rattle.grib_simple.specs.declared.column.Point.TheVariants.{Scaled, Missing, Missing2};
 ghost use Rattle.grib2_sections.specs.Verdict.{Accepted};
-ghost use Rattle.grib2_message.specs.Acceptance.{verdict};
+ghost use Rattle.grib2_message.specs.Acceptance.{verdict_2};
 ghost use Rattle.grib2_message.specs.Fields.{column_of, field_count, field_mask, part_octets};
 ghost use Rattle.grib_complex.specs.Entries.{codes_of, minimum, first_value};
 ghost use Rattle.grib_worked.specs.Messages.{m1, m2, m3, c1, c2, w, representation};
-ghost use Rattle.grib_worked.specs.Variations.{no_bits, no_groups};
+ghost use Rattle.grib_worked.specs.Variations.{no_bits, no_groups, no_differences};
 ghost use Rattle.grib_worked.specs.Columns.{scaled, column};
 
 /// Simple packing: four numbers of 8 bits, with the raw octets of R, E and D beside them.
@@ -21,7 +21,7 @@ pub fn plain_column()
 
 /// Numbers of 0 bits are 0.
 pub fn numbers_without_bits()
-    ensures accepted { verdict no_bits ≡ Accepted 179 }
+    ensures accepted { verdict_2 no_bits ≡ Accepted 179 }
     ensures column { column_of no_bits 1 ≡ column (scaled 0 ∷ scaled 0 ∷ scaled 0 ∷ scaled 0 ∷ []) }
 {}
 
@@ -45,9 +45,12 @@ pub fn grouped_columns()
     ensures codes { codes_of (part_octets c1 1 5) (part_octets c1 1 7) ≡ Present 5 ∷ Primary ∷ Present 6 ∷ [] }
 {}
 
-/// Where there are no groups every value is 0.
+/// Where there are no groups every value is 0, and Section 7 is not read: neither for groups nor for first
+/// values and a minimum.
 pub fn column_without_groups()
-    ensures accepted { verdict no_groups ≡ Accepted 205 }
+    ensures accepted_differences { verdict_2 no_differences ≡ Accepted 207 }
+    ensures differences { column_of no_differences 1 ≡ column (scaled 0 ∷ scaled 0 ∷ scaled 0 ∷ scaled 0 ∷ []) }
+    ensures accepted { verdict_2 no_groups ≡ Accepted 205 }
     ensures column { column_of no_groups 1 ≡ column (scaled 0 ∷ scaled 0 ∷ scaled 0 ∷ scaled 0 ∷ []) }
 {}
 

@@ -10,7 +10,7 @@ ghost use Rattle.grib2_grids.specs.Grid.{grid_rows, row_list};
 ghost use Rattle.grib2_products.specs.Product.{product_rows, product_length};
 ghost use Rattle.grib_bitmap.specs.Mask.{bitmap_rows, mask_of};
 ghost use Rattle.grib_complex.specs.Entries.{packing_fault, data_fault};
-ghost use Rattle.grib2_message.specs.Acceptance.{verdict};
+ghost use Rattle.grib2_message.specs.Acceptance.{verdict_2};
 ghost use Rattle.grib_worked.specs.Hex.{hex, put};
 ghost use Rattle.grib_worked.specs.Messages.{m1, m2, identification, grid, product, representation, no_bitmap, marks_only, interval};
 ghost use Rattle.grib_worked.specs.Variations.{steep, other_grid_between, ends_after_grid};
@@ -35,7 +35,7 @@ pub fn short_sections()
 
 /// The end mark after a section that may not be the last.
 pub fn early_end_mark()
-    ensures refused { verdict ends_after_grid ≡ Refused (refusal 110 SectionOrder 8) }
+    ensures refused { verdict_2 ends_after_grid ≡ Refused (refusal 110 SectionOrder 8) }
 {}
 
 /// Rows of points with no number of rows, and rows of one octet each.
@@ -75,7 +75,7 @@ pub fn refused_bitmaps()
     ensures all_present { first_fault (bitmap_rows no_bitmap 165 4 3 None) ≡ Some (refusal 170 ValueCount 4) }
     ensures three_present { mask_of (hex (codes "00000007 06 00 B0")) 4 None ≡ true ∷ false ∷ true ∷ true ∷ [] }
     ensures two_values { first_fault (bitmap_rows (hex (codes "00000007 06 00 B0")) 165 4 2 None) ≡ Some (refusal 170 ValueCount 3) }
-    ensures other_grid { verdict other_grid_between ≡ Refused (refusal 312 BitmapSize 4) }
+    ensures other_grid { verdict_2 other_grid_between ≡ Refused (refusal 312 BitmapSize 4) }
 {}
 
 /// Second differences of 2^32 - 1 take the 23,172nd of 24,000 values past 2^60.
