@@ -62,7 +62,7 @@ refilled (Secondary ∷ codes) numbers = Missing2 ∷ refilled codes numbers
 refilled (Present n ∷ codes) [] = Missing ∷ refilled codes []
 refilled (Present n ∷ codes) (x ∷ numbers) = Scaled x ∷ refilled codes numbers
 
--- the entries of the present points of a field with groups, and of any field of templates 5.2 and 5.3
+-- the entries of the present points of a field with groups
 abbrev pub group_entries : List ℕ → List ℕ → List Point
 group_entries s5 s7 = refilled (codes_of s5 s7) (numbers_of s5 s7)
 
@@ -113,7 +113,7 @@ data_fault s5 s7 start =
     choose (packing_template s5 == 0) (λ _. first_fault (simple_rows s5 s7 start))
     (λ _. choose (has_no_groups s5) (λ _. None) (λ _. group_data_fault s5 s7 start))
 
--- the entries of the present points
+-- the entries of the present points of any field
 abbrev pub entries_of : List ℕ → List ℕ → List Point
 entries_of s5 s7 =
     choose (packing_template s5 == 0) (λ _. simple_entries s5 s7)

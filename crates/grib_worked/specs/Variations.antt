@@ -1,5 +1,5 @@
 -- Worked messages with whole sections exchanged.
-use Rattle.std.specs.Prelude.{ℕ, ◌+◌, List, ◌++◌, codes, drop}
+use Rattle.std.specs.Prelude.{ℕ, ◌+◌, List, ◌∷◌, ◌++◌, codes, drop}
 use Rattle.grib_io.specs.declared.fault.Reason.TheVariants.{Truncated}
 use Rattle.grib_io.specs.Rows.{refusal}
 use Rattle.grib2_sections.specs.Verdict.{Verdict, Refused}
@@ -72,3 +72,9 @@ abbrev pub steep : List ℕ
 steep =
     hex (codes "00000031 05 00005DC0 0003 C2ED4000 8003 0001 20 00 01 00 FFFFFFFF FFFFFFFF 00000001")
     ++ hex (codes "00 00 00000001 01 00005DC0 06 02 00")
+
+-- Section 5 of up to 255 values with second differences, all in one group of width 0
+abbrev pub second_order : ℕ → List ℕ
+second_order count =
+    hex (codes "00000031 05 000000") ++ count ∷ hex (codes "0003 C2ED4000 8003 0001 00 00 01 00 FFFFFFFF FFFFFFFF 00000001")
+    ++ hex (codes "00 00 00000001 01 000000") ++ count ∷ hex (codes "06 02 01")

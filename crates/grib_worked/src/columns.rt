@@ -1,15 +1,16 @@
 //! What the fields of the worked messages hold.
 
-ghost use Rattle.std.specs.Prelude.{◌≡◌, List, [], ◌∷◌, ℤ, pos, negsuc};
+ghost use Rattle.std.specs.Prelude.{◌≡◌, List, [], ◌∷◌, ℤ, pos, negsuc, true, None, replicate, codes};
 ghost use Rattle.grib_io.specs.declared.code.Code.TheVariants.{Present, Primary, Secondary};
 ghost use Rattle.grib_simple.specs.declared.column.Point.{Point};
 ghost use Rattle.grib_simple.specs.declared.column.Point.TheVariants.{Scaled, Missing, Missing2};
 ghost use Rattle.grib2_sections.specs.Verdict.{Accepted};
 ghost use Rattle.grib2_message.specs.Acceptance.{verdict_2};
 ghost use Rattle.grib2_message.specs.Fields.{column_of, field_count, field_mask, part_octets};
-ghost use Rattle.grib_complex.specs.Entries.{codes_of, minimum, first_value};
+ghost use Rattle.grib_complex.specs.Entries.{codes_of, minimum, first_value, packing_fault, column_from};
+ghost use Rattle.grib_worked.specs.Hex.{hex, put};
 ghost use Rattle.grib_worked.specs.Messages.{m1, m2, m3, c1, c2, w, representation};
-ghost use Rattle.grib_worked.specs.Variations.{no_bits, no_groups, no_differences};
+ghost use Rattle.grib_worked.specs.Variations.{no_bits, no_groups, no_differences, second_order};
 ghost use Rattle.grib_worked.specs.Columns.{scaled, column};
 
 /// Simple packing: four numbers of 8 bits, with the raw octets of R, E and D beside them.
@@ -60,4 +61,19 @@ pub fn differenced_column()
     ensures minimum { minimum (part_octets m3 1 5) (part_octets m3 1 7) ≡ negsuc 9 }
     ensures codes { codes_of (part_octets m3 1 5) (part_octets m3 1 7) ≡ Present 0 ∷ Present 0 ∷ Present 16 ∷ Present 11 ∷ [] }
     ensures column { column_of m3 1 ≡ column (scaled 5 ∷ Scaled (negsuc 4) ∷ scaled 1 ∷ scaled 2 ∷ []) }
+{}
+
+/// Spatial differencing of order 2: the first values 10 and 12, the minimum 1, and one group of width 0
+/// whose codes are 0.
+pub fn second_differences()
+    ensures accepted { packing_fault (second_order 4) 144 4 ≡ None }
+    ensures column { column_from (second_order 4) (replicate 4 true) (hex (codes "00000009 07 0A 0C 01 0C"))
+        ≡ column (scaled 10 ∷ scaled 12 ∷ scaled 15 ∷ scaled 19 ∷ []) }
+    ensures one_value { column_from (second_order 1) (replicate 1 true) (hex (codes "00000009 07 07 00 00 00")) ≡ column (scaled 7 ∷ []) }
+{}
+
+/// Numbers of 33 bits, which do not begin at whole octets.
+pub fn numbers_across_octets()
+    ensures column { column_from (put representation 20 (hex (codes "21"))) (replicate 4 true) (hex (codes "00000016 07 0000000000000000 40 000000 50 00000000"))
+        ≡ column (scaled 0 ∷ scaled 1 ∷ scaled 2 ∷ scaled 4294967296 ∷ []) }
 {}

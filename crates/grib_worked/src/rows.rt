@@ -1,7 +1,7 @@
 //! Rows that no other law meets first, each tried on a section or a message with one change.
 
 ghost use Rattle.std.specs.Prelude.{◌≡◌, ◌++◌, [], ◌∷◌, true, false, Some, None, codes, take, drop};
-ghost use Rattle.grib_io.specs.declared.fault.Reason.TheVariants.{TotalLength, SectionLength, SectionOrder, PointCount, ListShape, FieldCount, Jpeg2000, Ccsds, PackingTemplate, ValueCount, BitmapIndicator, BitmapSize, GroupWidth, GroupShape, DataTooShort, ScaledRange};
+ghost use Rattle.grib_io.specs.declared.fault.Reason.TheVariants.{TotalLength, SectionLength, SectionOrder, PointCount, ListShape, FieldCount, Jpeg2000, Ccsds, PackingTemplate, ValueCount, BitmapIndicator, BitmapSize, GroupWidth, GroupShape, DataTooShort, FirstValueSign, ScaledRange};
 ghost use Rattle.grib_io.specs.Rows.{refusal, first_fault};
 ghost use Rattle.grib2_sections.specs.Verdict.{Refused};
 ghost use Rattle.grib2_sections.specs.Head.{head_rows};
@@ -12,7 +12,7 @@ ghost use Rattle.grib_bitmap.specs.Mask.{bitmap_rows, mask_of};
 ghost use Rattle.grib_complex.specs.Entries.{packing_fault, data_fault};
 ghost use Rattle.grib2_message.specs.Acceptance.{verdict_2};
 ghost use Rattle.grib_worked.specs.Hex.{hex, put};
-ghost use Rattle.grib_worked.specs.Messages.{m1, m2, identification, grid, product, representation, no_bitmap, marks_only, interval};
+ghost use Rattle.grib_worked.specs.Messages.{m1, m2, identification, grid, product, representation, no_bitmap, marks_only, differences, interval};
 ghost use Rattle.grib_worked.specs.Variations.{steep, other_grid_between, ends_after_grid};
 
 /// A message of edition 1 that is too short, and one that is not.
@@ -76,6 +76,11 @@ pub fn refused_bitmaps()
     ensures three_present { mask_of (hex (codes "00000007 06 00 B0")) 4 None ≡ true ∷ false ∷ true ∷ true ∷ [] }
     ensures two_values { first_fault (bitmap_rows (hex (codes "00000007 06 00 B0")) 165 4 2 None) ≡ Some (refusal 170 ValueCount 3) }
     ensures other_grid { verdict_2 other_grid_between ≡ Refused (refusal 312 BitmapSize 4) }
+{}
+
+/// The second of two first values with its top bit set.
+pub fn signed_second_value()
+    ensures refused { data_fault (put differences 48 (hex (codes "02"))) (hex (codes "0000000E 07 05 85 8A 02C0 0C 0410 A0")) 199 ≡ Some (refusal 205 FirstValueSign 2) }
 {}
 
 /// Second differences of 2^32 - 1 take the 23,172nd of 24,000 values past 2^60.
