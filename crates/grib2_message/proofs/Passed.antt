@@ -1,9 +1,9 @@
 -- Rows that do not refuse, and what follows a verdict that accepts.
 use Rattle.std.proofs.Common.{◌≡◌, ℕ, Bool, true, false, cond, ◌⊎◌, Option, Some, None, List, [], ◌∷◌, refl, inl, inr}
 use Rattle.grib_io.specs.declared.fault.Fault.{Fault}
-use Rattle.grib_io.specs.Rows.{Row, first_fault}
+use Rattle.grib_io.specs.Rows.{Row, first_fault, choose}
 use Rattle.grib2_sections.specs.Verdict.{Verdict, Accepted}
-use Rattle.grib2_message.specs.Acceptance.{unless_refused, at_mark}
+use Rattle.grib2_message.specs.Acceptance.{unless_refused}
 
 -- no row's test holds
 abbrev pub AllPass : List Row → Type 0
@@ -37,6 +37,10 @@ pub unless_tells : (fault : Option Fault) (next : Unit {0} → Verdict) (total :
     → (fault ≡ None) × (next tt ≡ Accepted total)
 unless_tells (Some fault) next total e = cc
 unless_tells None next total e = (refl, e)
+
+-- what is said at a place: refused, or accepted where the message ends there, or whatever comes after
+abbrev pub at_mark : Option Fault → Bool → ℕ → (Unit {0} → Verdict) → Verdict
+at_mark fault ends total next = unless_refused fault (λ _. choose ends (λ _. Accepted total) next)
 
 -- an end mark ends what is accepted; elsewhere what comes after is accepted
 pub mark_tells : (fault : Option Fault) (ends : Bool) (stated : ℕ) (next : Unit {0} → Verdict) (total : ℕ)

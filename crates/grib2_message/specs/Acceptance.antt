@@ -1,10 +1,10 @@
 -- Which octets are a message of edition 2, and why others are refused (WMO-No. 306, Volume I.2, FM 92
 -- GRIB edition 2, in the profile of docs/PROFILE.md): the rows of Section 0, then, for each section in
 -- turn, the rows of its frame and those of its contents. The first row that fails gives the refusal.
-use Rattle.std.specs.Prelude.{ℕ, zero, suc, ◌+◌, Bool, true, false, Option, Some, None, List, [], ◌∷◌, length, get_or}
+use Rattle.std.specs.Prelude.{ℕ, zero, suc, ◌+◌, Option, Some, None, List, [], ◌∷◌, length, get_or}
 use Rattle.grib_io.specs.declared.fault.Fault.{Fault}
 use Rattle.grib_io.specs.declared.fault.Reason.TheVariants.{Truncated}
-use Rattle.grib_io.specs.Rows.{first_fault, refusal}
+use Rattle.grib_io.specs.Rows.{first_fault, refusal, choose}
 use Rattle.grib2_sections.specs.Verdict.{Verdict, Accepted, Refused}
 use Rattle.grib2_sections.specs.Head.{head_rows, total_length}
 use Rattle.grib2_sections.specs.Frame.{Placed, placed_at, section_number, mark_rows, frame_rows, ends_at, section_at}
@@ -55,12 +55,6 @@ abbrev pub unless_refused : Option Fault → (Unit {0} → Verdict) → Verdict
 unless_refused (Some fault) next = Refused fault
 unless_refused None next = next tt
 
--- refused, or accepted where the message ends here, or whatever comes after
-abbrev pub at_mark : Option Fault → Bool → ℕ → (Unit {0} → Verdict) → Verdict
-at_mark (Some fault) ends total next = Refused fault
-at_mark None true total next = Accepted total
-at_mark None false total next = next tt
-
 -- From octet q on, after the sections before it. `turns` bounds the number of sections; with one for
 -- each octet the bound is never met, since a section takes five octets at least.
 abbrev pub verdict_from : ℕ → List ℕ → List Placed → ℕ → Verdict
@@ -68,11 +62,12 @@ verdict_from zero message before q = Refused (refusal (length message + 1) Trunc
 verdict_from (suc turns) message before q =
     let total = total_length message in
     let last = last_number before in
-    at_mark (first_fault (mark_rows message total last q)) (ends_at message q) total
+    unless_refused (first_fault (mark_rows message total last q))
+    (λ _. choose (ends_at message q) (λ _. Accepted total)
     (λ _. unless_refused (first_fault (frame_rows message total last q))
     (λ _. let s = section_at message q in
     unless_refused (section_fault before (placed_at q s))
-    (λ _. verdict_from turns message (placed_at q s ∷ before) (q + length s))))
+    (λ _. verdict_from turns message (placed_at q s ∷ before) (q + length s)))))
 
 -- The verdict of edition 2 on the octets of an input from a `GRIB` on: accepted, with the length of the
 -- message, or refused. It is asked where octet 8 is not 1 or does not stand; edition 1 has a verdict of

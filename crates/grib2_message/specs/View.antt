@@ -1,6 +1,7 @@
 -- What is in force at a place of a message of edition 2: the sections before it, the newest first
 -- (WMO-No. 306, Volume I.2, FM 92 GRIB edition 2: what a group of sections does not repeat stays in force).
-use Rattle.std.specs.Prelude.{ℕ, Bool, cond, ◌&&◌, Option, Some, None, List, [], ◌∷◌, ◌==◌, count_by}
+use Rattle.std.specs.Prelude.{ℕ, Bool, ◌&&◌, Option, Some, None, List, [], ◌∷◌, ◌==◌, count_by, find}
+use Rattle.std.specs.Option.{option_map_or}
 use Rattle.grib_io.specs.Rows.{choose}
 use Rattle.grib2_sections.specs.Frame.{Placed, section_number}
 use Rattle.grib2_grids.specs.Grid.{grid_points}
@@ -16,16 +17,11 @@ last_number (s ∷ before) = section_number s.octets
 
 -- the last section with this number
 abbrev pub in_force : ℕ → List Placed → Option Placed
-in_force number [] = None
-in_force number (s ∷ before) = cond (is_numbered number s) (Some s) (in_force number before)
-
-abbrev pub octets_of : Option Placed → List ℕ
-octets_of None = []
-octets_of (Some s) = s.octets
+in_force number before = find (is_numbered number) before
 
 -- its octets, where it stands
 abbrev pub octets_in_force : ℕ → List Placed → List ℕ
-octets_in_force number before = octets_of (in_force number before)
+octets_in_force number before = option_map_or (λ s. s.octets) (in_force number before) []
 
 -- the number of grid points in force
 abbrev pub points_in_force : List Placed → ℕ

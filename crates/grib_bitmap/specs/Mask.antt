@@ -1,7 +1,7 @@
 -- Section 6, the bit-map section (WMO-No. 306, Volume I.2, FM 92 GRIB edition 2, code table 6.0): octet 6
 -- is the indicator. 0: the bits follow from octet 7 on, one for each grid point, 1 meaning present;
 -- 254: the bits of the last earlier bit-map of the message; 255: all points are present.
-use Rattle.std.specs.Prelude.{ℕ, ◌+◌, ◌*◌, Bool, true, not, cond, ◌&&◌, Option, Some, None, List, [], ◌∷◌, length, take, drop, replicate, is_none, nat_lt, ◌==◌, count_by}
+use Rattle.std.specs.Prelude.{ℕ, ◌+◌, ◌*◌, Bool, true, not, cond, ◌&&◌, Option, List, [], ◌∷◌, length, take, drop, replicate, is_none, unwrap_or, nat_lt, ◌==◌, count_by}
 use Rattle.grib_bits.specs.Bits.{bits}
 use Rattle.grib_bits.specs.Octets.{octets}
 use Rattle.grib_io.specs.declared.fault.Reason.TheVariants.{SectionLength, BitmapIndicator, NoEarlierBitmap, BitmapSize, ValueCount}
@@ -14,16 +14,11 @@ bitmap_indicator s = octets s 6 6
 abbrev pub own_mask : List ℕ → ℕ → List Bool
 own_mask s points = take points (bits (drop 6 s))
 
--- the earlier mask, none of it where there is no earlier one
-abbrev pub or_empty : Option (List Bool) → List Bool
-or_empty None = []
-or_empty (Some mask) = mask
-
 -- which of the grid points are present
 abbrev pub mask_of : List ℕ → ℕ → Option (List Bool) → List Bool
 mask_of s points earlier =
     let indicator = bitmap_indicator s in
-    cond (indicator == 255) (replicate points true) (cond (indicator == 254) (or_empty earlier) (own_mask s points))
+    cond (indicator == 255) (replicate points true) (cond (indicator == 254) (unwrap_or earlier []) (own_mask s points))
 
 -- how many points are present
 abbrev pub present_count : List Bool → ℕ
@@ -36,7 +31,7 @@ abbrev pub bitmap_rows : List ℕ → ℕ → ℕ → ℕ → Option (List Bool)
 bitmap_rows s start points values earlier =
     let l = length s in
     let indicator = bitmap_indicator s in
-    let earlier_length = length (or_empty earlier) in
+    let earlier_length = length (unwrap_or earlier []) in
     let present = present_count (mask_of s points earlier) in
     row (nat_lt l 6) start SectionLength l  -- S6.1
     ∷ row (nat_lt 0 indicator && nat_lt indicator 254) (start + 5) BitmapIndicator indicator  -- S6.2

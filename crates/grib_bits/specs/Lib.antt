@@ -1,4 +1,5 @@
 pub mod Bits
 pub mod Octets
 pub mod Plain
+pub mod Binary32
 pub mod Written

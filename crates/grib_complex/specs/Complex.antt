@@ -27,9 +27,10 @@ difference_order s = cond (packing_template s == 3) (octets s 48 48) 0
 abbrev pub extra_octets : List ℕ → ℕ
 extra_octets s = cond (packing_template s == 3) (octets s 49 49) 0
 
--- the octets of the extra descriptors, which stand before the groups: the first values and the minimum
+-- the octets of the extra descriptors, which stand before the groups: the first values and the minimum;
+-- none in template 5.2
 abbrev pub descriptor_octets : List ℕ → ℕ
-descriptor_octets s = cond (packing_template s == 3) ((difference_order s + 1) * extra_octets s) 0
+descriptor_octets s = (difference_order s + 1) * extra_octets s
 
 -- rows S5.7 to S5.13, of templates 5.2 and 5.3, for a section that begins at octet `start` of the message
 abbrev pub complex_rows : List ℕ → ℕ → List Row

@@ -1,13 +1,12 @@
 -- Section 7 of complex packing (WMO-No. 306, Volume I.2, FM 92 GRIB edition 2, data templates 7.2 and 7.3).
-use Rattle.std.specs.Prelude.{ℕ, ◌+◌, ◌-◌, ◌*◌, ◌^◌, Bool, false, cond, ◌&&◌, Option, List, [], ◌∷◌, ◌++◌, drop, map, replicate, Some, None, nat_lt, ◌==◌, position, ℤ, pos, nat_abs}
-use Rattle.std.specs.Option.{option_map_or}
+use Rattle.std.specs.Prelude.{ℕ, ◌+◌, ◌-◌, ◌*◌, ◌^◌, Bool, false, cond, ◌&&◌, Option, List, [], ◌∷◌, ◌++◌, drop, map, replicate, Some, None, nat_lt, ◌==◌, ℤ, pos, nat_abs}
 use Rattle.std.specs.List.{filter_map}
 use Rattle.grib_bits.specs.Octets.{octets, signed_octets}
 use Rattle.grib_io.specs.declared.code.Code.{Code}
 use Rattle.grib_io.specs.declared.code.Code.TheVariants.{Present, Primary, Secondary}
 use Rattle.grib_io.specs.declared.fault.Reason.TheVariants.{FirstValueSign, ScaledRange}
 use Rattle.grib_io.specs.declared.fault.Fault.{Fault}
-use Rattle.grib_io.specs.Rows.{Row, row, first_fault, or_then, choose}
+use Rattle.grib_io.specs.Rows.{Row, row, first_fault, first_place, or_then, choose}
 use Rattle.grib_groups.specs.Groups.{grouped, list_rows, group_rows}
 use Rattle.grib_simple.specs.Column.{column_with, placed}
 use Rattle.grib_simple.specs.Simple.{simple_rows, simple_entries}
@@ -84,10 +83,6 @@ is_out_of_range (Scaled x) = nat_lt (2 ^ 60) (nat_abs x)
 is_out_of_range Missing = false
 is_out_of_range Missing2 = false
 
--- the place, from 1, of the first value that is, else 0
-abbrev pub first_out_of_range : List Point → ℕ
-first_out_of_range entries = option_map_or (λ n. n + 1) (position is_out_of_range entries) 0
-
 -- rows S7.3 to S7.6, for a Section 7 that begins at octet `start` of the message and belongs to this
 -- Section 5
 abbrev pub group_data_rows : List ℕ → List ℕ → ℕ → List Row
@@ -97,7 +92,7 @@ group_data_rows s5 s7 start =
 -- row S7.7
 abbrev pub range_rows : List ℕ → List ℕ → ℕ → List Row
 range_rows s5 s7 start =
-    let place = first_out_of_range (group_entries s5 s7) in
+    let place = first_place is_out_of_range (group_entries s5 s7) in
     row (packing_template s5 == 3 && nat_lt 0 place) start ScaledRange place  -- S7.7
     ∷ []
 

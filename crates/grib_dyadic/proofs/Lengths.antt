@@ -1,9 +1,8 @@
 -- How far a number may be shifted to the left.
-use Rattle.std.proofs.Common.{◌≡◌, ℕ, zero, suc, ◌+◌, ◌-◌, ◌*◌, ◌/◌, ◌%◌, ◌^◌, ◌<◌, ◌≤◌, ◌⊎◌, sym, ap, ◌∙◌, subst, inl, inr, arith}
+use Rattle.std.proofs.Common.{◌≡◌, ℕ, zero, suc, ◌+◌, ◌-◌, ◌*◌, ◌/◌, ◌%◌, ◌^◌, ◌<◌, ◌≤◌, sym, ap, ◌∙◌, subst, arith}
 use Rattle.std.proofs.Math.Nat.{pow-suc, pow-le-pow_right, mul-le-mul_right, lt_of_lt_of_le, mul_assoc}
 use Rattle.std.proofs.lemmas.Nat.{pow-add, pow_pos, shl_below, leading_length, shr_split, mod_below}
 use Rattle.std.proofs.lemmas.Nat.Bits.{bit_at-trailing_zeros, same_from_bits_below, bit_at_cat_low, bit_at-zero}
-use Rattle.std.proofs.lemmas.Bool.{cases_lt}
 use Rattle.std.specs.Int.{w32, trailing_zeros, bit_at}
 use Rattle.grib_dyadic.specs.Length.{IsLength}
 
@@ -44,17 +43,6 @@ IsLength-leading n number zeros l =
     let e : l.0 ≡ n - zeros = omega (arith, l.1) in
     let P : ℕ → Type 0 = λ k. IsLength k number in
     subst P e (record { holds = l.2; least = l.3 })
-
--- what is not 0 and stays below 2 ^ 24 is shifted by less than 24
-pub shift_below : (number shift : ℕ) → 0 < number → number * 2 ^ shift < 2 ^ 24 → shift < 24
-shift_below number shift some below = by (cases_lt shift 24)
-  where
-    by : (shift < 24) ⊎ (24 ≤ shift) → shift < 24
-    by (inl less) = less
-    by (inr more) =
-        let high : 2 ^ 24 ≤ 2 ^ shift = pow-le-pow_right (omega arith) more in
-        let times = mul-le-mul_right (2 ^ shift) some in
-        absurd (omega arith)
 
 -- without its zeros at the end a number is odd, and they make the number of it
 pub without_zeros : (n : ℕ) → 0 < n → n < 2 ^ 32 → let zeros = trailing_zeros w32 n in (zeros < 32) × (n / 2 ^ zeros % 2 ≡ 1) × (n / 2 ^ zeros * 2 ^ zeros ≡ n)

@@ -70,11 +70,6 @@ reduced_form v x (inr none) same =
 pub IsMultiple-abs : (v x : Binary) → IsMultiple v x → nat_abs x.mantissa ≡ nat_abs v.mantissa * two_to_difference v.exponent x.exponent
 IsMultiple-abs v x m = ap nat_abs m.mantissa ∙ nat_abs-times v.mantissa (two_to_difference v.exponent x.exponent)
 
--- an odd number is not 0
-pub odd_pos : (n : ℕ) → n % 2 ≡ 1 → 0 < n
-odd_pos zero odd = omega arith
-odd_pos (suc n) odd = omega arith
-
 -- a reduced number whose mantissa is 0 is 0 * 2 ^ 0
 pub reduced_zero : (v : Binary) → IsReduced v → v.mantissa ≡ pos 0 → v ≡ binary (pos 0) (pos 0)
 reduced_zero v (inl odd) none = let e = ap nat_abs none in absurd (omega arith)

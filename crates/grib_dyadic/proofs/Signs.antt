@@ -1,9 +1,9 @@
 -- Numbers and their magnitudes.
-use Rattle.std.proofs.Common.{◌≡◌, ℕ, ◌*◌, ◌/◌, ◌%◌, ◌^◌, ◌<◌, ◌↔◌, Bool, true, false, IsTrue, ℤ, pos, negsuc, ◌+ℤ◌, ◌*ℤ◌, ◌-ℤ◌, ◌≤ℤ◌, ◌<ℤ◌, nat_abs, refl, sym, ap, ◌∙◌, subst, inl, inr, arith, if◌then◌else◌}
+use Rattle.std.proofs.Common.{◌≡◌, ℕ, ◌*◌, ◌/◌, ◌%◌, ◌^◌, ◌<◌, ◌↔◌, Bool, true, false, IsTrue, ℤ, pos, negsuc, ◌+ℤ◌, ◌*ℤ◌, ◌-ℤ◌, ◌≤ℤ◌, ◌<ℤ◌, nat_abs, refl, sym, ap, ◌∙◌, subst, arith, if◌then◌else◌}
 use Rattle.std.proofs.lemmas.Int.{ints}
 use Rattle.std.specs.Int.{int_min, is_negative, w32, trailing_zeros}
 use Rattle.grib_dyadic.specs.Sign.{signed}
-use Rattle.grib_dyadic.specs.Reference.{Binary, binary, two_to_difference, SameNumber, IsReduced}
+use Rattle.grib_dyadic.specs.Reference.{Binary, binary, two_to_difference, SameNumber}
 use Rattle.grib_dyadic.proofs.Numbers.{neg-times, scaled_self, SameNumber-from_scaled, SameNumber_sym}
 use Rattle.grib_dyadic.proofs.Reduced.{nat_abs-neg}
 use Rattle.grib_dyadic.proofs.Lengths.{without_zeros}
@@ -32,11 +32,6 @@ pub SameNumber-signed : (negative : Bool) (a b : ℕ) (j k : ℤ) → SameNumber
 SameNumber-signed negative a b j k same =
     let t = int_min j k in
     signed-times negative a (two_to_difference j t) ∙ ap (λ n. signed negative n) (ap nat_abs same) ∙ sym (signed-times negative b (two_to_difference k t))
-
--- a magnitude is reduced where the number is
-pub IsReduced-nat_abs : (v : Binary) → IsReduced v → IsReduced (binary (pos (nat_abs v.mantissa)) v.exponent)
-IsReduced-nat_abs v (inl odd) = inl odd
-IsReduced-nat_abs v (inr h) = inr (ap (λ z. pos (nat_abs z)) h.0, h.1)
 
 pub zero_of_abs : (z : ℤ) → nat_abs z ≡ 0 → z ≡ pos 0
 zero_of_abs (pos n) e = ap pos e

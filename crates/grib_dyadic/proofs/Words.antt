@@ -5,7 +5,8 @@ use Rattle.std.proofs.lemmas.Int.{ints}
 use Rattle.std.proofs.lemmas.Bool.{cases_lt}
 use Rattle.std.proofs.lemmas.Bool.Decides.{nat_tests}
 use mathlib.Core.Logic.{⊎_elim}
-use Rattle.grib_dyadic.specs.Reference.{Binary, binary, with_sign, ieee, ieee_sign, ieee_exponent, ieee_fraction, IsFinite, ibm, ibm_a, ibm_b}
+use Rattle.grib_bits.specs.Binary32.{ieee_sign, ieee_exponent, ieee_fraction}
+use Rattle.grib_dyadic.specs.Reference.{Binary, binary, with_sign, ieee, IsFinite, ibm, ibm_a, ibm_b}
 
 -- ---- binary32
 

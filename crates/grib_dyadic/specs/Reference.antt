@@ -2,6 +2,7 @@
 -- 754 binary32 (Section 5, octets 12-15), edition 1 in the IBM single form (Section 4, octets 7-10).
 use Rattle.std.specs.Prelude.{◌≡◌, ℕ, ◌+◌, ◌*◌, ◌/◌, ◌%◌, ◌^◌, ◌<◌, ◌⊎◌, ◌==◌, cond, ℤ, pos, neg_ℤ, ◌+ℤ◌, ◌-ℤ◌, ◌*ℤ◌, ◌≤ℤ◌, nat_abs}
 use Rattle.std.specs.Int.{int_min}
+use Rattle.grib_bits.specs.Binary32.{ieee_sign, ieee_exponent, ieee_fraction}
 use Rattle.grib_dyadic.specs.Sign.{signed}
 
 -- stands for mantissa * 2 ^ exponent
@@ -16,17 +17,7 @@ binary m k = record { mantissa = m; exponent = k }
 abbrev pub with_sign : ℕ → ℕ → ℤ
 with_sign sign magnitude = signed (sign == 1) magnitude
 
--- The fields of a binary32 word: 1 bit of sign, 8 of exponent, 23 of fraction.
-abbrev pub ieee_sign : ℕ → ℕ
-ieee_sign word = word / 2 ^ 31
-
-abbrev pub ieee_exponent : ℕ → ℕ
-ieee_exponent word = word / 2 ^ 23 % 256
-
-abbrev pub ieee_fraction : ℕ → ℕ
-ieee_fraction word = word % 2 ^ 23
-
--- the exponent field of infinities and of what is no number
+-- the exponent field is not that of infinities and of what is no number
 abbrev pub IsFinite : ℕ → Type 0
 IsFinite word = ieee_exponent word < 255
 

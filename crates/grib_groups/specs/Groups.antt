@@ -1,14 +1,13 @@
 -- Groups of complex packing (WMO-No. 306, Volume I.2, FM 92 GRIB edition 2, data template 7.2): group
 -- references, coded widths and coded lengths, each list from a whole octet on, and then, from a whole
 -- octet on, the packed numbers of all groups.
-use Rattle.std.specs.Prelude.{ℕ, ◌+◌, ◌-◌, ◌*◌, ◌/◌, ◌^◌, Bool, not, cond, ◌&&◌, List, [], ◌∷◌, ◌++◌, length, drop, map, nat_lt, ◌==◌, sum, position}
-use Rattle.std.specs.Option.{option_map_or}
+use Rattle.std.specs.Prelude.{ℕ, ◌+◌, ◌-◌, ◌*◌, ◌/◌, ◌^◌, Bool, not, cond, ◌&&◌, List, [], ◌∷◌, ◌++◌, length, drop, map, nat_lt, ◌==◌, sum, sum_by, slice_set}
 use Rattle.grib_bits.specs.Bits.{bits}
 use Rattle.grib_bits.specs.Plain.{plain}
 use Rattle.grib_io.specs.declared.code.Code.{Code}
 use Rattle.grib_io.specs.declared.code.Code.TheVariants.{Present, Primary, Secondary}
 use Rattle.grib_io.specs.declared.fault.Reason.TheVariants.{DataTooShort, GroupWidth, GroupShape}
-use Rattle.grib_io.specs.Rows.{Row, row}
+use Rattle.grib_io.specs.Rows.{Row, row, first_place}
 use Rattle.grib_groups.specs.declared.layout.Layout.{Layout}
 
 -- the octets that `count` numbers of w bits take, padded to whole octets
@@ -43,18 +42,14 @@ abbrev pub widths : Layout → List ℕ → List ℕ
 widths layout octets =
     map (λ coded. layout.width_reference + coded) (plain (bits (drop (reference_octets layout) octets)) layout.width_bits layout.groups)
 
--- the lengths, the last of which is the stated true length of the last group
-abbrev pub with_last : ℕ → List ℕ → List ℕ
-with_last last [] = []
-with_last last (n ∷ []) = last ∷ []
-with_last last (n ∷ m ∷ rest) = n ∷ with_last last (m ∷ rest)
-
 abbrev pub coded_lengths : Layout → List ℕ → List ℕ
 coded_lengths layout octets = plain (bits (drop (reference_octets layout + width_octets layout) octets)) layout.length_bits layout.groups
 
+-- the last of them is the stated true length of the last group
 abbrev pub lengths : Layout → List ℕ → List ℕ
 lengths layout octets =
-    with_last layout.last_length (map (λ coded. layout.length_reference + layout.length_increment * coded) (coded_lengths layout octets))
+    let coded = coded_lengths layout octets in
+    slice_set (map (λ n. layout.length_reference + layout.length_increment * n) coded) (layout.groups - 1) layout.last_length
 
 abbrev pub groups_from : List ℕ → List ℕ → List ℕ → List Group
 groups_from (r ∷ rs) (w ∷ ws) (n ∷ ns) = record { reference = r; width = w; count = n } ∷ groups_from rs ws ns
@@ -91,18 +86,13 @@ grouped layout octets = codes_from layout (groups layout octets) (bits (drop (li
 
 -- the bits of all packed numbers
 abbrev pub packed_bits : List Group → ℕ
-packed_bits [] = 0
-packed_bits (group ∷ rest) = group.count * group.width + packed_bits rest
+packed_bits groups = sum_by (λ group. group.count * group.width) groups
 
 -- the number of the first group that takes the sum of the lengths past the values, else of the last one;
 -- `n` groups stand before
 abbrev pub first_past : ℕ → ℕ → List ℕ → ℕ
 first_past values n [] = n
 first_past values n (l ∷ rest) = cond (nat_lt values l) (n + 1) (first_past (values - l) (n + 1) rest)
-
--- the number of the first group whose width is over 32, else 0
-abbrev pub first_too_wide : List ℕ → ℕ
-first_too_wide ws = option_map_or (λ g. g + 1) (position (λ w. nat_lt 32 w) ws) 0
 
 -- Rows S7.2 and S7.4 to S7.6, for a Section 7 that begins at octet `start` of the message and has `skip`
 -- octets of extra descriptors after octet 5, where Section 5 has this many values. Row S7.2:
@@ -116,7 +106,7 @@ group_rows layout s7 start skip values =
     let l = length s7 in
     let octets = drop (5 + skip) s7 in
     let before_numbers = 5 + skip + list_octets layout in
-    let too_wide = first_too_wide (widths layout octets) in
+    let too_wide = first_place (λ w. nat_lt 32 w) (widths layout octets) in
     row (nat_lt 0 too_wide) (start + 5 + skip + reference_octets layout) GroupWidth too_wide  -- S7.4
     ∷ row (not (sum (lengths layout octets) == values)) start GroupShape (first_past values 0 (lengths layout octets))  -- S7.5
     ∷ row (nat_lt (8 * l) (8 * before_numbers + packed_bits (groups layout octets))) start DataTooShort l  -- S7.6

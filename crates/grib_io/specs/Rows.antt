@@ -1,6 +1,7 @@
 -- What decides acceptance: rows that are tried in their order, as the tables of docs/PROFILE.md list
 -- them. The first row whose test holds gives the refusal.
-use Rattle.std.specs.Prelude.{ℕ, Bool, true, false, cond, Option, Some, None, List, [], ◌∷◌}
+use Rattle.std.specs.Prelude.{ℕ, Bool, true, false, cond, Option, Some, None, List, [], ◌∷◌, ◌+◌, position}
+use Rattle.std.specs.Option.{option_map_or}
 use Rattle.grib_io.specs.declared.fault.Fault.{Fault}
 use Rattle.grib_io.specs.declared.fault.Reason.{Reason}
 
@@ -30,3 +31,7 @@ or_then None later = first_fault (later tt)
 abbrev pub choose : {A : Type 0} → Bool → (Unit {0} → A) → (Unit {0} → A) → A
 choose true here there = here tt
 choose false here there = there tt
+
+-- the place, from 1, of the first element that passes the test, else 0
+abbrev pub first_place : {A : Type 0} → (A → Bool) → List A → ℕ
+first_place test xs = option_map_or (λ n. n + 1) (position test xs) 0

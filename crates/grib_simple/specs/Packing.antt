@@ -1,6 +1,7 @@
 -- Section 5, the data representation section (WMO-No. 306, Volume I.2, FM 92 GRIB edition 2, data
 -- representation templates 5.0, 5.2 and 5.3): what all of them share.
-use Rattle.std.specs.Prelude.{ℕ, ◌+◌, ◌/◌, ◌%◌, ◌^◌, not, cond, List, [], ◌∷◌, length, nat_lt, ◌==◌}
+use Rattle.std.specs.Prelude.{ℕ, ◌+◌, not, cond, List, [], ◌∷◌, length, nat_lt, ◌==◌}
+use Rattle.grib_bits.specs.Binary32.{ieee_exponent}
 use Rattle.grib_bits.specs.Octets.{octets}
 use Rattle.grib_io.specs.declared.fault.Reason.{Reason}
 use Rattle.grib_io.specs.declared.fault.Reason.TheVariants.{SectionLength, PackingTemplate, Jpeg2000, PngPacked, Ccsds, ValueCount, ReferenceNotFinite, BitWidth}
@@ -21,10 +22,6 @@ packing_template s = octets s 10 11
 -- the word of the reference value R
 abbrev pub reference_word : List ℕ → ℕ
 reference_word s = octets s 12 15
-
--- the exponent field of a binary32 word: 8 bits after the sign
-abbrev pub exponent_field : ℕ → ℕ
-exponent_field word = word / 2 ^ 23 % 256
 
 -- the raw octets of the binary scale factor E and of the decimal scale factor D
 abbrev pub binary_scale : List ℕ → ℕ
@@ -55,6 +52,6 @@ packing_rows s start points =
     ∷ row (not (is_template packing_templates t)) (start + 9) (template_reason t) t  -- S5.2
     ∷ row (nat_lt l (least_length packing_templates t)) start SectionLength l  -- S5.3
     ∷ row (nat_lt points (value_count s)) (start + 5) ValueCount (value_count s)  -- S5.4
-    ∷ row (exponent_field (reference_word s) == 255) (start + 11) ReferenceNotFinite (reference_word s)  -- S5.5
+    ∷ row (ieee_exponent (reference_word s) == 255) (start + 11) ReferenceNotFinite (reference_word s)  -- S5.5
     ∷ row (nat_lt (most_bits t) (bit_width s)) (start + 19) BitWidth (bit_width s)  -- S5.6
     ∷ []

@@ -10,7 +10,7 @@ use Rattle.grib2_message.specs.Grid.{grid_points, grid_template}
 use Rattle.grib2_message.specs.Product.{product_template}
 use Rattle.grib_simple.specs.Packing.{packing_template, bit_width, value_count}
 use Rattle.grib2_message.specs.Fields.{part_octets}
-use Rattle.grib_text.specs.Words.{filled, or_missing, signed_or_missing}
+use Rattle.grib_text.specs.Words.{filled, number_or_missing, signed_or_missing}
 
 -- of message m, which stands after `before` octets of the input
 abbrev pub check_line : ℕ → ℕ → ℕ → ℕ → ℕ → List ℕ
@@ -31,7 +31,7 @@ time_text s1 =
 -- the first fixed surface: its type, scale factor and scaled value, octets 23-28 of Section 4
 abbrev pub surface_text : List ℕ → List ℕ
 surface_text s4 =
-    or_missing 8 (octets s4 23 23) ++ codes ":" ++ signed_or_missing 8 (octets s4 24 24) ++ codes ":" ++ or_missing 32 (octets s4 25 28)
+    number_or_missing 8 (octets s4 23 23) ++ codes ":" ++ signed_or_missing 8 (octets s4 24 24) ++ codes ":" ++ number_or_missing 32 (octets s4 25 28)
 
 -- discipline, parameter category and parameter number
 abbrev pub parameter_text : List ℕ → List ℕ → List ℕ

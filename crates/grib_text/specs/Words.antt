@@ -7,9 +7,13 @@ use Rattle.grib_bits.specs.Bits.{bits_of, signed}
 abbrev pub filled : ℕ → ℕ → List ℕ
 filled width n = replicate (width - length (decimal n)) 48 ++ decimal n
 
--- a number of `width` bits whose bits are all ones where it is missing, without sign and with sign
-abbrev pub or_missing : ℕ → ℕ → List ℕ
-or_missing width n = cond (n == 2 ^ width - 1) (codes "missing") (decimal n)
+-- a number of `width` bits with this text, which is missing where its bits are all ones
+abbrev pub or_missing : ℕ → ℕ → List ℕ → List ℕ
+or_missing width n text = cond (n == 2 ^ width - 1) (codes "missing") text
+
+-- without sign, and with sign
+abbrev pub number_or_missing : ℕ → ℕ → List ℕ
+number_or_missing width n = or_missing width n (decimal n)
 
 abbrev pub signed_or_missing : ℕ → ℕ → List ℕ
-signed_or_missing width n = cond (n == 2 ^ width - 1) (codes "missing") (signed_decimal (signed (bits_of width n)))
+signed_or_missing width n = or_missing width n (signed_decimal (signed (bits_of width n)))

@@ -1,5 +1,6 @@
 -- Octets written in hexadecimal, as the tables of docs/PROFILE.md write them, and edits of messages.
-use Rattle.std.specs.Prelude.{ℕ, ◌+◌, ◌-◌, ◌*◌, not, cond, List, [], ◌∷◌, ◌++◌, length, take, drop, nat_lt, ◌==◌, filter}
+use Rattle.std.specs.Prelude.{ℕ, ◌+◌, ◌-◌, ◌*◌, not, cond, List, [], ◌∷◌, ◌++◌, length, take, drop, nat_lt, ◌==◌, filter, codes}
+use Prim.Native.String.{String}
 
 -- what a character 0 to 9 or A to F counts
 abbrev pub hex_digit : ℕ → ℕ
@@ -11,8 +12,8 @@ hex_pairs (c ∷ []) = []
 hex_pairs (c ∷ d ∷ text) = (16 * hex_digit c + hex_digit d) ∷ hex_pairs text
 
 -- the octets of a text, in which spaces (32) count nothing
-abbrev pub hex : List ℕ → List ℕ
-hex text = hex_pairs (filter (λ c. not (c == 32)) text)
+abbrev pub hex : String → List ℕ
+hex text = hex_pairs (filter (λ c. not (c == 32)) (codes text))
 
 -- a message whose octets from `first` on, counted from 1, are replaced by these
 abbrev pub put : List ℕ → ℕ → List ℕ → List ℕ

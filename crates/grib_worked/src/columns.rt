@@ -67,13 +67,13 @@ pub fn differenced_column()
 /// whose codes are 0.
 pub fn second_differences()
     ensures accepted { packing_fault (second_order 4) 144 4 ≡ None }
-    ensures column { column_from (second_order 4) (replicate 4 true) (hex (codes "00000009 07 0A 0C 01 0C"))
+    ensures column { column_from (second_order 4) (replicate 4 true) (hex "00000009 07 0A 0C 01 0C")
         ≡ column (scaled 10 ∷ scaled 12 ∷ scaled 15 ∷ scaled 19 ∷ []) }
-    ensures one_value { column_from (second_order 1) (replicate 1 true) (hex (codes "00000009 07 07 00 00 00")) ≡ column (scaled 7 ∷ []) }
+    ensures one_value { column_from (second_order 1) (replicate 1 true) (hex "00000009 07 07 00 00 00") ≡ column (scaled 7 ∷ []) }
 {}
 
 /// Numbers of 33 bits, which do not begin at whole octets.
 pub fn numbers_across_octets()
-    ensures column { column_from (put representation 20 (hex (codes "21"))) (replicate 4 true) (hex (codes "00000016 07 0000000000000000 40 000000 50 00000000"))
+    ensures column { column_from (put representation 20 (hex "21")) (replicate 4 true) (hex "00000016 07 0000000000000000 40 000000 50 00000000")
         ≡ column (scaled 0 ∷ scaled 1 ∷ scaled 2 ∷ scaled 4294967296 ∷ []) }
 {}

@@ -17,8 +17,8 @@ ghost use Rattle.grib_worked.specs.Variations.{steep, other_grid_between, ends_a
 
 /// A message of edition 1 that is too short, and one that is not.
 pub fn edition_1_total_length()
-    ensures too_short { first_fault (head_rows (hex (codes "47524942 00000B 01"))) ≡ Some (refusal 5 TotalLength 11) }
-    ensures least { first_fault (head_rows (hex (codes "47524942 00000C 01"))) ≡ None }
+    ensures too_short { first_fault (head_rows (hex "47524942 00000B 01")) ≡ Some (refusal 5 TotalLength 11) }
+    ensures least { first_fault (head_rows (hex "47524942 00000C 01")) ≡ None }
 {}
 
 /// Sections that end before their template does.
@@ -40,9 +40,9 @@ pub fn early_end_mark()
 
 /// Rows of points with no number of rows, and rows of one octet each.
 pub fn row_lists()
-    ensures none { first_fault (grid_rows (put (put grid 11 (hex (codes "02 01"))) 35 (hex (codes "FFFFFFFF"))) 38) ≡ Some (refusal 72 ListShape 4294967295) }
-    ensures two { row_list (put grid 11 (hex (codes "01 01")) ++ hex (codes "01 03")) ≡ 1 ∷ 3 ∷ [] }
-    ensures too_many { first_fault (grid_rows (put grid 7 (hex (codes "02000001"))) 38) ≡ Some (refusal 44 PointCount 33554433) }
+    ensures none { first_fault (grid_rows (put (put grid 11 (hex "02 01")) 35 (hex "FFFFFFFF")) 38) ≡ Some (refusal 72 ListShape 4294967295) }
+    ensures two { row_list (put grid 11 (hex "01 01") ++ hex "01 03") ≡ 1 ∷ 3 ∷ [] }
+    ensures too_many { first_fault (grid_rows (put grid 7 (hex "02000001")) 38) ≡ Some (refusal 44 PointCount 33554433) }
 {}
 
 /// The last product section that a message may have, and the next one.
@@ -55,35 +55,35 @@ pub fn product_count()
 
 /// Other packings that are left out, and more values than points.
 pub fn refused_packings()
-    ensures jpeg_2000 { packing_fault (put representation 10 (hex (codes "0028"))) 144 4 ≡ Some (refusal 153 Jpeg2000 40) }
-    ensures ccsds { packing_fault (put representation 10 (hex (codes "002A"))) 144 4 ≡ Some (refusal 153 Ccsds 42) }
-    ensures matrix { packing_fault (put representation 10 (hex (codes "0001"))) 144 4 ≡ Some (refusal 153 PackingTemplate 1) }
+    ensures jpeg_2000 { packing_fault (put representation 10 (hex "0028")) 144 4 ≡ Some (refusal 153 Jpeg2000 40) }
+    ensures ccsds { packing_fault (put representation 10 (hex "002A")) 144 4 ≡ Some (refusal 153 Ccsds 42) }
+    ensures matrix { packing_fault (put representation 10 (hex "0001")) 144 4 ≡ Some (refusal 153 PackingTemplate 1) }
     ensures values { packing_fault representation 144 3 ≡ Some (refusal 149 ValueCount 4) }
 {}
 
 /// Widths and lengths of groups that take more than 32 bits.
 pub fn refused_group_fields()
-    ensures width_reference { packing_fault (put marks_only 36 (hex (codes "21"))) 144 4 ≡ Some (refusal 179 GroupWidth 33) }
-    ensures width_bits { packing_fault (put marks_only 37 (hex (codes "21"))) 144 4 ≡ Some (refusal 180 GroupWidth 33) }
-    ensures length_bits { packing_fault (put marks_only 47 (hex (codes "21"))) 144 4 ≡ Some (refusal 190 GroupShape 33) }
-    ensures lists_cut { data_fault marks_only (hex (codes "00000007 07 00 80")) 197 ≡ Some (refusal 197 DataTooShort 7) }
+    ensures width_reference { packing_fault (put marks_only 36 (hex "21")) 144 4 ≡ Some (refusal 179 GroupWidth 33) }
+    ensures width_bits { packing_fault (put marks_only 37 (hex "21")) 144 4 ≡ Some (refusal 180 GroupWidth 33) }
+    ensures length_bits { packing_fault (put marks_only 47 (hex "21")) 144 4 ≡ Some (refusal 190 GroupShape 33) }
+    ensures lists_cut { data_fault marks_only (hex "00000007 07 00 80") 197 ≡ Some (refusal 197 DataTooShort 7) }
 {}
 
 /// Bitmaps that are predefined, that have not the grid's points, or not as many as there are values.
 pub fn refused_bitmaps()
-    ensures predefined { first_fault (bitmap_rows (put no_bitmap 6 (hex (codes "05"))) 165 4 4 None) ≡ Some (refusal 170 BitmapIndicator 5) }
+    ensures predefined { first_fault (bitmap_rows (put no_bitmap 6 (hex "05")) 165 4 4 None) ≡ Some (refusal 170 BitmapIndicator 5) }
     ensures all_present { first_fault (bitmap_rows no_bitmap 165 4 3 None) ≡ Some (refusal 170 ValueCount 4) }
-    ensures three_present { mask_of (hex (codes "00000007 06 00 B0")) 4 None ≡ true ∷ false ∷ true ∷ true ∷ [] }
-    ensures two_values { first_fault (bitmap_rows (hex (codes "00000007 06 00 B0")) 165 4 2 None) ≡ Some (refusal 170 ValueCount 3) }
+    ensures three_present { mask_of (hex "00000007 06 00 B0") 4 None ≡ true ∷ false ∷ true ∷ true ∷ [] }
+    ensures two_values { first_fault (bitmap_rows (hex "00000007 06 00 B0") 165 4 2 None) ≡ Some (refusal 170 ValueCount 3) }
     ensures other_grid { verdict_2 other_grid_between ≡ Refused (refusal 312 BitmapSize 4) }
 {}
 
 /// The second of two first values with its top bit set.
 pub fn signed_second_value()
-    ensures refused { data_fault (put differences 48 (hex (codes "02"))) (hex (codes "0000000E 07 05 85 8A 02C0 0C 0410 A0")) 199 ≡ Some (refusal 205 FirstValueSign 2) }
+    ensures refused { data_fault (put differences 48 (hex "02")) (hex "0000000E 07 05 85 8A 02C0 0C 0410 A0") 199 ≡ Some (refusal 205 FirstValueSign 2) }
 {}
 
 /// Second differences of 2^32 - 1 take the 23,172nd of 24,000 values past 2^60.
 pub fn scaled_range()
-    ensures refused { data_fault steep (hex (codes "0000000A 07 FFFFFFFF 00")) 197 ≡ Some (refusal 197 ScaledRange 23172) }
+    ensures refused { data_fault steep (hex "0000000A 07 FFFFFFFF 00") 197 ≡ Some (refusal 197 ScaledRange 23172) }
 {}
