@@ -1,7 +1,7 @@
 -- What a reference value is, exactly (WMO-No. 306, Volume I.2, FM 92 GRIB). Edition 2 writes it in IEEE
 -- 754 binary32 (Section 5, octets 12-15), edition 1 in the IBM single form (Section 4, octets 7-10).
-use Rattle.std.specs.Prelude.{◌≡◌, ℕ, ◌+◌, ◌*◌, ◌/◌, ◌%◌, ◌^◌, ◌<◌, ◌⊎◌, ◌==◌, cond, ℤ, pos, neg_ℤ, ◌+ℤ◌, ◌-ℤ◌, ◌*ℤ◌, ◌≤ℤ◌, nat_abs}
-use Rattle.std.specs.Int.{int_min}
+use Rattle.std.specs.Prelude.{◌≡◌, ℕ, zero, suc, ◌+◌, ◌*◌, ◌/◌, ◌%◌, ◌^◌, ◌<◌, ◌⊎◌, ◌==◌, cond, ℤ, pos, neg_ℤ, ◌+ℤ◌, ◌-ℤ◌, ◌*ℤ◌, ◌≤ℤ◌, nat_abs}
+use Rattle.std.specs.Int.{int_min, is_negative}
 use Rattle.grib_bits.specs.Binary32.{ieee_sign, ieee_exponent, ieee_fraction}
 use Rattle.grib_dyadic.specs.Sign.{signed}
 
@@ -53,6 +53,18 @@ SameNumber a b =
 -- The form that each number has once: an odd mantissa, or 0 * 2 ^ 0.
 abbrev pub IsReduced : Binary → Type 0
 IsReduced v = (nat_abs v.mantissa % 2 ≡ 1) ⊎ ((v.mantissa ≡ pos 0) × (v.exponent ≡ pos 0))
+
+-- how often a number can be halved, up to `most` times
+abbrev pub halvings : ℕ → ℕ → ℕ
+halvings zero n = 0
+halvings (suc most) n = cond (n % 2 == 1) 0 (halvings most (n / 2) + 1)
+
+-- the same number in that form, where the mantissa has at most 64 bits
+abbrev pub reduced : Binary → Binary
+reduced v =
+    let magnitude = nat_abs v.mantissa in
+    let k = halvings 64 magnitude in
+    cond (magnitude == 0) (binary (pos 0) (pos 0)) (binary (signed (is_negative v.mantissa) (magnitude / 2 ^ k)) (v.exponent +ℤ pos k))
 
 -- A reduced number other than 0 has a binary32 word: its mantissa is below 2 ^ 24, it is a multiple
 -- of 2 ^ -149 and below 2 ^ 128. Zero has one.

@@ -1,1 +1,4 @@
 pub mod Stream
+pub mod Outcomes
+pub mod Plain
+pub mod Answer

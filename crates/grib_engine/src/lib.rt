@@ -1,2 +1,8 @@
-//! A stream of messages.
+//! What is done with an input: its messages are answered one after another.
 #![tactic(auto)]
+
+mod job;
+mod outcome;
+
+pub use job::Job;
+pub use outcome::Outcome;

@@ -1,2 +1,3 @@
 pub mod Reason
 pub mod Rows
+pub mod Outside

@@ -10,5 +10,5 @@ mod section;
 pub use code::Code;
 pub use fault::{Fault, Reason, Refusal, UnpackFault};
 pub use list::List;
-pub use outside::{Failed, ShelfStop, Stop};
+pub use outside::{Failed, ShelfStop, Sink, Source, Stop};
 pub use section::Section;

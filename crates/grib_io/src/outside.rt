@@ -1,4 +1,11 @@
-//! What a source, a sink or a shelf may answer in place of its work.
+//! The outside: where octets come from and where they go. Code above is proved once for every source
+//! and sink, by what an object has left or holds, where it tells that, and by a count of its faults.
+
+ghost use Rattle.std.specs.Prelude.{◌≡◌, ◌<◌, ℕ, Bool, true, false, List, length, IfOk, MatchResult};
+ghost use Rattle.std.specs.declared.option.Option.{Option};
+ghost use Rattle.std.specs.Io.{ReadsAtMost, WritesAtMost};
+ghost use Rattle.std.specs.Io.KnownBytes.{ReadConsumes, WriteAppends, Keeps};
+ghost use Rattle.grib_io.specs.Outside.{CountsFailure, CountsStops, Settles};
 
 /// The object failed, as a device does.
 #[derive(Clone, Copy, Debug, PartialEq, Eq)]
@@ -20,4 +27,47 @@ pub enum ShelfStop {
     Absent,
     /// The shelf failed.
     Failed,
+}
+
+/// Where octets come from.
+pub trait Source {
+    /// The octets that are left, where the object tells them.
+    ghost left: { Self → Option (List ℕ) };
+
+    /// How often it failed. The count never falls.
+    ghost faults: { Self → ℕ };
+
+    /// Moves the first octets that are left to the front of `into`, and answers how many. It answers 0
+    /// for an `into` that is not empty exactly where nothing is left. A failed read takes nothing.
+    fn read(&mut self, into: &mut [u8]) -> Result<usize, Failed>
+        ensures bound { ReadsAtMost result into.new }
+        ensures octets { ReadConsumes (left self.old) (left self.new) result into.new }
+        ensures counted { CountsFailure result (faults self.old) (faults self.new) };
+}
+
+/// Where octets go.
+pub trait Sink {
+    /// The octets that it holds, where the object tells them.
+    ghost contents: { Self → Option (List ℕ) };
+
+    /// How often it failed. The count never falls.
+    ghost faults: { Self → ℕ };
+
+    /// Whether nothing waits for `finish`.
+    ghost settled: { Self → Bool };
+
+    /// Appends the first octets of `piece`, and answers how many: one at least where there is one. A
+    /// refused write appends nothing.
+    fn write(&mut self, piece: &[u8]) -> Result<usize, Stop>
+        ensures bound { WritesAtMost result piece.now }
+        ensures some { IfOk result (λ count. 0 < length piece.now → 0 < count) }
+        ensures octets { WriteAppends (contents self.old) (contents self.new) result piece.now }
+        ensures settled { Settles result (settled self.old) (settled self.new) }
+        ensures counted { CountsStops result (faults self.old) (faults self.new) };
+
+    /// Passes on what a lower layer holds back. It changes no contents.
+    fn finish(&mut self) -> Result<(), Stop>
+        ensures octets { Keeps (contents self.old) (contents self.new) }
+        ensures settled { MatchResult result (λ _. settled self.new ≡ true) (λ _. settled self.new ≡ settled self.old) }
+        ensures counted { CountsStops result (faults self.old) (faults self.new) };
 }
