@@ -1,6 +1,8 @@
 -- The outcomes of a run: their exit status and their note.
-use Rattle.std.specs.Prelude.{ℕ, Bool, true, false, List, [], codes}
+use Rattle.std.specs.Prelude.{ℕ, ◌⊎◌, Bool, true, false, List, [], codes}
 use Rattle.grib_io.specs.declared.fault.Refusal.{Refusal}
+use Rattle.std.specs.declared.option.Option.{Option}
+use Rattle.grib_io.specs.Outside.{AppendsFront}
 use Rattle.grib_text.specs.Notes.{refusal_note}
 use Rattle.grib_engine.specs.declared.outcome.Outcome.{Outcome}
 use Rattle.grib_engine.specs.declared.outcome.Outcome.TheVariants.{Done, Refused, ReadFault, WriteFault, Memory, NotBuilt}
@@ -39,3 +41,9 @@ is_cut_short ReadFault = false
 is_cut_short WriteFault = true
 is_cut_short Memory = true
 is_cut_short NotBuilt = false
+
+-- A front of the note of this outcome, or of a read fault or want of memory that came in its place, was
+-- appended.
+abbrev pub NotesFront : Option (List ℕ) → Option (List ℕ) → Outcome → Type 0
+NotesFront before now outcome =
+    AppendsFront before now (note_of outcome) ⊎ (AppendsFront before now (note_of ReadFault) ⊎ AppendsFront before now (note_of Memory))

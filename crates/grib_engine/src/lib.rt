@@ -1,8 +1,14 @@
 //! What is done with an input: its messages are answered one after another.
 #![tactic(auto)]
 
+mod answering;
+mod closing;
 mod job;
 mod outcome;
+mod reading;
+mod serve;
+mod writing;
 
+pub use closing::close;
 pub use job::Job;
 pub use outcome::Outcome;

@@ -1,0 +1,3 @@
+pub mod Outside
+pub mod Fronts
+pub mod Noted

@@ -1,0 +1,72 @@
+-- What several writes and reads after one another do to the octets of a sink and of a source.
+use Rattle.std.proofs.Common.{◌≡◌, ℕ, ◌+◌, ◌-◌, ◌≤◌, List, [], ◌++◌, None, Some, IfSome, ◌∷◌, length, take, drop, refl, ap, sym, ◌∙◌, arith, append_assoc, append-nil, length-take-le, take-append-drop, subst}
+use Rattle.std.specs.declared.option.Option.{Option}
+use Rattle.std.specs.Io.KnownBytes.{Appends, Consumes, Keeps}
+use Rattle.std.proofs.KnownBytes.{Appends-trans, Appends-nil, Appends-kept, Consumes-trans}
+use Rattle.std.proofs.lemmas.List.{take-append-le, take_rest}
+use borrow.Rule.Slice.PartMut.{put_mid, post_of}
+use Rattle.std.proofs.Math.Seq.{take-append-add, take-add}
+use Rattle.grib_io.specs.Outside.{AppendsFront}
+
+-- nothing was appended yet
+pub front_none : (a : Option (List ℕ)) (octets : List ℕ) → AppendsFront a a octets
+front_none a octets = ([], octets, refl, Appends-nil a)
+
+-- what stays as it was
+pub front_kept : (a b : Option (List ℕ)) (octets : List ℕ) → Keeps a b → AppendsFront a b octets
+front_kept a b octets kept = ([], octets, refl, Appends-kept a a b [] (Appends-nil a) kept)
+
+-- all was appended
+pub front_whole : (a b : Option (List ℕ)) (octets : List ℕ) → Appends a b octets → AppendsFront a b octets
+front_whole a b octets whole = (octets, [], sym (append-nil octets), whole)
+
+-- a front of what more octets begin with
+pub front_more : (a b : Option (List ℕ)) (octets more : List ℕ) → AppendsFront a b octets → AppendsFront a b (octets ++ more)
+front_more a b octets more (front, rest, is, told) =
+    (front, rest ++ more, ap (λ xs. xs ++ more) is ∙ append_assoc front rest more, told)
+
+-- a front after whole octets
+pub front_after : (a b c : Option (List ℕ)) (octets more : List ℕ) → Appends a b octets → AppendsFront b c more → AppendsFront a c (octets ++ more)
+front_after a b c octets more whole (front, rest, is, told) =
+    (octets ++ front, rest, ap (λ xs. octets ++ xs) is ∙ sym (append_assoc octets front rest), Appends-trans a b c octets front whole told)
+
+-- a buffer of which a octets were filled, after n more came to the front of the part from there on
+pub filled_more : (xs ys : List ℕ) (a k n : ℕ) → a ≤ length xs → n ≤ length ys → take (a + n) (put_mid a k xs ys) ≡ take a xs ++ take n ys
+filled_more xs ys a k n low few =
+    let size : length (take a xs) ≡ a = length-take-le a xs low in
+    let rest : List ℕ = ys ++ post_of a k xs in
+    ap (λ m. take (m + n) (take a xs ++ rest)) (sym size)
+    ∙ (take-append-add (take a xs) rest n ∙ ap (λ zs. take a xs ++ zs) (take-append-le n ys (post_of a k xs) few))
+
+-- what was taken before, and then
+pub taken_more : (a b c : Option (List ℕ)) (xs ys : List ℕ) (at k n : ℕ) → Consumes a b (take at xs) → Consumes b c (take n ys)
+    → at ≤ length xs → n ≤ length ys → Consumes a c (take (at + n) (put_mid at k xs ys))
+taken_more a b c xs ys at k n before now low few =
+    subst (Consumes a c) (sym (filled_more xs ys at k n low few)) (Consumes-trans a b c (take at xs) (take n ys) before now)
+
+-- what was written before, and then of the rest of the piece
+pub written_more : (a b c : Option (List ℕ)) (xs : List ℕ) (n k : ℕ) → Appends a b (take n xs)
+    → Appends b c (take k (take (length xs - n) (drop n xs))) → Appends a c (take (n + k) xs)
+written_more a b c xs n k before now =
+    let rest : take (length xs - n) (drop n xs) ≡ drop n xs = take_rest xs n in
+    subst (Appends a c) (ap (λ ys. take n xs ++ take k ys) rest ∙ sym (take-add n k xs))
+    (Appends-trans a b c (take n xs) (take k (take (length xs - n) (drop n xs))) before now)
+
+-- the front that was written where the rest is refused
+pub written_front : (a b c : Option (List ℕ)) (xs : List ℕ) (n : ℕ) → Appends a b (take n xs) → Keeps b c → AppendsFront a c xs
+written_front a b c xs n before kept = (take n xs, drop n xs, sym (take-append-drop n xs), Appends-kept a b c (take n xs) before kept)
+
+-- a front, where nothing was appended after it
+pub front_stays : (a b c : Option (List ℕ)) (octets : List ℕ) → AppendsFront a b octets → Keeps b c → AppendsFront a c octets
+front_stays a b c octets (front, rest, is, told) kept = (front, rest, is, Appends-kept a b c front told kept)
+
+-- the same of octets that another object tells
+pub told_front_stays : (told : Option (List ℕ)) (a b c : Option (List ℕ)) (octets : List ℕ → List ℕ) → IfSome told (λ x. AppendsFront a b (octets x)) → Keeps b c
+    → IfSome told (λ x. AppendsFront a c (octets x))
+told_front_stays None a b c octets front kept = tt
+told_front_stays (Some x) a b c octets front kept = front_stays a b c (octets x) front kept
+
+-- a front of nothing is a front of anything
+pub front_of_nothing : (a b : Option (List ℕ)) (octets : List ℕ) → AppendsFront a b [] → AppendsFront a b octets
+front_of_nothing a b octets ([], rest, is, told) = ([], octets, refl, told)
+front_of_nothing a b octets (x ∷ front, rest, is, told) = absurd (cc is)

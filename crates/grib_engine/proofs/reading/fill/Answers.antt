@@ -1,0 +1,10 @@
+use Rattle.std.proofs.Common.{◌≡◌, ◌∙◌, rules}
+use Rattle.grib_engine.proofs.Outside.{taken_more}
+use Rattle.grib_engine.proofs.reading.fill.Goals as goal
+
+pub loop-filled-preserved : goal.loop-filled-preserved
+loop-filled-preserved g c = record {
+  told = taken_more _ _ _ c.loop-filled.buffer c.read.new.into c.loop-filled.filled _ c.in_ok-count.count c.loop-filled.invariant.told c.in_ok-count.ensures.octets.0 c.loop-filled.invariant.within c.in_ok-count.ensures.bound.0;
+  calm = c.in_ok-count.ensures.counted ∙ c.loop-filled.invariant.calm;
+  within = search rules;
+}

@@ -1,0 +1,90 @@
+//! The end of a run: its note, and what a lower layer holds back.
+
+ghost use Rattle.std.specs.Prelude.{◌≡◌, ◌≢◌, ◌⊎◌, true, false, OnOk, MatchResult};
+ghost use Rattle.std.specs.Io.KnownBytes.{Appends, Keeps};
+ghost use Rattle.grib_io.specs.Outside.{AppendsFront};
+ghost use Rattle.grib_engine.specs.Counts.{Calm, OneCounted, CountsOne};
+ghost use Rattle.grib_engine.specs.Outcomes.{note_of, is_cut_short, NotesFront};
+ghost use Rattle.grib_engine.specs.declared.outcome.Outcome.TheVariants.{WriteFault, Memory};
+
+use grib_io::{Sink, Stop};
+use grib_text::refusal_note;
+use std::alloc::Global;
+
+use crate::outcome::Outcome;
+use crate::writing::write_whole;
+
+/// Ends a run with this outcome: appends the note to `notes`, then finishes `output`, then `notes`.
+/// After a write fault it does nothing. It answers the outcome, or what befell the end itself.
+pub fn close<T: Sink, N: Sink>(
+    outcome: Outcome,
+    note: &[u8],
+    output: &mut T,
+    notes: &mut N,
+) -> Outcome
+    ensures one_of { (result ≡ outcome) ⊎ ((result ≡ WriteFault) ⊎ (result ≡ Memory)) }
+
+    // After a write fault all is as it was.
+    ensures after_fault { outcome ≡ WriteFault → (result ≡ WriteFault) × (output.new ≡ output.old) × (notes.new ≡ notes.old) }
+    ensures fault { outcome ≢ WriteFault → result ≡ WriteFault
+        → OneCounted (T.faults output.old) (T.faults output.new) (N.faults notes.old) (N.faults notes.new) }
+    ensures calm { result ≢ WriteFault → Calm (T.faults output.old) (T.faults output.new) (N.faults notes.old) (N.faults notes.new) }
+    ensures noted { is_cut_short result ≡ false → Appends (N.contents notes.old) (N.contents notes.new) note.now }
+    ensures noted_front { AppendsFront (N.contents notes.old) (N.contents notes.new) note.now }
+    ensures settled { is_cut_short result ≡ false → (T.settled output.new ≡ true) × (N.settled notes.new ≡ true) }
+    ensures output_kept { Keeps (T.contents output.old) (T.contents output.new) }
+{
+    if matches!(outcome, Outcome::WriteFault) {
+        return outcome;
+    }
+    match settle(note, output, notes) {
+        Ok(()) => outcome,
+        Err(Stop::Failed) => Outcome::WriteFault,
+        Err(Stop::Memory) => Outcome::Memory,
+    }
+}
+
+/// Ends a run with the note of its outcome. Where there is no memory for the note, the outcome is want
+/// of memory.
+pub fn conclude<T: Sink, N: Sink>(
+    alloc: Global,
+    outcome: Outcome,
+    output: &mut T,
+    notes: &mut N,
+) -> Outcome
+    ensures one_of { (result ≡ outcome) ⊎ ((result ≡ WriteFault) ⊎ (result ≡ Memory)) }
+    ensures after_fault { outcome ≡ WriteFault → (result ≡ WriteFault) × (output.new ≡ output.old) × (notes.new ≡ notes.old) }
+    ensures fault { outcome ≢ WriteFault → result ≡ WriteFault
+        → OneCounted (T.faults output.old) (T.faults output.new) (N.faults notes.old) (N.faults notes.new) }
+    ensures calm { result ≢ WriteFault → Calm (T.faults output.old) (T.faults output.new) (N.faults notes.old) (N.faults notes.new) }
+    ensures noted { is_cut_short result ≡ false → Appends (N.contents notes.old) (N.contents notes.new) (note_of result) }
+    ensures noted_front { NotesFront (N.contents notes.old) (N.contents notes.new) outcome }
+    ensures settled { is_cut_short result ≡ false → (T.settled output.new ≡ true) × (N.settled notes.new ≡ true) }
+    ensures output_kept { Keeps (T.contents output.old) (T.contents output.new) }
+{
+    match outcome {
+        Outcome::Refused(refusal) => match refusal_note(alloc, &refusal) {
+            Ok(note) => close(outcome, note.as_slice(), output, notes),
+            Err(_) => close(Outcome::Memory, b"memory\n", output, notes),
+        },
+        Outcome::Done | Outcome::WriteFault => close(outcome, b"", output, notes),
+        Outcome::ReadFault => close(outcome, b"read fault\n", output, notes),
+        Outcome::Memory => close(outcome, b"memory\n", output, notes),
+        Outcome::NotBuilt => close(outcome, b"not built\n", output, notes),
+    }
+}
+
+/// Appends the note, and finishes both sinks.
+fn settle<T: Sink, N: Sink>(note: &[u8], output: &mut T, notes: &mut N) -> Result<(), Stop>
+    ensures noted { OnOk result (Appends (N.contents notes.old) (N.contents notes.new) note.now) }
+    ensures noted_front { AppendsFront (N.contents notes.old) (N.contents notes.new) note.now }
+    ensures settled { OnOk result ((T.settled output.new ≡ true) × (N.settled notes.new ≡ true)) }
+    ensures output_kept { Keeps (T.contents output.old) (T.contents output.new) }
+    ensures counted { MatchResult result
+        (λ _. Calm (T.faults output.old) (T.faults output.new) (N.faults notes.old) (N.faults notes.new))
+        (λ stop. CountsOne stop (T.faults output.old) (T.faults output.new) (N.faults notes.old) (N.faults notes.new)) }
+{
+    write_whole(notes, note)?;
+    output.finish()?;
+    notes.finish()
+}
