@@ -1,3 +1,5 @@
 pub mod Reason
 pub mod Rows
 pub mod Outside
+pub mod Memory
+pub mod Adapters
