@@ -3,3 +3,5 @@ pub mod Rows
 pub mod Outside
 pub mod Memory
 pub mod Adapters
+pub mod Shelves
+pub mod ShelfInMemory

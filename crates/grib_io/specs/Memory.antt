@@ -4,6 +4,8 @@ use Rattle.std.specs.List.{list_any}
 use Rattle.std.specs.declared.result.Result.{Result}
 use Rattle.grib_io.specs.declared.outside.Stop.{Stop}
 use Rattle.grib_io.specs.declared.outside.Stop.TheVariants.{Failed, Memory}
+use Rattle.grib_io.specs.declared.outside.ShelfStop.{ShelfStop}
+use Rattle.grib_io.specs.declared.outside.ShelfStop.TheVariants.{Absent, Failed as ShelfFailed}
 
 -- the numbers of the calls that are to fail, and how many calls were made and how many of them failed
 pub record Calls : Type 0 where
@@ -70,3 +72,11 @@ is_failed Memory = false
 
 abbrev pub FailsWhere : {T : Type 0} → Bool → Result T Stop → Type 0
 FailsWhere fails result = MatchResult result (λ _. fails ≡ false) (λ stop. is_failed stop ≡ fails)
+
+-- The same of a read of a shelf. A name is absent only where the call is not to fail.
+abbrev pub is_shelf_failed : ShelfStop → Bool
+is_shelf_failed ShelfFailed = true
+is_shelf_failed Absent = false
+
+abbrev pub ReadFailsWhere : {T : Type 0} → Bool → Result T ShelfStop → Type 0
+ReadFailsWhere fails result = MatchResult result (λ _. fails ≡ false) (λ stop. is_shelf_failed stop ≡ fails)
