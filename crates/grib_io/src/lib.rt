@@ -1,14 +1,27 @@
 //! The types that all readers of GRIB messages share: refusals, sections, codes and lists.
 #![tactic(auto)]
 
+mod adapters;
+mod calls;
+mod calm;
 mod code;
 mod fault;
+mod feed;
 mod list;
+mod memory_shelf;
+mod memory_sink;
+mod memory_source;
 mod outside;
 mod section;
+mod storage;
 
+pub use adapters::{ReadSource, WriteSink};
+pub use calm::{CalmSink, CalmSource};
 pub use code::Code;
 pub use fault::{Fault, Reason, Refusal, UnpackFault};
 pub use list::List;
-pub use outside::{Failed, ShelfStop, Sink, Source, Stop};
+pub use memory_shelf::MemoryShelf;
+pub use memory_sink::MemorySink;
+pub use memory_source::MemorySource;
+pub use outside::{Failed, Shelf, ShelfStop, Sink, Source, Stop};
 pub use section::Section;

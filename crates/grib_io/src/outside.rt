@@ -1,5 +1,6 @@
-//! The outside: where octets come from and where they go. Code above is proved once for every source
-//! and sink, by what an object has left or holds, where it tells that, and by a count of its faults.
+//! The outside: where octets come from, where they go and where they are kept. Code above is proved once
+//! for every source, sink and shelf, by what an object has left or holds, where it tells that, and by a
+//! count of its faults.
 
 ghost use Rattle.std.specs.Prelude.{◌≡◌, ◌<◌, ℕ, Bool, true, false, List, length, IfOk, MatchResult};
 ghost use Rattle.std.specs.declared.option.Option.{Option};
@@ -7,6 +8,7 @@ ghost use Rattle.std.specs.Io.{ReadsAtMost, WritesAtMost};
 ghost use Rattle.std.specs.Io.KnownBytes.{ReadConsumes, WriteAppends, Keeps};
 ghost use Rattle.grib_io.specs.declared.outside.Stop.TheVariants.{Failed, Memory};
 ghost use Rattle.grib_io.specs.Outside.{CountsFailure, CountsStops, Settles};
+ghost use Rattle.grib_io.specs.Shelves.{Held, OthersStay, Stays, Turns, ReadsAt, Makes, AddsPiece, CountsShelfRead};
 
 use std::alloc::AllocError;
 
@@ -88,5 +90,38 @@ pub trait Sink {
     fn finish(&mut self) -> Result<(), Stop>
         ensures octets { Keeps (contents self.old) (contents self.new) }
         ensures settled { MatchResult result (λ _. settled self.new ≡ true) (λ _. settled self.new ≡ settled self.old) }
+        ensures counted { CountsStops result (faults self.old) (faults self.new) };
+}
+
+/// Where octets are kept under names.
+pub trait Shelf {
+    /// The octets under each name, where the object tells them.
+    ghost contents: { Self → Option Held };
+
+    /// How often it failed. The count never falls.
+    ghost faults: { Self → ℕ };
+
+    /// Copies octets of the name, from `offset` on, to the front of `into`, and answers how many. It
+    /// answers 0 for an `into` that is not empty exactly where the offset is at or past the end. An
+    /// absent name is no fault. It changes no contents.
+    fn read_at(&mut self, name: &str, offset: u64, into: &mut [u8]) -> Result<usize, ShelfStop>
+        ensures bound { ReadsAtMost result into.new }
+        ensures octets { ReadsAt (contents self.old) name.now offset result into.new }
+        ensures kept { Stays (contents self.old) (contents self.new) }
+        ensures counted { CountsShelfRead result (faults self.old) (faults self.new) };
+
+    /// Makes the name present and empty. A call that is refused leaves it so, or as it was. All other
+    /// names stay as they are.
+    fn make(&mut self, name: &str) -> Result<(), Stop>
+        ensures octets { Turns (contents self.old) (contents self.new) name.now (Makes result) }
+        ensures others { OthersStay (contents self.old) (contents self.new) name.now }
+        ensures counted { CountsStops result (faults self.old) (faults self.new) };
+
+    /// Adds the piece at the end of the name, which it makes first where it is absent. A call that is
+    /// refused may have made the name, and may have added some front of the piece. All other names
+    /// stay as they are.
+    fn append(&mut self, name: &str, piece: &[u8]) -> Result<(), Stop>
+        ensures octets { Turns (contents self.old) (contents self.new) name.now (AddsPiece result piece.now) }
+        ensures others { OthersStay (contents self.old) (contents self.new) name.now }
         ensures counted { CountsStops result (faults self.old) (faults self.new) };
 }

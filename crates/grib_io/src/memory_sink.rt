@@ -1,0 +1,100 @@
+//! A sink in memory whose calls fail by their numbers.
+
+ghost use Rattle.std.specs.Prelude.{◌≡◌, ◌≤◌, ◌<◌, Some, min, [], true, IfErr, IfOk, MatchResult, is_err, length};
+ghost use Rattle.std.specs.Io.{WritesAtMost};
+ghost use Rattle.std.specs.Io.KnownBytes.{WriteAppends, Keeps};
+ghost use Rattle.grib_io.specs.Outside.{CountsStops, Settles};
+ghost use Rattle.grib_io.specs.Memory.{next_fails, one_more, FailsWhere};
+
+use crate::calls::Calls;
+use crate::outside::{Sink, Stop};
+use crate::storage::Storage;
+use std::alloc::Global;
+use std::marker::Model;
+
+/// A sink that keeps its octets in memory. A write takes a piece at most, and a call fails exactly
+/// where its number, counted from 1 over all its calls, is among some. The calls after the first
+/// 2^64 - 1 have no number.
+#[derive(Debug, Drop)]
+pub struct MemorySink {
+    storage: Storage,
+    calls: Calls,
+}
+
+impl Model for MemorySink {
+    ghost use Rattle.grib_io.specs.Memory.{FaultyStore};
+
+    ghost Value = { FaultyStore };
+
+    ghost view = { λ sink. record {
+      octets = sink.storage.octets;
+      piece = sink.storage.piece;
+      settled = sink.storage.settled;
+      calls = sink.calls;
+    } };
+}
+
+impl MemorySink {
+    /// A sink without octets, of which a write takes `piece` octets at most, one at least. The calls
+    /// with the numbers `failing` fail.
+    pub fn new(alloc: Global, piece: usize, failing: Vec<u64>) -> MemorySink
+        requires { 1 ≤ piece }
+        ensures octets { result.octets ≡ [] }
+        ensures piece { result.piece ≡ piece }
+        ensures settled { result.settled ≡ true }
+        ensures calls { result.calls ≡ record { failing = failing.items; made = 0; faults = 0 } }
+    {
+        MemorySink {
+            storage: Storage::new(alloc, piece),
+            calls: Calls::new(failing),
+        }
+    }
+
+    /// The octets that were written.
+    pub fn octets(&self) -> &[u8]
+        ensures { result.now ≡ self.now.octets }
+    {
+        self.storage.as_slice()
+    }
+}
+
+impl Sink for MemorySink {
+    ghost contents = { λ sink. Some sink.octets };
+
+    ghost faults = { λ sink. sink.calls.faults };
+
+    ghost settled = { λ sink. sink.settled };
+
+    fn write(&mut self, piece: &[u8]) -> Result<usize, Stop>
+        ensures bound { WritesAtMost result piece.now }
+        ensures some { IfOk result (λ count. 0 < length piece.now → 0 < count) }
+        ensures octets { WriteAppends (Some self.old.octets) (Some self.new.octets) result piece.now }
+        ensures settled { Settles result self.old.settled self.new.settled }
+        ensures counted { CountsStops result self.old.calls.faults self.new.calls.faults }
+        ensures failed { FailsWhere (next_fails self.old.calls) result }
+        ensures count { IfOk result (λ count. count ≡ min self.old.piece (length piece.now)) }
+        ensures piece { self.new.piece ≡ self.old.piece }
+        ensures calls { self.new.calls ≡ one_more self.old.calls }
+    {
+        if self.calls.count() {
+            return Err(Stop::Failed);
+        }
+        self.storage.add(piece).map_err(|_| Stop::Memory)
+    }
+
+    fn finish(&mut self) -> Result<(), Stop>
+        ensures octets { Keeps (Some self.old.octets) (Some self.new.octets) }
+        ensures settled { MatchResult result (λ _. self.new.settled ≡ true) (λ _. self.new.settled ≡ self.old.settled) }
+        ensures counted { CountsStops result self.old.calls.faults self.new.calls.faults }
+        ensures failed { is_err result ≡ next_fails self.old.calls }
+        ensures stop { IfErr result (λ stop. stop ≡ Stop.Failed) }
+        ensures piece { self.new.piece ≡ self.old.piece }
+        ensures calls { self.new.calls ≡ one_more self.old.calls }
+    {
+        if self.calls.count() {
+            return Err(Stop::Failed);
+        }
+        self.storage.settle();
+        Ok(())
+    }
+}
