@@ -1,10 +1,11 @@
 -- Section 0, the indicator section (WMO-No. 306, Volume I.2, FM 92 GRIB): octets 1-4 `GRIB`, octet 8 the
 -- edition. Edition 2: octet 7 the discipline, octets 9-16 the total length. Edition 1: octets 5-7 the
 -- total length.
-use Rattle.std.specs.Prelude.{ℕ, ◌+◌, not, ◌&&◌, ◌||◌, List, [], ◌∷◌, length, nat_lt, ◌==◌}
+use Rattle.std.specs.Prelude.{ℕ, ◌+◌, not, cond, ◌&&◌, ◌||◌, List, [], ◌∷◌, length, nat_lt, ◌==◌}
 use Rattle.grib_bits.specs.Octets.{octets}
 use Rattle.grib_io.specs.declared.fault.Reason.TheVariants.{Truncated, Edition, TotalLength}
 use Rattle.grib_io.specs.Rows.{Row, row}
+use Rattle.grib2_sections.specs.declared.indicator.Head.{Head}
 
 -- the octets `GRIB` and `7777`
 abbrev pub indicator : List ℕ
@@ -39,3 +40,10 @@ head_rows message =
     ∷ row (e == 2 && (nat_lt total 20 || nat_lt 268435456 total)) 9 TotalLength total  -- H4
     ∷ row (e == 1 && nat_lt total_1 12) 5 TotalLength total_1  -- H5
     ∷ []
+
+-- what Section 0 tells of a message of edition 1 or 2; edition 1 has no discipline, and here 0
+abbrev pub head_of : List ℕ → Head
+head_of message =
+    let one : Head = record { edition = 1; discipline = 0; total = total_length_1 message } in
+    let two : Head = record { edition = 2; discipline = discipline message; total = total_length message } in
+    cond (edition message == 1) one two

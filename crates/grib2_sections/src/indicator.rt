@@ -1,0 +1,119 @@
+//! Section 0, the indicator section.
+
+ghost use Rattle.std.specs.Prelude.{◌≡◌, ◌+◌, ◌-◌, ◌^◌, ◌<◌, take, Some, None, MatchResult};
+ghost use Rattle.grib_io.specs.Rows as rows;
+ghost use Rattle.grib_io.specs.Rows.{first_fault};
+ghost use Rattle.grib2_sections.specs.Head.{indicator, head_rows, head_of};
+
+use byteorder::{BigEndian, ByteOrder};
+use grib_io::{Fault, Reason};
+
+/// What Section 0 tells of its message (WMO-No. 306, Volume I.2, FM 92 GRIB).
+#[derive(Clone, Copy, Debug, PartialEq, Eq)]
+pub struct Head {
+    /// The edition of the format, 1 or 2: octet 8.
+    pub edition: u8,
+    /// The discipline (code table 0.0): octet 7. Edition 1 has none, and here 0.
+    pub discipline: u8,
+    /// The length of the message in octets: octets 9-16, in edition 1 octets 5-7.
+    pub total: u64,
+}
+
+/// The longest message of edition 2 that the profile accepts, in octets.
+const LONGEST: u64 = 1 << 28;
+
+/// Reads Section 0 of the message that begins with these octets, which may go on past its end. A
+/// refusal is that of the first row of the profile that fails: the octets end too early, the
+/// edition is neither 1 nor 2, or the total length is no length of a message.
+pub fn read_head(octets: &[u8]) -> Result<Head, Fault>
+    requires { take 4 octets.now ≡ indicator }
+    ensures { MatchResult result
+        (λ head. (first_fault (head_rows octets.now) ≡ None) × (head ≡ head_of octets.now))
+        (λ fault. first_fault (head_rows octets.now) ≡ Some fault) }
+{
+    let present = octets.len() as u64;
+    if present < 8 {
+        return Err(truncated(present));
+    }
+    let edition = octets[7];
+    if edition != 1 && edition != 2 {
+        return Err(refusal(8, Reason::Edition, u64::from(edition)));
+    }
+    if edition == 1 {
+        let total = u64::from(BigEndian::read_u24(&octets[4..]));
+        if total < 12 {
+            return Err(refusal(5, Reason::TotalLength, total));
+        }
+        return Ok(Head {
+            edition,
+            discipline: 0,
+            total,
+        });
+    }
+    if present < 16 {
+        return Err(truncated(present));
+    }
+    let total = BigEndian::read_u64(&octets[8..]);
+    if total < 20 || total > LONGEST {
+        return Err(refusal(9, Reason::TotalLength, total));
+    }
+    Ok(Head {
+        edition,
+        discipline: octets[6],
+        total,
+    })
+}
+
+/// The refusal at this octet, for this reason, with this detail.
+fn refusal(octet: u64, reason: Reason, detail: u64) -> Fault
+    ensures { result ≡ rows.refusal octet reason detail }
+{
+    Fault {
+        octet,
+        reason,
+        detail,
+    }
+}
+
+/// The refusal of a message of which only `present` octets are there.
+fn truncated(present: u64) -> Fault
+    requires { present < 2 ^ 64 - 1 }
+    ensures { result ≡ rows.refusal (present + 1) Reason.Truncated present }
+{
+    refusal(present + 1, Reason::Truncated, present)
+}
+
+#[cfg(test)]
+mod tests {
+    use super::*;
+
+    #[test]
+    fn reads_edition_2(rt: HostRuntime) {
+        let head = Head {
+            edition: 2,
+            discipline: 10,
+            total: 183,
+        };
+        assert_eq!(rt; read_head(b"GRIB\0\0\x0a\x02\0\0\0\0\0\0\0\xb7"), Ok(head));
+    }
+
+    #[test]
+    fn reads_edition_1(rt: HostRuntime) {
+        let head = Head {
+            edition: 1,
+            discipline: 0,
+            total: 344,
+        };
+        assert_eq!(rt; read_head(b"GRIB\0\x01\x58\x01"), Ok(head));
+    }
+
+    #[test]
+    fn refuses_another_edition(rt: HostRuntime) {
+        let fault = Fault {
+            octet: 8,
+            reason: Reason::Edition,
+            detail: 3,
+        };
+        assert_eq!(rt; read_head(b"GRIB\0\0\0\x03"), Err(fault));
+    }
+}
