@@ -3,5 +3,7 @@
 #![tactic(auto)]
 
 mod column;
+mod numbers;
 
 pub use column::{Column, Point};
+pub use numbers::{unpack_numbers, unpack_points};
