@@ -1,4 +1,5 @@
 pub mod Stream
 pub mod Outcomes
 pub mod Plain
+pub mod PlainParts
 pub mod Answer

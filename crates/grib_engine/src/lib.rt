@@ -3,6 +3,7 @@
 
 mod job;
 mod outcome;
+mod plain;
 
 pub use job::Job;
 pub use outcome::Outcome;
