@@ -1,7 +1,7 @@
 -- The plain form: a message of edition 2 of one field without local section, on a grid of template 3.0
 -- without a list of rows, of product 4.0 without coordinate values, in simple packing 5.0, all points
 -- present. So far, other messages are not built.
-use Rattle.std.specs.Prelude.{ℕ, Bool, ◌&&◌, List, [], ◌∷◌, length, map, ◌==◌}
+use Rattle.std.specs.Prelude.{ℕ, Bool, false, ◌&&◌, List, [], ◌∷◌, length, map, ◌==◌}
 use Rattle.std.specs.Str.{bytes_eq}
 use Rattle.grib2_sections.specs.Verdict.{Verdict, Accepted, Refused}
 use Rattle.grib2_sections.specs.Head.{edition}

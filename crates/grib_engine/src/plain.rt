@@ -189,11 +189,11 @@ fn is_plain_bitmap(section: &[u8]) -> bool
 }
 
 // Whether Section 7 has the bits of all values.
-fn has_all_values(representation: &[u8], data: &[u8]) -> bool
+fn has_all_values(representation: &[u8], values: &[u8]) -> bool
     requires { 21 ≤ length representation.now }
-    ensures { IsTrue result ↔ (plain_bits representation.now + 40 ≤ 8 * length data.now) }
+    ensures { IsTrue result ↔ (plain_bits representation.now + 40 ≤ 8 * length values.now) }
 {
     let count = u64::from(BigEndian::read_u32(&representation[5..]));
     let width = u64::from(representation[19]);
-    (count * width + 40).div_ceil(8) <= data.len() as u64
+    (count * width + 40).div_ceil(8) <= values.len() as u64
 }

@@ -1,0 +1,4 @@
+pub mod PlainRows
+pub mod PlainFields
+pub mod PlainForm
+pub mod PlainSections
