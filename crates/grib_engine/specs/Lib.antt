@@ -1,5 +1,6 @@
 pub mod Stream
 pub mod Outcomes
 pub mod Plain
+pub mod PlainParts
 pub mod Answer
 pub mod Counts

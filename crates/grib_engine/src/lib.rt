@@ -4,7 +4,9 @@
 mod answering;
 mod closing;
 mod job;
+pub mod laws;
 mod outcome;
+mod plain;
 mod reading;
 mod serve;
 mod writing;
