@@ -29,13 +29,15 @@ done output = record { output = output; outcome = Done }
 abbrev pub check_lines : List ℕ → List ℕ
 check_lines octets = check_line 1 0 2 (length octets) 1 ++ total_line 1 1 0
 
--- the lines of `dump`, of such an input
-abbrev pub dump_lines : List ℕ → List ℕ
-dump_lines octets =
+-- the first two lines of `dump`, of such an input: on its field, and on the numbers of its column
+abbrev pub dump_heading : List ℕ → List ℕ
+dump_heading octets =
     let column = column_of octets 1 in
-    list_line octets 1 1
-    ++ reference_line (reduced (ieee column.reference)) (signed (bits_of 16 column.e)) (signed (bits_of 16 column.d))
-    ++ point_lines 1 column.points
+    list_line octets 1 1 ++ reference_line (reduced (ieee column.reference)) (signed (bits_of 16 column.e)) (signed (bits_of 16 column.d))
+
+-- and all its lines
+abbrev pub dump_lines : List ℕ → List ℕ
+dump_lines octets = dump_heading octets ++ point_lines 1 (column_of octets 1).points
 
 abbrev pub lines_of : Job → List ℕ → List ℕ
 lines_of Check octets = check_lines octets

@@ -4,3 +4,4 @@ pub mod Plain
 pub mod PlainParts
 pub mod Answer
 pub mod Counts
+pub mod Pending

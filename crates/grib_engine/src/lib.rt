@@ -7,6 +7,8 @@ mod job;
 pub mod laws;
 mod outcome;
 mod plain;
+mod points;
+mod printing;
 mod reading;
 mod serve;
 mod writing;

@@ -1,0 +1,66 @@
+//! The lines of the points of a column, through a buffer.
+
+ghost use Rattle.std.specs.Prelude.{◌≡◌, ◌^◌, ◌<◌, ◌++◌, length, OnOk};
+ghost use Rattle.grib_io.specs.Outside.{AppendsFront, CountsStops};
+ghost use Rattle.grib_text.specs.Lines.{point_line, point_lines};
+ghost use Rattle.grib_engine.specs.Pending.{AppendsAllBut};
+
+use grib_io::{Sink, Stop};
+use grib_simple::Point;
+use grib_text::append_point_line;
+
+use crate::writing::write_whole;
+
+/// From so many octets on a buffer is passed on.
+const FULL: usize = 65_536;
+
+/// Appends the line of each point to the buffer, which is passed on to the sink whenever it is full. What
+/// is left in the buffer is still to be written.
+pub fn write_points<T: Sink>(
+    lines: &mut Vec<u8>,
+    points: &[Point],
+    output: &mut T,
+) -> Result<(), Stop>
+    requires few { length points.now < 2 ^ 32 }
+    ensures whole { OnOk result (AppendsAllBut (T.contents output.old) (T.contents output.new)
+        (lines.old.items ++ point_lines 1 points.now) lines.new.items) }
+    ensures front { AppendsFront (T.contents output.old) (T.contents output.new) (lines.old.items ++ point_lines 1 points.now) }
+    ensures counted { CountsStops result (T.faults output.old) (T.faults output.new) }
+{
+    for (index, point) in points.iter().enumerate() {
+        write_point(lines, index as u32 + 1, point, output)?;
+    }
+    Ok(())
+}
+
+/// Appends the line of a point to the buffer, which is passed on first where it is full.
+#[inline]
+fn write_point<T: Sink>(
+    lines: &mut Vec<u8>,
+    place: u32,
+    point: &Point,
+    output: &mut T,
+) -> Result<(), Stop>
+    ensures whole { OnOk result (AppendsAllBut (T.contents output.old) (T.contents output.new)
+        (lines.old.items ++ point_line place point.now) lines.new.items) }
+    ensures front { AppendsFront (T.contents output.old) (T.contents output.new) (lines.old.items ++ point_line place point.now) }
+    ensures counted { CountsStops result (T.faults output.old) (T.faults output.new) }
+{
+    make_room(lines, output)?;
+    append_point_line(lines, place, point)?;
+    Ok(())
+}
+
+/// Writes a full buffer, and empties it.
+#[inline]
+fn make_room<T: Sink>(lines: &mut Vec<u8>, output: &mut T) -> Result<(), Stop>
+    ensures whole { OnOk result (AppendsAllBut (T.contents output.old) (T.contents output.new) lines.old.items lines.new.items) }
+    ensures front { AppendsFront (T.contents output.old) (T.contents output.new) lines.old.items }
+    ensures counted { CountsStops result (T.faults output.old) (T.faults output.new) }
+{
+    if lines.len() >= FULL {
+        write_whole(output, lines.as_slice())?;
+        lines.clear();
+    }
+    Ok(())
+}
