@@ -3,7 +3,6 @@ use Rattle.std.specs.Prelude.{ℕ, List, Option, option_map, String, Vec}
 use Rattle.std.specs.BTreeMap.{BTreeMap, get_by_text}
 use Rattle.grib_io.specs.Memory.{Calls}
 use Rattle.grib_io.specs.declared.memory_shelf.MemoryShelf.{MemoryShelf}
-use Rattle.grib_io.specs.Shelves.{Held}
 
 -- the octets under each name of a map
 abbrev pub octets_in : {X Y : Type 0} → BTreeMap (String X) (Vec ℕ Y) → List ℕ → Option (List ℕ)

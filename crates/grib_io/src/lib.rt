@@ -12,6 +12,8 @@ mod memory_shelf;
 mod memory_sink;
 mod memory_source;
 mod outside;
+#[cfg(test)]
+mod outside_tests;
 mod section;
 mod storage;
 
