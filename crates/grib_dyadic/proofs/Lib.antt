@@ -7,3 +7,4 @@ pub mod Words
 pub mod Signs
 pub mod IeeeWords
 pub mod IbmWords
+pub mod Halvings

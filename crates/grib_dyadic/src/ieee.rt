@@ -1,7 +1,7 @@
 ghost use Rattle.std.specs.Prelude.{◌≡◌, ℕ, ◌+◌, ◌*◌, ◌/◌, ◌%◌, ◌^◌, ◌<◌, ◌≤◌, ◌⊎◌, ◌↔◌, ◌==◌, pos, ◌+ℤ◌, if◌then◌else◌, IsOk, IsErr, IfOk, IsSome, IfSome, IfNone};
 ghost use Rattle.std.specs.Int.{int_max};
 ghost use Rattle.grib_bits.specs.Binary32.{ieee_exponent};
-ghost use Rattle.grib_dyadic.specs.Reference.{binary, ieee, IsFinite, SameNumber, IsReduced, HasIeee};
+ghost use Rattle.grib_dyadic.specs.Reference.{binary, ieee, IsFinite, SameNumber, IsReduced, reduced, HasIeee};
 
 use crate::dyadic::Dyadic;
 use crate::word::{bit_length, digits_at, signed_word};
@@ -17,6 +17,7 @@ impl Dyadic {
         ensures finite { IsOk result ↔ IsFinite word }
         ensures number { IfOk result (λ d. SameNumber d (ieee word)) }
         ensures reduced { IfOk result (λ d. IsReduced d) }
+        ensures value { IfOk result (λ d. d ≡ reduced (ieee word)) }
     {
         let field = (word >> 23) & 0xff;
         if field == 255 {
