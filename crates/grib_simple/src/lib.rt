@@ -4,6 +4,10 @@
 
 mod column;
 mod numbers;
+mod simple;
+#[cfg(test)]
+mod tests;
 
 pub use column::{Column, Point};
 pub use numbers::{unpack_numbers, unpack_points};
+pub use simple::simple_column;
