@@ -95,9 +95,10 @@ impl<'a> Sections<'a> {
     fn are_plain(&self) -> bool
         ensures { IsTrue result ↔ ArePlain self.now.identification.now self.now.grid.now self.now.product.now self.now.representation.now self.now.bitmap.now self.now.data.now }
     {
-        self.identification.len() >= 21
-            && is_plain_grid(self.grid)
-            && is_plain_product(self.product)
+        if self.identification.len() < 21 || !is_plain_grid(self.grid) {
+            return false;
+        }
+        is_plain_product(self.product)
             && is_plain_representation(self.representation, points_of(self.grid))
             && is_plain_bitmap(self.bitmap)
             && has_all_values(self.representation, self.data)
@@ -140,14 +141,15 @@ fn is_plain_grid(section: &[u8]) -> bool
         return false;
     }
     let points = points_of(section);
+    if points == 0 || points > MOST_POINTS {
+        return false;
+    }
     let columns = u64::from(BigEndian::read_u32(&section[30..]));
     let rows = u64::from(BigEndian::read_u32(&section[34..]));
-    section[5] == 0
-        && section[10] == 0
-        && BigEndian::read_u16(&section[12..]) == 0
-        && 0 < points
-        && points <= MOST_POINTS
-        && columns * rows == u64::from(points)
+    if columns * rows != u64::from(points) {
+        return false;
+    }
+    section[5] == 0 && section[10] == 0 && BigEndian::read_u16(&section[12..]) == 0
 }
 
 // The number of grid points.
@@ -175,9 +177,11 @@ fn is_plain_representation(section: &[u8], points: u32) -> bool
         return false;
     }
     let reference = BigEndian::read_u32(&section[11..]);
+    if (reference >> 23) % 256 == 255 {
+        return false;
+    }
     BigEndian::read_u32(&section[5..]) == points
         && BigEndian::read_u16(&section[9..]) == 0
-        && (reference >> 23) % 256 != 255
         && section[19] <= 48
 }
 
