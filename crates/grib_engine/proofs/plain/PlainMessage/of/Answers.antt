@@ -14,18 +14,18 @@ returns-in_err-sections-clause-exact c = rw c.from_residual.ensures
 pub returns-then-not-are_plain-clause-exact : goal.returns-then-not-are_plain-clause-exact
 returns-then-not-are_plain-clause-exact c =
     let s = c.in_ok-sections.sections in
-    sym (not_plain_with c.args.octets.now s.identification.now s.grid.now s.product.now s.representation.now s.bitmap.now s.data.now
+    sym (not_plain_with c.args.octets.now s.identification.now s.grid.now s.product.now s.representation.now s.bitmap.now s.values.now
     (all_octets c.args.octets.now (λ i. omega (arith, c.type_inv.octets i))) c.requires.indicated c.in_ok-sections.ensures.joined
     (λ a. let e = c.are_plain.ensures.1 a in cc))
 
 pub returns-clause-exact : goal.returns-clause-exact
 returns-clause-exact c =
     let s = c.in_ok-sections.sections in
-    sym (plain_with c.args.octets.now s.identification.now s.grid.now s.product.now s.representation.now s.bitmap.now s.data.now
+    sym (plain_with c.args.octets.now s.identification.now s.grid.now s.product.now s.representation.now s.bitmap.now s.values.now
     c.requires.indicated c.in_ok-sections.ensures.joined (c.are_plain.ensures.0 c.if-not-are_plain.false))
 
 pub returns-clause-parts : goal.returns-clause-parts
 returns-clause-parts c =
     let s = c.in_ok-sections.sections in
-    parts_with c.args.octets.now s.identification.now s.grid.now s.product.now s.representation.now s.bitmap.now s.data.now
+    parts_with c.args.octets.now s.identification.now s.grid.now s.product.now s.representation.now s.bitmap.now s.values.now
     c.requires.indicated c.in_ok-sections.ensures.joined (c.are_plain.ensures.0 c.if-not-are_plain.false)
