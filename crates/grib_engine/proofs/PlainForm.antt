@@ -1,5 +1,5 @@
 -- The octets of the plain form are those that the grammar joins of six sections.
-use Rattle.std.proofs.Common.{◌≡◌, ◌≢◌, ℕ, ◌+◌, ◌<◌, Bool, true, false, ◌&&◌, List, [], ◌∷◌, length, map, take, All, ◌==◌, refl, ap, sym, ◌∙◌, subst, arith, append-nil, eq-eqb, eqb-true, IsTrue}
+use Rattle.std.proofs.Common.{◌≡◌, ℕ, ◌+◌, ◌<◌, true, ◌&&◌, List, [], ◌∷◌, length, map, take, All, ◌==◌, refl, ap, sym, ◌∙◌, subst, arith, append-nil, eq-eqb, eqb-true, IsTrue}
 use Rattle.std.proofs.Math.Seq.{take-length}
 use Rattle.std.specs.Str.{bytes_eq}
 use Rattle.std.proofs.lemmas.Bool.{and_from, and_parts}
@@ -15,7 +15,7 @@ use Rattle.grib2_message.proofs.Placing.{placed_from}
 use Rattle.grib2_message.proofs.Whole.{accepted_in_grammar, grammar_accepted, sections_alone}
 use Rattle.grib_engine.specs.Plain.{is_plain, accepts, section_numbers, has_plain_templates}
 use Rattle.grib_engine.specs.PlainParts.{IsPlainMessage}
-use Rattle.grib_engine.proofs.PlainFields.{InOrder, InForce, all_in_force, in_force_of}
+use Rattle.grib_engine.proofs.PlainFields.{InOrder, all_in_force, in_force_of}
 
 -- where they stand in a message
 pub record Places (octets s1 s3 s4 s5 s6 s7 : List ℕ) : Type 0 where

@@ -1,5 +1,5 @@
 -- When octets are in the plain form, by the sections that stand in them, and what their parts are.
-use Rattle.std.proofs.Common.{◌≡◌, ℕ, ◌<◌, ◌≤◌, Bool, true, false, List, [], ◌∷◌, ◌++◌, take, drop, replicate, All, refl, ap, sym, ◌∙◌, subst, IsTrue}
+use Rattle.std.proofs.Common.{◌≡◌, ℕ, ◌<◌, true, false, List, ◌++◌, take, drop, replicate, All, refl, ap, sym, ◌∙◌}
 use Rattle.std.proofs.lemmas.Bool.{false_from_ne_true}
 use Rattle.grib2_sections.specs.Head.{indicator, end_mark}
 use Rattle.grib2_message.specs.Grid.{grid_points}
@@ -10,7 +10,7 @@ use Rattle.grib_simple.specs.Simple.{simple_entries}
 use Rattle.grib_simple.specs.Column.{column_with}
 use Rattle.grib_complex.specs.Entries.{column_from}
 use Rattle.grib_engine.specs.Plain.{is_plain}
-use Rattle.grib_engine.specs.PlainParts.{IsPlainMessage, IsNumbered, BeginsWith, HasSections, ArePlain, PlainParts}
+use Rattle.grib_engine.specs.PlainParts.{IsNumbered, HasSections, ArePlain, PlainParts}
 use Rattle.grib_engine.proofs.PlainFields.{mask_all, column_of_all}
 use Rattle.grib_engine.proofs.PlainForm.{Places, Parts, places, parts, plain_from, plain_to}
 use Rattle.grib_engine.proofs.PlainSections.{begins_once, message_of, sections_in, plain_in}

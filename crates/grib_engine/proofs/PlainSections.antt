@@ -1,24 +1,22 @@
 -- Sections that stand one after another, by their numbers and their rows, are a message in the plain form.
-use Rattle.std.proofs.Common.{◌≡◌, ℕ, ◌+◌, ◌*◌, ◌-◌, ◌<◌, ◌≤◌, Bool, true, ◌&&◌, None, List, [], ◌∷◌, ◌++◌, length, map, take, drop, get_or, ◌==◌, refl, ap, ap₂, sym, ◌∙◌, subst, arith, append_assoc, append-nil, eq-eqb, eqb-true, IsTrue, length-take-le, take-append-drop, take_at, drop_at}
+use Rattle.std.proofs.Common.{◌≡◌, ℕ, ◌+◌, ◌&&◌, None, List, [], ◌∷◌, ◌++◌, length, map, take, drop, get_or, ◌==◌, refl, ap, ap₂, sym, ◌∙◌, subst, arith, append_assoc, append-nil, eqb-true, IsTrue, length-take-le, take-append-drop, take_at, drop_at}
 use Rattle.std.specs.List.{concat}
-use Rattle.std.proofs.lemmas.Bool.{and_from, and_parts}
+use Rattle.std.proofs.lemmas.Bool.{and_parts}
 use Rattle.std.proofs.lemmas.List.{take-append-le}
 use Rattle.grib_bits.specs.Octets.{num_on}
 use Rattle.grib_io.specs.Rows.{first_fault}
-use Rattle.grib2_sections.specs.Head.{indicator, end_mark, edition, total_length}
-use Rattle.grib2_sections.specs.Frame.{Placed, placed_at, section_length, section_number, may_follow, may_end}
-use Rattle.grib2_sections.specs.Identification.{identification_rows}
-use Rattle.grib2_message.specs.Grid.{grid_points, grid_rows, grid_template, list_octets}
+use Rattle.grib2_sections.specs.Head.{indicator, end_mark}
+use Rattle.grib2_sections.specs.Frame.{Placed, placed_at, section_number, may_follow, may_end}
+use Rattle.grib2_message.specs.Grid.{grid_points, grid_template, list_octets}
 use Rattle.grib2_message.specs.Product.{product_rows, product_template, coordinate_count}
 use Rattle.grib_bitmap.specs.Mask.{bitmap_rows, bitmap_indicator}
 use Rattle.grib_simple.specs.Packing.{value_count, packing_template}
-use Rattle.grib_simple.specs.Simple.{plain_bits}
 use Rattle.grib_complex.specs.Entries.{packing_fault, data_fault}
 use Rattle.grib2_message.specs.View.{last_number, points_in_force, octets_in_force, earlier_mask, section_count}
 use Rattle.grib2_message.specs.Acceptance.{contents_faults, no_rows, section_fault}
-use Rattle.grib2_message.specs.Grammar.{Grammar2, IsSection, AreSections}
+use Rattle.grib2_message.specs.Grammar.{IsSection, AreSections}
 use Rattle.grib_engine.specs.Plain.{has_plain_templates}
-use Rattle.grib_engine.specs.PlainParts.{IsPlainMessage, IsNumbered, BeginsWith, HasHead, HasSections, IsPlainGrid, IsPlainProduct, IsPlainRepresentation, IsPlainBitmap, ArePlain}
+use Rattle.grib_engine.specs.PlainParts.{IsPlainMessage, IsNumbered, BeginsWith, HasSections, ArePlain}
 use Rattle.grib_engine.proofs.PlainRows.{identification_from_rows, rows_from_identification, grid_from_rows, rows_from_grid, product_from_rows, rows_from_product, representation_from_rows, rows_from_representation, bitmap_from_rows, rows_from_bitmap, data_from_rows, rows_from_data}
 
 -- ---- one section at the front

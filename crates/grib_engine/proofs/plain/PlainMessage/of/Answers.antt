@@ -1,4 +1,4 @@
-use Rattle.std.proofs.Common.{◌≡◌, ◌<◌, List, ℕ, All, get_or, sym, ◌∙◌, subst, arith}
+use Rattle.std.proofs.Common.{◌<◌, List, ℕ, All, get_or, sym, subst, arith}
 use Rattle.std.proofs.lemmas.Grind.{get_or_default_zero}
 use Rattle.grib_engine.proofs.PlainMessages.{not_plain_without, not_plain_with, plain_with, parts_with}
 use Rattle.grib_engine.proofs.plain.PlainMessage.of.Goals as goal

@@ -1,4 +1,4 @@
-use Rattle.std.proofs.Common.{◌≡◌, Bool, true, not, List, ℕ, ◌∙◌}
+use Rattle.std.proofs.Common.{◌≡◌, true, not, List, ℕ, ◌∙◌}
 use Rattle.std.specs.Str.{bytes_eq}
 use Rattle.grib2_sections.specs.Head.{end_mark}
 use Rattle.grib_engine.proofs.PlainSections.{left_after}
