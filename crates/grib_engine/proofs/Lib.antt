@@ -6,3 +6,4 @@ pub mod PlainRows
 pub mod PlainFields
 pub mod PlainForm
 pub mod PlainSections
+pub mod PlainMessages

@@ -1,9 +1,7 @@
 -- The only field of six sections: what is in force for it, and its column.
-use Rattle.std.proofs.Common.{◌≡◌, ℕ, zero, suc, ◌+◌, ◌<◌, ◌≤◌, Bool, true, None, List, [], ◌∷◌, length, map, replicate, refl, ap, sym, ◌∙◌, arith}
+use Rattle.std.proofs.Common.{◌≡◌, ℕ, zero, suc, true, List, [], ◌∷◌, length, replicate, refl, ap, ◌∙◌, arith}
 use Rattle.std.proofs.lemmas.List.FromFn.{length-map-range_with_len}
 use Rattle.std.proofs.lemmas.List.{length-map}
-use Rattle.grib_bits.specs.Bits.{bits}
-use Rattle.grib_bits.specs.Plain.{plain}
 use Rattle.grib2_sections.specs.Frame.{Placed, section_number}
 use Rattle.grib2_message.specs.Grid.{grid_points}
 use Rattle.grib_bitmap.specs.Mask.{bitmap_indicator}
@@ -12,7 +10,7 @@ use Rattle.grib_simple.specs.Packing.{packing_template, value_count}
 use Rattle.grib_simple.specs.Simple.{simple_entries}
 use Rattle.grib_simple.specs.Column.{column_with, placed}
 use Rattle.grib_complex.specs.Entries.{column_from, entries_of}
-use Rattle.grib2_message.specs.View.{octets_in_force, mask_in_force, earlier_mask, points_in_force, section_count}
+use Rattle.grib2_message.specs.View.{octets_in_force, mask_in_force}
 use Rattle.grib2_message.specs.Fields.{up_to_field}
 
 -- six sections, numbered 1 and 3 to 7

@@ -1,5 +1,5 @@
 -- The octets of the plain form are those that the grammar joins of six sections.
-use Rattle.std.proofs.Common.{◌≡◌, ◌≢◌, ℕ, ◌+◌, ◌<◌, Bool, true, false, ◌&&◌, List, [], ◌∷◌, length, map, take, All, ◌==◌, refl, ap, sym, ◌∙◌, subst, arith, append-nil, eq-eqb, eqb-true, IsTrue}
+use Rattle.std.proofs.Common.{◌≡◌, ℕ, ◌+◌, ◌<◌, true, ◌&&◌, List, [], ◌∷◌, length, map, take, All, ◌==◌, refl, ap, sym, ◌∙◌, subst, arith, append-nil, eq-eqb, eqb-true, IsTrue}
 use Rattle.std.proofs.Math.Seq.{take-length}
 use Rattle.std.specs.Str.{bytes_eq}
 use Rattle.std.proofs.lemmas.Bool.{and_from, and_parts}
@@ -15,7 +15,7 @@ use Rattle.grib2_message.proofs.Placing.{placed_from}
 use Rattle.grib2_message.proofs.Whole.{accepted_in_grammar, grammar_accepted, sections_alone}
 use Rattle.grib_engine.specs.Plain.{is_plain, accepts, section_numbers, has_plain_templates}
 use Rattle.grib_engine.specs.PlainParts.{IsPlainMessage}
-use Rattle.grib_engine.proofs.PlainFields.{InOrder, InForce, all_in_force, in_force_of}
+use Rattle.grib_engine.proofs.PlainFields.{InOrder, all_in_force, in_force_of}
 
 -- where they stand in a message
 pub record Places (octets s1 s3 s4 s5 s6 s7 : List ℕ) : Type 0 where
@@ -141,36 +141,57 @@ accepts_tells : (v : Verdict) (n : ℕ) → accepts v n ≡ true → v ≡ Accep
 accepts_tells (Accepted total) n e = ap Accepted (eqb-true total n e)
 accepts_tells (Refused fault) n e = cc
 
+-- such sections, by their own names
+six_named : (octets : List ℕ) (sections : List (List ℕ)) (s1 s3 s4 s5 s6 s7 : List ℕ) → sections ≡ s1 ∷ s3 ∷ s4 ∷ s5 ∷ s6 ∷ s7 ∷ []
+    → Grammar2 octets sections → map section_number sections ≡ 1 ∷ 3 ∷ 4 ∷ 5 ∷ 6 ∷ 7 ∷ []
+    → has_plain_templates (part_octets octets 1 3) (part_octets octets 1 4) (part_octets octets 1 5) (part_octets octets 1 6) ≡ true
+    → IsPlainMessage octets s1 s3 s4 s5 s6 s7
+six_named octets sections s1 s3 s4 s5 s6 s7 are g numbers templates =
+    let Numbers : List (List ℕ) → Type 0 = λ xs. map section_number xs ≡ 1 ∷ 3 ∷ 4 ∷ 5 ∷ 6 ∷ 7 ∷ [] in
+    let grammar = subst (Grammar2 octets) are g in
+    let numbered = subst Numbers are numbers in
+    let p = parts octets s1 s3 s4 s5 s6 s7 (places octets s1 s3 s4 s5 s6 s7 grammar numbered) in
+    record { grammar = grammar; numbers = numbered; templates = sym (same_templates octets s1 s3 s4 s5 s6 s7 p) ∙ templates }
+
+-- what the octets are in the plain form
+record IsPlain (octets : List ℕ) : Type 0 where
+  pub second_edition : edition octets ≡ 2
+  pub accepted : verdict_2 octets ≡ Accepted (length octets)
+  pub numbers : section_numbers octets ≡ 1 ∷ 3 ∷ 4 ∷ 5 ∷ 6 ∷ 7 ∷ []
+  pub templates : has_plain_templates (part_octets octets 1 3) (part_octets octets 1 4) (part_octets octets 1 5) (part_octets octets 1 6) ≡ true
+
+is_plain_tells : (octets : List ℕ) → IsTrue (is_plain octets) → IsPlain octets
+is_plain_tells octets e =
+    let order : List ℕ = 1 ∷ 3 ∷ 4 ∷ 5 ∷ 6 ∷ 7 ∷ [] in
+    let n = length octets in
+    let three = and_parts ((edition octets == 2) && accepts (verdict_2 octets) n && bytes_eq (section_numbers octets) order)
+    (has_plain_templates (part_octets octets 1 3) (part_octets octets 1 4) (part_octets octets 1 5) (part_octets octets 1 6)) e in
+    let two = and_parts ((edition octets == 2) && accepts (verdict_2 octets) n) (bytes_eq (section_numbers octets) order) three.0 in
+    let one = and_parts (edition octets == 2) (accepts (verdict_2 octets) n) two.0 in
+    record {
+      second_edition = eqb-true (edition octets) 2 one.0;
+      accepted = accepts_tells (verdict_2 octets) n one.1;
+      numbers = (bytes_eq-Decides (section_numbers octets) order).0 two.1;
+      templates = three.1;
+    }
+
+-- the sections of accepted octets
+record Joined (octets : List ℕ) : Type 0 where
+  pub sections : List (List ℕ)
+  pub grammar : Grammar2 octets sections
+
+joined : (octets : List ℕ) → All (λ octet. octet < 256) octets → take 4 octets ≡ indicator → IsPlain octets → Joined octets
+joined octets small starts p =
+    let found = accepted_in_grammar octets (length octets) small starts (λ one. omega (arith, p.second_edition, one)) p.accepted in
+    let Whole : List ℕ → Type 0 = λ xs. Grammar2 xs found.0 in
+    record { sections = found.0; grammar = subst Whole {y = octets} (take-length octets) found.2 }
+
 -- octets in the plain form are a message of six such sections
 pub plain_to : (octets : List ℕ) → All (λ octet. octet < 256) octets → take 4 octets ≡ indicator → IsTrue (is_plain octets)
     → (s1 s3 s4 s5 s6 s7 : List ℕ) × IsPlainMessage octets s1 s3 s4 s5 s6 s7
 plain_to octets small starts e =
-    let order : List ℕ = 1 ∷ 3 ∷ 4 ∷ 5 ∷ 6 ∷ 7 ∷ [] in
-    let n = length octets in
-    let templates = and_parts ((edition octets == 2) && accepts (verdict_2 octets) n && bytes_eq (section_numbers octets) order)
-    (has_plain_templates (part_octets octets 1 3) (part_octets octets 1 4) (part_octets octets 1 5) (part_octets octets 1 6)) e in
-    let ordered = and_parts ((edition octets == 2) && accepts (verdict_2 octets) n) (bytes_eq (section_numbers octets) order) templates.0 in
-    let both = and_parts (edition octets == 2) (accepts (verdict_2 octets) n) ordered.0 in
-    let second : edition octets ≡ 2 = eqb-true (edition octets) 2 both.0 in
-    let found = accepted_in_grammar octets n small starts (λ one. omega (arith, second, one)) (accepts_tells (verdict_2 octets) n both.1) in
-    let sections = found.0 in
-    let Joined : List ℕ → Type 0 = λ xs. Grammar2 xs sections in
-    let g = subst Joined (take-length octets) found.2 in
-    let numbers = sym (numbers_found octets sections g) ∙ (bytes_eq-Decides (section_numbers octets) order).0 ordered.1 in
-    let list = six sections numbers in
-    let Numbers : List (List ℕ) → Type 0 = λ xs. map section_number xs ≡ order in
-    let grammar = subst (Grammar2 octets) list.6 g in
-    let numbered = subst Numbers list.6 numbers in
-    let p = parts octets list.0 list.1 list.2 list.3 list.4 list.5 (places octets list.0 list.1 list.2 list.3 list.4 list.5 grammar numbered) in (
-      list.0,
-      list.1,
-      list.2,
-      list.3,
-      list.4,
-      list.5,
-      record {
-        grammar = grammar;
-        numbers = numbered;
-        templates = sym (same_templates octets list.0 list.1 list.2 list.3 list.4 list.5 p) ∙ templates.1;
-      },
-    )
+    let p = is_plain_tells octets e in
+    let j = joined octets small starts p in
+    let numbers = sym (numbers_found octets j.sections j.grammar) ∙ p.numbers in
+    let list = six j.sections numbers in
+    (list.0, list.1, list.2, list.3, list.4, list.5, six_named octets j.sections list.0 list.1 list.2 list.3 list.4 list.5 list.6 j.grammar numbers p.templates)

@@ -1,5 +1,5 @@
 -- What the rows of each section say of it in the plain form.
-use Rattle.std.proofs.Common.{◌≡◌, ℕ, zero, suc, ◌+◌, ◌*◌, ◌%◌, ◌/◌, ◌^◌, ◌<◌, ◌≤◌, Bool, true, false, not, ◌&&◌, ◌||◌, cond, Option, Some, None, List, [], ◌∷◌, length, replicate, nat_lt, ◌==◌, refl, ap, sym, ◌∙◌, subst, arith, ltb-false, le-ltb, eq-eqb, ne_eqb, eqb-true, count_by}
+use Rattle.std.proofs.Common.{◌≡◌, ℕ, ◌+◌, ◌*◌, ◌≤◌, Bool, true, false, not, ◌&&◌, ◌||◌, cond, Option, Some, None, List, [], length, replicate, nat_lt, ◌==◌, refl, sym, ◌∙◌, subst, arith, ltb-false, le-ltb, eq-eqb, ne_eqb, eqb-true, count_by}
 use Rattle.std.proofs.lemmas.Bool.{and_left, and_right, or_parts, or_from, not-false, not_from_true, not_from_false, eqb-false}
 use Rattle.std.proofs.lemmas.List.Folds.{sum_by-replicate}
 use Rattle.grib_bits.specs.Binary32.{ieee_exponent}
@@ -7,13 +7,13 @@ use Rattle.grib_io.specs.declared.fault.Fault.{Fault}
 use Rattle.grib_io.specs.Rows.{Row, first_fault, choose, or_then}
 use Rattle.grib2_sections.specs.Identification.{identification_rows}
 use Rattle.grib2_sections.specs.Template.{is_template, least_length}
-use Rattle.grib2_message.specs.Grid.{grid_rows, grid_templates, grid_source, grid_points, grid_template, list_octets, list_meaning, list_start, may_have_list, row_list, ni, nj}
+use Rattle.grib2_message.specs.Grid.{grid_rows, grid_templates, grid_source, grid_points, grid_template, list_octets, list_meaning, may_have_list, ni, nj}
 use Rattle.grib2_message.specs.Product.{product_rows, product_templates, product_template, coordinate_count, product_length}
 use Rattle.grib_bitmap.specs.Mask.{bitmap_rows, bitmap_indicator, present_count, mask_of}
 use Rattle.grib_simple.specs.Packing.{packing_rows, packing_templates, packing_template, value_count, reference_word, bit_width, most_bits}
 use Rattle.grib_simple.specs.Simple.{simple_rows, plain_bits}
 use Rattle.grib_complex.specs.Entries.{packing_fault, data_fault}
-use Rattle.grib2_message.proofs.Passed.{AllPass, passes_from_none, none_from_passes}
+use Rattle.grib2_message.proofs.Passed.{passes_from_none, none_from_passes}
 use Rattle.grib2_message.proofs.Walk.{second_fails}
 use Rattle.grib_engine.specs.PlainParts.{IsPlainGrid, IsPlainProduct, IsPlainRepresentation, IsPlainBitmap}
 

@@ -11,7 +11,7 @@ use Rattle.grib_bitmap.specs.Mask.{bitmap_indicator}
 use Rattle.grib_simple.specs.Packing.{value_count, packing_template, reference_word, bit_width}
 use Rattle.grib_simple.specs.Simple.{plain_bits, simple_entries}
 use Rattle.grib_simple.specs.Column.{column_with}
-use Rattle.grib_engine.specs.Plain.{is_plain, has_plain_templates}
+use Rattle.grib_engine.specs.Plain.{has_plain_templates}
 
 -- the octets are a message in the plain form, with these sections
 pub record IsPlainMessage (octets s1 s3 s4 s5 s6 s7 : List ℕ) : Type 0 where

@@ -11,5 +11,4 @@ pub fn plain_form_is_in_the_grammar()
     ensures joined { (octets : List ℕ) → All (λ octet. octet < 256) octets → take 4 octets ≡ indicator → IsTrue (is_plain octets)
         → (s1 s3 s4 s5 s6 s7 : List ℕ) × IsPlainMessage octets s1 s3 s4 s5 s6 s7 }
     ensures plain { (octets s1 s3 s4 s5 s6 s7 : List ℕ) → IsPlainMessage octets s1 s3 s4 s5 s6 s7 → IsTrue (is_plain octets) }
-{
-}
+{}

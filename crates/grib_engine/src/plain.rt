@@ -7,10 +7,14 @@ ghost use Rattle.grib_simple.specs.Simple.{plain_bits};
 ghost use Rattle.grib_engine.specs.Plain.{is_plain};
 ghost use Rattle.grib_engine.specs.PlainParts.{PlainParts, HasHead, HasSections, BeginsWith, IsPlainGrid, IsPlainProduct, IsPlainRepresentation, IsPlainBitmap, ArePlain};
 
+#[cfg(test)]
+mod tests;
+
 use byteorder::{BigEndian, ByteOrder};
 
 /// The most octets of a message, and the most points of a grid.
 const MOST_OCTETS: usize = 268_435_456;
+
 const MOST_POINTS: u32 = 33_554_432;
 
 /// The sections of a message in the plain form, each whole.
@@ -49,7 +53,7 @@ impl<'a> PlainMessage<'a> {
             grid: sections.grid,
             product: sections.product,
             representation: sections.representation,
-            data: sections.data,
+            data: sections.values,
         })
     }
 }
@@ -62,13 +66,13 @@ struct Sections<'a> {
     product: &'a [u8],
     representation: &'a [u8],
     bitmap: &'a [u8],
-    data: &'a [u8],
+    values: &'a [u8],
 }
 
 impl<'a> Sections<'a> {
     // The sections between Section 0 and the end mark.
     fn of(octets: &'a [u8]) -> Option<Sections<'a>>
-        ensures joined { IfSome result (λ p. HasSections octets.now p.identification.now p.grid.now p.product.now p.representation.now p.bitmap.now p.data.now) }
+        ensures joined { IfSome result (λ p. HasSections octets.now p.identification.now p.grid.now p.product.now p.representation.now p.bitmap.now p.values.now) }
         ensures other { IfNone result ((s1 s3 s4 s5 s6 s7 : List ℕ) → HasSections octets.now s1 s3 s4 s5 s6 s7 → ⊥) }
     {
         let rest = split_head(octets)?;
@@ -77,7 +81,7 @@ impl<'a> Sections<'a> {
         let (product, rest) = split_section(rest, 4)?;
         let (representation, rest) = split_section(rest, 5)?;
         let (bitmap, rest) = split_section(rest, 6)?;
-        let (data, rest) = split_section(rest, 7)?;
+        let (values, rest) = split_section(rest, 7)?;
         if rest != b"7777".as_slice() {
             return None;
         }
@@ -87,20 +91,21 @@ impl<'a> Sections<'a> {
             product,
             representation,
             bitmap,
-            data,
+            values,
         })
     }
 
     // Whether no row refuses them and their templates are 3.0, 4.0 and 5.0, without lists.
     fn are_plain(&self) -> bool
-        ensures { IsTrue result ↔ ArePlain self.now.identification.now self.now.grid.now self.now.product.now self.now.representation.now self.now.bitmap.now self.now.data.now }
+        ensures { IsTrue result ↔ ArePlain self.now.identification.now self.now.grid.now self.now.product.now self.now.representation.now self.now.bitmap.now self.now.values.now }
     {
-        self.identification.len() >= 21
-            && is_plain_grid(self.grid)
-            && is_plain_product(self.product)
+        if self.identification.len() < 21 || !is_plain_grid(self.grid) {
+            return false;
+        }
+        is_plain_product(self.product)
             && is_plain_representation(self.representation, points_of(self.grid))
             && is_plain_bitmap(self.bitmap)
-            && has_all_values(self.representation, self.data)
+            && has_all_values(self.representation, self.values)
     }
 }
 
@@ -140,14 +145,15 @@ fn is_plain_grid(section: &[u8]) -> bool
         return false;
     }
     let points = points_of(section);
+    if points == 0 || points > MOST_POINTS {
+        return false;
+    }
     let columns = u64::from(BigEndian::read_u32(&section[30..]));
     let rows = u64::from(BigEndian::read_u32(&section[34..]));
-    section[5] == 0
-        && section[10] == 0
-        && BigEndian::read_u16(&section[12..]) == 0
-        && 0 < points
-        && points <= MOST_POINTS
-        && columns * rows == u64::from(points)
+    if columns * rows != u64::from(points) {
+        return false;
+    }
+    section[5] == 0 && section[10] == 0 && BigEndian::read_u16(&section[12..]) == 0
 }
 
 // The number of grid points.
@@ -175,9 +181,11 @@ fn is_plain_representation(section: &[u8], points: u32) -> bool
         return false;
     }
     let reference = BigEndian::read_u32(&section[11..]);
+    if (reference >> 23) % 256 == 255 {
+        return false;
+    }
     BigEndian::read_u32(&section[5..]) == points
         && BigEndian::read_u16(&section[9..]) == 0
-        && (reference >> 23) % 256 != 255
         && section[19] <= 48
 }
 

@@ -1,5 +1,4 @@
 use Rattle.grib_engine.proofs.PlainForm.{plain_from, plain_to}
-use Rattle.grib_engine.proofs.PlainRows.{grid_from_rows}
 use Rattle.grib_engine.proofs.laws.plain_form_is_in_the_grammar.Goals as goal
 
 pub returns-clause-joined : goal.returns-clause-joined
