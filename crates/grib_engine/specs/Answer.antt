@@ -6,6 +6,7 @@ use Rattle.grib_io.specs.declared.fault.Fault.{Fault}
 use Rattle.grib_io.specs.Rows.{first_fault, choose}
 use Rattle.grib_dyadic.specs.Reference.{ieee, reduced}
 use Rattle.grib2_sections.specs.Head.{indicator, head_rows}
+use Rattle.grib_simple.specs.declared.column.Column.{Column}
 use Rattle.grib2_message.specs.Fields.{column_of}
 use Rattle.grib_text.specs.Lines.{check_line, total_line, list_line, reference_line, point_lines}
 use Rattle.grib_engine.specs.declared.job.Job.{Job}
@@ -29,15 +30,15 @@ done output = record { output = output; outcome = Done }
 abbrev pub check_lines : List ℕ → List ℕ
 check_lines octets = check_line 1 0 2 (length octets) 1 ++ total_line 1 1 0
 
--- the first two lines of `dump`, of such an input: on its field, and on the numbers of its column
-abbrev pub dump_heading : List ℕ → List ℕ
-dump_heading octets =
-    let column = column_of octets 1 in
-    list_line octets 1 1 ++ reference_line (reduced (ieee column.reference)) (signed (bits_of 16 column.e)) (signed (bits_of 16 column.d))
+-- the line on the numbers of a column
+abbrev pub numbers_line : Column → List ℕ
+numbers_line column = reference_line (reduced (ieee column.reference)) (signed (bits_of 16 column.e)) (signed (bits_of 16 column.d))
 
--- and all its lines
+-- the lines of `dump`, of such an input: on its field, on the numbers of its column, and on its points
 abbrev pub dump_lines : List ℕ → List ℕ
-dump_lines octets = dump_heading octets ++ point_lines 1 (column_of octets 1).points
+dump_lines octets =
+    let column = column_of octets 1 in
+    (list_line octets 1 1 ++ numbers_line column) ++ point_lines 1 column.points
 
 abbrev pub lines_of : Job → List ℕ → List ℕ
 lines_of Check octets = check_lines octets

@@ -31,7 +31,7 @@ pub(crate) struct PlainMessage<'a> {
     /// Section 5, of template 5.0.
     pub representation: &'a [u8],
     /// Section 7.
-    pub data: &'a [u8],
+    pub values: &'a [u8],
 }
 
 impl<'a> PlainMessage<'a> {
@@ -41,7 +41,7 @@ impl<'a> PlainMessage<'a> {
 
         ensures exact { is_some result ≡ is_plain octets.now }
         ensures whole { IfSome result (λ p. p.octets.now ≡ octets.now) }
-        ensures parts { IfSome result (λ p. PlainParts octets.now p.identification.now p.grid.now p.product.now p.representation.now p.data.now) }
+        ensures parts { IfSome result (λ p. PlainParts octets.now p.identification.now p.grid.now p.product.now p.representation.now p.values.now) }
     {
         let sections = Sections::of(octets)?;
         if !sections.are_plain() {
@@ -53,7 +53,7 @@ impl<'a> PlainMessage<'a> {
             grid: sections.grid,
             product: sections.product,
             representation: sections.representation,
-            data: sections.values,
+            values: sections.values,
         })
     }
 }

@@ -1,6 +1,7 @@
 //! The lines of the points of a column, through a buffer.
 
 ghost use Rattle.std.specs.Prelude.{◌≡◌, ◌^◌, ◌<◌, ◌++◌, length, OnOk};
+ghost use Rattle.std.specs.Io.KnownBytes.{Appends};
 ghost use Rattle.grib_io.specs.Outside.{AppendsFront, CountsStops};
 ghost use Rattle.grib_text.specs.Lines.{point_line, point_lines};
 ghost use Rattle.grib_engine.specs.Pending.{AppendsAllBut};
@@ -14,9 +15,25 @@ use crate::writing::write_whole;
 /// From so many octets on a buffer is passed on.
 const FULL: usize = 65_536;
 
+/// Writes these lines, and after them the line of each point. The lines are the buffer that those of the
+/// points go through.
+pub fn write_with_points<T: Sink>(
+    mut lines: Vec<u8>,
+    points: &[Point],
+    output: &mut T,
+) -> Result<(), Stop>
+    requires few { length points.now < 2 ^ 32 }
+    ensures whole { OnOk result (Appends (T.contents output.old) (T.contents output.new) (lines.items ++ point_lines 1 points.now)) }
+    ensures front { AppendsFront (T.contents output.old) (T.contents output.new) (lines.items ++ point_lines 1 points.now) }
+    ensures counted { CountsStops result (T.faults output.old) (T.faults output.new) }
+{
+    append_points(&mut lines, points, output)?;
+    write_whole(output, lines.as_slice())
+}
+
 /// Appends the line of each point to the buffer, which is passed on to the sink whenever it is full. What
 /// is left in the buffer is still to be written.
-pub fn write_points<T: Sink>(
+fn append_points<T: Sink>(
     lines: &mut Vec<u8>,
     points: &[Point],
     output: &mut T,
@@ -28,14 +45,14 @@ pub fn write_points<T: Sink>(
     ensures counted { CountsStops result (T.faults output.old) (T.faults output.new) }
 {
     for (index, point) in points.iter().enumerate() {
-        write_point(lines, index as u32 + 1, point, output)?;
+        append_point(lines, index as u32 + 1, point, output)?;
     }
     Ok(())
 }
 
 /// Appends the line of a point to the buffer, which is passed on first where it is full.
 #[inline]
-fn write_point<T: Sink>(
+fn append_point<T: Sink>(
     lines: &mut Vec<u8>,
     place: u32,
     point: &Point,

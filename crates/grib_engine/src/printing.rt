@@ -1,10 +1,11 @@
 //! The lines of an input that is one message in the plain form.
 
-ghost use Rattle.std.specs.Prelude.{◌≡◌, IfOk, OnOk};
+ghost use Rattle.std.specs.Prelude.{◌≡◌, ◌<◌, ◌≤◌, ◌++◌, length, IfOk, OnOk};
 ghost use Rattle.std.specs.Io.KnownBytes.{Appends};
 ghost use Rattle.grib_io.specs.Outside.{AppendsFront, CountsStops};
-ghost use Rattle.grib2_message.specs.Fields.{column_of};
-ghost use Rattle.grib_engine.specs.Answer.{lines_of, check_lines as lines_of_check, dump_heading as heading_of_dump, dump_lines};
+ghost use Rattle.grib_bits.specs.Binary32.{ieee_exponent};
+ghost use Rattle.grib_text.specs.Lines.{field_line as field_lined};
+ghost use Rattle.grib_engine.specs.Answer.{lines_of, check_lines as lines_of_check, numbers_line as numbers_lined, dump_lines};
 ghost use Rattle.grib_engine.specs.PlainParts.{PlainParts};
 
 use grib_dyadic::Dyadic;
@@ -15,7 +16,7 @@ use std::alloc::{AllocError, Global};
 
 use crate::job::Job;
 use crate::plain::PlainMessage;
-use crate::points::write_points;
+use crate::points::write_with_points;
 use crate::writing::write_whole;
 
 /// The octets of lines that are gathered before they are written, and room for one line more.
@@ -29,7 +30,7 @@ pub fn write_lines<T: Sink>(
     output: &mut T,
 ) -> Result<(), Stop>
     requires parts { PlainParts message.now.octets.now message.now.identification.now message.now.grid.now message.now.product.now
-        message.now.representation.now message.now.data.now }
+        message.now.representation.now message.now.values.now }
     ensures whole { OnOk result (Appends (T.contents output.old) (T.contents output.new) (lines_of job.now message.now.octets.now)) }
     ensures front { AppendsFront (T.contents output.old) (T.contents output.new) (lines_of job.now message.now.octets.now) }
     ensures counted { CountsStops result (T.faults output.old) (T.faults output.new) }
@@ -65,24 +66,12 @@ fn write_dump<T: Sink>(
     output: &mut T,
 ) -> Result<(), Stop>
     requires parts { PlainParts message.now.octets.now message.now.identification.now message.now.grid.now message.now.product.now
-        message.now.representation.now message.now.data.now }
+        message.now.representation.now message.now.values.now }
     ensures whole { OnOk result (Appends (T.contents output.old) (T.contents output.new) (dump_lines message.now.octets.now)) }
     ensures front { AppendsFront (T.contents output.old) (T.contents output.new) (dump_lines message.now.octets.now) }
     ensures counted { CountsStops result (T.faults output.old) (T.faults output.new) }
 {
-    let column = simple_column(alloc, message.representation, message.data)?;
-    let mut lines = dump_heading(alloc, message, &column)?;
-    write_points(&mut lines, column.points.as_slice(), output)?;
-    write_whole(output, lines.as_slice())
-}
-
-/// The line on the field, and the line on the numbers of its column, with room for more.
-fn dump_heading(alloc: Global, message: &PlainMessage<'_>, column: &Column) -> Result<Vec<u8>, AllocError>
-    requires parts { PlainParts message.now.octets.now message.now.identification.now message.now.grid.now message.now.product.now
-        message.now.representation.now message.now.data.now }
-    requires column { column.now ≡ column_of message.now.octets.now 1 }
-    ensures { IfOk result (λ lines. lines.items ≡ heading_of_dump message.now.octets.now) }
-{
+    let column = simple_column(alloc, message.representation, message.values)?;
     let listed = ListedField {
         discipline: message.octets[6],
         identification: message.identification,
@@ -90,9 +79,37 @@ fn dump_heading(alloc: Global, message: &PlainMessage<'_>, column: &Column) -> R
         product: message.product,
         representation: message.representation,
     };
+    let lines = dump_heading(alloc, &listed, &column)?;
+    write_with_points(lines, column.points.as_slice(), output)
+}
+
+/// The line on the field, and the line on the numbers of its column, with room for more.
+fn dump_heading(
+    alloc: Global,
+    listed: &ListedField<'_>,
+    column: &Column,
+) -> Result<Vec<u8>, AllocError>
+    requires identification { 19 ≤ length listed.now.identification.now }
+    requires grid { 14 ≤ length listed.now.grid.now }
+    requires product { 28 ≤ length listed.now.product.now }
+    requires representation { 20 ≤ length listed.now.representation.now }
+    requires finite { ieee_exponent column.now.reference < 255 }
+    ensures { IfOk result (λ lines. lines.items ≡ field_lined 1 1 listed.now.discipline listed.now.identification.now listed.now.grid.now
+        listed.now.product.now listed.now.representation.now ++ numbers_lined column.now) }
+{
+    let field = field_line(alloc, 1, 1, listed)?;
+    let numbers = numbers_line(alloc, column)?;
     let mut lines = Vec::with_capacity(alloc, ROOM)?;
-    lines.extend_from_slice(field_line(alloc, 1, 1, &listed)?.as_slice())?;
-    let reference = Dyadic::from_ieee(column.reference).unwrap();
-    lines.extend_from_slice(reference_line(alloc, &reference, column.e, column.d)?.as_slice())?;
+    lines.extend_from_slice(field.as_slice())?;
+    lines.extend_from_slice(numbers.as_slice())?;
     Ok(lines)
+}
+
+/// The line on the numbers of a column.
+fn numbers_line(alloc: Global, column: &Column) -> Result<Vec<u8>, AllocError>
+    requires finite { ieee_exponent column.now.reference < 255 }
+    ensures { IfOk result (λ line. line.items ≡ numbers_lined column.now) }
+{
+    let reference = Dyadic::from_ieee(column.reference).unwrap();
+    reference_line(alloc, &reference, column.e, column.d)
 }

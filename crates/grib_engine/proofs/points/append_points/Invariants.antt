@@ -1,7 +1,7 @@
 use Rattle.std.proofs.Common.{◌≡◌, ◌≤◌, ◌++◌, length, take}
 use Rattle.grib_text.specs.Lines.{point_lines}
 use Rattle.grib_engine.specs.Pending.{AppendsAllBut}
-use Rattle.grib_engine.proofs.points.write_points.Given as goal
+use Rattle.grib_engine.proofs.points.append_points.Given as goal
 
 -- the lines of the points so far were written but for the buffer, and no fault
 abbrev pub invariant-loop-index : goal.invariant-loop-index

@@ -2,7 +2,7 @@ use Rattle.std.proofs.Common.{◌≡◌, refl, sym}
 use Rattle.grib_text.specs.Lines.{point_line}
 use Rattle.grib_engine.proofs.Outside.{front_more}
 use Rattle.grib_engine.proofs.Pending.{pending_then}
-use Rattle.grib_engine.proofs.points.write_point.Goals as goal
+use Rattle.grib_engine.proofs.points.append_point.Goals as goal
 
 pub returns-in_err-make_room-clause-front : goal.returns-in_err-make_room-clause-front
 returns-in_err-make_room-clause-front g c =
