@@ -39,7 +39,7 @@ Turns (Some before) (Some now) name Change = Change (before name) (now name)
 -- The front of the room has `count` octets from the offset on. None for room that is not empty are given
 -- exactly where the offset is at or past the end.
 abbrev pub Copies : List ℕ → ℕ → ℕ → List ℕ → Type 0
-Copies octets offset count into = (take count into ≡ take count (drop offset octets)) × (0 < length into → count ≡ 0 ↔ length octets ≤ offset)
+Copies octets offset count into = (take count into ≡ take count (drop offset octets)) × (0 < length into → (count ≡ 0 ↔ length octets ≤ offset))
 
 -- a read of what stands under a name
 abbrev pub ReadsName : Option (List ℕ) → ℕ → Result ℕ ShelfStop → List ℕ → Type 0
