@@ -22,11 +22,16 @@ abbrev pub total_line : ℕ → ℕ → ℕ → List ℕ
 total_line messages fields skipped =
     codes "messages " ++ decimal messages ++ codes " fields " ++ decimal fields ++ codes " skipped " ++ decimal skipped ++ 10 ∷ []
 
+-- year, month and day, hour, minute and second
+abbrev pub time_of : ℕ → ℕ → ℕ → ℕ → ℕ → ℕ → List ℕ
+time_of year month day hour minute second =
+    filled 4 year ++ codes "-" ++ filled 2 month ++ codes "-" ++ filled 2 day
+    ++ codes "T" ++ filled 2 hour ++ codes ":" ++ filled 2 minute ++ codes ":" ++ filled 2 second
+
 -- the reference time: octets 13-19 of Section 1
 abbrev pub time_text : List ℕ → List ℕ
 time_text s1 =
-    filled 4 (octets s1 13 14) ++ codes "-" ++ filled 2 (octets s1 15 15) ++ codes "-" ++ filled 2 (octets s1 16 16)
-    ++ codes "T" ++ filled 2 (octets s1 17 17) ++ codes ":" ++ filled 2 (octets s1 18 18) ++ codes ":" ++ filled 2 (octets s1 19 19)
+    time_of (octets s1 13 14) (octets s1 15 15) (octets s1 16 16) (octets s1 17 17) (octets s1 18 18) (octets s1 19 19)
 
 -- the first fixed surface: its type, scale factor and scaled value, octets 23-28 of Section 4
 abbrev pub surface_text : List ℕ → List ℕ
@@ -34,23 +39,40 @@ surface_text s4 =
     number_or_missing 8 (octets s4 23 23) ++ codes ":" ++ signed_or_missing 8 (octets s4 24 24) ++ codes ":" ++ number_or_missing 32 (octets s4 25 28)
 
 -- discipline, parameter category and parameter number
-abbrev pub parameter_text : List ℕ → List ℕ → List ℕ
-parameter_text message s4 =
-    decimal (discipline message) ++ codes "." ++ decimal (octets s4 10 10) ++ codes "." ++ decimal (octets s4 11 11)
+abbrev pub parameter_text : ℕ → List ℕ → List ℕ
+parameter_text discipline s4 =
+    decimal discipline ++ codes "." ++ decimal (octets s4 10 10) ++ codes "." ++ decimal (octets s4 11 11)
+
+-- what Section 1 says: the centre and the reference time
+abbrev pub origin_text : List ℕ → List ℕ
+origin_text s1 = codes "centre=" ++ decimal (octets s1 6 7) ++ codes " time=" ++ time_text s1
+
+-- what Section 3 says: the template and the number of points
+abbrev pub grid_text : List ℕ → List ℕ
+grid_text s3 = codes "grid=3." ++ decimal (grid_template s3) ++ codes " points=" ++ decimal (grid_points s3)
+
+-- what Section 4 says: the template, the parameter, the forecast time with its unit, and the surface
+abbrev pub product_text : ℕ → List ℕ → List ℕ
+product_text discipline s4 =
+    codes "product=4." ++ decimal (product_template s4) ++ codes " param=" ++ parameter_text discipline s4
+    ++ codes " unit=" ++ decimal (octets s4 18 18) ++ codes " ahead=" ++ signed_decimal (signed_octets s4 19 22)
+    ++ codes " surface=" ++ surface_text s4
+
+-- what Section 5 says: the template, the bits of each number and how many values there are
+abbrev pub packing_text : List ℕ → List ℕ
+packing_text s5 =
+    codes "packing=5." ++ decimal (packing_template s5) ++ codes " bits=" ++ decimal (bit_width s5) ++ codes " values=" ++ decimal (value_count s5)
+
+-- of field i of message m, by the discipline and Sections 1, 3, 4 and 5
+abbrev pub field_line : ℕ → ℕ → ℕ → List ℕ → List ℕ → List ℕ → List ℕ → List ℕ
+field_line m i discipline s1 s3 s4 s5 =
+    decimal m ++ codes "." ++ decimal i ++ codes " ed=2 " ++ origin_text s1 ++ codes " " ++ grid_text s3
+    ++ codes " " ++ product_text discipline s4 ++ codes " " ++ packing_text s5 ++ 10 ∷ []
 
 -- of field i of message m
 abbrev pub list_line : List ℕ → ℕ → ℕ → List ℕ
 list_line message m i =
-    let s1 = part_octets message i 1 in
-    let s3 = part_octets message i 3 in
-    let s4 = part_octets message i 4 in
-    let s5 = part_octets message i 5 in
-    decimal m ++ codes "." ++ decimal i ++ codes " ed=2 centre=" ++ decimal (octets s1 6 7) ++ codes " time=" ++ time_text s1
-    ++ codes " grid=3." ++ decimal (grid_template s3) ++ codes " points=" ++ decimal (grid_points s3)
-    ++ codes " product=4." ++ decimal (product_template s4) ++ codes " param=" ++ parameter_text message s4
-    ++ codes " unit=" ++ decimal (octets s4 18 18) ++ codes " ahead=" ++ signed_decimal (signed_octets s4 19 22)
-    ++ codes " surface=" ++ surface_text s4 ++ codes " packing=5." ++ decimal (packing_template s5)
-    ++ codes " bits=" ++ decimal (bit_width s5) ++ codes " values=" ++ decimal (value_count s5) ++ 10 ∷ []
+    field_line m i (discipline message) (part_octets message i 1) (part_octets message i 3) (part_octets message i 4) (part_octets message i 5)
 
 -- a reduced reference value, and the scale factors E and D
 abbrev pub reference_line : Binary → ℤ → ℤ → List ℕ

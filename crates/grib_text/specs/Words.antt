@@ -1,5 +1,5 @@
 -- How numbers are printed.
-use Rattle.std.specs.Prelude.{ℕ, ◌-◌, ◌^◌, cond, List, ◌++◌, length, replicate, codes, ◌==◌}
+use Rattle.std.specs.Prelude.{ℕ, ◌-◌, ◌^◌, cond, Option, Some, None, List, ◌++◌, length, replicate, codes, ℤ, ◌==◌}
 use Rattle.std.specs.Fmt.{decimal, signed_decimal}
 use Rattle.grib_bits.specs.Bits.{bits_of, signed}
 
@@ -17,3 +17,8 @@ number_or_missing width n = or_missing width n (decimal n)
 
 abbrev pub signed_or_missing : ℕ → ℕ → List ℕ
 signed_or_missing width n = or_missing width n (signed_decimal (signed (bits_of width n)))
+
+-- a number that may be missing
+abbrev pub text_or_missing : Option ℤ → List ℕ
+text_or_missing None = codes "missing"
+text_or_missing (Some z) = signed_decimal z

@@ -1,2 +1,18 @@
 //! The lines that the program prints.
 #![tactic(auto)]
+
+mod counts;
+mod fields;
+mod listed;
+mod missing;
+mod notes;
+mod points;
+mod products;
+mod references;
+mod times;
+
+pub use counts::{check_line, total_line};
+pub use listed::{ListedField, field_line};
+pub use notes::refusal_note;
+pub use points::{append_point_line, point_line};
+pub use references::reference_line;

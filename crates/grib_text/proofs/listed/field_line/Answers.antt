@@ -1,0 +1,29 @@
+use Rattle.std.proofs.Common.{◌≡◌, ap, ◌∙◌, List, ℕ, ◌++◌, codes}
+use Rattle.std.specs.Fmt.{decimal, signed_decimal}
+use Rattle.grib_text.specs.Words.{text_or_missing}
+use Rattle.grib_text.specs.Lines.{time_of, origin_text, grid_text, product_text, packing_text}
+use Rattle.grib_text.proofs.Pieces.{field_line-pieces}
+use Rattle.grib_text.proofs.listed.field_line.Goals as goal
+
+pub returns : goal.returns
+returns c =
+    let l = c.args.listed.now in
+    let o = c.read-origin in
+    let g = c.read-grid in
+    let p = c.read-product in
+    let k = c.read-packing in
+    let t = o.result.time in
+    let q = p.result.parameter in
+    let s = p.result.surface in
+    let origin = codes "centre=" ++ decimal o.result.centre ++ codes " time=" ++ time_of t.year t.month t.day t.hour t.minute t.second in
+    let grid = codes "grid=3." ++ decimal g.result.template ++ codes " points=" ++ decimal g.result.points in
+    let parameter = decimal q.discipline ++ codes "." ++ decimal q.category ++ codes "." ++ decimal q.number in
+    let surface = text_or_missing s.kind.0 ++ codes ":" ++ text_or_missing s.scale.0 ++ codes ":" ++ text_or_missing s.value.0 in
+    let product = codes "product=4." ++ decimal p.result.template ++ codes " param=" ++ parameter ++ codes " unit=" ++ decimal p.result.unit ++ codes " ahead=" ++ signed_decimal p.result.ahead ++ codes " surface=" ++ surface in
+    let packing = codes "packing=5." ++ decimal k.result.template ++ codes " bits=" ++ decimal k.result.bits ++ codes " values=" ++ decimal k.result.values in
+    let origin_is : origin ≡ origin_text l.identification.now = rw (o.ensures.centre, o.ensures.time) in
+    let grid_is : grid ≡ grid_text l.grid.now = rw (g.ensures.template, g.ensures.points) in
+    let product_is : product ≡ product_text l.discipline l.product.now = rw (p.ensures.template, p.ensures.parameter, p.ensures.unit, p.ensures.ahead, p.ensures.surface) in
+    let packing_is : packing ≡ packing_text l.representation.now = rw (k.ensures.template, k.ensures.bits, k.ensures.values) in
+    ap (λ v. v.items) c.into_bytes.ensures.value ∙ c.in_ok-line.ensures.ok
+    ∙ field_line-pieces c.args.number c.args.field l.discipline l.identification.now l.grid.now l.product.now l.representation.now origin grid product packing origin_is grid_is product_is packing_is
