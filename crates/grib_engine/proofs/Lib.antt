@@ -7,3 +7,4 @@ pub mod PlainFields
 pub mod PlainForm
 pub mod PlainSections
 pub mod PlainMessages
+pub mod Printed

@@ -89,3 +89,13 @@ line_refused a b c old pending xs i x next within before front =
     ap (point_lines 1) (sym (take-append-drop (i + 1) xs)) ∙ point_lines_join 1 (take (i + 1) xs) (drop (i + 1) xs) in
     subst (AppendsFront a c) (append_assoc old (point_lines 1 (take (i + 1) xs)) rest ∙ ap (λ ys. old ++ ys) (sym all))
     (front_more a c (old ++ point_lines 1 (take (i + 1) xs)) rest front)
+
+-- and then a front of what was pending
+pub pending_ends : (a b c : Option (List ℕ)) (octets pending shown : List ℕ) → AppendsAllBut a b octets pending → shown ≡ pending → AppendsFront b c shown
+    → AppendsFront a c octets
+pending_ends a b c octets pending shown (first, is, told) same (front, rest, is_front, told_front) = (
+  first ++ front,
+  rest,
+  is ∙ (ap (λ xs. first ++ xs) (sym same ∙ is_front) ∙ sym (append_assoc first front rest)),
+  Appends-trans a b c first front told told_front,
+)

@@ -59,7 +59,7 @@ placed-all (suc n) [] e = absurd (omega arith)
 placed-all (suc n) (entry ∷ entries) e = ap (λ xs. entry ∷ xs) (placed-all n entries (omega arith))
 
 -- there is an entry for each value
-length-simple_entries : (s5 s7 : List ℕ) → length (simple_entries s5 s7) ≡ value_count s5
+pub length-simple_entries : (s5 s7 : List ℕ) → length (simple_entries s5 s7) ≡ value_count s5
 length-simple_entries s5 s7 = rw length-map (rw length-map-range_with_len refl)
 
 -- the column of a field in simple packing with all points present

@@ -80,6 +80,7 @@ parts_with octets s1 s3 s4 s5 s6 s7 starts h a =
     let p = places octets s1 s3 s4 s5 s6 s7 m.grammar m.numbers in
     let q = parts octets s1 s3 s4 s5 s6 s7 p in
     record {
+      long = h.head.least;
       is_identification = sym q.first;
       is_grid = sym q.third;
       is_product = sym q.fourth;

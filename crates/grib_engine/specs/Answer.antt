@@ -57,10 +57,11 @@ unless_head_fault None next = next tt
 abbrev pub is_foreign : List ℕ → Bool
 is_foreign input = nat_lt 65536 (length input) || not (starts_with nat_eq input indicator)
 
--- The answer to a job: so far, of an input that is one message in the plain form, or whose first
--- message ends within Section 0 or is of no edition.
+-- the answer to an input that is one message in the plain form, and so far to no other
+abbrev pub plain_answer : Job → List ℕ → Answer
+plain_answer job input = choose (is_plain input) (λ _. done (lines_of job input)) (λ _. silent NotBuilt)
+
+-- The answer to a job, by the input: what is foreign is not built; then the first message may be refused
+-- by Section 0.
 abbrev pub answer : Job → List ℕ → Answer
-answer job input =
-    choose (is_foreign input) (λ _. silent NotBuilt)
-    (λ _. unless_head_fault (head_fault input)
-    (λ _. choose (is_plain input) (λ _. done (lines_of job input)) (λ _. silent NotBuilt)))
+answer job input = choose (is_foreign input) (λ _. silent NotBuilt) (λ _. unless_head_fault (head_fault input) (λ _. plain_answer job input))

@@ -88,6 +88,7 @@ pub record ArePlain (s1 s3 s4 s5 s6 s7 : List ℕ) : Type 0 where
 
 -- these are the parts of the message's only field, and its column is told by two of them
 pub record PlainParts (octets identification grid product representation values : List ℕ) : Type 0 where
+  pub long : 20 ≤ length octets
   pub is_identification : identification ≡ part_octets octets 1 1
   pub is_grid : grid ≡ part_octets octets 1 3
   pub is_product : product ≡ part_octets octets 1 4

@@ -4,6 +4,7 @@ ghost use Rattle.std.specs.Prelude.{◌≡◌, ◌<◌, ◌≤◌, ◌++◌, len
 ghost use Rattle.std.specs.Io.KnownBytes.{Appends};
 ghost use Rattle.grib_io.specs.Outside.{AppendsFront, CountsStops};
 ghost use Rattle.grib_bits.specs.Binary32.{ieee_exponent};
+ghost use Rattle.grib2_sections.specs.Head.{discipline};
 ghost use Rattle.grib_text.specs.Lines.{field_line as field_lined};
 ghost use Rattle.grib_engine.specs.Answer.{lines_of, check_lines as lines_of_check, numbers_line as numbers_lined, dump_lines};
 ghost use Rattle.grib_engine.specs.PlainParts.{PlainParts};
@@ -73,7 +74,7 @@ fn write_dump<T: Sink>(
 {
     let column = simple_column(alloc, message.representation, message.values)?;
     let listed = ListedField {
-        discipline: message.octets[6],
+        discipline: discipline_of(message.octets),
         identification: message.identification,
         grid: message.grid,
         product: message.product,
@@ -112,4 +113,12 @@ fn numbers_line(alloc: Global, column: &Column) -> Result<Vec<u8>, AllocError>
 {
     let reference = Dyadic::from_ieee(column.reference).unwrap();
     reference_line(alloc, &reference, column.e, column.d)
+}
+
+/// The discipline, octet 7 of Section 0.
+fn discipline_of(octets: &[u8]) -> u8
+    requires { 20 ≤ length octets.now }
+    ensures { result ≡ discipline octets.now }
+{
+    octets[6]
 }

@@ -14,7 +14,7 @@ returns-in_err-append_point_line-clause-front g c =
 
 pub returns-clause-whole : goal.returns-clause-whole
 returns-clause-whole g c =
-    pending_then _ _ c.args.lines.now.items c.make_room.new.lines.items (point_line c.args.place c.args.point.now) _ c.in_ok-make_room.ensures.whole c.in_ok-append_point_line.ensures
+    pending_then _ _ c.args.lines.now.items c.make_room.new.lines.items (point_line c.args.place c.args.point.now) _ c.in_ok-make_room.ensures.whole c.in_ok-append_point_line.ensures.appended
 
 pub returns-clause-front : goal.returns-clause-front
 returns-clause-front g c =
