@@ -16,3 +16,4 @@ mod writing;
 pub use closing::close;
 pub use job::Job;
 pub use outcome::Outcome;
+pub use serve::serve;

@@ -1,0 +1,53 @@
+//! The command `grib`: standard input, output and error around the top call.
+#![tactic(auto)]
+
+use grib_io::{MemoryShelf, ReadSource, WriteSink};
+use std::env;
+use std::io;
+use std::process::ExitCode;
+
+mod run;
+mod words;
+
+pub use run::run;
+pub use words::job_of;
+
+/// The status where the words can't be fetched, of want of memory and of any other cause.
+const NO_MEMORY: u8 = 8;
+const NO_WORDS: u8 = 11;
+
+fn main(rt: HostRuntime) -> ExitCode {
+    let words = match fetch_words(&rt) {
+        Ok(words) => words,
+        Err(error) => return ExitCode::from(status_of(&error)),
+    };
+    let mut input = ReadSource::new(rt.stdin());
+    let mut output = WriteSink::new(rt.stdout());
+    let mut notes = WriteSink::new(rt.stderr());
+    let mut shelf = MemoryShelf::new(rt.alloc(), Vec::new(rt.alloc()));
+    let outcome = run(
+        rt.alloc(),
+        words.as_slice(),
+        &mut input,
+        &mut output,
+        &mut notes,
+        &mut shelf,
+    );
+    ExitCode::from(outcome.status())
+}
+
+/// The words after the program's name.
+fn fetch_words(rt: &HostRuntime) -> io::Result<Vec<String>> {
+    let mut words = Vec::new(rt.alloc());
+    for word in env::args(rt)?.skip(1) {
+        words.push(word)?;
+    }
+    Ok(words)
+}
+
+fn status_of(error: &io::Error) -> u8 {
+    match error.kind() {
+        io::ErrorKind::OutOfMemory => NO_MEMORY,
+        _ => NO_WORDS,
+    }
+}
