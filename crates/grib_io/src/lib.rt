@@ -1,4 +1,5 @@
-//! The types that all readers of GRIB messages share: refusals, sections, codes and lists.
+//! The types that all readers of GRIB messages share: refusals, sections, codes and lists. And the
+//! outside: sources, sinks and shelves, in memory and over std's readers and writers.
 #![tactic(auto)]
 
 mod adapters;
