@@ -55,12 +55,6 @@ eights_within octets width k some enough below =
     let before : k * width ≤ eights * 8 * width = mul-le-mul_right width (omega arith) in
     omega arith
 
--- where a number ends
-pub ends_within : (k count width octets : ℕ) → k < count → width * count ≤ 8 * octets → k * width + width ≤ 8 * octets
-ends_within k count width octets below within =
-    let before : (k + 1) * width ≤ count * width = mul-le-mul_right width (omega arith) in
-    omega arith
-
 -- one number more
 plain_more : {T : Type 0} (f : ℕ → T) (xs : List Bool) (width k : ℕ) → map f (plain xs width (k + 1)) ≡ map f (plain xs width k) ++ f (plain_at xs width k) ∷ []
 plain_more f xs width k =

@@ -29,7 +29,8 @@ pub fn unpack_numbers(
     unpack(alloc, octets, bits, count)
 }
 
-/// The same numbers as the scaled numbers of points, with no vector of numbers beside them.
+/// The same numbers as the scaled numbers of points, made in one pass: no vector of numbers stands
+/// beside them.
 ///
 /// # Errors
 ///
@@ -74,6 +75,7 @@ impl Unpacked for Point {
     }
 }
 
+// What is made of the numbers, in one pass.
 fn unpack<T: Unpacked>(
     alloc: Global,
     octets: &[u8],
@@ -102,7 +104,7 @@ fn count_in_words(length: usize, bits: u32, count: u32) -> u32
     if bits == 0 || length < 8 {
         return 0;
     }
-    // As many numbers as octets take a multiple of eight bits.
+    // Eight numbers take as many octets as one has bits.
     let eights = (length as u64 - 8) / u64::from(bits);
     u64::from(count).min(eights.saturating_mul(8)) as u32
 }
@@ -120,7 +122,7 @@ fn number_in_word(octets: &[u8], at: u64, bits: u32) -> u64
     word >> (64 - (at % 8) as u32 - bits) & ((1 << bits) - 1)
 }
 
-// The numbers from the one at `from` on, of which few begin where eight octets are left.
+// Adds what is made of the numbers from the one at `from` on: a few, unless they have no bits.
 fn push_last<T: Unpacked>(
     octets: &[u8],
     bits: u32,

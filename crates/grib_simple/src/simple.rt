@@ -10,8 +10,9 @@ use byteorder::{BigEndian, ByteOrder};
 use grib_io::List;
 use std::alloc::{AllocError, Global};
 
-/// The column of a field that a bitmap leaves whole, from the octets of its Sections 5 and 7 in simple
-/// packing (WMO-No. 306, Volume I.2, FM 92 GRIB edition 2, templates 5.0 and 7.0).
+/// The column of a field in simple packing that has a value at each point, from the octets of its
+/// Section 5, `representation`, and of its Section 7, `data` (WMO-No. 306, Volume I.2, FM 92 GRIB
+/// edition 2, templates 5.0 and 7.0).
 ///
 /// # Errors
 ///

@@ -1,0 +1,35 @@
+//! Unpacks numbers of one width, for a measurement of speed. Prints one checksum.
+//!
+//! The arguments are `numbers` or `points`, the width of a number in bits, how many numbers there are,
+//! and how many times they are unpacked.
+#![tactic(auto)]
+
+use anyhow::{Context, Result, ensure};
+use std::env;
+
+mod runs;
+
+use runs::{filled_octets, number_sum, point_sum};
+
+fn main(rt: HostRuntime) -> Result<()> {
+    let mut arguments = env::args(&rt)?;
+    let _program = arguments.next();
+    let work = arguments.next().context("`numbers` or `points`")?;
+    let bits: u32 = arguments.next().context("a width")?.parse()?;
+    let count: u32 = arguments.next().context("a number of numbers")?.parse()?;
+    let passes: u32 = arguments.next().context("a number of passes")?.parse()?;
+    ensure!(bits <= 48, "a width is at most 48 bits");
+
+    let octets = filled_octets(rt.alloc(), bits, count)?;
+    let mut sum = 0u64;
+    for _pass in 0..passes {
+        let more = if work.as_str() == "points" {
+            point_sum(rt.alloc(), &octets, bits, count)?
+        } else {
+            number_sum(rt.alloc(), &octets, bits, count)?
+        };
+        sum = sum.wrapping_add(more);
+    }
+    println!(rt; "{sum}")?;
+    Ok(())
+}
