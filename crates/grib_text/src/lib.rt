@@ -16,3 +16,6 @@ pub use listed::{ListedField, field_line};
 pub use notes::refusal_note;
 pub use points::{append_point_line, point_line};
 pub use references::reference_line;
+
+#[cfg(test)]
+mod tests;

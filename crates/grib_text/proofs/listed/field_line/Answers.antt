@@ -1,4 +1,4 @@
-use Rattle.std.proofs.Common.{◌≡◌, ap, ◌∙◌, List, ℕ, ◌++◌, codes}
+use Rattle.std.proofs.Common.{◌≡◌, ap, ◌∙◌, ◌++◌, codes}
 use Rattle.std.specs.Fmt.{decimal, signed_decimal}
 use Rattle.grib_text.specs.Words.{text_or_missing}
 use Rattle.grib_text.specs.Lines.{time_of, origin_text, grid_text, product_text, packing_text}

@@ -1,4 +1,4 @@
-use Rattle.std.proofs.Common.{◌≡◌, false, ◌+◌, ◌-◌, ◌∷◌, ◌++◌, drop, ℤ, pos, negsuc, arith, to_z-of_z, ap, sym, ◌∙◌, refl, unsigned_abs, int_le}
+use Rattle.std.proofs.Common.{◌≡◌, false, ◌+◌, ◌-◌, ◌∷◌, ◌++◌, drop, ℤ, pos, negsuc, arith, to_z-of_z, ap, refl, unsigned_abs, int_le}
 use Rattle.std.specs.Fmt.{decimal, signed_decimal}
 use Rattle.std.proofs.lemmas.Int.{ints}
 use Rattle.std.proofs.lemmas.Fmt.{length-decimal-le}

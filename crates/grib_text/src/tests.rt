@@ -1,0 +1,94 @@
+// The expected lines are written by hand.
+use super::*;
+use grib_dyadic::Dyadic;
+use grib_io::{Fault, Reason, Refusal};
+use grib_simple::Point;
+use std::test::Fail;
+
+#[test]
+fn counts_have_lines(rt: HostRuntime) -> Result<(), Fail> {
+    let line = check_line(rt.alloc(), 1, 0, 2, 183, 1)?;
+    assert_eq!(rt;
+        line.as_slice(),
+        b"message 1 at 0 edition 2 octets 183 fields 1\n".as_slice()
+    );
+    let line = total_line(rt.alloc(), 1, 1, 0)?;
+    assert_eq!(rt;
+        line.as_slice(),
+        b"messages 1 fields 1 skipped 0\n".as_slice()
+    );
+    Ok(())
+}
+
+#[test]
+fn field_has_its_line(rt: HostRuntime) -> Result<(), Fail> {
+    let listed = ListedField {
+        discipline: 0,
+        identification: b"\0\0\0\x15\x01\0\x62\0\0\x02\0\x01\x07\xe8\x01\x0f\x0c\0\0\0\x01",
+        grid: b"\0\0\0\x48\x03\0\0\0\0\x04\0\0\0\0",
+        product: b"\0\0\0\x22\x04\0\0\0\0\0\0\x02\xff\x01\0\0\0\x01\0\0\0\x06\x67\0\0\0\0\x02",
+        representation: b"\0\0\0\x15\x05\0\0\0\x04\0\0\xc2\xed\x40\0\x80\x03\0\x01\x08",
+    };
+    let line = field_line(rt.alloc(), 1, 1, &listed)?;
+    assert_eq!(rt;
+        line.as_slice(),
+        b"1.1 ed=2 centre=98 time=2024-01-15T12:00:00 grid=3.0 points=4 product=4.0 param=0.0.0 unit=1 ahead=6 surface=103:0:2 packing=5.0 bits=8 values=4\n".as_slice()
+    );
+    Ok(())
+}
+
+#[test]
+fn missing_surface_and_earlier_time_are_printed(rt: HostRuntime) -> Result<(), Fail> {
+    let listed = ListedField {
+        discipline: 10,
+        identification: b"\0\0\0\x15\x01\xff\xff\0\0\x02\0\x01\x07\xe8\x0c\x1f\x17\x3b\x3c\0\x01",
+        grid: b"\0\0\0\x48\x03\0\0\0\0\x04\0\0\0\x28",
+        product: b"\0\0\0\x22\x04\0\0\0\x08\x02\x03\x02\xff\x01\0\0\0\x0d\x80\0\0\x06\xff\x82\xff\xff\xff\xff",
+        representation: b"\0\0\0\x31\x05\0\0\0\x04\0\x03\xc2\xed\x40\0\x80\x03\0\x01\0",
+    };
+    let line = field_line(rt.alloc(), 12, 3, &listed)?;
+    assert_eq!(rt;
+        line.as_slice(),
+        b"12.3 ed=2 centre=65535 time=2024-12-31T23:59:60 grid=3.40 points=4 product=4.8 param=10.2.3 unit=13 ahead=-6 surface=missing:-2:missing packing=5.3 bits=0 values=4\n".as_slice()
+    );
+    Ok(())
+}
+
+#[test]
+fn reference_has_its_line(rt: HostRuntime) -> Result<(), Fail> {
+    let reference = Dyadic::from_ieee(0xc2ed4000).ok().ok_or("not finite")?;
+    let line = reference_line(rt.alloc(), &reference, 0x8003, 1)?;
+    assert_eq!(rt;
+        line.as_slice(),
+        b"reference -949*2^-3 binary -3 decimal 1\n".as_slice()
+    );
+    Ok(())
+}
+
+#[test]
+fn points_have_lines(rt: HostRuntime) -> Result<(), Fail> {
+    let mut lines = point_line(rt.alloc(), 1, &Point::Scaled(0))?;
+    append_point_line(&mut lines, 4, &Point::Scaled(255))?;
+    append_point_line(&mut lines, 2, &Point::Missing)?;
+    append_point_line(&mut lines, 3, &Point::Missing2)?;
+    append_point_line(&mut lines, 2, &Point::Scaled(-5))?;
+    append_point_line(&mut lines, u32::MAX, &Point::Scaled(i64::MIN))?;
+    let expected = b"1 0\n4 255\n2 missing\n3 missing2\n2 -5\n4294967295 -9223372036854775808\n";
+    assert_eq!(rt; lines.as_slice(), expected.as_slice());
+    Ok(())
+}
+
+#[test]
+fn refusal_has_its_note(rt: HostRuntime) -> Result<(), Fail> {
+    let fault = Fault {
+        octet: 155,
+        reason: Reason::ReferenceNotFinite,
+        detail: 2139095040,
+    };
+    let note = refusal_note(rt.alloc(), &Refusal { message: 1, fault })?;
+    assert_eq!(rt;
+        note.as_slice(),
+        b"refused message 1 octet 155 ReferenceNotFinite 2139095040\n".as_slice()
+    );
+    Ok(())
+}
