@@ -7,14 +7,15 @@ ghost use Rattle.grib_simple.specs.Simple.{plain_bits};
 ghost use Rattle.grib_engine.specs.Plain.{is_plain};
 ghost use Rattle.grib_engine.specs.PlainParts.{PlainParts, HasHead, HasSections, BeginsWith, IsPlainGrid, IsPlainProduct, IsPlainRepresentation, IsPlainBitmap, ArePlain};
 
+use byteorder::{BigEndian, ByteOrder};
+
 #[cfg(test)]
 mod tests;
 
-use byteorder::{BigEndian, ByteOrder};
-
-/// The most octets of a message, and the most points of a grid.
+/// The most octets of a message.
 const MOST_OCTETS: usize = 268_435_456;
 
+/// The most points of a grid.
 const MOST_POINTS: u32 = 33_554_432;
 
 /// The sections of a message in the plain form, each whole.

@@ -1,4 +1,4 @@
-// The message is the first worked message of the manual's octets in docs/PROFILE.md, 2 by 2 points.
+// The message M1 of docs/PROFILE.md, a field of 2 by 2 points.
 use super::PlainMessage;
 use std::test::Fail;
 
