@@ -6,10 +6,10 @@ use std::env;
 use std::io;
 use std::process::ExitCode;
 
-mod run;
+mod running;
 mod words;
 
-pub use run::run;
+pub use running::run;
 pub use words::job_of;
 
 /// The status where the words can't be fetched, of want of memory and of any other cause.

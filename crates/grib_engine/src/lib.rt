@@ -10,10 +10,10 @@ mod plain;
 mod points;
 mod printing;
 mod reading;
-mod serve;
+mod serving;
 mod writing;
 
 pub use closing::close;
 pub use job::Job;
 pub use outcome::Outcome;
-pub use serve::serve;
+pub use serving::serve;

@@ -2,13 +2,16 @@
 use Rattle.std.specs.Prelude.{ℕ, ◌+◌, List, ◌∷◌, ◌++◌, drop}
 use Rattle.grib_io.specs.declared.fault.Reason.TheVariants.{Truncated}
 use Rattle.grib_io.specs.Rows.{refusal}
-use Rattle.grib2_sections.specs.Verdict.{Verdict, Refused}
+use Rattle.grib_io.specs.declared.fault.Fault.{Fault}
+use Rattle.grib2_sections.specs.Verdict.{Verdict, Refused as refused_by}
+use Rattle.grib_engine.specs.declared.outcome.Outcome.TheVariants.{Refused}
+use Rattle.grib_engine.specs.Answer.{Answer, silent}
 use Rattle.grib_worked.specs.Hex.{hex, put}
 use Rattle.grib_worked.specs.Messages.{head, end, identification, grid, product, representation, no_bitmap, values, rotated, marks_only, three_values, grid_3_by_1, differences}
 
 -- what is said of a message that ends after k octets
 abbrev pub truncated_after : ℕ → Verdict
-truncated_after k = Refused (refusal (k + 1) Truncated k)
+truncated_after k = refused_by (refusal (k + 1) Truncated k)
 
 -- M1 with a bitmap that has no bits
 abbrev pub bitmap_without_bits : List ℕ
@@ -78,3 +81,11 @@ abbrev pub second_order : ℕ → List ℕ
 second_order count =
     hex "00000031 05 000000" ++ count ∷ hex "0003 C2ED4000 8003 0001 00 00 01 00 FFFFFFFF FFFFFFFF 00000001"
     ++ hex "00 00 00000001 01 000000" ++ count ∷ hex "06 02 01"
+
+-- the answer where the first message is refused
+abbrev pub refused_first : Fault → Answer
+refused_first fault = silent (Refused (record { message = 1; fault = fault }))
+
+-- and where the input ends after k octets, within Section 0
+abbrev pub cut_answer : ℕ → Answer
+cut_answer k = refused_first (refusal (k + 1) Truncated k)

@@ -3,6 +3,7 @@
 #![tactic(auto)]
 
 pub mod acceptance;
+pub mod answers;
 pub mod columns;
 pub mod grammar;
 pub mod lines;

@@ -3,7 +3,7 @@ use Rattle.std.specs.Io.KnownBytes.{Appends}
 use Rattle.grib_io.specs.Outside.{AppendsFront}
 use Rattle.grib_engine.specs.Outcomes.{is_broken}
 use Rattle.grib_engine.proofs.Fronts.{answered_by_front, taken_front}
-use Rattle.grib_engine.proofs.serve.attempt.Goals as goal
+use Rattle.grib_engine.proofs.serving.attempt.Goals as goal
 
 pub returns-in-Ok-clause-outcome : goal.returns-in-Ok-clause-outcome
 returns-in-Ok-clause-outcome g c =

@@ -1,7 +1,7 @@
 use Rattle.grib_engine.specs.Answer.{answer}
 use Rattle.grib_engine.proofs.Outside.{told_front_stays}
 use Rattle.grib_engine.proofs.Noted.{told_noted_answer}
-use Rattle.grib_engine.proofs.serve.serve.Goals as goal
+use Rattle.grib_engine.proofs.serving.serve.Goals as goal
 
 pub returns-clause-output_front : goal.returns-clause-output_front
 returns-clause-output_front g c =

@@ -1,0 +1,12 @@
+-- The clauses compute, once the digits of numbers do.
+use Rattle.std.proofs.Common.{refl}
+use Rattle.std.specs.Fmt.{digits}
+use Rattle.grib_worked.proofs.answers.answer_to_dump.Goals as goal
+
+pub returns-clause-plain : goal.returns-clause-plain
+unfolding digits
+returns-clause-plain c = refl
+
+pub returns-clause-no_bits : goal.returns-clause-no_bits
+unfolding digits
+returns-clause-no_bits c = refl
