@@ -1,6 +1,5 @@
 -- What the words of a command line ask for, and what is answered to them. Word 0 is the command.
-use Rattle.std.specs.Prelude.{ℕ, Bool, ◌&&◌, cond, Option, Some, None, List, [], ◌∷◌, length, map, get_or, codes, ◌==◌, string_bytes}
-use Rattle.std.specs.declared.string.String.{String}
+use Rattle.std.specs.Prelude.{ℕ, Bool, ◌&&◌, cond, Option, Some, None, List, [], length, get_or, codes, ◌==◌}
 use Rattle.std.specs.Str.{bytes_eq}
 use Rattle.grib_engine.specs.declared.job.Job.{Job}
 use Rattle.grib_engine.specs.declared.job.Job.TheVariants.{Check, Dump}

@@ -2,11 +2,12 @@
 #![tactic(auto)]
 
 use grib_io::{MemoryShelf, ReadSource, WriteSink};
-use std::env;
-use std::io;
 use std::process::ExitCode;
+use std::{env, io};
 
 mod running;
+#[cfg(test)]
+mod tests;
 mod words;
 
 pub use running::run;
@@ -14,6 +15,7 @@ pub use words::job_of;
 
 /// The status where the words can't be fetched, of want of memory and of any other cause.
 const NO_MEMORY: u8 = 8;
+
 const NO_WORDS: u8 = 11;
 
 fn main(rt: HostRuntime) -> ExitCode {

@@ -7,11 +7,10 @@ ghost use Rattle.grib_engine.specs.Outcomes.{note_of, is_broken, is_cut_short, N
 ghost use Rattle.grib_engine.specs.declared.outcome.Outcome.TheVariants.{Done, ReadFault, WriteFault, Memory};
 ghost use Rattle.grib_cli.specs.Words.{job_of as asked, answer_to};
 
+use crate::words::job_of;
 use grib_engine::{Outcome, close, serve};
 use grib_io::{Shelf, Sink, Source};
 use std::alloc::Global;
-
-use crate::words::job_of;
 
 /// Does what the words ask for with the octets of `input`: writes the answer to `output` and notes how
 /// the run ended. The answer is a function of the words and the input alone; it does not depend on how

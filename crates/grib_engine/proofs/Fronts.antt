@@ -1,5 +1,5 @@
 -- The answer to an input is told by its front, up to one octet more than are built so far.
-use Rattle.std.proofs.Common.{◌≡◌, ℕ, ◌+◌, ◌≤◌, ◌<◌, true, ◌||◌, ◌⊎◌, inl, inr, List, [], ◌++◌, None, Some, IfSome, length, drop, nat_lt, not, nat_eq, refl, ap, sym, ◌∙◌, arith, append-nil, length-append, drop_at, subst, lt-ltb}
+use Rattle.std.proofs.Common.{◌≡◌, ℕ, ◌≤◌, ◌<◌, true, ◌⊎◌, inl, inr, List, [], ◌++◌, None, Some, IfSome, length, drop, nat_lt, not, nat_eq, ap, sym, ◌∙◌, arith, append-nil, length-append, drop_at, subst, lt-ltb}
 use Rattle.std.specs.declared.option.Option.{Option}
 use Rattle.std.specs.List.{starts_with}
 use Rattle.std.specs.Io.KnownBytes.{Consumes, IsAtEnd}

@@ -1,7 +1,6 @@
 -- The note of a run, by the outcome before the end and by the answer.
-use Rattle.std.proofs.Common.{◌≡◌, ◌⊎◌, ℕ, false, List, None, Some, IfSome, refl, subst, inl, inr}
+use Rattle.std.proofs.Common.{◌≡◌, ℕ, false, List, None, Some, IfSome, refl, subst, inl, inr}
 use Rattle.std.specs.declared.option.Option.{Option}
-use Rattle.grib_io.specs.Outside.{AppendsFront}
 use Rattle.grib_engine.specs.declared.outcome.Outcome.{Outcome}
 use Rattle.grib_engine.specs.declared.outcome.Outcome.TheVariants.{Done, Refused, ReadFault, WriteFault, Memory, NotBuilt}
 use Rattle.grib_engine.specs.Outcomes.{note_of, is_broken, NotesFront}

@@ -1,5 +1,5 @@
 -- What several writes and reads after one another do to the octets of a sink and of a source.
-use Rattle.std.proofs.Common.{◌≡◌, ℕ, ◌+◌, ◌-◌, ◌≤◌, List, [], ◌++◌, None, Some, IfSome, ◌∷◌, length, take, drop, refl, ap, sym, ◌∙◌, arith, append_assoc, append-nil, length-take-le, take-append-drop, subst}
+use Rattle.std.proofs.Common.{◌≡◌, ℕ, ◌+◌, ◌-◌, ◌≤◌, List, [], ◌++◌, None, Some, IfSome, ◌∷◌, length, take, drop, refl, ap, sym, ◌∙◌, append_assoc, append-nil, length-take-le, take-append-drop, subst}
 use Rattle.std.specs.declared.option.Option.{Option}
 use Rattle.std.specs.Io.KnownBytes.{Appends, Consumes, Keeps}
 use Rattle.std.proofs.KnownBytes.{Appends-trans, Appends-nil, Appends-kept, Consumes-trans}

@@ -1,5 +1,5 @@
 -- The lines of `dump`, by the sections of a plain message and its column.
-use Rattle.std.proofs.Common.{◌≡◌, ℕ, ◌<◌, ◌≤◌, ◌^◌, List, ◌++◌, length, ap, sym, ◌∙◌, arith, subst}
+use Rattle.std.proofs.Common.{◌≡◌, ℕ, ◌<◌, ◌^◌, List, ◌++◌, length, ap, sym, ◌∙◌, arith, subst}
 use Rattle.grib_bits.specs.Binary32.{ieee_exponent}
 use Rattle.grib2_sections.specs.Head.{discipline}
 use Rattle.grib_simple.specs.declared.column.Column.{Column}

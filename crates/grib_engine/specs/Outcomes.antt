@@ -1,6 +1,5 @@
 -- The outcomes of a run: their exit status and their note.
 use Rattle.std.specs.Prelude.{ℕ, ◌⊎◌, Bool, true, false, List, [], codes}
-use Rattle.grib_io.specs.declared.fault.Refusal.{Refusal}
 use Rattle.std.specs.declared.option.Option.{Option}
 use Rattle.grib_io.specs.Outside.{AppendsFront}
 use Rattle.grib_text.specs.Notes.{refusal_note}

@@ -8,23 +8,17 @@ ghost use Rattle.grib_engine.specs.Answer.{answer, is_foreign, head_fault, plain
 ghost use Rattle.grib_engine.specs.Outcomes.{is_broken};
 ghost use Rattle.grib_engine.specs.declared.outcome.Outcome.TheVariants.{ReadFault, WriteFault};
 
-use grib_io::{Fault, Reason, Refusal, Sink, Stop};
-use grib2_sections::read_head;
-use std::alloc::Global;
-
 use crate::job::Job;
 use crate::outcome::Outcome;
 use crate::plain::PlainMessage;
 use crate::printing::write_lines;
 use crate::reading::MOST;
+use grib_io::{Fault, Reason, Refusal, Sink, Stop};
+use grib2_sections::read_head;
+use std::alloc::Global;
 
 /// Answers the octets of an input, of which there are one too many at most.
-pub fn answer_octets<T: Sink>(
-    alloc: Global,
-    job: &Job,
-    octets: &[u8],
-    output: &mut T,
-) -> Outcome
+pub fn answer_octets<T: Sink>(alloc: Global, job: &Job, octets: &[u8], output: &mut T) -> Outcome
     ensures outcome { is_broken result ≡ false → result ≡ (answer job.now octets.now).outcome }
     ensures whole { is_broken result ≡ false → Appends (T.contents output.old) (T.contents output.new) (answer job.now octets.now).output }
     ensures front { AppendsFront (T.contents output.old) (T.contents output.new) (answer job.now octets.now).output }
@@ -64,12 +58,7 @@ fn refusal_of_head(octets: &[u8]) -> Option<Fault>
 }
 
 /// Answers an input that Section 0 does not refuse.
-fn answer_message<T: Sink>(
-    alloc: Global,
-    job: &Job,
-    octets: &[u8],
-    output: &mut T,
-) -> Outcome
+fn answer_message<T: Sink>(alloc: Global, job: &Job, octets: &[u8], output: &mut T) -> Outcome
     requires { take 4 octets.now ≡ indicator }
     ensures outcome { is_broken result ≡ false → result ≡ (plain_answer job.now octets.now).outcome }
     ensures whole { is_broken result ≡ false → Appends (T.contents output.old) (T.contents output.new) (plain_answer job.now octets.now).output }

@@ -7,12 +7,11 @@ ghost use Rattle.grib_engine.specs.Counts.{Calm, OneCounted, CountsOne};
 ghost use Rattle.grib_engine.specs.Outcomes.{note_of, is_cut_short, NotesFront};
 ghost use Rattle.grib_engine.specs.declared.outcome.Outcome.TheVariants.{WriteFault, Memory};
 
+use crate::outcome::Outcome;
+use crate::writing::write_whole;
 use grib_io::{Sink, Stop};
 use grib_text::refusal_note;
 use std::alloc::Global;
-
-use crate::outcome::Outcome;
-use crate::writing::write_whole;
 
 /// Ends a run with this outcome: appends the note to `notes`, then finishes `output`, then `notes`.
 /// After a write fault it does nothing. It answers the outcome, or what befell the end itself.

@@ -6,11 +6,10 @@ ghost use Rattle.grib_io.specs.Outside.{AppendsFront, CountsStops};
 ghost use Rattle.grib_text.specs.Lines.{point_line, point_lines};
 ghost use Rattle.grib_engine.specs.Pending.{AppendsAllBut};
 
+use crate::writing::write_whole;
 use grib_io::{Sink, Stop};
 use grib_simple::Point;
 use grib_text::append_point_line;
-
-use crate::writing::write_whole;
 
 /// From so many octets on a buffer is passed on.
 const FULL: usize = 65_536;
@@ -33,11 +32,7 @@ pub fn write_with_points<T: Sink>(
 
 /// Appends the line of each point to the buffer, which is passed on to the sink whenever it is full. What
 /// is left in the buffer is still to be written.
-fn append_points<T: Sink>(
-    lines: &mut Vec<u8>,
-    points: &[Point],
-    output: &mut T,
-) -> Result<(), Stop>
+fn append_points<T: Sink>(lines: &mut Vec<u8>, points: &[Point], output: &mut T) -> Result<(), Stop>
     requires few { length points.now < 2 ^ 32 }
     ensures whole { OnOk result (AppendsAllBut (T.contents output.old) (T.contents output.new)
         (lines.old.items ++ point_lines 1 points.now) lines.new.items) }

@@ -9,16 +9,15 @@ ghost use Rattle.grib_text.specs.Lines.{field_line as field_lined};
 ghost use Rattle.grib_engine.specs.Answer.{lines_of, check_lines as lines_of_check, numbers_line as numbers_lined, dump_lines};
 ghost use Rattle.grib_engine.specs.PlainParts.{PlainParts};
 
+use crate::job::Job;
+use crate::plain::PlainMessage;
+use crate::points::write_with_points;
+use crate::writing::write_whole;
 use grib_dyadic::Dyadic;
 use grib_io::{Sink, Stop};
 use grib_simple::{Column, simple_column};
 use grib_text::{ListedField, check_line, field_line, reference_line, total_line};
 use std::alloc::{AllocError, Global};
-
-use crate::job::Job;
-use crate::plain::PlainMessage;
-use crate::points::write_with_points;
-use crate::writing::write_whole;
 
 /// The octets of lines that are gathered before they are written, and room for one line more.
 const ROOM: usize = 65_536 + 128;

@@ -7,18 +7,17 @@ ghost use Rattle.grib_engine.specs.Answer.{answer};
 ghost use Rattle.grib_engine.specs.Outcomes.{note_of, is_broken, is_cut_short, NotesFront};
 ghost use Rattle.grib_engine.specs.declared.outcome.Outcome.TheVariants.{Done, ReadFault, WriteFault, Memory};
 
-use grib_io::{Sink, Source, Stop};
-use std::alloc::Global;
-
 use crate::answering::answer_octets;
 use crate::closing::conclude;
 use crate::job::Job;
 use crate::outcome::Outcome;
 use crate::reading::read_front;
+use grib_io::{Shelf, Sink, Source, Stop};
+use std::alloc::Global;
 
 /// Takes the octets of the input, writes the answer to the job to `output`, and notes how the run ended.
 /// The answer is a function of the input alone. So far the shelf is not used.
-pub fn serve<S: Source, T: Sink, N: Sink, H>(
+pub fn serve<S: Source, T: Sink, N: Sink, H: Shelf>(
     alloc: Global,
     job: &Job,
     input: &mut S,

@@ -17,11 +17,11 @@ ghost use Rattle.grib_worked.specs.Variations.{cut_answer, refused_first, no_bit
 pub fn plain_forms()
     ensures m1 { is_plain m1 ≡ true }
     ensures no_bits { is_plain no_bits ≡ true }
+    ensures w { is_plain w ≡ true }
     ensures m2 { is_plain m2 ≡ false }
     ensures m3 { is_plain m3 ≡ false }
     ensures c1 { is_plain c1 ≡ false }
     ensures t1 { is_plain t1 ≡ false }
-    ensures w { is_plain w ≡ false }
     ensures twice { is_plain (m1 ++ m1) ≡ false }
     ensures cut { is_plain (take 182 m1) ≡ false }
     ensures earlier_bitmap { is_plain (put m1 170 (hex "FE")) ≡ false }
@@ -30,7 +30,7 @@ pub fn plain_forms()
 
 /// `check` of the plain message.
 pub fn answer_to_check()
-    ensures plain { answer Check m1 ≡ done (codes "message 1 at 0 edition 2 octets 183 fields 1\nmessages 1 fields 1 skipped 0\n") }
+    ensures { answer Check m1 ≡ done (codes "message 1 at 0 edition 2 octets 183 fields 1\nmessages 1 fields 1 skipped 0\n") }
 {}
 
 /// `dump` of the plain message, and of it with numbers of 0 bits.

@@ -25,7 +25,7 @@ fn sections_are_found(rt: HostRuntime) -> Result<(), Fail> {
     assert_eq!(rt; message.grid, &PLAIN[37..109]);
     assert_eq!(rt; message.product, &PLAIN[109..143]);
     assert_eq!(rt; message.representation, &PLAIN[143..164]);
-    assert_eq!(rt; message.data, &PLAIN[170..179]);
+    assert_eq!(rt; message.values, &PLAIN[170..179]);
     Ok(())
 }
 

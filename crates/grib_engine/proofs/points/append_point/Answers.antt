@@ -1,4 +1,3 @@
-use Rattle.std.proofs.Common.{◌≡◌, refl, sym}
 use Rattle.grib_text.specs.Lines.{point_line}
 use Rattle.grib_engine.proofs.Outside.{front_more}
 use Rattle.grib_engine.proofs.Pending.{pending_then}

@@ -1,4 +1,4 @@
-use Rattle.std.proofs.Common.{◌≡◌, ◌≤◌, ◌++◌, length, take}
+use Rattle.std.proofs.Common.{◌≡◌, ◌++◌, take}
 use Rattle.grib_text.specs.Lines.{point_lines}
 use Rattle.grib_engine.specs.Pending.{AppendsAllBut}
 use Rattle.grib_engine.proofs.points.append_points.Given as goal

@@ -1,4 +1,4 @@
-use Rattle.std.proofs.Common.{◌≡◌, ◌∙◌, rules}
+use Rattle.std.proofs.Common.{◌∙◌, rules}
 use Rattle.grib_engine.proofs.Outside.{taken_more}
 use Rattle.grib_engine.proofs.reading.fill.Goals as goal
 

@@ -1,4 +1,4 @@
-use Rattle.std.proofs.Common.{◌≡◌, false, IfSome}
+use Rattle.std.proofs.Common.{◌≡◌, false}
 use Rattle.std.specs.Io.KnownBytes.{Appends}
 use Rattle.grib_io.specs.Outside.{AppendsFront}
 use Rattle.grib_engine.specs.Outcomes.{is_broken}

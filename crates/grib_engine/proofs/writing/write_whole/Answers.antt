@@ -1,4 +1,4 @@
-use Rattle.std.proofs.Common.{◌≡◌, ◌∙◌, rules}
+use Rattle.std.proofs.Common.{◌∙◌, rules}
 use Rattle.grib_engine.proofs.Outside.{written_more, written_front}
 use Rattle.grib_engine.proofs.writing.write_whole.Goals as goal
 

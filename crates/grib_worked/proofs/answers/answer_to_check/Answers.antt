@@ -3,6 +3,6 @@ use Rattle.std.proofs.Common.{refl}
 use Rattle.std.specs.Fmt.{digits}
 use Rattle.grib_worked.proofs.answers.answer_to_check.Goals as goal
 
-pub returns-clause-plain : goal.returns-clause-plain
+pub returns : goal.returns
 unfolding digits
-returns-clause-plain c = refl
+returns c = refl
