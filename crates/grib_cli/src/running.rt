@@ -1,10 +1,10 @@
 //! The top call: from the words and the input to the output, the notes and the outcome.
 
-ghost use Rattle.std.specs.Prelude.{◌≡◌, ◌≢◌, ◌≤◌, ◌<◌, ◌⊎◌, true, false, drop, map, string_bytes, IfSome, IsNone};
+ghost use Rattle.std.specs.Prelude.{◌≡◌, ◌≢◌, ◌≤◌, ◌<◌, ◌⊎◌, true, false, drop, map, string_bytes, IfSome, Some, None};
 ghost use Rattle.std.specs.Io.KnownBytes.{Appends, Keeps, IsAtEnd};
 ghost use Rattle.grib_io.specs.Outside.{AppendsFront, Rose};
 ghost use Rattle.grib_engine.specs.Outcomes.{note_of, is_broken, is_cut_short, NotesFront};
-ghost use Rattle.grib_engine.specs.declared.outcome.Outcome.TheVariants.{Done, ReadFault, WriteFault, Memory};
+ghost use Rattle.grib_engine.specs.declared.outcome.Outcome.TheVariants.{Done, ReadFault, WriteFault, Memory, NotBuilt};
 ghost use Rattle.grib_cli.specs.Words.{job_of as asked, answer_to};
 
 use crate::words::job_of;
@@ -31,12 +31,16 @@ pub fn run<S: Source, T: Sink, N: Sink, H: Shelf>(
     ensures noted { is_cut_short result ≡ false → Appends (N.contents notes.old) (N.contents notes.new) (note_of result) }
     ensures settled { is_cut_short result ≡ false → (T.settled output.new ≡ true) × (N.settled notes.new ≡ true) }
 
-    // How much of the input was taken: all of it, or one octet more than are built. Where the words ask
-    // for nothing, none.
+    // How much of the input was taken: all of it, or 65,537 octets.
     ensures end { result ≡ Done → IsAtEnd (S.left input.new) }
     ensures taken { asked (map string_bytes words.now) ≢ None
-        → IfSome (S.left input.old) (λ octets. is_broken result ≡ false → IfSome (S.left input.new) (λ rest. rest ≡ drop 65537 octets)) }
+        → IfSome (S.left input.old) (λ octets. is_broken result ≡ false → S.left input.new ≡ Some (drop 65537 octets)) }
+
+    // Words that ask for nothing that is built, whatever the input tells: nothing is taken or written.
     ensures untaken { asked (map string_bytes words.now) ≡ None → input.new ≡ input.old }
+    ensures unasked { asked (map string_bytes words.now) ≡ None → (result ≡ NotBuilt) ⊎ ((result ≡ WriteFault) ⊎ (result ≡ Memory)) }
+    ensures unasked_output { asked (map string_bytes words.now) ≡ None → Keeps (T.contents output.old) (T.contents output.new) }
+    ensures unasked_notes { asked (map string_bytes words.now) ≡ None → AppendsFront (N.contents notes.old) (N.contents notes.new) (note_of NotBuilt) }
 
     // What was written in any case.
     ensures output_front { IfSome (S.left input.old)

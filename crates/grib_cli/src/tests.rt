@@ -31,6 +31,11 @@ const DUMPED: &str = "1.1 ed=2 centre=98 time=2024-01-15T12:00:00 grid=3.0 point
                       param=0.0.0 unit=1 ahead=6 surface=103:0:2 packing=5.0 bits=8 values=4\n\
                       reference -949*2^-3 binary -3 decimal 1\n1 0\n2 1\n3 2\n4 255\n";
 
+const DUMPED_WITHOUT_BITS: &str = "1.1 ed=2 centre=98 time=2024-01-15T12:00:00 grid=3.0 points=4 \
+                                   product=4.0 param=0.0.0 unit=1 ahead=6 surface=103:0:2 packing=5.0 \
+                                   bits=0 values=4\nreference -949*2^-3 binary -3 decimal 1\n1 0\n2 \
+                                   0\n3 0\n4 0\n";
+
 // The calls of the input, of the output and of the notes that fail, from 1; 0 is none.
 #[derive(Clone, Copy)]
 struct Failing {
@@ -163,35 +168,55 @@ fn each_call_of_the_notes_may_fail(rt: HostRuntime) -> Result<(), Fail> {
 }
 
 #[test]
-fn section_0_may_refuse(rt: HostRuntime) -> Result<(), Fail> {
+fn numbers_of_no_bits_are_printed(rt: HostRuntime) -> Result<(), Fail> {
+    // M1 with octet 163 = 00 and a Section 7 of 5 octets, so of 179 octets.
+    let mut octets = PLAIN[..175].to_vec(rt.alloc())?;
+    octets.extend_from_slice(&PLAIN[179..])?;
+    octets[15] = 179;
+    octets[162] = 0;
+    octets[173] = 5;
+    for piece in [1, 7, 179] {
+        let dumped = run_over(rt.alloc(), "dump", octets.as_slice(), piece, CALM)?;
+        assert!(rt; dumped.is(Outcome::Done, DUMPED_WITHOUT_BITS, ""));
+    }
+    Ok(())
+}
+
+#[test]
+fn octets_that_are_not_there_refuse(rt: HostRuntime) -> Result<(), Fail> {
+    for present in 4..16 {
+        let octet = present as u64 + 1;
+        let note = format!(in rt.alloc(); "refused message 1 octet {octet} Truncated {present}\n")?;
+        for piece in [1, 7, 183] {
+            let cut = run_over(rt.alloc(), "check", &PLAIN[..present], piece, CALM)?;
+            let outcome = refused(octet, Reason::Truncated, present as u64);
+            assert!(rt; cut.is(outcome, "", note.as_str()));
+        }
+    }
+    Ok(())
+}
+
+#[test]
+fn another_edition_refuses(rt: HostRuntime) -> Result<(), Fail> {
     let mut octets = PLAIN;
     octets[7] = 3;
-    let refusal = run_over(rt.alloc(), "check", &octets, 7, CALM)?;
-    assert!(rt;
-        refusal.is(
-            refused(8, Reason::Edition, 3),
-            "",
-            "refused message 1 octet 8 Edition 3\n"
-        )
-    );
-    for present in 4..16 {
-        let cut = run_over(rt.alloc(), "dump", &PLAIN[..present], 7, CALM)?;
-        let present = present as u64;
-        assert_eq!(rt;
-            cut.outcome,
-            refused(present + 1, Reason::Truncated, present)
-        );
+    for piece in [1, 7, 183] {
+        let other = run_over(rt.alloc(), "check", &octets, piece, CALM)?;
+        let outcome = refused(8, Reason::Edition, 3);
+        assert!(rt; other.is(outcome, "", "refused message 1 octet 8 Edition 3\n"));
     }
     Ok(())
 }
 
 #[test]
 fn other_words_and_inputs_are_not_built(rt: HostRuntime) -> Result<(), Fail> {
-    let listed = run_over(rt.alloc(), "list", &PLAIN, 7, CALM)?;
-    assert!(rt; listed.is(Outcome::NotBuilt, "", "not built\n"));
     let mut twice = PLAIN.to_vec(rt.alloc())?;
     twice.extend_from_slice(&PLAIN)?;
-    let checked = run_over(rt.alloc(), "check", twice.as_slice(), 7, CALM)?;
-    assert!(rt; checked.is(Outcome::NotBuilt, "", "not built\n"));
+    for piece in [1, 7, 366] {
+        let listed = run_over(rt.alloc(), "list", &PLAIN, piece, CALM)?;
+        assert!(rt; listed.is(Outcome::NotBuilt, "", "not built\n"));
+        let checked = run_over(rt.alloc(), "check", twice.as_slice(), piece, CALM)?;
+        assert!(rt; checked.is(Outcome::NotBuilt, "", "not built\n"));
+    }
     Ok(())
 }

@@ -1,28 +1,27 @@
 -- The answer to an input is told by its front, up to one octet more than are built so far.
-use Rattle.std.proofs.Common.{◌≡◌, ℕ, ◌≤◌, ◌<◌, true, ◌⊎◌, inl, inr, List, [], ◌++◌, None, Some, IfSome, length, drop, nat_lt, not, nat_eq, ap, sym, ◌∙◌, arith, append-nil, length-append, drop_at, subst, lt-ltb}
+use Rattle.std.proofs.Common.{◌≡◌, ℕ, ◌≤◌, ◌<◌, false, ◌⊎◌, inl, inr, List, [], ◌++◌, None, Some, IfSome, length, drop, nat_le, nat_eq, ap, sym, ◌∙◌, arith, append-nil, length-append, drop_at, subst}
 use Rattle.std.specs.declared.option.Option.{Option}
 use Rattle.std.specs.List.{starts_with}
 use Rattle.std.specs.Io.KnownBytes.{Consumes, IsAtEnd}
-use Rattle.std.proofs.lemmas.Bool.{or_left, cases_lt}
+use Rattle.std.proofs.lemmas.Bool.{and_left, cases_lt, lt-leb}
 use Rattle.std.proofs.lemmas.List.{drop_all}
 use Rattle.grib2_sections.specs.Head.{indicator}
 use Rattle.grib_engine.specs.declared.job.Job.{Job}
 use Rattle.grib_engine.specs.declared.outcome.Outcome.TheVariants.{NotBuilt}
-use Rattle.grib_engine.specs.Answer.{Answer, answer, is_foreign, silent}
+use Rattle.grib_engine.specs.Answer.{Answer, answer, may_be_message, silent}
 
--- an input of more octets than are built is foreign
-long_is_foreign : (input : List ℕ) → 65536 < length input → is_foreign input ≡ true
-long_is_foreign input long = or_left (nat_lt 65536 (length input)) (not (starts_with nat_eq input indicator)) (lt-ltb 65536 (length input) long)
+-- an input of more than 65,536 octets is not answered
+too_long : (input : List ℕ) → 65536 < length input → may_be_message input ≡ false
+too_long input long = and_left (nat_le (length input) 65536) (starts_with nat_eq input indicator) (lt-leb (length input) 65536 long)
 
-foreign_answer : (job : Job) (input : List ℕ) → is_foreign input ≡ true → answer job input ≡ silent NotBuilt
-foreign_answer job input foreign = rw foreign
+long_answer : (job : Job) (input : List ℕ) → 65536 < length input → answer job input ≡ silent NotBuilt
+long_answer job input long = let other : may_be_message input ≡ false = too_long input long in rw other
 
 same_answer : (job : Job) (front after : List ℕ) → (length front ≤ 65536 → after ≡ []) → (65536 < length front) ⊎ (length front ≤ 65536)
     → answer job (front ++ after) ≡ answer job front
 same_answer job front after end (inr short) = ap (λ xs. answer job (front ++ xs)) (end short) ∙ ap (answer job) (append-nil front)
 same_answer job front after end (inl long) =
-    foreign_answer job (front ++ after) (long_is_foreign (front ++ after) (omega (arith, length-append front after)))
-    ∙ sym (foreign_answer job front (long_is_foreign front long))
+    long_answer job (front ++ after) (omega (arith, length-append front after)) ∙ sym (long_answer job front long)
 
 -- what is so of the answer to the front, which is shown, is so of the answer to the whole input
 pub answered_by_front : (job : Job) (a b : Option (List ℕ)) (front shown : List ℕ) (P : Answer → Type 0) → shown ≡ front → Consumes a b front
@@ -41,8 +40,8 @@ taken_split front rest end most (inr short) =
 
 -- and one octet more than are built was taken, or all
 pub taken_front : (a b : Option (List ℕ)) (front : List ℕ) (P : Type 0) → Consumes a b front → (length front ≤ 65536 → IsAtEnd b) → length front ≤ 65537
-    → IfSome a (λ octets. P → IfSome b (λ rest. rest ≡ drop 65537 octets))
+    → IfSome a (λ octets. P → b ≡ Some (drop 65537 octets))
 taken_front None b front P taken end most = tt
 taken_front (Some octets) None front P taken end most = absurd taken
 taken_front (Some octets) (Some rest) front P taken end most =
-    λ _. taken_split front rest end most (cases_lt 65536 (length front)) ∙ ap (drop 65537) (sym taken)
+    λ _. ap Some (taken_split front rest end most (cases_lt 65536 (length front)) ∙ ap (drop 65537) (sym taken))

@@ -70,3 +70,9 @@ told_front_stays (Some x) a b c octets front kept = front_stays a b c (octets x)
 pub front_of_nothing : (a b : Option (List ℕ)) (octets : List ℕ) → AppendsFront a b [] → AppendsFront a b octets
 front_of_nothing a b octets ([], rest, is, told) = ([], octets, refl, told)
 front_of_nothing a b octets (x ∷ front, rest, is, told) = absurd (cc is)
+
+-- what was appended whole, under a condition that a stronger one implies, where nothing was appended after it
+pub told_whole_stays : (told : Option (List ℕ)) (a b c : Option (List ℕ)) (octets : List ℕ → List ℕ) (P Q : Type 0) → (Q → P)
+    → IfSome told (λ x. P → Appends a b (octets x)) → Keeps b c → IfSome told (λ x. Q → Appends a c (octets x))
+told_whole_stays None a b c octets P Q implies whole kept = tt
+told_whole_stays (Some x) a b c octets P Q implies whole kept = λ q. Appends-kept a b c (octets x) (whole (implies q)) kept

@@ -1,5 +1,5 @@
 -- What is answered to a job, by the input alone.
-use Rattle.std.specs.Prelude.{ℕ, Bool, not, ◌||◌, Option, Some, None, List, [], ◌++◌, length, take, nat_eq, nat_lt}
+use Rattle.std.specs.Prelude.{ℕ, Bool, ◌&&◌, Option, Some, None, List, [], ◌++◌, length, take, nat_eq, nat_le}
 use Rattle.std.specs.List.{starts_with}
 use Rattle.grib_bits.specs.Bits.{bits_of, signed}
 use Rattle.grib_io.specs.declared.fault.Fault.{Fault}
@@ -53,15 +53,15 @@ abbrev pub unless_head_fault : Option Fault → (Unit {0} → Answer) → Answer
 unless_head_fault (Some fault) next = silent (Refused (record { message = 1; fault = fault }))
 unless_head_fault None next = next tt
 
--- whether an input is longer than is built so far, in octets, or does not begin with a message
-abbrev pub is_foreign : List ℕ → Bool
-is_foreign input = nat_lt 65536 (length input) || not (starts_with nat_eq input indicator)
+-- whether an input begins with `GRIB` and has at most 65,536 octets; so far, no other is answered
+abbrev pub may_be_message : List ℕ → Bool
+may_be_message input = nat_le (length input) 65536 && starts_with nat_eq input indicator
 
 -- the answer to an input that is one message in the plain form, and so far to no other
 abbrev pub plain_answer : Job → List ℕ → Answer
 plain_answer job input = choose (is_plain input) (λ _. done (lines_of job input)) (λ _. silent NotBuilt)
 
--- The answer to a job, by the input: what is foreign is not built; then the first message may be refused
--- by Section 0.
+-- The answer to a job, by the input: what begins with `GRIB` may be refused by Section 0.
 abbrev pub answer : Job → List ℕ → Answer
-answer job input = choose (is_foreign input) (λ _. silent NotBuilt) (λ _. unless_head_fault (head_fault input) (λ _. plain_answer job input))
+answer job input =
+    choose (may_be_message input) (λ _. unless_head_fault (head_fault input) (λ _. plain_answer job input)) (λ _. silent NotBuilt)

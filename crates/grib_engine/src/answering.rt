@@ -4,7 +4,7 @@ ghost use Rattle.std.specs.Prelude.{◌≡◌, ◌≢◌, true, false, not, take
 ghost use Rattle.std.specs.Io.KnownBytes.{Appends};
 ghost use Rattle.grib_io.specs.Outside.{AppendsFront, Counted};
 ghost use Rattle.grib2_sections.specs.Head.{indicator};
-ghost use Rattle.grib_engine.specs.Answer.{answer, is_foreign, head_fault, plain_answer};
+ghost use Rattle.grib_engine.specs.Answer.{answer, may_be_message as begins_message, head_fault, plain_answer};
 ghost use Rattle.grib_engine.specs.Outcomes.{is_broken};
 ghost use Rattle.grib_engine.specs.declared.outcome.Outcome.TheVariants.{ReadFault, WriteFault};
 
@@ -17,7 +17,7 @@ use grib_io::{Fault, Reason, Refusal, Sink, Stop};
 use grib2_sections::read_head;
 use std::alloc::Global;
 
-/// Answers the octets of an input, of which there are one too many at most.
+/// Answers the octets of an input, but for the note.
 pub fn answer_octets<T: Sink>(alloc: Global, job: &Job, octets: &[u8], output: &mut T) -> Outcome
     ensures outcome { is_broken result ≡ false → result ≡ (answer job.now octets.now).outcome }
     ensures whole { is_broken result ≡ false → Appends (T.contents output.old) (T.contents output.new) (answer job.now octets.now).output }
@@ -26,7 +26,7 @@ pub fn answer_octets<T: Sink>(alloc: Global, job: &Job, octets: &[u8], output: &
     ensures fault { result ≡ WriteFault → Counted (T.faults output.old) (T.faults output.new) }
     ensures calm { result ≢ WriteFault → T.faults output.new ≡ T.faults output.old }
 {
-    if !is_near(octets) {
+    if !may_be_message(octets) {
         return Outcome::NotBuilt;
     }
     match refusal_of_head(octets) {
@@ -35,9 +35,9 @@ pub fn answer_octets<T: Sink>(alloc: Global, job: &Job, octets: &[u8], output: &
     }
 }
 
-/// Whether an input begins with a message and is no longer than is built.
-fn is_near(octets: &[u8]) -> bool
-    ensures told { is_foreign octets.now ≡ not result }
+/// Whether an input begins with `GRIB` and has at most 65,536 octets.
+fn may_be_message(octets: &[u8]) -> bool
+    ensures told { result ≡ begins_message octets.now }
     ensures begins { result ≡ true → take 4 octets.now ≡ indicator }
 {
     octets.len() <= MOST && octets.starts_with(b"GRIB")

@@ -7,10 +7,10 @@ ghost use Rattle.grib_io.specs.Outside.{CountsFailure, CountsStops};
 use grib_io::{Failed, Source, Stop};
 use std::alloc::Global;
 
-/// The most octets of an input that are built so far.
+/// The most octets of an input that is answered so far, and the most that one read asks for.
 pub const MOST: usize = 65_536;
 
-/// Takes the octets of an input to its end, or one more than `MOST`.
+/// Takes the octets of an input to its end, or one more than `MOST`, which shows that it is too long.
 pub fn read_front<S: Source>(alloc: Global, input: &mut S) -> Result<Vec<u8>, Stop>
     ensures taken { IfOk result (λ octets. Consumes (S.left input.old) (S.left input.new) octets.items) }
     ensures most { IfOk result (λ octets. length octets.items ≤ 65537) }

@@ -1,6 +1,6 @@
 //! A whole run: the input is read, answered, and the run is closed.
 
-ghost use Rattle.std.specs.Prelude.{◌≡◌, ◌≢◌, ◌≤◌, ◌<◌, ◌⊎◌, true, false, length, drop, IfSome};
+ghost use Rattle.std.specs.Prelude.{◌≡◌, ◌≢◌, ◌≤◌, ◌<◌, ◌⊎◌, true, false, drop, IfSome, Some};
 ghost use Rattle.std.specs.Io.KnownBytes.{Appends, Keeps, IsAtEnd};
 ghost use Rattle.grib_io.specs.Outside.{AppendsFront, Rose, Counted};
 ghost use Rattle.grib_engine.specs.Answer.{answer};
@@ -29,7 +29,7 @@ pub fn serve<S: Source, T: Sink, N: Sink, H: Shelf>(
     ensures outcome { IfSome (S.left input.old) (λ octets. is_broken result ≡ false → result ≡ (answer job.now octets).outcome) }
     ensures output { IfSome (S.left input.old)
         (λ octets. is_broken result ≡ false → Appends (T.contents output.old) (T.contents output.new) (answer job.now octets).output) }
-    ensures taken { IfSome (S.left input.old) (λ octets. is_broken result ≡ false → IfSome (S.left input.new) (λ rest. rest ≡ drop 65537 octets)) }
+    ensures taken { IfSome (S.left input.old) (λ octets. is_broken result ≡ false → S.left input.new ≡ Some (drop 65537 octets)) }
     ensures end { result ≡ Done → IsAtEnd (S.left input.new) }
     ensures noted { is_cut_short result ≡ false → Appends (N.contents notes.old) (N.contents notes.new) (note_of result) }
     ensures settled { is_cut_short result ≡ false → (T.settled output.new ≡ true) × (N.settled notes.new ≡ true) }
@@ -61,7 +61,7 @@ fn attempt<S: Source, T: Sink>(alloc: Global, job: &Job, input: &mut S, output: 
     ensures whole { IfSome (S.left input.old)
         (λ octets. is_broken result ≡ false → Appends (T.contents output.old) (T.contents output.new) (answer job.now octets).output) }
     ensures front { IfSome (S.left input.old) (λ octets. AppendsFront (T.contents output.old) (T.contents output.new) (answer job.now octets).output) }
-    ensures taken { IfSome (S.left input.old) (λ octets. is_broken result ≡ false → IfSome (S.left input.new) (λ rest. rest ≡ drop 65537 octets)) }
+    ensures taken { IfSome (S.left input.old) (λ octets. is_broken result ≡ false → S.left input.new ≡ Some (drop 65537 octets)) }
     ensures end { result ≡ Done → IsAtEnd (S.left input.new) }
     ensures read_fault { result ≡ ReadFault → Counted (S.faults input.old) (S.faults input.new) × (output.new ≡ output.old) }
     ensures read_calm { result ≢ ReadFault → S.faults input.new ≡ S.faults input.old }

@@ -4,6 +4,7 @@ use crate::{
     CalmSink, CalmSource, Failed, MemoryShelf, MemorySink, MemorySource, ReadSource, Shelf,
     ShelfStop, Sink, Source, Stop, WriteSink,
 };
+use std::io::{self, Read, Write};
 use std::test::Fail;
 
 // A read of three octets at most.
@@ -154,4 +155,54 @@ fn shelf_is_read_from_an_offset_on(rt: HostRuntime) -> Result<(), Fail> {
         (Err(ShelfStop::Failed), [0, 0])
     );
     Ok(())
+}
+
+// A reader and a writer of std whose first call is interrupted. Later ones read nothing and take all,
+// and a flush fails.
+#[derive(Drop)]
+struct Interrupted {
+    calls: u32,
+}
+
+impl Interrupted {
+    fn call(&mut self) -> io::Result<()> {
+        self.calls = self.calls.saturating_add(1);
+        if self.calls == 1 {
+            return Err(io::Error::from(io::ErrorKind::Interrupted));
+        }
+        Ok(())
+    }
+}
+
+impl Read for Interrupted {
+    fn read(&mut self, _buf: &mut [u8]) -> io::Result<usize> {
+        self.call()?;
+        Ok(0)
+    }
+}
+
+impl Write for Interrupted {
+    fn write(&mut self, buf: &[u8]) -> io::Result<usize> {
+        self.call()?;
+        Ok(buf.len())
+    }
+
+    fn flush(&mut self) -> io::Result<()> {
+        Err(io::Error::from(io::ErrorKind::BrokenPipe))
+    }
+}
+
+#[test]
+fn interrupted_read_is_a_fault(rt: HostRuntime) {
+    let mut source = ReadSource::new(Interrupted { calls: 0 });
+    assert_eq!(rt; read_three(&mut source), (Err(Failed), [0, 0, 0]));
+    assert_eq!(rt; read_three(&mut source), (Ok(0), [0, 0, 0]));
+}
+
+#[test]
+fn interrupted_write_and_refused_flush_are_faults(rt: HostRuntime) {
+    let mut sink = WriteSink::new(Interrupted { calls: 0 });
+    assert_eq!(rt; write_to(&mut sink, &[1, 2]), Err(Stop::Failed));
+    assert_eq!(rt; write_to(&mut sink, &[1, 2]), Ok(2));
+    assert_eq!(rt; finish(&mut sink), Err(Stop::Failed));
 }

@@ -15,7 +15,7 @@ use std::alloc::{AllocError, Global};
 ///
 /// # Errors
 ///
-/// There is no memory for the numbers, which is taken before the first of them is read.
+/// There is no memory for the numbers.
 pub fn unpack_numbers(
     alloc: Global,
     octets: &[u8],
@@ -29,12 +29,12 @@ pub fn unpack_numbers(
     unpack(alloc, octets, bits, count)
 }
 
-/// The same numbers as the scaled numbers of points, made in one pass: no vector of numbers stands
+/// The same numbers as the scaled numbers of points: no vector of numbers stands
 /// beside them.
 ///
 /// # Errors
 ///
-/// There is no memory for the points, which is taken before the first number is read.
+/// There is no memory for the points.
 pub fn unpack_points(
     alloc: Global,
     octets: &[u8],

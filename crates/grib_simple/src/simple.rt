@@ -16,7 +16,7 @@ use std::alloc::{AllocError, Global};
 ///
 /// # Errors
 ///
-/// There is no memory for the points, which is taken before the first of them is read.
+/// There is no memory for the points.
 pub fn simple_column(
     alloc: Global,
     representation: &[u8],
