@@ -1,5 +1,5 @@
 -- The answer to an input is told by its front, up to one octet more than are built so far.
-use Rattle.std.proofs.Common.{◌≡◌, ℕ, ◌≤◌, ◌<◌, false, ◌⊎◌, inl, inr, List, [], ◌++◌, None, Some, IfSome, length, drop, nat_le, nat_eq, ap, sym, ◌∙◌, arith, append-nil, length-append, drop_at, subst}
+use Rattle.std.proofs.Common.{◌≡◌, ℕ, ◌≤◌, ◌<◌, true, false, ◌⊎◌, inl, inr, List, [], ◌++◌, None, Some, IfSome, length, drop, nat_le, nat_eq, ap, sym, ◌∙◌, arith, append-nil, length-append, drop_at, subst}
 use Rattle.std.specs.declared.option.Option.{Option}
 use Rattle.std.specs.List.{starts_with}
 use Rattle.std.specs.Io.KnownBytes.{Consumes, IsAtEnd}
@@ -8,7 +8,7 @@ use Rattle.std.proofs.lemmas.List.{drop_all}
 use Rattle.grib2_sections.specs.Head.{indicator}
 use Rattle.grib_engine.specs.declared.job.Job.{Job}
 use Rattle.grib_engine.specs.declared.outcome.Outcome.TheVariants.{NotBuilt}
-use Rattle.grib_engine.specs.Answer.{Answer, answer, may_be_message, silent}
+use Rattle.grib_engine.specs.Answer.{Answer, answer, answer_by_head, may_be_message, silent}
 
 -- an input of more than 65,536 octets is not answered
 too_long : (input : List ℕ) → 65536 < length input → may_be_message input ≡ false
@@ -45,3 +45,7 @@ taken_front None b front P taken end most = tt
 taken_front (Some octets) None front P taken end most = absurd taken
 taken_front (Some octets) (Some rest) front P taken end most =
     λ _. ap Some (taken_split front rest end most (cases_lt 65536 (length front)) ∙ ap (drop 65537) (sym taken))
+
+-- the answer to an input that may be a message goes by its Section 0
+pub begun_answer : (job : Job) (input : List ℕ) → may_be_message input ≡ true → answer job input ≡ answer_by_head job input
+begun_answer job input begins = rw begins

@@ -61,7 +61,10 @@ may_be_message input = nat_le (length input) 65536 && starts_with nat_eq input i
 abbrev pub plain_answer : Job → List ℕ → Answer
 plain_answer job input = choose (is_plain input) (λ _. done (lines_of job input)) (λ _. silent NotBuilt)
 
--- The answer to a job, by the input: what begins with `GRIB` may be refused by Section 0.
+-- the answer to an input that begins with `GRIB`, which may be refused by Section 0
+abbrev pub answer_by_head : Job → List ℕ → Answer
+answer_by_head job input = unless_head_fault (head_fault input) (λ _. plain_answer job input)
+
+-- the answer to a job, by the input
 abbrev pub answer : Job → List ℕ → Answer
-answer job input =
-    choose (may_be_message input) (λ _. unless_head_fault (head_fault input) (λ _. plain_answer job input)) (λ _. silent NotBuilt)
+answer job input = choose (may_be_message input) (λ _. answer_by_head job input) (λ _. silent NotBuilt)

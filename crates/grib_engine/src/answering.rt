@@ -1,10 +1,12 @@
 //! The answer to the octets of an input.
 
-ghost use Rattle.std.specs.Prelude.{◌≡◌, ◌≢◌, true, false, not, take};
+ghost use Rattle.std.specs.Prelude.{◌≡◌, ◌≢◌, true, false, take, Some, None};
 ghost use Rattle.std.specs.Io.KnownBytes.{Appends};
 ghost use Rattle.grib_io.specs.Outside.{AppendsFront, Counted};
-ghost use Rattle.grib2_sections.specs.Head.{indicator};
-ghost use Rattle.grib_engine.specs.Answer.{answer, may_be_message as begins_message, head_fault, plain_answer};
+ghost use Rattle.grib_io.specs.Rows.{first_fault};
+ghost use Rattle.grib2_sections.specs.Head.{indicator, head_rows, head_of};
+ghost use Rattle.grib_engine.specs.Answer.{answer, may_be_message as begins_message, answer_by_head, plain_answer, silent};
+ghost use Rattle.grib_engine.specs.declared.job.Job.{Job as AnyJob};
 ghost use Rattle.grib_engine.specs.Outcomes.{is_broken};
 ghost use Rattle.grib_engine.specs.declared.outcome.Outcome.TheVariants.{ReadFault, WriteFault};
 
@@ -14,7 +16,7 @@ use crate::plain::PlainMessage;
 use crate::printing::write_lines;
 use crate::reading::MOST;
 use grib_io::{Fault, Reason, Refusal, Sink, Stop};
-use grib2_sections::read_head;
+use grib2_sections::{Head, read_head};
 use std::alloc::Global;
 
 /// Answers the octets of an input, but for the note.
@@ -29,9 +31,9 @@ pub fn answer_octets<T: Sink>(alloc: Global, job: &Job, octets: &[u8], output: &
     if !may_be_message(octets) {
         return Outcome::NotBuilt;
     }
-    match refusal_of_head(octets) {
-        Some(fault) => Outcome::Refused(Refusal { message: 1, fault }),
-        None => answer_message(alloc, job, octets, output),
+    match read_head(octets) {
+        Ok(head) => answer_message(alloc, job, octets, &head, output),
+        Err(fault) => outcome_of_refusal(octets, fault),
     }
 }
 
@@ -43,23 +45,30 @@ fn may_be_message(octets: &[u8]) -> bool
     octets.len() <= MOST && octets.starts_with(b"GRIB")
 }
 
-/// The refusal of Section 0 for what is not there and for its edition.
-fn refusal_of_head(octets: &[u8]) -> Option<Fault>
-    requires { take 4 octets.now ≡ indicator }
-    ensures { result ≡ head_fault octets.now }
+/// The outcome where Section 0 is refused: for what is not there and for its edition. Total lengths are not
+/// judged so far.
+fn outcome_of_refusal(octets: &[u8], fault: Fault) -> Outcome
+    requires { first_fault (head_rows octets.now) ≡ Some fault }
+    ensures told { (job : AnyJob) → silent result ≡ answer_by_head job octets.now }
+    ensures unbroken { is_broken result ≡ false }
 {
-    match read_head(octets) {
-        Ok(_) => None,
-        Err(fault) => match fault.reason {
-            Reason::TotalLength => None,
-            _ => Some(fault),
-        },
+    match fault.reason {
+        Reason::TotalLength => Outcome::NotBuilt,
+        _ => Outcome::Refused(Refusal { message: 1, fault }),
     }
 }
 
 /// Answers an input that Section 0 does not refuse.
-fn answer_message<T: Sink>(alloc: Global, job: &Job, octets: &[u8], output: &mut T) -> Outcome
-    requires { take 4 octets.now ≡ indicator }
+fn answer_message<T: Sink>(
+    alloc: Global,
+    job: &Job,
+    octets: &[u8],
+    head: &Head,
+    output: &mut T,
+) -> Outcome
+    requires indicated { take 4 octets.now ≡ indicator }
+    requires begun { first_fault (head_rows octets.now) ≡ None }
+    requires head { head.now ≡ head_of octets.now }
     ensures outcome { is_broken result ≡ false → result ≡ (plain_answer job.now octets.now).outcome }
     ensures whole { is_broken result ≡ false → Appends (T.contents output.old) (T.contents output.new) (plain_answer job.now octets.now).output }
     ensures front { AppendsFront (T.contents output.old) (T.contents output.new) (plain_answer job.now octets.now).output }
@@ -67,7 +76,7 @@ fn answer_message<T: Sink>(alloc: Global, job: &Job, octets: &[u8], output: &mut
     ensures fault { result ≡ WriteFault → Counted (T.faults output.old) (T.faults output.new) }
     ensures calm { result ≢ WriteFault → T.faults output.new ≡ T.faults output.old }
 {
-    let Some(message) = PlainMessage::of(octets) else {
+    let Some(message) = PlainMessage::of(octets, head) else {
         return Outcome::NotBuilt;
     };
     match write_lines(alloc, job, &message, output) {

@@ -1,13 +1,15 @@
 //! The sections of a message in the plain form.
 
-ghost use Rattle.std.specs.Prelude.{◌≡◌, ℕ, ◌+◌, ◌*◌, ◌<◌, ◌≤◌, ◌↔◌, IsTrue, IfSome, IfNone, is_some, List, length, take, drop};
-ghost use Rattle.grib2_sections.specs.Head.{indicator};
+ghost use Rattle.std.specs.Prelude.{◌≡◌, ℕ, ◌+◌, ◌*◌, ◌<◌, ◌≤◌, ◌↔◌, IsTrue, IfSome, IfNone, None, is_some, List, length, take, drop};
+ghost use Rattle.grib_io.specs.Rows.{first_fault};
+ghost use Rattle.grib2_sections.specs.Head.{indicator, head_rows, head_of};
 ghost use Rattle.grib2_message.specs.Grid.{grid_points};
 ghost use Rattle.grib_simple.specs.Simple.{plain_bits};
 ghost use Rattle.grib_engine.specs.Plain.{is_plain};
 ghost use Rattle.grib_engine.specs.PlainParts.{PlainParts, HasHead, HasSections, BeginsWith, IsPlainGrid, IsPlainProduct, IsPlainRepresentation, IsPlainBitmap, ArePlain};
 
 use byteorder::{BigEndian, ByteOrder};
+use grib2_sections::Head;
 
 #[cfg(test)]
 mod tests;
@@ -36,15 +38,18 @@ pub(crate) struct PlainMessage<'a> {
 }
 
 impl<'a> PlainMessage<'a> {
-    /// The sections of these octets, nothing exactly where they are not a message in the plain form.
-    pub fn of(octets: &'a [u8]) -> Option<PlainMessage<'a>>
+    /// The sections of these octets, which have this Section 0: nothing exactly where they are not a
+    /// message in the plain form.
+    pub fn of(octets: &'a [u8], head: &Head) -> Option<PlainMessage<'a>>
         requires indicated { take 4 octets.now ≡ indicator }
+        requires begun { first_fault (head_rows octets.now) ≡ None }
+        requires head { head.now ≡ head_of octets.now }
 
         ensures exact { is_some result ≡ is_plain octets.now }
         ensures whole { IfSome result (λ p. p.octets.now ≡ octets.now) }
         ensures parts { IfSome result (λ p. PlainParts octets.now p.identification.now p.grid.now p.product.now p.representation.now p.values.now) }
     {
-        let sections = Sections::of(octets)?;
+        let sections = Sections::of(octets, head)?;
         if !sections.are_plain() {
             return None;
         }
@@ -72,11 +77,13 @@ struct Sections<'a> {
 
 impl<'a> Sections<'a> {
     // The sections between Section 0 and the end mark.
-    fn of(octets: &'a [u8]) -> Option<Sections<'a>>
+    fn of(octets: &'a [u8], head: &Head) -> Option<Sections<'a>>
+        requires begun { first_fault (head_rows octets.now) ≡ None }
+        requires head { head.now ≡ head_of octets.now }
         ensures joined { IfSome result (λ p. HasSections octets.now p.identification.now p.grid.now p.product.now p.representation.now p.bitmap.now p.values.now) }
         ensures other { IfNone result ((s1 s3 s4 s5 s6 s7 : List ℕ) → HasSections octets.now s1 s3 s4 s5 s6 s7 → ⊥) }
     {
-        let rest = split_head(octets)?;
+        let rest = split_head(octets, head)?;
         let (identification, rest) = split_section(rest, 1)?;
         let (grid, rest) = split_section(rest, 3)?;
         let (product, rest) = split_section(rest, 4)?;
@@ -111,12 +118,14 @@ impl<'a> Sections<'a> {
 }
 
 // What follows Section 0 of a message of edition 2 that has all these octets.
-fn split_head(octets: &[u8]) -> Option<&[u8]>
+fn split_head<'a>(octets: &'a [u8], head: &Head) -> Option<&'a [u8]>
+    requires begun { first_fault (head_rows octets.now) ≡ None }
+    requires head { head.now ≡ head_of octets.now }
     ensures head { IfSome result (λ rest. HasHead octets.now × (rest.now ≡ drop 16 octets.now)) }
     ensures other { IfNone result (HasHead octets.now → ⊥) }
 {
     let fits = 20 <= octets.len() && octets.len() <= MOST_OCTETS;
-    if fits && octets[7] == 2 && BigEndian::read_u64(&octets[8..]) == octets.len() as u64 {
+    if fits && head.edition == 2 && head.total == octets.len() as u64 {
         Some(&octets[16..])
     } else {
         None

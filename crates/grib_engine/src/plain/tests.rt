@@ -1,5 +1,9 @@
 // The message M1 of docs/PROFILE.md, a field of 2 by 2 points.
+ghost use Rattle.std.specs.Prelude.{◌≡◌, take};
+ghost use Rattle.grib2_sections.specs.Head.{indicator};
+
 use super::PlainMessage;
+use grib2_sections::read_head;
 use std::test::Fail;
 
 const PLAIN: [u8; 183] = [
@@ -17,9 +21,17 @@ const PLAIN: [u8; 183] = [
     0x01, 0x02, 0xff, 0x37, 0x37, 0x37, 0x37,
 ];
 
+// The sections of octets, where they are a message in the plain form.
+fn plain(octets: &[u8]) -> Option<PlainMessage<'_>>
+    requires { take 4 octets.now ≡ indicator }
+{
+    let head = read_head(octets).ok()?;
+    PlainMessage::of(octets, &head)
+}
+
 #[test]
 fn sections_are_found(rt: HostRuntime) -> Result<(), Fail> {
-    let message = PlainMessage::of(&PLAIN).ok_or("not plain")?;
+    let message = plain(&PLAIN).ok_or("not plain")?;
     assert_eq!(rt; message.octets.len(), 183);
     assert_eq!(rt; message.identification, &PLAIN[16..37]);
     assert_eq!(rt; message.grid, &PLAIN[37..109]);
@@ -31,14 +43,8 @@ fn sections_are_found(rt: HostRuntime) -> Result<(), Fail> {
 
 #[test]
 fn other_octets_are_not_plain(rt: HostRuntime) {
-    assert!(rt;
-        PlainMessage::of(&PLAIN[..182]).is_none(),
-        "an octet is missing"
-    );
+    assert!(rt; plain(&PLAIN[..182]).is_none(), "an octet is missing");
     let mut earlier_bitmap = PLAIN;
     earlier_bitmap[169] = 0xfe;
-    assert!(rt;
-        PlainMessage::of(&earlier_bitmap).is_none(),
-        "a bit-map from before"
-    );
+    assert!(rt; plain(&earlier_bitmap).is_none(), "a bit-map from before");
 }
