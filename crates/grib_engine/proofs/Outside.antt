@@ -1,5 +1,5 @@
 -- What several writes and reads after one another do to the octets of a sink and of a source.
-use Rattle.std.proofs.Common.{◌≡◌, ℕ, ◌+◌, ◌-◌, ◌≤◌, List, [], ◌++◌, None, Some, IfSome, ◌∷◌, length, take, drop, refl, ap, sym, ◌∙◌, append_assoc, append-nil, length-take-le, take-append-drop, subst}
+use Rattle.std.proofs.Common.{◌≡◌, ℕ, ◌+◌, ◌-◌, ◌≤◌, List, [], ◌++◌, None, Some, IfSome, ◌∷◌, length, take, drop, refl, ap, sym, ◌∙◌, append_assoc, length-take-le, take-append-drop, subst}
 use Rattle.std.specs.declared.option.Option.{Option}
 use Rattle.std.specs.Io.KnownBytes.{Appends, Consumes, Keeps}
 use Rattle.std.proofs.KnownBytes.{Appends-trans, Appends-nil, Appends-kept, Consumes-trans}
@@ -12,23 +12,10 @@ use Rattle.grib_io.specs.Outside.{AppendsFront}
 pub front_none : (a : Option (List ℕ)) (octets : List ℕ) → AppendsFront a a octets
 front_none a octets = ([], octets, refl, Appends-nil a)
 
--- what stays as it was
-pub front_kept : (a b : Option (List ℕ)) (octets : List ℕ) → Keeps a b → AppendsFront a b octets
-front_kept a b octets kept = ([], octets, refl, Appends-kept a a b [] (Appends-nil a) kept)
-
--- all was appended
-pub front_whole : (a b : Option (List ℕ)) (octets : List ℕ) → Appends a b octets → AppendsFront a b octets
-front_whole a b octets whole = (octets, [], sym (append-nil octets), whole)
-
 -- a front of what more octets begin with
 pub front_more : (a b : Option (List ℕ)) (octets more : List ℕ) → AppendsFront a b octets → AppendsFront a b (octets ++ more)
 front_more a b octets more (front, rest, is, told) =
     (front, rest ++ more, ap (λ xs. xs ++ more) is ∙ append_assoc front rest more, told)
-
--- a front after whole octets
-pub front_after : (a b c : Option (List ℕ)) (octets more : List ℕ) → Appends a b octets → AppendsFront b c more → AppendsFront a c (octets ++ more)
-front_after a b c octets more whole (front, rest, is, told) =
-    (octets ++ front, rest, ap (λ xs. octets ++ xs) is ∙ sym (append_assoc octets front rest), Appends-trans a b c octets front whole told)
 
 -- a buffer of which a octets were filled, after n more came to the front of the part from there on
 pub filled_more : (xs ys : List ℕ) (a k n : ℕ) → a ≤ length xs → n ≤ length ys → take (a + n) (put_mid a k xs ys) ≡ take a xs ++ take n ys

@@ -1,21 +1,12 @@
 -- Octets that go through a buffer to a sink, one step after another.
-use Rattle.std.proofs.Common.{◌≡◌, ℕ, ◌+◌, ◌≤◌, suc, List, [], ◌∷◌, ◌++◌, length, take, drop, refl, ap, sym, ◌∙◌, arith, append_assoc, append-nil, length-take-le, take-append-drop, subst}
+use Rattle.std.proofs.Common.{◌≡◌, ℕ, ◌+◌, ◌≤◌, suc, List, [], ◌∷◌, ◌++◌, length, take, drop, ap, sym, ◌∙◌, arith, append_assoc, append-nil, length-take-le, take-append-drop, subst}
 use Rattle.std.specs.declared.option.Option.{Option}
-use Rattle.std.specs.Io.KnownBytes.{Appends}
-use Rattle.std.proofs.KnownBytes.{Appends-trans, Appends-nil}
+use Rattle.std.proofs.KnownBytes.{Appends-trans}
 use Rattle.grib_io.specs.Outside.{AppendsFront}
 use Rattle.grib_simple.specs.declared.column.Point.{Point}
 use Rattle.grib_text.specs.Lines.{point_line, point_lines}
 use Rattle.grib_engine.specs.Pending.{AppendsAllBut}
 use Rattle.grib_engine.proofs.Outside.{front_more}
-
--- where nothing was written, all is pending
-pub all_pending : (a : Option (List ℕ)) (octets : List ℕ) → AppendsAllBut a a octets octets
-all_pending a octets = ([], refl, Appends-nil a)
-
--- where all was written, nothing is
-pub none_pending : (a b : Option (List ℕ)) (octets : List ℕ) → Appends a b octets → AppendsAllBut a b octets []
-none_pending a b octets whole = (octets, sym (append-nil octets), whole)
 
 -- one step after another
 pub pending_more : (a b c : Option (List ℕ)) (octets pending more left : List ℕ) → AppendsAllBut a b octets pending
@@ -41,10 +32,6 @@ pending_front a b c octets pending more (first, is, told) (front, rest, is_front
   ap (λ xs. xs ++ more) is ∙ (append_assoc first pending more ∙ (ap (λ xs. first ++ xs) is_front ∙ sym (append_assoc first front rest))),
   Appends-trans a b c first front told told_front,
 )
-
--- a front, where the pending octets wait
-pub front_but : (a b : Option (List ℕ)) (octets pending : List ℕ) → AppendsAllBut a b octets pending → AppendsFront a b octets
-front_but a b octets pending (first, is, told) = (first, pending, is, told)
 
 -- lines of points after one another
 pub point_lines_join : (n : ℕ) (xs ys : List Point) → point_lines n (xs ++ ys) ≡ point_lines n xs ++ point_lines (n + length xs) ys

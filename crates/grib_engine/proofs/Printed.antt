@@ -1,6 +1,5 @@
 -- The lines of `dump`, by the sections of a plain message and its column.
-use Rattle.std.proofs.Common.{◌≡◌, ℕ, ◌<◌, ◌^◌, List, ◌++◌, length, ap, sym, ◌∙◌, arith, subst}
-use Rattle.grib_bits.specs.Binary32.{ieee_exponent}
+use Rattle.std.proofs.Common.{◌≡◌, ℕ, ◌<◌, ◌^◌, List, ◌++◌, length, ap, sym, ◌∙◌, arith}
 use Rattle.grib2_sections.specs.Head.{discipline}
 use Rattle.grib_simple.specs.declared.column.Column.{Column}
 use Rattle.grib_simple.specs.declared.column.Point.{Point}
@@ -32,12 +31,6 @@ pub dump_lines_by : (octets s1 s3 s4 s5 s7 : List ℕ) (d : ℕ) (column : Colum
 dump_lines_by octets s1 s3 s4 s5 s7 d column p is_discipline is_column =
     lines_same d (discipline octets) s1 (part_octets octets 1 1) s3 (part_octets octets 1 3) s4 (part_octets octets 1 4) s5 (part_octets octets 1 5)
     column (column_of octets 1) is_discipline p.is_identification p.is_grid p.is_product p.is_representation (is_column ∙ sym p.column)
-
--- its reference value is finite
-pub finite_column : (octets s1 s3 s4 s5 s7 : List ℕ) (column : Column) → PlainParts octets s1 s3 s4 s5 s7 → column ≡ column_with s5 (simple_entries s5 s7)
-    → ieee_exponent column.reference < 255
-finite_column octets s1 s3 s4 s5 s7 column p is =
-    subst (λ x. ieee_exponent x < 255) (sym (ap (λ x. x.reference) is)) p.plain_representation.finite
 
 -- and its points are as many as the grid has
 pub few_points : (octets s1 s3 s4 s5 s7 : List ℕ) (column : Column) → PlainParts octets s1 s3 s4 s5 s7 → column ≡ column_with s5 (simple_entries s5 s7)

@@ -12,7 +12,7 @@ use grib_simple::Point;
 use grib_text::append_point_line;
 
 /// From so many octets on a buffer is passed on.
-const FULL: usize = 65_536;
+pub const FULL: usize = 65_536;
 
 /// Writes these lines, and after them the line of each point. The lines are the buffer that those of the
 /// points go through.

@@ -11,7 +11,7 @@ ghost use Rattle.grib_engine.specs.PlainParts.{PlainParts};
 
 use crate::job::Job;
 use crate::plain::PlainMessage;
-use crate::points::write_with_points;
+use crate::points::{FULL, write_with_points};
 use crate::writing::write_whole;
 use grib_dyadic::Dyadic;
 use grib_io::{Sink, Stop};
@@ -20,7 +20,7 @@ use grib_text::{ListedField, check_line, field_line, reference_line, total_line}
 use std::alloc::{AllocError, Global};
 
 /// The octets of lines that are gathered before they are written, and room for one line more.
-const ROOM: usize = 65_536 + 128;
+const ROOM: usize = FULL + 128;
 
 /// Writes what the job prints of the message.
 pub fn write_lines<T: Sink>(
