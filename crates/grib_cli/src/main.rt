@@ -1,6 +1,11 @@
 //! The command `grib`: standard input, output and error around the top call.
 #![tactic(auto)]
 
+ghost use Rattle.std.specs.Prelude.{◌≡◌, ◌≢◌};
+ghost use Rattle.std.specs.IoError.{error_kind};
+ghost use Rattle.std.specs.declared.io.ErrorKind.TheVariants.{OutOfMemory};
+
+use grib_engine::Outcome;
 use grib_io::{MemoryShelf, ReadSource, WriteSink};
 use std::process::ExitCode;
 use std::{env, io};
@@ -13,9 +18,7 @@ mod words;
 pub use running::run;
 pub use words::job_of;
 
-/// The status where the words can't be fetched, of want of memory and of any other cause.
-const NO_MEMORY: u8 = 8;
-
+/// The exit status where the words can't be fetched, for another cause than want of memory.
 const NO_WORDS: u8 = 11;
 
 fn main(rt: HostRuntime) -> ExitCode {
@@ -47,9 +50,13 @@ fn fetch_words(rt: &HostRuntime) -> io::Result<Vec<String>> {
     Ok(words)
 }
 
-fn status_of(error: &io::Error) -> u8 {
+/// The exit status where the words can't be fetched.
+fn status_of(error: &io::Error) -> u8
+    ensures memory { error_kind error.now ≡ OutOfMemory → result ≡ 8 }
+    ensures other { error_kind error.now ≢ OutOfMemory → result ≡ 11 }
+{
     match error.kind() {
-        io::ErrorKind::OutOfMemory => NO_MEMORY,
+        io::ErrorKind::OutOfMemory => Outcome::Memory.status(),
         _ => NO_WORDS,
     }
 }

@@ -142,14 +142,24 @@ fn each_write_may_fail(rt: HostRuntime) -> Result<(), Fail> {
         let checked = run_over(rt.alloc(), "check", &PLAIN, 30, Failing { output, ..CALM })?;
         assert!(rt; checked.is(Outcome::WriteFault, front, ""));
     }
-    let checked = run_over(
-        rt.alloc(),
-        "check",
-        &PLAIN,
-        30,
-        Failing { output: 5, ..CALM },
-    )?;
+    let failing = Failing { output: 5, ..CALM };
+    let checked = run_over(rt.alloc(), "check", &PLAIN, 30, failing)?;
     assert!(rt; checked.is(Outcome::Done, CHECKED, ""));
+    Ok(())
+}
+
+#[test]
+fn each_write_of_a_dump_may_fail(rt: HostRuntime) -> Result<(), Fail> {
+    // The output takes 100 octets at a time, 203 in all, and is then finished.
+    let fronts = ["", &DUMPED[..100], &DUMPED[..200], DUMPED];
+    for (written, front) in fronts.iter().enumerate() {
+        let output = written as u64 + 1;
+        let dumped = run_over(rt.alloc(), "dump", &PLAIN, 100, Failing { output, ..CALM })?;
+        assert!(rt; dumped.is(Outcome::WriteFault, front, ""));
+    }
+    let failing = Failing { output: 5, ..CALM };
+    let dumped = run_over(rt.alloc(), "dump", &PLAIN, 100, failing)?;
+    assert!(rt; dumped.is(Outcome::Done, DUMPED, ""));
     Ok(())
 }
 
@@ -162,7 +172,8 @@ fn each_call_of_the_notes_may_fail(rt: HostRuntime) -> Result<(), Fail> {
         let refusal = run_over(rt.alloc(), "check", &PLAIN[..10], 30, failing)?;
         assert!(rt; refusal.is(Outcome::WriteFault, "", front));
     }
-    let refusal = run_over(rt.alloc(), "check", &PLAIN[..10], 30, CALM)?;
+    let failing = Failing { notes: 4, ..CALM };
+    let refusal = run_over(rt.alloc(), "check", &PLAIN[..10], 30, failing)?;
     assert!(rt; refusal.is(refused(11, Reason::Truncated, 10), "", note));
     Ok(())
 }

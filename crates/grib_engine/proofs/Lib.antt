@@ -1,5 +1,6 @@
 pub mod Outside
 pub mod Fronts
+pub mod Given
 pub mod Noted
 pub mod Pending
 pub mod PlainRows

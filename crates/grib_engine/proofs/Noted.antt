@@ -1,5 +1,5 @@
 -- The note of a run, by the outcome before the end and by the answer.
-use Rattle.std.proofs.Common.{◌≡◌, ◌⊎◌, ℕ, false, List, None, Some, IfSome, refl, ap, subst, inl, inr}
+use Rattle.std.proofs.Common.{◌≡◌, ℕ, false, List, refl, subst, inl, inr}
 use Rattle.std.specs.declared.option.Option.{Option}
 use Rattle.grib_engine.specs.declared.outcome.Outcome.{Outcome}
 use Rattle.grib_engine.specs.declared.outcome.Outcome.TheVariants.{Done, Refused, ReadFault, WriteFault, Memory, NotBuilt}
@@ -18,16 +18,3 @@ noted_answer a b Memory answered same (inl own) = inr (inr own)
 noted_answer a b Memory answered same (inr other) = inr other
 noted_answer a b WriteFault answered same (inl own) = inl (front_of_nothing a b (note_of answered) own)
 noted_answer a b WriteFault answered same (inr other) = inr other
-
--- the same of an answer that another object tells
-pub told_noted_answer : (told : Option (List ℕ)) (a b : Option (List ℕ)) (outcome : Outcome) (answered : List ℕ → Outcome)
-    → IfSome told (λ x. is_broken outcome ≡ false → outcome ≡ answered x) → NotesFront a b outcome → IfSome told (λ x. NotesFront a b (answered x))
-told_noted_answer None a b outcome answered same noted = tt
-told_noted_answer (Some x) a b outcome answered same noted = noted_answer a b outcome (answered x) same noted
-
--- a run that the end did not break was not broken before
-pub unbroken_before : (outcome result : Outcome) → (result ≡ outcome) ⊎ ((result ≡ WriteFault) ⊎ (result ≡ Memory)) → is_broken result ≡ false
-    → is_broken outcome ≡ false
-unbroken_before outcome result (inl same) e = subst (λ o. is_broken o ≡ false) same e
-unbroken_before outcome result (inr (inl fault)) e = let broken = ap is_broken fault in cc
-unbroken_before outcome result (inr (inr memory)) e = let broken = ap is_broken memory in cc

@@ -1,12 +1,18 @@
 -- What several writes and reads after one another do to the octets of a sink and of a source.
-use Rattle.std.proofs.Common.{◌≡◌, ℕ, ◌+◌, ◌-◌, ◌≤◌, List, [], ◌++◌, None, Some, IfSome, ◌∷◌, length, take, drop, refl, ap, sym, ◌∙◌, append_assoc, length-take-le, take-append-drop, subst}
+use Rattle.std.proofs.Common.{◌≡◌, ℕ, ◌+◌, ◌-◌, ◌≤◌, List, [], ◌++◌, ◌∷◌, length, take, drop, refl, ap, sym, ◌∙◌, append_assoc, length-take-le, take-append-drop, subst, Ok, Err, OnErr}
 use Rattle.std.specs.declared.option.Option.{Option}
+use Rattle.std.specs.declared.result.Result.{Result}
 use Rattle.std.specs.Io.KnownBytes.{Appends, Consumes, Keeps}
 use Rattle.std.proofs.KnownBytes.{Appends-trans, Appends-nil, Appends-kept, Consumes-trans}
 use Rattle.std.proofs.lemmas.List.{take-append-le, take_rest}
 use borrow.Rule.Slice.PartMut.{put_mid, post_of}
 use Rattle.std.proofs.Math.Seq.{take-append-add, take-add}
 use Rattle.grib_io.specs.Outside.{AppendsFront}
+
+-- what holds in any case holds of a refusal
+pub on_err : {T E P : Type 0} (result : Result T E) → P → OnErr result P
+on_err (Ok x) p = tt
+on_err (Err y) p = p
 
 -- nothing was appended yet
 pub front_none : (a : Option (List ℕ)) (octets : List ℕ) → AppendsFront a a octets
@@ -47,19 +53,7 @@ written_front a b c xs n before kept = (take n xs, drop n xs, sym (take-append-d
 pub front_stays : (a b c : Option (List ℕ)) (octets : List ℕ) → AppendsFront a b octets → Keeps b c → AppendsFront a c octets
 front_stays a b c octets (front, rest, is, told) kept = (front, rest, is, Appends-kept a b c front told kept)
 
--- the same of octets that another object tells
-pub told_front_stays : (told : Option (List ℕ)) (a b c : Option (List ℕ)) (octets : List ℕ → List ℕ) → IfSome told (λ x. AppendsFront a b (octets x)) → Keeps b c
-    → IfSome told (λ x. AppendsFront a c (octets x))
-told_front_stays None a b c octets front kept = tt
-told_front_stays (Some x) a b c octets front kept = front_stays a b c (octets x) front kept
-
 -- a front of nothing is a front of anything
 pub front_of_nothing : (a b : Option (List ℕ)) (octets : List ℕ) → AppendsFront a b [] → AppendsFront a b octets
 front_of_nothing a b octets ([], rest, is, told) = ([], octets, refl, told)
 front_of_nothing a b octets (x ∷ front, rest, is, told) = absurd (cc is)
-
--- what was appended whole, under a condition that a stronger one implies, where nothing was appended after it
-pub told_whole_stays : (told : Option (List ℕ)) (a b c : Option (List ℕ)) (octets : List ℕ → List ℕ) (P Q : Type 0) → (Q → P)
-    → IfSome told (λ x. P → Appends a b (octets x)) → Keeps b c → IfSome told (λ x. Q → Appends a c (octets x))
-told_whole_stays None a b c octets P Q implies whole kept = tt
-told_whole_stays (Some x) a b c octets P Q implies whole kept = λ q. Appends-kept a b c (octets x) (whole (implies q)) kept

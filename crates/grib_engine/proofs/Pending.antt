@@ -1,11 +1,14 @@
 -- Octets that go through a buffer to a sink, one step after another.
 use Rattle.std.proofs.Common.{◌≡◌, ℕ, ◌+◌, ◌≤◌, suc, List, [], ◌∷◌, ◌++◌, length, take, drop, ap, sym, ◌∙◌, arith, append_assoc, append-nil, length-take-le, take-append-drop, subst}
 use Rattle.std.specs.declared.option.Option.{Option}
+use Rattle.std.specs.declared.result.Result.{Result}
+use Rattle.std.specs.Io.KnownBytes.{Appends}
 use Rattle.std.proofs.KnownBytes.{Appends-trans}
+use Rattle.std.proofs.lemmas.Result.{on_ok_weaker}
 use Rattle.grib_io.specs.Outside.{AppendsFront}
 use Rattle.grib_simple.specs.declared.column.Point.{Point}
 use Rattle.grib_text.specs.Lines.{point_line, point_lines}
-use Rattle.grib_engine.specs.Pending.{AppendsAllBut}
+use Rattle.grib_engine.specs.Pending.{Writes, AppendsAllBut}
 use Rattle.grib_engine.proofs.Outside.{front_more}
 
 -- one step after another
@@ -77,12 +80,24 @@ line_refused a b c old pending xs i x next within before front =
     subst (AppendsFront a c) (append_assoc old (point_lines 1 (take (i + 1) xs)) rest ∙ ap (λ ys. old ++ ys) (sym all))
     (front_more a c (old ++ point_lines 1 (take (i + 1) xs)) rest front)
 
--- and then a front of what was pending
-pub pending_ends : (a b c : Option (List ℕ)) (octets pending shown : List ℕ) → AppendsAllBut a b octets pending → shown ≡ pending → AppendsFront b c shown
+-- and then all of what was pending, or a front of it
+pending_ends : (a b c : Option (List ℕ)) (octets pending shown : List ℕ) → AppendsAllBut a b octets pending → shown ≡ pending → Appends b c shown
+    → Appends a c octets
+pending_ends a b c octets pending shown (first, is, told) same told_rest =
+    subst (Appends a c) (ap (λ xs. first ++ xs) same ∙ sym is) (Appends-trans a b c first shown told told_rest)
+
+pending_ends_front : (a b c : Option (List ℕ)) (octets pending shown : List ℕ) → AppendsAllBut a b octets pending → shown ≡ pending → AppendsFront b c shown
     → AppendsFront a c octets
-pending_ends a b c octets pending shown (first, is, told) same (front, rest, is_front, told_front) = (
+pending_ends_front a b c octets pending shown (first, is, told) same (front, rest, is_front, told_front) = (
   first ++ front,
   rest,
   is ∙ (ap (λ xs. first ++ xs) (sym same ∙ is_front) ∙ sym (append_assoc first front rest)),
   Appends-trans a b c first front told told_front,
 )
+
+pub pending_written : {T E : Type 0} (result : Result T E) (a b c : Option (List ℕ)) (octets pending shown : List ℕ) → AppendsAllBut a b octets pending
+    → shown ≡ pending → Writes result b c shown → Writes result a c octets
+pending_written result a b c octets pending shown before same now = record {
+  whole = on_ok_weaker result (pending_ends a b c octets pending shown before same) now.whole;
+  front = pending_ends_front a b c octets pending shown before same now.front;
+}

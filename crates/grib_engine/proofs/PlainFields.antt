@@ -46,7 +46,7 @@ in_force_of p1 p3 p4 p5 p6 p7 h = record {
   seventh = rw (h.seventh);
 }
 
--- all points are present where there is no bit-map
+-- all points are present where there is no bitmap
 pub mask_all : (p1 p3 p4 p5 p6 p7 : Placed) → InOrder p1 p3 p4 p5 p6 p7 → bitmap_indicator p6.octets ≡ 255
     → mask_in_force (p7 ∷ p6 ∷ p5 ∷ p4 ∷ p3 ∷ p1 ∷ []) ≡ replicate (grid_points p3.octets) true
 mask_all p1 p3 p4 p5 p6 p7 h all = rw (h.sixth, h.seventh, all, h.fifth, h.fourth, h.third)

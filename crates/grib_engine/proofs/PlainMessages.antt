@@ -1,7 +1,8 @@
 -- When octets are in the plain form, by the sections that stand in them, and what their parts are.
 use Rattle.std.proofs.Common.{◌≡◌, ℕ, ◌<◌, true, false, List, ◌++◌, take, drop, replicate, All, refl, ap, sym, ◌∙◌}
 use Rattle.std.proofs.lemmas.Bool.{false_from_ne_true}
-use Rattle.grib2_sections.specs.Head.{indicator, end_mark}
+use Rattle.grib2_sections.specs.Head.{indicator, end_mark, edition, discipline, head_of}
+use Rattle.grib2_sections.specs.declared.indicator.Head.{Head}
 use Rattle.grib2_message.specs.Grid.{grid_points}
 use Rattle.grib2_message.specs.View.{mask_in_force}
 use Rattle.grib2_message.specs.Fields.{part_octets, field_mask, column_of}
@@ -73,14 +74,18 @@ column_is octets s1 s3 s4 s5 s6 s7 p q a =
     ∙ (ap (column_from s5 (replicate (grid_points s3) true)) q.seventh
     ∙ column_of_all s5 s7 (grid_points s3) a.representation.template a.representation.values))
 
-pub parts_with : (octets s1 s3 s4 s5 s6 s7 : List ℕ) → take 4 octets ≡ indicator → HasSections octets s1 s3 s4 s5 s6 s7 → ArePlain s1 s3 s4 s5 s6 s7
-    → PlainParts octets s1 s3 s4 s5 s7
-parts_with octets s1 s3 s4 s5 s6 s7 starts h a =
+-- the discipline is told by Section 0
+discipline_is : (octets : List ℕ) (head : Head) → head ≡ head_of octets → edition octets ≡ 2 → head.discipline ≡ discipline octets
+discipline_is octets head is second = ap (λ x. x.discipline) is ∙ rw second refl
+
+pub parts_with : (octets : List ℕ) (head : Head) (s1 s3 s4 s5 s6 s7 : List ℕ) → take 4 octets ≡ indicator → head ≡ head_of octets
+    → HasSections octets s1 s3 s4 s5 s6 s7 → ArePlain s1 s3 s4 s5 s6 s7 → PlainParts octets head.discipline s1 s3 s4 s5 s7
+parts_with octets head s1 s3 s4 s5 s6 s7 starts is h a =
     let m = message_of octets s1 s3 s4 s5 s6 s7 starts h a in
     let p = places octets s1 s3 s4 s5 s6 s7 m.grammar m.numbers in
     let q = parts octets s1 s3 s4 s5 s6 s7 p in
     record {
-      long = h.head.least;
+      is_discipline = discipline_is octets head is h.head.edition_stands;
       is_identification = sym q.first;
       is_grid = sym q.third;
       is_product = sym q.fourth;

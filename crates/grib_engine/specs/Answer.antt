@@ -31,14 +31,14 @@ abbrev pub check_lines : List ℕ → List ℕ
 check_lines octets = check_line 1 0 2 (length octets) 1 ++ total_line 1 1 0
 
 -- the line on the numbers of a column
-abbrev pub numbers_line : Column → List ℕ
-numbers_line column = reference_line (reduced (ieee column.reference)) (signed (bits_of 16 column.e)) (signed (bits_of 16 column.d))
+abbrev pub reference_line_of : Column → List ℕ
+reference_line_of column = reference_line (reduced (ieee column.reference)) (signed (bits_of 16 column.e)) (signed (bits_of 16 column.d))
 
 -- the lines of `dump`, of such an input: on its field, on the numbers of its column, and on its points
 abbrev pub dump_lines : List ℕ → List ℕ
 dump_lines octets =
     let column = column_of octets 1 in
-    (list_line octets 1 1 ++ numbers_line column) ++ point_lines 1 column.points
+    (list_line octets 1 1 ++ reference_line_of column) ++ point_lines 1 column.points
 
 abbrev pub lines_of : Job → List ℕ → List ℕ
 lines_of Check octets = check_lines octets

@@ -4,4 +4,6 @@ pub mod Plain
 pub mod PlainParts
 pub mod Answer
 pub mod Counts
+pub mod Run
+pub mod Closing
 pub mod Pending

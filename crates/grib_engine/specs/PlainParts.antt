@@ -1,7 +1,7 @@
 -- What holds of the sections of a message in the plain form.
 use Rattle.std.specs.Prelude.{◌≡◌, ℕ, ◌+◌, ◌*◌, ◌<◌, ◌≤◌, IsTrue, List, [], ◌∷◌, ◌++◌, length, map, drop}
 use Rattle.grib_bits.specs.Binary32.{ieee_exponent}
-use Rattle.grib2_sections.specs.Head.{edition, total_length, end_mark}
+use Rattle.grib2_sections.specs.Head.{edition, discipline, total_length, end_mark}
 use Rattle.grib2_sections.specs.Frame.{section_length, section_number}
 use Rattle.grib2_message.specs.Grid.{grid_source, grid_points, grid_template, list_octets, ni, nj}
 use Rattle.grib2_message.specs.Product.{product_template, coordinate_count}
@@ -72,7 +72,7 @@ pub record IsPlainRepresentation (s : List ℕ) (points : ℕ) : Type 0 where
   pub finite : ieee_exponent (reference_word s) < 255
   pub width : bit_width s ≤ 48
 
--- Section 6 without a bit-map
+-- Section 6 without a bitmap
 pub record IsPlainBitmap (s : List ℕ) : Type 0 where
   pub least : 6 ≤ length s
   pub all_present : bitmap_indicator s ≡ 255
@@ -87,8 +87,8 @@ pub record ArePlain (s1 s3 s4 s5 s6 s7 : List ℕ) : Type 0 where
   pub values : plain_bits s5 + 40 ≤ 8 * length s7
 
 -- these are the parts of the message's only field, and its column is told by two of them
-pub record PlainParts (octets identification grid product representation values : List ℕ) : Type 0 where
-  pub long : 20 ≤ length octets
+pub record PlainParts (octets : List ℕ) (field_discipline : ℕ) (identification grid product representation values : List ℕ) : Type 0 where
+  pub is_discipline : field_discipline ≡ discipline octets
   pub is_identification : identification ≡ part_octets octets 1 1
   pub is_grid : grid ≡ part_octets octets 1 3
   pub is_product : product ≡ part_octets octets 1 4

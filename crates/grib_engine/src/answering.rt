@@ -1,13 +1,14 @@
 //! The answer to the octets of an input.
 
 ghost use Rattle.std.specs.Prelude.{◌≡◌, ◌≢◌, true, false, take, Some, None};
-ghost use Rattle.std.specs.Io.KnownBytes.{Appends};
-ghost use Rattle.grib_io.specs.Outside.{AppendsFront, Counted};
+ghost use Rattle.grib_io.specs.Outside.{Counted};
 ghost use Rattle.grib_io.specs.Rows.{first_fault};
 ghost use Rattle.grib2_sections.specs.Head.{indicator, head_rows, head_of};
-ghost use Rattle.grib_engine.specs.Answer.{answer, may_be_message as begins_message, answer_by_head, plain_answer, silent};
+ghost use Rattle.grib_engine.specs.Answer as answers;
+ghost use Rattle.grib_engine.specs.Answer.{answer, answer_by_head, plain_answer, silent};
 ghost use Rattle.grib_engine.specs.declared.job.Job.{Job as AnyJob};
 ghost use Rattle.grib_engine.specs.Outcomes.{is_broken};
+ghost use Rattle.grib_engine.specs.Run.{GivesAnswer};
 ghost use Rattle.grib_engine.specs.declared.outcome.Outcome.TheVariants.{ReadFault, WriteFault};
 
 use crate::job::Job;
@@ -20,10 +21,13 @@ use grib2_sections::{Head, read_head};
 use std::alloc::Global;
 
 /// Answers the octets of an input, but for the note.
-pub fn answer_octets<T: Sink>(alloc: Global, job: &Job, octets: &[u8], output: &mut T) -> Outcome
-    ensures outcome { is_broken result ≡ false → result ≡ (answer job.now octets.now).outcome }
-    ensures whole { is_broken result ≡ false → Appends (T.contents output.old) (T.contents output.new) (answer job.now octets.now).output }
-    ensures front { AppendsFront (T.contents output.old) (T.contents output.new) (answer job.now octets.now).output }
+pub(crate) fn answer_octets<T: Sink>(
+    alloc: Global,
+    job: &Job,
+    octets: &[u8],
+    output: &mut T,
+) -> Outcome
+    ensures answer { GivesAnswer (answer job.now octets.now) result (T.contents output.old) (T.contents output.new) }
     ensures no_read { result ≢ ReadFault }
     ensures fault { result ≡ WriteFault → Counted (T.faults output.old) (T.faults output.new) }
     ensures calm { result ≢ WriteFault → T.faults output.new ≡ T.faults output.old }
@@ -39,14 +43,14 @@ pub fn answer_octets<T: Sink>(alloc: Global, job: &Job, octets: &[u8], output: &
 
 /// Whether an input begins with `GRIB` and has at most 65,536 octets.
 fn may_be_message(octets: &[u8]) -> bool
-    ensures told { result ≡ begins_message octets.now }
+    ensures told { result ≡ answers.may_be_message octets.now }
     ensures begins { result ≡ true → take 4 octets.now ≡ indicator }
 {
     octets.len() <= MOST && octets.starts_with(b"GRIB")
 }
 
-/// The outcome where Section 0 is refused: for what is not there and for its edition. Total lengths are not
-/// judged so far.
+/// The outcome where Section 0 of these octets is refused: for what is not there and for its edition. Total
+/// lengths are not judged so far.
 fn outcome_of_refusal(octets: &[u8], fault: Fault) -> Outcome
     requires { first_fault (head_rows octets.now) ≡ Some fault }
     ensures told { (job : AnyJob) → silent result ≡ answer_by_head job octets.now }
@@ -69,9 +73,7 @@ fn answer_message<T: Sink>(
     requires indicated { take 4 octets.now ≡ indicator }
     requires begun { first_fault (head_rows octets.now) ≡ None }
     requires head { head.now ≡ head_of octets.now }
-    ensures outcome { is_broken result ≡ false → result ≡ (plain_answer job.now octets.now).outcome }
-    ensures whole { is_broken result ≡ false → Appends (T.contents output.old) (T.contents output.new) (plain_answer job.now octets.now).output }
-    ensures front { AppendsFront (T.contents output.old) (T.contents output.new) (plain_answer job.now octets.now).output }
+    ensures answer { GivesAnswer (plain_answer job.now octets.now) result (T.contents output.old) (T.contents output.new) }
     ensures no_read { result ≢ ReadFault }
     ensures fault { result ≡ WriteFault → Counted (T.faults output.old) (T.faults output.new) }
     ensures calm { result ≢ WriteFault → T.faults output.new ≡ T.faults output.old }

@@ -1,10 +1,12 @@
 //! The end of a run: its note, and what a lower layer holds back.
 
-ghost use Rattle.std.specs.Prelude.{◌≡◌, ◌≢◌, ◌⊎◌, true, false, OnOk, MatchResult};
+ghost use Rattle.std.specs.Prelude.{◌≡◌, ◌≢◌, ◌<◌, ◌⊎◌, true, false, OnOk, MatchResult};
 ghost use Rattle.std.specs.Io.KnownBytes.{Appends, Keeps};
 ghost use Rattle.grib_io.specs.Outside.{AppendsFront};
+ghost use Rattle.grib_engine.specs.Closing.{settled_after, Unfinished};
 ghost use Rattle.grib_engine.specs.Counts.{Calm, OneCounted, CountsOne};
 ghost use Rattle.grib_engine.specs.Outcomes.{note_of, is_cut_short, NotesFront};
+ghost use Rattle.grib_engine.specs.Pending.{Writes};
 ghost use Rattle.grib_engine.specs.declared.outcome.Outcome.TheVariants.{WriteFault, Memory};
 
 use crate::outcome::Outcome;
@@ -32,6 +34,14 @@ pub fn close<T: Sink, N: Sink>(
     ensures noted_front { AppendsFront (N.contents notes.old) (N.contents notes.new) note.now }
     ensures settled { is_cut_short result ≡ false → (T.settled output.new ≡ true) × (N.settled notes.new ≡ true) }
     ensures output_kept { Keeps (T.contents output.old) (T.contents output.new) }
+
+    // How far it came: to the note, with the output as it was and nothing finished; to the output, with the
+    // note appended and not finished; or past the output, which is settled.
+    ensures order { ((output.new ≡ output.old) × Unfinished (N.settled notes.old) (N.settled notes.new))
+        ⊎ ((Appends (N.contents notes.old) (N.contents notes.new) note.now × (N.faults notes.new ≡ N.faults notes.old)
+        × (N.settled notes.new ≡ settled_after (N.settled notes.old) note.now))
+        ⊎ (Appends (N.contents notes.old) (N.contents notes.new) note.now × (T.faults output.new ≡ T.faults output.old)
+        × (T.settled output.new ≡ true))) }
 {
     if matches!(outcome, Outcome::WriteFault) {
         return outcome;
@@ -45,7 +55,7 @@ pub fn close<T: Sink, N: Sink>(
 
 /// Ends a run with the note of its outcome. Where there is no memory for the note, the outcome is want
 /// of memory.
-pub fn conclude<T: Sink, N: Sink>(
+pub(crate) fn close_with_note<T: Sink, N: Sink>(
     alloc: Global,
     outcome: Outcome,
     output: &mut T,
@@ -60,6 +70,9 @@ pub fn conclude<T: Sink, N: Sink>(
     ensures noted_front { NotesFront (N.contents notes.old) (N.contents notes.new) outcome }
     ensures settled { is_cut_short result ≡ false → (T.settled output.new ≡ true) × (N.settled notes.new ≡ true) }
     ensures output_kept { Keeps (T.contents output.old) (T.contents output.new) }
+
+    // Where the output fails, the notes are not finished after it.
+    ensures unfinished { T.faults output.old < T.faults output.new → Unfinished (N.settled notes.old) (N.settled notes.new) }
 {
     match outcome {
         Outcome::Refused(refusal) => match refusal_note(alloc, &refusal) {
@@ -75,13 +88,17 @@ pub fn conclude<T: Sink, N: Sink>(
 
 /// Appends the note, and finishes both sinks.
 fn settle<T: Sink, N: Sink>(note: &[u8], output: &mut T, notes: &mut N) -> Result<(), Stop>
-    ensures noted { OnOk result (Appends (N.contents notes.old) (N.contents notes.new) note.now) }
-    ensures noted_front { AppendsFront (N.contents notes.old) (N.contents notes.new) note.now }
+    ensures noted { Writes result (N.contents notes.old) (N.contents notes.new) note.now }
     ensures settled { OnOk result ((T.settled output.new ≡ true) × (N.settled notes.new ≡ true)) }
     ensures output_kept { Keeps (T.contents output.old) (T.contents output.new) }
     ensures counted { MatchResult result
         (λ _. Calm (T.faults output.old) (T.faults output.new) (N.faults notes.old) (N.faults notes.new))
         (λ stop. CountsOne stop (T.faults output.old) (T.faults output.new) (N.faults notes.old) (N.faults notes.new)) }
+    ensures order { ((output.new ≡ output.old) × Unfinished (N.settled notes.old) (N.settled notes.new))
+        ⊎ ((Appends (N.contents notes.old) (N.contents notes.new) note.now × (N.faults notes.new ≡ N.faults notes.old)
+        × (N.settled notes.new ≡ settled_after (N.settled notes.old) note.now))
+        ⊎ (Appends (N.contents notes.old) (N.contents notes.new) note.now × (T.faults output.new ≡ T.faults output.old)
+        × (T.settled output.new ≡ true))) }
 {
     write_whole(notes, note)?;
     output.finish()?;

@@ -11,6 +11,8 @@ mod points;
 mod printing;
 mod reading;
 mod serving;
+#[cfg(test)]
+mod tests;
 mod writing;
 
 pub use closing::close;

@@ -4,18 +4,16 @@ ghost use Rattle.std.specs.Prelude.{◌≡◌, ℕ, ◌+◌, ◌*◌, ◌<◌, �
 ghost use Rattle.grib_io.specs.Rows.{first_fault};
 ghost use Rattle.grib2_sections.specs.Head.{indicator, head_rows, head_of};
 ghost use Rattle.grib2_message.specs.Grid.{grid_points};
+ghost use Rattle.grib_bits.specs.Binary32.{ieee_exponent};
+ghost use Rattle.grib_simple.specs.Packing.{reference_word};
 ghost use Rattle.grib_simple.specs.Simple.{plain_bits};
 ghost use Rattle.grib_engine.specs.Plain.{is_plain};
 ghost use Rattle.grib_engine.specs.PlainParts.{PlainParts, HasHead, HasSections, BeginsWith, IsPlainGrid, IsPlainProduct, IsPlainRepresentation, IsPlainBitmap, ArePlain};
 
 use byteorder::{BigEndian, ByteOrder};
+use grib_dyadic::Dyadic;
+use grib_text::ListedField;
 use grib2_sections::Head;
-
-#[cfg(test)]
-mod tests;
-
-/// The most octets of a message.
-const MOST_OCTETS: usize = 268_435_456;
 
 /// The most points of a grid.
 const MOST_POINTS: u32 = 33_554_432;
@@ -25,14 +23,8 @@ const MOST_POINTS: u32 = 33_554_432;
 pub(crate) struct PlainMessage<'a> {
     /// The whole message.
     pub octets: &'a [u8],
-    /// Section 1.
-    pub identification: &'a [u8],
-    /// Section 3, of template 3.0.
-    pub grid: &'a [u8],
-    /// Section 4, of template 4.0.
-    pub product: &'a [u8],
-    /// Section 5, of template 5.0.
-    pub representation: &'a [u8],
+    /// What describes its field, of templates 3.0, 4.0 and 5.0.
+    pub listed: ListedField<'a>,
     /// Section 7.
     pub values: &'a [u8],
 }
@@ -47,7 +39,8 @@ impl<'a> PlainMessage<'a> {
 
         ensures exact { is_some result ≡ is_plain octets.now }
         ensures whole { IfSome result (λ p. p.octets.now ≡ octets.now) }
-        ensures parts { IfSome result (λ p. PlainParts octets.now p.identification.now p.grid.now p.product.now p.representation.now p.values.now) }
+        ensures parts { IfSome result (λ p. PlainParts octets.now p.listed.discipline p.listed.identification.now p.listed.grid.now
+            p.listed.product.now p.listed.representation.now p.values.now) }
     {
         let sections = Sections::of(octets, head)?;
         if !sections.are_plain() {
@@ -55,16 +48,19 @@ impl<'a> PlainMessage<'a> {
         }
         Some(PlainMessage {
             octets,
-            identification: sections.identification,
-            grid: sections.grid,
-            product: sections.product,
-            representation: sections.representation,
+            listed: ListedField {
+                discipline: head.discipline,
+                identification: sections.identification,
+                grid: sections.grid,
+                product: sections.product,
+                representation: sections.representation,
+            },
             values: sections.values,
         })
     }
 }
 
-// One section of each number after 0 but 2.
+/// Sections 1 and 3 to 7, each whole.
 #[derive(Clone, Copy)]
 struct Sections<'a> {
     identification: &'a [u8],
@@ -76,7 +72,7 @@ struct Sections<'a> {
 }
 
 impl<'a> Sections<'a> {
-    // The sections between Section 0 and the end mark.
+    /// The sections between Section 0 and the end mark.
     fn of(octets: &'a [u8], head: &Head) -> Option<Sections<'a>>
         requires begun { first_fault (head_rows octets.now) ≡ None }
         requires head { head.now ≡ head_of octets.now }
@@ -103,7 +99,7 @@ impl<'a> Sections<'a> {
         })
     }
 
-    // Whether no row refuses them and their templates are 3.0, 4.0 and 5.0, without lists.
+    /// Whether no row refuses them and their templates are 3.0, 4.0 and 5.0, without lists.
     fn are_plain(&self) -> bool
         ensures { IsTrue result ↔ ArePlain self.now.identification.now self.now.grid.now self.now.product.now self.now.representation.now self.now.bitmap.now self.now.values.now }
     {
@@ -117,22 +113,21 @@ impl<'a> Sections<'a> {
     }
 }
 
-// What follows Section 0 of a message of edition 2 that has all these octets.
+/// What follows Section 0 of a message of edition 2 that has all these octets.
 fn split_head<'a>(octets: &'a [u8], head: &Head) -> Option<&'a [u8]>
     requires begun { first_fault (head_rows octets.now) ≡ None }
     requires head { head.now ≡ head_of octets.now }
     ensures head { IfSome result (λ rest. HasHead octets.now × (rest.now ≡ drop 16 octets.now)) }
     ensures other { IfNone result (HasHead octets.now → ⊥) }
 {
-    let fits = 20 <= octets.len() && octets.len() <= MOST_OCTETS;
-    if fits && head.edition == 2 && head.total == octets.len() as u64 {
+    if head.edition == 2 && head.total == octets.len() as u64 {
         Some(&octets[16..])
     } else {
         None
     }
 }
 
-// The section at the front, of the length that it states, if it has this number, and what follows it.
+/// The section at the front, of the length that it states, if it has this number, and what follows it.
 fn split_section(octets: &[u8], number: u8) -> Option<(&[u8], &[u8])>
     ensures begins { IfSome result (λ p. BeginsWith number octets.now p.0.now p.1.now) }
     ensures other { IfNone result ((s rest : List ℕ) → BeginsWith number octets.now s rest → ⊥) }
@@ -147,7 +142,7 @@ fn split_section(octets: &[u8], number: u8) -> Option<(&[u8], &[u8])>
     Some(octets.split_at(length))
 }
 
-// Section 3 of template 3.0 without a list of rows, by its rows.
+/// Section 3 of template 3.0 without a list of rows, by its rows.
 fn is_plain_grid(section: &[u8]) -> bool
     ensures { IsTrue result ↔ IsPlainGrid section.now }
 {
@@ -158,15 +153,15 @@ fn is_plain_grid(section: &[u8]) -> bool
     if points == 0 || points > MOST_POINTS {
         return false;
     }
-    let columns = u64::from(BigEndian::read_u32(&section[30..]));
-    let rows = u64::from(BigEndian::read_u32(&section[34..]));
-    if columns * rows != u64::from(points) {
+    let ni = u64::from(BigEndian::read_u32(&section[30..]));
+    let nj = u64::from(BigEndian::read_u32(&section[34..]));
+    if ni * nj != u64::from(points) {
         return false;
     }
     section[5] == 0 && section[10] == 0 && BigEndian::read_u16(&section[12..]) == 0
 }
 
-// The number of grid points.
+/// The number of grid points.
 fn points_of(grid: &[u8]) -> u32
     requires { 10 ≤ length grid.now }
     ensures { result ≡ grid_points grid.now }
@@ -174,7 +169,7 @@ fn points_of(grid: &[u8]) -> u32
     BigEndian::read_u32(&grid[6..])
 }
 
-// Section 4 of template 4.0 without coordinate values, by its rows.
+/// Section 4 of template 4.0 without coordinate values, by its rows.
 fn is_plain_product(section: &[u8]) -> bool
     ensures { IsTrue result ↔ IsPlainProduct section.now }
 {
@@ -183,15 +178,11 @@ fn is_plain_product(section: &[u8]) -> bool
         && BigEndian::read_u16(&section[7..]) == 0
 }
 
-// Section 5 of template 5.0, by its rows, with a value for each point.
+/// Section 5 of template 5.0, by its rows, with a value for each point.
 fn is_plain_representation(section: &[u8], points: u32) -> bool
     ensures { IsTrue result ↔ IsPlainRepresentation section.now points }
 {
-    if section.len() < 21 {
-        return false;
-    }
-    let reference = BigEndian::read_u32(&section[11..]);
-    if (reference >> 23) % 256 == 255 {
+    if section.len() < 21 || !has_finite_reference(section) {
         return false;
     }
     BigEndian::read_u32(&section[5..]) == points
@@ -199,14 +190,22 @@ fn is_plain_representation(section: &[u8], points: u32) -> bool
         && section[19] <= 48
 }
 
-// Section 6 without a bit-map.
+/// Whether the reference value of Section 5 is a number.
+fn has_finite_reference(section: &[u8]) -> bool
+    requires { 21 ≤ length section.now }
+    ensures { IsTrue result ↔ (ieee_exponent (reference_word section.now) < 255) }
+{
+    Dyadic::from_ieee(BigEndian::read_u32(&section[11..])).is_ok()
+}
+
+/// Section 6 without a bitmap.
 fn is_plain_bitmap(section: &[u8]) -> bool
     ensures { IsTrue result ↔ IsPlainBitmap section.now }
 {
     section.len() >= 6 && section[5] == 255
 }
 
-// Whether Section 7 has the bits of all values.
+/// Whether Section 7 has the bits of all values.
 fn has_all_values(representation: &[u8], values: &[u8]) -> bool
     requires { 21 ≤ length representation.now }
     ensures { IsTrue result ↔ (plain_bits representation.now + 40 ≤ 8 * length values.now) }

@@ -1,10 +1,9 @@
 //! The lines of the points of a column, through a buffer.
 
-ghost use Rattle.std.specs.Prelude.{◌≡◌, ◌^◌, ◌<◌, ◌++◌, length, OnOk};
-ghost use Rattle.std.specs.Io.KnownBytes.{Appends};
-ghost use Rattle.grib_io.specs.Outside.{AppendsFront, CountsStops};
+ghost use Rattle.std.specs.Prelude.{◌^◌, ◌<◌, ◌++◌, length};
+ghost use Rattle.grib_io.specs.Outside.{CountsStops};
 ghost use Rattle.grib_text.specs.Lines.{point_line, point_lines};
-ghost use Rattle.grib_engine.specs.Pending.{AppendsAllBut};
+ghost use Rattle.grib_engine.specs.Pending.{Writes, WritesAllBut};
 
 use crate::writing::write_whole;
 use grib_io::{Sink, Stop};
@@ -12,18 +11,17 @@ use grib_simple::Point;
 use grib_text::append_point_line;
 
 /// From so many octets on a buffer is passed on.
-pub const FULL: usize = 65_536;
+pub(crate) const FULL: usize = 65_536;
 
 /// Writes these lines, and after them the line of each point. The lines are the buffer that those of the
 /// points go through.
-pub fn write_with_points<T: Sink>(
+pub(crate) fn write_with_points<T: Sink>(
     mut lines: Vec<u8>,
     points: &[Point],
     output: &mut T,
 ) -> Result<(), Stop>
     requires few { length points.now < 2 ^ 32 }
-    ensures whole { OnOk result (Appends (T.contents output.old) (T.contents output.new) (lines.items ++ point_lines 1 points.now)) }
-    ensures front { AppendsFront (T.contents output.old) (T.contents output.new) (lines.items ++ point_lines 1 points.now) }
+    ensures octets { Writes result (T.contents output.old) (T.contents output.new) (lines.items ++ point_lines 1 points.now) }
     ensures counted { CountsStops result (T.faults output.old) (T.faults output.new) }
 {
     append_points(&mut lines, points, output)?;
@@ -34,9 +32,8 @@ pub fn write_with_points<T: Sink>(
 /// is left in the buffer is still to be written.
 fn append_points<T: Sink>(lines: &mut Vec<u8>, points: &[Point], output: &mut T) -> Result<(), Stop>
     requires few { length points.now < 2 ^ 32 }
-    ensures whole { OnOk result (AppendsAllBut (T.contents output.old) (T.contents output.new)
-        (lines.old.items ++ point_lines 1 points.now) lines.new.items) }
-    ensures front { AppendsFront (T.contents output.old) (T.contents output.new) (lines.old.items ++ point_lines 1 points.now) }
+    ensures octets { WritesAllBut result (T.contents output.old) (T.contents output.new)
+        (lines.old.items ++ point_lines 1 points.now) lines.new.items }
     ensures counted { CountsStops result (T.faults output.old) (T.faults output.new) }
 {
     for (index, point) in points.iter().enumerate() {
@@ -53,9 +50,8 @@ fn append_point<T: Sink>(
     point: &Point,
     output: &mut T,
 ) -> Result<(), Stop>
-    ensures whole { OnOk result (AppendsAllBut (T.contents output.old) (T.contents output.new)
-        (lines.old.items ++ point_line place point.now) lines.new.items) }
-    ensures front { AppendsFront (T.contents output.old) (T.contents output.new) (lines.old.items ++ point_line place point.now) }
+    ensures octets { WritesAllBut result (T.contents output.old) (T.contents output.new)
+        (lines.old.items ++ point_line place point.now) lines.new.items }
     ensures counted { CountsStops result (T.faults output.old) (T.faults output.new) }
 {
     make_room(lines, output)?;
@@ -66,8 +62,7 @@ fn append_point<T: Sink>(
 /// Writes a full buffer, and empties it.
 #[inline]
 fn make_room<T: Sink>(lines: &mut Vec<u8>, output: &mut T) -> Result<(), Stop>
-    ensures whole { OnOk result (AppendsAllBut (T.contents output.old) (T.contents output.new) lines.old.items lines.new.items) }
-    ensures front { AppendsFront (T.contents output.old) (T.contents output.new) lines.old.items }
+    ensures octets { WritesAllBut result (T.contents output.old) (T.contents output.new) lines.old.items lines.new.items }
     ensures counted { CountsStops result (T.faults output.old) (T.faults output.new) }
 {
     if lines.len() >= FULL {

@@ -1,14 +1,16 @@
 //! A whole run: the input is read, answered, and the run is closed.
 
-ghost use Rattle.std.specs.Prelude.{◌≡◌, ◌≢◌, ◌≤◌, ◌<◌, ◌⊎◌, true, false, drop, IfSome, Some};
+ghost use Rattle.std.specs.Prelude.{◌≡◌, ◌≢◌, ◌<◌, true, false, drop, IfSome, Some};
 ghost use Rattle.std.specs.Io.KnownBytes.{Appends, Keeps, IsAtEnd};
-ghost use Rattle.grib_io.specs.Outside.{AppendsFront, Rose, Counted};
+ghost use Rattle.grib_io.specs.Outside.{Counted};
 ghost use Rattle.grib_engine.specs.Answer.{answer};
+ghost use Rattle.grib_engine.specs.Closing.{Unfinished};
 ghost use Rattle.grib_engine.specs.Outcomes.{note_of, is_broken, is_cut_short, NotesFront};
-ghost use Rattle.grib_engine.specs.declared.outcome.Outcome.TheVariants.{Done, ReadFault, WriteFault, Memory};
+ghost use Rattle.grib_engine.specs.Run.{GivesAnswer, TakesAtMost, CountsRun};
+ghost use Rattle.grib_engine.specs.declared.outcome.Outcome.TheVariants.{Done, ReadFault, WriteFault};
 
 use crate::answering::answer_octets;
-use crate::closing::conclude;
+use crate::closing::close_with_note;
 use crate::job::Job;
 use crate::outcome::Outcome;
 use crate::reading::read_front;
@@ -25,43 +27,42 @@ pub fn serve<S: Source, T: Sink, N: Sink, H: Shelf>(
     notes: &mut N,
     shelf: &mut H,
 ) -> Outcome
-    // What is answered, unless a device or want of memory ends the run.
-    ensures outcome { IfSome (S.left input.old) (λ octets. is_broken result ≡ false → result ≡ (answer job.now octets).outcome) }
-    ensures output { IfSome (S.left input.old)
-        (λ octets. is_broken result ≡ false → Appends (T.contents output.old) (T.contents output.new) (answer job.now octets).output) }
-    ensures taken { IfSome (S.left input.old) (λ octets. is_broken result ≡ false → S.left input.new ≡ Some (drop 65537 octets)) }
-    ensures end { result ≡ Done → IsAtEnd (S.left input.new) }
-    ensures noted { is_cut_short result ≡ false → Appends (N.contents notes.old) (N.contents notes.new) (note_of result) }
-    ensures settled { is_cut_short result ≡ false → (T.settled output.new ≡ true) × (N.settled notes.new ≡ true) }
-
-    // What was written in any case.
-    ensures output_front { IfSome (S.left input.old)
-        (λ octets. AppendsFront (T.contents output.old) (T.contents output.new) (answer job.now octets).output) }
-    ensures noted_front { IfSome (S.left input.old) (λ octets. NotesFront (N.contents notes.old) (N.contents notes.new) (answer job.now octets).outcome) }
+    // The outcome and the output, by the answer to what was left of the input.
+    ensures answer { IfSome (S.left input.old)
+        (λ octets. GivesAnswer (answer job.now octets) result (T.contents output.old) (T.contents output.new)) }
     ensures unwritten { result ≡ ReadFault → Keeps (T.contents output.old) (T.contents output.new) }
-    ensures shelf { shelf.new ≡ shelf.old }
 
-    // Faults and their counts.
-    ensures read_fault { result ≡ ReadFault → Rose (S.faults input.old) (S.faults input.new) }
-    ensures write_fault { result ≡ WriteFault
-        → Rose (T.faults output.old) (T.faults output.new) ⊎ Rose (N.faults notes.old) (N.faults notes.new) }
-    ensures input_counted { S.faults input.old < S.faults input.new → is_broken result ≡ true }
-    ensures output_counted { T.faults output.old < T.faults output.new → result ≡ WriteFault }
-    ensures notes_counted { N.faults notes.old < N.faults notes.new → result ≡ WriteFault }
-    ensures never_falls { (S.faults input.old ≤ S.faults input.new) × (T.faults output.old ≤ T.faults output.new)
-        × (N.faults notes.old ≤ N.faults notes.new) }
+    // How much of the input was taken.
+    ensures taken { IfSome (S.left input.old) (λ octets. is_broken result ≡ false → S.left input.new ≡ Some (drop 65537 octets)) }
+    ensures at_most { TakesAtMost 65537 (S.left input.old) (S.left input.new) }
+    ensures end { result ≡ Done → IsAtEnd (S.left input.new) }
+
+    // The notes, and the end of the run.
+    ensures noted { is_cut_short result ≡ false → Appends (N.contents notes.old) (N.contents notes.new) (note_of result) }
+    ensures noted_front { IfSome (S.left input.old)
+        (λ octets. NotesFront (N.contents notes.old) (N.contents notes.new) (answer job.now octets).outcome) }
+    ensures settled { is_cut_short result ≡ false → (T.settled output.new ≡ true) × (N.settled notes.new ≡ true) }
+    ensures unfinished { T.faults output.old < T.faults output.new → Unfinished (N.settled notes.old) (N.settled notes.new) }
+
+    ensures counts { CountsRun result (S.faults input.old) (S.faults input.new) (T.faults output.old) (T.faults output.new)
+        (N.faults notes.old) (N.faults notes.new) }
+    ensures shelf { shelf.new ≡ shelf.old }
 {
-    let outcome = attempt(alloc, job, input, output);
-    conclude(alloc, outcome, output, notes)
+    let outcome = read_and_answer(alloc, job, input, output);
+    close_with_note(alloc, outcome, output, notes)
 }
 
 /// Reads the input and answers it, but for the note.
-fn attempt<S: Source, T: Sink>(alloc: Global, job: &Job, input: &mut S, output: &mut T) -> Outcome
-    ensures outcome { IfSome (S.left input.old) (λ octets. is_broken result ≡ false → result ≡ (answer job.now octets).outcome) }
-    ensures whole { IfSome (S.left input.old)
-        (λ octets. is_broken result ≡ false → Appends (T.contents output.old) (T.contents output.new) (answer job.now octets).output) }
-    ensures front { IfSome (S.left input.old) (λ octets. AppendsFront (T.contents output.old) (T.contents output.new) (answer job.now octets).output) }
+fn read_and_answer<S: Source, T: Sink>(
+    alloc: Global,
+    job: &Job,
+    input: &mut S,
+    output: &mut T,
+) -> Outcome
+    ensures answer { IfSome (S.left input.old)
+        (λ octets. GivesAnswer (answer job.now octets) result (T.contents output.old) (T.contents output.new)) }
     ensures taken { IfSome (S.left input.old) (λ octets. is_broken result ≡ false → S.left input.new ≡ Some (drop 65537 octets)) }
+    ensures at_most { TakesAtMost 65537 (S.left input.old) (S.left input.new) }
     ensures end { result ≡ Done → IsAtEnd (S.left input.new) }
     ensures read_fault { result ≡ ReadFault → Counted (S.faults input.old) (S.faults input.new) × (output.new ≡ output.old) }
     ensures read_calm { result ≢ ReadFault → S.faults input.new ≡ S.faults input.old }

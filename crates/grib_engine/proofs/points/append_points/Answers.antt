@@ -1,18 +1,20 @@
-use Rattle.std.proofs.Common.{◌∙◌, arith}
+use Rattle.std.proofs.Common.{◌∙◌, arith, rules}
 use Rattle.std.proofs.lemmas.List.{take_more}
 use Rattle.grib_engine.proofs.Pending.{line_written, line_refused}
 use Rattle.grib_engine.proofs.points.append_points.Goals as goal
 
--- src/points.rt:31:9
-pub returns-in_err-append_point-clause-front : goal.returns-in_err-append_point-clause-front
-returns-in_err-append_point-clause-front g c =
-    line_refused _ _ _ c.args.lines.now.items c.loop-index.lines.items c.args.points.now c.loop-index.index _
-    (take_more c.args.points.now c.loop-index.index _ c.loop-index-test.true) (omega (arith, c.loop-index-test.true)) c.loop-index.invariant.told c.append_point.ensures.front
+pub returns-in_err-append_point-clause-octets : goal.returns-in_err-append_point-clause-octets
+returns-in_err-append_point-clause-octets g c = record {
+  whole = search rules;
+  front = line_refused _ _ _ c.args.lines.now.items c.loop-index.lines.items c.args.points.now c.loop-index.index _
+      (take_more c.args.points.now c.loop-index.index _ c.loop-index-test.true) (omega (arith, c.loop-index-test.true)) c.loop-index.invariant.told
+      c.append_point.ensures.octets.front;
+}
 
--- src/points.rt:30:5
 pub loop-index-preserved : goal.loop-index-preserved
 loop-index-preserved g c = record {
   told = line_written _ _ _ c.args.lines.now.items c.loop-index.lines.items _ c.args.points.now c.loop-index.index _
-      (take_more c.args.points.now c.loop-index.index _ c.loop-index-test.true) (omega (arith, c.loop-index-test.true)) c.loop-index.invariant.told c.in_ok-append_point.ensures.whole;
+      (take_more c.args.points.now c.loop-index.index _ c.loop-index-test.true) (omega (arith, c.loop-index-test.true)) c.loop-index.invariant.told
+      c.in_ok-append_point.ensures.octets.whole;
   calm = c.in_ok-append_point.ensures.counted ∙ c.loop-index.invariant.calm;
 }

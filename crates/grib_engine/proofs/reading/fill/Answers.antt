@@ -1,5 +1,6 @@
-use Rattle.std.proofs.Common.{◌∙◌, rules}
-use Rattle.grib_engine.proofs.Outside.{taken_more}
+use Rattle.std.proofs.Common.{◌∙◌, take, rules}
+use Rattle.std.proofs.KnownBytes.{Consumes-kept}
+use Rattle.grib_engine.proofs.Outside.{on_err, taken_more}
 use Rattle.grib_engine.proofs.reading.fill.Goals as goal
 
 pub loop-filled-preserved : goal.loop-filled-preserved
@@ -8,3 +9,10 @@ loop-filled-preserved g c = record {
   calm = c.in_ok-count.ensures.counted ∙ c.loop-filled.invariant.calm;
   within = search rules;
 }
+
+pub returns-in_err-count-clause-refused : goal.returns-in_err-count-clause-refused
+returns-in_err-count-clause-refused g c = on_err c.from_residual.result (
+  take c.loop-filled.filled c.loop-filled.buffer,
+  search rules,
+  Consumes-kept _ _ _ (take c.loop-filled.filled c.loop-filled.buffer) c.loop-filled.invariant.told c.in_err-count.ensures.octets,
+)

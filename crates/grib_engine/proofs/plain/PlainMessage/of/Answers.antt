@@ -27,5 +27,5 @@ returns-clause-exact c =
 pub returns-clause-parts : goal.returns-clause-parts
 returns-clause-parts c =
     let s = c.in_ok-sections.sections in
-    parts_with c.args.octets.now s.identification.now s.grid.now s.product.now s.representation.now s.bitmap.now s.values.now
-    c.requires.indicated c.in_ok-sections.ensures.joined (c.are_plain.ensures.0 c.if-not-are_plain.false)
+    parts_with c.args.octets.now c.args.head.now s.identification.now s.grid.now s.product.now s.representation.now s.bitmap.now s.values.now
+    c.requires.indicated c.requires.head c.in_ok-sections.ensures.joined (c.are_plain.ensures.0 c.if-not-are_plain.false)
