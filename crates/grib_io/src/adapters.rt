@@ -84,7 +84,7 @@ impl<W: Write> WriteSink<W> {
         }
     }
 
-    // Counts a fault.
+    /// Counts a fault.
     fn fail(&mut self) -> Stop
         ensures answer { result ≡ Stop.Failed }
         ensures sink { self.new ≡ record self.old { faults = counted_on self.old.faults } }

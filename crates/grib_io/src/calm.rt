@@ -109,7 +109,7 @@ impl Sink for CalmSink {
         ensures stop { IfErr result (λ stop. stop ≡ Stop.Memory) }
         ensures piece { self.new.piece ≡ self.old.piece }
     {
-        self.storage.add(piece).map_err(|_| Stop::Memory)
+        Ok(self.storage.add(piece)?)
     }
 
     fn finish(&mut self) -> Result<(), Stop>

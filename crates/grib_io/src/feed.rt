@@ -42,6 +42,7 @@ impl Feed {
         ensures count { result ≡ given self.old (length into.old) }
         ensures into { into.new ≡ take result self.old.left ++ drop result into.old }
         ensures left { self.new ≡ record { left = drop result self.old.left; piece = self.old.piece } }
+        // So one octet at least is given where there is room for it and one is left.
         ensures piece { 1 ≤ self.old.piece }
     {
         let left = &self.octets[self.taken..];

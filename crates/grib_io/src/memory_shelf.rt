@@ -23,7 +23,7 @@ pub struct MemoryShelf {
     calls: Calls,
 }
 
-// Gives the name these octets. Without memory for the name all stays.
+/// Gives the name these octets. Without memory for the name all stays.
 fn put_octets(
     names: &mut Names,
     alloc: Global,
@@ -38,7 +38,8 @@ fn put_octets(
     Ok(())
 }
 
-// Adds octets to those of the name, which is made where it is absent. Without memory for them all stays.
+/// Adds octets to those of the name, which is made where it is absent. Without memory for them all
+/// stays.
 fn add_octets(names: &mut Names, alloc: Global, name: &str, piece: &[u8]) -> Result<(), AllocError>
     ensures name { MatchResult result (λ _. octets_in names.new name.now ≡ Some (unwrap_or (octets_in names.old name.now) [] ++ piece.now)) (λ _. octets_in names.new name.now ≡ octets_in names.old name.now) }
     ensures others { OthersAsBefore (octets_in names.old) (octets_in names.new) name.now }
@@ -50,7 +51,7 @@ fn add_octets(names: &mut Names, alloc: Global, name: &str, piece: &[u8]) -> Res
     }
 }
 
-// Copies octets from the offset on to the front of `into`, and answers how many.
+/// Copies octets from the offset on to the front of `into`, and answers how many.
 fn copy_from(octets: &[u8], offset: u64, into: &mut [u8]) -> usize
     ensures count { result ≡ min (length into.old) (length octets.now - offset) }
     ensures into { into.new ≡ take result (drop offset octets.now) ++ drop result into.old }
@@ -112,9 +113,7 @@ impl Shelf for MemoryShelf {
         ensures rest { MatchResult result (λ count. drop count into.new ≡ drop count into.old) (λ _. into.new ≡ into.old) }
         ensures calls { calls self.new ≡ one_more (calls self.old) }
     {
-        if self.calls.count() {
-            return Err(ShelfStop::Failed);
-        }
+        self.calls.count()?;
         let Some(octets) = self.names.get(name) else {
             return Err(ShelfStop::Absent);
         };
@@ -129,12 +128,8 @@ impl Shelf for MemoryShelf {
         ensures kept { OnErr result (held self.new name.now ≡ held self.old name.now) }
         ensures calls { calls self.new ≡ one_more (calls self.old) }
     {
-        if self.calls.count() {
-            return Err(Stop::Failed);
-        }
-        put_octets(&mut self.names, self.alloc, name, Vec::new(self.alloc)).map_err(
-            |_| Stop::Memory,
-        )
+        self.calls.count()?;
+        Ok(put_octets(&mut self.names, self.alloc, name, Vec::new(self.alloc))?)
     }
 
     fn append(&mut self, name: &str, piece: &[u8]) -> Result<(), Stop>
@@ -145,9 +140,7 @@ impl Shelf for MemoryShelf {
         ensures kept { OnErr result (held self.new name.now ≡ held self.old name.now) }
         ensures calls { calls self.new ≡ one_more (calls self.old) }
     {
-        if self.calls.count() {
-            return Err(Stop::Failed);
-        }
-        add_octets(&mut self.names, self.alloc, name, piece).map_err(|_| Stop::Memory)
+        self.calls.count()?;
+        Ok(add_octets(&mut self.names, self.alloc, name, piece)?)
     }
 }

@@ -58,9 +58,7 @@ impl Source for MemorySource {
         ensures piece { self.new.piece ≡ self.old.piece }
         ensures calls { self.new.calls ≡ one_more self.old.calls }
     {
-        if self.calls.count() {
-            return Err(Failed);
-        }
+        self.calls.count()?;
         Ok(self.feed.give(into))
     }
 }

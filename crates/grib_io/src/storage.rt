@@ -49,6 +49,7 @@ impl Storage {
     pub(crate) fn add(&mut self, piece: &[u8]) -> Result<usize, AllocError>
         ensures count { IfOk result (λ count. count ≡ min self.old.piece (length piece.now)) }
         ensures store { MatchResult result (λ count. self.new ≡ grown self.old (take count piece.now)) (λ _. self.new ≡ self.old) }
+        // So one octet at least is taken of a piece that is not empty.
         ensures piece { 1 ≤ self.old.piece }
     {
         let count = self.piece.min(piece.len());
