@@ -13,9 +13,9 @@ pub record Calls : Type 0 where
   pub made : ℕ
   pub faults : ℕ
 
--- a count goes on to 2 ^ 64 - 1, and stays there
-abbrev pub counted_on : ℕ → ℕ
-counted_on n = min (n + 1) (2 ^ 64 - 1)
+-- the count after this one: it goes on to 2 ^ 64 - 1, and stays there
+abbrev pub next_count : ℕ → ℕ
+next_count n = min (n + 1) (2 ^ 64 - 1)
 
 -- whether the next call is to fail; the calls after the first 2 ^ 64 - 1 have no number
 abbrev pub next_fails : Calls → Bool
@@ -25,8 +25,8 @@ next_fails calls = nat_lt calls.made (2 ^ 64 - 1) && list_any (λ number. number
 abbrev pub one_more : Calls → Calls
 one_more calls = record {
   failing = calls.failing;
-  made = counted_on calls.made;
-  faults = cond (next_fails calls) (counted_on calls.faults) calls.faults;
+  made = next_count calls.made;
+  faults = cond (next_fails calls) (next_count calls.faults) calls.faults;
 }
 
 -- the octets that are left, and how many a read gives at most
@@ -34,9 +34,9 @@ pub record Supply : Type 0 where
   pub left : List ℕ
   pub piece : ℕ
 
--- how many octets the next read gives to so much room
-abbrev pub given : Supply → ℕ → ℕ
-given supply room = min supply.piece (min room (length supply.left))
+-- how many octets a read gives of those that are left, a piece at most, to so much room
+abbrev pub count_given : List ℕ → ℕ → ℕ → ℕ
+count_given left piece room = min piece (min room (length left))
 
 -- a supply whose calls are counted
 pub record FaultySupply : Type 0 where
@@ -50,9 +50,9 @@ pub record Store : Type 0 where
   pub piece : ℕ
   pub settled : Bool
 
--- after these octets more, of which some wait for `finish` where there are any
-abbrev pub grown : Store → List ℕ → Store
-grown store more = record {
+-- the store after these octets more, of which some wait for `finish` where there are any
+abbrev pub after_write : Store → List ℕ → Store
+after_write store more = record {
   octets = store.octets ++ more;
   piece = store.piece;
   settled = store.settled && (length more == 0);

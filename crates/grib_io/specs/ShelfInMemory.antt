@@ -9,8 +9,8 @@ abbrev pub octets_in : {X Y : Type 0} → BTreeMap (String X) (Vec ℕ Y) → Li
 octets_in names name = option_map (λ octets. octets.items) (get_by_text names name)
 
 -- the octets under each name of the shelf
-abbrev pub held : MemoryShelf → List ℕ → Option (List ℕ)
-held shelf = octets_in shelf.names
+abbrev pub octets_under : MemoryShelf → List ℕ → Option (List ℕ)
+octets_under shelf = octets_in shelf.names
 
 -- the shelf's calls
 abbrev pub calls : MemoryShelf → Calls

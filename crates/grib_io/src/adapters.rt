@@ -1,10 +1,10 @@
 //! A reader and a writer of std as a source and a sink.
 
-ghost use Rattle.std.specs.Prelude.{◌≡◌, ◌≤◌, ◌<◌, ◌+◌, true, IfErr, IfOk, MatchResult, length, is_err};
+ghost use Rattle.std.specs.Prelude.{◌≡◌, ◌<◌, true, IfErr, IfOk, MatchResult, length};
 ghost use Rattle.std.specs.Io.{ReadsAtMost, WritesAtMost};
 ghost use Rattle.std.specs.Io.KnownBytes.{ReadConsumes, WriteAppends, Keeps};
 ghost use Rattle.grib_io.specs.Outside.{CountsFailure, CountsStop, CountsStops, Settles};
-ghost use Rattle.grib_io.specs.Memory.{counted_on};
+ghost use Rattle.grib_io.specs.Memory.{next_count};
 
 use crate::outside::{Failed, Sink, Source, Stop};
 use std::io::{Read, Write};
@@ -43,7 +43,7 @@ impl<R: Read> Source for ReadSource<R> {
         ensures bound { ReadsAtMost result into.new }
         ensures octets { ReadConsumes (R.remaining self.old.reader) (R.remaining self.new.reader) result into.new }
         ensures counted { CountsFailure result self.old.faults self.new.faults }
-        ensures faults { MatchResult result (λ _. self.new.faults ≡ self.old.faults) (λ _. self.new.faults ≡ counted_on self.old.faults) }
+        ensures faults { MatchResult result (λ _. self.new.faults ≡ self.old.faults) (λ _. self.new.faults ≡ next_count self.old.faults) }
     {
         match self.reader.read(into) {
             Ok(count) => Ok(count),
@@ -84,10 +84,10 @@ impl<W: Write> WriteSink<W> {
         }
     }
 
-    // Counts a fault.
+    /// Counts a fault.
     fn fail(&mut self) -> Stop
         ensures answer { result ≡ Stop.Failed }
-        ensures sink { self.new ≡ record self.old { faults = counted_on self.old.faults } }
+        ensures sink { self.new ≡ record self.old { faults = next_count self.old.faults } }
         ensures counted { CountsStop result self.old.faults self.new.faults }
     {
         self.faults = self.faults.saturating_add(1);
@@ -109,7 +109,7 @@ impl<W: Write> Sink for WriteSink<W> {
         ensures settled { Settles result self.old.settled self.new.settled }
         ensures counted { CountsStops result self.old.faults self.new.faults }
         ensures stop { IfErr result (λ stop. stop ≡ Stop.Failed) }
-        ensures faults { MatchResult result (λ _. self.new.faults ≡ self.old.faults) (λ _. self.new.faults ≡ counted_on self.old.faults) }
+        ensures faults { MatchResult result (λ _. self.new.faults ≡ self.old.faults) (λ _. self.new.faults ≡ next_count self.old.faults) }
     {
         match self.writer.write(piece) {
             Ok(0) if !piece.is_empty() => Err(self.fail()),
@@ -126,7 +126,7 @@ impl<W: Write> Sink for WriteSink<W> {
         ensures settled { MatchResult result (λ _. self.new.settled ≡ true) (λ _. self.new.settled ≡ self.old.settled) }
         ensures counted { CountsStops result self.old.faults self.new.faults }
         ensures stop { IfErr result (λ stop. stop ≡ Stop.Failed) }
-        ensures faults { MatchResult result (λ _. self.new.faults ≡ self.old.faults) (λ _. self.new.faults ≡ counted_on self.old.faults) }
+        ensures faults { MatchResult result (λ _. self.new.faults ≡ self.old.faults) (λ _. self.new.faults ≡ next_count self.old.faults) }
     {
         match self.writer.flush() {
             Ok(()) => {

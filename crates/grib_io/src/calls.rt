@@ -1,8 +1,9 @@
 //! The count of the calls of an object in memory, and the numbers of those that are to fail.
 
-ghost use Rattle.std.specs.Prelude.{◌≡◌, ◌^◌, ◌<◌};
+ghost use Rattle.std.specs.Prelude.{◌≡◌, ◌^◌, ◌<◌, is_err};
 ghost use Rattle.grib_io.specs.Memory.{next_fails, one_more};
 
+use crate::outside::Failed;
 use std::marker::Model;
 
 /// Calls by their numbers, which begin at 1.
@@ -33,20 +34,21 @@ impl Calls {
         }
     }
 
-    /// Counts a call, and answers whether it is to fail.
-    pub(crate) fn count(&mut self) -> bool
-        ensures answer { result ≡ next_fails self.old }
+    /// Counts a call, and fails exactly where the call is to fail.
+    pub(crate) fn count(&mut self) -> Result<(), Failed>
+        ensures answer { is_err result ≡ next_fails self.old }
         ensures calls { self.new ≡ one_more self.old }
+        // Below 2 ^ 64 a count of faults that goes on does not fall.
         ensures bound { self.old.faults < 2 ^ 64 }
     {
         if self.made == u64::MAX {
-            return false;
+            return Ok(());
         }
         self.made += 1;
-        let fails = self.failing.contains(&self.made);
-        if fails {
+        if self.failing.contains(&self.made) {
             self.faults = self.faults.saturating_add(1);
+            return Err(Failed);
         }
-        fails
+        Ok(())
     }
 }

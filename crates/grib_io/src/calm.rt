@@ -4,7 +4,7 @@ ghost use Rattle.std.specs.Prelude.{◌≡◌, ◌≤◌, ◌<◌, Some, min, []
 ghost use Rattle.std.specs.Io.{ReadsAtMost, WritesAtMost};
 ghost use Rattle.std.specs.Io.KnownBytes.{ReadConsumes, WriteAppends, Keeps};
 ghost use Rattle.grib_io.specs.Outside.{CountsFailure, CountsStops, Settles};
-ghost use Rattle.grib_io.specs.Memory.{given};
+ghost use Rattle.grib_io.specs.Memory.{count_given};
 
 use crate::feed::Feed;
 use crate::outside::{Failed, Sink, Source, Stop};
@@ -49,7 +49,7 @@ impl Source for CalmSource {
         ensures bound { ReadsAtMost result into.new }
         ensures octets { ReadConsumes (Some self.old.left) (Some self.new.left) result into.new }
         ensures counted { CountsFailure result 0 0 }
-        ensures answer { result ≡ Ok (given self.old (length into.old)) }
+        ensures answer { result ≡ Ok (count_given self.old.left self.old.piece (length into.old)) }
         ensures rest { IfOk result (λ count. drop count into.new ≡ drop count into.old) }
         ensures piece { self.new.piece ≡ self.old.piece }
     {
@@ -109,7 +109,7 @@ impl Sink for CalmSink {
         ensures stop { IfErr result (λ stop. stop ≡ Stop.Memory) }
         ensures piece { self.new.piece ≡ self.old.piece }
     {
-        self.storage.add(piece).map_err(|_| Stop::Memory)
+        Ok(self.storage.add(piece)?)
     }
 
     fn finish(&mut self) -> Result<(), Stop>

@@ -1,7 +1,9 @@
 //! Why a message is refused, and where.
 
-ghost use Rattle.std.specs.Prelude.{◌≡◌};
-ghost use Rattle.grib_io.specs.Reason.{number_of};
+ghost use Rattle.std.specs.Prelude.{◌≡◌, Some};
+ghost use Rattle.grib_io.specs.Reason.{number_of, name_of};
+
+use std::fmt;
 
 /// Why a message is refused. The profile of the format names for each reason where it comes.
 #[derive(Clone, Copy, Debug, PartialEq, Eq)]
@@ -52,6 +54,59 @@ impl Reason {
     {
         *self as u8
     }
+
+    /// The name of the reason.
+    fn name(&self) -> &'static str
+        ensures { result.now ≡ name_of self.now }
+    {
+        match self {
+            Reason::Truncated => "Truncated",
+            Reason::Edition => "Edition",
+            Reason::TotalLength => "TotalLength",
+            Reason::SectionLength => "SectionLength",
+            Reason::SectionOrder => "SectionOrder",
+            Reason::GridSource => "GridSource",
+            Reason::GridTemplate => "GridTemplate",
+            Reason::PointCount => "PointCount",
+            Reason::ListShape => "ListShape",
+            Reason::ProductTemplate => "ProductTemplate",
+            Reason::PackingTemplate => "PackingTemplate",
+            Reason::Jpeg2000 => "Jpeg2000",
+            Reason::PngPacked => "PngPacked",
+            Reason::Ccsds => "Ccsds",
+            Reason::ReferenceNotFinite => "ReferenceNotFinite",
+            Reason::BitmapIndicator => "BitmapIndicator",
+            Reason::NoEarlierBitmap => "NoEarlierBitmap",
+            Reason::BitmapSize => "BitmapSize",
+            Reason::ValueCount => "ValueCount",
+            Reason::MissingManagement => "MissingManagement",
+            Reason::GroupCount => "GroupCount",
+            Reason::GroupWidth => "GroupWidth",
+            Reason::GroupShape => "GroupShape",
+            Reason::DifferenceOrder => "DifferenceOrder",
+            Reason::ExtraOctets => "ExtraOctets",
+            Reason::FirstValueSign => "FirstValueSign",
+            Reason::DataTooShort => "DataTooShort",
+            Reason::ScaledRange => "ScaledRange",
+            Reason::EndMark => "EndMark",
+            Reason::LengthDisagrees => "LengthDisagrees",
+            Reason::BitWidth => "BitWidth",
+            Reason::FieldCount => "FieldCount",
+            Reason::NoGridSection => "NoGridSection",
+            Reason::GridType => "GridType",
+            Reason::SecondOrder => "SecondOrder",
+            Reason::Harmonics => "Harmonics",
+            Reason::ExtraFlags => "ExtraFlags",
+        }
+    }
+}
+
+impl fmt::Display for Reason {
+    ghost output = { λ reason. Some (name_of reason) };
+
+    fn fmt<W: fmt::Write>(&self, f: &mut fmt::Formatter<W>) -> fmt::Result {
+        f.write_str(self.name())
+    }
 }
 
 /// A refusal of a message: the octet that decides it, counted from 1 at the `G` of `GRIB`, the
@@ -82,6 +137,7 @@ pub enum UnpackFault {
 #[cfg(test)]
 mod tests {
     use super::*;
+    use std::test::Fail;
 
     #[test]
     fn reasons_have_their_numbers(rt: HostRuntime) {
@@ -94,5 +150,13 @@ mod tests {
         for (reason, number) in table {
             assert_eq!(rt; reason.number(), number);
         }
+    }
+
+    #[test]
+    fn reason_prints_its_name(rt: HostRuntime) -> Result<(), Fail> {
+        let reason = Reason::GridTemplate;
+        let printed = format!(in rt.alloc(); "{reason}")?;
+        assert_eq!(rt; printed.as_str(), "GridTemplate");
+        Ok(())
     }
 }

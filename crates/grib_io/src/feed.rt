@@ -1,7 +1,7 @@
 //! Octets that are given out piece by piece.
 
-ghost use Rattle.std.specs.Prelude.{◌≡◌, ℕ, ◌≤◌, ◌++◌, length, take, drop};
-ghost use Rattle.grib_io.specs.Memory.{given};
+ghost use Rattle.std.specs.Prelude.{◌≡◌, ◌≤◌, ◌++◌, length, take, drop};
+ghost use Rattle.grib_io.specs.Memory.{count_given};
 
 use std::marker::Model;
 
@@ -39,9 +39,10 @@ impl Feed {
 
     /// Moves octets to the front of `into`, and answers how many.
     pub(crate) fn give(&mut self, into: &mut [u8]) -> usize
-        ensures count { result ≡ given self.old (length into.old) }
+        ensures count { result ≡ count_given self.old.left self.old.piece (length into.old) }
         ensures into { into.new ≡ take result self.old.left ++ drop result into.old }
         ensures left { self.new ≡ record { left = drop result self.old.left; piece = self.old.piece } }
+        // So one octet at least is given where there is room for it and one is left.
         ensures piece { 1 ≤ self.old.piece }
     {
         let left = &self.octets[self.taken..];

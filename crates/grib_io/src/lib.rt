@@ -13,8 +13,6 @@ mod memory_shelf;
 mod memory_sink;
 mod memory_source;
 mod outside;
-#[cfg(test)]
-mod outside_tests;
 mod section;
 mod storage;
 

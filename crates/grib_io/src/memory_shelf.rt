@@ -1,6 +1,6 @@
 //! A shelf in memory whose calls fail by their numbers.
 
-ghost use Rattle.std.specs.Prelude.{◌≡◌, ℕ, List, ◌++◌, [], None, Some, MatchResult, IfOk, IfErr, OnErr, is_err, min, ◌-◌, length, take, drop, option_copied, unwrap_or};
+ghost use Rattle.std.specs.Prelude.{◌≡◌, ℕ, List, ◌++◌, [], None, Some, MatchResult, IfOk, OnErr, min, ◌-◌, length, take, drop, option_copied, unwrap_or};
 ghost use Rattle.std.specs.Io.{ReadsAtMost};
 ghost use Rattle.grib_io.specs.Outside.{CountsStops};
 ghost use Rattle.grib_io.specs.Shelves.{AsBefore, OthersAsBefore, ReadsName, Makes, AddsPiece, CountsShelfRead};
@@ -23,7 +23,7 @@ pub struct MemoryShelf {
     calls: Calls,
 }
 
-// Gives the name these octets. Without memory for the name all stays.
+/// Gives the name these octets. Without memory for the name all stays.
 fn put_octets(
     names: &mut Names,
     alloc: Global,
@@ -38,7 +38,8 @@ fn put_octets(
     Ok(())
 }
 
-// Adds octets to those of the name, which is made where it is absent. Without memory for them all stays.
+/// Adds octets to those of the name, which is made where it is absent. Without memory for them all
+/// stays.
 fn add_octets(names: &mut Names, alloc: Global, name: &str, piece: &[u8]) -> Result<(), AllocError>
     ensures name { MatchResult result (λ _. octets_in names.new name.now ≡ Some (unwrap_or (octets_in names.old name.now) [] ++ piece.now)) (λ _. octets_in names.new name.now ≡ octets_in names.old name.now) }
     ensures others { OthersAsBefore (octets_in names.old) (octets_in names.new) name.now }
@@ -50,7 +51,7 @@ fn add_octets(names: &mut Names, alloc: Global, name: &str, piece: &[u8]) -> Res
     }
 }
 
-// Copies octets from the offset on to the front of `into`, and answers how many.
+/// Copies octets from the offset on to the front of `into`, and answers how many.
 fn copy_from(octets: &[u8], offset: u64, into: &mut [u8]) -> usize
     ensures count { result ≡ min (length into.old) (length octets.now - offset) }
     ensures into { into.new ≡ take result (drop offset octets.now) ++ drop result into.old }
@@ -63,11 +64,11 @@ fn copy_from(octets: &[u8], offset: u64, into: &mut [u8]) -> usize
 }
 
 impl MemoryShelf {
-    ghost use Rattle.grib_io.specs.ShelfInMemory.{held, calls};
+    ghost use Rattle.grib_io.specs.ShelfInMemory.{octets_under, calls};
 
     /// A shelf without names. The calls with the numbers `failing` fail.
     pub fn new(alloc: Global, failing: Vec<u64>) -> MemoryShelf
-        ensures names { (name : List ℕ) → held result name ≡ None }
+        ensures names { (name : List ℕ) → octets_under result name ≡ None }
         ensures calls { calls result ≡ record { failing = failing.items; made = 0; faults = 0 } }
     {
         MemoryShelf {
@@ -79,15 +80,15 @@ impl MemoryShelf {
 
     /// The octets of the name, None exactly where it is absent.
     pub fn octets(&self, name: &str) -> Option<&[u8]>
-        ensures { option_copied result ≡ held self.now name.now }
+        ensures { option_copied result ≡ octets_under self.now name.now }
     {
         Some(self.names.get(name)?.as_slice())
     }
 
     /// Gives the name these octets. This is not counted as a call. Without memory for it all stays.
     pub fn put(&mut self, name: &str, octets: &[u8]) -> Result<(), AllocError>
-        ensures name { MatchResult result (λ _. held self.new name.now ≡ Some octets.now) (λ _. held self.new name.now ≡ held self.old name.now) }
-        ensures others { OthersAsBefore (held self.old) (held self.new) name.now }
+        ensures name { MatchResult result (λ _. octets_under self.new name.now ≡ Some octets.now) (λ _. octets_under self.new name.now ≡ octets_under self.old name.now) }
+        ensures others { OthersAsBefore (octets_under self.old) (octets_under self.new) name.now }
         ensures calls { calls self.new ≡ calls self.old }
     {
         let octets = Vec::from_slice(self.alloc, octets)?;
@@ -96,25 +97,23 @@ impl MemoryShelf {
 }
 
 impl Shelf for MemoryShelf {
-    ghost use Rattle.grib_io.specs.ShelfInMemory.{held, calls};
+    ghost use Rattle.grib_io.specs.ShelfInMemory.{octets_under, calls};
 
-    ghost contents = { λ shelf. Some (held shelf) };
+    ghost contents = { λ shelf. Some (octets_under shelf) };
 
     ghost faults = { λ shelf. (calls shelf).faults };
 
     fn read_at(&mut self, name: &str, offset: u64, into: &mut [u8]) -> Result<usize, ShelfStop>
         ensures bound { ReadsAtMost result into.new }
-        ensures octets { ReadsName (held self.old name.now) offset result into.new }
-        ensures kept { AsBefore (held self.old) (held self.new) }
+        ensures octets { ReadsName (octets_under self.old name.now) offset result into.new }
+        ensures kept { AsBefore (octets_under self.old) (octets_under self.new) }
         ensures counted { CountsShelfRead result (calls self.old).faults (calls self.new).faults }
         ensures failed { ReadFailsWhere (next_fails (calls self.old)) result }
-        ensures count { IfOk result (λ count. count ≡ min (length into.old) (length (unwrap_or (held self.old name.now) []) - offset)) }
+        ensures count { IfOk result (λ count. count ≡ min (length into.old) (length (unwrap_or (octets_under self.old name.now) []) - offset)) }
         ensures rest { MatchResult result (λ count. drop count into.new ≡ drop count into.old) (λ _. into.new ≡ into.old) }
         ensures calls { calls self.new ≡ one_more (calls self.old) }
     {
-        if self.calls.count() {
-            return Err(ShelfStop::Failed);
-        }
+        self.calls.count()?;
         let Some(octets) = self.names.get(name) else {
             return Err(ShelfStop::Absent);
         };
@@ -122,32 +121,26 @@ impl Shelf for MemoryShelf {
     }
 
     fn make(&mut self, name: &str) -> Result<(), Stop>
-        ensures octets { Makes result (held self.old name.now) (held self.new name.now) }
-        ensures others { OthersAsBefore (held self.old) (held self.new) name.now }
+        ensures octets { Makes result (octets_under self.old name.now) (octets_under self.new name.now) }
+        ensures others { OthersAsBefore (octets_under self.old) (octets_under self.new) name.now }
         ensures counted { CountsStops result (calls self.old).faults (calls self.new).faults }
         ensures failed { FailsWhere (next_fails (calls self.old)) result }
-        ensures kept { OnErr result (held self.new name.now ≡ held self.old name.now) }
+        ensures kept { OnErr result (octets_under self.new name.now ≡ octets_under self.old name.now) }
         ensures calls { calls self.new ≡ one_more (calls self.old) }
     {
-        if self.calls.count() {
-            return Err(Stop::Failed);
-        }
-        put_octets(&mut self.names, self.alloc, name, Vec::new(self.alloc)).map_err(
-            |_| Stop::Memory,
-        )
+        self.calls.count()?;
+        Ok(put_octets(&mut self.names, self.alloc, name, Vec::new(self.alloc))?)
     }
 
     fn append(&mut self, name: &str, piece: &[u8]) -> Result<(), Stop>
-        ensures octets { AddsPiece result piece.now (held self.old name.now) (held self.new name.now) }
-        ensures others { OthersAsBefore (held self.old) (held self.new) name.now }
+        ensures octets { AddsPiece result piece.now (octets_under self.old name.now) (octets_under self.new name.now) }
+        ensures others { OthersAsBefore (octets_under self.old) (octets_under self.new) name.now }
         ensures counted { CountsStops result (calls self.old).faults (calls self.new).faults }
         ensures failed { FailsWhere (next_fails (calls self.old)) result }
-        ensures kept { OnErr result (held self.new name.now ≡ held self.old name.now) }
+        ensures kept { OnErr result (octets_under self.new name.now ≡ octets_under self.old name.now) }
         ensures calls { calls self.new ≡ one_more (calls self.old) }
     {
-        if self.calls.count() {
-            return Err(Stop::Failed);
-        }
-        add_octets(&mut self.names, self.alloc, name, piece).map_err(|_| Stop::Memory)
+        self.calls.count()?;
+        Ok(add_octets(&mut self.names, self.alloc, name, piece)?)
     }
 }

@@ -76,10 +76,8 @@ impl Sink for MemorySink {
         ensures piece { self.new.piece ≡ self.old.piece }
         ensures calls { self.new.calls ≡ one_more self.old.calls }
     {
-        if self.calls.count() {
-            return Err(Stop::Failed);
-        }
-        self.storage.add(piece).map_err(|_| Stop::Memory)
+        self.calls.count()?;
+        Ok(self.storage.add(piece)?)
     }
 
     fn finish(&mut self) -> Result<(), Stop>
@@ -91,9 +89,7 @@ impl Sink for MemorySink {
         ensures piece { self.new.piece ≡ self.old.piece }
         ensures calls { self.new.calls ≡ one_more self.old.calls }
     {
-        if self.calls.count() {
-            return Err(Stop::Failed);
-        }
+        self.calls.count()?;
         self.storage.settle();
         Ok(())
     }

@@ -1,10 +1,10 @@
 //! A source in memory whose calls fail by their numbers.
 
-ghost use Rattle.std.specs.Prelude.{◌≡◌, ℕ, ◌≤◌, Some, IfOk, MatchResult, is_err, length, drop};
+ghost use Rattle.std.specs.Prelude.{◌≡◌, ◌≤◌, Some, IfOk, MatchResult, is_err, length, drop};
 ghost use Rattle.std.specs.Io.{ReadsAtMost};
 ghost use Rattle.std.specs.Io.KnownBytes.{ReadConsumes};
 ghost use Rattle.grib_io.specs.Outside.{CountsFailure};
-ghost use Rattle.grib_io.specs.Memory.{next_fails, one_more, given};
+ghost use Rattle.grib_io.specs.Memory.{next_fails, one_more, count_given};
 
 use crate::calls::Calls;
 use crate::feed::Feed;
@@ -53,14 +53,12 @@ impl Source for MemorySource {
         ensures octets { ReadConsumes (Some self.old.left) (Some self.new.left) result into.new }
         ensures counted { CountsFailure result self.old.calls.faults self.new.calls.faults }
         ensures failed { is_err result ≡ next_fails self.old.calls }
-        ensures count { IfOk result (λ count. count ≡ given (record { left = self.old.left; piece = self.old.piece }) (length into.old)) }
+        ensures count { IfOk result (λ count. count ≡ count_given self.old.left self.old.piece (length into.old)) }
         ensures rest { MatchResult result (λ count. drop count into.new ≡ drop count into.old) (λ _. into.new ≡ into.old) }
         ensures piece { self.new.piece ≡ self.old.piece }
         ensures calls { self.new.calls ≡ one_more self.old.calls }
     {
-        if self.calls.count() {
-            return Err(Failed);
-        }
+        self.calls.count()?;
         Ok(self.feed.give(into))
     }
 }

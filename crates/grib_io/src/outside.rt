@@ -2,15 +2,19 @@
 //! for every source, sink and shelf, by what an object has left or holds, where it tells that, and by a
 //! count of its faults.
 
-ghost use Rattle.std.specs.Prelude.{◌≡◌, ◌<◌, ℕ, Bool, true, false, List, length, IfOk, MatchResult};
+ghost use Rattle.std.specs.Prelude.{◌≡◌, ◌<◌, ℕ, Bool, true, List, length, IfOk, MatchResult};
 ghost use Rattle.std.specs.declared.option.Option.{Option};
 ghost use Rattle.std.specs.Io.{ReadsAtMost, WritesAtMost};
 ghost use Rattle.std.specs.Io.KnownBytes.{ReadConsumes, WriteAppends, Keeps};
 ghost use Rattle.grib_io.specs.declared.outside.Stop.TheVariants.{Failed, Memory};
+ghost use Rattle.grib_io.specs.declared.outside.ShelfStop.TheVariants.{Failed as ShelfFailed};
 ghost use Rattle.grib_io.specs.Outside.{CountsFailure, CountsStops, Settles};
 ghost use Rattle.grib_io.specs.Shelves.{Held, OthersStay, Stays, Turns, ReadsAt, Makes, AddsPiece, CountsShelfRead};
 
 use std::alloc::AllocError;
+
+#[cfg(test)]
+mod tests;
 
 /// The object failed, as a device does.
 #[derive(Clone, Copy, Debug, PartialEq, Eq)]
@@ -48,6 +52,14 @@ pub enum ShelfStop {
     Absent,
     /// The shelf failed.
     Failed,
+}
+
+impl From<Failed> for ShelfStop {
+    ghost from_gives = { λ _ stop. stop ≡ ShelfFailed };
+
+    fn from(_failed: Failed) -> ShelfStop {
+        ShelfStop::Failed
+    }
 }
 
 /// Where octets come from.

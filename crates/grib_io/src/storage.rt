@@ -1,7 +1,7 @@
 //! Octets that are taken in piece by piece.
 
-ghost use Rattle.std.specs.Prelude.{◌≡◌, ◌≤◌, ◌++◌, min, ◌&&◌, ◌==◌, [], true, length, take, MatchResult, IfOk};
-ghost use Rattle.grib_io.specs.Memory.{grown};
+ghost use Rattle.std.specs.Prelude.{◌≡◌, ◌≤◌, min, [], true, length, take, MatchResult, IfOk};
+ghost use Rattle.grib_io.specs.Memory.{after_write};
 
 use std::alloc::{AllocError, Global};
 use std::marker::Model;
@@ -48,7 +48,8 @@ impl Storage {
     /// Takes the front of `piece`, and answers how many octets. Without memory for them it takes none.
     pub(crate) fn add(&mut self, piece: &[u8]) -> Result<usize, AllocError>
         ensures count { IfOk result (λ count. count ≡ min self.old.piece (length piece.now)) }
-        ensures store { MatchResult result (λ count. self.new ≡ grown self.old (take count piece.now)) (λ _. self.new ≡ self.old) }
+        ensures store { MatchResult result (λ count. self.new ≡ after_write self.old (take count piece.now)) (λ _. self.new ≡ self.old) }
+        // So one octet at least is taken of a piece that is not empty.
         ensures piece { 1 ≤ self.old.piece }
     {
         let count = self.piece.min(piece.len());

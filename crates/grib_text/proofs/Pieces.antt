@@ -3,18 +3,17 @@ use Rattle.std.proofs.Common.{◌≡◌, ℕ, ◌-◌, ◌^◌, Bool, true, fals
 use Rattle.std.proofs.lemmas.Int.{ints}
 use Rattle.std.specs.Fmt.{decimal, signed_decimal, sign_text, padded_integral, format_spec, char_count}
 use Rattle.grib_io.specs.declared.fault.Fault.{Fault}
+use Rattle.grib_io.specs.Reason.{name_of}
 use Rattle.grib_dyadic.specs.Reference.{Binary}
 use Rattle.grib_text.specs.Words.{filled}
 use Rattle.grib_text.specs.Lines.{reference_line, time_of, origin_text, grid_text, product_text, packing_text, field_line}
-use Rattle.grib_text.specs.Notes.{refusal_note, reason_name}
+use Rattle.grib_text.specs.Notes.{refusal_note}
 
 refusal_note-regroup : (a b c d : List ℕ) → codes "refused message " ++ (a ++ (codes " octet " ++ (b ++ (codes " " ++ (c ++ (codes " " ++ (d ++ 10 ∷ []))))))) ≡ codes "refused message " ++ a ++ codes " octet " ++ b ++ codes " " ++ c ++ codes " " ++ d ++ 10 ∷ []
 refusal_note-regroup a b c d = simp append_assoc
 
-pub refusal_note-pieces : (m : ℕ) (fault : Fault) (name : List ℕ) → name ≡ reason_name fault.reason → codes "refused message " ++ (decimal m ++ (codes " octet " ++ (decimal fault.octet ++ (codes " " ++ (name ++ (codes " " ++ (decimal fault.detail ++ 10 ∷ []))))))) ≡ refusal_note m fault
-refusal_note-pieces m fault name e =
-    refusal_note-regroup (decimal m) (decimal fault.octet) name (decimal fault.detail)
-    ∙ ap (λ n. codes "refused message " ++ decimal m ++ codes " octet " ++ decimal fault.octet ++ codes " " ++ n ++ codes " " ++ decimal fault.detail ++ 10 ∷ []) e
+pub refusal_note-pieces : (m : ℕ) (fault : Fault) → codes "refused message " ++ (decimal m ++ (codes " octet " ++ (decimal fault.octet ++ (codes " " ++ (name_of fault.reason ++ (codes " " ++ (decimal fault.detail ++ 10 ∷ []))))))) ≡ refusal_note m fault
+refusal_note-pieces m fault = refusal_note-regroup (decimal m) (decimal fault.octet) (name_of fault.reason) (decimal fault.detail)
 
 -- a number is its sign and its magnitude
 signed_decimal-pieces : (negative : Bool) (z : ℤ) → IsTrue negative ↔ (z <ℤ pos 0) → sign_text negative ++ decimal (nat_abs z) ≡ signed_decimal z

@@ -6,4 +6,4 @@ pub returns : goal.returns
 returns c =
     let refusal = c.args.refusal.now in
     ap (λ v. v.items) c.into_bytes.ensures.value ∙ c.in_ok-note.ensures.ok
-    ∙ refusal_note-pieces refusal.message refusal.fault c.reason_name-reason.result.now c.reason_name-reason.ensures
+    ∙ refusal_note-pieces refusal.message refusal.fault

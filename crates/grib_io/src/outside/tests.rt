@@ -7,7 +7,7 @@ use crate::{
 use std::io::{self, Read, Write};
 use std::test::Fail;
 
-// A read of three octets at most.
+/// A read of three octets at most.
 fn read_three<S: Source>(source: &mut S) -> (Result<usize, Failed>, [u8; 3]) {
     let mut into = [0; 3];
     let answer = source.read(&mut into);
@@ -22,7 +22,7 @@ fn finish<T: Sink>(sink: &mut T) -> Result<(), Stop> {
     sink.finish()
 }
 
-// A read of two octets at most from an offset of a name on.
+/// A read of two octets at most from an offset of a name on.
 fn read_two<H: Shelf>(
     shelf: &mut H,
     name: &str,
@@ -41,7 +41,7 @@ fn append<H: Shelf>(shelf: &mut H, name: &str, piece: &[u8]) -> Result<(), Stop>
     shelf.append(name, piece)
 }
 
-// Whether the shelf has the name with these octets.
+/// Whether the shelf has the name with these octets.
 fn has(shelf: &MemoryShelf, name: &str, octets: &[u8]) -> bool {
     match shelf.octets(name) {
         Some(held) => held == octets,
@@ -157,8 +157,8 @@ fn shelf_is_read_from_an_offset_on(rt: HostRuntime) -> Result<(), Fail> {
     Ok(())
 }
 
-// A reader and a writer of std whose first call is interrupted. Later ones read nothing and take all,
-// and a flush fails.
+/// A reader and a writer of std whose first call is interrupted. Later ones read nothing and take all,
+/// and a flush fails.
 #[derive(Drop)]
 struct Interrupted {
     calls: u32,
