@@ -2,11 +2,24 @@
 # Builds the proved program and puts it into PREFIX/bin as `grib`.
 #
 #     ./install.sh [PREFIX]     PREFIX is ~/.local where none is given
-set -euo pipefail
-prefix=${1:-$HOME/.local}
-top=$(cd "$(dirname "$(readlink -f "$0")")" && pwd)
+set -uo pipefail
 
-"$top/grib" check <"$top/examples/four-points.grib2" >/dev/null
-mkdir -p "$prefix/bin"
-install -m 755 "$top/crates/grib_cli/out/grib_cli" "$prefix/bin/grib"
-echo "installed $prefix/bin/grib"
+fail() {
+  echo "install.sh: $*" >&2
+  exit 1
+}
+
+if [[ $# -gt 1 || ${1-} == -* ]]; then
+  echo "usage: install.sh [PREFIX]" >&2
+  exit 2
+fi
+bin=${1:-$HOME/.local}/bin
+self=$(readlink -f -- "$0") || fail "cannot find the folder of $0"
+top=${self%/*}
+
+"$top/grib" check <"$top/examples/four-points.grib2" >/dev/null || fail "the program ended with status $?"
+# The program takes its name there as a whole.
+trap 'rm -f "$bin/grib.$$"' EXIT
+mkdir -p "$bin" && install -m 755 "$top/crates/grib_cli/out/grib" "$bin/grib.$$" && mv -fT "$bin/grib.$$" "$bin/grib" ||
+  fail "cannot write to $bin"
+echo "installed $bin/grib"

@@ -4,15 +4,9 @@
 # an input has at most 65,536 octets. A ratio is the time of ecCodes over ours: above 1, ours is the
 # faster. The two print different things: ours the scaled numbers, ecCodes places and rounded values.
 set -euo pipefail
-top=$(cd "$(dirname "$0")/.." && pwd)
-work=$(mktemp -d)
-trap 'rm -rf "$work"' EXIT
-command -v grib_get_data >/dev/null || {
-  echo "bench/dump.sh: grib_get_data is not in PATH (Debian: libeccodes-tools)" >&2
-  exit 1
-}
-"$top/grib" check <"$top/examples/four-points.grib2" >/dev/null
-ours=$top/crates/grib_cli/out/grib_cli
+source "$(dirname "$0")/common.sh"
+need grib_get_data "Debian: libeccodes-tools"
+"$top/grib" check <"$top/examples/four-points.grib2" >/dev/null || fail "the program ended with status $?"
 
 # The example, with 16,777,216 points, Ni = Nj = 4096, as many values of 0 bits, and no data.
 octets() { tail -c +"$1" "$top/examples/four-points.grib2" | head -c "$2"; }
@@ -32,17 +26,10 @@ octets() { tail -c +"$1" "$top/examples/four-points.grib2" | head -c "$2"; }
   printf '7777'
 } >"$work/many.grib2"
 
-seconds() { # the user and system time of a command, in hundredths
-  local TIMEFORMAT='%U %S' spent
-  spent=$({ time "$@" <"$work/many.grib2" >/dev/null 2>&1; } 2>&1)
-  awk '{ printf "%d", 100 * ($1 + $2) }' <<<"$spent"
-}
+ours() { "$top/crates/grib_cli/out/grib" dump <"$work/many.grib2"; }
+theirs() { grib_get_data "$work/many.grib2"; }
 
-"$ours" check <"$work/many.grib2" >/dev/null
-best=
-for _ in 1 2 3; do
-  spent=$(seconds "$ours" dump)
-  [[ -z $best || $spent -lt $best ]] && best=$spent
-done
-theirs=$(seconds grib_get_data "$work/many.grib2")
-awk -v ours="$best" -v theirs="$theirs" 'BEGIN { printf "dump of 16777216 points: %.1f\n", theirs / ours }'
+last=$(ours | tail -n 1) || fail "dump failed"
+[[ $last == "16777216 0" ]] || fail "the last line of dump is '$last'"
+clock='%3U %3S'
+ratio "dump of 16777216 points" 3

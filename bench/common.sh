@@ -1,0 +1,54 @@
+# What the measuring scripts share. Each defines the functions `ours` and `theirs`, which run the two
+# programs on the same work.
+export LC_ALL=C # `time` and awk then have a decimal point
+top=$(cd "$(dirname "${BASH_SOURCE[0]}")/.." && pwd)
+work=$(mktemp -d)
+trap 'rm -rf "$work"' EXIT
+
+fail() {
+  echo "$0: $*" >&2
+  exit 1
+}
+
+need() { # COMMAND [WHERE IT IS FROM]
+  command -v "$1" >/dev/null || fail "$1 is not in PATH${2:+ ($2)}"
+}
+
+# Builds the program of a crate, by a run on these words, and the same work in plain Rust.
+build() { # CRATE PLAIN WORD..
+  need rt
+  need rustc
+  (cd "$top/crates/$1" && rt run -- "${@:3}") >"$work/build.log" 2>&1 || {
+    cat "$work/build.log" >&2
+    fail "$1 was not built"
+  }
+  rustc -O --edition 2024 "$top/bench/$2" -o "$work/plain" || fail "$2 was not built"
+}
+
+# Stops unless the two print the same, and something.
+agree() { # WHAT
+  local our_sum their_sum
+  our_sum=$(ours) && their_sum=$(theirs) || fail "$1: a program failed"
+  [[ -n $our_sum && $our_sum == "$their_sum" ]] || fail "$1: the two programs differ"
+}
+
+# The processor time of a run, in seconds: the user's, and where a second one is printed, the system's.
+clock=%3U
+seconds() { # COMMAND
+  local TIMEFORMAT=$clock spent
+  spent=$({ time "$1" >/dev/null 2>&1; } 2>&1) && awk '{ print $1 + $2 }' <<<"$spent"
+}
+
+# Prints the time of theirs over that of ours. The two take turns, and the least time of each is kept,
+# since others may use the machine.
+ratio() { # WHAT ROUNDS
+  local round
+  rm -f "$work/ours" "$work/theirs"
+  for ((round = 0; round < $2; round++)); do
+    seconds theirs >>"$work/theirs" && seconds ours >>"$work/ours" || fail "$1: a program failed"
+  done
+  sort -g "$work/ours" >"$work/ours.sorted"
+  sort -g "$work/theirs" | paste - "$work/ours.sorted" |
+    awk -v what="$1" 'NR == 1 { if ($2 == 0) exit 1; printf "%s: %.2f\n", what, $1 / $2 }' ||
+    fail "$1: the runs are too short"
+}
