@@ -11,8 +11,8 @@ pub record Found : Type 0 where
   pub before : ℕ
   pub octets : List ℕ
 
-abbrev pub found : ℕ → List ℕ → Found
-found before octets = record { before = before; octets = octets }
+abbrev pub message_after : ℕ → List ℕ → Found
+message_after before octets = record { before = before; octets = octets }
 
 -- what stands after the last accepted message: no further `GRIB`, with the number of all skipped octets,
 -- or octets that are refused as message n, counted from 1
@@ -24,8 +24,8 @@ pub record Stream : Type 0 where
   pub messages : List Found
   pub end : End
 
-abbrev pub streamed : List Found → End → Stream
-streamed messages end = record { messages = messages; end = end }
+abbrev pub stream_of : List Found → End → Stream
+stream_of messages end = record { messages = messages; end = end }
 
 -- how many octets stand before the first `GRIB`, `n` of them already passed
 abbrev pub octets_before_mark : ℕ → List ℕ → Option ℕ
@@ -34,7 +34,7 @@ octets_before_mark n (octet ∷ octets) =
     cond (starts_with nat_eq (octet ∷ octets) indicator) (Some n) (octets_before_mark (n + 1) octets)
 
 abbrev pub followed_by : Found → Stream → Stream
-followed_by first stream = streamed (first ∷ stream.messages) stream.end
+followed_by first stream = stream_of (first ∷ stream.messages) stream.end
 
 -- what is to be done with the octets from a `GRIB` on
 abbrev pub on_verdict : Verdict → (Fault → Stream) → (ℕ → Stream) → Stream
@@ -49,12 +49,12 @@ on_mark (Some n) over begun = begun n
 -- `skipped` of these belong to no message. `turns` bounds their number; with one more than there are
 -- octets the bound is never met, since a message takes twenty octets at least.
 abbrev pub stream_from : ℕ → (List ℕ → Verdict) → ℕ → ℕ → ℕ → List ℕ → Stream
-stream_from zero verdict m place skipped left = streamed [] (Over (skipped + length left))
+stream_from zero verdict m place skipped left = stream_of [] (Over (skipped + length left))
 stream_from (suc turns) verdict m place skipped left =
-    on_mark (octets_before_mark 0 left) (λ _. streamed [] (Over (skipped + length left)))
+    on_mark (octets_before_mark 0 left) (λ _. stream_of [] (Over (skipped + length left)))
     (λ n. let rest = drop n left in
-    on_verdict (verdict rest) (λ fault. streamed [] (Refusing m fault))
-    (λ total. followed_by (found (place + n) (take total rest))
+    on_verdict (verdict rest) (λ fault. stream_of [] (Refusing m fault))
+    (λ total. followed_by (message_after (place + n) (take total rest))
     (stream_from turns verdict (m + 1) (place + n + total) (skipped + n) (drop total rest))))
 
 -- the messages of an input, where `verdict` says what the octets from a `GRIB` on are

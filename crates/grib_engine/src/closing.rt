@@ -15,8 +15,9 @@ use grib_io::{Sink, Stop};
 use grib_text::refusal_note;
 use std::alloc::Global;
 
-/// Ends a run with this outcome: appends the note to `notes` and finishes both sinks. After a write fault
-/// it does nothing. It answers the outcome, or WriteFault or Memory where the end itself does not succeed.
+/// Ends a run with this outcome: appends the note to `notes`, finishes the output, and then the notes.
+/// After a write fault it does nothing. It answers the outcome, or WriteFault or Memory where the end
+/// itself does not succeed.
 pub fn close<T: Sink, N: Sink>(
     outcome: Outcome,
     note: &[u8],
