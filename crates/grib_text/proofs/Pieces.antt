@@ -5,7 +5,7 @@ use Rattle.std.specs.Fmt.{decimal, signed_decimal, sign_text, padded_integral, f
 use Rattle.grib_io.specs.declared.fault.Fault.{Fault}
 use Rattle.grib_dyadic.specs.Reference.{Binary}
 use Rattle.grib_text.specs.Words.{filled}
-use Rattle.grib_text.specs.Lines.{reference_line, time_of, origin_text, grid_text, product_text, packing_text, field_line}
+use Rattle.grib_text.specs.Lines.{reference_line, time_of, origin_text, grid_text, product_of, product_text, packing_text, field_line}
 use Rattle.grib_text.specs.Notes.{refusal_note, reason_name}
 
 refusal_note-regroup : (a b c d : List ℕ) → codes "refused message " ++ (a ++ (codes " octet " ++ (b ++ (codes " " ++ (c ++ (codes " " ++ (d ++ 10 ∷ []))))))) ≡ codes "refused message " ++ a ++ codes " octet " ++ b ++ codes " " ++ c ++ codes " " ++ d ++ 10 ∷ []
@@ -65,8 +65,9 @@ pub field_line-pieces : (m i discipline : ℕ) (s1 s3 s4 s5 o g p k : List ℕ) 
 field_line-pieces m i discipline s1 s3 s4 s5 o g p k e f h j =
     rw (e, f, h, j) (field_line-regroup (decimal m) (decimal i) (origin_text s1) (grid_text s3) (product_text discipline s4) (packing_text s5))
 
-product-regroup : (t p u a s : List ℕ) → codes "product=4." ++ (t ++ (codes " param=" ++ (p ++ (codes " unit=" ++ (u ++ (codes " ahead=" ++ (a ++ (codes " surface=" ++ s)))))))) ≡ codes "product=4." ++ t ++ codes " param=" ++ p ++ codes " unit=" ++ u ++ codes " ahead=" ++ a ++ codes " surface=" ++ s
-product-regroup t p u a s = simp append_assoc
+product_of-regroup : (t p u a s : List ℕ) → codes "product=4." ++ (t ++ (codes " param=" ++ (p ++ (codes " unit=" ++ (u ++ (codes " ahead=" ++ (a ++ (codes " surface=" ++ s)))))))) ≡ codes "product=4." ++ t ++ codes " param=" ++ p ++ codes " unit=" ++ u ++ codes " ahead=" ++ a ++ codes " surface=" ++ s
+product_of-regroup t p u a s = simp append_assoc
 
-pub product-pieces : (t p u s : List ℕ) (x ahead : ℤ) → x ≡ ahead → codes "product=4." ++ (t ++ (codes " param=" ++ (p ++ (codes " unit=" ++ (u ++ (codes " ahead=" ++ (signed_decimal x ++ (codes " surface=" ++ s)))))))) ≡ codes "product=4." ++ t ++ codes " param=" ++ p ++ codes " unit=" ++ u ++ codes " ahead=" ++ signed_decimal ahead ++ codes " surface=" ++ s
-product-pieces t p u s x ahead e = rw e (product-regroup t p u (signed_decimal ahead) s)
+pub product_of-pieces : (template : ℕ) (p : List ℕ) (unit : ℕ) (x ahead : ℤ) (s : List ℕ) → x ≡ ahead → codes "product=4." ++ (decimal template ++ (codes " param=" ++ (p ++ (codes " unit=" ++ (decimal unit ++ (codes " ahead=" ++ (signed_decimal x ++ (codes " surface=" ++ s)))))))) ≡ product_of template p unit ahead s
+product_of-pieces template p unit x ahead s e =
+    rw e (product_of-regroup (decimal template) p (decimal unit) (signed_decimal ahead) s)
