@@ -10,7 +10,7 @@ use Rattle.grib2_message.specs.Grid.{grid_points, grid_template}
 use Rattle.grib2_message.specs.Product.{product_template}
 use Rattle.grib_simple.specs.Packing.{packing_template, bit_width, value_count}
 use Rattle.grib2_message.specs.Fields.{part_octets}
-use Rattle.grib_text.specs.Words.{filled, number_or_none, signed_or_none, text_or_missing}
+use Rattle.grib_text.specs.Words.{filled_decimal, number_or_none, signed_or_none, text_or_missing}
 
 -- of message m, which stands after `before` octets of the input
 abbrev pub check_line : ℕ → ℕ → ℕ → ℕ → ℕ → List ℕ
@@ -25,8 +25,8 @@ total_line messages fields skipped =
 -- year, month and day, hour, minute and second
 abbrev pub time_of : ℕ → ℕ → ℕ → ℕ → ℕ → ℕ → List ℕ
 time_of year month day hour minute second =
-    filled 4 year ++ codes "-" ++ filled 2 month ++ codes "-" ++ filled 2 day
-    ++ codes "T" ++ filled 2 hour ++ codes ":" ++ filled 2 minute ++ codes ":" ++ filled 2 second
+    filled_decimal 4 year ++ codes "-" ++ filled_decimal 2 month ++ codes "-" ++ filled_decimal 2 day
+    ++ codes "T" ++ filled_decimal 2 hour ++ codes ":" ++ filled_decimal 2 minute ++ codes ":" ++ filled_decimal 2 second
 
 -- the reference time: octets 13-19 of Section 1
 abbrev pub time_text : List ℕ → List ℕ

@@ -4,8 +4,8 @@ use Rattle.std.specs.Fmt.{decimal, signed_decimal}
 use Rattle.grib_bits.specs.Bits.{bits_of, signed}
 
 -- the digits of n, filled from the left with zeros (48) to at least `width` of them
-abbrev pub filled : ℕ → ℕ → List ℕ
-filled width n = replicate (width - length (decimal n)) 48 ++ decimal n
+abbrev pub filled_decimal : ℕ → ℕ → List ℕ
+filled_decimal width n = replicate (width - length (decimal n)) 48 ++ decimal n
 
 -- a number of `width` bits with this value, which is missing where its bits are all ones
 abbrev pub value_or_none : ℕ → ℕ → ℤ → Option ℤ
