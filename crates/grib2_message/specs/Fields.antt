@@ -11,7 +11,7 @@ use Rattle.grib_simple.specs.declared.column.Point.{Point}
 use Rattle.grib_simple.specs.declared.column.Point.TheVariants.{Scaled, Missing, Missing2}
 use Rattle.grib_simple.specs.declared.column.Column.{Column}
 use Rattle.grib_complex.specs.Entries.{column_from}
-use Rattle.grib2_message.specs.View.{is_numbered, in_force, octets_in_force, mask_in_force}
+use Rattle.grib2_message.specs.View.{is_numbered, section_in_force, octets_in_force, mask_in_force}
 
 -- the sections from octet q on, up to the end mark; `turns` bounds their number
 abbrev pub sections_from : ℕ → List ℕ → ℕ → List Placed
@@ -28,19 +28,19 @@ abbrev pub field_count : List ℕ → ℕ
 field_count message = count_by (is_numbered 7) (sections_of message)
 
 -- the sections up to the i-th Section 7, from 1, the newest first, after those before
-abbrev pub up_to_field : ℕ → List Placed → List Placed → List Placed
-up_to_field i before [] = before
-up_to_field i before (s ∷ sections) =
+abbrev pub sections_up_to_field : ℕ → List Placed → List Placed → List Placed
+sections_up_to_field i before [] = before
+sections_up_to_field i before (s ∷ sections) =
     let ends = is_numbered 7 s in
-    cond (ends && (i == 1)) (s ∷ before) (up_to_field (i - digit ends) (s ∷ before) sections)
+    cond (ends && (i == 1)) (s ∷ before) (sections_up_to_field (i - digit ends) (s ∷ before) sections)
 
 -- what is in force for field i
 abbrev pub field_sections : List ℕ → ℕ → List Placed
-field_sections message i = up_to_field i [] (sections_of message)
+field_sections message i = sections_up_to_field i [] (sections_of message)
 
 -- the last section with the number k that stands at or before the end of field i
 abbrev pub part : List ℕ → ℕ → ℕ → Option Placed
-part message i k = in_force k (field_sections message i)
+part message i k = section_in_force k (field_sections message i)
 
 abbrev pub part_octets : List ℕ → ℕ → ℕ → List ℕ
 part_octets message i k = octets_in_force k (field_sections message i)

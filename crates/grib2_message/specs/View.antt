@@ -16,12 +16,12 @@ last_number [] = 0
 last_number (s ∷ before) = section_number s.octets
 
 -- the last section with this number
-abbrev pub in_force : ℕ → List Placed → Option Placed
-in_force number before = find (is_numbered number) before
+abbrev pub section_in_force : ℕ → List Placed → Option Placed
+section_in_force number before = find (is_numbered number) before
 
 -- its octets, where it stands
 abbrev pub octets_in_force : ℕ → List Placed → List ℕ
-octets_in_force number before = option_map_or (λ s. s.octets) (in_force number before) []
+octets_in_force number before = option_map_or (λ s. s.octets) (section_in_force number before) []
 
 -- the number of grid points in force
 abbrev pub points_in_force : List Placed → ℕ

@@ -1,6 +1,6 @@
--- Section 6, the bit-map section (WMO-No. 306, Volume I.2, FM 92 GRIB edition 2, code table 6.0): octet 6
+-- Section 6, the bitmap section (WMO-No. 306, Volume I.2, FM 92 GRIB edition 2, code table 6.0): octet 6
 -- is the indicator. 0: the bits follow from octet 7 on, one for each grid point, 1 meaning present;
--- 254: the bits of the last earlier bit-map of the message; 255: all points are present.
+-- 254: the bits of the last earlier bitmap of the message; 255: all points are present.
 use Rattle.std.specs.Prelude.{ℕ, ◌+◌, ◌*◌, Bool, true, not, cond, ◌&&◌, Option, List, [], ◌∷◌, length, take, drop, replicate, is_none, unwrap_or, nat_lt, ◌==◌, count_by}
 use Rattle.grib_bits.specs.Bits.{bits}
 use Rattle.grib_bits.specs.Octets.{octets}

@@ -1,4 +1,5 @@
-// Fields of bits that stand anywhere in octets.
+//! Fields of bits that stand anywhere in octets.
+
 ghost use Rattle.std.specs.Prelude.{◌≡◌, ◌+◌, ◌*◌, ◌<◌, ◌≤◌, ◌++◌, length, take, drop, replicate};
 ghost use Rattle.grib_bits.specs.Bits.{bits, num};
 
@@ -26,7 +27,7 @@ pub fn get_bits(octets: &[u8], at: u64, width: u32) -> u64
     field | u64::from(rest[8]) >> (72 - skip - width)
 }
 
-// The number of the first eight octets, with zeros after the last.
+/// The number of the first eight octets, with zeros after the last.
 #[inline]
 fn first_word(octets: &[u8]) -> u64
     ensures { result ≡ num (bits (take 8 (octets.now ++ replicate 8 0))) }
@@ -37,7 +38,7 @@ fn first_word(octets: &[u8]) -> u64
     BigEndian::read_u64(octets)
 }
 
-// The same where there are fewer than eight.
+/// The same where there are fewer than eight.
 #[cold]
 #[inline(never)]
 fn last_word(octets: &[u8]) -> u64

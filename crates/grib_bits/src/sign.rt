@@ -1,4 +1,5 @@
-// Numbers with a sign bit before their magnitude.
+//! Numbers with a sign bit before their magnitude.
+
 ghost use Rattle.std.specs.Prelude.{◌≡◌, ◌↔◌, ◌-◌, ◌^◌, ◌<◌, ◌≤◌, pos, unsigned_abs, Some, IsNone, IfSome};
 ghost use Rattle.grib_bits.specs.Bits.{bits_of, signed};
 

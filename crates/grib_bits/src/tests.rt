@@ -1,10 +1,11 @@
-// Expected numbers and octets are from outside: Python, and a worked message.
+//! Expected numbers and octets are from outside: Python, and a worked message.
+
 use super::*;
 use std::alloc::AllocError;
 use std::process::Abort;
 use std::test::Fail;
 
-// Widths in bits and numbers of that width, made with Python's random numbers.
+/// Widths in bits and numbers of that width, made with Python's random numbers.
 const FIELDS: [(u32, u64); 11] = [
     (0, 0x0),
     (64, 0xf555f7ae6e09ff05),
@@ -19,7 +20,7 @@ const FIELDS: [(u32, u64); 11] = [
     (31, 0x39b469bd),
 ];
 
-// Those numbers after 0 to 7 bits of 1, with zeros up to a whole octet, as Python joins their digits.
+/// Those numbers after 0 to 7 bits of 1, with zeros up to a whole octet, as Python joins their digits.
 const PACKED: [&[u8]; 8] = [
     &[
         0xf5, 0x55, 0xf7, 0xae, 0x6e, 0x09, 0xff, 0x05, 0xf2, 0x6d, 0x77, 0xf9, 0x86, 0x5a, 0x86,
@@ -63,7 +64,7 @@ const PACKED: [&[u8]; 8] = [
     ],
 ];
 
-// Adds a field to a writer, and sees first that it may be added.
+/// Adds a field to a writer, and sees first that it may be added.
 fn append(
     rt: &impl Abort,
     writer: &mut BitWriter,
@@ -124,8 +125,8 @@ fn signs_stand_before_magnitudes(rt: HostRuntime) {
     assert_eq!(rt; raw_of(-127, 8), Some(0xff));
 }
 
-// A group of three values as complex packing writes it: its reference, its width and its length, each
-// ended at an octet, and the packed numbers.
+/// A group of three values as complex packing writes it: its reference, its width and its length, each
+/// ended at an octet, and the packed numbers.
 const GROUPS: [u8; 4] = [0xa0, 0x80, 0x08, 0x34];
 
 #[test]
@@ -167,7 +168,7 @@ fn groups_are_taken(rt: HostRuntime) {
     assert!(rt; window.has(2) && !window.has(3));
 }
 
-// The next number of a window, which is seen first to hold it.
+/// The next number of a window, which is seen first to hold it.
 fn next(rt: &impl Abort, window: &mut BitWindow, width: u32) -> u64 {
     assert!(rt; window.has(width));
     window.take(width)

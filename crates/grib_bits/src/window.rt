@@ -1,5 +1,6 @@
-// Bits that were taken from octets and wait to be read.
-ghost use Rattle.std.specs.Prelude.{◌≡◌, ◌↔◌, ◌+◌, ◌-◌, ◌*◌, ◌/◌, ◌%◌, ◌^◌, ◌<◌, ◌≤◌, List, [], ◌++◌, length, take as first, drop as after, Bool, IsTrue};
+//! Bits that were taken from octets and wait to be read.
+
+ghost use Rattle.std.specs.Prelude.{◌≡◌, ◌↔◌, ◌+◌, ◌-◌, ◌/◌, ◌%◌, ◌^◌, ◌<◌, ◌≤◌, List, [], ◌++◌, length, take as first, drop as after, Bool, IsTrue};
 ghost use Rattle.grib_bits.specs.Bits.{bits_of, num};
 
 use std::marker::Model;

@@ -1,4 +1,5 @@
-// Bits written one field after another.
+//! Bits written one field after another.
+
 ghost use Rattle.std.specs.Prelude.{◌≡◌, ◌+◌, ◌-◌, ◌*◌, ◌%◌, ◌^◌, ◌<◌, ◌≤◌, [], ◌++◌, length, replicate, false, vec_len, vec_capacity, OnOk, OnErr};
 ghost use Rattle.std.specs.Int.{w64, to_be_bytes};
 ghost use Rattle.grib_bits.specs.Bits.{bits, bits_of};
@@ -118,7 +119,7 @@ impl BitWriter {
     }
 }
 
-// Adds the eight octets of a word, which have their memory already.
+/// Adds the eight octets of a word, which have their memory already.
 #[inline(always)]
 fn append_word(octets: &mut Vec<u8>, word: u64)
     requires { vec_len octets.old + 8 ≤ vec_capacity octets.old }

@@ -1,13 +1,14 @@
-// A block of numbers of some width.
-ghost use Rattle.std.specs.Prelude.{◌≡◌, ◌+◌, ◌*◌, ◌<◌, ◌≤◌, length, vec_len, IfOk};
+//! A block of numbers of some width.
+
+ghost use Rattle.std.specs.Prelude.{◌≡◌, ◌<◌, ◌≤◌, length, vec_len, IfOk};
 
 use grib_bits::{BitWriter, get_bits};
 use std::alloc::{AllocError, Global};
 
-// How many numbers a block has.
+/// How many numbers a block has.
 const COUNT: u64 = 65536;
 
-// The octets of a block at the greatest width, which is 32 bits, and eight octets more.
+/// The octets of a block at the greatest width, which is 32 bits, and eight octets more.
 const OCTETS: usize = 262152;
 
 /// Octets with some bits set.
@@ -49,7 +50,7 @@ pub fn packed_sum(alloc: Global, width: u32, start: u32) -> Result<u64, AllocErr
     Ok(sum)
 }
 
-// A block of numbers that count up from `start`.
+/// A block of numbers that count up from `start`.
 fn packed(alloc: Global, width: u32, start: u32) -> Result<Vec<u8>, AllocError>
     requires { width ≤ 32 }
 {

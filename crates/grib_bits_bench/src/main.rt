@@ -4,7 +4,7 @@
 //! numbers is done.
 #![tactic(auto)]
 
-use anyhow::{Context, Result, ensure};
+use anyhow::{Context, Result, bail, ensure};
 use std::env;
 
 mod blocks;
@@ -20,15 +20,19 @@ fn main(rt: HostRuntime) -> Result<()> {
     ensure!(width <= 32, "a width is at most 32 bits");
 
     let mut sum = 0u64;
-    if work.as_str() == "pack" {
-        for pass in 0..passes {
-            sum = sum.wrapping_add(packed_sum(rt.alloc(), width, pass)?);
+    match work.as_str() {
+        "pack" => {
+            for pass in 0..passes {
+                sum = sum.wrapping_add(packed_sum(rt.alloc(), width, pass)?);
+            }
         }
-    } else {
-        let octets = filled_octets(rt.alloc())?;
-        for pass in 0..passes {
-            sum = sum.wrapping_add(unpacked_sum(&octets, width, pass % 64));
+        "unpack" => {
+            let octets = filled_octets(rt.alloc())?;
+            for pass in 0..passes {
+                sum = sum.wrapping_add(unpacked_sum(&octets, width, pass % 64));
+            }
         }
+        other => bail!("`{other}` is neither `pack` nor `unpack`"),
     }
     println!(rt; "{sum}")?;
     Ok(())

@@ -8,7 +8,7 @@ use Rattle.grib_io.specs.declared.fault.Reason.TheVariants.{FirstValueSign, Scal
 use Rattle.grib_io.specs.declared.fault.Fault.{Fault}
 use Rattle.grib_io.specs.Rows.{Row, row, first_fault, first_place, or_then, choose}
 use Rattle.grib_groups.specs.Groups.{grouped, list_rows, group_rows}
-use Rattle.grib_simple.specs.Column.{column_with, placed}
+use Rattle.grib_simple.specs.Column.{column_with, points_with_mask}
 use Rattle.grib_simple.specs.Simple.{simple_rows, simple_entries}
 use Rattle.grib_simple.specs.declared.column.Column.{Column}
 use Rattle.grib_simple.specs.declared.column.Point.{Point}
@@ -116,7 +116,7 @@ entries_of s5 s7 =
 
 -- the column of a field with this Section 5, mask and Section 7
 abbrev pub column_from : List ℕ → List Bool → List ℕ → Column
-column_from s5 mask s7 = column_with s5 (placed mask (entries_of s5 s7))
+column_from s5 mask s7 = column_with s5 (points_with_mask mask (entries_of s5 s7))
 
 -- the refusal of a Section 5 by rows S5.1 to S5.13
 abbrev pub packing_fault : List ℕ → ℕ → ℕ → Option Fault

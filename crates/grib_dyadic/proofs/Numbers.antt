@@ -72,9 +72,6 @@ SameNumber-from_scaled a b t p q e =
     let low = min_both a.exponent b.exponent t p q in
     times_cancel (scaled a m) (scaled b m) (two_to_difference m t) (pow_pos (nat_abs (m -ℤ t))) (sym (scaled_lower a m t low (min_left a.exponent b.exponent)) ∙ e ∙ scaled_lower b m t low (min_right a.exponent b.exponent))
 
-pub SameNumber_refl : (a : Binary) → SameNumber a a
-SameNumber_refl a = refl
-
 pub SameNumber_sym : (a b : Binary) → SameNumber a b → SameNumber b a
 SameNumber_sym a b same =
     let t = int_min a.exponent b.exponent in

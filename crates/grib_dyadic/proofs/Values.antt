@@ -68,9 +68,6 @@ Same-from_scaled_up v w s z p q left right e =
     let more' = max_three v.decimal w.decimal z q left.tens right.tens in
     times_cancel (scaled_up v a b) (scaled_up w a b) (2 ^ nat_abs (s -ℤ a) * 10 ^ nat_abs (z -ℤ b)) (mul-pos (pow_pos (nat_abs (s -ℤ a))) (ten_pos (nat_abs (z -ℤ b)))) (sym (scaled_up-more v a b s z (large_left v w) more more') ∙ e ∙ scaled_up-more w a b s z (large_right v w) more more')
 
-pub Same_refl : (v : Exact) → Same v v
-Same_refl v = refl
-
 pub Same_sym : (v w : Exact) → Same v w → Same w v
 Same_sym v w same =
     Same-from_scaled_up w v (twos_of v w) (tens_of v w) (omega (arith, ints, clamps)) (omega (arith, ints, clamps)) (large_right v w) (large_left v w) (sym same)

@@ -113,6 +113,3 @@ IsIbmWord-reads word sign a b is =
       a_is = p;
       number = ap (λ n. binary (with_sign n (ibm_b word)) (pos (4 * ibm_a word) -ℤ pos 280)) s ∙ ap (λ n. binary (with_sign sign n) (pos (4 * ibm_a word) -ℤ pos 280)) r ∙ ap (λ n. placed_ibm sign n b) p;
     }
-
-pub IsIbmWord-some : (word : ℕ) → word < 2 ^ 32 → IsIbmWord word (word / 2 ^ 31) (ibm_a word) (ibm_b word)
-IsIbmWord-some word p = record { bits = omega arith; sign_bit = omega arith; in_range = omega arith; below = omega arith }

@@ -1,4 +1,4 @@
-ghost use Rattle.std.specs.Prelude.{◌≡◌, ◌^◌, ◌<◌, ◌↔◌, ℤ, pos, neg_ℤ, ◌≤ℤ◌, ◌<ℤ◌, nat_abs, IsTrue};
+ghost use Rattle.std.specs.Prelude.{◌≡◌, ◌↔◌, pos, neg_ℤ, ◌≤ℤ◌, ◌<ℤ◌, nat_abs, IsTrue};
 ghost use Rattle.grib_dyadic.specs.Reference.{binary, SameNumber, IsReduced};
 ghost use Rattle.grib_dyadic.specs.Sign.{signed};
 

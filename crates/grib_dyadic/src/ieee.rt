@@ -1,4 +1,4 @@
-ghost use Rattle.std.specs.Prelude.{◌≡◌, ℕ, ◌+◌, ◌*◌, ◌/◌, ◌%◌, ◌^◌, ◌<◌, ◌≤◌, ◌⊎◌, ◌↔◌, ◌==◌, pos, ◌+ℤ◌, if◌then◌else◌, IsOk, IsErr, IfOk, IsSome, IfSome, IfNone};
+ghost use Rattle.std.specs.Prelude.{◌≡◌, ℕ, ◌+◌, ◌^◌, ◌<◌, ◌≤◌, ◌⊎◌, ◌↔◌, ◌==◌, pos, ◌+ℤ◌, if◌then◌else◌, IsOk, IsErr, IfOk, IsSome, IfSome, IfNone};
 ghost use Rattle.std.specs.Int.{int_max};
 ghost use Rattle.grib_bits.specs.Binary32.{ieee_exponent};
 ghost use Rattle.grib_dyadic.specs.Reference.{binary, ieee, IsFinite, SameNumber, IsReduced, reduced, HasIeee};

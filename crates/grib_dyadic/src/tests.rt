@@ -1,4 +1,5 @@
-// The expected values are those of another program's floats and fractions.
+//! The expected values are those of another program's floats and fractions.
+
 use super::*;
 use std::test::Fail;
 

@@ -8,10 +8,10 @@ use Rattle.grib_bitmap.specs.Mask.{bitmap_indicator}
 use Rattle.grib_simple.specs.declared.column.Point.{Point}
 use Rattle.grib_simple.specs.Packing.{packing_template, value_count}
 use Rattle.grib_simple.specs.Simple.{simple_entries}
-use Rattle.grib_simple.specs.Column.{column_with, placed}
+use Rattle.grib_simple.specs.Column.{column_with, points_with_mask}
 use Rattle.grib_complex.specs.Entries.{column_from, entries_of}
 use Rattle.grib2_message.specs.View.{octets_in_force, mask_in_force}
-use Rattle.grib2_message.specs.Fields.{up_to_field}
+use Rattle.grib2_message.specs.Fields.{sections_up_to_field}
 
 -- six sections, numbered 1 and 3 to 7
 pub record InOrder (p1 p3 p4 p5 p6 p7 : Placed) : Type 0 where
@@ -24,7 +24,7 @@ pub record InOrder (p1 p3 p4 p5 p6 p7 : Placed) : Type 0 where
 
 -- they are all in force for the first field
 pub all_in_force : (p1 p3 p4 p5 p6 p7 : Placed) → InOrder p1 p3 p4 p5 p6 p7
-    → up_to_field 1 [] (p1 ∷ p3 ∷ p4 ∷ p5 ∷ p6 ∷ p7 ∷ []) ≡ p7 ∷ p6 ∷ p5 ∷ p4 ∷ p3 ∷ p1 ∷ []
+    → sections_up_to_field 1 [] (p1 ∷ p3 ∷ p4 ∷ p5 ∷ p6 ∷ p7 ∷ []) ≡ p7 ∷ p6 ∷ p5 ∷ p4 ∷ p3 ∷ p1 ∷ []
 all_in_force p1 p3 p4 p5 p6 p7 h = rw (h.first, h.third, h.fourth, h.fifth, h.sixth, h.seventh)
 
 -- what is in force with each number
@@ -52,11 +52,11 @@ pub mask_all : (p1 p3 p4 p5 p6 p7 : Placed) → InOrder p1 p3 p4 p5 p6 p7 → bi
 mask_all p1 p3 p4 p5 p6 p7 h all = rw (h.sixth, h.seventh, all, h.fifth, h.fourth, h.third)
 
 -- points that are all present take all entries
-placed-all : (n : ℕ) (entries : List Point) → length entries ≡ n → placed (replicate n true) entries ≡ entries
-placed-all zero [] e = refl
-placed-all zero (entry ∷ entries) e = absurd (omega arith)
-placed-all (suc n) [] e = absurd (omega arith)
-placed-all (suc n) (entry ∷ entries) e = ap (λ xs. entry ∷ xs) (placed-all n entries (omega arith))
+points_with_mask-all : (n : ℕ) (entries : List Point) → length entries ≡ n → points_with_mask (replicate n true) entries ≡ entries
+points_with_mask-all zero [] e = refl
+points_with_mask-all zero (entry ∷ entries) e = absurd (omega arith)
+points_with_mask-all (suc n) [] e = absurd (omega arith)
+points_with_mask-all (suc n) (entry ∷ entries) e = ap (λ xs. entry ∷ xs) (points_with_mask-all n entries (omega arith))
 
 -- there is an entry for each value
 pub length-simple_entries : (s5 s7 : List ℕ) → length (simple_entries s5 s7) ≡ value_count s5
@@ -67,5 +67,5 @@ pub column_of_all : (s5 s7 : List ℕ) (points : ℕ) → packing_template s5 �
     → column_from s5 (replicate points true) s7 ≡ column_with s5 (simple_entries s5 s7)
 column_of_all s5 s7 points template values =
     let entries : entries_of s5 s7 ≡ simple_entries s5 s7 = rw template refl in
-    ap (λ xs. column_with s5 (placed (replicate points true) xs)) entries
-    ∙ ap (column_with s5) (placed-all points (simple_entries s5 s7) (length-simple_entries s5 s7 ∙ values))
+    ap (λ xs. column_with s5 (points_with_mask (replicate points true) xs)) entries
+    ∙ ap (column_with s5) (points_with_mask-all points (simple_entries s5 s7) (length-simple_entries s5 s7 ∙ values))

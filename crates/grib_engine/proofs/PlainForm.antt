@@ -10,7 +10,7 @@ use Rattle.grib2_sections.specs.Frame.{Placed, placed_at, section_number}
 use Rattle.grib2_message.specs.Acceptance.{verdict_2}
 use Rattle.grib2_message.specs.Grammar.{Grammar2}
 use Rattle.grib2_message.specs.View.{octets_in_force}
-use Rattle.grib2_message.specs.Fields.{sections_of, field_sections, part_octets, up_to_field}
+use Rattle.grib2_message.specs.Fields.{sections_of, field_sections, part_octets, sections_up_to_field}
 use Rattle.grib2_message.proofs.Placing.{placed_from}
 use Rattle.grib2_message.proofs.Whole.{accepted_in_grammar, grammar_accepted, sections_alone}
 use Rattle.grib_engine.specs.Plain.{is_plain, accepts, section_numbers, has_plain_templates}
@@ -62,7 +62,7 @@ places octets s1 s3 s4 s5 s6 s7 g numbers =
       p7 = placed_at q7 s7;
       order = order;
       found = found;
-      in_field = ap (up_to_field 1 []) found ∙ all_in_force (placed_at 17 s1) (placed_at q3 s3) (placed_at q4 s4) (placed_at q5 s5) (placed_at q6 s6) (placed_at q7 s7) order;
+      in_field = ap (sections_up_to_field 1 []) found ∙ all_in_force (placed_at 17 s1) (placed_at q3 s3) (placed_at q4 s4) (placed_at q5 s5) (placed_at q6 s6) (placed_at q7 s7) order;
       first = refl;
       third = refl;
       fourth = refl;

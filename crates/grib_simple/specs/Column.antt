@@ -7,11 +7,11 @@ use Rattle.grib_simple.specs.Packing.{reference_word, binary_scale, decimal_scal
 
 -- The present points take the entries in their order, and a point that the mask leaves out is missing.
 -- A field that is accepted has an entry for each present point; one without would be missing too.
-abbrev pub placed : List Bool → List Point → List Point
-placed [] entries = []
-placed (false ∷ mask) entries = Missing ∷ placed mask entries
-placed (true ∷ mask) [] = Missing ∷ placed mask []
-placed (true ∷ mask) (entry ∷ entries) = entry ∷ placed mask entries
+abbrev pub points_with_mask : List Bool → List Point → List Point
+points_with_mask [] entries = []
+points_with_mask (false ∷ mask) entries = Missing ∷ points_with_mask mask entries
+points_with_mask (true ∷ mask) [] = Missing ∷ points_with_mask mask []
+points_with_mask (true ∷ mask) (entry ∷ entries) = entry ∷ points_with_mask mask entries
 
 -- the column with these points and the numbers of Section 5
 abbrev pub column_with : List ℕ → List Point → Column

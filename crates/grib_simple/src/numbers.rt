@@ -1,4 +1,5 @@
-// Numbers of one width that stand one after another.
+//! Numbers of one width that stand one after another.
+
 ghost use Rattle.std.specs.Prelude.{◌≡◌, ℕ, ◌+◌, ◌*◌, ◌/◌, ◌^◌, ◌<◌, ◌≤◌, length, take, drop, map, pos, IfOk, OnOk};
 ghost use Rattle.grib_bits.specs.Bits.{bits as bits_in, num};
 ghost use Rattle.grib_bits.specs.Plain.{plain};
@@ -48,7 +49,7 @@ pub fn unpack_points(
     unpack(alloc, octets, bits, count)
 }
 
-// What is made of a packed number.
+/// What is made of a packed number.
 trait Unpacked: Drop {
     ghost unpacked: { ℕ → Self };
 
@@ -75,7 +76,7 @@ impl Unpacked for Point {
     }
 }
 
-// What is made of the numbers, in one pass.
+/// What is made of the numbers, in one pass.
 fn unpack<T: Unpacked>(
     alloc: Global,
     octets: &[u8],
@@ -96,7 +97,7 @@ fn unpack<T: Unpacked>(
     Ok(items)
 }
 
-// How many of the numbers begin where eight octets are left, or a few less.
+/// How many of the numbers begin where eight octets are left, or a few less.
 fn count_in_words(length: usize, bits: u32, count: u32) -> u32
     ensures count { result ≤ count }
     ensures within { (k : ℕ) → k < result → 1 ≤ bits × (k * bits / 8 + 8 ≤ length) }
@@ -109,7 +110,7 @@ fn count_in_words(length: usize, bits: u32, count: u32) -> u32
     u64::from(count).min(eights.saturating_mul(8)) as u32
 }
 
-// The number of the `bits` bits after the first `at` bits, from the eight octets that begin there.
+/// The number of the `bits` bits after the first `at` bits, from the eight octets that begin there.
 #[inline]
 fn number_in_word(octets: &[u8], at: u64, bits: u32) -> u64
     requires some { 1 ≤ bits }
@@ -122,7 +123,7 @@ fn number_in_word(octets: &[u8], at: u64, bits: u32) -> u64
     word >> (64 - (at % 8) as u32 - bits) & ((1 << bits) - 1)
 }
 
-// Adds what is made of the numbers from the one at `from` on: a few, unless they have no bits.
+/// Adds what is made of the numbers from the one at `from` on: a few, unless they have no bits.
 fn push_last<T: Unpacked>(
     octets: &[u8],
     bits: u32,

@@ -1,4 +1,5 @@
-// Sections 5 and 7 of simple packing.
+//! Sections 5 and 7 of simple packing.
+
 ghost use Rattle.std.specs.Prelude.{◌≡◌, ◌+◌, ◌*◌, ◌≤◌, length, IfOk};
 ghost use Rattle.grib_simple.specs.Column.{column_with};
 ghost use Rattle.grib_simple.specs.Packing.{bit_width};

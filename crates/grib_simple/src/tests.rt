@@ -1,10 +1,11 @@
-// Expected numbers are from Python, which cuts the digits of one whole number.
+//! Expected numbers are from Python, which cuts the digits of one whole number.
+
 use super::*;
 use std::alloc::{AllocError, Global};
 use std::process::Abort;
 use std::test::Fail;
 
-// Octets made with Python's random numbers.
+/// Octets made with Python's random numbers.
 const OCTETS: [u8; 60] = [
     0xdc, 0x61, 0x8e, 0x6a, 0xd2, 0xc2, 0x12, 0x1d, 0xb7, 0x25, 0x81, 0x90, 0xd4, 0x64, 0xd4, 0x1f,
     0x87, 0x19, 0x90, 0xa9, 0x8e, 0xcc, 0x8e, 0x72, 0xe3, 0xa3, 0x04, 0xfc, 0x86, 0x94, 0x64, 0x1e,
@@ -12,7 +13,7 @@ const OCTETS: [u8; 60] = [
     0x74, 0x4a, 0x77, 0xfe, 0x72, 0x0a, 0x3e, 0x60, 0x73, 0x1a, 0xa6, 0x6c,
 ];
 
-// The numbers of the first `length` octets, for which it is seen first that they are there.
+/// The numbers of the first `length` octets, for which it is seen first that they are there.
 fn unpacked(
     rt: &impl Abort,
     alloc: Global,
@@ -86,12 +87,12 @@ fn few_octets_and_no_bits(rt: HostRuntime) -> Result<(), Fail> {
     Ok(())
 }
 
-// A Section 5 of template 5.0 for four values of 12 bits, with R = 273.15, E = -1 and D = 1.
+/// A Section 5 of template 5.0 for four values of 12 bits, with R = 273.15, E = -1 and D = 1.
 const REPRESENTATION: [u8; 21] = [
     0, 0, 0, 21, 5, 0, 0, 0, 4, 0, 0, 0x43, 0x88, 0x93, 0x33, 0x80, 0x01, 0x00, 0x01, 12, 0,
 ];
 
-// Its Section 7.
+/// Its Section 7.
 const DATA: [u8; 11] = [0, 0, 0, 11, 7, 0x00, 0x1a, 0xbc, 0xff, 0xf0, 0x00];
 
 #[test]

@@ -4,7 +4,7 @@
 //! and how many times they are unpacked.
 #![tactic(auto)]
 
-use anyhow::{Context, Result, ensure};
+use anyhow::{Context, Result, bail, ensure};
 use std::env;
 
 mod runs;
@@ -23,10 +23,10 @@ fn main(rt: HostRuntime) -> Result<()> {
     let octets = filled_octets(rt.alloc(), bits, count)?;
     let mut sum = 0u64;
     for _pass in 0..passes {
-        let more = if work.as_str() == "points" {
-            point_sum(rt.alloc(), &octets, bits, count)?
-        } else {
-            number_sum(rt.alloc(), &octets, bits, count)?
+        let more = match work.as_str() {
+            "numbers" => number_sum(rt.alloc(), &octets, bits, count)?,
+            "points" => point_sum(rt.alloc(), &octets, bits, count)?,
+            other => bail!("`{other}` is neither `numbers` nor `points`"),
         };
         sum = sum.wrapping_add(more);
     }

@@ -1,10 +1,11 @@
-// Numbers of some width, unpacked as a whole.
+//! Numbers of some width, unpacked as a whole.
+
 ghost use Rattle.std.specs.Prelude.{◌*◌, ◌≤◌, length, vec_len, IfOk};
 
 use grib_simple::{Point, unpack_numbers, unpack_points};
 use std::alloc::{AllocError, Global};
 
-// Each so many numbers one is looked at.
+/// Each so many numbers one is looked at.
 const STEP: usize = 4096;
 
 /// As many octets as the numbers take, with some bits set.

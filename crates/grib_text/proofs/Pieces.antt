@@ -5,8 +5,8 @@ use Rattle.std.specs.Fmt.{decimal, signed_decimal, sign_text, padded_integral, f
 use Rattle.grib_io.specs.declared.fault.Fault.{Fault}
 use Rattle.grib_io.specs.Reason.{name_of}
 use Rattle.grib_dyadic.specs.Reference.{Binary}
-use Rattle.grib_text.specs.Words.{filled}
-use Rattle.grib_text.specs.Lines.{reference_line, time_of, origin_text, grid_text, product_text, packing_text, field_line}
+use Rattle.grib_text.specs.Words.{filled_decimal}
+use Rattle.grib_text.specs.Lines.{reference_line, time_of, origin_text, grid_text, product_of, product_text, packing_text, field_line}
 use Rattle.grib_text.specs.Notes.{refusal_note}
 
 refusal_note-regroup : (a b c d : List ℕ) → codes "refused message " ++ (a ++ (codes " octet " ++ (b ++ (codes " " ++ (c ++ (codes " " ++ (d ++ 10 ∷ []))))))) ≡ codes "refused message " ++ a ++ codes " octet " ++ b ++ codes " " ++ c ++ codes " " ++ d ++ 10 ∷ []
@@ -35,9 +35,9 @@ reference_line-pieces r e d negative sign m x y z h p q i j k =
     ∙ ap (λ n. codes "reference " ++ signed_decimal r.mantissa ++ codes "*2^" ++ signed_decimal r.exponent ++ codes " binary " ++ signed_decimal e ++ codes " decimal " ++ signed_decimal n ++ 10 ∷ []) k
 
 -- what `{:04}` and the like print
-pub padded-filled : (width n : ℕ) → padded_integral (format_spec 32 0 4 width (2 ^ 64 - 1)) false [] (decimal n) ≡ filled width n
+pub padded-filled_decimal : (width n : ℕ) → padded_integral (format_spec 32 0 4 width (2 ^ 64 - 1)) false [] (decimal n) ≡ filled_decimal width n
 unfolding padded_integral char_count
-padded-filled width n =
+padded-filled_decimal width n =
     let e : width - length (decimal n) - 0 - 0 ≡ width - length (decimal n) = omega arith in
     ap (λ k. replicate k 48 ++ (decimal n ++ [])) e ∙ ap (λ t. replicate (width - length (decimal n)) 48 ++ t) (append-nil (decimal n))
 
@@ -46,16 +46,16 @@ time_of-regroup y m d h i s = simp append_assoc
 
 -- a time is printed number by number
 pub record IsTime (y m d h i s : ℕ) (ys ms ds hs is ss : List ℕ) : Type 0 where
-  pub year : ys ≡ filled 4 y
-  pub month : ms ≡ filled 2 m
-  pub day : ds ≡ filled 2 d
-  pub hour : hs ≡ filled 2 h
-  pub minute : is ≡ filled 2 i
-  pub second : ss ≡ filled 2 s
+  pub year : ys ≡ filled_decimal 4 y
+  pub month : ms ≡ filled_decimal 2 m
+  pub day : ds ≡ filled_decimal 2 d
+  pub hour : hs ≡ filled_decimal 2 h
+  pub minute : is ≡ filled_decimal 2 i
+  pub second : ss ≡ filled_decimal 2 s
 
 pub time_of-pieces : (y m d h i s : ℕ) (ys ms ds hs is ss : List ℕ) → IsTime y m d h i s ys ms ds hs is ss → ys ++ (codes "-" ++ (ms ++ (codes "-" ++ (ds ++ (codes "T" ++ (hs ++ (codes ":" ++ (is ++ (codes ":" ++ ss))))))))) ≡ time_of y m d h i s
 time_of-pieces y m d h i s ys ms ds hs is ss t =
-    rw (t.year, t.month, t.day, t.hour, t.minute, t.second) (time_of-regroup (filled 4 y) (filled 2 m) (filled 2 d) (filled 2 h) (filled 2 i) (filled 2 s))
+    rw (t.year, t.month, t.day, t.hour, t.minute, t.second) (time_of-regroup (filled_decimal 4 y) (filled_decimal 2 m) (filled_decimal 2 d) (filled_decimal 2 h) (filled_decimal 2 i) (filled_decimal 2 s))
 
 field_line-regroup : (m i o g p k : List ℕ) → m ++ (codes "." ++ (i ++ (codes " ed=2 " ++ (o ++ (codes " " ++ (g ++ (codes " " ++ (p ++ (codes " " ++ (k ++ 10 ∷ [])))))))))) ≡ m ++ codes "." ++ i ++ codes " ed=2 " ++ o ++ codes " " ++ g ++ codes " " ++ p ++ codes " " ++ k ++ 10 ∷ []
 field_line-regroup m i o g p k = simp append_assoc
@@ -64,8 +64,9 @@ pub field_line-pieces : (m i discipline : ℕ) (s1 s3 s4 s5 o g p k : List ℕ) 
 field_line-pieces m i discipline s1 s3 s4 s5 o g p k e f h j =
     rw (e, f, h, j) (field_line-regroup (decimal m) (decimal i) (origin_text s1) (grid_text s3) (product_text discipline s4) (packing_text s5))
 
-product-regroup : (t p u a s : List ℕ) → codes "product=4." ++ (t ++ (codes " param=" ++ (p ++ (codes " unit=" ++ (u ++ (codes " ahead=" ++ (a ++ (codes " surface=" ++ s)))))))) ≡ codes "product=4." ++ t ++ codes " param=" ++ p ++ codes " unit=" ++ u ++ codes " ahead=" ++ a ++ codes " surface=" ++ s
-product-regroup t p u a s = simp append_assoc
+product_of-regroup : (t p u a s : List ℕ) → codes "product=4." ++ (t ++ (codes " param=" ++ (p ++ (codes " unit=" ++ (u ++ (codes " ahead=" ++ (a ++ (codes " surface=" ++ s)))))))) ≡ codes "product=4." ++ t ++ codes " param=" ++ p ++ codes " unit=" ++ u ++ codes " ahead=" ++ a ++ codes " surface=" ++ s
+product_of-regroup t p u a s = simp append_assoc
 
-pub product-pieces : (t p u s : List ℕ) (x ahead : ℤ) → x ≡ ahead → codes "product=4." ++ (t ++ (codes " param=" ++ (p ++ (codes " unit=" ++ (u ++ (codes " ahead=" ++ (signed_decimal x ++ (codes " surface=" ++ s)))))))) ≡ codes "product=4." ++ t ++ codes " param=" ++ p ++ codes " unit=" ++ u ++ codes " ahead=" ++ signed_decimal ahead ++ codes " surface=" ++ s
-product-pieces t p u s x ahead e = rw e (product-regroup t p u (signed_decimal ahead) s)
+pub product_of-pieces : (template : ℕ) (p : List ℕ) (unit : ℕ) (x ahead : ℤ) (s : List ℕ) → x ≡ ahead → codes "product=4." ++ (decimal template ++ (codes " param=" ++ (p ++ (codes " unit=" ++ (decimal unit ++ (codes " ahead=" ++ (signed_decimal x ++ (codes " surface=" ++ s)))))))) ≡ product_of template p unit ahead s
+product_of-pieces template p unit x ahead s e =
+    rw e (product_of-regroup (decimal template) p (decimal unit) (signed_decimal ahead) s)

@@ -1,22 +1,22 @@
 -- How numbers are printed.
-use Rattle.std.specs.Prelude.{ℕ, ◌-◌, ◌^◌, cond, Option, Some, None, List, ◌++◌, length, replicate, codes, ℤ, ◌==◌}
+use Rattle.std.specs.Prelude.{ℕ, ◌-◌, ◌^◌, cond, Option, Some, None, List, ◌++◌, length, replicate, codes, ℤ, pos, ◌==◌}
 use Rattle.std.specs.Fmt.{decimal, signed_decimal}
 use Rattle.grib_bits.specs.Bits.{bits_of, signed}
 
 -- the digits of n, filled from the left with zeros (48) to at least `width` of them
-abbrev pub filled : ℕ → ℕ → List ℕ
-filled width n = replicate (width - length (decimal n)) 48 ++ decimal n
+abbrev pub filled_decimal : ℕ → ℕ → List ℕ
+filled_decimal width n = replicate (width - length (decimal n)) 48 ++ decimal n
 
--- a number of `width` bits with this text, which is missing where its bits are all ones
-abbrev pub or_missing : ℕ → ℕ → List ℕ → List ℕ
-or_missing width n text = cond (n == 2 ^ width - 1) (codes "missing") text
+-- a number of `width` bits with this value, which is missing where its bits are all ones
+abbrev pub value_or_none : ℕ → ℕ → ℤ → Option ℤ
+value_or_none width n value = cond (n == 2 ^ width - 1) None (Some value)
 
 -- without sign, and with sign
-abbrev pub number_or_missing : ℕ → ℕ → List ℕ
-number_or_missing width n = or_missing width n (decimal n)
+abbrev pub number_or_none : ℕ → ℕ → Option ℤ
+number_or_none width n = value_or_none width n (pos n)
 
-abbrev pub signed_or_missing : ℕ → ℕ → List ℕ
-signed_or_missing width n = or_missing width n (signed_decimal (signed (bits_of width n)))
+abbrev pub signed_or_none : ℕ → ℕ → Option ℤ
+signed_or_none width n = value_or_none width n (signed (bits_of width n))
 
 -- a number that may be missing
 abbrev pub text_or_missing : Option ℤ → List ℕ

@@ -1,9 +1,9 @@
 //! What Sections 3 and 5 say of a field.
 
-ghost use Rattle.std.specs.Prelude.{◌≡◌, ◌≤◌, ◌++◌, codes, length, Some};
-ghost use Rattle.std.specs.Fmt.{decimal};
+ghost use Rattle.std.specs.Prelude.{◌≡◌, ◌≤◌, length, Some};
 ghost use Rattle.grib_simple.specs.Packing.{packing_template, bit_width, value_count};
 ghost use Rattle.grib2_message.specs.Grid.{grid_template, grid_points};
+ghost use Rattle.grib_text.specs.Lines as lines;
 
 use byteorder::{BigEndian, ByteOrder};
 use std::fmt;
@@ -30,7 +30,7 @@ impl Grid {
 }
 
 impl fmt::Display for Grid {
-    ghost output = { λ g. Some (codes "grid=3." ++ decimal g.template ++ codes " points=" ++ decimal g.points) };
+    ghost output = { λ g. Some (lines.grid_of g.template g.points) };
 
     fn fmt<W: fmt::Write>(&self, f: &mut fmt::Formatter<W>) -> fmt::Result {
         let Grid { template, points } = *self;
@@ -63,7 +63,7 @@ impl Packing {
 }
 
 impl fmt::Display for Packing {
-    ghost output = { λ p. Some (codes "packing=5." ++ decimal p.template ++ codes " bits=" ++ decimal p.bits ++ codes " values=" ++ decimal p.values) };
+    ghost output = { λ p. Some (lines.packing_of p.template p.bits p.values) };
 
     fn fmt<W: fmt::Write>(&self, f: &mut fmt::Formatter<W>) -> fmt::Result {
         let Packing {

@@ -9,6 +9,8 @@ mod notes;
 mod points;
 mod products;
 mod references;
+#[cfg(test)]
+mod tests;
 mod times;
 
 pub use counts::{check_line, total_line};
@@ -16,6 +18,3 @@ pub use listed::{ListedField, field_line};
 pub use notes::refusal_note;
 pub use points::{append_point_line, point_line};
 pub use references::reference_line;
-
-#[cfg(test)]
-mod tests;

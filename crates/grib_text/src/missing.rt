@@ -1,7 +1,7 @@
 //! Numbers of a product that may be missing.
 
 ghost use Rattle.std.specs.Prelude.{◌≡◌, Some};
-ghost use Rattle.grib_text.specs.Words.{text_or_missing, number_or_missing, signed_or_missing};
+ghost use Rattle.grib_text.specs.Words.{text_or_missing, number_or_none, signed_or_none};
 
 use grib_bits::signed_of;
 use std::fmt;
@@ -14,21 +14,21 @@ pub(crate) struct OrMissing(Option<i64>);
 impl OrMissing {
     /// The number of an octet.
     pub(crate) fn octet(octet: u8) -> Self
-        ensures { text_or_missing result.0 ≡ number_or_missing 8 octet }
+        ensures { result.0 ≡ number_or_none 8 octet }
     {
         OrMissing((octet != u8::MAX).then_some(i64::from(octet)))
     }
 
     /// The number with sign of an octet.
     pub(crate) fn signed_octet(octet: u8) -> Self
-        ensures { text_or_missing result.0 ≡ signed_or_missing 8 octet }
+        ensures { result.0 ≡ signed_or_none 8 octet }
     {
         OrMissing((octet != u8::MAX).then_some(signed_of(u64::from(octet), 8)))
     }
 
     /// The number of four octets.
     pub(crate) fn word(word: u32) -> Self
-        ensures { text_or_missing result.0 ≡ number_or_missing 32 word }
+        ensures { result.0 ≡ number_or_none 32 word }
     {
         OrMissing((word != u32::MAX).then_some(i64::from(word)))
     }

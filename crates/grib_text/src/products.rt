@@ -1,9 +1,8 @@
 //! What Section 4 says of a field.
 
-ghost use Rattle.std.specs.Prelude.{◌≡◌, ◌≤◌, ◌++◌, codes, length, Some};
-ghost use Rattle.std.specs.Fmt.{decimal, signed_decimal};
+ghost use Rattle.std.specs.Prelude.{◌≡◌, ◌≤◌, length, Some};
 ghost use Rattle.grib_bits.specs.Octets.{octets, signed_octets};
-ghost use Rattle.grib_text.specs.Words.{text_or_missing, number_or_missing, signed_or_missing};
+ghost use Rattle.grib_text.specs.Words.{number_or_none, signed_or_none};
 ghost use Rattle.grib_text.specs.Lines as lines;
 
 use crate::missing::OrMissing;
@@ -27,10 +26,12 @@ impl Product {
     pub(crate) fn read(discipline: u8, section: &[u8]) -> Self
         requires { 28 ≤ length section.now }
         ensures template { result.template ≡ octets section.now 8 9 }
-        ensures parameter { (decimal result.parameter.discipline ++ codes "." ++ decimal result.parameter.category ++ codes "." ++ decimal result.parameter.number) ≡ lines.parameter_text discipline section.now }
+        ensures parameter { lines.parameter_of result.parameter.discipline result.parameter.category
+            result.parameter.number ≡ lines.parameter_text discipline section.now }
         ensures unit { result.unit ≡ octets section.now 18 18 }
         ensures ahead { result.ahead ≡ signed_octets section.now 19 22 }
-        ensures surface { (text_or_missing result.surface.kind.0 ++ codes ":" ++ text_or_missing result.surface.scale.0 ++ codes ":" ++ text_or_missing result.surface.value.0) ≡ lines.surface_text section.now }
+        ensures surface { lines.surface_of result.surface.kind.0 result.surface.scale.0
+            result.surface.value.0 ≡ lines.surface_text section.now }
     {
         Product {
             template: BigEndian::read_u16(&section[7..]),
@@ -43,9 +44,9 @@ impl Product {
 }
 
 impl fmt::Display for Product {
-    ghost output = { λ p. Some (codes "product=4." ++ decimal p.template ++ codes " param=" ++ (decimal p.parameter.discipline ++ codes "." ++ decimal p.parameter.category ++ codes "." ++ decimal p.parameter.number)
-        ++ codes " unit=" ++ decimal p.unit ++ codes " ahead=" ++ signed_decimal p.ahead
-        ++ codes " surface=" ++ (text_or_missing p.surface.kind.0 ++ codes ":" ++ text_or_missing p.surface.scale.0 ++ codes ":" ++ text_or_missing p.surface.value.0)) };
+    ghost output = { λ p. Some (lines.product_of p.template
+        (lines.parameter_of p.parameter.discipline p.parameter.category p.parameter.number)
+        p.unit p.ahead (lines.surface_of p.surface.kind.0 p.surface.scale.0 p.surface.value.0)) };
 
     fn fmt<W: fmt::Write>(&self, f: &mut fmt::Formatter<W>) -> fmt::Result {
         let Product {
@@ -95,7 +96,7 @@ impl Parameter {
 }
 
 impl fmt::Display for Parameter {
-    ghost output = { λ p. Some (decimal p.discipline ++ codes "." ++ decimal p.category ++ codes "." ++ decimal p.number) };
+    ghost output = { λ p. Some (lines.parameter_of p.discipline p.category p.number) };
 
     fn fmt<W: fmt::Write>(&self, f: &mut fmt::Formatter<W>) -> fmt::Result {
         let discipline = self.discipline;
@@ -117,9 +118,9 @@ impl Surface {
     /// The first fixed surface of Section 4: octets 23-28.
     fn read(section: &[u8]) -> Self
         requires { 28 ≤ length section.now }
-        ensures kind { text_or_missing result.kind.0 ≡ number_or_missing 8 (octets section.now 23 23) }
-        ensures scale { text_or_missing result.scale.0 ≡ signed_or_missing 8 (octets section.now 24 24) }
-        ensures value { text_or_missing result.value.0 ≡ number_or_missing 32 (octets section.now 25 28) }
+        ensures kind { result.kind.0 ≡ number_or_none 8 (octets section.now 23 23) }
+        ensures scale { result.scale.0 ≡ signed_or_none 8 (octets section.now 24 24) }
+        ensures value { result.value.0 ≡ number_or_none 32 (octets section.now 25 28) }
     {
         Surface {
             kind: OrMissing::octet(section[22]),
@@ -130,7 +131,7 @@ impl Surface {
 }
 
 impl fmt::Display for Surface {
-    ghost output = { λ s. Some (text_or_missing s.kind.0 ++ codes ":" ++ text_or_missing s.scale.0 ++ codes ":" ++ text_or_missing s.value.0) };
+    ghost output = { λ s. Some (lines.surface_of s.kind.0 s.scale.0 s.value.0) };
 
     fn fmt<W: fmt::Write>(&self, f: &mut fmt::Formatter<W>) -> fmt::Result {
         let kind = self.kind;

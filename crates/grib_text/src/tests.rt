@@ -1,4 +1,5 @@
-// The expected lines are written by hand.
+//! The expected lines are written by hand.
+
 use super::*;
 use grib_dyadic::Dyadic;
 use grib_io::{Fault, Reason, Refusal};

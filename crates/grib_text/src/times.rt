@@ -1,10 +1,10 @@
 //! What Section 1 says of a field: the centre and the reference time.
 
-ghost use Rattle.std.specs.Prelude.{◌≡◌, ◌≤◌, ◌++◌, codes, length, Some};
-ghost use Rattle.std.specs.Fmt.{decimal};
+ghost use Rattle.std.specs.Prelude.{◌≡◌, ◌≤◌, length, Some};
 ghost use Rattle.grib_bits.specs.Octets.{octets};
 ghost use Rattle.grib_text.specs.Lines as lines;
 
+use byteorder::{BigEndian, ByteOrder};
 use std::fmt;
 
 /// Where and for when a field was made.
@@ -23,15 +23,15 @@ impl Origin {
             result.time.hour result.time.minute result.time.second ≡ lines.time_text section.now }
     {
         Origin {
-            centre: u16::from_be_bytes([section[5], section[6]]),
+            centre: BigEndian::read_u16(&section[5..]),
             time: Time::read(section),
         }
     }
 }
 
 impl fmt::Display for Origin {
-    ghost output = { λ o. Some (codes "centre=" ++ decimal o.centre ++ codes " time="
-        ++ lines.time_of o.time.year o.time.month o.time.day o.time.hour o.time.minute o.time.second) };
+    ghost output = { λ o. Some (lines.origin_of o.centre
+        (lines.time_of o.time.year o.time.month o.time.day o.time.hour o.time.minute o.time.second)) };
 
     fn fmt<W: fmt::Write>(&self, f: &mut fmt::Formatter<W>) -> fmt::Result {
         let Origin { centre, time } = *self;
@@ -62,7 +62,7 @@ impl Time {
         ensures second { result.second ≡ octets section.now 19 19 }
     {
         Time {
-            year: u16::from_be_bytes([section[12], section[13]]),
+            year: BigEndian::read_u16(&section[12..]),
             month: section[14],
             day: section[15],
             hour: section[16],

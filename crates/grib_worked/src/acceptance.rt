@@ -1,6 +1,6 @@
 //! Which of the worked messages are accepted, and why others are refused.
 
-ghost use Rattle.std.specs.Prelude.{◌≡◌, ◌++◌, codes, take, length, map};
+ghost use Rattle.std.specs.Prelude.{◌≡◌, ◌++◌, take, length, map};
 ghost use Rattle.std.specs.List.{range_with_len};
 ghost use Rattle.grib_io.specs.declared.fault.Reason.TheVariants.{BitWidth, BitmapSize, DataTooShort, DifferenceOrder, Edition, EndMark, ExtraOctets, FirstValueSign, GridSource, GridTemplate, GroupCount, GroupShape, GroupWidth, LengthDisagrees, ListShape, MissingManagement, NoEarlierBitmap, PngPacked, PointCount, ProductTemplate, ReferenceNotFinite, SectionLength, SectionOrder, TotalLength, Truncated};
 ghost use Rattle.grib_io.specs.Rows.{refusal};

@@ -1,8 +1,8 @@
 //! What is answered to a job whose input is a worked message, or another one.
 
-ghost use Rattle.std.specs.Prelude.{◌≡◌, true, false, [], ◌++◌, codes, take, drop, map, replicate};
+ghost use Rattle.std.specs.Prelude.{◌≡◌, true, false, [], ◌++◌, codes, take, map};
 ghost use Rattle.std.specs.List.{range_with_len};
-ghost use Rattle.grib_io.specs.declared.fault.Reason.TheVariants.{Edition, Truncated};
+ghost use Rattle.grib_io.specs.declared.fault.Reason.TheVariants.{Edition};
 ghost use Rattle.grib_io.specs.Rows.{refusal};
 ghost use Rattle.grib_engine.specs.declared.job.Job.TheVariants.{Check, Dump};
 ghost use Rattle.grib_engine.specs.declared.outcome.Outcome.TheVariants.{NotBuilt};

@@ -1,8 +1,7 @@
 //! What the fields of the worked messages hold.
 
-ghost use Rattle.std.specs.Prelude.{◌≡◌, List, [], ◌∷◌, ℤ, pos, negsuc, true, None, replicate, codes};
-ghost use Rattle.grib_io.specs.declared.code.Code.TheVariants.{Present, Primary, Secondary};
-ghost use Rattle.grib_simple.specs.declared.column.Point.{Point};
+ghost use Rattle.std.specs.Prelude.{◌≡◌, [], ◌∷◌, negsuc, true, None, replicate};
+ghost use Rattle.grib_io.specs.declared.code.Code.TheVariants.{Present, Primary};
 ghost use Rattle.grib_simple.specs.declared.column.Point.TheVariants.{Scaled, Missing, Missing2};
 ghost use Rattle.grib2_sections.specs.Verdict.{Accepted};
 ghost use Rattle.grib2_message.specs.Acceptance.{verdict_2};

@@ -1,13 +1,13 @@
 //! The lines that are printed of the worked messages.
 
-ghost use Rattle.std.specs.Prelude.{◌≡◌, [], ◌∷◌, ◌++◌, codes, pos, negsuc};
+ghost use Rattle.std.specs.Prelude.{◌≡◌, ◌++◌, codes, pos, negsuc};
 ghost use Rattle.grib_io.specs.Rows.{refusal};
 ghost use Rattle.grib_io.specs.declared.fault.Reason.TheVariants.{ReferenceNotFinite};
 ghost use Rattle.grib_dyadic.specs.Reference.{binary};
 ghost use Rattle.grib_text.specs.Lines.{check_line, total_line, list_line, reference_line, point_lines};
 ghost use Rattle.grib_text.specs.Notes.{refusal_note};
 ghost use Rattle.grib2_message.specs.Fields.{column_of};
-ghost use Rattle.grib_worked.specs.Messages.{m1, m2, t1, t2};
+ghost use Rattle.grib_worked.specs.Messages.{m1, m2};
 
 /// `check` of the plain message, and of it twice after 12 octets and before 5.
 pub fn check_lines()

@@ -1,7 +1,7 @@
 //! The reference values of the worked messages, as exact numbers.
 
-ghost use Rattle.std.specs.Prelude.{◌≡◌, ℕ, [], ◌∷◌, ℤ, pos, negsuc};
-ghost use Rattle.grib_dyadic.specs.Reference.{binary, ieee, ibm, SameNumber, IsReduced, HasIeee, HasIbm};
+ghost use Rattle.std.specs.Prelude.{[], ◌∷◌, pos, negsuc};
+ghost use Rattle.grib_dyadic.specs.Reference.{binary, ieee, ibm, SameNumber, HasIeee};
 ghost use Rattle.grib_dyadic.specs.Value.{value_of, Same};
 ghost use Rattle.grib_dyadic.specs.Meaning.{SameMeaning, valued, missing};
 ghost use Rattle.grib2_message.specs.Fields.{meaning_of};

@@ -1,6 +1,6 @@
 //! Rows that no other law meets first, each tried on a section or a message with one change.
 
-ghost use Rattle.std.specs.Prelude.{◌≡◌, ◌++◌, [], ◌∷◌, true, false, Some, None, codes, take, drop};
+ghost use Rattle.std.specs.Prelude.{◌≡◌, ◌++◌, [], ◌∷◌, true, false, Some, None, take};
 ghost use Rattle.grib_io.specs.declared.fault.Reason.TheVariants.{TotalLength, SectionLength, SectionOrder, PointCount, ListShape, FieldCount, Jpeg2000, Ccsds, PackingTemplate, ValueCount, BitmapIndicator, BitmapSize, GroupWidth, GroupShape, DataTooShort, FirstValueSign, ScaledRange};
 ghost use Rattle.grib_io.specs.Rows.{refusal, first_fault};
 ghost use Rattle.grib2_sections.specs.Verdict.{Refused};
@@ -12,7 +12,7 @@ ghost use Rattle.grib_bitmap.specs.Mask.{bitmap_rows, mask_of};
 ghost use Rattle.grib_complex.specs.Entries.{packing_fault, data_fault};
 ghost use Rattle.grib2_message.specs.Acceptance.{verdict_2};
 ghost use Rattle.grib_worked.specs.Hex.{hex, put};
-ghost use Rattle.grib_worked.specs.Messages.{m1, m2, identification, grid, product, representation, no_bitmap, marks_only, differences, interval};
+ghost use Rattle.grib_worked.specs.Messages.{identification, grid, product, representation, no_bitmap, marks_only, differences, interval};
 ghost use Rattle.grib_worked.specs.Variations.{steep, other_grid_between, ends_after_grid};
 
 /// A message of edition 1 that is too short, and one that is not.

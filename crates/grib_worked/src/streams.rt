@@ -1,6 +1,6 @@
 //! Streams of the worked messages among other octets.
 
-ghost use Rattle.std.specs.Prelude.{◌≡◌, ℕ, List, [], ◌∷◌, ◌++◌, codes, take, replicate};
+ghost use Rattle.std.specs.Prelude.{◌≡◌, [], ◌∷◌, ◌++◌, codes, take, replicate};
 ghost use Rattle.grib_io.specs.Rows.{refusal};
 ghost use Rattle.grib_io.specs.declared.fault.Reason.TheVariants.{Truncated};
 ghost use Rattle.grib2_message.specs.Acceptance.{verdict_2};

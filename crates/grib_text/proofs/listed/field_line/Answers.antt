@@ -1,7 +1,5 @@
-use Rattle.std.proofs.Common.{◌≡◌, ap, ◌∙◌, ◌++◌, codes}
-use Rattle.std.specs.Fmt.{decimal, signed_decimal}
-use Rattle.grib_text.specs.Words.{text_or_missing}
-use Rattle.grib_text.specs.Lines.{time_of, origin_text, grid_text, product_text, packing_text}
+use Rattle.std.proofs.Common.{◌≡◌, ap, ◌∙◌}
+use Rattle.grib_text.specs.Lines.{time_of, surface_of, parameter_of, origin_of, origin_text, grid_of, grid_text, product_of, product_text, packing_of, packing_text}
 use Rattle.grib_text.proofs.Pieces.{field_line-pieces}
 use Rattle.grib_text.proofs.listed.field_line.Goals as goal
 
@@ -15,12 +13,12 @@ returns c =
     let t = o.result.time in
     let q = p.result.parameter in
     let s = p.result.surface in
-    let origin = codes "centre=" ++ decimal o.result.centre ++ codes " time=" ++ time_of t.year t.month t.day t.hour t.minute t.second in
-    let grid = codes "grid=3." ++ decimal g.result.template ++ codes " points=" ++ decimal g.result.points in
-    let parameter = decimal q.discipline ++ codes "." ++ decimal q.category ++ codes "." ++ decimal q.number in
-    let surface = text_or_missing s.kind.0 ++ codes ":" ++ text_or_missing s.scale.0 ++ codes ":" ++ text_or_missing s.value.0 in
-    let product = codes "product=4." ++ decimal p.result.template ++ codes " param=" ++ parameter ++ codes " unit=" ++ decimal p.result.unit ++ codes " ahead=" ++ signed_decimal p.result.ahead ++ codes " surface=" ++ surface in
-    let packing = codes "packing=5." ++ decimal k.result.template ++ codes " bits=" ++ decimal k.result.bits ++ codes " values=" ++ decimal k.result.values in
+    let origin = origin_of o.result.centre (time_of t.year t.month t.day t.hour t.minute t.second) in
+    let grid = grid_of g.result.template g.result.points in
+    let parameter = parameter_of q.discipline q.category q.number in
+    let surface = surface_of s.kind.0 s.scale.0 s.value.0 in
+    let product = product_of p.result.template parameter p.result.unit p.result.ahead surface in
+    let packing = packing_of k.result.template k.result.bits k.result.values in
     let origin_is : origin ≡ origin_text l.identification.now = rw (o.ensures.centre, o.ensures.time) in
     let grid_is : grid ≡ grid_text l.grid.now = rw (g.ensures.template, g.ensures.points) in
     let product_is : product ≡ product_text l.discipline l.product.now = rw (p.ensures.template, p.ensures.parameter, p.ensures.unit, p.ensures.ahead, p.ensures.surface) in
