@@ -13,7 +13,9 @@ if [[ $# -gt 1 || ${1-} == -* ]]; then
   echo "usage: install.sh [PREFIX]" >&2
   exit 2
 fi
-bin=${1:-$HOME/.local}/bin
+prefix=${1:-${HOME:+$HOME/.local}}
+[[ -n $prefix ]] || fail "HOME is not set, so PREFIX has to be given"
+bin=$prefix/bin
 self=$(readlink -f -- "$0") || fail "cannot find the folder of $0"
 top=${self%/*}
 
