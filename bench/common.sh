@@ -32,10 +32,10 @@ agree() { # WHAT
   [[ -n $our_sum && $our_sum == "$their_sum" ]] || fail "$1: the two programs differ"
 }
 
-# The processor time of a run, in seconds: the user's, and where a second one is printed, the system's.
-clock=%3U
+# The processor time of a run, in seconds: the user's and the system's. Where the line between the two is
+# drawn is by chance when a run takes much memory, so that the user's alone would vary.
 seconds() { # COMMAND
-  local TIMEFORMAT=$clock spent
+  local TIMEFORMAT='%3U %3S' spent
   spent=$({ time "$1" >/dev/null 2>&1; } 2>&1) && awk '{ print $1 + $2 }' <<<"$spent"
 }
 

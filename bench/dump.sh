@@ -31,5 +31,4 @@ theirs() { grib_get_data "$work/many.grib2"; }
 
 last=$(ours | tail -n 1) || fail "dump failed"
 [[ $last == "16777216 0" ]] || fail "the last line of dump is '$last'"
-clock='%3U %3S'
 ratio "dump of 16777216 points" 3
