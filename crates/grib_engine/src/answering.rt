@@ -27,7 +27,8 @@ pub(crate) fn answer_octets<T: Sink>(
     octets: &[u8],
     output: &mut T,
 ) -> Outcome
-    ensures answer { GivesAnswer (answer job.now octets.now) result (T.contents output.old) (T.contents output.new) }
+    ensures answer { GivesAnswer (answer job.now octets.now) result
+        (T.contents output.old) (T.contents output.new) }
     ensures no_read { result ≢ ReadFault }
     ensures fault { result ≡ WriteFault → Counted (T.faults output.old) (T.faults output.new) }
     ensures calm { result ≢ WriteFault → T.faults output.new ≡ T.faults output.old }
@@ -73,7 +74,8 @@ fn answer_message<T: Sink>(
     requires indicated { take 4 octets.now ≡ indicator }
     requires begun { first_fault (head_rows octets.now) ≡ None }
     requires head { head.now ≡ head_of octets.now }
-    ensures answer { GivesAnswer (plain_answer job.now octets.now) result (T.contents output.old) (T.contents output.new) }
+    ensures answer { GivesAnswer (plain_answer job.now octets.now) result
+        (T.contents output.old) (T.contents output.new) }
     ensures no_read { result ≢ ReadFault }
     ensures fault { result ≡ WriteFault → Counted (T.faults output.old) (T.faults output.new) }
     ensures calm { result ≢ WriteFault → T.faults output.new ≡ T.faults output.old }

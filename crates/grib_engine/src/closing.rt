@@ -27,21 +27,29 @@ pub fn close<T: Sink, N: Sink>(
     ensures one_of { (result ≡ outcome) ⊎ ((result ≡ WriteFault) ⊎ (result ≡ Memory)) }
 
     // After a write fault all is as it was.
-    ensures after_fault { outcome ≡ WriteFault → (result ≡ WriteFault) × (output.new ≡ output.old) × (notes.new ≡ notes.old) }
+    ensures after_fault { outcome ≡ WriteFault
+        → (result ≡ WriteFault) × (output.new ≡ output.old) × (notes.new ≡ notes.old) }
     ensures fault { outcome ≢ WriteFault → result ≡ WriteFault
-        → OneCounted (T.faults output.old) (T.faults output.new) (N.faults notes.old) (N.faults notes.new) }
-    ensures calm { result ≢ WriteFault → Calm (T.faults output.old) (T.faults output.new) (N.faults notes.old) (N.faults notes.new) }
-    ensures noted { is_cut_short result ≡ false → Appends (N.contents notes.old) (N.contents notes.new) note.now }
+        → OneCounted (T.faults output.old) (T.faults output.new)
+        (N.faults notes.old) (N.faults notes.new) }
+    ensures calm { result ≢ WriteFault
+        → Calm (T.faults output.old) (T.faults output.new)
+        (N.faults notes.old) (N.faults notes.new) }
+    ensures noted { is_cut_short result ≡ false
+        → Appends (N.contents notes.old) (N.contents notes.new) note.now }
     ensures noted_front { AppendsFront (N.contents notes.old) (N.contents notes.new) note.now }
-    ensures settled { is_cut_short result ≡ false → (T.settled output.new ≡ true) × (N.settled notes.new ≡ true) }
+    ensures settled { is_cut_short result ≡ false
+        → (T.settled output.new ≡ true) × (N.settled notes.new ≡ true) }
     ensures output_kept { Keeps (T.contents output.old) (T.contents output.new) }
 
     // How far it came: to the note, with the output as it was and nothing finished; to the output, with the
     // note appended and not finished; or past the output, which is settled.
     ensures order { ((output.new ≡ output.old) × Unfinished (N.settled notes.old) (N.settled notes.new))
-        ⊎ ((Appends (N.contents notes.old) (N.contents notes.new) note.now × (N.faults notes.new ≡ N.faults notes.old)
+        ⊎ ((Appends (N.contents notes.old) (N.contents notes.new) note.now
+        × (N.faults notes.new ≡ N.faults notes.old)
         × (N.settled notes.new ≡ settled_after (N.settled notes.old) note.now))
-        ⊎ (Appends (N.contents notes.old) (N.contents notes.new) note.now × (T.faults output.new ≡ T.faults output.old)
+        ⊎ (Appends (N.contents notes.old) (N.contents notes.new) note.now
+        × (T.faults output.new ≡ T.faults output.old)
         × (T.settled output.new ≡ true))) }
 {
     if matches!(outcome, Outcome::WriteFault) {
@@ -63,17 +71,24 @@ pub(crate) fn close_with_note<T: Sink, N: Sink>(
     notes: &mut N,
 ) -> Outcome
     ensures one_of { (result ≡ outcome) ⊎ ((result ≡ WriteFault) ⊎ (result ≡ Memory)) }
-    ensures after_fault { outcome ≡ WriteFault → (result ≡ WriteFault) × (output.new ≡ output.old) × (notes.new ≡ notes.old) }
+    ensures after_fault { outcome ≡ WriteFault
+        → (result ≡ WriteFault) × (output.new ≡ output.old) × (notes.new ≡ notes.old) }
     ensures fault { outcome ≢ WriteFault → result ≡ WriteFault
-        → OneCounted (T.faults output.old) (T.faults output.new) (N.faults notes.old) (N.faults notes.new) }
-    ensures calm { result ≢ WriteFault → Calm (T.faults output.old) (T.faults output.new) (N.faults notes.old) (N.faults notes.new) }
-    ensures noted { is_cut_short result ≡ false → Appends (N.contents notes.old) (N.contents notes.new) (note_of result) }
+        → OneCounted (T.faults output.old) (T.faults output.new)
+        (N.faults notes.old) (N.faults notes.new) }
+    ensures calm { result ≢ WriteFault
+        → Calm (T.faults output.old) (T.faults output.new)
+        (N.faults notes.old) (N.faults notes.new) }
+    ensures noted { is_cut_short result ≡ false
+        → Appends (N.contents notes.old) (N.contents notes.new) (note_of result) }
     ensures noted_front { NotesFront (N.contents notes.old) (N.contents notes.new) outcome }
-    ensures settled { is_cut_short result ≡ false → (T.settled output.new ≡ true) × (N.settled notes.new ≡ true) }
+    ensures settled { is_cut_short result ≡ false
+        → (T.settled output.new ≡ true) × (N.settled notes.new ≡ true) }
     ensures output_kept { Keeps (T.contents output.old) (T.contents output.new) }
 
     // Where the output fails, the notes are not finished after it.
-    ensures unfinished { T.faults output.old < T.faults output.new → Unfinished (N.settled notes.old) (N.settled notes.new) }
+    ensures unfinished { T.faults output.old < T.faults output.new
+        → Unfinished (N.settled notes.old) (N.settled notes.new) }
 {
     match outcome {
         Outcome::Refused(refusal) => match refusal_note(alloc, &refusal) {
@@ -93,12 +108,16 @@ fn settle<T: Sink, N: Sink>(note: &[u8], output: &mut T, notes: &mut N) -> Resul
     ensures settled { OnOk result ((T.settled output.new ≡ true) × (N.settled notes.new ≡ true)) }
     ensures output_kept { Keeps (T.contents output.old) (T.contents output.new) }
     ensures counted { MatchResult result
-        (λ _. Calm (T.faults output.old) (T.faults output.new) (N.faults notes.old) (N.faults notes.new))
-        (λ stop. CountsOne stop (T.faults output.old) (T.faults output.new) (N.faults notes.old) (N.faults notes.new)) }
+        (λ _. Calm (T.faults output.old) (T.faults output.new)
+        (N.faults notes.old) (N.faults notes.new))
+        (λ stop. CountsOne stop (T.faults output.old) (T.faults output.new)
+        (N.faults notes.old) (N.faults notes.new)) }
     ensures order { ((output.new ≡ output.old) × Unfinished (N.settled notes.old) (N.settled notes.new))
-        ⊎ ((Appends (N.contents notes.old) (N.contents notes.new) note.now × (N.faults notes.new ≡ N.faults notes.old)
+        ⊎ ((Appends (N.contents notes.old) (N.contents notes.new) note.now
+        × (N.faults notes.new ≡ N.faults notes.old)
         × (N.settled notes.new ≡ settled_after (N.settled notes.old) note.now))
-        ⊎ (Appends (N.contents notes.old) (N.contents notes.new) note.now × (T.faults output.new ≡ T.faults output.old)
+        ⊎ (Appends (N.contents notes.old) (N.contents notes.new) note.now
+        × (T.faults output.new ≡ T.faults output.old)
         × (T.settled output.new ≡ true))) }
 {
     write_whole(notes, note)?;

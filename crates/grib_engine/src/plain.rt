@@ -39,8 +39,9 @@ impl<'a> PlainMessage<'a> {
 
         ensures exact { is_some result ≡ is_plain octets.now }
         ensures whole { IfSome result (λ p. p.octets.now ≡ octets.now) }
-        ensures parts { IfSome result (λ p. PlainParts octets.now p.listed.discipline p.listed.identification.now p.listed.grid.now
-            p.listed.product.now p.listed.representation.now p.values.now) }
+        ensures parts { IfSome result (λ p. PlainParts octets.now p.listed.discipline
+            p.listed.identification.now p.listed.grid.now p.listed.product.now
+            p.listed.representation.now p.values.now) }
     {
         let sections = Sections::of(octets, head)?;
         if !sections.are_plain() {
@@ -76,8 +77,10 @@ impl<'a> Sections<'a> {
     fn of(octets: &'a [u8], head: &Head) -> Option<Sections<'a>>
         requires begun { first_fault (head_rows octets.now) ≡ None }
         requires head { head.now ≡ head_of octets.now }
-        ensures joined { IfSome result (λ p. HasSections octets.now p.identification.now p.grid.now p.product.now p.representation.now p.bitmap.now p.values.now) }
-        ensures other { IfNone result ((s1 s3 s4 s5 s6 s7 : List ℕ) → HasSections octets.now s1 s3 s4 s5 s6 s7 → ⊥) }
+        ensures joined { IfSome result (λ p. HasSections octets.now p.identification.now p.grid.now
+            p.product.now p.representation.now p.bitmap.now p.values.now) }
+        ensures other { IfNone result ((s1 s3 s4 s5 s6 s7 : List ℕ)
+            → HasSections octets.now s1 s3 s4 s5 s6 s7 → ⊥) }
     {
         let rest = split_head(octets, head)?;
         let (identification, rest) = split_section(rest, 1)?;
@@ -101,7 +104,9 @@ impl<'a> Sections<'a> {
 
     /// Whether no row refuses them and their templates are 3.0, 4.0 and 5.0, without lists.
     fn are_plain(&self) -> bool
-        ensures { IsTrue result ↔ ArePlain self.now.identification.now self.now.grid.now self.now.product.now self.now.representation.now self.now.bitmap.now self.now.values.now }
+        ensures { IsTrue result ↔ ArePlain self.now.identification.now self.now.grid.now
+            self.now.product.now self.now.representation.now self.now.bitmap.now
+            self.now.values.now }
     {
         if self.identification.len() < 21 || !is_plain_grid(self.grid) {
             return false;

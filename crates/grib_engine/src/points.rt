@@ -21,7 +21,8 @@ pub(crate) fn write_with_points<T: Sink>(
     output: &mut T,
 ) -> Result<(), Stop>
     requires few { length points.now < 2 ^ 32 }
-    ensures octets { Writes result (T.contents output.old) (T.contents output.new) (lines.items ++ point_lines 1 points.now) }
+    ensures octets { Writes result (T.contents output.old) (T.contents output.new)
+        (lines.items ++ point_lines 1 points.now) }
     ensures counted { CountsStops result (T.faults output.old) (T.faults output.new) }
 {
     append_points(&mut lines, points, output)?;
@@ -62,7 +63,8 @@ fn append_point<T: Sink>(
 /// Writes a full buffer, and empties it.
 #[inline]
 fn make_room<T: Sink>(lines: &mut Vec<u8>, output: &mut T) -> Result<(), Stop>
-    ensures octets { WritesAllBut result (T.contents output.old) (T.contents output.new) lines.old.items lines.new.items }
+    ensures octets { WritesAllBut result (T.contents output.old) (T.contents output.new)
+        lines.old.items lines.new.items }
     ensures counted { CountsStops result (T.faults output.old) (T.faults output.new) }
 {
     if lines.len() >= FULL {

@@ -28,9 +28,12 @@ pub(crate) fn write_lines<T: Sink>(
     message: &PlainMessage<'_>,
     output: &mut T,
 ) -> Result<(), Stop>
-    requires parts { PlainParts message.now.octets.now message.now.listed.discipline message.now.listed.identification.now
-        message.now.listed.grid.now message.now.listed.product.now message.now.listed.representation.now message.now.values.now }
-    ensures octets { Writes result (T.contents output.old) (T.contents output.new) (answers.lines_of job.now message.now.octets.now) }
+    requires parts { PlainParts message.now.octets.now message.now.listed.discipline
+        message.now.listed.identification.now message.now.listed.grid.now
+        message.now.listed.product.now message.now.listed.representation.now
+        message.now.values.now }
+    ensures octets { Writes result (T.contents output.old) (T.contents output.new)
+        (answers.lines_of job.now message.now.octets.now) }
     ensures counted { CountsStops result (T.faults output.old) (T.faults output.new) }
 {
     match job {
@@ -41,7 +44,8 @@ pub(crate) fn write_lines<T: Sink>(
 
 /// Writes what `check` prints of these octets.
 fn write_check<T: Sink>(alloc: Global, octets: &[u8], output: &mut T) -> Result<(), Stop>
-    ensures octets { Writes result (T.contents output.old) (T.contents output.new) (answers.check_lines octets.now) }
+    ensures octets { Writes result (T.contents output.old) (T.contents output.new)
+        (answers.check_lines octets.now) }
     ensures counted { CountsStops result (T.faults output.old) (T.faults output.new) }
 {
     let lines = check_lines(alloc, octets)?;
@@ -64,9 +68,12 @@ fn write_dump<T: Sink>(
     message: &PlainMessage<'_>,
     output: &mut T,
 ) -> Result<(), Stop>
-    requires parts { PlainParts message.now.octets.now message.now.listed.discipline message.now.listed.identification.now
-        message.now.listed.grid.now message.now.listed.product.now message.now.listed.representation.now message.now.values.now }
-    ensures octets { Writes result (T.contents output.old) (T.contents output.new) (answers.dump_lines message.now.octets.now) }
+    requires parts { PlainParts message.now.octets.now message.now.listed.discipline
+        message.now.listed.identification.now message.now.listed.grid.now
+        message.now.listed.product.now message.now.listed.representation.now
+        message.now.values.now }
+    ensures octets { Writes result (T.contents output.old) (T.contents output.new)
+        (answers.dump_lines message.now.octets.now) }
     ensures counted { CountsStops result (T.faults output.old) (T.faults output.new) }
 {
     let column = simple_column(alloc, message.listed.representation, message.values)?;
@@ -85,8 +92,10 @@ fn dump_heading(
     requires product { 28 ≤ length listed.now.product.now }
     requires representation { 20 ≤ length listed.now.representation.now }
     requires finite { ieee_exponent column.now.reference < 255 }
-    ensures { IfOk result (λ heading. heading.items ≡ lines.field_line 1 1 listed.now.discipline listed.now.identification.now listed.now.grid.now
-        listed.now.product.now listed.now.representation.now ++ answers.reference_line_of column.now) }
+    ensures { IfOk result (λ heading. heading.items
+        ≡ lines.field_line 1 1 listed.now.discipline listed.now.identification.now
+        listed.now.grid.now listed.now.product.now listed.now.representation.now
+        ++ answers.reference_line_of column.now) }
 {
     let field = field_line(alloc, 1, 1, listed)?;
     let numbers = reference_line_of(alloc, column)?;

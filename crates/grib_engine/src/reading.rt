@@ -13,7 +13,8 @@ pub(crate) const MOST: usize = 65_536;
 
 /// Takes the octets of an input to its end, or one more than `MOST`, which shows that it is too long.
 pub(crate) fn read_front<S: Source>(alloc: Global, input: &mut S) -> Result<Vec<u8>, Stop>
-    ensures taken { IfOk result (λ octets. Consumes (S.left input.old) (S.left input.new) octets.items) }
+    ensures taken { IfOk result
+        (λ octets. Consumes (S.left input.old) (S.left input.new) octets.items) }
     ensures most { IfOk result (λ octets. length octets.items ≤ 65537) }
     ensures at_most { TakesAtMost 65537 (S.left input.old) (S.left input.new) }
     ensures end { IfOk result (λ octets. length octets.items ≤ 65536 → IsAtEnd (S.left input.new)) }
@@ -28,8 +29,10 @@ pub(crate) fn read_front<S: Source>(alloc: Global, input: &mut S) -> Result<Vec<
 /// Fills the buffer from the input, as far as either goes, and answers how many octets came.
 fn fill<S: Source>(buffer: &mut [u8], input: &mut S) -> Result<usize, Failed>
     ensures bound { IfOk result (λ count. count ≤ length buffer.new) }
-    ensures taken { IfOk result (λ count. Consumes (S.left input.old) (S.left input.new) (take count buffer.new)) }
-    ensures refused { OnErr result (TakesAtMost (length buffer.new) (S.left input.old) (S.left input.new)) }
+    ensures taken { IfOk result
+        (λ count. Consumes (S.left input.old) (S.left input.new) (take count buffer.new)) }
+    ensures refused { OnErr result
+        (TakesAtMost (length buffer.new) (S.left input.old) (S.left input.new)) }
     ensures end { IfOk result (λ count. count < length buffer.new → IsAtEnd (S.left input.new)) }
     ensures counted { CountsFailure result (S.faults input.old) (S.faults input.new) }
 {

@@ -29,23 +29,29 @@ pub fn serve<S: Source, T: Sink, N: Sink, H: Shelf>(
 ) -> Outcome
     // The outcome and the output, by the answer to what was left of the input.
     ensures answer { IfSome (S.left input.old)
-        (λ octets. GivesAnswer (answer job.now octets) result (T.contents output.old) (T.contents output.new)) }
+        (λ octets. GivesAnswer (answer job.now octets) result
+        (T.contents output.old) (T.contents output.new)) }
     ensures unwritten { result ≡ ReadFault → Keeps (T.contents output.old) (T.contents output.new) }
 
     // How much of the input was taken.
-    ensures taken { IfSome (S.left input.old) (λ octets. is_broken result ≡ false → S.left input.new ≡ Some (drop 65537 octets)) }
+    ensures taken { IfSome (S.left input.old)
+        (λ octets. is_broken result ≡ false → S.left input.new ≡ Some (drop 65537 octets)) }
     ensures at_most { TakesAtMost 65537 (S.left input.old) (S.left input.new) }
     ensures end { result ≡ Done → IsAtEnd (S.left input.new) }
 
     // The notes, and the end of the run.
-    ensures noted { is_cut_short result ≡ false → Appends (N.contents notes.old) (N.contents notes.new) (note_of result) }
+    ensures noted { is_cut_short result ≡ false
+        → Appends (N.contents notes.old) (N.contents notes.new) (note_of result) }
     ensures noted_front { IfSome (S.left input.old)
-        (λ octets. NotesFront (N.contents notes.old) (N.contents notes.new) (answer job.now octets).outcome) }
-    ensures settled { is_cut_short result ≡ false → (T.settled output.new ≡ true) × (N.settled notes.new ≡ true) }
-    ensures unfinished { T.faults output.old < T.faults output.new → Unfinished (N.settled notes.old) (N.settled notes.new) }
+        (λ octets. NotesFront (N.contents notes.old) (N.contents notes.new)
+        (answer job.now octets).outcome) }
+    ensures settled { is_cut_short result ≡ false
+        → (T.settled output.new ≡ true) × (N.settled notes.new ≡ true) }
+    ensures unfinished { T.faults output.old < T.faults output.new
+        → Unfinished (N.settled notes.old) (N.settled notes.new) }
 
-    ensures counts { CountsRun result (S.faults input.old) (S.faults input.new) (T.faults output.old) (T.faults output.new)
-        (N.faults notes.old) (N.faults notes.new) }
+    ensures counts { CountsRun result (S.faults input.old) (S.faults input.new)
+        (T.faults output.old) (T.faults output.new) (N.faults notes.old) (N.faults notes.new) }
     ensures shelf { shelf.new ≡ shelf.old }
 {
     let outcome = read_and_answer(alloc, job, input, output);
@@ -60,13 +66,17 @@ fn read_and_answer<S: Source, T: Sink>(
     output: &mut T,
 ) -> Outcome
     ensures answer { IfSome (S.left input.old)
-        (λ octets. GivesAnswer (answer job.now octets) result (T.contents output.old) (T.contents output.new)) }
-    ensures taken { IfSome (S.left input.old) (λ octets. is_broken result ≡ false → S.left input.new ≡ Some (drop 65537 octets)) }
+        (λ octets. GivesAnswer (answer job.now octets) result
+        (T.contents output.old) (T.contents output.new)) }
+    ensures taken { IfSome (S.left input.old)
+        (λ octets. is_broken result ≡ false → S.left input.new ≡ Some (drop 65537 octets)) }
     ensures at_most { TakesAtMost 65537 (S.left input.old) (S.left input.new) }
     ensures end { result ≡ Done → IsAtEnd (S.left input.new) }
-    ensures read_fault { result ≡ ReadFault → Counted (S.faults input.old) (S.faults input.new) × (output.new ≡ output.old) }
+    ensures read_fault { result ≡ ReadFault
+        → Counted (S.faults input.old) (S.faults input.new) × (output.new ≡ output.old) }
     ensures read_calm { result ≢ ReadFault → S.faults input.new ≡ S.faults input.old }
-    ensures write_fault { result ≡ WriteFault → Counted (T.faults output.old) (T.faults output.new) }
+    ensures write_fault { result ≡ WriteFault
+        → Counted (T.faults output.old) (T.faults output.new) }
     ensures write_calm { result ≢ WriteFault → T.faults output.new ≡ T.faults output.old }
 {
     match read_front(alloc, input) {

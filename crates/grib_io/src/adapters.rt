@@ -41,9 +41,11 @@ impl<R: Read> Source for ReadSource<R> {
 
     fn read(&mut self, into: &mut [u8]) -> Result<usize, Failed>
         ensures bound { ReadsAtMost result into.new }
-        ensures octets { ReadConsumes (R.remaining self.old.reader) (R.remaining self.new.reader) result into.new }
+        ensures octets { ReadConsumes (R.remaining self.old.reader) (R.remaining self.new.reader)
+            result into.new }
         ensures counted { CountsFailure result self.old.faults self.new.faults }
-        ensures faults { MatchResult result (λ _. self.new.faults ≡ self.old.faults) (λ _. self.new.faults ≡ next_count self.old.faults) }
+        ensures faults { MatchResult result (λ _. self.new.faults ≡ self.old.faults)
+            (λ _. self.new.faults ≡ next_count self.old.faults) }
     {
         match self.reader.read(into) {
             Ok(count) => Ok(count),
@@ -105,11 +107,13 @@ impl<W: Write> Sink for WriteSink<W> {
     fn write(&mut self, piece: &[u8]) -> Result<usize, Stop>
         ensures bound { WritesAtMost result piece.now }
         ensures some { IfOk result (λ count. 0 < length piece.now → 0 < count) }
-        ensures octets { WriteAppends (W.contents self.old.writer) (W.contents self.new.writer) result piece.now }
+        ensures octets { WriteAppends (W.contents self.old.writer) (W.contents self.new.writer)
+            result piece.now }
         ensures settled { Settles result self.old.settled self.new.settled }
         ensures counted { CountsStops result self.old.faults self.new.faults }
         ensures stop { IfErr result (λ stop. stop ≡ Stop.Failed) }
-        ensures faults { MatchResult result (λ _. self.new.faults ≡ self.old.faults) (λ _. self.new.faults ≡ next_count self.old.faults) }
+        ensures faults { MatchResult result (λ _. self.new.faults ≡ self.old.faults)
+            (λ _. self.new.faults ≡ next_count self.old.faults) }
     {
         match self.writer.write(piece) {
             Ok(0) if !piece.is_empty() => Err(self.fail()),
@@ -123,10 +127,12 @@ impl<W: Write> Sink for WriteSink<W> {
 
     fn finish(&mut self) -> Result<(), Stop>
         ensures octets { Keeps (W.contents self.old.writer) (W.contents self.new.writer) }
-        ensures settled { MatchResult result (λ _. self.new.settled ≡ true) (λ _. self.new.settled ≡ self.old.settled) }
+        ensures settled { MatchResult result (λ _. self.new.settled ≡ true)
+            (λ _. self.new.settled ≡ self.old.settled) }
         ensures counted { CountsStops result self.old.faults self.new.faults }
         ensures stop { IfErr result (λ stop. stop ≡ Stop.Failed) }
-        ensures faults { MatchResult result (λ _. self.new.faults ≡ self.old.faults) (λ _. self.new.faults ≡ next_count self.old.faults) }
+        ensures faults { MatchResult result (λ _. self.new.faults ≡ self.old.faults)
+            (λ _. self.new.faults ≡ next_count self.old.faults) }
     {
         match self.writer.flush() {
             Ok(()) => {

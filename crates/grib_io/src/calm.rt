@@ -102,7 +102,8 @@ impl Sink for CalmSink {
     fn write(&mut self, piece: &[u8]) -> Result<usize, Stop>
         ensures bound { WritesAtMost result piece.now }
         ensures some { IfOk result (λ count. 0 < length piece.now → 0 < count) }
-        ensures octets { WriteAppends (Some self.old.octets) (Some self.new.octets) result piece.now }
+        ensures octets { WriteAppends (Some self.old.octets) (Some self.new.octets)
+            result piece.now }
         ensures settled { Settles result self.old.settled self.new.settled }
         ensures counted { CountsStops result 0 0 }
         ensures count { IfOk result (λ count. count ≡ min self.old.piece (length piece.now)) }
@@ -114,7 +115,8 @@ impl Sink for CalmSink {
 
     fn finish(&mut self) -> Result<(), Stop>
         ensures octets { Keeps (Some self.old.octets) (Some self.new.octets) }
-        ensures settled { MatchResult result (λ _. self.new.settled ≡ true) (λ _. self.new.settled ≡ self.old.settled) }
+        ensures settled { MatchResult result (λ _. self.new.settled ≡ true)
+            (λ _. self.new.settled ≡ self.old.settled) }
         ensures counted { CountsStops result 0 0 }
         ensures answer { result ≡ Ok tt }
         ensures piece { self.new.piece ≡ self.old.piece }

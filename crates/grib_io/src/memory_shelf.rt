@@ -30,7 +30,8 @@ fn put_octets(
     name: &str,
     octets: Vec<u8>,
 ) -> Result<(), AllocError>
-    ensures name { MatchResult result (λ _. octets_in names.new name.now ≡ Some octets.items) (λ _. octets_in names.new name.now ≡ octets_in names.old name.now) }
+    ensures name { MatchResult result (λ _. octets_in names.new name.now ≡ Some octets.items)
+        (λ _. octets_in names.new name.now ≡ octets_in names.old name.now) }
     ensures others { OthersAsBefore (octets_in names.old) (octets_in names.new) name.now }
 {
     let key = String::from_str(alloc, name)?;
@@ -41,7 +42,10 @@ fn put_octets(
 /// Adds octets to those of the name, which is made where it is absent. Without memory for them all
 /// stays.
 fn add_octets(names: &mut Names, alloc: Global, name: &str, piece: &[u8]) -> Result<(), AllocError>
-    ensures name { MatchResult result (λ _. octets_in names.new name.now ≡ Some (unwrap_or (octets_in names.old name.now) [] ++ piece.now)) (λ _. octets_in names.new name.now ≡ octets_in names.old name.now) }
+    ensures name { MatchResult result
+        (λ _. octets_in names.new name.now
+        ≡ Some (unwrap_or (octets_in names.old name.now) [] ++ piece.now))
+        (λ _. octets_in names.new name.now ≡ octets_in names.old name.now) }
     ensures others { OthersAsBefore (octets_in names.old) (octets_in names.new) name.now }
 {
     if let Some(octets) = names.get_mut(name) {
@@ -87,7 +91,8 @@ impl MemoryShelf {
 
     /// Gives the name these octets. This is not counted as a call. Without memory for it all stays.
     pub fn put(&mut self, name: &str, octets: &[u8]) -> Result<(), AllocError>
-        ensures name { MatchResult result (λ _. octets_under self.new name.now ≡ Some octets.now) (λ _. octets_under self.new name.now ≡ octets_under self.old name.now) }
+        ensures name { MatchResult result (λ _. octets_under self.new name.now ≡ Some octets.now)
+            (λ _. octets_under self.new name.now ≡ octets_under self.old name.now) }
         ensures others { OthersAsBefore (octets_under self.old) (octets_under self.new) name.now }
         ensures calls { calls self.new ≡ calls self.old }
     {
@@ -109,8 +114,10 @@ impl Shelf for MemoryShelf {
         ensures kept { AsBefore (octets_under self.old) (octets_under self.new) }
         ensures counted { CountsShelfRead result (calls self.old).faults (calls self.new).faults }
         ensures failed { ReadFailsWhere (next_fails (calls self.old)) result }
-        ensures count { IfOk result (λ count. count ≡ min (length into.old) (length (unwrap_or (octets_under self.old name.now) []) - offset)) }
-        ensures rest { MatchResult result (λ count. drop count into.new ≡ drop count into.old) (λ _. into.new ≡ into.old) }
+        ensures count { IfOk result (λ count. count ≡ min (length into.old)
+            (length (unwrap_or (octets_under self.old name.now) []) - offset)) }
+        ensures rest { MatchResult result (λ count. drop count into.new ≡ drop count into.old)
+            (λ _. into.new ≡ into.old) }
         ensures calls { calls self.new ≡ one_more (calls self.old) }
     {
         self.calls.count()?;
@@ -121,11 +128,13 @@ impl Shelf for MemoryShelf {
     }
 
     fn make(&mut self, name: &str) -> Result<(), Stop>
-        ensures octets { Makes result (octets_under self.old name.now) (octets_under self.new name.now) }
+        ensures octets { Makes result
+            (octets_under self.old name.now) (octets_under self.new name.now) }
         ensures others { OthersAsBefore (octets_under self.old) (octets_under self.new) name.now }
         ensures counted { CountsStops result (calls self.old).faults (calls self.new).faults }
         ensures failed { FailsWhere (next_fails (calls self.old)) result }
-        ensures kept { OnErr result (octets_under self.new name.now ≡ octets_under self.old name.now) }
+        ensures kept { OnErr result
+            (octets_under self.new name.now ≡ octets_under self.old name.now) }
         ensures calls { calls self.new ≡ one_more (calls self.old) }
     {
         self.calls.count()?;
@@ -133,11 +142,13 @@ impl Shelf for MemoryShelf {
     }
 
     fn append(&mut self, name: &str, piece: &[u8]) -> Result<(), Stop>
-        ensures octets { AddsPiece result piece.now (octets_under self.old name.now) (octets_under self.new name.now) }
+        ensures octets { AddsPiece result piece.now
+            (octets_under self.old name.now) (octets_under self.new name.now) }
         ensures others { OthersAsBefore (octets_under self.old) (octets_under self.new) name.now }
         ensures counted { CountsStops result (calls self.old).faults (calls self.new).faults }
         ensures failed { FailsWhere (next_fails (calls self.old)) result }
-        ensures kept { OnErr result (octets_under self.new name.now ≡ octets_under self.old name.now) }
+        ensures kept { OnErr result
+            (octets_under self.new name.now ≡ octets_under self.old name.now) }
         ensures calls { calls self.new ≡ one_more (calls self.old) }
     {
         self.calls.count()?;

@@ -68,7 +68,8 @@ impl Sink for MemorySink {
     fn write(&mut self, piece: &[u8]) -> Result<usize, Stop>
         ensures bound { WritesAtMost result piece.now }
         ensures some { IfOk result (λ count. 0 < length piece.now → 0 < count) }
-        ensures octets { WriteAppends (Some self.old.octets) (Some self.new.octets) result piece.now }
+        ensures octets { WriteAppends (Some self.old.octets) (Some self.new.octets)
+            result piece.now }
         ensures settled { Settles result self.old.settled self.new.settled }
         ensures counted { CountsStops result self.old.calls.faults self.new.calls.faults }
         ensures failed { FailsWhere (next_fails self.old.calls) result }
@@ -82,7 +83,8 @@ impl Sink for MemorySink {
 
     fn finish(&mut self) -> Result<(), Stop>
         ensures octets { Keeps (Some self.old.octets) (Some self.new.octets) }
-        ensures settled { MatchResult result (λ _. self.new.settled ≡ true) (λ _. self.new.settled ≡ self.old.settled) }
+        ensures settled { MatchResult result (λ _. self.new.settled ≡ true)
+            (λ _. self.new.settled ≡ self.old.settled) }
         ensures counted { CountsStops result self.old.calls.faults self.new.calls.faults }
         ensures failed { is_err result ≡ next_fails self.old.calls }
         ensures stop { IfErr result (λ stop. stop ≡ Stop.Failed) }

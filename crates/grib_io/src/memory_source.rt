@@ -53,8 +53,10 @@ impl Source for MemorySource {
         ensures octets { ReadConsumes (Some self.old.left) (Some self.new.left) result into.new }
         ensures counted { CountsFailure result self.old.calls.faults self.new.calls.faults }
         ensures failed { is_err result ≡ next_fails self.old.calls }
-        ensures count { IfOk result (λ count. count ≡ count_given self.old.left self.old.piece (length into.old)) }
-        ensures rest { MatchResult result (λ count. drop count into.new ≡ drop count into.old) (λ _. into.new ≡ into.old) }
+        ensures count { IfOk result (λ count. count
+            ≡ count_given self.old.left self.old.piece (length into.old)) }
+        ensures rest { MatchResult result (λ count. drop count into.new ≡ drop count into.old)
+            (λ _. into.new ≡ into.old) }
         ensures piece { self.new.piece ≡ self.old.piece }
         ensures calls { self.new.calls ≡ one_more self.old.calls }
     {

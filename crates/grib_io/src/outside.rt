@@ -101,7 +101,8 @@ pub trait Sink {
     /// Passes on what a lower layer holds back. It changes no contents.
     fn finish(&mut self) -> Result<(), Stop>
         ensures octets { Keeps (contents self.old) (contents self.new) }
-        ensures settled { MatchResult result (λ _. settled self.new ≡ true) (λ _. settled self.new ≡ settled self.old) }
+        ensures settled { MatchResult result (λ _. settled self.new ≡ true)
+            (λ _. settled self.new ≡ settled self.old) }
         ensures counted { CountsStops result (faults self.old) (faults self.new) };
 }
 
@@ -133,7 +134,8 @@ pub trait Shelf {
     /// refused may have made the name, and may have added some front of the piece. All other names
     /// stay as they are.
     fn append(&mut self, name: &str, piece: &[u8]) -> Result<(), Stop>
-        ensures octets { Turns (contents self.old) (contents self.new) name.now (AddsPiece result piece.now) }
+        ensures octets { Turns (contents self.old) (contents self.new) name.now
+            (AddsPiece result piece.now) }
         ensures others { OthersStay (contents self.old) (contents self.new) name.now }
         ensures counted { CountsStops result (faults self.old) (faults self.new) };
 }

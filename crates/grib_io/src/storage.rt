@@ -48,7 +48,9 @@ impl Storage {
     /// Takes the front of `piece`, and answers how many octets. Without memory for them it takes none.
     pub(crate) fn add(&mut self, piece: &[u8]) -> Result<usize, AllocError>
         ensures count { IfOk result (λ count. count ≡ min self.old.piece (length piece.now)) }
-        ensures store { MatchResult result (λ count. self.new ≡ after_write self.old (take count piece.now)) (λ _. self.new ≡ self.old) }
+        ensures store { MatchResult result
+            (λ count. self.new ≡ after_write self.old (take count piece.now))
+            (λ _. self.new ≡ self.old) }
         // So one octet at least is taken of a piece that is not empty.
         ensures piece { 1 ≤ self.old.piece }
     {

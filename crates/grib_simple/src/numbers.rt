@@ -44,7 +44,8 @@ pub fn unpack_points(
 ) -> Result<Vec<Point>, AllocError>
     requires width { bits ≤ 48 }
     requires within { bits * count ≤ 8 * length octets.now }
-    ensures { IfOk result (λ points. points.items ≡ map (λ x. Scaled (pos x)) (plain (bits_in octets.now) bits count)) }
+    ensures { IfOk result (λ points. points.items
+        ≡ map (λ x. Scaled (pos x)) (plain (bits_in octets.now) bits count)) }
 {
     unpack(alloc, octets, bits, count)
 }
@@ -85,7 +86,8 @@ fn unpack<T: Unpacked>(
 ) -> Result<Vec<T>, AllocError>
     requires width { bits ≤ 48 }
     requires within { bits * count ≤ 8 * length octets.now }
-    ensures { IfOk result (λ items. items.items ≡ map T.unpacked (plain (bits_in octets.now) bits count)) }
+    ensures { IfOk result (λ items. items.items
+        ≡ map T.unpacked (plain (bits_in octets.now) bits count)) }
 {
     let mut items = Vec::with_capacity(alloc, count as usize)?;
     let whole = count_in_words(octets.len(), bits, count);
@@ -135,7 +137,8 @@ fn push_last<T: Unpacked>(
     requires within { bits * count ≤ 8 * length octets.now }
     requires from { from ≤ count }
     requires front { items.old.items ≡ map T.unpacked (plain (bits_in octets.now) bits from) }
-    ensures { OnOk result (items.new.items ≡ map T.unpacked (plain (bits_in octets.now) bits count)) }
+    ensures { OnOk result (items.new.items
+        ≡ map T.unpacked (plain (bits_in octets.now) bits count)) }
 {
     for index in from..count {
         let at = u64::from(index) * u64::from(bits);

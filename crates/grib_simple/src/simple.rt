@@ -26,7 +26,8 @@ pub fn simple_column(
     requires length { 21 ≤ length representation.now }
     requires width { bit_width representation.now ≤ 48 }
     requires within { plain_bits representation.now + 40 ≤ 8 * length «data».now }
-    ensures { IfOk result (λ column. column ≡ column_with representation.now (simple_entries representation.now «data».now)) }
+    ensures { IfOk result (λ column. column
+        ≡ column_with representation.now (simple_entries representation.now «data».now)) }
 {
     let count = BigEndian::read_u32(&representation[5..]);
     let bits = u32::from(representation[19]);

@@ -36,8 +36,9 @@ pub fn field_line(
     requires grid { 14 ≤ length listed.now.grid.now }
     requires product { 28 ≤ length listed.now.product.now }
     requires representation { 20 ≤ length listed.now.representation.now }
-    ensures { IfOk result (λ line. line.items ≡ lines.field_line number field listed.now.discipline
-        listed.now.identification.now listed.now.grid.now listed.now.product.now listed.now.representation.now) }
+    ensures { IfOk result (λ line. line.items
+        ≡ lines.field_line number field listed.now.discipline listed.now.identification.now
+        listed.now.grid.now listed.now.product.now listed.now.representation.now) }
 {
     let origin = Origin::read(listed.identification);
     let grid = Grid::read(listed.grid);
