@@ -49,9 +49,9 @@ row_list s =
 abbrev pub may_have_list : ℕ → Bool
 may_have_list t = list_any (λ n. n == t) (0 ∷ 1 ∷ 40 ∷ [])
 
--- rows S3.1 to S3.11, for a section that begins at octet `start` of the message
-abbrev pub grid_rows : List ℕ → ℕ → List Row
-grid_rows s start =
+-- rows S3.1 to S3.11
+abbrev pub grid_rows : List ℕ → List Row
+grid_rows s =
     let l = length s in
     let t = grid_template s in
     let points = grid_points s in
@@ -59,15 +59,15 @@ grid_rows s start =
     let meaning = list_meaning s in
     let listed = not (size == 0) in
     let f = list_start s in
-    row (nat_lt l 14) start SectionLength l  -- S3.1
-    ∷ row (not (grid_source s == 0)) (start + 5) GridSource (grid_source s)  -- S3.2
-    ∷ row (not (is_template grid_templates t)) (start + 12) GridTemplate t  -- S3.3
-    ∷ row (nat_lt l (least_length grid_templates t)) start SectionLength l  -- S3.4
-    ∷ row (points == 0 || nat_lt 33554432 points) (start + 6) PointCount points  -- S3.5
-    ∷ row (listed && not (meaning == 1) && not (meaning == 2)) (start + 11) ListShape meaning  -- S3.6
-    ∷ row (nat_lt 4 size || (listed && not (may_have_list t))) (start + 10) ListShape size  -- S3.7
-    ∷ row (listed && (nj s == 0 || nj s == 4294967295)) (start + 34) ListShape (nj s)  -- S3.8
-    ∷ row (listed && nat_lt l (f - 1 + size * nj s)) (start + (f - 1)) ListShape (nj s)  -- S3.9
-    ∷ row (listed && not (sum (row_list s) == points)) (start + 6) PointCount (sum (row_list s))  -- S3.10
-    ∷ row (not listed && not (ni s * nj s == points)) (start + 6) PointCount (ni s * nj s)  -- S3.11
+    row (nat_lt l 14) 1 SectionLength l  -- S3.1
+    ∷ row (not (grid_source s == 0)) 6 GridSource (grid_source s)  -- S3.2
+    ∷ row (not (is_template grid_templates t)) 13 GridTemplate t  -- S3.3
+    ∷ row (nat_lt l (least_length grid_templates t)) 1 SectionLength l  -- S3.4
+    ∷ row (points == 0 || nat_lt 33554432 points) 7 PointCount points  -- S3.5
+    ∷ row (listed && not (meaning == 1) && not (meaning == 2)) 12 ListShape meaning  -- S3.6
+    ∷ row (nat_lt 4 size || (listed && not (may_have_list t))) 11 ListShape size  -- S3.7
+    ∷ row (listed && (nj s == 0 || nj s == 4294967295)) 35 ListShape (nj s)  -- S3.8
+    ∷ row (listed && nat_lt l (f - 1 + size * nj s)) f ListShape (nj s)  -- S3.9
+    ∷ row (listed && not (sum (row_list s) == points)) 7 PointCount (sum (row_list s))  -- S3.10
+    ∷ row (not listed && not (ni s * nj s == points)) 7 PointCount (ni s * nj s)  -- S3.11
     ∷ []

@@ -4,16 +4,16 @@
 use Rattle.std.specs.Prelude.{ℕ, zero, suc, ◌+◌, Option, Some, None, List, [], ◌∷◌, length, get_or}
 use Rattle.grib_io.specs.declared.fault.Fault.{Fault}
 use Rattle.grib_io.specs.declared.fault.Reason.TheVariants.{Truncated}
-use Rattle.grib_io.specs.Rows.{first_fault, refusal, choose}
+use Rattle.grib_io.specs.Rows.{first_fault, first_fault_at, located, refusal}
 use Rattle.grib2_sections.specs.Verdict.{Verdict, Accepted, Refused}
 use Rattle.grib2_sections.specs.Head.{head_rows, total_length}
-use Rattle.grib2_sections.specs.Frame.{Placed, placed_at, section_number, mark_rows, frame_rows, ends_at, section_at}
+use Rattle.grib2_sections.specs.Frame.{Placed, placed_at, section_number, Step, End, Fails, Next, step}
 use Rattle.grib2_sections.specs.Identification.{identification_rows}
 use Rattle.grib2_grids.specs.Grid.{grid_rows}
 use Rattle.grib2_products.specs.Product.{product_rows}
 use Rattle.grib_bitmap.specs.Mask.{bitmap_rows}
-use Rattle.grib_simple.specs.Packing.{value_count}
-use Rattle.grib_complex.specs.Entries.{packing_fault, data_fault}
+use Rattle.grib_packing.specs.Packing.{value_count}
+use Rattle.grib_packing.specs.Entries.{packing_fault, data_fault}
 use Rattle.grib2_message.specs.View.{last_number, octets_in_force, points_in_force, earlier_mask, section_count}
 
 -- the refusal of a section's contents, in view of the sections before it
@@ -24,23 +24,23 @@ abbrev pub no_rows : Contents
 no_rows before s = None
 
 abbrev pub identification_fault : Contents
-identification_fault before s = first_fault (identification_rows s.octets s.start)
+identification_fault before s = first_fault_at s.start (identification_rows s.octets)
 
 abbrev pub grid_fault : Contents
-grid_fault before s = first_fault (grid_rows s.octets s.start)
+grid_fault before s = first_fault_at s.start (grid_rows s.octets)
 
 abbrev pub product_fault : Contents
-product_fault before s = first_fault (product_rows s.octets s.start (section_count 4 before + 1))
+product_fault before s = first_fault_at s.start (product_rows s.octets (section_count 4 before + 1))
 
 abbrev pub representation_fault : Contents
-representation_fault before s = packing_fault s.octets s.start (points_in_force before)
+representation_fault before s = located s.start (packing_fault s.octets (points_in_force before))
 
 abbrev pub bitmap_fault : Contents
 bitmap_fault before s =
-    first_fault (bitmap_rows s.octets s.start (points_in_force before) (value_count (octets_in_force 5 before)) (earlier_mask before))
+    first_fault_at s.start (bitmap_rows s.octets (points_in_force before) (value_count (octets_in_force 5 before)) (earlier_mask before))
 
 abbrev pub values_fault : Contents
-values_fault before s = data_fault (octets_in_force 5 before) s.octets s.start
+values_fault before s = located s.start (data_fault (octets_in_force 5 before) s.octets)
 
 -- by the number of the section, from 0 on; Section 2 has no rows
 abbrev pub contents_faults : List Contents
@@ -55,19 +55,20 @@ abbrev pub unless_refused : Option Fault → (Unit {0} → Verdict) → Verdict
 unless_refused (Some fault) next = Refused fault
 unless_refused None next = next tt
 
+-- by what stands at octet q, after the sections before it; a section that is not refused is handed on
+abbrev pub verdict_at : List Placed → ℕ → ℕ → Step → (List ℕ → Verdict) → Verdict
+verdict_at before q total End next = Accepted total
+verdict_at before q total (Fails fault) next = Refused fault
+verdict_at before q total (Next s) next = unless_refused (section_fault before (placed_at q s)) (λ _. next s)
+
 -- From octet q on, after the sections before it. `turns` bounds the number of sections; with one for
 -- each octet the bound is never met, since a section takes five octets at least.
 abbrev pub verdict_from : ℕ → List ℕ → List Placed → ℕ → Verdict
 verdict_from zero message before q = Refused (refusal (length message + 1) Truncated (length message))
 verdict_from (suc turns) message before q =
     let total = total_length message in
-    let last = last_number before in
-    unless_refused (first_fault (mark_rows message total last q))
-    (λ _. choose (ends_at message q) (λ _. Accepted total)
-    (λ _. unless_refused (first_fault (frame_rows message total last q))
-    (λ _. let s = section_at message q in
-    unless_refused (section_fault before (placed_at q s))
-    (λ _. verdict_from turns message (placed_at q s ∷ before) (q + length s)))))
+    verdict_at before q total (step message total (last_number before) q)
+    (λ s. verdict_from turns message (placed_at q s ∷ before) (q + length s))
 
 -- The verdict of edition 2 on the octets of an input from a `GRIB` on: accepted, with the length of the
 -- message, or refused. It is asked where octet 8 is not 1 or does not stand; edition 1 has a verdict of

@@ -7,10 +7,10 @@ use Rattle.grib_dyadic.specs.Reference.{ieee}
 use Rattle.grib_dyadic.specs.Value.{value_of}
 use Rattle.grib_dyadic.specs.Meaning.{Meant, valued, missing, missing2}
 use Rattle.grib2_sections.specs.Frame.{Placed, placed_at, ends_at, section_at}
-use Rattle.grib_simple.specs.declared.column.Point.{Point}
-use Rattle.grib_simple.specs.declared.column.Point.TheVariants.{Scaled, Missing, Missing2}
-use Rattle.grib_simple.specs.declared.column.Column.{Column}
-use Rattle.grib_complex.specs.Entries.{column_from}
+use Rattle.grib_packing.specs.declared.column.Point.{Point}
+use Rattle.grib_packing.specs.declared.column.Point.TheVariants.{Scaled, Missing, Missing2}
+use Rattle.grib_packing.specs.declared.column.Column.{Column}
+use Rattle.grib_packing.specs.Entries.{column_from}
 use Rattle.grib2_message.specs.View.{is_numbered, section_in_force, octets_in_force, mask_in_force}
 
 -- the sections from octet q on, up to the end mark; `turns` bounds their number

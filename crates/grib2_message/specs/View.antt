@@ -27,13 +27,20 @@ octets_in_force number before = option_map_or (λ s. s.octets) (section_in_force
 abbrev pub points_in_force : List Placed → ℕ
 points_in_force before = grid_points (octets_in_force 3 before)
 
+-- the sections from the last Section 6 with the indicator 0 on, none where there is no such section
+abbrev pub earlier_bitmap : List Placed → List Placed
+earlier_bitmap [] = []
+earlier_bitmap (s ∷ before) =
+    choose (is_numbered 6 s && (bitmap_indicator s.octets == 0)) (λ _. s ∷ before) (λ _. earlier_bitmap before)
+
+-- the mask of the first of these sections, in view of the others
+abbrev pub bitmap_mask : List Placed → Option (List Bool)
+bitmap_mask [] = None
+bitmap_mask (s ∷ before) = Some (own_mask s.octets (points_in_force before))
+
 -- the mask of the last Section 6 with the indicator 0
 abbrev pub earlier_mask : List Placed → Option (List Bool)
-earlier_mask [] = None
-earlier_mask (s ∷ before) =
-    choose (is_numbered 6 s && (bitmap_indicator s.octets == 0))
-    (λ _. Some (own_mask s.octets (points_in_force before)))
-    (λ _. earlier_mask before)
+earlier_mask before = bitmap_mask (earlier_bitmap before)
 
 -- the mask of the last Section 6
 abbrev pub mask_in_force : List Placed → List Bool

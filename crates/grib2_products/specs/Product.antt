@@ -29,15 +29,14 @@ template_length s = least_length product_templates (product_template s) + 12 * t
 abbrev pub product_length : List ℕ → ℕ
 product_length s = template_length s + 4 * coordinate_count s
 
--- rows S4.1 to S4.5, for a section that begins at octet `start` of the message and is the n-th Section
--- 4 of it; for n = 1 the row FieldCount never fails
-abbrev pub product_rows : List ℕ → ℕ → ℕ → List Row
-product_rows s start n =
+-- rows S4.1 to S4.5, for the n-th Section 4 of its message; for n = 1 the row FieldCount never fails
+abbrev pub product_rows : List ℕ → ℕ → List Row
+product_rows s n =
     let l = length s in
     let t = product_template s in
-    row (nat_lt l 9) start SectionLength l  -- S4.1
-    ∷ row (n == 4097) start FieldCount 4097  -- S4.2
-    ∷ row (not (is_template product_templates t)) (start + 7) ProductTemplate t  -- S4.3
-    ∷ row (nat_lt l (least_length product_templates t)) start SectionLength l  -- S4.4
-    ∷ row (nat_lt l (product_length s)) start SectionLength l  -- S4.5
+    row (nat_lt l 9) 1 SectionLength l  -- S4.1
+    ∷ row (n == 4097) 1 FieldCount 4097  -- S4.2
+    ∷ row (not (is_template product_templates t)) 8 ProductTemplate t  -- S4.3
+    ∷ row (nat_lt l (least_length product_templates t)) 1 SectionLength l  -- S4.4
+    ∷ row (nat_lt l (product_length s)) 1 SectionLength l  -- S4.5
     ∷ []

@@ -1,10 +1,11 @@
 -- The frame of the sections after Section 0 (WMO-No. 306, Volume I.2, FM 92 GRIB edition 2): octets 1-4
 -- of a section are its length, octet 5 is its number, and `7777` ends the message.
-use Rattle.std.specs.Prelude.{ℕ, ◌+◌, ◌-◌, Bool, not, ◌&&◌, ◌||◌, List, [], ◌∷◌, length, get_or, nat_lt, ◌==◌}
+use Rattle.std.specs.Prelude.{ℕ, ◌+◌, ◌-◌, Bool, not, Option, Some, None, ◌&&◌, ◌||◌, List, [], ◌∷◌, length, get_or, nat_lt, ◌==◌}
 use Rattle.std.specs.List.{list_any}
 use Rattle.grib_bits.specs.Octets.{octets, octet_list}
 use Rattle.grib_io.specs.declared.fault.Reason.TheVariants.{Truncated, SectionOrder, LengthDisagrees, EndMark, SectionLength}
-use Rattle.grib_io.specs.Rows.{Row, row}
+use Rattle.grib_io.specs.declared.fault.Fault.{Fault}
+use Rattle.grib_io.specs.Rows.{Row, row, first_fault, choose}
 
 abbrev pub section_length : List ℕ → ℕ
 section_length section = octets section 1 4
@@ -52,9 +53,25 @@ frame_rows message total last q =
     ∷ row (nat_lt k (q - 1 + l)) (k + 1) Truncated k  -- F8
     ∷ []
 
--- the section at octet q
+-- the octets of the section at octet q
 abbrev pub section_at : List ℕ → ℕ → List ℕ
 section_at message q = octet_list message q (q - 1 + octets message q (q + 3))
+
+-- what stands at octet q of a message: the end mark, a row that fails, or the next section
+pub data Step : Type 0 where
+  End : Step
+  Fails : Fault → Step
+  Next : List ℕ → Step
+
+abbrev pub unless_fails : Option Fault → (Unit {0} → Step) → Step
+unless_fails (Some fault) next = Fails fault
+unless_fails None next = next tt
+
+abbrev pub step : List ℕ → ℕ → ℕ → ℕ → Step
+step message total last q =
+    unless_fails (first_fault (mark_rows message total last q))
+    (λ _. choose (ends_at message q) (λ _. End)
+    (λ _. unless_fails (first_fault (frame_rows message total last q)) (λ _. Next (section_at message q))))
 
 -- a section and the octet of the message at which it begins
 pub record Placed : Type 0 where

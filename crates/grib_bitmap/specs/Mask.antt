@@ -24,19 +24,18 @@ mask_of s points earlier =
 abbrev pub present_count : List Bool → ℕ
 present_count mask = count_by (λ present. present) mask
 
--- rows S6.1 to S6.6, for a section that begins at octet `start` of the message, where the grid has this
--- many points, Section 5 this many values, and `earlier` is the mask of the last earlier Section 6 with
--- the indicator 0
-abbrev pub bitmap_rows : List ℕ → ℕ → ℕ → ℕ → Option (List Bool) → List Row
-bitmap_rows s start points values earlier =
+-- rows S6.1 to S6.6, where the grid has this many points, Section 5 this many values, and `earlier` is the
+-- mask of the last earlier Section 6 with the indicator 0
+abbrev pub bitmap_rows : List ℕ → ℕ → ℕ → Option (List Bool) → List Row
+bitmap_rows s points values earlier =
     let l = length s in
     let indicator = bitmap_indicator s in
     let earlier_length = length (unwrap_or earlier []) in
     let present = present_count (mask_of s points earlier) in
-    row (nat_lt l 6) start SectionLength l  -- S6.1
-    ∷ row (nat_lt 0 indicator && nat_lt indicator 254) (start + 5) BitmapIndicator indicator  -- S6.2
-    ∷ row (indicator == 254 && is_none earlier) (start + 5) NoEarlierBitmap 254  -- S6.3
-    ∷ row (indicator == 0 && nat_lt (8 * l) (points + 48)) start BitmapSize l  -- S6.4
-    ∷ row (indicator == 254 && not (earlier_length == points)) (start + 5) BitmapSize earlier_length  -- S6.5
-    ∷ row (not (present == values)) (start + 5) ValueCount present  -- S6.6
+    row (nat_lt l 6) 1 SectionLength l  -- S6.1
+    ∷ row (nat_lt 0 indicator && nat_lt indicator 254) 6 BitmapIndicator indicator  -- S6.2
+    ∷ row (indicator == 254 && is_none earlier) 6 NoEarlierBitmap 254  -- S6.3
+    ∷ row (indicator == 0 && nat_lt (8 * l) (points + 48)) 1 BitmapSize l  -- S6.4
+    ∷ row (indicator == 254 && not (earlier_length == points)) 6 BitmapSize earlier_length  -- S6.5
+    ∷ row (not (present == values)) 6 ValueCount present  -- S6.6
     ∷ []

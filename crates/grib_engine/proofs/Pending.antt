@@ -6,7 +6,7 @@ use Rattle.std.specs.Io.KnownBytes.{Appends}
 use Rattle.std.proofs.KnownBytes.{Appends-trans}
 use Rattle.std.proofs.lemmas.Result.{on_ok_weaker}
 use Rattle.grib_io.specs.Outside.{AppendsFront}
-use Rattle.grib_simple.specs.declared.column.Point.{Point}
+use Rattle.grib_packing.specs.declared.column.Point.{Point}
 use Rattle.grib_text.specs.Lines.{point_line, point_lines}
 use Rattle.grib_engine.specs.Pending.{Writes, AppendsAllBut}
 use Rattle.grib_engine.proofs.Outside.{front_more}

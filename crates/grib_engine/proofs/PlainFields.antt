@@ -5,11 +5,11 @@ use Rattle.std.proofs.lemmas.List.{length-map}
 use Rattle.grib2_sections.specs.Frame.{Placed, section_number}
 use Rattle.grib2_message.specs.Grid.{grid_points}
 use Rattle.grib_bitmap.specs.Mask.{bitmap_indicator}
-use Rattle.grib_simple.specs.declared.column.Point.{Point}
-use Rattle.grib_simple.specs.Packing.{packing_template, value_count}
-use Rattle.grib_simple.specs.Simple.{simple_entries}
-use Rattle.grib_simple.specs.Column.{column_with, points_with_mask}
-use Rattle.grib_complex.specs.Entries.{column_from, entries_of}
+use Rattle.grib_packing.specs.declared.column.Point.{Point}
+use Rattle.grib_packing.specs.Packing.{packing_template, value_count}
+use Rattle.grib_packing.specs.Simple.{simple_entries}
+use Rattle.grib_packing.specs.Column.{column_with, points_with_mask}
+use Rattle.grib_packing.specs.Entries.{column_from, entries_of}
 use Rattle.grib2_message.specs.View.{octets_in_force, mask_in_force}
 use Rattle.grib2_message.specs.Fields.{sections_up_to_field}
 

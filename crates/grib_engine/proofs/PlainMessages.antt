@@ -7,9 +7,9 @@ use Rattle.grib2_message.specs.Grid.{grid_points}
 use Rattle.grib2_message.specs.View.{mask_in_force}
 use Rattle.grib2_message.specs.Fields.{part_octets, field_mask, column_of}
 use Rattle.grib_bitmap.specs.Mask.{bitmap_indicator}
-use Rattle.grib_simple.specs.Simple.{simple_entries}
-use Rattle.grib_simple.specs.Column.{column_with}
-use Rattle.grib_complex.specs.Entries.{column_from}
+use Rattle.grib_packing.specs.Simple.{simple_entries}
+use Rattle.grib_packing.specs.Column.{column_with}
+use Rattle.grib_packing.specs.Entries.{column_from}
 use Rattle.grib_engine.specs.Plain.{is_plain}
 use Rattle.grib_engine.specs.PlainParts.{IsNumbered, HasSections, ArePlain, PlainParts}
 use Rattle.grib_engine.proofs.PlainFields.{mask_all, column_of_all}

@@ -10,9 +10,9 @@ use Rattle.grib2_sections.specs.Template.{is_template, least_length}
 use Rattle.grib2_message.specs.Grid.{grid_rows, grid_templates, grid_source, grid_points, grid_template, list_octets, list_meaning, may_have_list, ni, nj}
 use Rattle.grib2_message.specs.Product.{product_rows, product_templates, product_template, coordinate_count, product_length}
 use Rattle.grib_bitmap.specs.Mask.{bitmap_rows, bitmap_indicator, present_count, mask_of}
-use Rattle.grib_simple.specs.Packing.{packing_rows, packing_templates, packing_template, value_count, reference_word, bit_width, most_bits}
-use Rattle.grib_simple.specs.Simple.{simple_rows, plain_bits}
-use Rattle.grib_complex.specs.Entries.{packing_fault, data_fault}
+use Rattle.grib_packing.specs.Packing.{packing_rows, packing_templates, packing_template, value_count, reference_word, bit_width, most_bits}
+use Rattle.grib_packing.specs.Simple.{simple_rows, plain_bits}
+use Rattle.grib_packing.specs.Entries.{packing_fault, data_fault}
 use Rattle.grib2_message.proofs.Passed.{passes_from_none, none_from_passes}
 use Rattle.grib2_message.proofs.Walk.{second_fails}
 use Rattle.grib_engine.specs.PlainParts.{IsPlainGrid, IsPlainProduct, IsPlainRepresentation, IsPlainBitmap}

@@ -10,8 +10,8 @@ use Rattle.grib2_sections.specs.Frame.{Placed, placed_at, section_number, may_fo
 use Rattle.grib2_message.specs.Grid.{grid_points, grid_template, list_octets}
 use Rattle.grib2_message.specs.Product.{product_rows, product_template, coordinate_count}
 use Rattle.grib_bitmap.specs.Mask.{bitmap_rows, bitmap_indicator}
-use Rattle.grib_simple.specs.Packing.{value_count, packing_template}
-use Rattle.grib_complex.specs.Entries.{packing_fault, data_fault}
+use Rattle.grib_packing.specs.Packing.{value_count, packing_template}
+use Rattle.grib_packing.specs.Entries.{packing_fault, data_fault}
 use Rattle.grib2_message.specs.View.{last_number, points_in_force, octets_in_force, earlier_mask, section_count}
 use Rattle.grib2_message.specs.Acceptance.{contents_faults, no_rows, section_fault}
 use Rattle.grib2_message.specs.Grammar.{IsSection, AreSections}

@@ -1,10 +1,10 @@
 -- The lines of `dump`, by the sections of a plain message and its column.
 use Rattle.std.proofs.Common.{◌≡◌, ℕ, ◌<◌, ◌^◌, List, ◌++◌, length, ap, sym, ◌∙◌, arith}
 use Rattle.grib2_sections.specs.Head.{discipline}
-use Rattle.grib_simple.specs.declared.column.Column.{Column}
-use Rattle.grib_simple.specs.declared.column.Point.{Point}
-use Rattle.grib_simple.specs.Column.{column_with}
-use Rattle.grib_simple.specs.Simple.{simple_entries}
+use Rattle.grib_packing.specs.declared.column.Column.{Column}
+use Rattle.grib_packing.specs.declared.column.Point.{Point}
+use Rattle.grib_packing.specs.Column.{column_with}
+use Rattle.grib_packing.specs.Simple.{simple_entries}
 use Rattle.grib2_message.specs.Fields.{part_octets, column_of}
 use Rattle.grib_text.specs.Lines.{field_line, point_lines}
 use Rattle.grib_engine.specs.Answer.{dump_lines, reference_line_of, check_lines, lines_of}

@@ -6,7 +6,7 @@ use Rattle.grib_io.specs.declared.fault.Fault.{Fault}
 use Rattle.grib_io.specs.Rows.{first_fault, choose}
 use Rattle.grib_dyadic.specs.Reference.{ieee, reduced}
 use Rattle.grib2_sections.specs.Head.{indicator, head_rows}
-use Rattle.grib_simple.specs.declared.column.Column.{Column}
+use Rattle.grib_packing.specs.declared.column.Column.{Column}
 use Rattle.grib2_message.specs.Fields.{column_of}
 use Rattle.grib_text.specs.Lines.{check_line, total_line, list_line, reference_line, point_lines}
 use Rattle.grib_engine.specs.declared.job.Job.{Job}

@@ -10,7 +10,7 @@ use Rattle.grib2_message.specs.Grid.{grid_template, list_octets}
 use Rattle.grib2_message.specs.Product.{product_template, coordinate_count}
 use Rattle.grib2_message.specs.Acceptance.{verdict_2}
 use Rattle.grib2_message.specs.Fields.{sections_of, part_octets}
-use Rattle.grib_simple.specs.Packing.{packing_template}
+use Rattle.grib_packing.specs.Packing.{packing_template}
 use Rattle.grib_bitmap.specs.Mask.{bitmap_indicator}
 
 -- whether the verdict is 'accepted' with this length

@@ -8,9 +8,9 @@ use Rattle.grib2_message.specs.Product.{product_template, coordinate_count}
 use Rattle.grib2_message.specs.Grammar.{Grammar2}
 use Rattle.grib2_message.specs.Fields.{part_octets, column_of}
 use Rattle.grib_bitmap.specs.Mask.{bitmap_indicator}
-use Rattle.grib_simple.specs.Packing.{value_count, packing_template, reference_word, bit_width}
-use Rattle.grib_simple.specs.Simple.{plain_bits, simple_entries}
-use Rattle.grib_simple.specs.Column.{column_with}
+use Rattle.grib_packing.specs.Packing.{value_count, packing_template, reference_word, bit_width}
+use Rattle.grib_packing.specs.Simple.{plain_bits, simple_entries}
+use Rattle.grib_packing.specs.Column.{column_with}
 use Rattle.grib_engine.specs.Plain.{has_plain_templates}
 
 -- the octets are a message in the plain form, with these sections

@@ -5,8 +5,8 @@ ghost use Rattle.grib_io.specs.Rows.{first_fault};
 ghost use Rattle.grib2_sections.specs.Head.{indicator, head_rows, head_of};
 ghost use Rattle.grib2_message.specs.Grid.{grid_points};
 ghost use Rattle.grib_bits.specs.Binary32.{ieee_exponent};
-ghost use Rattle.grib_simple.specs.Packing.{reference_word};
-ghost use Rattle.grib_simple.specs.Simple.{plain_bits};
+ghost use Rattle.grib_packing.specs.Packing.{reference_word};
+ghost use Rattle.grib_packing.specs.Simple.{plain_bits};
 ghost use Rattle.grib_engine.specs.Plain.{is_plain};
 ghost use Rattle.grib_engine.specs.PlainParts.{PlainParts, HasHead, HasSections, BeginsWith, IsPlainGrid, IsPlainProduct, IsPlainRepresentation, IsPlainBitmap, ArePlain};
 

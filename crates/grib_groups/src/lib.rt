@@ -1,6 +1,4 @@
 //! Groups of complex packing.
 #![tactic(auto)]
 
-mod layout;
-
-pub use layout::Layout;
+pub use grib_packing::Layout;

@@ -1,6 +1,7 @@
 -- What decides acceptance: rows that are tried in their order, as the tables of docs/PROFILE.md list
--- them. The first row whose test holds gives the refusal.
-use Rattle.std.specs.Prelude.{ℕ, Bool, true, false, cond, Option, Some, None, List, [], ◌∷◌, ◌+◌, position}
+-- them. The first row whose test holds gives the refusal. The rows of a section count its octets from 1,
+-- and the place of the section is added once.
+use Rattle.std.specs.Prelude.{ℕ, Bool, true, false, cond, Option, Some, None, option_map, List, [], ◌∷◌, ◌+◌, ◌-◌, position}
 use Rattle.std.specs.Option.{option_map_or}
 use Rattle.grib_io.specs.declared.fault.Fault.{Fault}
 use Rattle.grib_io.specs.declared.fault.Reason.{Reason}
@@ -21,6 +22,17 @@ row fails octet reason detail = record { fails = fails; fault = refusal octet re
 abbrev pub first_fault : List Row → Option Fault
 first_fault [] = None
 first_fault (r ∷ rows) = cond r.fails (Some r.fault) (first_fault rows)
+
+-- a refusal within a section that begins at octet `start` of the message, as one of the message
+abbrev pub fault_at : ℕ → Fault → Fault
+fault_at start fault = refusal (start + (fault.octet - 1)) fault.reason fault.detail
+
+abbrev pub located : ℕ → Option Fault → Option Fault
+located start fault = option_map (fault_at start) fault
+
+-- the refusal of the first row of such a section that fails
+abbrev pub first_fault_at : ℕ → List Row → Option Fault
+first_fault_at start rows = located start (first_fault rows)
 
 -- the rows of the second list are tried only where no row of the first fails
 abbrev pub or_then : Option Fault → (Unit {0} → List Row) → Option Fault

@@ -2,12 +2,12 @@
 //! packing: template 5.0.
 #![tactic(auto)]
 
-mod column;
+
 mod numbers;
 mod simple;
 #[cfg(test)]
 mod tests;
 
-pub use column::{Column, Point};
+pub use grib_packing::{Column, Point};
 pub use numbers::{unpack_numbers, unpack_points};
 pub use simple::simple_column;

@@ -3,9 +3,9 @@
 ghost use Rattle.std.specs.Prelude.{◌≡◌, ℕ, ◌+◌, ◌*◌, ◌/◌, ◌^◌, ◌<◌, ◌≤◌, length, take, drop, map, pos, IfOk, OnOk};
 ghost use Rattle.grib_bits.specs.Bits.{bits as bits_in, num};
 ghost use Rattle.grib_bits.specs.Plain.{plain};
-ghost use Rattle.grib_simple.specs.declared.column.Point.TheVariants.{Scaled};
+ghost use Rattle.grib_packing.specs.declared.column.Point.TheVariants.{Scaled};
 
-use crate::column::Point;
+use crate::Point;
 use byteorder::{BigEndian, ByteOrder};
 use grib_bits::get_bits;
 use std::alloc::{AllocError, Global};

@@ -1,11 +1,11 @@
 //! Sections 5 and 7 of simple packing.
 
 ghost use Rattle.std.specs.Prelude.{◌≡◌, ◌+◌, ◌*◌, ◌≤◌, length, IfOk};
-ghost use Rattle.grib_simple.specs.Column.{column_with};
-ghost use Rattle.grib_simple.specs.Packing.{bit_width};
-ghost use Rattle.grib_simple.specs.Simple.{plain_bits, simple_entries};
+ghost use Rattle.grib_packing.specs.Column.{column_with};
+ghost use Rattle.grib_packing.specs.Packing.{bit_width};
+ghost use Rattle.grib_packing.specs.Simple.{plain_bits, simple_entries};
 
-use crate::column::Column;
+use crate::Column;
 use crate::numbers::unpack_points;
 use byteorder::{BigEndian, ByteOrder};
 use grib_io::List;

@@ -1,7 +1,7 @@
 -- The numbers that codes tell, one after another.
 use Rattle.std.proofs.Common.{◌≡◌, ℕ, zero, suc, ◌<◌, List, [], ◌∷◌, length, get_or, ℤ, pos, ◌+ℤ◌, ◌-ℤ◌, ◌*ℤ◌, refl, ap, arith}
 use Rattle.std.proofs.lemmas.Int.{ints}
-use Rattle.grib_spatial.specs.Differences.{after_one, after_two}
+use Rattle.grib_packing.specs.Differences.{after_one, after_two}
 
 pub length-after_one : (m x : ℤ) (codes : List ℕ) → length (after_one m x codes) ≡ length codes
 length-after_one m x [] = refl

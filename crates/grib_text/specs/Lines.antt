@@ -3,12 +3,12 @@ use Rattle.std.specs.Prelude.{ℕ, ◌+◌, Option, List, [], ◌∷◌, ◌++�
 use Rattle.std.specs.Fmt.{decimal, signed_decimal}
 use Rattle.grib_bits.specs.Octets.{octets, signed_octets}
 use Rattle.grib_dyadic.specs.Reference.{Binary}
-use Rattle.grib_simple.specs.declared.column.Point.{Point}
-use Rattle.grib_simple.specs.declared.column.Point.TheVariants.{Scaled, Missing, Missing2}
+use Rattle.grib_packing.specs.declared.column.Point.{Point}
+use Rattle.grib_packing.specs.declared.column.Point.TheVariants.{Scaled, Missing, Missing2}
 use Rattle.grib2_sections.specs.Head.{discipline}
 use Rattle.grib2_message.specs.Grid.{grid_points, grid_template}
 use Rattle.grib2_message.specs.Product.{product_template}
-use Rattle.grib_simple.specs.Packing.{packing_template, bit_width, value_count}
+use Rattle.grib_packing.specs.Packing.{packing_template, bit_width, value_count}
 use Rattle.grib2_message.specs.Fields.{part_octets}
 use Rattle.grib_text.specs.Words.{filled_decimal, number_or_none, signed_or_none, text_or_missing}
 

@@ -1,7 +1,7 @@
 //! What Sections 3 and 5 say of a field.
 
 ghost use Rattle.std.specs.Prelude.{◌≡◌, ◌≤◌, length, Some};
-ghost use Rattle.grib_simple.specs.Packing.{packing_template, bit_width, value_count};
+ghost use Rattle.grib_packing.specs.Packing.{packing_template, bit_width, value_count};
 ghost use Rattle.grib2_message.specs.Grid.{grid_template, grid_points};
 ghost use Rattle.grib_text.specs.Lines as lines;
 

@@ -1,6 +1,6 @@
 -- Section 5, the data representation section (WMO-No. 306, Volume I.2, FM 92 GRIB edition 2, data
 -- representation templates 5.0, 5.2 and 5.3): what all of them share.
-use Rattle.std.specs.Prelude.{ℕ, ◌+◌, not, cond, List, [], ◌∷◌, length, nat_lt, ◌==◌}
+use Rattle.std.specs.Prelude.{ℕ, not, cond, List, [], ◌∷◌, length, nat_lt, ◌==◌}
 use Rattle.grib_bits.specs.Binary32.{ieee_exponent}
 use Rattle.grib_bits.specs.Octets.{octets}
 use Rattle.grib_io.specs.declared.fault.Reason.{Reason}
@@ -42,16 +42,15 @@ template_reason t = cond (t == 40) Jpeg2000 (cond (t == 41) PngPacked (cond (t =
 abbrev pub most_bits : ℕ → ℕ
 most_bits t = cond (t == 0) 48 32
 
--- rows S5.1 to S5.6, which all templates share, for a section that begins at octet `start` of the
--- message, where the grid has this many points
-abbrev pub packing_rows : List ℕ → ℕ → ℕ → List Row
-packing_rows s start points =
+-- rows S5.1 to S5.6, which all templates share, where the grid has this many points
+abbrev pub packing_rows : List ℕ → ℕ → List Row
+packing_rows s points =
     let l = length s in
     let t = packing_template s in
-    row (nat_lt l 11) start SectionLength l  -- S5.1
-    ∷ row (not (is_template packing_templates t)) (start + 9) (template_reason t) t  -- S5.2
-    ∷ row (nat_lt l (least_length packing_templates t)) start SectionLength l  -- S5.3
-    ∷ row (nat_lt points (value_count s)) (start + 5) ValueCount (value_count s)  -- S5.4
-    ∷ row (ieee_exponent (reference_word s) == 255) (start + 11) ReferenceNotFinite (reference_word s)  -- S5.5
-    ∷ row (nat_lt (most_bits t) (bit_width s)) (start + 19) BitWidth (bit_width s)  -- S5.6
+    row (nat_lt l 11) 1 SectionLength l  -- S5.1
+    ∷ row (not (is_template packing_templates t)) 10 (template_reason t) t  -- S5.2
+    ∷ row (nat_lt l (least_length packing_templates t)) 1 SectionLength l  -- S5.3
+    ∷ row (nat_lt points (value_count s)) 6 ValueCount (value_count s)  -- S5.4
+    ∷ row (ieee_exponent (reference_word s) == 255) 12 ReferenceNotFinite (reference_word s)  -- S5.5
+    ∷ row (nat_lt (most_bits t) (bit_width s)) 20 BitWidth (bit_width s)  -- S5.6
     ∷ []

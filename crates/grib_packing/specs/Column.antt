@@ -1,9 +1,9 @@
 -- What a field holds: one entry for each grid point, in the grid's order.
 use Rattle.std.specs.Prelude.{ℕ, Bool, true, false, List, [], ◌∷◌}
-use Rattle.grib_simple.specs.declared.column.Point.{Point}
-use Rattle.grib_simple.specs.declared.column.Point.TheVariants.{Missing}
-use Rattle.grib_simple.specs.declared.column.Column.{Column}
-use Rattle.grib_simple.specs.Packing.{reference_word, binary_scale, decimal_scale}
+use Rattle.grib_packing.specs.declared.column.Point.{Point}
+use Rattle.grib_packing.specs.declared.column.Point.TheVariants.{Missing}
+use Rattle.grib_packing.specs.declared.column.Column.{Column}
+use Rattle.grib_packing.specs.Packing.{reference_word, binary_scale, decimal_scale}
 
 -- The present points take the entries in their order, and a point that the mask leaves out is missing.
 -- A field that is accepted has an entry for each present point; one without would be missing too.

@@ -1,20 +1,20 @@
 -- Simple packing (WMO-No. 306, Volume I.2, FM 92 GRIB edition 2, templates 5.0 and 7.0).
-use Rattle.std.specs.Prelude.{ℕ, ◌+◌, ◌*◌, List, [], ◌∷◌, length, drop, map, nat_lt, pos}
+use Rattle.std.specs.Prelude.{ℕ, ◌+◌, ◌*◌, List, [], ◌∷◌, drop, map, nat_lt, pos}
 use Rattle.grib_bits.specs.Bits.{bits}
 use Rattle.grib_bits.specs.Plain.{plain}
 use Rattle.grib_io.specs.declared.fault.Reason.TheVariants.{DataTooShort}
 use Rattle.grib_io.specs.Rows.{Row, row}
-use Rattle.grib_simple.specs.declared.column.Point.{Point}
-use Rattle.grib_simple.specs.declared.column.Point.TheVariants.{Scaled}
-use Rattle.grib_simple.specs.Packing.{value_count, bit_width}
+use Rattle.grib_packing.specs.declared.column.Point.{Point}
+use Rattle.grib_packing.specs.declared.column.Point.TheVariants.{Scaled}
+use Rattle.grib_packing.specs.Packing.{value_count, bit_width}
 
 -- the bits that the numbers of the values take
 abbrev pub plain_bits : List ℕ → ℕ
 plain_bits s5 = value_count s5 * bit_width s5
 
--- row S7.1, for a Section 7 that begins at octet `start` of the message and belongs to this Section 5
-abbrev pub simple_rows : List ℕ → List ℕ → ℕ → List Row
-simple_rows s5 s7 start = row (nat_lt (8 * length s7) (plain_bits s5 + 40)) start DataTooShort (length s7)  -- S7.1
+-- row S7.1, for a Section 7 of l octets that belongs to this Section 5
+abbrev pub simple_rows : List ℕ → ℕ → List Row
+simple_rows s5 l = row (nat_lt (8 * l) (plain_bits s5 + 40)) 1 DataTooShort l  -- S7.1
     ∷ []
 
 -- the entries of the present points: the plain numbers from octet 6 of Section 7 on

@@ -1,5 +1,5 @@
 -- Section 7 of complex packing (WMO-No. 306, Volume I.2, FM 92 GRIB edition 2, data templates 7.2 and 7.3).
-use Rattle.std.specs.Prelude.{ℕ, ◌+◌, ◌-◌, ◌*◌, ◌^◌, Bool, false, cond, ◌&&◌, Option, List, [], ◌∷◌, ◌++◌, drop, map, replicate, Some, None, nat_lt, ◌==◌, ℤ, pos, nat_abs}
+use Rattle.std.specs.Prelude.{ℕ, ◌+◌, ◌-◌, ◌*◌, ◌^◌, Bool, false, cond, ◌&&◌, Option, List, [], ◌∷◌, ◌++◌, length, drop, map, replicate, Some, None, nat_lt, ◌==◌, ℤ, pos, nat_abs}
 use Rattle.std.specs.List.{filter_map}
 use Rattle.grib_bits.specs.Octets.{octets, signed_octets}
 use Rattle.grib_io.specs.declared.code.Code.{Code}
@@ -7,15 +7,15 @@ use Rattle.grib_io.specs.declared.code.Code.TheVariants.{Present, Primary, Secon
 use Rattle.grib_io.specs.declared.fault.Reason.TheVariants.{FirstValueSign, ScaledRange}
 use Rattle.grib_io.specs.declared.fault.Fault.{Fault}
 use Rattle.grib_io.specs.Rows.{Row, row, first_fault, first_place, or_then, choose}
-use Rattle.grib_groups.specs.Groups.{grouped, list_rows, group_rows}
-use Rattle.grib_simple.specs.Column.{column_with, points_with_mask}
-use Rattle.grib_simple.specs.Simple.{simple_rows, simple_entries}
-use Rattle.grib_simple.specs.declared.column.Column.{Column}
-use Rattle.grib_simple.specs.declared.column.Point.{Point}
-use Rattle.grib_simple.specs.declared.column.Point.TheVariants.{Scaled, Missing, Missing2}
-use Rattle.grib_simple.specs.Packing.{packing_template, value_count, packing_rows}
-use Rattle.grib_spatial.specs.Differences.{undone}
-use Rattle.grib_complex.specs.Complex.{layout_of, complex_rows, difference_order, extra_octets, descriptor_octets}
+use Rattle.grib_packing.specs.Groups.{grouped, list_rows, group_rows}
+use Rattle.grib_packing.specs.Column.{column_with, points_with_mask}
+use Rattle.grib_packing.specs.Simple.{simple_rows, simple_entries}
+use Rattle.grib_packing.specs.declared.column.Column.{Column}
+use Rattle.grib_packing.specs.declared.column.Point.{Point}
+use Rattle.grib_packing.specs.declared.column.Point.TheVariants.{Scaled, Missing, Missing2}
+use Rattle.grib_packing.specs.Packing.{packing_template, value_count, packing_rows}
+use Rattle.grib_packing.specs.Differences.{Descriptors, undone}
+use Rattle.grib_packing.specs.Complex.{layout_of, complex_rows, difference_order, extra_octets, descriptor_octets}
 
 -- whether there are no groups: then every value is 0 and Section 7 is not read
 abbrev pub has_no_groups : List ℕ → Bool
@@ -34,6 +34,14 @@ minimum s5 s7 =
     let j = difference_order s5 in
     signed_octets s7 (descriptor_place s5 j) (descriptor_place s5 (j + 1) - 1)
 
+abbrev pub descriptors : List ℕ → List ℕ → Descriptors
+descriptors s5 s7 = record {
+  order = difference_order s5;
+  first = pos (first_value s5 s7 0);
+  second = pos (first_value s5 s7 1);
+  minimum = minimum s5 s7;
+}
+
 -- the codes of all values
 abbrev pub codes_of : List ℕ → List ℕ → List Code
 codes_of s5 s7 = grouped (layout_of s5) (drop (5 + descriptor_octets s5) s7)
@@ -48,9 +56,7 @@ present_code Secondary = None
 abbrev pub numbers_of : List ℕ → List ℕ → List ℤ
 numbers_of s5 s7 =
     let present = filter_map present_code (codes_of s5 s7) in
-    cond (packing_template s5 == 3)
-    (undone (difference_order s5) (pos (first_value s5 s7 0)) (pos (first_value s5 s7 1)) (minimum s5 s7) present)
-    (map pos present)
+    cond (packing_template s5 == 3) (undone (descriptors s5 s7) present) (map pos present)
 
 -- Each value: missing by its code, or the next of the numbers. There is one for each present code; a value
 -- without one would be missing too.
@@ -71,10 +77,10 @@ is_first_value_signed s5 s7 j =
     nat_lt j (difference_order s5) && nat_lt 0 (extra_octets s5) && nat_lt 127 (octets s7 (descriptor_place s5 j) (descriptor_place s5 j))
 
 -- row S7.3, by the two first values
-abbrev pub first_value_rows : List ℕ → List ℕ → ℕ → List Row
-first_value_rows s5 s7 start =
-    row (is_first_value_signed s5 s7 0) (start + 5) FirstValueSign 1  -- S7.3, j = 1
-    ∷ row (is_first_value_signed s5 s7 1) (start + 5 + extra_octets s5) FirstValueSign 2  -- S7.3, j = 2
+abbrev pub first_value_rows : List ℕ → List ℕ → List Row
+first_value_rows s5 s7 =
+    row (is_first_value_signed s5 s7 0) 6 FirstValueSign 1  -- S7.3, j = 1
+    ∷ row (is_first_value_signed s5 s7 1) (6 + extra_octets s5) FirstValueSign 2  -- S7.3, j = 2
     ∷ []
 
 -- whether a number is outside plus and minus 2 ^ 60
@@ -83,43 +89,47 @@ is_out_of_range (Scaled x) = nat_lt (2 ^ 60) (nat_abs x)
 is_out_of_range Missing = false
 is_out_of_range Missing2 = false
 
--- rows S7.3 to S7.6, for a Section 7 that begins at octet `start` of the message and belongs to this
--- Section 5
-abbrev pub group_data_rows : List ℕ → List ℕ → ℕ → List Row
-group_data_rows s5 s7 start =
-    first_value_rows s5 s7 start ++ group_rows (layout_of s5) s7 start (descriptor_octets s5) (value_count s5)
+-- rows S7.3 to S7.6, for a Section 7 that belongs to this Section 5
+abbrev pub group_data_rows : List ℕ → List ℕ → List Row
+group_data_rows s5 s7 = first_value_rows s5 s7 ++ group_rows (layout_of s5) s7 (descriptor_octets s5) (value_count s5)
 
 -- row S7.7
-abbrev pub range_rows : List ℕ → List ℕ → ℕ → List Row
-range_rows s5 s7 start =
+abbrev pub range_rows : List ℕ → List ℕ → List Row
+range_rows s5 s7 =
     let place = first_place is_out_of_range (group_entries s5 s7) in
-    row (packing_template s5 == 3 && nat_lt 0 place) start ScaledRange place  -- S7.7
+    row (packing_template s5 == 3 && nat_lt 0 place) 1 ScaledRange place  -- S7.7
     ∷ []
 
--- the refusal of a Section 7 of templates 5.2 and 5.3: row S7.2, then S7.3 to S7.6, then S7.7
-abbrev pub group_data_fault : List ℕ → List ℕ → ℕ → Option Fault
-group_data_fault s5 s7 start =
-    or_then (or_then (first_fault (list_rows (layout_of s5) s7 start (descriptor_octets s5))) (λ _. group_data_rows s5 s7 start))
-    (λ _. range_rows s5 s7 start)
+-- the refusal of a Section 7 with groups: row S7.2, then S7.3 to S7.6, then S7.7
+abbrev pub group_data_fault : List ℕ → List ℕ → Option Fault
+group_data_fault s5 s7 =
+    or_then (or_then (first_fault (list_rows (layout_of s5) (length s7) (descriptor_octets s5))) (λ _. group_data_rows s5 s7))
+    (λ _. range_rows s5 s7)
 
--- the refusal of a Section 7 by rows S7.1 to S7.7; where there are no groups, none is tried
-abbrev pub data_fault : List ℕ → List ℕ → ℕ → Option Fault
-data_fault s5 s7 start =
-    choose (packing_template s5 == 0) (λ _. first_fault (simple_rows s5 s7 start))
-    (λ _. choose (has_no_groups s5) (λ _. None) (λ _. group_data_fault s5 s7 start))
+-- templates 5.2 and 5.3: where there are no groups, none of these rows is tried
+abbrev pub complex_data_fault : List ℕ → List ℕ → Option Fault
+complex_data_fault s5 s7 = choose (has_no_groups s5) (λ _. None) (λ _. group_data_fault s5 s7)
+
+-- and each value is 0
+abbrev pub complex_entries : List ℕ → List ℕ → List Point
+complex_entries s5 s7 =
+    choose (has_no_groups s5) (λ _. replicate (value_count s5) (Scaled (pos 0))) (λ _. group_entries s5 s7)
+
+-- the refusal of a Section 7 by rows S7.1 to S7.7
+abbrev pub data_fault : List ℕ → List ℕ → Option Fault
+data_fault s5 s7 =
+    choose (packing_template s5 == 0) (λ _. first_fault (simple_rows s5 (length s7))) (λ _. complex_data_fault s5 s7)
 
 -- the entries of the present points of any field
 abbrev pub entries_of : List ℕ → List ℕ → List Point
 entries_of s5 s7 =
-    choose (packing_template s5 == 0) (λ _. simple_entries s5 s7)
-    (λ _. choose (has_no_groups s5) (λ _. replicate (value_count s5) (Scaled (pos 0))) (λ _. group_entries s5 s7))
+    choose (packing_template s5 == 0) (λ _. simple_entries s5 s7) (λ _. complex_entries s5 s7)
 
 -- the column of a field with this Section 5, mask and Section 7
 abbrev pub column_from : List ℕ → List Bool → List ℕ → Column
 column_from s5 mask s7 = column_with s5 (points_with_mask mask (entries_of s5 s7))
 
 -- the refusal of a Section 5 by rows S5.1 to S5.13
-abbrev pub packing_fault : List ℕ → ℕ → ℕ → Option Fault
-packing_fault s start points =
-    or_then (first_fault (packing_rows s start points))
-    (λ _. choose (packing_template s == 0) (λ _. []) (λ _. complex_rows s start))
+abbrev pub packing_fault : List ℕ → ℕ → Option Fault
+packing_fault s points =
+    or_then (first_fault (packing_rows s points)) (λ _. choose (packing_template s == 0) (λ _. []) (λ _. complex_rows s))

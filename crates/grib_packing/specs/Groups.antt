@@ -8,7 +8,7 @@ use Rattle.grib_io.specs.declared.code.Code.{Code}
 use Rattle.grib_io.specs.declared.code.Code.TheVariants.{Present, Primary, Secondary}
 use Rattle.grib_io.specs.declared.fault.Reason.TheVariants.{DataTooShort, GroupWidth, GroupShape}
 use Rattle.grib_io.specs.Rows.{Row, row, first_place}
-use Rattle.grib_groups.specs.declared.layout.Layout.{Layout}
+use Rattle.grib_packing.specs.declared.layout.Layout.{Layout}
 
 -- the octets that `count` numbers of w bits take, padded to whole octets
 abbrev pub octets_for : ℕ → ℕ → ℕ
@@ -94,20 +94,19 @@ abbrev pub first_past : ℕ → ℕ → List ℕ → ℕ
 first_past values n [] = n
 first_past values n (l ∷ rest) = cond (nat_lt values l) (n + 1) (first_past (values - l) (n + 1) rest)
 
--- Rows S7.2 and S7.4 to S7.6, for a Section 7 that begins at octet `start` of the message and has `skip`
--- octets of extra descriptors after octet 5, where Section 5 has this many values. Row S7.2:
-abbrev pub list_rows : Layout → List ℕ → ℕ → ℕ → List Row
-list_rows layout s7 start skip = row (nat_lt (length s7) (5 + skip + list_octets layout)) start DataTooShort (length s7)  -- S7.2
+-- Row S7.2, for a Section 7 of l octets that has `skip` octets of extra descriptors after octet 5
+abbrev pub list_rows : Layout → ℕ → ℕ → List Row
+list_rows layout l skip = row (nat_lt l (5 + skip + list_octets layout)) 1 DataTooShort l  -- S7.2
     ∷ []
 
--- and rows S7.4 to S7.6
-abbrev pub group_rows : Layout → List ℕ → ℕ → ℕ → ℕ → List Row
-group_rows layout s7 start skip values =
+-- and rows S7.4 to S7.6, where Section 5 has this many values
+abbrev pub group_rows : Layout → List ℕ → ℕ → ℕ → List Row
+group_rows layout s7 skip values =
     let l = length s7 in
     let octets = drop (5 + skip) s7 in
     let before_numbers = 5 + skip + list_octets layout in
     let too_wide = first_place (λ w. nat_lt 32 w) (widths layout octets) in
-    row (nat_lt 0 too_wide) (start + 5 + skip + reference_octets layout) GroupWidth too_wide  -- S7.4
-    ∷ row (not (sum (lengths layout octets) == values)) start GroupShape (first_past values 0 (lengths layout octets))  -- S7.5
-    ∷ row (nat_lt (8 * l) (8 * before_numbers + packed_bits (groups layout octets))) start DataTooShort l  -- S7.6
+    row (nat_lt 0 too_wide) (6 + skip + reference_octets layout) GroupWidth too_wide  -- S7.4
+    ∷ row (not (sum (lengths layout octets) == values)) 1 GroupShape (first_past values 0 (lengths layout octets))  -- S7.5
+    ∷ row (nat_lt (8 * l) (8 * before_numbers + packed_bits (groups layout octets))) 1 DataTooShort l  -- S7.6
     ∷ []

@@ -1,0 +1,70 @@
+//! Section 1, the identification section.
+
+ghost use Rattle.std.specs.Prelude.{◌≡◌, ◌≤◌, Some, None, MatchResult};
+ghost use Rattle.grib_bits.specs.Octets.{StatesItself};
+ghost use Rattle.grib_io.specs.Rows.{first_fault_at};
+ghost use Rattle.grib2_sections.specs.Identification.{identification_rows, Spelled};
+
+use byteorder::{BigEndian, ByteOrder};
+use grib_io::{Fault, Reason, Section};
+
+/// What Section 1 says of a message (WMO-No. 306, Volume I.2, FM 92 GRIB edition 2, Section 1).
+#[derive(Clone, Copy, Debug, PartialEq, Eq)]
+pub struct Identification {
+    /// The originating centre (common code table C-11): octets 6-7.
+    pub centre: u16,
+    /// The sub-centre: octets 8-9.
+    pub sub_centre: u16,
+    /// The version of the master tables (code table 1.0): octet 10.
+    pub master: u8,
+    /// The version of the local tables (code table 1.1): octet 11.
+    pub local: u8,
+    /// What the reference time means (code table 1.2): octet 12.
+    pub significance: u8,
+    /// The year, of four digits: octets 13-14.
+    pub year: u16,
+    pub month: u8,
+    pub day: u8,
+    pub hour: u8,
+    pub minute: u8,
+    pub second: u8,
+    /// The production status (code table 1.3): octet 20.
+    pub status: u8,
+    /// The type of data (code table 1.4): octet 21.
+    pub data_type: u8,
+}
+
+/// Reads Section 1. A refusal says that the section ends before octet 21.
+pub fn read_identification(section: &Section<'_>) -> Result<Identification, Fault>
+    requires itself { StatesItself section.now.number section.now.octets.now }
+    requires low { 1 ≤ section.now.start }
+    requires high { section.now.start ≤ 268435456 }
+    ensures { MatchResult result
+        (λ value. (first_fault_at section.now.start (identification_rows section.now.octets.now) ≡ None)
+        × Spelled value section.now.octets.now)
+        (λ fault. first_fault_at section.now.start (identification_rows section.now.octets.now) ≡ Some fault) }
+{
+    let octets = section.octets;
+    if octets.len() < 21 {
+        return Err(Fault {
+            octet: section.start,
+            reason: Reason::SectionLength,
+            detail: octets.len() as u64,
+        });
+    }
+    Ok(Identification {
+        centre: BigEndian::read_u16(&octets[5..]),
+        sub_centre: BigEndian::read_u16(&octets[7..]),
+        master: octets[9],
+        local: octets[10],
+        significance: octets[11],
+        year: BigEndian::read_u16(&octets[12..]),
+        month: octets[14],
+        day: octets[15],
+        hour: octets[16],
+        minute: octets[17],
+        second: octets[18],
+        status: octets[19],
+        data_type: octets[20],
+    })
+}

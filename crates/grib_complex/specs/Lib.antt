@@ -1,2 +1,0 @@
-pub mod Complex
-pub mod Entries

@@ -1,0 +1,9 @@
+//! Sections 5 and 7 as the packings share them: what a field holds, how its groups are laid out, and the
+//! definitions of what packed data mean.
+#![tactic(auto)]
+
+mod column;
+mod layout;
+
+pub use column::{Column, Point};
+pub use layout::Layout;
