@@ -30,6 +30,15 @@ impl BitWindow {
         BitWindow { word: 0, count: 0 }
     }
 
+    /// How many bits are pending.
+    #[inline]
+    pub fn len(&self) -> u32
+        ensures bits { result ≡ length self.now }
+        ensures within { result ≤ 64 }
+    {
+        self.count
+    }
+
     /// How many whole octets may be pushed.
     #[inline]
     pub fn room(&self) -> u32

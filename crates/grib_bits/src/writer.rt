@@ -57,6 +57,7 @@ impl BitWriter {
     pub fn reserve(&mut self, bits: u64) -> Result<(), AllocError>
         ensures bits { OnOk result (self.new.bits ≡ self.old.bits) }
         ensures spare { OnOk result (bits ≤ self.new.spare) }
+        ensures kept { OnOk result (self.old.spare ≤ self.new.spare) }
         ensures whole { OnOk result ((length self.new.bits + self.new.spare) % 8 ≡ 0) }
         ensures err { OnErr result (self.new ≡ self.old) }
     {
