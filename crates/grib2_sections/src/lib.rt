@@ -6,8 +6,10 @@ mod identification;
 mod indicator;
 mod number;
 mod refusal;
+mod section;
 
 pub use frame::Frame;
 pub use identification::{Identification, read_identification, write_identification};
 pub use indicator::{Head, read_head};
 pub use number::{write_number, write_u8, write_u16, write_u32};
+pub use section::{write_octets, write_section};
