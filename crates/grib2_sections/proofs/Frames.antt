@@ -87,12 +87,12 @@ states_itself m q l number low is_length is_number least whole =
       length_stands = ap (num_on 0) (take-take 4 l left (omega arith)) ∙ ap (λ k. num_on 0 (take k left)) (sym four) ∙ is_length ∙ sym long;
       least = omega arith;
       number_stands = ap (λ k. num_on 0 (take 1 (drop 4 (take k left)))) parts
-        ∙ ap (λ xs. num_on 0 (take 1 xs)) (drop-take 4 (l - 4) left)
-        ∙ ap (num_on 0) (take-take 1 (l - 4) (drop 4 left) (omega arith))
-        ∙ ap (λ xs. num_on 0 (take 1 xs)) (drop-drop 4 (q - 1) m)
-        ∙ ap (λ k. num_on 0 (take 1 (drop k m))) (sym place)
-        ∙ ap (λ k. num_on 0 (take k (drop ((q + 4) - 1) m))) (sym one)
-        ∙ is_number;
+          ∙ ap (λ xs. num_on 0 (take 1 xs)) (drop-take 4 (l - 4) left)
+          ∙ ap (num_on 0) (take-take 1 (l - 4) (drop 4 left) (omega arith))
+          ∙ ap (λ xs. num_on 0 (take 1 xs)) (drop-drop 4 (q - 1) m)
+          ∙ ap (λ k. num_on 0 (take 1 (drop k m))) (sym place)
+          ∙ ap (λ k. num_on 0 (take k (drop ((q + 4) - 1) m))) (sym one)
+          ∙ is_number;
     }
 
 -- ---- the same as the code reads it

@@ -5,7 +5,7 @@ use Rattle.std.proofs.lemmas.List.Elements.{All-nil, All-cons, All-append, All-f
 use Rattle.std.proofs.lemmas.Nat.{pow-add, mod_below}
 use Rattle.std.specs.Int.{byte_at, bytes_high_first}
 use Rattle.grib_bits.specs.Bits.{bits, bits_of, num}
-use Rattle.grib_bits.specs.Octets.{num_on, octet_list, octets}
+use Rattle.grib_bits.specs.Octets.{num_on, octet_list, octets, StatesItself}
 use Rattle.grib_bits.specs.Written.{Written}
 use Rattle.grib_bits.proofs.Numbers.{bits_of-add, bits_of-mod, num-bits_of}
 use Rattle.grib_bits.proofs.OctetBits.{length-bits, bits-append, num_on-bits, AreOctets}
@@ -87,7 +87,7 @@ pub AddsOctets-append : {before between now : Written} {xs ys : List ℕ} → Ad
 AddsOctets-append {before} {between} {now} {xs} {ys} first second = record {
   small = All-append (λ (x : ℕ). x < 256) xs ys first.small second.small;
   bits = second.bits ∙ ap (λ (zs : List Bool). zs ++ bits ys) first.bits ∙ append_assoc before.bits (bits xs) (bits ys)
-    ∙ ap (λ (zs : List Bool). before.bits ++ zs) (sym (bits-append xs ys));
+      ∙ ap (λ (zs : List Bool). before.bits ++ zs) (sym (bits-append xs ys));
   spare = omega (arith, length-append xs ys, first.spare, second.spare);
 }
 
@@ -117,7 +117,7 @@ written_list before now s first last n width value known counted count within is
     let same : value ≡ octets s first last = is_value ∙ big_number-rest s first last n known counted count within in record {
       small = All-known (octet_list s first last) (AreOctets-octet_list s first last known);
       bits = is_bits ∙ ap (λ (v : ℕ). before.bits ++ bits_of width v) same
-        ∙ ap (λ (xs : List Bool). before.bits ++ xs) (bits_of-octets s first last n known counted count within width is_width);
+          ∙ ap (λ (xs : List Bool). before.bits ++ xs) (bits_of-octets s first last n known counted count within width is_width);
       spare = omega (arith, length-octet_list s first last n known counted count within);
     }
 
@@ -161,3 +161,18 @@ octets_end before between now s at i words last all =
     AddsOctets-same (take at s ++ take i (take (length s - at) (drop at s))) s
     (ap (λ (xs : List ℕ). take at s ++ xs) rest ∙ take-append-drop at s)
     (AddsOctets-append words last)
+
+-- whole octets stay whole
+pub AddsOctets-whole : {before now : Written} {xs : List ℕ} → AddsOctets before now xs → length before.bits % 8 ≡ 0 → length now.bits % 8 ≡ 0
+AddsOctets-whole {before} {now} {xs} h whole =
+    let long : length now.bits ≡ length before.bits + 8 * length xs =
+    ap length h.bits ∙ length-append before.bits (bits xs) ∙ ap (λ (n : ℕ). length before.bits + n) (length-bits xs) in
+    omega arith
+
+-- a section that is made of its contents states its length and its number
+pub StatesItself-section_of : (number : ℕ) (contents : List ℕ) → length contents < 2 ^ 32 - 5 → StatesItself number (section_of number contents)
+StatesItself-section_of number contents most = record {
+  length_stands = num_on-octets_of 4 (5 + length contents) (omega arith) ∙ (omega arith);
+  least = omega arith;
+  number_stands = omega arith;
+}

@@ -57,12 +57,12 @@ impl Frame {
     pub fn next<'a>(&mut self, octets: &'a [u8]) -> Result<Option<Section<'a>>, Fault>
         ensures { MatchResult result
             (λ next. MatchOption next
-                ((step_from octets.now self.old ≡ End) × (self.new ≡ self.old))
-                (λ section. (step_from octets.now self.old ≡ Next section.octets.now)
-                    × StatesItself section.number section.octets.now
-                    × (section.start ≡ self.old.place)
-                    × (1 ≤ section.start) × (section.start ≤ 268435456)
-                    × (self.new ≡ position_after self.old section.octets.now)))
+            ((step_from octets.now self.old ≡ End) × (self.new ≡ self.old))
+            (λ section. (step_from octets.now self.old ≡ Next section.octets.now)
+            × StatesItself section.number section.octets.now
+            × (section.start ≡ self.old.place)
+            × (1 ≤ section.start) × (section.start ≤ 268435456)
+            × (self.new ≡ position_after self.old section.octets.now)))
             (λ fault. (step_from octets.now self.old ≡ Fails fault) × (self.new ≡ self.old)) }
     {
         if self.is_at_end(octets)? {
@@ -78,7 +78,7 @@ impl Frame {
     fn is_at_end(&self, octets: &[u8]) -> Result<bool, Fault>
         ensures { MatchResult result
             (λ ends. (first_fault (mark_rows octets.now self.now.total self.now.last self.now.place) ≡ None)
-                × (ends ≡ ends_at octets.now self.now.place))
+            × (ends ≡ ends_at octets.now self.now.place))
             (λ fault. first_fault (mark_rows octets.now self.now.total self.now.last self.now.place) ≡ Some fault) }
     {
         let present = octets.len() as u64;
@@ -104,10 +104,10 @@ impl Frame {
     fn section<'a>(&self, octets: &'a [u8]) -> Result<Section<'a>, Fault>
         ensures { MatchResult result
             (λ section. (first_fault (frame_rows octets.now self.now.total self.now.last self.now.place) ≡ None)
-                × (section.octets.now ≡ section_at octets.now self.now.place)
-                × StatesItself section.number section.octets.now
-                × (section.start ≡ self.now.place) × (section.number ≤ 7)
-                × (self.now.place + length section.octets.now + 3 ≤ self.now.total))
+            × (section.octets.now ≡ section_at octets.now self.now.place)
+            × StatesItself section.number section.octets.now
+            × (section.start ≡ self.now.place) × (section.number ≤ 7)
+            × (self.now.place + length section.octets.now + 3 ≤ self.now.total))
             (λ fault. first_fault (frame_rows octets.now self.now.total self.now.last self.now.place) ≡ Some fault) }
     {
         let present = octets.len() as u64;

@@ -7,6 +7,8 @@ mod indicator;
 mod number;
 mod refusal;
 mod section;
+#[cfg(test)]
+mod tests;
 
 pub use frame::Frame;
 pub use identification::{Identification, read_identification, write_identification};

@@ -16,6 +16,7 @@ pub fn write_section(number: u8, contents: &[u8], out: &mut BitWriter)
     requires most { length contents.now < 2 ^ 32 - 5 }
     ensures itself { StatesItself number (section_of number contents.now) }
     ensures octets { AddsOctets out.old out.new (section_of number contents.now) }
+    ensures whole { length out.new.bits % 8 ≡ 0 }
 {
     write_u32(5 + contents.len() as u32, out);
     write_u8(number, out);
