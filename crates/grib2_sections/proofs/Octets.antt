@@ -3,7 +3,7 @@ use Rattle.std.proofs.Common.{◌≡◌, ℕ, zero, suc, ◌+◌, ◌-◌, ◌*�
 use Rattle.std.proofs.lemmas.List.{length-append, append-nil, take_at, drop_at, drop-take, take_more, take_rest, take_all}
 use Rattle.std.proofs.lemmas.List.Elements.{All-nil, All-cons, All-append, All-from_get_or}
 use Rattle.std.proofs.lemmas.Nat.{pow-add, mod_below}
-use Rattle.std.specs.Int.{byte_at, bytes_high_first}
+use Rattle.std.specs.Int.{byte_at}
 use Rattle.grib_bits.specs.Bits.{bits, bits_of, num}
 use Rattle.grib_bits.specs.Octets.{num_on, octet_list, octets, StatesItself}
 use Rattle.grib_bits.specs.Written.{Written}

@@ -1,5 +1,5 @@
 -- One octet more, and all of them.
-use Rattle.std.proofs.Common.{ℕ, List, ◌-◌, ◌*◌, ◌/◌, length, take, drop, arith}
+use Rattle.std.proofs.Common.{◌-◌, ◌*◌, ◌/◌, length, take, drop, arith}
 use Rattle.grib_bits.proofs.OctetNumbers.{AreOctets-known, AreOctets-take, AreOctets-drop}
 use Rattle.grib2_sections.proofs.Octets.{octet_more, octets_end}
 use Rattle.grib2_sections.proofs.section.write_octets.Goals as goal

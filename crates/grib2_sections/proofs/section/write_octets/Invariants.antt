@@ -1,4 +1,4 @@
-use Rattle.std.proofs.Common.{◌*◌, ◌/◌, ◌++◌, length, take, drop}
+use Rattle.std.proofs.Common.{take}
 use Rattle.grib2_sections.specs.Encoding.{AddsOctets}
 use Rattle.grib2_sections.proofs.section.write_octets.Given as goal
 

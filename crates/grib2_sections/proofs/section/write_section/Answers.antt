@@ -1,5 +1,5 @@
 -- The length, the number and the contents, one after another.
-use Rattle.std.proofs.Common.{◌∙◌, ℕ, List, ◌∷◌, [], ◌++◌, ap, refl, arith}
+use Rattle.std.proofs.Common.{◌∷◌, []}
 use Rattle.grib2_sections.proofs.Octets.{AddsOctets-append, AddsOctets-same, AddsOctets-whole, octets_of-one, StatesItself-section_of}
 use Rattle.grib2_sections.proofs.section.write_section.Goals as goal
 
