@@ -13,7 +13,7 @@ use Rattle.grib2_message.specs.Acceptance.{section_fault, verdict_from}
 use Rattle.grib2_message.specs.Grammar.{IsSection, AreSections}
 use Rattle.grib2_message.proofs.Passed.{AllPass, none_from_passes, mark_ends, mark_goes, unless_none}
 use Rattle.grib2_message.proofs.Parts.{from, four_at, fifth_at, section_is}
-use Rattle.grib2_message.proofs.Steps.{here, after_section, at_contents, at_section}
+use Rattle.grib2_message.proofs.Steps.{here, after_section, at_contents, at_section, walk_is}
 
 -- sections, the end mark and whatever comes after stand from octet q on, and end with octet `total`
 pub record Stand (m : List ℕ) (q total : ℕ) (sections : List (List ℕ)) (after : List ℕ) : Type 0 where
@@ -126,7 +126,8 @@ goes_on : (turns : ℕ) (m : List ℕ) (before : List Placed) (q : ℕ) → ends
 goes_on turns m before q goes marks frame contents =
     let mark = none_from_passes (mark_rows m (total_length m) (last_number before) q) marks in
     let framed = none_from_passes (frame_rows m (total_length m) (last_number before) q) frame in
-    mark_goes (first_fault (mark_rows m (total_length m) (last_number before) q)) (ends_at m q) (total_length m) (λ _. at_section turns m before q) mark goes
+    walk_is turns m before q
+    ∙ mark_goes (first_fault (mark_rows m (total_length m) (last_number before) q)) (ends_at m q) (total_length m) (λ _. at_section turns m before q) mark goes
     ∙ (unless_none (first_fault (frame_rows m (total_length m) (last_number before) q)) (λ _. at_contents turns m before q) framed
     ∙ unless_none (section_fault before (here m q)) (λ _. after_section turns m before q) contents)
 
@@ -134,7 +135,8 @@ goes_on turns m before q goes marks frame contents =
 stops : (turns : ℕ) (m : List ℕ) (before : List Placed) (q : ℕ) → ends_at m q ≡ true
     → AllPass (mark_rows m (total_length m) (last_number before) q) → verdict_from (suc turns) m before q ≡ Accepted (total_length m)
 stops turns m before q ends marks =
-    mark_ends (first_fault (mark_rows m (total_length m) (last_number before) q)) (ends_at m q) (total_length m) (λ _. at_section turns m before q)
+    walk_is turns m before q
+    ∙ mark_ends (first_fault (mark_rows m (total_length m) (last_number before) q)) (ends_at m q) (total_length m) (λ _. at_section turns m before q)
     (none_from_passes (mark_rows m (total_length m) (last_number before) q) marks) ends
 
 -- the walk over a section, where it stands before others

@@ -2,7 +2,8 @@
 use Rattle.std.proofs.Common.{◌≡◌, ℕ, zero, suc, ◌+◌, ◌-◌, ◌<◌, ◌≤◌, Bool, true, false, not, ◌&&◌, IsTrue, None, List, [], ◌∷◌, ◌++◌, length, take, drop, All, nat_lt, inl, inr, refl, ap, sym, ◌∙◌, arith, append_assoc, length-drop, length-take-le, length-append, take-append-drop, drop-drop, ltb-false, eqb-true}
 use Rattle.std.specs.List.{concat}
 use Rattle.std.proofs.lemmas.Bool.{or_parts, not-false}
-use Rattle.std.proofs.lemmas.List.Elements.{All-drop}
+use Rattle.std.proofs.lemmas.List.Elements.{All-drop, All-same}
+use Rattle.std.proofs.lemmas.List.{drop-take}
 use Rattle.grib_bits.specs.Octets.{octets, num_on}
 use Rattle.grib2_sections.specs.Verdict.{Accepted}
 use Rattle.grib2_sections.specs.Head.{total_length, end_mark}
@@ -64,14 +65,21 @@ pub record Found (m : List ℕ) (before : List Placed) (q total : ℕ) : Type 0 
   pub ends : q + length (concat sections) + 3 ≡ total
   pub states : total_length m ≡ total
 
+-- the last n octets of a front
+last_octets : (before n whole : ℕ) (m : List ℕ) → whole ≡ before + n → drop before (take whole m) ≡ take n (drop before m)
+last_octets before n whole m e = ap (λ k. drop before (take k m)) e ∙ drop-take before n m
+
 -- none but the end mark, where it stands at q
-found_end : (m : List ℕ) (before : List Placed) (q total : ℕ) → 1 ≤ q → All (λ octet. octet < 256) m → q + 3 ≤ total_length m
+found_end : (m : List ℕ) (before : List Placed) (q total : ℕ) → 1 ≤ q → All (λ octet. octet < 256) (take total m) → q + 3 ≤ total_length m
     → MarkPasses m (total_length m) (last_number before) q → Ended m q total → Found m before q total
 found_end m before q total low small room p e =
     let long : 4 ≤ length (from q m) = omega (arith, length-drop (q - 1) m, p.there) in
     let number : num_on 0 (take 4 (from q m)) ≡ 926365495 = ap (num_on 0) (sym (four_at m q)) ∙ eqb-true (octets m q (q + 3)) 926365495 e.ends in
-    let stands : take 4 (from q m) ≡ end_mark = mark_from_number (from q m) long (All-drop (λ octet. octet < 256) (q - 1) m small) number in
     let ends : total_length m ≤ q + 3 = p.at_end e.ends in
+    let last_four : drop (q - 1) (take total m) ≡ take 4 (from q m) = last_octets (q - 1) 4 total m (omega (arith, e.states)) in
+    let below : All (λ octet. octet < 256) (take 4 (from q m)) =
+    All-same (λ octet. octet < 256) (take 4 (from q m)) (drop (q - 1) (take total m)) (sym last_four) (All-drop (λ octet. octet < 256) (q - 1) (take total m) small) in
+    let stands : take 4 (from q m) ≡ end_mark = mark_from_number (from q m) long below number in
     record {
       sections = [];
       after = drop 4 (from q m);
@@ -127,7 +135,7 @@ found_more m before q total s f = record {
 }
 
 -- what the walk accepts from octet q on
-pub walked : (turns : ℕ) (m : List ℕ) (before : List Placed) (q total : ℕ) → All (λ octet. octet < 256) m → 1 ≤ q → q + 3 ≤ total_length m
+pub walked : (turns : ℕ) (m : List ℕ) (before : List Placed) (q total : ℕ) → All (λ octet. octet < 256) (take total m) → 1 ≤ q → q + 3 ≤ total_length m
     → verdict_from turns m before q ≡ Accepted total → Found m before q total
 walked zero m before q total small low room e = cc
 walked (suc turns) m before q total small low room e =

@@ -107,7 +107,7 @@ in_grammar rest total starts p f =
     )
 
 -- what is accepted is in the grammar
-pub accepted_in_grammar : (rest : List ℕ) (total : ℕ) → All (λ octet. octet < 256) rest → take 4 rest ≡ indicator → edition rest ≢ 1
+pub accepted_in_grammar : (rest : List ℕ) (total : ℕ) → All (λ octet. octet < 256) (take total rest) → take 4 rest ≡ indicator → edition rest ≢ 1
     → verdict_2 rest ≡ Accepted total → (sections : List (List ℕ)) × (total ≤ length rest) × Grammar2 (take total rest) sections
 accepted_in_grammar rest total small starts other e =
     let told = unless_tells (first_fault (head_rows rest)) (λ _. verdict_from (length rest + 1) rest [] 17) total e in

@@ -80,3 +80,21 @@ pub record Placed : Type 0 where
 
 abbrev pub placed_at : ℕ → List ℕ → Placed
 placed_at start s = record { start = start; octets = s }
+
+-- where a walk stands in a message with this total length: at octet `place`, after a section with the
+-- number `last`, 0 for Section 0
+pub record Position : Type 0 where
+  pub total : ℕ
+  pub place : ℕ
+  pub last : ℕ
+
+abbrev pub step_from : List ℕ → Position → Step
+step_from message at = step message at.total at.last at.place
+
+-- where it stands after this section
+abbrev pub position_after : Position → List ℕ → Position
+position_after at section = record {
+  total = at.total;
+  place = at.place + length section;
+  last = section_number section;
+}
