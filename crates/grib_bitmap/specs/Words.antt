@@ -1,5 +1,5 @@
 -- Bits that stand in words of 64, the first the most significant of the first word.
-use Rattle.std.specs.Prelude.{◌≡◌, ℕ, ◌+◌, ◌-◌, ◌*◌, ◌%◌, Bool, false, List, [], ◌∷◌, ◌++◌, length, drop, replicate}
+use Rattle.std.specs.Prelude.{◌≡◌, ℕ, ◌+◌, ◌-◌, ◌*◌, ◌%◌, ◌^◌, ◌<◌, Bool, false, List, [], ◌∷◌, ◌++◌, length, drop, replicate}
 use Rattle.grib_bits.specs.Bits.{bits_of}
 
 -- the bits of one word
@@ -16,5 +16,6 @@ word_padding count = (64 - count % 64) % 64
 
 -- The words hold `count` bits, and behind them zeros up to the end of a word.
 pub record HoldBits (words : List ℕ) (count : ℕ) : Type 0 where
+  pub few : count < 2 ^ 32
   pub long : 64 * length words ≡ count + word_padding count
   pub zeros : drop count (bits_of_words words) ≡ replicate (word_padding count) false

@@ -5,6 +5,7 @@ ghost use Rattle.grib_bits.specs.Octets.{StatesItself};
 ghost use Rattle.grib_io.specs.Rows.{first_fault_at, refusal};
 ghost use Rattle.grib_bitmap.specs.Mask.{mask_of, present_count, bitmap_rows};
 ghost use Rattle.grib_bitmap.specs.Fault.{IsMaskFault};
+ghost use Rattle.grib_bitmap.specs.declared.section.MaskFault.TheVariants.{Memory};
 
 use crate::mask::{Mask, ones};
 use grib_io::{Fault, Reason, Section};
@@ -20,7 +21,7 @@ pub enum MaskFault {
 }
 
 impl From<AllocError> for MaskFault {
-    ghost from_gives = { λ _ fault. fault ≡ MaskFault.Memory };
+    ghost from_gives = { λ _ fault. fault ≡ Memory };
 
     fn from(_error: AllocError) -> MaskFault {
         MaskFault::Memory
@@ -56,7 +57,7 @@ pub fn read_mask(
     }
     let place = section.start + 5;
     match octets[5] {
-        0 if 8 * length < u64::from(points) + 48 => {
+        0 if octets.len() - 6 < points.div_ceil(8) as usize => {
             Err(refused(section.start, Reason::BitmapSize, length))
         }
         0 => counted(Mask::of_octets(alloc, &octets[6..], points)?, values, place),

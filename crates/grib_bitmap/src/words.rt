@@ -56,8 +56,8 @@ fn push_last(words: &mut Vec<u64>, bits: u64, count: u32) -> Result<(), AllocErr
 pub fn same_bits(word: u64, skip: u32, bit: bool) -> u32
     requires { skip < 64 }
     ensures within { skip + result ≤ 64 }
-    ensures same { take result (drop skip (word_bits word)) ≡ replicate result bit }
-    ensures longest { skip + result < 64 → slice_get (word_bits word) (skip + result) ≢ Some bit }
+    ensures same { drop skip (word_bits word) ≡ replicate result bit ++ drop (skip + result) (word_bits word) }
+    ensures longest { slice_get (word_bits word) (skip + result) ≢ Some bit }
 {
     let other = if bit { !word } else { word };
     (other << skip).leading_zeros().min(64 - skip)
