@@ -4,7 +4,7 @@ use Rattle.std.proofs.lemmas.List.{length-drop, length-take-le, take-append-drop
 use Rattle.std.proofs.lemmas.Nat.{pow_pos, one_shl}
 use Rattle.byteorder.specs.Endian.{big_number}
 use Rattle.grib_bits.specs.Bits.{bits, bits_of, num}
-use Rattle.grib_bits.proofs.Numbers.{length-bits_of, num-lt, bits_of-num, bits_of-zero}
+use Rattle.grib_bits.proofs.Numbers.{num-lt, bits_of-num, bits_of-zero}
 use Rattle.grib_bits.proofs.OctetBits.{AreOctets, length-bits, take-bits, drop-bits, big_from-bits}
 use Rattle.grib_bits.proofs.OctetNumbers.{AreOctets-drop}
 use Rattle.grib_bitmap.specs.Words.{word_bits, bits_of_words, word_padding}

@@ -1,7 +1,7 @@
 -- Lemmas on a run that is followed from word to word.
-use Rattle.std.proofs.Common.{◌≡◌, ◌≢◌, ◌⊎◌, ℕ, ◌+◌, ◌-◌, ◌*◌, ◌/◌, ◌%◌, ◌<◌, ◌≤◌, min, Bool, true, false, List, ◌++◌, length, take, drop, get_or, replicate, Some, slice_get, sym, ap, ap₂, ◌∙◌, inl, inr, arith, append_assoc}
+use Rattle.std.proofs.Common.{◌≡◌, ◌≢◌, ◌⊎◌, ℕ, ◌+◌, ◌-◌, ◌*◌, ◌/◌, ◌%◌, ◌<◌, ◌≤◌, min, Bool, false, List, ◌++◌, length, take, drop, get_or, replicate, Some, slice_get, sym, ap, ◌∙◌, inl, inr, arith, append_assoc}
 use Rattle.std.proofs.Math.Seq.{take-append-add}
-use Rattle.std.proofs.lemmas.List.{length-drop, length-replicate, length-append, take-append-drop, take-append-le, take-replicate, take-take, drop-append-le, drop-drop, drop_at, drop-take, drop_all, get_or_append_left, get_or-drop, get_or-take, replicate-append-replicate, append-nil}
+use Rattle.std.proofs.lemmas.List.{length-drop, length-replicate, drop-append-le, drop-drop, drop_at, drop-take, get_or_append_left, get_or-drop, get_or-take, replicate-append-replicate}
 use Rattle.std.proofs.lemmas.Option.{slice_get-get_or, get_or_from_slice_get, slice_get_within}
 use Rattle.grib_bitmap.specs.Words.{word_bits, bits_of_words, HoldBits}
 use Rattle.grib_bitmap.proofs.WordBits.{length-word_bits, length-bits_of_words, length-mask, drop_word}

@@ -1,14 +1,14 @@
 -- Lemmas on the bits of words of 64.
-use Rattle.std.proofs.Common.{◌≡◌, ℕ, zero, suc, ◌+◌, ◌-◌, ◌*◌, ◌/◌, ◌%◌, ◌^◌, ◌<◌, ◌≤◌, min, Bool, true, false, not, cond, eqb, List, [], ◌∷◌, ◌++◌, map, length, take, drop, get_or, replicate, sum_by, Some, None, option_map, slice_get, ◌≢◌, bit_and, refl, sym, ap, ap₂, ◌∙◌, subst, inl, inr, arith, mod-eq_of_lt, one-add, zero-add, pow-suc, append_assoc}
-use Rattle.std.proofs.lemmas.List.{length-append, append-nil, length-take-le, length-drop, length-map, length-replicate, take-append-drop, take_at, take_all, length-take, take-append-le, take-replicate, drop_at, drop-append-le, drop-drop, drop-map, take-map, map-append, drop_more, take_more, get_or-take, get_or_append_left, get_or-append_right, get_or-drop, replicate-append-replicate}
-use Rattle.std.proofs.lemmas.List.Sums.{sum_by-cons, sum_by-append, count_by-le-length}
+use Rattle.std.proofs.Common.{◌≡◌, ℕ, zero, suc, ◌+◌, ◌-◌, ◌*◌, ◌/◌, ◌%◌, ◌^◌, ◌<◌, ◌≤◌, min, Bool, true, false, not, cond, eqb, List, [], ◌∷◌, ◌++◌, map, length, take, drop, get_or, replicate, Some, option_map, slice_get, ◌≢◌, bit_and, refl, sym, ap, ap₂, ◌∙◌, subst, inl, inr, arith, mod-eq_of_lt, one-add, zero-add, pow-suc, append_assoc}
+use Rattle.std.proofs.lemmas.List.{length-append, append-nil, length-take-le, length-drop, length-map, length-replicate, take-append-drop, take_at, take_all, length-take, take-append-le, take-replicate, drop_at, drop-drop, drop-map, map-append, drop_more, take_more, get_or-take, get_or_append_left, get_or-append_right, get_or-drop}
+use Rattle.std.proofs.lemmas.List.Sums.{sum_by-cons, count_by-le-length}
 use Rattle.std.proofs.lemmas.Nat.{shr_below, shl_whole, leading_length, ones-le, ones_cat, div-add-mod', mod_below, pow_pos, le-div}
 use Rattle.std.proofs.lemmas.Nat.Bits.{shr_and_one}
 use Rattle.std.proofs.lemmas.Option.{slice_get-get_or, slice_get-map, get_or_from_slice_get, slice_get_within}
 use Rattle.std.proofs.lemmas.Bool.{cases_lt, false≢true}
 use lib.Count.{ones, ones_step, count_leading_zeros}
-use Rattle.grib_bits.specs.Bits.{bits, bits_of, num, digit}
-use Rattle.grib_bits.proofs.Numbers.{length-bits_of, num-lt, num-bits_of, bits_of-num, bits_of-mod, bits_of-add, bits_of-join, bits_of-zero, drop-bits_of, take-bits_of}
+use Rattle.grib_bits.specs.Bits.{bits_of, num, digit}
+use Rattle.grib_bits.proofs.Numbers.{length-bits_of, num-bits_of, bits_of-num, bits_of-mod, bits_of-add, bits_of-join, bits_of-zero, drop-bits_of}
 use Rattle.grib_bitmap.specs.Mask.{present_count}
 use Rattle.grib_bitmap.specs.Words.{word_bits, bits_of_words, word_padding, HoldBits}
 use Rattle.grib_bitmap.proofs.Runs.{present_count-append, present_count-replicate}
@@ -186,11 +186,12 @@ leading k n h =
     let found = leading_length k n h in
     let zeros = count_leading_zeros k n in
     let m = found.0 in
-    let none : n / 2 ^ m ≡ 0 = omega (arith, shr_below n 0 m (rw zero-add found.2)) in
-    (bits_of m n,
-    ap (λ (j : ℕ). bits_of j n) (sym found.1) ∙ bits_of-add zeros m n
-    ∙ ap (λ (xs : List Bool). xs ++ bits_of m n) (ap (bits_of zeros) none ∙ bits_of-zero zeros),
-    top_is_one m n found.2 found.3)
+    let none : n / 2 ^ m ≡ 0 = omega (arith, shr_below n 0 m (rw zero-add found.2)) in (
+      bits_of m n,
+      ap (λ (j : ℕ). bits_of j n) (sym found.1) ∙ bits_of-add zeros m n
+          ∙ ap (λ (xs : List Bool). xs ++ bits_of m n) (ap (bits_of zeros) none ∙ bits_of-zero zeros),
+      top_is_one m n found.2 found.3,
+    )
 
 -- ---- masks
 
@@ -265,17 +266,18 @@ zeros_behind k skip number zeros within fits is_zeros =
     let front : take zeros rest ≡ replicate zeros false =
     sym (take-append-le zeros rest (replicate skip false) (omega arith)) ∙ ap (take zeros) same
     ∙ take-append-le zeros (replicate all false) tail (omega (arith, length-replicate {A = Bool} all false))
-    ∙ take-replicate zeros all false (omega arith) in
-    (sym (take-append-drop zeros rest) ∙ ap₂ ◌++◌ front (drop-drop zeros skip xs),
-    λ short.
-    let whole : zeros ≡ all = omega arith in
-    let some : 0 < length tail = omega (arith, ap length same, length-append rest (replicate skip false), length-append (replicate all false) tail, length-replicate {A = Bool} all false, length-replicate {A = Bool} skip false) in
-    sym (get_or-drop skip xs zeros false)
-    ∙ sym (get_or_append_left rest (replicate skip false) false zeros (omega arith))
-    ∙ ap (λ (ys : List Bool). get_or ys zeros false) same
-    ∙ get_or-append_right (replicate all false) tail all zeros false (length-replicate all false) (omega arith)
-    ∙ ap (λ (i : ℕ). get_or tail i false) (let none : zeros - all ≡ 0 = omega arith in none)
-    ∙ found.2 some)
+    ∙ take-replicate zeros all false (omega arith) in (
+      sym (take-append-drop zeros rest) ∙ ap₂ ◌++◌ front (drop-drop zeros skip xs),
+      λ short.
+          let whole : zeros ≡ all = omega arith in
+          let some : 0 < length tail = omega (arith, ap length same, length-append rest (replicate skip false), length-append (replicate all false) tail, length-replicate {A = Bool} all false, length-replicate {A = Bool} skip false) in
+          sym (get_or-drop skip xs zeros false)
+          ∙ sym (get_or_append_left rest (replicate skip false) false zeros (omega arith))
+          ∙ ap (λ (ys : List Bool). get_or ys zeros false) same
+          ∙ get_or-append_right (replicate all false) tail all zeros false (length-replicate all false) (omega arith)
+          ∙ ap (λ (i : ℕ). get_or tail i false) (let none : zeros - all ≡ 0 = omega arith in none)
+          ∙ found.2 some,
+    )
 
 module _ (word skip zeros : ℕ) (within : skip < 64) (fits : word < 2 ^ 64) (is_zeros : zeros ≡ min (count_leading_zeros 64 (word * 2 ^ skip % 2 ^ 64)) (64 - skip)) where
   behind_at : (k : ℕ) → k ≡ 64 → (drop skip (word_bits word) ≡ replicate zeros false ++ drop (skip + zeros) (word_bits word)) × (skip + zeros < 64 → get_or (word_bits word) (skip + zeros) false ≡ true)

@@ -1,6 +1,6 @@
 -- Lemmas on a mask that is written word by word.
 use Rattle.std.proofs.Common.{◌≡◌, ℕ, ◌+◌, ◌-◌, ◌*◌, ◌/◌, ◌%◌, ◌^◌, ◌<◌, ◌≤◌, Bool, false, List, ◌++◌, length, take, drop, get_or, replicate, refl, sym, ap, ap₂, ◌∙◌, subst, arith, append_assoc}
-use Rattle.std.proofs.lemmas.List.{length-append, append-nil, take_more, take-append-le}
+use Rattle.std.proofs.lemmas.List.{length-append, take_more, take-append-le}
 use Rattle.std.proofs.lemmas.Nat.{shr_below}
 use Rattle.grib_bits.specs.Bits.{bits_of}
 use Rattle.grib_bits.specs.Written.{padding}

@@ -34,7 +34,11 @@ pub fn octet_words(alloc: Global, octets: &[u8], count: u32) -> Result<Vec<u64>,
         words.push(BigEndian::read_u64(&octets[8 * index as usize..]))?;
     }
     let rest = count % 64;
-    push_last(&mut words, get_bits(octets, 64 * u64::from(whole), rest), rest)?;
+    push_last(
+        &mut words,
+        get_bits(octets, 64 * u64::from(whole), rest),
+        rest,
+    )?;
     Ok(words)
 }
 

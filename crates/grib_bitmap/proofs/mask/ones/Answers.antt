@@ -1,4 +1,4 @@
-use Rattle.std.proofs.Common.{◌+◌, ◌^◌, ◌<◌, ℕ, List, take, get_or, sym, subst, ap, ◌∙◌, arith, refl}
+use Rattle.std.proofs.Common.{◌+◌, ℕ, List, take, get_or, sym, subst, ap, ◌∙◌, arith, refl}
 use Rattle.grib_bitmap.specs.Mask.{present_count}
 use Rattle.grib_bitmap.specs.Words.{bits_of_words, HoldBits}
 use Rattle.grib_bitmap.proofs.WordBits.{counted_more, counted_fits, counted_whole, present_count-lt}

@@ -1,4 +1,4 @@
-use Rattle.std.proofs.Common.{◌≡◌, ◌+◌, ◌*◌, ◌/◌, ◌%◌, ◌^◌, ◌<◌, ◌≤◌, ◌++◌, ℕ, Bool, List, length, take, ap, refl, subst, arith}
+use Rattle.std.proofs.Common.{◌≡◌, ◌+◌, ◌/◌, ◌%◌, ◌<◌, ◌++◌, ℕ, Bool, List, length, take, ap, refl, subst, arith}
 use Rattle.std.proofs.lemmas.List.{get_or_read}
 use Rattle.grib_bitmap.specs.Words.{bits_of_words}
 use Rattle.grib_bitmap.proofs.WordBits.{length-mask}
@@ -39,11 +39,11 @@ bits_before c =
     subst (λ (mask : List Bool). c.if-rest-gt0.out.bits ≡ old ++ mask) c.mask.view_is
     (elim c.if-rest-gt0.branch [
       | then-rest-gt0 w ↦
-      let word = w.index-then-rest-gt0.result.now in
-      let within : points / 64 < length words = omega (arith, held.long, w.if-rest-gt0.true) in
-      let place : index ≡ points / 64 = omega arith in
-      rw w.out-is (written_last old c.loop-index.out.bits w.put-then-rest-gt0.new.self.bits words points (points / 64) word refl within (get_or_read words (points / 64) word within w.index-then-rest-gt0.ensures 0) w.put-then-rest-gt0.ensures.bits
-      (subst (λ (n : ℕ). c.loop-index.out.bits ≡ old ++ bits_of_words (take n words)) place c.loop-index.invariant.bits))
+          let word = w.index-then-rest-gt0.result.now in
+          let within : points / 64 < length words = omega (arith, held.long, w.if-rest-gt0.true) in
+          let place : index ≡ points / 64 = omega arith in
+          rw w.out-is (written_last old c.loop-index.out.bits w.put-then-rest-gt0.new.self.bits words points (points / 64) word refl within (get_or_read words (points / 64) word within w.index-then-rest-gt0.ensures 0) w.put-then-rest-gt0.ensures.bits
+          (subst (λ (n : ℕ). c.loop-index.out.bits ≡ old ++ bits_of_words (take n words)) place c.loop-index.invariant.bits))
       | else-rest-gt0 w ↦ rw w.out-is (written_whole old c.loop-index.out.bits words points index (omega arith) w.if-rest-gt0.false (omega (arith, held.long)) c.loop-index.invariant.bits)
     ])
 

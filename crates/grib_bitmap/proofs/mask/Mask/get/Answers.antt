@@ -1,4 +1,4 @@
-use Rattle.std.proofs.Common.{◌%◌, ◌/◌, ◌<◌, length, sym, subst, ap, ◌∙◌, arith, slice_get, Some}
+use Rattle.std.proofs.Common.{◌/◌, ◌<◌, length, sym, ap, ◌∙◌, arith, slice_get}
 use Rattle.std.proofs.lemmas.List.{get_or_read}
 use Rattle.grib_bitmap.proofs.WordBits.{bit-mask, length-mask}
 use Rattle.grib_bitmap.proofs.mask.Mask.get.Goals as goal

@@ -1,4 +1,4 @@
-use Rattle.std.proofs.Common.{◌≡◌, ◌≢◌, ◌+◌, ◌-◌, ◌%◌, ◌/◌, ◌<◌, ◌≤◌, ℕ, min, List, Bool, length, drop, replicate, ◌++◌, slice_get, Some, sym, subst, ap, ◌∙◌, inl, inr, arith}
+use Rattle.std.proofs.Common.{◌≡◌, ◌≢◌, ◌+◌, ◌-◌, ◌/◌, ◌<◌, ℕ, min, List, Bool, length, drop, replicate, ◌++◌, slice_get, Some, sym, subst, ap, ◌∙◌, inl, inr, arith}
 use Rattle.std.proofs.lemmas.Bool.{cases_lt}
 use Rattle.std.proofs.lemmas.List.{get_or_read}
 use Rattle.grib_bitmap.specs.Words.{bits_of_words}
@@ -34,16 +34,16 @@ ended c =
         stop = inl (omega (arith, w.loop-end-test.false, c.from.ensures));
       })
       | then-loop-end-test+then-skip-same-lt64 w ↦
-      let same = w.same_bits-same.result in
-      let inside : end / 64 < length words = omega (arith, held.long, c.from.ensures, w.loop-end-test.true) in
-      let is_word = get_or_read words (end / 64) w.index.result.now inside w.index.ensures 0 in
-      let here = run_step words end w.index.result.now same c.get-present.result inside is_word w.same_bits-same.ensures.within w.same_bits-same.ensures.same in
-      let last : c.loop-end-test.end ≡ end + same = w.end-is ∙ ap (λ (n : ℕ). end + n) w.from-end-in-loop-end.ensures in
-      rw last (record {
-        begun = omega (arith, c.loop-end.invariant.begun);
-        same = run_more (bits_of_words words) c.args.from end same c.get-present.result c.loop-end.invariant.begun c.loop-end.invariant.same here;
-        stop = inr (run_stops words end w.index.result.now same c.get-present.result inside is_word w.same_bits-same.ensures.within w.if-skip-same-lt64.true w.same_bits-same.ensures.longest);
-      })
+          let same = w.same_bits-same.result in
+          let inside : end / 64 < length words = omega (arith, held.long, c.from.ensures, w.loop-end-test.true) in
+          let is_word = get_or_read words (end / 64) w.index.result.now inside w.index.ensures 0 in
+          let here = run_step words end w.index.result.now same c.get-present.result inside is_word w.same_bits-same.ensures.within w.same_bits-same.ensures.same in
+          let last : c.loop-end-test.end ≡ end + same = w.end-is ∙ ap (λ (n : ℕ). end + n) w.from-end-in-loop-end.ensures in
+          rw last (record {
+            begun = omega (arith, c.loop-end.invariant.begun);
+            same = run_more (bits_of_words words) c.args.from end same c.get-present.result c.loop-end.invariant.begun c.loop-end.invariant.same here;
+            stop = inr (run_stops words end w.index.result.now same c.get-present.result inside is_word w.same_bits-same.ensures.within w.if-skip-same-lt64.true w.same_bits-same.ensures.longest);
+          })
     ]
 
 within : (c : goal.After-min) → c.args.from < c.self.inside.points
@@ -75,6 +75,6 @@ pub returns-clause-some : goal.returns-clause-some
 returns-clause-some c = elim (cases_lt c.args.from c.min.result) [
   | inl some ↦ omega arith
   | inr none ↦
-  let here : c.args.from ≡ c.args.from + (c.min.result - c.args.from) = omega arith in
-  absurd (stops c (ap (slice_get c.args.self.now) (sym here) ∙ c.get-present.ensures))
+      let here : c.args.from ≡ c.args.from + (c.min.result - c.args.from) = omega arith in
+      absurd (stops c (ap (slice_get c.args.self.now) (sym here) ∙ c.get-present.ensures))
 ]
