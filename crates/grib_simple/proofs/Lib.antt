@@ -1,1 +1,2 @@
 mod Unpacking
+pub mod Accepted

@@ -1,6 +1,6 @@
 //! Section 5, the data representation section: what all packings share.
 
-ghost use Rattle.std.specs.Prelude.{◌≡◌, ◌==◌, ◌≤◌, not, cond, Some, None, MatchResult};
+ghost use Rattle.std.specs.Prelude.{◌≡◌, ◌==◌, ◌≤◌, length, not, cond, Some, None, MatchResult};
 ghost use Rattle.grib_bits.specs.Binary32.{ieee_exponent};
 ghost use Rattle.grib_bits.specs.Octets.{StatesItself};
 ghost use Rattle.grib_io.specs.Rows as rows;
@@ -60,27 +60,33 @@ pub fn read_simple(section: &Section<'_>, points: u32) -> Result<Simple, Fault>
     if length < least {
         return Err(refusal(start, Reason::SectionLength, length));
     }
-    let values = BigEndian::read_u32(&octets[5..]);
-    if values > points {
-        return Err(refusal(start + 5, Reason::ValueCount, u64::from(values)));
+    let simple = numbers(octets);
+    if simple.values > points {
+        return Err(refusal(start + 5, Reason::ValueCount, u64::from(simple.values)));
     }
-    let reference = BigEndian::read_u32(&octets[11..]);
-    if !is_finite(reference) {
-        return Err(refusal(start + 11, Reason::ReferenceNotFinite, u64::from(reference)));
+    if !is_finite(simple.reference) {
+        return Err(refusal(start + 11, Reason::ReferenceNotFinite, u64::from(simple.reference)));
     }
-    let bits = octets[19];
-    if bits > most_bits(template) {
-        return Err(refusal(start + 19, Reason::BitWidth, u64::from(bits)));
+    if simple.bits > most_bits(template) {
+        return Err(refusal(start + 19, Reason::BitWidth, u64::from(simple.bits)));
     }
-    Ok(Simple {
-        values,
-        template,
-        reference,
+    Ok(simple)
+}
+
+/// The numbers that stand in the first 21 octets.
+fn numbers(octets: &[u8]) -> Simple
+    requires { 21 ≤ length octets.now }
+    ensures { Spelled result octets.now }
+{
+    Simple {
+        values: BigEndian::read_u32(&octets[5..]),
+        template: BigEndian::read_u16(&octets[9..]),
+        reference: BigEndian::read_u32(&octets[11..]),
         e: BigEndian::read_u16(&octets[15..]),
         d: BigEndian::read_u16(&octets[17..]),
-        bits,
+        bits: octets[19],
         kind: octets[20],
-    })
+    }
 }
 
 /// The refusal at this octet of the message.
