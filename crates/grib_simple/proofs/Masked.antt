@@ -1,10 +1,10 @@
 -- Lemmas on points that a mask leaves out or has, run by run.
 use Rattle.std.proofs.Common.{◌≡◌, ℕ, zero, suc, ◌+◌, ◌-◌, ◌*◌, ◌<◌, ◌≤◌, Bool, true, false, cond, List, [], ◌∷◌, ◌++◌, length, take, drop, map, replicate, refl, sym, ap, ap₂, ◌∙◌, subst, arith, append_assoc}
-use Rattle.std.proofs.lemmas.List.{append-nil, drop_at, drop-map, map-append}
+use Rattle.std.proofs.lemmas.List.{append-nil, drop_at, drop-map, map-append, length-map}
 use Rattle.std.proofs.lemmas.List.FromFn.{length-map-range_with_len}
 use Rattle.grib_bits.specs.Plain.{plain, plain_at}
 use Rattle.grib_bitmap.specs.Mask.{present_count}
-use Rattle.grib_bitmap.proofs.Runs.{present_count-run}
+use Rattle.grib_bitmap.proofs.Runs.{present_count-run, all_present}
 use Rattle.grib_packing.specs.Column.{points_with_mask}
 use Rattle.grib_packing.specs.declared.column.Point.{Point}
 use Rattle.grib_packing.specs.declared.column.Point.TheVariants.{Missing}
@@ -85,3 +85,12 @@ entries_part f xs width count taken n within =
     ∙ ap (map f) (from ∙ plain_from-append xs width taken n rest)
     ∙ map-append f (plain_from xs width taken n) (plain_from xs width (taken + n) rest)
     ∙ ap (λ (ys : List Point). map f (plain_from xs width taken n) ++ ys) (ap (map f) (sym later) ∙ sym (drop-map f (taken + n) (plain xs width count)))
+
+-- numbers as entries of a mask that leaves out nothing
+pub with_full_mask : (mask : List Bool) (f : ℕ → Point) (xs : List Bool) (width values : ℕ) → present_count mask ≡ values → values ≡ length mask
+    → points_with_mask mask (map f (plain xs width values)) ≡ map f (plain xs width values)
+with_full_mask mask f xs width values present full =
+    let entries = map f (plain xs width values) in
+    let all : mask ≡ replicate values true = all_present mask (present ∙ full) ∙ ap (λ (n : ℕ). replicate n true) (sym full) in
+    ap (λ (m : List Bool). points_with_mask m entries) all
+    ∙ with_mask_all values entries (length-map (plain xs width values) f ∙ length-map-range_with_len (plain_at xs width) 0 values)

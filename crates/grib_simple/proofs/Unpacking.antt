@@ -1,5 +1,5 @@
 -- Lemmas on numbers that are taken from words of eight octets, one after another.
-use Rattle.std.proofs.Common.{◌≡◌, ℕ, zero, suc, ◌+◌, ◌-◌, ◌*◌, ◌/◌, ◌%◌, ◌^◌, ◌<◌, ◌≤◌, Bool, List, [], ◌∷◌, ◌++◌, length, take, drop, map, replicate, bit_and, refl, sym, ap, ap₂, ◌∙◌, arith, pow_mono, append_assoc, zero-add, Result, Ok, Err, OnOk}
+use Rattle.std.proofs.Common.{◌≡◌, ℕ, zero, suc, ◌+◌, ◌-◌, ◌*◌, ◌/◌, ◌%◌, ◌^◌, ◌<◌, ◌≤◌, Bool, List, [], ◌∷◌, ◌++◌, length, take, drop, map, replicate, bit_and, refl, sym, ap, ap₂, ◌∙◌, arith, pow_mono, append_assoc, zero-add, Result, Ok, Err, OnOk, IfOk}
 use Rattle.std.proofs.Math.Nat.{div-mul-le_self, mul-le-mul_right}
 use Rattle.std.proofs.lemmas.List.{length-drop, length-take, length-take-le, take-take, take_rest, append-nil, drop-take, map-append}
 use Rattle.std.proofs.lemmas.List.FromFn.{map-range_with_len_more}
@@ -123,3 +123,8 @@ pushed_all f xs width first index last old new e before = before ∙ ap (λ (n :
 pub on_ok : {T E : Type 0} {P Q : Type 0} (r : Result T E) → (P → Q) → OnOk r P → OnOk r Q
 on_ok (Ok x) f h = f h
 on_ok (Err e) f h = h
+
+-- what else holds of the value where a call succeeds
+pub if_ok : {T E : Type 0} (P Q : T → Type 0) (r : Result T E) → ((x : T) → P x → Q x) → IfOk r P → IfOk r Q
+if_ok P Q (Ok x) f h = f x h
+if_ok P Q (Err e) f h = h

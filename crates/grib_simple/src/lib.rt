@@ -13,4 +13,4 @@ pub use grib_packing::{Column, Point};
 pub use numbers::{unpack_numbers, unpack_points};
 pub use packing::Packing;
 pub use representation::{Simple, read_simple};
-pub use simple::simple_column;
+pub use simple::{SimplePacking, simple_column};

@@ -74,7 +74,7 @@ pub fn read_simple(section: &Section<'_>, points: u32) -> Result<Simple, Fault>
 }
 
 /// The numbers that stand in the first 21 octets.
-fn numbers(octets: &[u8]) -> Simple
+pub(crate) fn numbers(octets: &[u8]) -> Simple
     requires { 21 ≤ length octets.now }
     ensures { Spelled result octets.now }
 {
