@@ -65,7 +65,11 @@ pub fn read_simple(section: &Section<'_>, points: u32) -> Result<Simple, Fault>
         return Err(refusal(start + 5, Reason::ValueCount, u64::from(simple.values)));
     }
     if !is_finite(simple.reference) {
-        return Err(refusal(start + 11, Reason::ReferenceNotFinite, u64::from(simple.reference)));
+        return Err(refusal(
+            start + 11,
+            Reason::ReferenceNotFinite,
+            u64::from(simple.reference),
+        ));
     }
     if simple.bits > most_bits(template) {
         return Err(refusal(start + 19, Reason::BitWidth, u64::from(simple.bits)));

@@ -26,7 +26,8 @@ returns c =
     let entries = map f (plain part (bit_width s5) (value_count s5)) in
     let numbers : map f (plain (bits (take (length s7 - 5) (drop 5 s7))) c.from-bits.result c.numbers-simple.result.values) ≡ entries =
     ap (λ (xs : List ℕ). map f (plain (bits xs) c.from-bits.result c.numbers-simple.result.values)) (take_rest s7 5)
-    ∙ ap₂ (λ (w n : ℕ). map f (plain part w n)) width simple.values in
-    (data_fault-simple s5 s7 c.requires.template ∙ row_passes _ [] (le-ltb (8 * length s7) (plain_bits s5 + 40) room),
-    same_column s5 _ _ _ c.of.result _ simple.reference simple.e simple.d
-    (c.of.ensures ∙ c.in-Ok.ensures ∙ ap (points_with_mask mask) (numbers ∙ sym (entries_of-simple s5 s7 c.requires.template))))
+    ∙ ap₂ (λ (w n : ℕ). map f (plain part w n)) width simple.values in (
+      data_fault-simple s5 s7 c.requires.template ∙ row_passes _ [] (le-ltb (8 * length s7) (plain_bits s5 + 40) room),
+      same_column s5 _ _ _ c.of.result _ simple.reference simple.e simple.d
+          (c.of.ensures ∙ c.in-Ok.ensures ∙ ap (points_with_mask mask) (numbers ∙ sym (entries_of-simple s5 s7 c.requires.template))),
+    )
