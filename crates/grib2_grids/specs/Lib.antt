@@ -1,1 +1,3 @@
 pub mod Grid
+pub mod Spelled
+pub mod Refused

@@ -1,2 +1,11 @@
 //! Grids: Section 3 of edition 2.
 #![tactic(auto)]
+
+mod grid;
+mod octets;
+mod reading;
+mod rows;
+mod templates;
+
+pub use grid::{Grid, GridFault, GridSection};
+pub use templates::{Gaussian, Lambert, LatLon, Mercator, Polar, Rotation};
