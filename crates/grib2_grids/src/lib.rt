@@ -4,6 +4,7 @@
 mod grid;
 mod octets;
 mod reading;
+mod row_list;
 mod rows;
 mod templates;
 
