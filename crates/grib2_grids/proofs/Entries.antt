@@ -10,7 +10,7 @@ use Rattle.grib_bits.proofs.OctetNumbers.{big_number-rest, octets-lt}
 pub octets-lt_32 : (s : List ℕ) (first size : ℕ) → AreOctets s → 1 ≤ first → 1 ≤ size → size ≤ 4 → first + size ≤ length s + 1 → octets s first (first + size - 1) < 2 ^ 32
 octets-lt_32 s first size known counted some word within =
     let below = octets-lt s first (first + size - 1) size known counted (omega arith) (omega arith) in
-    let power : 2 ^ (8 * size) ≤ 2 ^ 32 = pow_mono (omega arith) in
+    let power : 2 ^ (8 * size) ≤ 2 ^ 32 = let short : 8 * size ≤ 32 = omega arith in pow_mono short in
     omega arith
 
 -- as `read_uint` gives it
