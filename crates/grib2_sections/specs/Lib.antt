@@ -3,3 +3,4 @@ pub mod Verdict
 pub mod Head
 pub mod Frame
 pub mod Identification
+pub mod Encoding

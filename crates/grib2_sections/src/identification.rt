@@ -1,11 +1,14 @@
 //! Section 1, the identification section.
 
-ghost use Rattle.std.specs.Prelude.{◌≡◌, ◌≤◌, Some, None, MatchResult};
+ghost use Rattle.std.specs.Prelude.{◌≡◌, ℕ, ◌%◌, ◌≤◌, List, length, Some, None, MatchResult};
 ghost use Rattle.grib_bits.specs.Octets.{StatesItself};
 ghost use Rattle.grib_io.specs.Rows.{first_fault_at};
+ghost use Rattle.grib2_sections.specs.Encoding.{AddsOctets};
 ghost use Rattle.grib2_sections.specs.Identification.{identification_rows, Spelled};
 
+use crate::number::{write_u8, write_u16, write_u32};
 use byteorder::{BigEndian, ByteOrder};
+use grib_bits::BitWriter;
 use grib_io::{Fault, Reason, Section};
 
 /// What Section 1 says of a message (WMO-No. 306, Volume I.2, FM 92 GRIB edition 2, Section 1).
@@ -67,4 +70,28 @@ pub fn read_identification(section: &Section<'_>) -> Result<Identification, Faul
         status: octets[19],
         data_type: octets[20],
     })
+}
+
+/// Writes a whole Section 1 of 21 octets that has these numbers.
+pub fn write_identification(value: &Identification, out: &mut BitWriter)
+    requires whole { length out.old.bits % 8 ≡ 0 }
+    requires room { 168 ≤ out.old.spare }
+    ensures { (section : List ℕ) × StatesItself 1 section × (length section ≡ 21)
+        × Spelled value.now section × AddsOctets out.old out.new section }
+{
+    write_u32(21, out);
+    write_u8(1, out);
+    write_u16(value.centre, out);
+    write_u16(value.sub_centre, out);
+    write_u8(value.master, out);
+    write_u8(value.local, out);
+    write_u8(value.significance, out);
+    write_u16(value.year, out);
+    write_u8(value.month, out);
+    write_u8(value.day, out);
+    write_u8(value.hour, out);
+    write_u8(value.minute, out);
+    write_u8(value.second, out);
+    write_u8(value.status, out);
+    write_u8(value.data_type, out);
 }

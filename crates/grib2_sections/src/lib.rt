@@ -3,6 +3,8 @@
 
 mod identification;
 mod indicator;
+mod number;
 
-pub use identification::{Identification, read_identification};
+pub use identification::{Identification, read_identification, write_identification};
 pub use indicator::{Head, read_head};
+pub use number::{write_number, write_u8, write_u16, write_u32};
