@@ -1,3 +1,4 @@
 pub mod Grid
 pub mod Spelled
 pub mod Refused
+pub mod Whole

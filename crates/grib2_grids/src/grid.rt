@@ -2,6 +2,7 @@
 
 use crate::{Gaussian, Lambert, LatLon, Mercator, Polar, Rotation};
 use grib_io::{Fault, List};
+use std::alloc::AllocError;
 
 /// A grid by its template.
 #[derive(Clone, Copy, Debug, PartialEq, Eq)]
@@ -44,4 +45,26 @@ pub enum GridFault {
     Refused(Fault),
     /// There is no memory for the list of rows.
     Memory,
+}
+
+impl From<Fault> for GridFault {
+    ghost use Rattle.std.specs.Prelude.{◌≡◌};
+    ghost use Rattle.grib2_grids.specs.declared.grid.GridFault.TheVariants.{Refused};
+
+    ghost from_gives = { λ fault refused. refused ≡ Refused fault };
+
+    fn from(fault: Fault) -> GridFault {
+        GridFault::Refused(fault)
+    }
+}
+
+impl From<AllocError> for GridFault {
+    ghost use Rattle.std.specs.Prelude.{◌≡◌};
+    ghost use Rattle.grib2_grids.specs.declared.grid.GridFault.TheVariants.{Memory};
+
+    ghost from_gives = { λ _ fault. fault ≡ Memory };
+
+    fn from(_: AllocError) -> GridFault {
+        GridFault::Memory
+    }
 }

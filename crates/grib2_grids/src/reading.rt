@@ -1,11 +1,68 @@
 //! Reading Section 3.
 
-ghost use Rattle.std.specs.Prelude.{◌≡◌, ◌≤◌, length};
-ghost use Rattle.grib2_grids.specs.Spelled.{SpelledCommon, SpelledLatLon, SpelledRotation, SpelledMercator, SpelledPolar, SpelledLambert, SpelledGaussian};
+ghost use Rattle.std.specs.Prelude.{◌≡◌, ◌≢◌, ◌≤◌, length, Some, None, Err, MatchResult};
+ghost use Rattle.grib_bits.specs.Octets.{octets as octets_of, StatesItself};
+ghost use Rattle.grib_io.specs.Rows.{first_fault_at};
+ghost use Rattle.grib2_grids.specs.Grid.{grid_rows, list_octets};
+ghost use Rattle.grib2_grids.specs.Whole.{IsWhole};
+ghost use Rattle.grib2_grids.specs.Refused.{IsRefusal};
+ghost use Rattle.grib2_grids.specs.Spelled.{Spelled, SpelledTemplate, template_of, SpelledCommon, SpelledLatLon, SpelledRotation, SpelledMercator, SpelledPolar, SpelledLambert, SpelledGaussian};
 
-use crate::octets::{u8_at, u32_at};
+use crate::octets::{u8_at, u16_at, u32_at};
+use crate::row_list::read_list;
+use crate::rows::{check_head, check_list, check_points};
 use crate::templates::Common;
-use crate::{Gaussian, Lambert, LatLon, Mercator, Polar, Rotation};
+use crate::{Gaussian, Grid, GridFault, GridSection, Lambert, LatLon, Mercator, Polar, Rotation};
+use grib_io::{List, Section};
+use std::alloc::Global;
+
+/// Reads Section 3.
+///
+/// # Errors
+///
+/// The first row of the profile that fails: the section is too short, or has a grid that the profile
+/// does not have, a list of rows of another shape, or another number of points than it states. Or
+/// there is no memory for the list of rows, where there is one.
+pub fn read_grid(alloc: Global, section: &Section<'_>) -> Result<GridSection, GridFault>
+    requires itself { StatesItself section.now.number section.now.octets.now }
+    requires low { 1 ≤ section.now.start }
+    requires high { section.now.start ≤ 268435456 }
+    ensures rows { MatchResult result
+        (λ value. (first_fault_at section.now.start (grid_rows section.now.octets.now) ≡ None)
+        × Spelled value section.now.octets.now)
+        (λ fault. IsRefusal fault
+            (first_fault_at section.now.start (grid_rows section.now.octets.now))) }
+    ensures memory { list_octets section.now.octets.now ≡ 0 → result ≢ Err GridFault.Memory }
+{
+    let octets = section.octets;
+    check_head(section)?;
+    check_list(section)?;
+    let rows = read_list(alloc, octets)?;
+    check_points(section, rows.as_slice())?;
+    Ok(GridSection {
+        points: u32_at(octets, 7),
+        list_octets: u8_at(octets, 11),
+        list_meaning: u8_at(octets, 12),
+        rows: List::of(rows),
+        grid: read_template(octets),
+    })
+}
+
+/// The template, by its number in octets 13-14.
+fn read_template(octets: &[u8]) -> Grid
+    requires { IsWhole octets.now }
+    ensures template { template_of result ≡ octets_of octets.now 13 14 }
+    ensures octets { SpelledTemplate result octets.now }
+{
+    match u16_at(octets, 13) {
+        0 => Grid::LatLon(read_lat_lon(octets)),
+        1 => Grid::Rotated(read_lat_lon(octets), read_rotation(octets)),
+        10 => Grid::Mercator(read_mercator(octets)),
+        20 => Grid::Polar(read_polar(octets)),
+        30 => Grid::Lambert(read_lambert(octets)),
+        _ => Grid::Gaussian(read_gaussian(octets)),
+    }
+}
 
 /// A template of this type: what all templates share, and its own numbers.
 macro_rules! template {

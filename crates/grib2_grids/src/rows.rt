@@ -1,11 +1,12 @@
 //! The rows of the profile that decide whether Section 3 is accepted.
 
-ghost use Rattle.std.specs.Prelude.{◌≡◌, ◌+◌, ◌-◌, ◌*◌, ◌<◌, ◌≤◌, ◌^◌, ◌==◌, true, false, if◌then◌else◌, length, take, drop, sum, Some, None, MatchResult, MatchOption};
+ghost use Rattle.std.specs.Prelude.{◌≡◌, ◌+◌, ◌-◌, ◌*◌, ◌<◌, ◌≤◌, ◌^◌, ◌==◌, true, false, if◌then◌else◌, length, take, drop, sum, Some, None, MatchResult, MatchOption, OnOk};
 ghost use Rattle.grib_io.specs.Rows as rows;
 ghost use Rattle.grib_io.specs.Rows.{first_fault, first_fault_at, fault_at};
 ghost use Rattle.grib2_sections.specs.Template.{is_template, least_length as least_of};
 ghost use Rattle.grib2_grids.specs.Grid as grid;
 ghost use Rattle.grib2_grids.specs.Grid.{grid_rows, grid_templates, row_list};
+ghost use Rattle.grib2_grids.specs.Whole.{IsWhole, HasList};
 
 use crate::octets::{u8_at, u16_at, u32_at};
 use grib_io::{Fault, Reason, Section};
@@ -50,10 +51,11 @@ pub(crate) fn list_start(template: u16) -> usize
 pub(crate) fn check_head(section: &Section<'_>) -> Result<(), Fault>
     requires low { 1 ≤ section.now.start }
     requires high { section.now.start ≤ 268435456 }
-    ensures { MatchResult result
+    ensures rows { MatchResult result
         (λ _. first_fault (take 5 (grid_rows section.now.octets.now)) ≡ None)
         (λ fault. first_fault_at section.now.start (take 5 (grid_rows section.now.octets.now))
             ≡ Some fault) }
+    ensures template { OnOk result (IsWhole section.now.octets.now) }
 {
     let octets = section.octets;
     let length = octets.len();
@@ -82,10 +84,11 @@ pub(crate) fn check_head(section: &Section<'_>) -> Result<(), Fault>
 pub(crate) fn check_list(section: &Section<'_>) -> Result<(), Fault>
     requires high { section.now.start ≤ 268435456 }
     requires long { 65 ≤ length section.now.octets.now }
-    ensures { MatchResult result
+    ensures rows { MatchResult result
         (λ _. first_fault (take 4 (drop 5 (grid_rows section.now.octets.now))) ≡ None)
         (λ fault. first_fault_at section.now.start
             (take 4 (drop 5 (grid_rows section.now.octets.now))) ≡ Some fault) }
+    ensures list { OnOk result (HasList section.now.octets.now) }
 {
     let octets = section.octets;
     let size = u8_at(octets, 11);
