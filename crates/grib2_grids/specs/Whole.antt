@@ -1,10 +1,11 @@
 -- What the rows of Section 3 tell of a section's length.
 use Rattle.std.specs.Prelude.{◌≡◌, ℕ, ◌+◌, ◌-◌, ◌*◌, ◌<◌, ◌≤◌, true, List, length}
 use Rattle.grib2_sections.specs.Template.{is_template, least_length}
-use Rattle.grib2_grids.specs.Grid.{grid_templates, grid_template, list_octets, list_start, nj}
+use Rattle.grib2_grids.specs.Grid.{grid_templates, grid_source, grid_template, list_octets, list_start, nj}
 
--- the section has a template of the profile, as a whole
+-- the section has a grid by a template of the profile, as a whole
 pub record IsWhole (s : List ℕ) : Type 0 where
+  pub source : grid_source s ≡ 0
   pub known : is_template grid_templates (grid_template s) ≡ true
   pub long : least_length grid_templates (grid_template s) ≤ length s
   pub least : 65 ≤ length s
