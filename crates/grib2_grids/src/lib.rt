@@ -7,6 +7,7 @@ mod reading;
 mod row_list;
 mod rows;
 mod templates;
+mod writing;
 
 pub use grid::{Grid, GridFault, GridSection};
 pub use templates::{Gaussian, Lambert, LatLon, Mercator, Polar, Rotation};
