@@ -1,9 +1,10 @@
 -- The values of Section 3, each with its octets (WMO-No. 306, Volume I.2, FM 92 GRIB edition 2, Section 3 and
 -- grid definition templates 3.0, 3.1, 3.10, 3.20, 3.30 and 3.40).
-use Rattle.std.specs.Prelude.{◌≡◌, ℕ, ◌+◌, ◌*◌, List, length}
-use Rattle.grib_bits.specs.Octets.{octets}
+use Rattle.std.specs.Prelude.{◌≡◌, ℕ, ◌+◌, ◌*◌, ◌<◌, List, All, length, None}
+use Rattle.grib_bits.specs.Octets.{octets, StatesItself}
+use Rattle.grib_io.specs.Rows.{first_fault}
 use Rattle.grib2_sections.specs.Template.{least_length}
-use Rattle.grib2_grids.specs.Grid.{grid_templates, row_list}
+use Rattle.grib2_grids.specs.Grid.{grid_templates, grid_rows, row_list}
 use Rattle.grib2_grids.specs.declared.templates.LatLon.{LatLon}
 use Rattle.grib2_grids.specs.declared.templates.Rotation.{Rotation}
 use Rattle.grib2_grids.specs.declared.templates.Mercator.{Mercator}
@@ -131,6 +132,13 @@ pub record Spelled (value : GridSection) (s : List ℕ) : Type 0 where
   pub template : template_of value.grid ≡ octets s 13 14
   pub grid : SpelledTemplate value.grid s
   pub rows : value.rows ≡ row_list s
+
+-- Octets that are a Section 3 which no row of the profile refuses, and of which the value has the numbers.
+pub record IsSectionOf (value : GridSection) (s : List ℕ) : Type 0 where
+  pub small : All (λ octet. octet < 256) s
+  pub itself : StatesItself 3 s
+  pub rows : first_fault (grid_rows s) ≡ None
+  pub spelled : Spelled value s
 
 -- the length of a section that has its template and its list, and no more
 abbrev pub written_length : GridSection → ℕ

@@ -1,5 +1,6 @@
 -- The octets of Section 3 as they are written, part after part.
-use Rattle.std.specs.Prelude.{ℕ, List, [], ◌∷◌, ◌++◌}
+use Rattle.std.specs.Prelude.{◌≡◌, ℕ, List, [], ◌∷◌, ◌++◌}
+use Rattle.grib_bits.specs.Octets.{octets}
 use Rattle.grib2_sections.specs.Encoding.{octets_of}
 use Rattle.grib2_grids.specs.declared.templates.LatLon.{LatLon}
 use Rattle.grib2_grids.specs.declared.templates.Rotation.{Rotation}
@@ -15,6 +16,15 @@ abbrev pub header : ℕ → ℕ → ℕ → ℕ → ℕ → List ℕ
 header l points list_octets list_meaning template =
     octets_of 4 l ++ octets_of 1 3 ++ octets_of 1 0 ++ octets_of 4 points ++ octets_of 1 list_octets
     ++ octets_of 1 list_meaning ++ octets_of 2 template
+
+pub record SpelledHeader (l points list_octets list_meaning template : ℕ) (s : List ℕ) : Type 0 where
+  pub length_octets : l ≡ octets s 1 4
+  pub number_octets : 3 ≡ octets s 5 5
+  pub source_octets : 0 ≡ octets s 6 6
+  pub points_octets : points ≡ octets s 7 10
+  pub list_octets_octets : list_octets ≡ octets s 11 11
+  pub list_meaning_octets : list_meaning ≡ octets s 12 12
+  pub template_number : template ≡ octets s 13 14
 
 -- octets 15-38
 abbrev pub common_octets : ℕ → ℕ → ℕ → ℕ → ℕ → ℕ → ℕ → ℕ → ℕ → List ℕ

@@ -10,4 +10,6 @@ mod templates;
 mod writing;
 
 pub use grid::{Grid, GridFault, GridSection};
+pub use reading::read_grid;
 pub use templates::{Gaussian, Lambert, LatLon, Mercator, Polar, Rotation};
+pub use writing::write_grid;

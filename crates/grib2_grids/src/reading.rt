@@ -11,7 +11,7 @@ ghost use Rattle.grib2_grids.specs.Spelled.{Spelled, SpelledTemplate, template_o
 use crate::octets::{u8_at, u16_at, u32_at};
 use crate::row_list::read_list;
 use crate::rows::{check_head, check_list, check_points};
-use crate::templates::Common;
+use crate::templates::{Common, template};
 use crate::{Gaussian, Grid, GridFault, GridSection, Lambert, LatLon, Mercator, Polar, Rotation};
 use grib_io::{List, Section};
 use std::alloc::Global;
@@ -62,24 +62,6 @@ fn read_template(octets: &[u8]) -> Grid
         30 => Grid::Lambert(read_lambert(octets)),
         _ => Grid::Gaussian(read_gaussian(octets)),
     }
-}
-
-/// A template of this type: what all templates share, and its own numbers.
-macro_rules! template {
-    ($template:ident, $common:ident, { $($field:ident: $value:expr),* $(,)? }) => {
-        $template {
-            shape: $common.shape,
-            radius_scale: $common.radius_scale,
-            radius: $common.radius,
-            major_scale: $common.major_scale,
-            major: $common.major,
-            minor_scale: $common.minor_scale,
-            minor: $common.minor,
-            ni: $common.ni,
-            nj: $common.nj,
-            $($field: $value,)*
-        }
-    };
 }
 
 /// Octets 15 to 38, which all templates share.

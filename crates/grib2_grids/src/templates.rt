@@ -247,3 +247,42 @@ pub(crate) struct Common {
     pub(crate) ni: u32,
     pub(crate) nj: u32,
 }
+
+/// A template of this type: what all templates share, and its own numbers.
+macro_rules! template {
+    ($template:ident, $common:ident, { $($field:ident: $value:expr),* $(,)? }) => {
+        $template {
+            shape: $common.shape,
+            radius_scale: $common.radius_scale,
+            radius: $common.radius,
+            major_scale: $common.major_scale,
+            major: $common.major,
+            minor_scale: $common.minor_scale,
+            minor: $common.minor,
+            ni: $common.ni,
+            nj: $common.nj,
+            $($field: $value,)*
+        }
+    };
+}
+
+pub(crate) use template;
+
+/// What all templates share, of a template.
+macro_rules! common_of {
+    ($template:ident) => {
+        Common {
+            shape: $template.shape,
+            radius_scale: $template.radius_scale,
+            radius: $template.radius,
+            major_scale: $template.major_scale,
+            major: $template.major,
+            minor_scale: $template.minor_scale,
+            minor: $template.minor,
+            ni: $template.ni,
+            nj: $template.nj,
+        }
+    };
+}
+
+pub(crate) use common_of;
