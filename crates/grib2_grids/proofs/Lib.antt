@@ -1,4 +1,6 @@
 pub mod Entries
 pub mod Lists
 pub mod Parts
+pub mod Passing
+pub mod Readable
 pub mod Variants

@@ -1,5 +1,5 @@
 -- Lemmas on the list of rows.
-use Rattle.std.proofs.Common.{◌≡◌, ℕ, zero, suc, ◌+◌, ◌-◌, ◌*◌, ◌/◌, ◌<◌, ◌≤◌, min, List, length, map, eqb, false, cond, sym, ap, ap₂, refl, ◌∙◌, arith}
+use Rattle.std.proofs.Common.{◌≡◌, ℕ, zero, suc, ◌+◌, ◌-◌, ◌*◌, ◌/◌, ◌<◌, ◌≤◌, min, List, [], length, map, eqb, false, cond, sym, ap, ap₂, refl, ◌∙◌, arith}
 use Rattle.std.proofs.Math.Nat.{le-div_iff_mul-le}
 use Rattle.std.proofs.lemmas.Bool.Decides.{nat_tests}
 use Rattle.std.specs.List.{range_with_len}
@@ -17,7 +17,7 @@ stand l f size count some counted within =
 entries : (l f size count : ℕ) → 0 < size → count ≤ (l + 1 - f) / size → cond (eqb size 0) 0 (min count ((l + 1 - f) / size)) ≡ count
 entries l f size count some enough = grind (arith, nat_tests)
 
-list_start-some : (s : List ℕ) → 1 ≤ list_start s
+pub list_start-some : (s : List ℕ) → 1 ≤ list_start s
 list_start-some s = grind (arith, nat_tests)
 
 -- a list that the section has as a whole has Nj entries
@@ -29,3 +29,8 @@ row_list-whole s f size count has is_start is_size is_count some =
     let Entries : ℕ → ℕ → ℕ → List ℕ = λ f size count. map (entry_at s f size) (range_with_len 0 count) in
     ap (λ (n : ℕ). Entries f size n) is_count ∙ ap₂ (λ (f size : ℕ). Entries f size (nj s)) is_start is_size
     ∙ ap (λ (n : ℕ). Entries (list_start s) (list_octets s) n) (sym (entries (length s) (list_start s) (list_octets s) (nj s) listed enough))
+
+-- where octet 11 is 0 there is no list
+pub row_list-none : (s : List ℕ) → list_octets s ≡ 0 → row_list s ≡ []
+row_list-none s none =
+    ap (λ (size : ℕ). map (entry_at s (list_start s) size) (range_with_len 0 (cond (eqb size 0) 0 (min (nj s) ((length s + 1 - list_start s) / size))))) none
