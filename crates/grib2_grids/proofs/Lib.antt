@@ -3,4 +3,5 @@ pub mod Lists
 pub mod Parts
 pub mod Passing
 pub mod Readable
+pub mod Rebuilt
 pub mod Variants

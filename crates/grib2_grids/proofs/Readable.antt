@@ -1,19 +1,17 @@
 -- What is known of a value that a section has which passes the rows.
-use Rattle.std.proofs.Common.{◌≡◌, ℕ, zero, suc, ◌+◌, ◌-◌, ◌*◌, ◌/◌, ◌^◌, ◌<◌, ◌≤◌, Bool, true, false, eqb, cond, min, List, [], ◌∷◌, ◌++◌, length, map, get_or, All, refl, sym, ap, ap₂, ◌∙◌, arith, subst, inl, inr}
+use Rattle.std.proofs.Common.{◌≡◌, ℕ, ◌+◌, ◌-◌, ◌*◌, ◌^◌, ◌<◌, ◌≤◌, true, eqb, cond, List, [], length, get_or, All, refl, sym, ap, ap₂, ◌∙◌, arith, subst, inl, inr}
 use Rattle.std.proofs.Math.Nat.{mul-le-mul_right}
 use Rattle.std.proofs.lemmas.Bool.{cases_lt}
 use Rattle.std.proofs.lemmas.Bool.Decides.{nat_tests}
 use Rattle.std.proofs.lemmas.List.{get_or_past}
 use Rattle.std.proofs.lemmas.List.Elements.{All-get_or}
 use Rattle.std.proofs.lemmas.List.FromFn.{length-map-range_with_len, get_or-map-range_with_len}
-use Rattle.std.specs.List.{range_with_len}
-use Rattle.grib_bits.specs.Octets.{octets}
 use Rattle.grib_bits.proofs.OctetBits.{AreOctets}
 use Rattle.grib_bits.proofs.OctetNumbers.{octets-lt}
 use Rattle.grib2_sections.specs.Template.{least_length}
-use Rattle.grib2_grids.specs.Grid.{grid_rows, grid_templates, grid_template, list_octets, list_start, nj, row_list, may_have_list}
+use Rattle.grib2_grids.specs.Grid.{grid_rows, grid_templates, grid_template, list_octets, list_start, nj, may_have_list}
 use Rattle.grib2_grids.specs.Whole.{HasList}
-use Rattle.grib2_grids.specs.Spelled.{IsSectionOf, template_of, written_length}
+use Rattle.grib2_grids.specs.Spelled.{IsSectionOf, written_length}
 use Rattle.grib2_grids.specs.declared.grid.GridSection.{GridSection}
 use Rattle.grib2_sections.proofs.Octets.{pow_256}
 use Rattle.grib2_grids.proofs.Entries.{entry_at, entry_within}
@@ -27,7 +25,7 @@ AreOctets-from_All s h i = elim (cases_lt i (length s)) [
 ]
 
 -- the templates that may have a list end where it begins
-list_start-least : (t : ℕ) → may_have_list t ≡ true → least_length grid_templates t + 1 ≡ cond (eqb t 1) 85 73
+pub list_start-least : (t : ℕ) → may_have_list t ≡ true → least_length grid_templates t + 1 ≡ cond (eqb t 1) 85 73
 list_start-least t h = grind (arith, nat_tests)
 
 module _ (value : GridSection) (s : List ℕ) (is : IsSectionOf value s) where
@@ -103,4 +101,18 @@ module _ (value : GridSection) (s : List ℕ) (is : IsSectionOf value s) where
       omega arith
     | inr none ↦
       let empty = ap length (no_rows value s is (omega arith)) in absurd (omega arith)
+  ]
+
+module _ (value : GridSection) (s : List ℕ) (is : IsSectionOf value s) where
+  pub listed-lt : value.list_octets * length value.rows < 2 ^ 32
+  listed-lt = omega (arith, within value s is, length-lt value s is)
+
+  -- there are fewer rows than octets
+  pub rows-lt : length value.rows < 2 ^ 32
+  rows-lt = elim (cases_lt 0 (list_octets s)) as (λ _. length value.rows < 2 ^ 32) [
+    | inl some ↦
+      let more : 1 * length value.rows ≤ value.list_octets * length value.rows = mul-le-mul_right (length value.rows) (omega (arith, is.spelled.list_octets)) in
+      omega (arith, within value s is, length-lt value s is)
+    | inr none ↦
+      let empty = ap length (no_rows value s is (omega arith)) in omega arith
   ]

@@ -23,10 +23,11 @@ pub fn write_grid(value: &GridSection, out: &mut BitWriter)
         × (length section ≡ written_length value.now) × AddsOctets out.old out.new section }
 {
     let rows = value.rows.as_slice();
-    let listed = u32::from(value.list_octets) * rows.len() as u32;
-    write_header(template_length(&value.grid) + listed, value, out);
+    let size = u32::from(value.list_octets);
+    let length = template_length(&value.grid) + size * rows.len() as u32;
+    write_header(length, value, out);
     write_template(&value.grid, out);
-    write_rows(rows, u32::from(value.list_octets), out);
+    write_rows(rows, size, out);
 }
 
 /// The least length of a section with this template, in octets.

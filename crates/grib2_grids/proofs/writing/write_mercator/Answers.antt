@@ -1,5 +1,5 @@
 -- The octets of the numbers, one after another.
-use Rattle.std.proofs.Common.{◌≡◌, ℕ, List, ◌++◌, sym}
+use Rattle.std.proofs.Common.{◌++◌, sym}
 use Rattle.grib2_sections.specs.Encoding.{octets_of}
 use Rattle.grib2_sections.proofs.Octets.{AddsOctets-append}
 use Rattle.grib2_grids.proofs.writing.write_mercator.Goals as goal

@@ -1,5 +1,5 @@
 -- The template is that of the arm.
-use Rattle.std.proofs.Common.{ℕ, List, ◌++◌}
+use Rattle.std.proofs.Common.{◌++◌}
 use Rattle.grib2_sections.proofs.Octets.{AddsOctets-append}
 use Rattle.grib2_grids.specs.Written.{rotation_octets}
 use Rattle.grib2_grids.proofs.Variants.{octets_of_variant, spelled_by_variant}
