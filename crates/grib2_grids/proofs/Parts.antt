@@ -42,3 +42,8 @@ pub refused : {V : Type 0} (P : V → Type 0) (r : Result V GridFault) (fault : 
     → MatchResult r P (λ e. IsRefusal e first)
 refused P (Ok v) fault first h is = absurd h
 refused P (Err e) fault first h is = let Refusal : GridFault → Type 0 = λ e. IsRefusal e first in subst Refusal (sym h) is
+
+-- no refusal of a section is none of the message
+pub none-from_located : (start : ℕ) (o : Option Fault) → located start o ≡ None → o ≡ None
+none-from_located start None h = refl
+none-from_located start (Some fault) h = cc

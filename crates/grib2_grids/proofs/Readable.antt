@@ -4,19 +4,23 @@ use Rattle.std.proofs.Math.Nat.{mul-le-mul_right}
 use Rattle.std.proofs.lemmas.Bool.{cases_lt}
 use Rattle.std.proofs.lemmas.Bool.Decides.{nat_tests}
 use Rattle.std.proofs.lemmas.List.{get_or_past}
-use Rattle.std.proofs.lemmas.List.Elements.{All-get_or}
+use Rattle.std.proofs.lemmas.List.Elements.{All-get_or, All-from_get_or}
 use Rattle.std.proofs.lemmas.List.FromFn.{length-map-range_with_len, get_or-map-range_with_len}
 use Rattle.grib_bits.proofs.OctetBits.{AreOctets}
 use Rattle.grib_bits.proofs.OctetNumbers.{octets-lt}
 use Rattle.grib2_sections.specs.Template.{least_length}
 use Rattle.grib2_grids.specs.Grid.{grid_rows, grid_templates, grid_template, list_octets, list_start, nj, may_have_list}
 use Rattle.grib2_grids.specs.Whole.{HasList}
-use Rattle.grib2_grids.specs.Spelled.{IsSectionOf, written_length}
+use Rattle.grib2_grids.specs.Spelled.{IsSectionOf, Spelled, written_length}
 use Rattle.grib2_grids.specs.declared.grid.GridSection.{GridSection}
 use Rattle.grib2_sections.proofs.Octets.{pow_256}
 use Rattle.grib2_grids.proofs.Entries.{entry_at, entry_within}
 use Rattle.grib2_grids.proofs.Lists.{row_list-whole, row_list-none, list_start-some}
 use Rattle.grib2_grids.proofs.Passing.{AllPass-from_none, le-from_test, at_most, listed_test, or_right, not_false}
+use Rattle.std.specs.Prelude.{None}
+use Rattle.grib_bits.specs.Octets.{StatesItself}
+use Rattle.grib_io.specs.Rows.{first_fault, first_fault_at}
+use Rattle.grib2_grids.proofs.Parts.{none-from_located}
 
 pub AreOctets-from_All : (s : List ℕ) → All (λ (x : ℕ). x < 256) s → AreOctets s
 AreOctets-from_All s h i = elim (cases_lt i (length s)) [
@@ -116,3 +120,12 @@ module _ (value : GridSection) (s : List ℕ) (is : IsSectionOf value s) where
     | inr none ↦
       let empty = ap length (no_rows value s is (omega arith)) in omega arith
   ]
+
+-- what `read_grid` answers for octets is what they are a section of
+pub IsSectionOf-read : (start : ℕ) (value : GridSection) (s : List ℕ) → AreOctets s → StatesItself 3 s → first_fault_at start (grid_rows s) ≡ None → Spelled value s → IsSectionOf value s
+IsSectionOf-read start value s octets itself rows spelled = record {
+  small = All-from_get_or (λ (x : ℕ). x < 256) s 0 (λ i below. octets i);
+  itself = itself;
+  rows = none-from_located start (first_fault (grid_rows s)) rows;
+  spelled = spelled;
+}
