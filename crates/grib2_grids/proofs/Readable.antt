@@ -72,12 +72,12 @@ module _ (value : GridSection) (s : List ℕ) (is : IsSectionOf value s) where
       let template = ap (least_length grid_templates) is.spelled.template in
       elim (cases_lt 0 (list_octets s)) as (λ _. written_length value ≤ length s) [
         | inl some ↦
-          let listed = ap₂ ◌*◌ is.spelled.list_octets (row_count value s is some) in
-          let start = list_start-least (grid_template s) (with_list value s is some) in
-          omega (arith, (has_list value s is).long some)
+            let listed = ap₂ ◌*◌ is.spelled.list_octets (row_count value s is some) in
+            let start = list_start-least (grid_template s) (with_list value s is some) in
+            omega (arith, (has_list value s is).long some)
         | inr none ↦
-          let listed = ap (λ (rows : List ℕ). value.list_octets * length rows) (no_rows value s is (omega arith)) in
-          omega (arith, least value s is)
+            let listed = ap (λ (rows : List ℕ). value.list_octets * length rows) (no_rows value s is (omega arith)) in
+            omega (arith, least value s is)
       ]
 
   pub length-lt : length s < 2 ^ 32
@@ -89,22 +89,22 @@ module _ (value : GridSection) (s : List ℕ) (is : IsSectionOf value s) where
   pub row-lt : (k : ℕ) → k < length value.rows → get_or value.rows k 0 < 256 ^ value.list_octets
   row-lt k below = elim (cases_lt 0 (list_octets s)) as (λ _. get_or value.rows k 0 < 256 ^ value.list_octets) [
     | inl some ↦
-      let f = list_start s in
-      let size = list_octets s in
-      let count = row_count value s is some in
-      let list = row_list-whole s f size (nj s) (has_list value s is) refl refl refl some in
-      let here : get_or value.rows k 0 ≡ entry_at s f size k =
-      ap (λ (rows : List ℕ). get_or rows k 0) (is.spelled.rows ∙ sym list)
-      ∙ get_or-map-range_with_len (entry_at s f size) 0 (nj s) k k 0 (omega arith) (omega arith) in
-      let start = list_start-some s in
-      let long = (has_list value s is).long some in
-      let ends = entry_within k (nj s) size (omega arith) in
-      let fits : entry_at s f size k < 2 ^ (8 * size) =
-      octets-lt s (f + k * size) (f + k * size + size - 1) size (known value s is) (omega arith) (omega arith) (omega arith) in
-      let power : 256 ^ value.list_octets ≡ 2 ^ (8 * size) = ap (λ (n : ℕ). 256 ^ n) is.spelled.list_octets ∙ pow_256 size in
-      omega arith
+        let f = list_start s in
+        let size = list_octets s in
+        let count = row_count value s is some in
+        let list = row_list-whole s f size (nj s) (has_list value s is) refl refl refl some in
+        let here : get_or value.rows k 0 ≡ entry_at s f size k =
+        ap (λ (rows : List ℕ). get_or rows k 0) (is.spelled.rows ∙ sym list)
+        ∙ get_or-map-range_with_len (entry_at s f size) 0 (nj s) k k 0 (omega arith) (omega arith) in
+        let start = list_start-some s in
+        let long = (has_list value s is).long some in
+        let ends = entry_within k (nj s) size (omega arith) in
+        let fits : entry_at s f size k < 2 ^ (8 * size) =
+        octets-lt s (f + k * size) (f + k * size + size - 1) size (known value s is) (omega arith) (omega arith) (omega arith) in
+        let power : 256 ^ value.list_octets ≡ 2 ^ (8 * size) = ap (λ (n : ℕ). 256 ^ n) is.spelled.list_octets ∙ pow_256 size in
+        omega arith
     | inr none ↦
-      let empty = ap length (no_rows value s is (omega arith)) in absurd (omega arith)
+        let empty = ap length (no_rows value s is (omega arith)) in absurd (omega arith)
   ]
 
 module _ (value : GridSection) (s : List ℕ) (is : IsSectionOf value s) where
@@ -115,10 +115,10 @@ module _ (value : GridSection) (s : List ℕ) (is : IsSectionOf value s) where
   pub rows-lt : length value.rows < 2 ^ 32
   rows-lt = elim (cases_lt 0 (list_octets s)) as (λ _. length value.rows < 2 ^ 32) [
     | inl some ↦
-      let more : 1 * length value.rows ≤ value.list_octets * length value.rows = mul-le-mul_right (length value.rows) (omega (arith, is.spelled.list_octets)) in
-      omega (arith, within value s is, length-lt value s is)
+        let more : 1 * length value.rows ≤ value.list_octets * length value.rows = mul-le-mul_right (length value.rows) (omega (arith, is.spelled.list_octets)) in
+        omega (arith, within value s is, length-lt value s is)
     | inr none ↦
-      let empty = ap length (no_rows value s is (omega arith)) in omega arith
+        let empty = ap length (no_rows value s is (omega arith)) in omega arith
   ]
 
 -- what `read_grid` answers for octets is what they are a section of

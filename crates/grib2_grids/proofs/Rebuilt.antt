@@ -84,21 +84,42 @@ module _ (value : GridSection) (s new : List ℕ) (old : Spelled value s) (again
       let list : row_list new ≡ row_list s = sym again.rows ∙ old.rows in
       let Enough : ℕ → Type 0 = λ t. least_length grid_templates t ≤ length new in
       let enough = subst Enough (sym template) long in
-      none_from-AllPass (grid_rows new)
-      (test-from_le (length new) 14 short,
-      (ap (λ (n : ℕ). not (eqb n 0)) source ∙ rows.1.0,
-      (ap (λ (n : ℕ). not (is_template grid_templates n)) template ∙ rows.1.1.0,
-      (test-from_le (length new) (least_length grid_templates (grid_template new)) enough,
-      (ap (λ (n : ℕ). eqb n 0 || nat_lt 33554432 n) points ∙ rows.1.1.1.1.0,
-      (ap₂ (λ (n m : ℕ). not (eqb n 0) && not (eqb m 1) && not (eqb m 2)) size meaning ∙ rows.1.1.1.1.1.0,
-      (ap₂ (λ (n t : ℕ). nat_lt 4 n || (not (eqb n 0) && not (may_have_list t))) size template ∙ rows.1.1.1.1.1.1.0,
-      (ap₂ (λ (n m : ℕ). not (eqb n 0) && (eqb m 0 || eqb m 4294967295)) size nj_same ∙ rows.1.1.1.1.1.1.1.0,
-      (test_listed (list_octets new) _ (λ some. test-from_le (length new) _ (listed some)),
-      (ap (λ (n : ℕ). not (eqb n 0) && not (eqb (sum (row_list new)) (grid_points new))) size
-      ∙ ap₂ (λ (xs : List ℕ) (n : ℕ). not (eqb (list_octets s) 0) && not (eqb (sum xs) n)) list points ∙ rows.1.1.1.1.1.1.1.1.1.0,
-      (ap₂ (λ (n m : ℕ). not (not (eqb n 0)) && not (eqb (ni new * nj new) m)) size points
-      ∙ ap₂ (λ (n m : ℕ). not (not (eqb (list_octets s) 0)) && not (eqb (n * m) (grid_points s))) ni_same nj_same ∙ rows.1.1.1.1.1.1.1.1.1.1.0,
-      tt)))))))))))
+      none_from-AllPass (grid_rows new) (
+        test-from_le (length new) 14 short,
+        (
+          ap (λ (n : ℕ). not (eqb n 0)) source ∙ rows.1.0,
+          (
+            ap (λ (n : ℕ). not (is_template grid_templates n)) template ∙ rows.1.1.0,
+            (
+              test-from_le (length new) (least_length grid_templates (grid_template new)) enough,
+              (
+                ap (λ (n : ℕ). eqb n 0 || nat_lt 33554432 n) points ∙ rows.1.1.1.1.0,
+                (
+                  ap₂ (λ (n m : ℕ). not (eqb n 0) && not (eqb m 1) && not (eqb m 2)) size meaning ∙ rows.1.1.1.1.1.0,
+                  (
+                    ap₂ (λ (n t : ℕ). nat_lt 4 n || (not (eqb n 0) && not (may_have_list t))) size template ∙ rows.1.1.1.1.1.1.0,
+                    (
+                      ap₂ (λ (n m : ℕ). not (eqb n 0) && (eqb m 0 || eqb m 4294967295)) size nj_same ∙ rows.1.1.1.1.1.1.1.0,
+                      (
+                        test_listed (list_octets new) _ (λ some. test-from_le (length new) _ (listed some)),
+                        (
+                          ap (λ (n : ℕ). not (eqb n 0) && not (eqb (sum (row_list new)) (grid_points new))) size
+                              ∙ ap₂ (λ (xs : List ℕ) (n : ℕ). not (eqb (list_octets s) 0) && not (eqb (sum xs) n)) list points ∙ rows.1.1.1.1.1.1.1.1.1.0,
+                          (
+                            ap₂ (λ (n m : ℕ). not (not (eqb n 0)) && not (eqb (ni new * nj new) m)) size points
+                                ∙ ap₂ (λ (n m : ℕ). not (not (eqb (list_octets s) 0)) && not (eqb (n * m) (grid_points s))) ni_same nj_same ∙ rows.1.1.1.1.1.1.1.1.1.1.0,
+                            tt,
+                          ),
+                        ),
+                      ),
+                    ),
+                  ),
+                ),
+              ),
+            ),
+          ),
+        ),
+      )
 
 -- ---- the section that is written
 
@@ -144,18 +165,18 @@ module _ (value : GridSection) (s : List ℕ) (is : IsSectionOf value s)
   list_new : value.rows ≡ row_list (section_of_value value)
   list_new = elim (cases_lt 0 (list_octets s)) as (λ _. value.rows ≡ row_list (section_of_value value)) [
     | inl some ↦
-      let new = section_of_value value in
-      let front = header (written_length value) value.points value.list_octets value.list_meaning (template_of value.grid) ++ template_octets value.grid in
-      let size = value.list_octets in
-      let some_octets : 1 ≤ size = omega (arith, is.spelled.list_octets) in
-      let count : length value.rows ≡ nj new = row_count value s is some ∙ sym nj_new in
-      let template = length-template_octets value.grid in
-      let place : list_start new ≡ length front + 1 = omega (arith, start_new some) in
-      fill_by_all (entry_at new (list_start new) size) value.rows (length value.rows) 0 refl
-      (λ k below. sym (entry_at-behind front size value.rows (list_start new) k place some_octets (row-lt value s is) below))
-      ∙ row_list-whole new (list_start new) size (length value.rows) has_list_new refl h.list_octets_octets count some_octets
+        let new = section_of_value value in
+        let front = header (written_length value) value.points value.list_octets value.list_meaning (template_of value.grid) ++ template_octets value.grid in
+        let size = value.list_octets in
+        let some_octets : 1 ≤ size = omega (arith, is.spelled.list_octets) in
+        let count : length value.rows ≡ nj new = row_count value s is some ∙ sym nj_new in
+        let template = length-template_octets value.grid in
+        let place : list_start new ≡ length front + 1 = omega (arith, start_new some) in
+        fill_by_all (entry_at new (list_start new) size) value.rows (length value.rows) 0 refl
+        (λ k below. sym (entry_at-behind front size value.rows (list_start new) k place some_octets (row-lt value s is) below))
+        ∙ row_list-whole new (list_start new) size (length value.rows) has_list_new refl h.list_octets_octets count some_octets
     | inr none ↦
-      no_rows value s is (omega arith) ∙ sym (row_list-none (section_of_value value) (omega (arith, size_new)))
+        no_rows value s is (omega arith) ∙ sym (row_list-none (section_of_value value) (omega (arith, size_new)))
   ]
 
   again : Spelled value (section_of_value value)
@@ -173,14 +194,16 @@ module _ (value : GridSection) (s : List ℕ) (is : IsSectionOf value s)
   rebuilt small =
       let long = length-new value s is in
       let template = length-template_octets value.grid in
-      let same = ap (least_length grid_templates) is.spelled.template in
-      (record {
-        small = small;
-        itself = record {
-          length_stands = sym h.length_octets ∙ sym long;
-          least = omega arith;
-          number_stands = sym h.number_octets;
-        };
-        rows = pass_again value s (section_of_value value) is.spelled again is.rows (omega arith) (omega arith) long_new;
-        spelled = again;
-      }, long)
+      let same = ap (least_length grid_templates) is.spelled.template in (
+        record {
+          small = small;
+          itself = record {
+            length_stands = sym h.length_octets ∙ sym long;
+            least = omega arith;
+            number_stands = sym h.number_octets;
+          };
+          rows = pass_again value s (section_of_value value) is.spelled again is.rows (omega arith) (omega arith) long_new;
+          spelled = again;
+        },
+        long,
+      )

@@ -59,10 +59,24 @@ polar_octets v =
 -- template 3.30 begins like template 3.20
 abbrev pub lambert_polar : Lambert → Polar
 lambert_polar v = record {
-  shape = v.shape; radius_scale = v.radius_scale; radius = v.radius; major_scale = v.major_scale; major = v.major;
-  minor_scale = v.minor_scale; minor = v.minor; ni = v.ni; nj = v.nj;
-  la1 = v.la1; lo1 = v.lo1; flags = v.flags; lad = v.lad; lov = v.lov; dx = v.dx; dy = v.dy;
-  centre = v.centre; scanning = v.scanning;
+  shape = v.shape;
+  radius_scale = v.radius_scale;
+  radius = v.radius;
+  major_scale = v.major_scale;
+  major = v.major;
+  minor_scale = v.minor_scale;
+  minor = v.minor;
+  ni = v.ni;
+  nj = v.nj;
+  la1 = v.la1;
+  lo1 = v.lo1;
+  flags = v.flags;
+  lad = v.lad;
+  lov = v.lov;
+  dx = v.dx;
+  dy = v.dy;
+  centre = v.centre;
+  scanning = v.scanning;
 }
 
 abbrev pub lambert_octets : Lambert → List ℕ
@@ -73,10 +87,25 @@ lambert_octets v =
 -- template 3.40 is template 3.0 with n in place of dj
 abbrev pub gaussian_lat_lon : Gaussian → LatLon
 gaussian_lat_lon v = record {
-  shape = v.shape; radius_scale = v.radius_scale; radius = v.radius; major_scale = v.major_scale; major = v.major;
-  minor_scale = v.minor_scale; minor = v.minor; ni = v.ni; nj = v.nj;
-  basic = v.basic; subdivisions = v.subdivisions; la1 = v.la1; lo1 = v.lo1; flags = v.flags; la2 = v.la2; lo2 = v.lo2;
-  di = v.di; dj = v.n; scanning = v.scanning;
+  shape = v.shape;
+  radius_scale = v.radius_scale;
+  radius = v.radius;
+  major_scale = v.major_scale;
+  major = v.major;
+  minor_scale = v.minor_scale;
+  minor = v.minor;
+  ni = v.ni;
+  nj = v.nj;
+  basic = v.basic;
+  subdivisions = v.subdivisions;
+  la1 = v.la1;
+  lo1 = v.lo1;
+  flags = v.flags;
+  la2 = v.la2;
+  lo2 = v.lo2;
+  di = v.di;
+  dj = v.n;
+  scanning = v.scanning;
 }
 
 abbrev pub template_octets : Grid → List ℕ

@@ -31,7 +31,7 @@ pub fn read_grid(alloc: Global, section: &Section<'_>) -> Result<GridSection, Gr
         (λ value. (first_fault_at section.now.start (grid_rows section.now.octets.now) ≡ None)
         × Spelled value section.now.octets.now)
         (λ fault. IsRefusal fault
-            (first_fault_at section.now.start (grid_rows section.now.octets.now))) }
+        (first_fault_at section.now.start (grid_rows section.now.octets.now))) }
     ensures memory { list_octets section.now.octets.now ≡ 0 → result ≢ Err GridFault.Memory }
 {
     let octets = section.octets;

@@ -40,7 +40,7 @@ fn read_rows(
     requires within { first - 1 + size * count ≤ length octets.now }
     ensures entries { IfOk result (λ rows. rows.items
         ≡ map (λ j. octets_of octets.now (first + j * size) (first + j * size + size - 1))
-            (range_with_len 0 count)) }
+        (range_with_len 0 count)) }
     ensures count { IfOk result (λ rows. vec_len rows ≡ count) }
 {
     let mut rows = Vec::with_capacity(alloc, count as usize)?;

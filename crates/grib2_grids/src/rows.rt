@@ -54,7 +54,7 @@ pub(crate) fn check_head(section: &Section<'_>) -> Result<(), Fault>
     ensures rows { MatchResult result
         (λ _. first_fault (take 5 (grid_rows section.now.octets.now)) ≡ None)
         (λ fault. first_fault_at section.now.start (take 5 (grid_rows section.now.octets.now))
-            ≡ Some fault) }
+        ≡ Some fault) }
     ensures template { OnOk result (IsWhole section.now.octets.now) }
 {
     let octets = section.octets;
@@ -87,7 +87,7 @@ pub(crate) fn check_list(section: &Section<'_>) -> Result<(), Fault>
     ensures rows { MatchResult result
         (λ _. first_fault (take 4 (drop 5 (grid_rows section.now.octets.now))) ≡ None)
         (λ fault. first_fault_at section.now.start
-            (take 4 (drop 5 (grid_rows section.now.octets.now))) ≡ Some fault) }
+        (take 4 (drop 5 (grid_rows section.now.octets.now))) ≡ Some fault) }
     ensures list { OnOk result (HasList section.now.octets.now) }
 {
     let octets = section.octets;
@@ -123,7 +123,7 @@ pub(crate) fn check_points(section: &Section<'_>, rows: &[u32]) -> Result<(), Fa
     ensures { MatchResult result
         (λ _. first_fault (drop 9 (grid_rows section.now.octets.now)) ≡ None)
         (λ fault. first_fault_at section.now.start (drop 9 (grid_rows section.now.octets.now))
-            ≡ Some fault) }
+        ≡ Some fault) }
 {
     let octets = section.octets;
     let points = u64::from(u32_at(octets, 7));

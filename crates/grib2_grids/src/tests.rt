@@ -243,7 +243,10 @@ fn a_worked_section_is_read(rt: HostRuntime) -> Result<(), Fail> {
     assert_eq!(rt; (grid.shape, grid.ni, grid.nj, grid.flags), (6, 2, 2, 0x30));
     assert_eq!(rt; (grid.la1, grid.lo1), (50_000_000, 10_000_000));
     assert_eq!(rt; (grid.la2, grid.lo2), (49_000_000, 11_000_000));
-    assert_eq!(rt; (grid.di, grid.dj, grid.scanning), (1_000_000, 1_000_000, 0));
+    assert_eq!(rt;
+        (grid.di, grid.dj, grid.scanning),
+        (1_000_000, 1_000_000, 0)
+    );
     Ok(())
 }
 
@@ -257,13 +260,22 @@ const REFUSED: [(u8, &[u8], &[u8], u64, Reason, u64); 10] = [
     (10, &[5, 1], &[], 48, Reason::ListShape, 5),
     (10, &[2, 1], &[0, 1, 0], 110, Reason::ListShape, 2),
     (10, &[2, 1, 0, 40], &[0, 1, 0, 2], 44, Reason::PointCount, 3),
-    (10, &[4, 1], &[0xff; 8], 44, Reason::PointCount, 8_589_934_590),
+    (
+        10,
+        &[4, 1],
+        &[0xff; 8],
+        44,
+        Reason::PointCount,
+        8_589_934_590,
+    ),
     (30, &[0, 0, 0, 3], &[], 44, Reason::PointCount, 6),
     (
         30,
         &[0xff; 8],
         &[],
-        44, Reason::PointCount, 18_446_744_065_119_617_025,
+        44,
+        Reason::PointCount,
+        18_446_744_065_119_617_025,
     ),
 ];
 

@@ -10,8 +10,8 @@ ghost use Rattle.grib2_grids.specs.Written.{header, SpelledHeader, template_octe
 
 use crate::templates::{Common, common_of, template};
 use crate::{Gaussian, Grid, GridSection, Lambert, LatLon, Mercator, Polar, Rotation};
-use grib2_sections::{write_number, write_u8, write_u16, write_u32};
 use grib_bits::BitWriter;
+use grib2_sections::{write_number, write_u8, write_u16, write_u32};
 
 /// Writes Section 3 without surplus, as the value was read: reading the octets gives the value again.
 /// The writer has the memory already.

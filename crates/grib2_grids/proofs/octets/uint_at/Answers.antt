@@ -9,7 +9,7 @@ overflow_cast-result c =
     let known = AreOctets-known s c.type_inv.octets in
     let same = big_number-size s c.args.first c.args.size known c.requires.counted c.requires.some c.requires.within in
     let below = octets-lt_32 s c.args.first c.args.size known c.requires.counted c.requires.some c.requires.word c.requires.within in
-    record { fits = subst (λ (n : ℕ). n < 2 ^ 32) (sym (c.read_uint.ensures ∙ same)) below; }
+    record { fits = subst (λ (n : ℕ). n < 2 ^ 32) (sym (c.read_uint.ensures ∙ same)) below }
 
 pub returns : goal.returns
 returns c =

@@ -20,14 +20,15 @@ returns-in_err-check_points-clause-rows c =
 pub returns-clause-rows : goal.returns-clause-rows
 returns-clause-rows c =
     let rows = grid_rows c.args.section.now.octets.now in
-    let start = c.args.section.now.start in
-    (third_decides start (take 5 rows) (take 4 (drop 5 rows)) (drop 9 rows) c.in_ok-check_head.ensures.rows c.in_ok-check_list.ensures.rows ∙ ap (located start) c.in_ok-check_points.ensures,
-    record {
-      source = sym c.in_ok-check_head.ensures.template.source;
-      points = c.u32_at.ensures;
-      list_octets = c.u8_at.ensures;
-      list_meaning = c.u8_at-2.ensures;
-      template = c.read_template.ensures.template;
-      grid = c.read_template.ensures.octets;
-      rows = c.of.ensures ∙ c.in_ok-rows.ensures.rows;
-    })
+    let start = c.args.section.now.start in (
+      third_decides start (take 5 rows) (take 4 (drop 5 rows)) (drop 9 rows) c.in_ok-check_head.ensures.rows c.in_ok-check_list.ensures.rows ∙ ap (located start) c.in_ok-check_points.ensures,
+      record {
+        source = sym c.in_ok-check_head.ensures.template.source;
+        points = c.u32_at.ensures;
+        list_octets = c.u8_at.ensures;
+        list_meaning = c.u8_at-2.ensures;
+        template = c.read_template.ensures.template;
+        grid = c.read_template.ensures.octets;
+        rows = c.of.ensures ∙ c.in_ok-rows.ensures.rows;
+      },
+    )

@@ -10,19 +10,19 @@ use Rattle.grib2_grids.proofs.writing.write_grid.Goals as goal
 pub overflow_cast-length : goal.overflow_cast-length
 overflow_cast-length c =
     let is = c.requires.readable in
-    record { fits = omega (arith, rows-lt c.args.value.now is.0 is.1, ap length c.as_slice-rows.ensures); }
+    record { fits = omega (arith, rows-lt c.args.value.now is.0 is.1, ap length c.as_slice-rows.ensures) }
 
 pub overflow_mul-length : goal.overflow_mul-length
 overflow_mul-length c =
     let is = c.requires.readable in
     let listed = ap₂ ◌*◌ c.from-size.ensures (ap length c.as_slice-rows.ensures) in
-    record { fits = omega (arith, listed-lt c.args.value.now is.0 is.1); }
+    record { fits = omega (arith, listed-lt c.args.value.now is.0 is.1) }
 
 pub overflow_add-length : goal.overflow_add-length
 overflow_add-length c =
     let is = c.requires.readable in
     let listed = ap₂ ◌*◌ c.from-size.ensures (ap length c.as_slice-rows.ensures) in
-    record { fits = omega (arith, within c.args.value.now is.0 is.1, length-lt c.args.value.now is.0 is.1, c.template_length.ensures); }
+    record { fits = omega (arith, within c.args.value.now is.0 is.1, length-lt c.args.value.now is.0 is.1, c.template_length.ensures) }
 
 pub write_rows-requires-clause-word : goal.write_rows-requires-clause-word
 write_rows-requires-clause-word c =

@@ -6,11 +6,11 @@ use Rattle.grib2_grids.proofs.writing.write_lambert.Goals as goal
 
 pub returns-clause-octets : goal.returns-clause-octets
 returns-clause-octets c = AddsOctets-append (AddsOctets-append (AddsOctets-append (AddsOctets-append
-      c.write_polar.ensures.octets
-      c.write_u32.ensures.octets)
-      c.write_u32-2.ensures.octets)
-      c.write_u32-3.ensures.octets)
-      c.write_u32-4.ensures.octets
+    c.write_polar.ensures.octets
+    c.write_u32.ensures.octets)
+    c.write_u32-2.ensures.octets)
+    c.write_u32-3.ensures.octets)
+    c.write_u32-4.ensures.octets
 
 pub returns-clause-spelled : goal.returns-clause-spelled
 returns-clause-spelled c = λ l points list_octets list_meaning template rest.

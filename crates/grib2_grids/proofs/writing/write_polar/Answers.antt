@@ -6,16 +6,16 @@ use Rattle.grib2_grids.proofs.writing.write_polar.Goals as goal
 
 pub returns-clause-octets : goal.returns-clause-octets
 returns-clause-octets c = AddsOctets-append (AddsOctets-append (AddsOctets-append (AddsOctets-append (AddsOctets-append (AddsOctets-append (AddsOctets-append (AddsOctets-append (AddsOctets-append
-      c.write_common.ensures.octets
-      c.write_u32.ensures.octets)
-      c.write_u32-2.ensures.octets)
-      c.write_u8.ensures.octets)
-      c.write_u32-3.ensures.octets)
-      c.write_u32-4.ensures.octets)
-      c.write_u32-5.ensures.octets)
-      c.write_u32-6.ensures.octets)
-      c.write_u8-2.ensures.octets)
-      c.write_u8-3.ensures.octets
+    c.write_common.ensures.octets
+    c.write_u32.ensures.octets)
+    c.write_u32-2.ensures.octets)
+    c.write_u8.ensures.octets)
+    c.write_u32-3.ensures.octets)
+    c.write_u32-4.ensures.octets)
+    c.write_u32-5.ensures.octets)
+    c.write_u32-6.ensures.octets)
+    c.write_u8-2.ensures.octets)
+    c.write_u8-3.ensures.octets
 
 pub returns-clause-spelled : goal.returns-clause-spelled
 returns-clause-spelled c = λ l points list_octets list_meaning template rest.

@@ -51,6 +51,7 @@ returns-in-Rotated-clause-octets c =
 
 pub returns-in-Rotated-clause-spelled : goal.returns-in-Rotated-clause-spelled
 returns-in-Rotated-clause-spelled c = λ l points list_octets list_meaning template rest.
-    spelled_by_variant _ _ c.in-Rotated.is l points list_octets list_meaning template rest
-    (c.write_lat_lon-in-Rotated.ensures.spelled l points list_octets list_meaning template (rotation_octets c.in-Rotated.rotation ++ rest),
-    c.write_rotation.ensures.spelled l points list_octets list_meaning template c.in-Rotated.lat_lon rest)
+    spelled_by_variant _ _ c.in-Rotated.is l points list_octets list_meaning template rest (
+      c.write_lat_lon-in-Rotated.ensures.spelled l points list_octets list_meaning template (rotation_octets c.in-Rotated.rotation ++ rest),
+      c.write_rotation.ensures.spelled l points list_octets list_meaning template c.in-Rotated.lat_lon rest,
+    )
