@@ -1,0 +1,7 @@
+pub mod Entries
+pub mod Lists
+pub mod Parts
+pub mod Passing
+pub mod Readable
+pub mod Rebuilt
+pub mod Variants

@@ -1,0 +1,5 @@
+pub mod Ranges
+pub mod Passing
+pub mod Readable
+pub mod Rebuilt
+pub mod Variants
