@@ -1,4 +1,9 @@
 //! Groups of complex packing.
 #![tactic(auto)]
 
-pub use grib_packing::Layout;
+mod coding;
+mod run;
+mod taker;
+
+pub use grib_packing::{Group, Layout};
+pub use taker::Taker;

@@ -1,0 +1,4 @@
+pub mod Plain
+pub mod Taken
+pub mod Coded
+pub mod Runs
