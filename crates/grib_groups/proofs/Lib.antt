@@ -2,3 +2,5 @@ pub mod Plain
 pub mod Taken
 pub mod Coded
 pub mod Runs
+pub mod Listed
+pub mod Moves

@@ -25,6 +25,7 @@ impl Coding {
         requires bits { layout.now.reference_bits ≤ 48 }
         ensures codes { (n : ℕ) → n < 2 ^ group.width → code_by result n ≡ code_of layout.now group n }
         ensures reference { result.reference ≡ group.reference }
+        ensures small { result.reference < 2 ^ 32 }
     {
         if group.width == 0 {
             return Coding::of_one(layout, group.reference);
@@ -42,6 +43,7 @@ impl Coding {
         requires bits { layout.now.reference_bits ≤ 48 }
         ensures codes { code_by result 0 ≡ code_of layout.now (record { reference = reference; width = 0; count = 0 }) 0 }
         ensures reference { result.reference ≡ reference }
+        ensures small { result.reference < 2 ^ 32 }
     {
         let top = 1u64 << layout.reference_bits;
         let reference = u64::from(reference);

@@ -1,0 +1,41 @@
+-- Lemmas on the groups of three lists.
+use Rattle.std.proofs.Common.{◌≡◌, ℕ, zero, suc, ◌+◌, ◌<◌, ◌≤◌, ◌^◌, List, [], ◌∷◌, length, drop, get_or, vec_len, refl, sym, ap, ◌∙◌, arith}
+use Rattle.std.specs.List.{All}
+use Rattle.std.proofs.lemmas.List.{drop_all}
+use Rattle.std.proofs.lemmas.List.Elements.{All-get_or}
+use Rattle.grib_packing.specs.declared.group.Group.{Group}
+use Rattle.grib_packing.specs.Groups.{groups_from}
+use Rattle.grib_groups.specs.declared.table.Table.{Table}
+use Rattle.grib_groups.specs.Table.{groups_in, group_at, IsWhole, IsNarrow}
+use Rattle.grib_groups.specs.Going.{IsReadable}
+
+drop-groups_from : (i : ℕ) (rs ws ns : List ℕ) → i < length rs → i < length ws → i < length ns
+    → drop i (groups_from rs ws ns) ≡ record { reference = get_or rs i 0; width = get_or ws i 0; count = get_or ns i 0 } ∷ drop (suc i) (groups_from rs ws ns)
+drop-groups_from i [] ws ns in_rs in_ws in_ns = absurd (omega arith)
+drop-groups_from i (r ∷ rs) [] ns in_rs in_ws in_ns = absurd (omega arith)
+drop-groups_from i (r ∷ rs) (w ∷ ws) [] in_rs in_ws in_ns = absurd (omega arith)
+drop-groups_from zero (r ∷ rs) (w ∷ ws) (n ∷ ns) in_rs in_ws in_ns = refl
+drop-groups_from (suc i) (r ∷ rs) (w ∷ ws) (n ∷ ns) in_rs in_ws in_ns = drop-groups_from i rs ws ns (omega arith) (omega arith) (omega arith)
+
+length-groups_from : (rs ws ns : List ℕ) → length (groups_from rs ws ns) ≤ length ns
+length-groups_from [] ws ns = omega arith
+length-groups_from (r ∷ rs) [] ns = omega arith
+length-groups_from (r ∷ rs) (w ∷ ws) [] = omega arith
+length-groups_from (r ∷ rs) (w ∷ ws) (n ∷ ns) = omega (arith, length-groups_from rs ws ns)
+
+module _ (table : Table) (whole : IsWhole table) where
+  -- the groups from one on
+  pub groups_from_index : (i : ℕ) → i < vec_len table.lengths → drop i (groups_in table) ≡ group_at table i ∷ drop (i + 1) (groups_in table)
+  groups_from_index i within =
+      let next : suc i ≡ i + 1 = omega arith in
+      drop-groups_from i table.references.items table.widths.items table.lengths.items (omega (arith, whole.references, table.references.ok.0, table.lengths.ok.0)) (omega (arith, whole.widths, table.widths.ok.0, table.lengths.ok.0)) (omega (arith, table.lengths.ok.0))
+      ∙ ap (λ (k : ℕ). group_at table i ∷ drop k (groups_in table)) next
+
+  -- none from the last on
+  pub no_groups : (i : ℕ) → vec_len table.lengths ≤ i → drop i (groups_in table) ≡ []
+  no_groups i past =
+      drop_all i (groups_in table) (omega (arith, length-groups_from table.references.items table.widths.items table.lengths.items, table.lengths.ok.0))
+
+  pub narrow_at : (i : ℕ) → IsNarrow table → i < vec_len table.lengths → get_or table.widths.items i 0 ≤ 32
+  narrow_at i narrow within =
+      All-get_or (λ (w : ℕ). w ≤ 32) table.widths.items i 0 (omega (arith, whole.widths, table.widths.ok.0)) narrow
