@@ -4,3 +4,5 @@ pub mod Coded
 pub mod Runs
 pub mod Listed
 pub mod Moves
+pub mod Places
+pub mod Listing

@@ -1,0 +1,63 @@
+-- What is read of the three lists of groups.
+use Rattle.std.specs.Prelude.{◌≡◌, ℕ, ◌+◌, ◌*◌, ◌<◌, ◌≤◌, List, [], ◌∷◌, ◌++◌, length, map, nat_lt, sum, vec_capacity}
+use Rattle.std.specs.List.{All}
+use Rattle.grib_io.specs.declared.code.Code.{Code}
+use Rattle.grib_io.specs.Rows.{first_place}
+use Rattle.grib_packing.specs.Groups.{first_past}
+use Rattle.grib_groups.specs.declared.lists.References.{References}
+use Rattle.grib_groups.specs.declared.lists.Widths.{Widths}
+use Rattle.grib_groups.specs.declared.lists.Lengths.{Lengths}
+use Rattle.grib_groups.specs.Taking.{number_of}
+
+-- A list that has memory for so many items was added to.
+pub record Grown {X : Type 0} (before : List X) (memory : ℕ) (added : List X) (after : List X) (memory_after : ℕ) : Type 0 where
+  pub items : after ≡ before ++ added
+  pub capacity : memory ≤ memory_after
+
+abbrev pub ReferencesTook : References → List Code → References → Type 0
+ReferencesTook before codes after =
+    length before.items.items + length codes ≤ vec_capacity before.items
+    → Grown before.items.items (vec_capacity before.items) (map number_of codes) after.items.items (vec_capacity after.items)
+
+-- These widths were read: they are kept, or the first of them that is over 32 is known.
+pub record WidthsAre (widths : Widths) (read : List ℕ) : Type 0 where
+  pub long : length widths.items.items ≡ length read
+  pub items : widths.too_wide ≡ 0 → widths.items.items ≡ read
+  pub place : widths.too_wide ≡ first_place (λ width. nat_lt 32 width) read
+  pub narrow : All (λ width. width ≤ 32) widths.items.items
+
+abbrev pub coded_widths : ℕ → List Code → List ℕ
+coded_widths reference codes = map (λ code. reference + number_of code) codes
+
+pub record WidthsTook (before : Widths) (codes : List Code) (after : Widths) : Type 0 where
+  pub reference : after.reference ≡ before.reference
+  pub capacity : vec_capacity before.items ≤ vec_capacity after.items
+  pub read : (read : List ℕ) → length read + length codes ≤ vec_capacity before.items → WidthsAre before read → WidthsAre after (read ++ coded_widths before.reference codes)
+
+-- These lengths were read, where the field has this many values: they are kept, or the first group that
+-- takes their sum past the values is known.
+pub record LengthsAre (values : ℕ) (lengths : Lengths) (read : List ℕ) : Type 0 where
+  pub long : length lengths.items.items ≡ length read
+  pub items : lengths.past ≡ 0 → lengths.items.items ≡ read
+  pub rest : lengths.past ≡ 0 → sum read + lengths.rest ≡ values
+  pub so_far : lengths.past ≡ 0 → (more : List ℕ) → first_past values 0 (read ++ more) ≡ first_past lengths.rest (length read) more
+  pub over : 0 < lengths.past → values < sum read
+  pub past : 0 < lengths.past → (more : List ℕ) → first_past values 0 (read ++ more) ≡ lengths.past
+
+abbrev pub coded_lengths_by : ℕ → ℕ → List Code → List ℕ
+coded_lengths_by reference increment codes = map (λ code. reference + increment * number_of code) codes
+
+-- the parts that all lengths are read with stay
+pub record SameCoding (before after : Lengths) : Type 0 where
+  pub reference : after.reference ≡ before.reference
+  pub increment : after.increment ≡ before.increment
+  pub capacity : vec_capacity before.items ≤ vec_capacity after.items
+
+pub record LengthAdded (before : Lengths) (added : ℕ) (after : Lengths) : Type 0 where
+  pub same : SameCoding before after
+  pub read : (values : ℕ) (read : List ℕ) → length read + 1 ≤ vec_capacity before.items → LengthsAre values before read → LengthsAre values after (read ++ added ∷ [])
+
+pub record LengthsTook (before : Lengths) (codes : List Code) (after : Lengths) : Type 0 where
+  pub same : SameCoding before after
+  pub read : (values : ℕ) (read : List ℕ) → length read + length codes ≤ vec_capacity before.items → LengthsAre values before read
+      → LengthsAre values after (read ++ coded_lengths_by before.reference before.increment codes)
