@@ -6,3 +6,5 @@ pub mod Listed
 pub mod Moves
 pub mod Places
 pub mod Listing
+pub mod Reading
+pub mod Faults

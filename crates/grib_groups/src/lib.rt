@@ -9,7 +9,7 @@ mod table;
 mod taker;
 
 pub use grib_packing::{Group, Layout};
-pub use lists::{Lengths, References, Widths};
+pub use lists::{Lengths, Lists, References, Widths, lists_fit, octets_of, octets_of_lists, plain_layout};
 pub use numbers::Numbers;
 pub use table::Table;
 pub use taker::Taker;
