@@ -2,11 +2,12 @@
 use Rattle.std.proofs.Common.{◌≡◌, ℕ, ◌+◌, ◌*◌, ◌≤◌, List, [], ◌∷◌, ◌++◌, length, map, vec_capacity, refl, sym, ap, ap₂, ◌∙◌, arith, append_assoc, subst}
 use Rattle.std.proofs.lemmas.List.{append-nil, map-append, length-append, length-map}
 use Rattle.grib_io.specs.declared.code.Code.{Code}
+use Rattle.grib_groups.specs.declared.decoding.Codes.{Codes}
 use Rattle.grib_groups.specs.declared.lists.References.{References}
 use Rattle.grib_groups.specs.declared.lists.Widths.{Widths}
 use Rattle.grib_groups.specs.declared.lists.Lengths.{Lengths}
 use Rattle.grib_groups.specs.Taking.{number_of}
-use Rattle.grib_groups.specs.Lists.{Grown, ReferencesTook, WidthsAre, WidthsTook, coded_widths, LengthsAre, LengthsTook, SameCoding, coded_lengths_by}
+use Rattle.grib_groups.specs.Lists.{Grown, CodesTook, ReferencesTook, WidthsAre, WidthsTook, coded_widths, LengthsAre, LengthsTook, SameCoding, coded_lengths_by}
 
 -- ---- a list that grows
 
@@ -33,6 +34,14 @@ pub references-more : (before between after : References) (codes more_codes : Li
     → ReferencesTook before (codes ++ more_codes) after
 references-more before between after codes more_codes first second =
     grown_more number_of before.items.items between.items.items after.items.items (vec_capacity before.items) (vec_capacity between.items) (vec_capacity after.items) codes more_codes first second
+
+pub codes-none : (taker : Codes) → CodesTook taker [] taker
+codes-none taker = λ room. grown_none (λ (code : Code). code) taker.items.items (vec_capacity taker.items)
+
+pub codes-more : (before between after : Codes) (codes more_codes : List Code) → CodesTook before codes between → CodesTook between more_codes after
+    → CodesTook before (codes ++ more_codes) after
+codes-more before between after codes more_codes first second =
+    grown_more (λ (code : Code). code) before.items.items between.items.items after.items.items (vec_capacity before.items) (vec_capacity between.items) (vec_capacity after.items) codes more_codes first second
 
 -- ---- widths and lengths
 

@@ -2,12 +2,14 @@
 #![tactic(auto)]
 
 mod coding;
+mod decoding;
 mod lists;
 mod numbers;
 mod run;
 mod table;
 mod taker;
 
+pub use decoding::decode_groups;
 pub use grib_packing::{Group, Layout};
 pub use lists::{Lengths, Lists, References, Widths, lists_fit, octets_of, octets_of_lists, plain_layout};
 pub use numbers::Numbers;
