@@ -31,13 +31,13 @@ pub plain_code : (layout : Layout) (width count n : ℕ) → layout.management �
 plain_code layout width count n none below =
     ap (λ (m : ℕ). cond (eqb width 0) (marked m 0 (2 ^ layout.reference_bits) (Present 0)) (marked m n (2 ^ width) (Present (0 + n)))) none
     ∙ elim (cases_eq width 0) [
-    | inl is_zero ↦
-      let one : 2 ^ width ≡ 1 = ap (λ (w : ℕ). 2 ^ w) is_zero in
-      let nothing : 0 ≡ n = omega arith in
-      cond-true (eqb width 0) (Present 0) (Present (0 + n)) (eq-eqb width 0 is_zero) ∙ ap Present nothing
-    | inr some ↦
-      let same : 0 + n ≡ n = omega arith in
-      cond-false (eqb width 0) (Present 0) (Present (0 + n)) (ne_eqb width 0 some) ∙ ap Present same
+      | inl is_zero ↦
+          let one : 2 ^ width ≡ 1 = ap (λ (w : ℕ). 2 ^ w) is_zero in
+          let nothing : 0 ≡ n = omega arith in
+          cond-true (eqb width 0) (Present 0) (Present (0 + n)) (eq-eqb width 0 is_zero) ∙ ap Present nothing
+      | inr some ↦
+          let same : 0 + n ≡ n = omega arith in
+          cond-false (eqb width 0) (Present 0) (Present (0 + n)) (ne_eqb width 0 some) ∙ ap Present same
     ]
 
 pub numbers_present : (ns : List ℕ) → map number_of (map Present ns) ≡ ns

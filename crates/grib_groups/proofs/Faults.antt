@@ -87,6 +87,6 @@ groups_are layout skip l values lists table references widths lengths are fit is
     let not_past : lists.lengths.past ≡ 0 = elim (cases_lt 0 lists.lengths.past) [
       | inl past ↦ absurd (omega (arith, are.lengths_are.over past, fit.right))
       | inr none ↦ omega arith
-      ] in
+    ] in
     ap₂ (λ (rs ws : List ℕ). groups_from rs ws table.lengths.items) (ap (λ v. v.items) is_references ∙ are.references_are) (ap (λ v. v.items) is_widths ∙ are.widths_are.items (are.widths_are.place ∙ fit.narrow))
     ∙ ap (groups_from references widths) (ap (λ v. v.items) is_lengths ∙ are.lengths_are.items not_past)

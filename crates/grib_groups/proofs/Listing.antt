@@ -28,34 +28,34 @@ width_more before after read width noted are is_items is_noted is_wide =
     let narrow = subst (λ (xs : List ℕ). All (λ (w : ℕ). w ≤ 32) xs) (sym is_items) (All-push (λ (w : ℕ). w ≤ 32) before.items.items (min width 32) are.narrow (omega arith)) in
     let place_is = is_wide ∙ is_noted in
     elim (cases_lt 0 before.too_wide) [
-    | inl some ↦
-      let wide : after.too_wide ≡ before.too_wide = place_is ∙ noted_before before.too_wide (length before.items.items + 1) (ltb 32 width) some in
-      record {
-        long = long;
-        items = λ none. absurd (omega arith);
-        place = wide ∙ are.place ∙ sym (place_before test read width (omega (arith, are.place)));
-        narrow = narrow;
-      }
-    | inr no_earlier ↦
-      let none : before.too_wide ≡ 0 = omega arith in
-      let noted_is = place_is ∙ noted_here before.too_wide (length before.items.items + 1) (ltb 32 width) none in
-      elim (cases_lt 32 width) [
-      | inl over ↦
-        let wide : after.too_wide ≡ length before.items.items + 1 = noted_is ∙ cond-true (ltb 32 width) (length before.items.items + 1) 0 (lt-ltb 32 width over) in
-        record {
-          long = long;
-          items = λ nowhere. absurd (omega arith);
-          place = wide ∙ omega (arith, are.long, place_there test read width (sym are.place ∙ none) (lt-ltb 32 width over));
-          narrow = narrow;
-        }
-      | inr within ↦
-        let wide : after.too_wide ≡ 0 = noted_is ∙ cond-false (ltb 32 width) (length before.items.items + 1) 0 (le-ltb 32 width within) in
-        let kept : min width 32 ≡ width = omega arith in
-        record {
-          long = long;
-          items = λ nowhere. is_items ∙ ap₂ (λ xs x. xs ++ x ∷ []) (are.items none) kept;
-          place = wide ∙ sym (place_nowhere test read width (sym are.place ∙ none) (le-ltb 32 width within));
-          narrow = narrow;
-        }
-      ]
+      | inl some ↦
+          let wide : after.too_wide ≡ before.too_wide = place_is ∙ noted_before before.too_wide (length before.items.items + 1) (ltb 32 width) some in
+          record {
+            long = long;
+            items = λ none. absurd (omega arith);
+            place = wide ∙ are.place ∙ sym (place_before test read width (omega (arith, are.place)));
+            narrow = narrow;
+          }
+      | inr no_earlier ↦
+          let none : before.too_wide ≡ 0 = omega arith in
+          let noted_is = place_is ∙ noted_here before.too_wide (length before.items.items + 1) (ltb 32 width) none in
+          elim (cases_lt 32 width) [
+            | inl over ↦
+                let wide : after.too_wide ≡ length before.items.items + 1 = noted_is ∙ cond-true (ltb 32 width) (length before.items.items + 1) 0 (lt-ltb 32 width over) in
+                record {
+                  long = long;
+                  items = λ nowhere. absurd (omega arith);
+                  place = wide ∙ omega (arith, are.long, place_there test read width (sym are.place ∙ none) (lt-ltb 32 width over));
+                  narrow = narrow;
+                }
+            | inr within ↦
+                let wide : after.too_wide ≡ 0 = noted_is ∙ cond-false (ltb 32 width) (length before.items.items + 1) 0 (le-ltb 32 width within) in
+                let kept : min width 32 ≡ width = omega arith in
+                record {
+                  long = long;
+                  items = λ nowhere. is_items ∙ ap₂ (λ xs x. xs ++ x ∷ []) (are.items none) kept;
+                  place = wide ∙ sym (place_nowhere test read width (sym are.place ∙ none) (le-ltb 32 width within));
+                  narrow = narrow;
+                }
+          ]
     ]

@@ -71,7 +71,7 @@ module _ {S : Type 0} (took : S → List Code → S → Type 0) (layout : Layout
       let one : code ≡ code_of layout group (plain_at bits group.width 0) =
       is_code ∙ ap (code_of layout group) (is_number ∙ ap (λ (k : ℕ). num (take group.width (drop k bits))) (sym nowhere)) in
       let first = went_run group groups bits 0 1 (group.count - 1) group.width before after (omega arith) (omega (arith, length-append pending piece)) (omega arith)
-        (subst (λ (c : Code). took before (c ∷ []) after) one passed) in
+      (subst (λ (c : Code). took before (c ∷ []) after) one passed) in
       subst (λ (bs : List Bool). Went took layout (group ∷ groups) bits before (record group { count = group.count - 1 } ∷ groups) bs after) (rest_across pending piece missing group.width parts) first
 
 module _ {S : Type 0} (took : S → List Code → S → Type 0) (none : (taker : S) → took taker [] taker)

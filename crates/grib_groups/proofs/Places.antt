@@ -32,8 +32,8 @@ module _ {X : Type 0} (pass : X → Bool) where
   prefix_all (x ∷ xs) ys all =
       let rest = prefix_all xs ys in
       elim (pass x) as (λ b. suc (length xs) ≤ cond b (1 + prefix_len pass xs) 0 → cond b (1 + prefix_len pass (xs ++ ys)) 0 ≡ suc (length xs) + prefix_len pass ys) [
-      | true ↦ λ h. omega (arith, rest (omega arith))
-      | false ↦ λ h. absurd (omega arith)
+        | true ↦ λ h. omega (arith, rest (omega arith))
+        | false ↦ λ h. absurd (omega arith)
       ] all
 
   -- not all of them do
@@ -42,8 +42,8 @@ module _ {X : Type 0} (pass : X → Bool) where
   prefix_some (x ∷ xs) ys some =
       let rest = prefix_some xs ys in
       elim (pass x) as (λ b. cond b (1 + prefix_len pass xs) 0 < suc (length xs) → cond b (1 + prefix_len pass (xs ++ ys)) 0 ≡ cond b (1 + prefix_len pass xs) 0) [
-      | true ↦ λ h. omega (arith, rest (omega arith))
-      | false ↦ λ h. refl
+        | true ↦ λ h. omega (arith, rest (omega arith))
+        | false ↦ λ h. refl
       ] some
 
 module _ {X : Type 0} (test : X → Bool) (xs : List X) where

@@ -41,6 +41,6 @@ last_set f xs width count last some =
     let before = count - 1 in
     let whole : before + 1 ≡ count = omega arith in
     let all : map f (plain xs width count) ≡ map f (plain xs width before) ++ f (plain_at xs width before) ∷ [] =
-      ap (λ (n : ℕ). map f (plain xs width n)) (sym whole) ∙ ap (map f) (plain_more xs width before) ∙ map-append f (plain xs width before) (plain_at xs width before ∷ []) in
+    ap (λ (n : ℕ). map f (plain xs width n)) (sym whole) ∙ ap (map f) (plain_more xs width before) ∙ map-append f (plain xs width before) (plain_at xs width before ∷ []) in
     sym (ap (λ (ys : List ℕ). slice_set ys before last) all
-      ∙ set_at (map f (plain xs width before)) (f (plain_at xs width before)) [] last before (length-map (plain xs width before) f ∙ length-plain xs width before))
+    ∙ set_at (map f (plain xs width before)) (f (plain_at xs width before)) [] last before (length-map (plain xs width before) f ∙ length-plain xs width before))

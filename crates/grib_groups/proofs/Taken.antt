@@ -45,8 +45,8 @@ taken_then {layout} {groups} {left} {after} {bits} {rest} {last} {codes} {more_c
   agree = λ more. first.agree more ∙ ap (λ cs. codes ++ cs) (second.agree more) ∙ sym (append_assoc codes more_codes (codes_from layout after (last ++ more)));
   counted = omega (arith, length-append codes more_codes, first.counted, second.counted);
   used = λ some.
-    let here : 0 < values left = omega (arith, second.counted) in
-    omega (arith, first.used here, second.used some);
+      let here : 0 < values left = omega (arith, second.counted) in
+      omega (arith, first.used here, second.used some);
   ends = record {
     before = first.ends.before ++ second.ends.before;
     joined = append_assoc first.ends.before second.ends.before last ∙ ap (λ bs. first.ends.before ++ bs) second.ends.joined ∙ first.ends.joined;
@@ -58,9 +58,9 @@ pub taken_on : {layout : Layout} {groups left : List Group} {bits rest : List Bo
     → Taken layout groups bits codes left rest → Taken layout groups (bits ++ behind) codes left (rest ++ behind)
 taken_on {layout} {groups} {left} {bits} {rest} {codes} behind taken = record {
   agree = λ more.
-    ap (codes_from layout groups) (append_assoc bits behind more)
-    ∙ taken.agree (behind ++ more)
-    ∙ ap (λ bs. codes ++ codes_from layout left bs) (sym (append_assoc rest behind more));
+      ap (codes_from layout groups) (append_assoc bits behind more)
+      ∙ taken.agree (behind ++ more)
+      ∙ ap (λ bs. codes ++ codes_from layout left bs) (sym (append_assoc rest behind more));
   counted = taken.counted;
   used = λ some. omega (arith, length-append bits behind, length-append rest behind, taken.used some);
   ends = record {
@@ -80,17 +80,17 @@ module _ (layout : Layout) (group : Group) (groups : List Group) (bits : List Bo
       let product : group.count * w ≡ m * w + n * w = ap (λ (k : ℕ). k * w) parts ∙ add-mul m n w in
       record {
         agree = λ more.
-          let all = bits ++ more in
-          let behind : drop (w * m) all ≡ rest ++ more = drop-append-le (w * m) bits more within in
-          let split : plain all w (m + n) ≡ plain bits w m ++ plain (rest ++ more) w n =
-          plain-add all w m n ∙ ap₂ (λ xs ys. xs ++ plain ys w n) (plain-append bits more w m within) behind in
-          let place : w * (m + n) ≡ w * m + w * n = omega (arith, mul_comm w (m + n), add-mul m n w, mul_comm w m, mul_comm w n) in
-          let after : drop (w * (m + n)) all ≡ drop (w * n) (rest ++ more) =
-          ap (λ (k : ℕ). drop k all) place ∙ sym (drop-drop (w * n) (w * m) all) ∙ ap (drop (w * n)) behind in
-          ap (λ (k : ℕ). map code (plain all w k) ++ codes_from layout groups (drop (w * k) all)) parts
-          ∙ ap₂ (λ xs ys. map code xs ++ codes_from layout groups ys) split after
-          ∙ ap (λ cs. cs ++ codes_from layout groups (drop (w * n) (rest ++ more))) (map-append code (plain bits w m) (plain (rest ++ more) w n))
-          ∙ append_assoc (map code (plain bits w m)) (map code (plain (rest ++ more) w n)) (codes_from layout groups (drop (w * n) (rest ++ more)));
+            let all = bits ++ more in
+            let behind : drop (w * m) all ≡ rest ++ more = drop-append-le (w * m) bits more within in
+            let split : plain all w (m + n) ≡ plain bits w m ++ plain (rest ++ more) w n =
+            plain-add all w m n ∙ ap₂ (λ xs ys. xs ++ plain ys w n) (plain-append bits more w m within) behind in
+            let place : w * (m + n) ≡ w * m + w * n = omega (arith, mul_comm w (m + n), add-mul m n w, mul_comm w m, mul_comm w n) in
+            let after : drop (w * (m + n)) all ≡ drop (w * n) (rest ++ more) =
+            ap (λ (k : ℕ). drop k all) place ∙ sym (drop-drop (w * n) (w * m) all) ∙ ap (drop (w * n)) behind in
+            ap (λ (k : ℕ). map code (plain all w k) ++ codes_from layout groups (drop (w * k) all)) parts
+            ∙ ap₂ (λ xs ys. map code xs ++ codes_from layout groups ys) split after
+            ∙ ap (λ cs. cs ++ codes_from layout groups (drop (w * n) (rest ++ more))) (map-append code (plain bits w m) (plain (rest ++ more) w n))
+            ∙ append_assoc (map code (plain bits w m)) (map code (plain (rest ++ more) w n)) (codes_from layout groups (drop (w * n) (rest ++ more)));
         counted = omega (arith, parts, values-cons group groups, values-cons left groups, length-map (plain bits w m) code, length-plain bits w m);
         used = λ some. omega (arith, within, product, mul_comm w m, length-drop (w * m) bits, packed_bits-cons group groups, packed_bits-cons left groups);
         ends = record { before = take (w * m) bits; joined = take-append-drop (w * m) bits };
@@ -100,15 +100,15 @@ module _ (layout : Layout) (group : Group) (groups : List Group) (bits : List Bo
 pub taken_next : (layout : Layout) (group : Group) (groups : List Group) (bits : List Bool) → group.count ≡ 0 → Taken layout (group ∷ groups) bits [] groups bits
 taken_next layout group groups bits empty = record {
   agree = λ more.
-    let all = bits ++ more in
-    let nowhere : group.width * 0 ≡ 0 = omega arith in
-    ap (λ (k : ℕ). map (code_of layout group) (plain all group.width k) ++ codes_from layout groups (drop (group.width * k) all)) empty
-    ∙ ap (λ (k : ℕ). codes_from layout groups (drop k all)) nowhere;
+      let all = bits ++ more in
+      let nowhere : group.width * 0 ≡ 0 = omega arith in
+      ap (λ (k : ℕ). map (code_of layout group) (plain all group.width k) ++ codes_from layout groups (drop (group.width * k) all)) empty
+      ∙ ap (λ (k : ℕ). codes_from layout groups (drop k all)) nowhere;
   counted = omega (arith, empty, values-cons group groups);
   used = λ some.
-    let nowhere : group.width * 0 ≡ 0 = omega arith in
-    let none : group.count * group.width ≡ 0 = ap (λ (k : ℕ). k * group.width) empty ∙ mul_comm 0 group.width ∙ nowhere in
-    omega (arith, none, packed_bits-cons group groups);
+      let nowhere : group.width * 0 ≡ 0 = omega arith in
+      let none : group.count * group.width ≡ 0 = ap (λ (k : ℕ). k * group.width) empty ∙ mul_comm 0 group.width ∙ nowhere in
+      omega (arith, none, packed_bits-cons group groups);
   ends = record { before = []; joined = refl };
 }
 
@@ -128,11 +128,11 @@ pub taken_whole : {layout : Layout} {groups left : List Group} {bits rest : List
 taken_whole {layout} {groups} {left} {bits} {rest} {codes} taken enough short = elim (cases_lt 0 (values left)) [
   | inl some ↦ absurd (omega (arith, taken.used some, short some))
   | inr none ↦
-    let empty : values left ≡ 0 = omega arith in
-    sym (append-nil codes)
-    ∙ ap (λ cs. codes ++ cs) (sym (no_codes layout left (rest ++ []) empty))
-    ∙ sym (taken.agree [])
-    ∙ ap (codes_from layout groups) (append-nil bits)
+      let empty : values left ≡ 0 = omega arith in
+      sym (append-nil codes)
+      ∙ ap (λ cs. codes ++ cs) (sym (no_codes layout left (rest ++ []) empty))
+      ∙ sym (taken.agree [])
+      ∙ ap (codes_from layout groups) (append-nil bits)
 ]
 
 -- a group that has values and is wider than these bits

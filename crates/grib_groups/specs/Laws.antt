@@ -22,8 +22,8 @@ grown_more f before between after m n k codes more_codes first second room =
     let two = second (omega (arith, ap length one.items, length-append before (map f codes), length-map codes f, length-append codes more_codes, one.capacity)) in
     record {
       items =
-        two.items ∙ ap (λ xs. xs ++ map f more_codes) one.items ∙ append_assoc before (map f codes) (map f more_codes)
-        ∙ ap (λ xs. before ++ xs) (sym (map-append f codes more_codes));
+          two.items ∙ ap (λ xs. xs ++ map f more_codes) one.items ∙ append_assoc before (map f codes) (map f more_codes)
+          ∙ ap (λ xs. before ++ xs) (sym (map-append f codes more_codes));
       capacity = omega (arith, one.capacity, two.capacity);
     }
 
@@ -58,15 +58,15 @@ widths-more before between after codes more_codes first second = record {
   reference = second.reference ∙ first.reference;
   capacity = omega (arith, first.capacity, second.capacity);
   read = λ read room are.
-    let one = coded_widths before.reference codes in
-    let both : (read ++ one) ++ coded_widths between.reference more_codes ≡ read ++ coded_widths before.reference (codes ++ more_codes) =
+      let one = coded_widths before.reference codes in
+      let both : (read ++ one) ++ coded_widths between.reference more_codes ≡ read ++ coded_widths before.reference (codes ++ more_codes) =
       ap (λ (r : ℕ). (read ++ one) ++ coded_widths r more_codes) first.reference
       ∙ append_assoc read one (coded_widths before.reference more_codes)
       ∙ ap (λ xs. read ++ xs) (sym (map-append (λ (code : Code). before.reference + number_of code) codes more_codes)) in
-    let here = first.read read (omega (arith, length-append codes more_codes)) are in
-    let room_after : length (read ++ one) + length more_codes ≤ vec_capacity between.items =
+      let here = first.read read (omega (arith, length-append codes more_codes)) are in
+      let room_after : length (read ++ one) + length more_codes ≤ vec_capacity between.items =
       omega (arith, length-append read one, length-map codes (λ (code : Code). before.reference + number_of code), length-append codes more_codes, first.capacity) in
-    subst (λ (xs : List ℕ). WidthsAre after xs) both (second.read (read ++ one) room_after here);
+      subst (λ (xs : List ℕ). WidthsAre after xs) both (second.read (read ++ one) room_after here);
 }
 
 pub lengths-none : (taker : Lengths) → LengthsTook taker [] taker
@@ -84,14 +84,14 @@ lengths-more before between after codes more_codes first second = record {
     capacity = omega (arith, first.same.capacity, second.same.capacity);
   };
   read = λ values read room are.
-    let code_length = λ (code : Code). before.reference + before.increment * number_of code in
-    let one = map code_length codes in
-    let both : (read ++ one) ++ coded_lengths_by between.reference between.increment more_codes ≡ read ++ coded_lengths_by before.reference before.increment (codes ++ more_codes) =
+      let code_length = λ (code : Code). before.reference + before.increment * number_of code in
+      let one = map code_length codes in
+      let both : (read ++ one) ++ coded_lengths_by between.reference between.increment more_codes ≡ read ++ coded_lengths_by before.reference before.increment (codes ++ more_codes) =
       ap₂ (λ (r i : ℕ). (read ++ one) ++ coded_lengths_by r i more_codes) first.same.reference first.same.increment
       ∙ append_assoc read one (map code_length more_codes)
       ∙ ap (λ xs. read ++ xs) (sym (map-append code_length codes more_codes)) in
-    let here = first.read values read (omega (arith, length-append codes more_codes)) are in
-    let room_after : length (read ++ one) + length more_codes ≤ vec_capacity between.items =
+      let here = first.read values read (omega (arith, length-append codes more_codes)) are in
+      let room_after : length (read ++ one) + length more_codes ≤ vec_capacity between.items =
       omega (arith, length-append read one, length-map codes code_length, length-append codes more_codes, first.same.capacity) in
-    subst (λ (xs : List ℕ). LengthsAre values after xs) both (second.read values (read ++ one) room_after here);
+      subst (λ (xs : List ℕ). LengthsAre values after xs) both (second.read values (read ++ one) room_after here);
 }

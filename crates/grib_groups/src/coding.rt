@@ -33,8 +33,16 @@ impl Coding {
         let top = 1u64 << group.width;
         Coding {
             reference: u64::from(group.reference),
-            primary: if layout.management == 0 { u64::MAX } else { top - 1 },
-            secondary: if layout.management == 2 { top - 2 } else { u64::MAX },
+            primary: if layout.management == 0 {
+                u64::MAX
+            } else {
+                top - 1
+            },
+            secondary: if layout.management == 2 {
+                top - 2
+            } else {
+                u64::MAX
+            },
         }
     }
 
@@ -49,8 +57,16 @@ impl Coding {
         let reference = u64::from(reference);
         Coding {
             reference,
-            primary: if layout.management != 0 && reference + 1 == top { 0 } else { u64::MAX },
-            secondary: if layout.management == 2 && reference + 2 == top { 0 } else { u64::MAX },
+            primary: if layout.management != 0 && reference + 1 == top {
+                0
+            } else {
+                u64::MAX
+            },
+            secondary: if layout.management == 2 && reference + 2 == top {
+                0
+            } else {
+                u64::MAX
+            },
         }
     }
 

@@ -62,13 +62,7 @@ impl Numbers {
     }
 
     /// Takes the number of which the last `missing` bits begin the next octets.
-    fn take_across<T: Taker>(
-        &mut self,
-        layout: &Layout,
-        piece: &[u8],
-        missing: u32,
-        taker: T,
-    ) -> T
+    fn take_across<T: Taker>(&mut self, layout: &Layout, piece: &[u8], missing: u32, taker: T) -> T
         requires bits { layout.now.reference_bits ≤ 48 }
         requires readable { IsReadable T.limit self.old.current }
         requires count { 0 < self.old.current.count }
@@ -126,13 +120,7 @@ impl Numbers {
 
     /// Takes the numbers of the current group that fit.
     #[inline]
-    fn take_some<T: Taker>(
-        &mut self,
-        layout: &Layout,
-        piece: &[u8],
-        at: &mut u64,
-        taker: T,
-    ) -> T
+    fn take_some<T: Taker>(&mut self, layout: &Layout, piece: &[u8], at: &mut u64, taker: T) -> T
         requires bits { layout.now.reference_bits ≤ 48 }
         requires short { length piece.now < 2 ^ 32 }
         requires readable { IsReadable T.limit self.old.current }

@@ -36,7 +36,7 @@ module _ (layout : Layout) (section octets : List ℕ) (start skip count l : ℕ
         fit = fit;
         groups_in_table = groups_are layout skip (length section) count lists table rs ws ls are fit is_references is_widths is_lengths;
         value_count =
-          values-groups_from rs ws ls (are.reference_count ∙ sym are.length_count) (are.width_count ∙ sym are.length_count) ∙ fit.right;
+            values-groups_from rs ws ls (are.reference_count ∙ sym are.length_count) (are.width_count ∙ sym are.length_count) ∙ fit.right;
       }
 
 pub take_all-requires-clause-enough : goal.take_all-requires-clause-enough
@@ -47,9 +47,17 @@ take_all-requires-clause-enough c =
     let layout = c.args.layout.now in
     let none = sym (c.fault.ensures c.args.count _ _ _ c.ranges.count.fits c.in-Ok.ensures) ∙ c.in_default-fault.is in
     let known = read layout section octets c.args.section7.now.start c.args.skip c.args.count c.length_of-length.result c.in-Ok.lists c.into_table.result c.length_of-length.ensures c.in-Ok.ensures none
-      c.into_table.ensures.references c.into_table.ensures.widths c.into_table.ensures.lengths in
-    omega (arith, ap packed_bits known.groups_in_table, known.fit.enough, c.octets_of_lists.ensures.octets, length-take (length section - k) (drop k section), length-drop k section,
-      length-take (length octets - c.octets_of_lists.result) (drop c.octets_of_lists.result octets), length-drop c.octets_of_lists.result octets)
+    c.into_table.ensures.references c.into_table.ensures.widths c.into_table.ensures.lengths in
+    omega (
+      arith,
+      ap packed_bits known.groups_in_table,
+      known.fit.enough,
+      c.octets_of_lists.ensures.octets,
+      length-take (length section - k) (drop k section),
+      length-drop k section,
+      length-take (length octets - c.octets_of_lists.result) (drop c.octets_of_lists.result octets),
+      length-drop c.octets_of_lists.result octets,
+    )
 
 pub returns : goal.returns
 returns c =
@@ -60,7 +68,7 @@ returns c =
     let start = c.args.section7.now.start in
     let none = sym (c.fault.ensures c.args.count _ _ _ c.ranges.count.fits c.in-Ok.ensures) ∙ c.in_default-fault.is in
     let known = read layout section octets start c.args.skip c.args.count c.length_of-length.result c.in-Ok.lists c.into_table.result c.length_of-length.ensures c.in-Ok.ensures none
-      c.into_table.ensures.references c.into_table.ensures.widths c.into_table.ensures.lengths in
+    c.into_table.ensures.references c.into_table.ensures.widths c.into_table.ensures.lengths in
     let same : octets ≡ drop k section = take_rest section k in
     let table = c.into_table.result in
     let lists_end = c.octets_of_lists.result in
@@ -69,9 +77,9 @@ returns c =
     let memory = c.in-Ok-with_capacity.ensures in
     let count : length codes ≡ c.args.count = length-codes_from layout (groups_in table) (bits rest) ∙ ap values known.groups_in_table ∙ known.value_count in
     let grown = c.take_all.ensures (omega (arith, count, ap length memory.items, memory.exact)) in
-    let at_numbers : rest ≡ drop (list_octets layout) octets = take_rest octets lists_end ∙ ap (λ (n : ℕ). drop n octets) c.octets_of_lists.ensures.octets in
-    ( ap₂ (λ (ys : List ℕ) (l : ℕ). lists_fault layout start c.args.skip l c.args.count (references layout ys) (widths layout ys) (lengths layout ys)) (sym same) (sym c.length_of-length.ensures) ∙ none
-    , grown.items ∙ ap₂ (λ (xs ys : List Code). xs ++ ys) memory.items (map-id codes)
-      ∙ ap₂ (λ (gs : List Group) (ys : List ℕ). codes_from layout gs (bits ys)) known.groups_in_table at_numbers
-      ∙ ap (grouped layout) same
+    let at_numbers : rest ≡ drop (list_octets layout) octets = take_rest octets lists_end ∙ ap (λ (n : ℕ). drop n octets) c.octets_of_lists.ensures.octets in (
+      ap₂ (λ (ys : List ℕ) (l : ℕ). lists_fault layout start c.args.skip l c.args.count (references layout ys) (widths layout ys) (lengths layout ys)) (sym same) (sym c.length_of-length.ensures) ∙ none,
+      grown.items ∙ ap₂ (λ (xs ys : List Code). xs ++ ys) memory.items (map-id codes)
+          ∙ ap₂ (λ (gs : List Group) (ys : List ℕ). codes_from layout gs (bits ys)) known.groups_in_table at_numbers
+          ∙ ap (grouped layout) same,
     )

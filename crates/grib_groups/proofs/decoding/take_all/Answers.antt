@@ -24,7 +24,7 @@ returns g c =
     let went = subst (λ (bs : List Bool). Went took layout (nothing ∷ groups) bs c.args.taker (left_of after groups) after.pending c.push.result) empty one in
     let enough : packed_bits (nothing ∷ groups) ≤ length octets = omega (arith, packed_bits-cons nothing groups, length-bits c.args.octets.now) in
     let whole : went.codes ≡ codes_from layout groups octets =
-      taken_whole went.taken enough (λ some.
-        let short = c.push.ensures.waits some in
-        short_of_group after.current (drop after.next groups) (length after.pending) short.some short.short) in
+    taken_whole went.taken enough (λ some.
+    let short = c.push.ensures.waits some in
+    short_of_group after.current (drop after.next groups) (length after.pending) short.some short.short) in
     subst (λ (cs : List Code). took c.args.taker cs c.push.result) whole went.passed

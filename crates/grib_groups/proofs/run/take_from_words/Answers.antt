@@ -20,6 +20,6 @@ take-taker-requires g c =
 pub loop-index-preserved : goal.loop-index-preserved
 loop-index-preserved g c = record {
   took = took_more g.T.Taker.took g.met.T.Taker.more (code_by c.args.coding) (bits c.args.octets.now) c.args.at c.args.width c.loop-index._index c.loop-index.place c.number_in_word-number.result c.code.result c.args.taker c.loop-index.taker c.take-taker.result
-    c.loop-index.invariant.took c.loop-index.invariant.place c.number_in_word-number.ensures c.code.ensures c.take-taker.ensures;
+      c.loop-index.invariant.took c.loop-index.invariant.place c.number_in_word-number.ensures c.code.ensures c.take-taker.ensures;
   place = omega (arith, c.from-place.ensures, next_place c.args.at c.loop-index.place c.args.width c.loop-index._index c.loop-index.invariant.place);
 }

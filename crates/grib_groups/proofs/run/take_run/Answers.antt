@@ -33,7 +33,7 @@ returns g c =
     ap₂ (λ (m n : ℕ). c.args.at + m * n) c.from.ensures c.from-2.ensures in
     let count : whole + (c.args.count - whole) ≡ c.args.count = omega arith in
     let both = took_then took g.met.T.Taker.more by all c.args.at width whole (c.args.count - whole) _ c.args.taker c.take_from_words-taker.result c.take_from_end.result
-      c.take_from_words-taker.ensures next c.take_from_end.ensures in
+    c.take_from_words-taker.ensures next c.take_from_end.ensures in
     let same = map-plain by of xs group.width c.of-coding.ensures.codes c.args.count in
     let first = subst (λ (n : ℕ). took c.args.taker (map by (plain xs width n)) c.take_from_end.result) count both in
     let second = subst (λ (w : ℕ). took c.args.taker (map by (plain xs w c.args.count)) c.take_from_end.result) c.from-width.ensures first in

@@ -42,5 +42,5 @@ returns-clause-goes g c =
     let groups = groups_in c.args.table.now in
     let after = c.take_fitting-2.new.self in
     let second = subst (λ (n : ℕ). Went took layout (left_of c.take_across-taker.new.self groups) (drop n (bits c.args.piece.now)) c.take_across-taker.result (left_of after groups) after.pending c.take_fitting-2.result)
-      c.from-3.ensures c.take_fitting-2.ensures.goes in
+    c.from-3.ensures c.take_fitting-2.ensures.goes in
     went_then took g.met.T.Taker.none g.met.T.Taker.more layout (c.take_across-taker.ensures.goes groups) second

@@ -36,11 +36,11 @@ loop-self-preserved g c =
     let next = c.loop-self.self.next in
     let here = drop c.loop-self.at (bits c.args.piece.now) in
     let following : drop next groups ≡ c.group-self.result ∷ drop (next + 1) groups =
-      groups_from_index table c.requires.whole next (omega arith) ∙ ap (λ (group : Group). group ∷ drop (next + 1) groups) (sym c.group-self.ensures.group) in
+    groups_from_index table c.requires.whole next (omega arith) ∙ ap (λ (group : Group). group ∷ drop (next + 1) groups) (sym c.group-self.ensures.group) in
     let advanced = subst (λ (gs : List Group). Taken layout (current ∷ drop next groups) here [] gs here) following (taken_next layout current (drop next groups) here (omega arith)) in
     record {
       went = went_then took none more layout c.loop-self.invariant.went
-        (went_then took none more layout (went_same took none more layout _ _ here here c.loop-self.taker advanced) (c.take_some-taker-in-loop-self.ensures.goes groups));
+          (went_then took none more layout (went_same took none more layout _ _ here here c.loop-self.taker advanced) (c.take_some-taker-in-loop-self.ensures.goes groups));
       readable = c.take_some-taker-in-loop-self.ensures.readable;
       pending = c.take_some-taker-in-loop-self.ensures.pending ∙ c.loop-self.invariant.pending;
       within = c.take_some-taker-in-loop-self.ensures.within;
@@ -53,12 +53,12 @@ no_values g c =
     let table = c.args.table.now in
     let next = c.loop-self.self.next in
     elim c.loop-self-test.branch [
-    | then-loop-self-test+else-self-len w ↦
-      let past = no_groups table c.requires.whole next (omega (arith, w.if-self-len.false, w.len.ensures)) in
-      values-cons c.loop-self.self.current (drop next (groups_in table))
-      ∙ ap (λ (gs : List Group). c.loop-self.self.current.count + values gs) past
-      ∙ omega (arith, c.if-self-eq0.true)
-    | else-loop-self-test w ↦ absurd (w.loop-self-test.false c.if-self-eq0.true)
+      | then-loop-self-test+else-self-len w ↦
+          let past = no_groups table c.requires.whole next (omega (arith, w.if-self-len.false, w.len.ensures)) in
+          values-cons c.loop-self.self.current (drop next (groups_in table))
+          ∙ ap (λ (gs : List Group). c.loop-self.self.current.count + values gs) past
+          ∙ omega (arith, c.if-self-eq0.true)
+      | else-loop-self-test w ↦ absurd (w.loop-self-test.false c.if-self-eq0.true)
     ]
 
 pub returns-then-self-eq0-clause-goes : goal.returns-then-self-eq0-clause-goes
