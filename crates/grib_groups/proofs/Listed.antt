@@ -1,9 +1,8 @@
 -- Lemmas on the groups of three lists.
-use Rattle.std.proofs.Common.{◌≡◌, ℕ, zero, suc, ◌+◌, ◌<◌, ◌≤◌, ◌^◌, List, [], ◌∷◌, length, drop, get_or, vec_len, sum, ◌*◌, refl, sym, ap, ◌∙◌, arith, add-mul}
+use Rattle.std.proofs.Common.{◌≡◌, ℕ, zero, suc, ◌+◌, ◌<◌, ◌≤◌, List, [], ◌∷◌, length, drop, get_or, vec_len, sum, ◌*◌, refl, ap, ◌∙◌, arith, add-mul}
 use Rattle.std.specs.List.{All}
 use Rattle.std.proofs.lemmas.List.{drop_all}
 use Rattle.std.proofs.lemmas.List.Elements.{All-get_or, All-tail}
-use Rattle.grib_packing.specs.declared.group.Group.{Group}
 use Rattle.std.proofs.lemmas.List.Sums.{sum_by-cons}
 use Rattle.std.proofs.Math.Nat.{mul-le-mul_left}
 use Rattle.grib_packing.specs.Groups.{groups_from, packed_bits}
@@ -11,7 +10,6 @@ use Rattle.grib_groups.specs.Taking.{values}
 use Rattle.grib_groups.proofs.Taken.{values-cons, packed_bits-cons}
 use Rattle.grib_groups.specs.declared.table.Table.{Table}
 use Rattle.grib_groups.specs.Table.{groups_in, group_at, IsWhole, IsNarrow}
-use Rattle.grib_groups.specs.Going.{IsReadable}
 
 pub drop-groups_from : (i : ℕ) (rs ws ns : List ℕ) → i < length rs → i < length ws → i < length ns
     → drop i (groups_from rs ws ns) ≡ record { reference = get_or rs i 0; width = get_or ws i 0; count = get_or ns i 0 } ∷ drop (suc i) (groups_from rs ws ns)

@@ -1,16 +1,12 @@
 -- Lemmas on the lists of groups as they are read.
-use Rattle.std.proofs.Common.{◌≡◌, ℕ, zero, suc, ◌+◌, ◌-◌, ◌*◌, ◌<◌, ◌≤◌, Bool, true, false, cond, ltb, eqb, List, [], ◌∷◌, ◌++◌, length, min, refl, sym, ap, ap₂, ◌∙◌, arith, inl, inr, sum, vec_capacity, vec_len, append_assoc, subst}
+use Rattle.std.proofs.Common.{◌≡◌, ℕ, ◌+◌, ◌<◌, ◌≤◌, Bool, cond, ltb, eqb, List, [], ◌∷◌, ◌++◌, length, min, sym, ap, ap₂, ◌∙◌, arith, inl, inr, subst}
 use Rattle.std.specs.List.{All}
-use Rattle.std.proofs.lemmas.Bool.{cases_lt, cases_eq, lt-ltb, le-ltb, cond-true, cond-false, eq-eqb, ne_eqb}
+use Rattle.std.proofs.lemmas.Bool.{cases_lt, lt-ltb, le-ltb, cond-true, cond-false, eq-eqb, ne_eqb}
 use Rattle.std.proofs.lemmas.List.{length_push}
 use Rattle.std.proofs.lemmas.List.Elements.{All-push}
-use Rattle.std.proofs.lemmas.List.Sums.{sum_by_push}
-use Rattle.grib_io.specs.Rows.{first_place}
-use Rattle.grib_packing.specs.Groups.{first_past}
 use Rattle.grib_groups.specs.declared.lists.Widths.{Widths}
-use Rattle.grib_groups.specs.declared.lists.Lengths.{Lengths}
-use Rattle.grib_groups.specs.Lists.{WidthsAre, LengthsAre}
-use Rattle.grib_groups.proofs.Places.{place_there, place_nowhere, place_before, first_past-over, first_past-within}
+use Rattle.grib_groups.specs.Lists.{WidthsAre}
+use Rattle.grib_groups.proofs.Places.{place_there, place_nowhere, place_before}
 
 -- what `first_noted` answers
 noted_before : (before place : ℕ) (here : Bool) → 0 < before → cond (eqb before 0) (cond here place 0) before ≡ before

@@ -1,6 +1,6 @@
 -- Lemmas on codes that go from groups and bits to what takes them.
-use Rattle.std.proofs.Common.{◌≡◌, ℕ, zero, suc, ◌+◌, ◌-◌, ◌*◌, ◌/◌, ◌%◌, ◌^◌, ◌<◌, ◌≤◌, Bool, List, [], ◌∷◌, ◌++◌, length, take, drop, map, bit_or, refl, sym, ap, ap₂, ◌∙◌, arith, subst, mul_comm, append_assoc}
-use Rattle.std.proofs.lemmas.List.{drop-drop, drop_at, take_at, take-append-drop, take-append-le, length-append, length-take-le, length-drop}
+use Rattle.std.proofs.Common.{◌≡◌, ℕ, ◌+◌, ◌-◌, ◌*◌, ◌%◌, ◌^◌, ◌<◌, ◌≤◌, Bool, List, [], ◌∷◌, ◌++◌, length, take, drop, map, bit_or, refl, sym, ap, ap₂, ◌∙◌, arith, subst, mul_comm, append_assoc}
+use Rattle.std.proofs.lemmas.List.{drop-drop, drop_at, take_at, take-append-drop, length-append, length-take-le, length-drop}
 use Rattle.std.proofs.lemmas.Nat.{shl_whole, or_shifted}
 use Rattle.grib_bits.specs.Bits.{num}
 use Rattle.grib_bits.specs.Plain.{plain, plain_at}
@@ -9,9 +9,9 @@ use Rattle.grib_io.specs.declared.code.Code.{Code}
 use Rattle.grib_packing.specs.declared.group.Group.{Group}
 use Rattle.grib_packing.specs.declared.layout.Layout.{Layout}
 use Rattle.grib_packing.specs.Groups.{code_of}
-use Rattle.grib_groups.specs.Taking.{Taken, values}
+use Rattle.grib_groups.specs.Taking.{Taken}
 use Rattle.grib_groups.specs.Going.{Went}
-use Rattle.grib_groups.proofs.Taken.{taken_run, taken_then, taken_next, taken_all}
+use Rattle.grib_groups.proofs.Taken.{taken_run, taken_then}
 
 -- ---- a number of which the first bits came before
 

@@ -1,12 +1,11 @@
 -- Lemmas on lists of groups that were read whole.
-use Rattle.std.proofs.Common.{◌≡◌, ℕ, zero, suc, ◌+◌, ◌-◌, ◌*◌, ◌<◌, ◌≤◌, Bool, List, [], ◌∷◌, ◌++◌, length, map, vec_capacity, slice_set, refl, sym, ap, ap₂, ◌∙◌, arith, subst}
+use Rattle.std.proofs.Common.{◌≡◌, ℕ, ◌+◌, ◌-◌, ◌*◌, ◌≤◌, Bool, List, [], ◌∷◌, ◌++◌, length, map, vec_capacity, slice_set, sym, ap, ap₂, ◌∙◌, arith, subst}
 use Rattle.std.proofs.lemmas.List.{length-map, map-append, set_at}
 use Rattle.grib_bits.specs.Plain.{plain, plain_at}
 use Rattle.grib_io.specs.declared.code.Code.TheVariants.{Present}
 use Rattle.grib_groups.specs.declared.lists.References.{References}
 use Rattle.grib_groups.specs.declared.lists.Widths.{Widths}
 use Rattle.grib_groups.specs.declared.lists.Lengths.{Lengths}
-use Rattle.grib_groups.specs.Taking.{number_of}
 use Rattle.grib_groups.specs.Lists.{ReferencesTook, WidthsAre, WidthsTook, LengthsAre, LengthsTook, LengthAdded}
 use Rattle.grib_groups.proofs.Plain.{plain_more, length-plain}
 use Rattle.grib_groups.proofs.Coded.{numbers_present, widths_present, lengths_present}

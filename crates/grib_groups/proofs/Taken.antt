@@ -1,5 +1,5 @@
 -- Lemmas on codes that are taken from groups and bits.
-use Rattle.std.proofs.Common.{◌≡◌, ℕ, zero, suc, ◌+◌, ◌-◌, ◌*◌, ◌<◌, ◌≤◌, Bool, List, [], ◌∷◌, ◌++◌, length, take, drop, map, refl, sym, ap, ap₂, ◌∙◌, arith, append_assoc, add-mul, mul_comm, inl, inr, sum_by}
+use Rattle.std.proofs.Common.{◌≡◌, ℕ, ◌+◌, ◌*◌, ◌<◌, ◌≤◌, Bool, List, [], ◌∷◌, ◌++◌, length, take, drop, map, refl, sym, ap, ap₂, ◌∙◌, arith, append_assoc, add-mul, mul_comm, inl, inr}
 use Rattle.std.proofs.lemmas.Bool.{cases_lt}
 use Rattle.std.proofs.lemmas.List.{append-nil, map-append, drop-drop, drop-append-le, length-append, length-drop, length-map, take-append-drop, nil_from_length}
 use Rattle.std.proofs.lemmas.List.Sums.{sum_by-cons}
@@ -9,7 +9,7 @@ use Rattle.grib_io.specs.declared.code.Code.{Code}
 use Rattle.grib_packing.specs.declared.group.Group.{Group}
 use Rattle.grib_packing.specs.declared.layout.Layout.{Layout}
 use Rattle.grib_packing.specs.Groups.{code_of, codes_from, packed_bits}
-use Rattle.grib_groups.specs.Taking.{values, IsEnd, Taken}
+use Rattle.grib_groups.specs.Taking.{values, Taken}
 use Rattle.grib_groups.proofs.Plain.{plain-add, plain-append, length-plain}
 
 pub values-cons : (group : Group) (groups : List Group) → values (group ∷ groups) ≡ group.count + values groups

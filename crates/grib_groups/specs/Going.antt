@@ -1,10 +1,10 @@
 -- How codes go from groups and bits to what takes them.
-use Rattle.std.specs.Prelude.{◌≡◌, ℕ, ◌+◌, ◌^◌, ◌<◌, ◌≤◌, Bool, List, ◌∷◌, length, drop}
+use Rattle.std.specs.Prelude.{ℕ, ◌+◌, ◌^◌, ◌<◌, ◌≤◌, Bool, List, ◌∷◌, length, drop}
 use Rattle.grib_io.specs.declared.code.Code.{Code}
 use Rattle.grib_packing.specs.declared.group.Group.{Group}
 use Rattle.grib_packing.specs.declared.layout.Layout.{Layout}
 use Rattle.grib_groups.specs.declared.numbers.Numbers.{Numbers}
-use Rattle.grib_groups.specs.Taking.{Taken, values}
+use Rattle.grib_groups.specs.Taking.{Taken}
 
 -- the groups that are left: what is left of the current one, and those from the next on
 abbrev pub left_of : Numbers → List Group → List Group

@@ -1,5 +1,5 @@
 -- Laws of what takes codes.
-use Rattle.std.proofs.Common.{◌≡◌, ℕ, ◌+◌, ◌*◌, ◌≤◌, List, [], ◌∷◌, ◌++◌, length, map, vec_capacity, refl, sym, ap, ap₂, ◌∙◌, arith, append_assoc, subst}
+use Rattle.std.proofs.Common.{◌≡◌, ℕ, ◌+◌, ◌*◌, ◌≤◌, List, [], ◌++◌, length, map, vec_capacity, refl, sym, ap, ap₂, ◌∙◌, arith, append_assoc, subst}
 use Rattle.std.proofs.lemmas.List.{append-nil, map-append, length-append, length-map}
 use Rattle.grib_io.specs.declared.code.Code.{Code}
 use Rattle.grib_groups.specs.declared.decoding.Codes.{Codes}
@@ -7,7 +7,7 @@ use Rattle.grib_groups.specs.declared.lists.References.{References}
 use Rattle.grib_groups.specs.declared.lists.Widths.{Widths}
 use Rattle.grib_groups.specs.declared.lists.Lengths.{Lengths}
 use Rattle.grib_groups.specs.Taking.{number_of}
-use Rattle.grib_groups.specs.Lists.{Grown, CodesTook, ReferencesTook, WidthsAre, WidthsTook, coded_widths, LengthsAre, LengthsTook, SameCoding, coded_lengths_by}
+use Rattle.grib_groups.specs.Lists.{Grown, CodesTook, ReferencesTook, WidthsAre, WidthsTook, coded_widths, LengthsAre, LengthsTook, coded_lengths_by}
 
 -- ---- a list that grows
 

@@ -1,10 +1,10 @@
-use Rattle.std.proofs.Common.{◌≡◌, ℕ, ◌+◌, ◌-◌, ◌*◌, ◌^◌, ◌≤◌, ◌<◌, ◌++◌, [], List, Bool, None, length, take, drop, map, sum, vec_capacity, sym, ap, ap₂, ◌∙◌, arith, subst, refl}
+use Rattle.std.proofs.Common.{◌≡◌, ℕ, ◌+◌, ◌-◌, ◌++◌, List, None, length, take, drop, sym, ap, ap₂, ◌∙◌, arith, subst}
 use Rattle.std.proofs.lemmas.List.{take_rest, length-take, length-drop, map-id}
 use Rattle.grib_bits.specs.Bits.{bits}
 use Rattle.grib_io.specs.declared.code.Code.{Code}
 use Rattle.grib_packing.specs.declared.group.Group.{Group}
 use Rattle.grib_packing.specs.declared.layout.Layout.{Layout}
-use Rattle.grib_packing.specs.Groups.{codes_from, list_octets, references, widths, lengths, groups, groups_from, grouped, packed_bits}
+use Rattle.grib_packing.specs.Groups.{codes_from, list_octets, references, widths, lengths, groups, grouped, packed_bits}
 use Rattle.grib_groups.specs.declared.lists.Lists.{Lists}
 use Rattle.grib_groups.specs.declared.table.Table.{Table}
 use Rattle.grib_groups.specs.Taking.{values}

@@ -1,4 +1,4 @@
-use Rattle.std.proofs.Common.{◌≡◌, ℕ, ◌+◌, ◌*◌, ◌≤◌, ◌<◌, ◌∷◌, List, length, drop, get_or, sym, ap, ap₂, ◌∙◌, arith, mul_comm, add-one, add_assoc}
+use Rattle.std.proofs.Common.{◌≡◌, ℕ, ◌+◌, ◌*◌, ◌≤◌, ◌<◌, ◌∷◌, List, length, drop, get_or, sym, ap, ap₂, ◌∙◌, arith, mul_comm, add-one}
 use Rattle.std.proofs.lemmas.List.{drop_all}
 use Rattle.grib_packing.specs.declared.group.Group.{Group}
 use Rattle.grib_packing.specs.Groups.{packed_bits, groups_from}

@@ -1,4 +1,4 @@
-use Rattle.std.proofs.Common.{ℕ, List, map, subst}
+use Rattle.std.proofs.Common.{List, subst}
 use Rattle.grib_bits.specs.Bits.{bits}
 use Rattle.grib_io.specs.declared.code.Code.{Code}
 use Rattle.grib_io.specs.declared.code.Code.TheVariants.{Present}

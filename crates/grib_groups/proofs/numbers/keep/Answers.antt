@@ -1,4 +1,4 @@
-use Rattle.std.proofs.Common.{◌≡◌, ℕ, ◌+◌, ◌*◌, ◌≤◌, ◌++◌, ◌∷◌, [], List, Bool, length, take, get_or, sym, ap, ◌∙◌, arith, append_assoc}
+use Rattle.std.proofs.Common.{◌≡◌, ℕ, ◌+◌, ◌*◌, ◌++◌, ◌∷◌, [], List, Bool, length, take, get_or, sym, ap, ◌∙◌, arith, append_assoc}
 use Rattle.std.proofs.lemmas.List.{length-append, length-take, take_more, append-nil}
 use Rattle.grib_bits.specs.Bits.{bits, bits_of}
 use Rattle.grib_bits.proofs.OctetBits.{length-bits, bits-append}

@@ -1,4 +1,4 @@
-use Rattle.std.proofs.Common.{◌≡◌, ℕ, ◌%◌, ◌/◌, ◌++◌, List, Bool, length, ◌-◌, take, drop, sym, ap, ◌∙◌, arith}
+use Rattle.std.proofs.Common.{◌%◌, ◌/◌, ◌++◌, List, Bool, length, ◌-◌, take, drop, sym, ap, ◌∙◌, arith}
 use Rattle.std.proofs.lemmas.List.{take_rest}
 use Rattle.grib_bits.specs.Bits.{bits}
 use Rattle.grib_bits.proofs.Fields.{field_start}

@@ -1,4 +1,4 @@
-use Rattle.std.proofs.Common.{◌+◌, ◌^◌, ◌<◌, ℕ, drop, sym, subst, arith}
+use Rattle.std.proofs.Common.{◌+◌, ◌<◌, drop, sym, subst, arith}
 use Rattle.grib_bits.specs.Bits.{bits}
 use Rattle.grib_groups.specs.Taking.{number_of, code_by}
 use Rattle.grib_groups.proofs.Coded.{number_of-code_by}

@@ -1,4 +1,4 @@
-use Rattle.std.proofs.Common.{ℕ, ◌+◌, ◌*◌, ◌≡◌, refl, arith, drop}
+use Rattle.std.proofs.Common.{◌+◌, ◌*◌, ◌≡◌, refl, arith}
 use Rattle.grib_groups.specs.Taking.{code_by}
 use Rattle.grib_groups.proofs.Runs.{took_more}
 use Rattle.grib_groups.proofs.run.take_same.Goals as goal

@@ -1,4 +1,4 @@
-use Rattle.std.proofs.Common.{ℕ, ◌<◌, arith}
+use Rattle.std.proofs.Common.{◌<◌, arith}
 use Rattle.grib_groups.proofs.Coded.{top_at_least}
 use Rattle.grib_groups.proofs.coding.Coding.of.Goals as goal
 

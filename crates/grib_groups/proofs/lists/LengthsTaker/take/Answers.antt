@@ -1,4 +1,4 @@
-use Rattle.std.proofs.Common.{◌≡◌, ℕ, ◌+◌, ◌*◌, ◌∷◌, [], ◌++◌, List, refl, sym, ap, ap₂, ◌∙◌, arith, subst}
+use Rattle.std.proofs.Common.{◌≡◌, ℕ, ◌+◌, ◌*◌, ◌∷◌, [], ◌++◌, ap₂, subst}
 use Rattle.grib_groups.specs.Taking.{number_of}
 use Rattle.grib_groups.specs.Lists.{LengthsAre}
 use Rattle.grib_groups.proofs.lists.LengthsTaker.take.Goals as goal

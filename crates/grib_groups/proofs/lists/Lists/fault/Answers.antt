@@ -1,7 +1,7 @@
-use Rattle.std.proofs.Common.{◌≡◌, ℕ, ◌+◌, ◌*◌, ◌<◌, ◌≤◌, [], List, length, sum, sym, ap, ◌∙◌, arith, subst}
+use Rattle.std.proofs.Common.{◌≡◌, [], sym, ap, ◌∙◌, arith}
 use Rattle.std.proofs.lemmas.List.{append-nil}
 use Rattle.grib_packing.specs.Groups.{first_past}
-use Rattle.grib_groups.proofs.Faults.{shape_fault, short_fault, no_fault}
+use Rattle.grib_groups.proofs.Faults.{shape_fault}
 use Rattle.grib_groups.proofs.lists.Lists.fault.Goals as goal
 
 pub returns-then-self-gt0-2 : goal.returns-then-self-gt0-2

@@ -1,10 +1,10 @@
-use Rattle.std.proofs.Common.{◌≡◌, ℕ, ◌+◌, ◌-◌, ◌*◌, ◌≤◌, ◌∷◌, [], List, Bool, length, take, drop, map, sym, ap, ap₂, ◌∙◌, arith, subst, vec_capacity}
+use Rattle.std.proofs.Common.{◌≡◌, ℕ, ◌+◌, ◌-◌, ◌*◌, List, Bool, length, take, drop, map, ap, ap₂, ◌∙◌, arith, subst}
 use Rattle.std.proofs.lemmas.List.{take_rest, length-map, length-set}
 use Rattle.grib_bits.specs.Bits.{bits}
 use Rattle.grib_bits.specs.Plain.{plain}
 use Rattle.grib_io.specs.declared.code.Code.TheVariants.{Present}
 use Rattle.grib_packing.specs.Groups.{reference_octets, width_octets}
-use Rattle.grib_groups.specs.Lists.{WidthsAre, WidthsTook, LengthsAre, LengthsTook, LengthAdded}
+use Rattle.grib_groups.specs.Lists.{WidthsTook, LengthsAre, LengthsTook, LengthAdded}
 use Rattle.grib_groups.proofs.Plain.{length-plain}
 use Rattle.grib_groups.proofs.Reading.{references_read, widths_read, lengths_read, last_set}
 use Rattle.grib_groups.proofs.lists.Lists.read.Goals as goal

@@ -1,8 +1,7 @@
-use Rattle.std.proofs.Common.{◌≡◌, ℕ, ◌+◌, ◌-◌, ◌*◌, ◌<◌, ◌≤◌, ◌++◌, [], List, Bool, drop, length, sym, ap, ◌∙◌, arith, subst}
-use Rattle.std.proofs.lemmas.List.{length-append, nil_from_length}
+use Rattle.std.proofs.Common.{ℕ, ◌++◌, [], List, Bool, drop, length, sym, ap, arith, subst}
+use Rattle.std.proofs.lemmas.List.{length-append}
 use Rattle.grib_bits.specs.Bits.{bits}
 use Rattle.grib_bits.proofs.OctetBits.{length-bits}
-use Rattle.grib_packing.specs.declared.group.Group.{Group}
 use Rattle.grib_groups.specs.Taking.{Taken}
 use Rattle.grib_groups.specs.Table.{groups_in}
 use Rattle.grib_groups.specs.Going.{left_of, IsShort, Went}

@@ -1,8 +1,8 @@
-use Rattle.std.proofs.Common.{◌≡◌, ℕ, ◌+◌, ◌-◌, ◌*◌, ◌%◌, ◌^◌, ◌<◌, ◌≤◌, ◌++◌, List, Bool, drop, take, length, bit_or, sym, ap, ◌∙◌, arith, subst}
+use Rattle.std.proofs.Common.{◌≡◌, ℕ, ◌+◌, ◌*◌, ◌%◌, ◌^◌, ◌<◌, ◌≤◌, ◌++◌, List, Bool, drop, take, length, bit_or, sym, ap, ◌∙◌, arith, subst}
 use Rattle.std.proofs.lemmas.List.{take_all}
 use Rattle.grib_bits.specs.Bits.{bits, num}
 use Rattle.grib_bits.proofs.OctetBits.{length-bits}
-use Rattle.grib_groups.specs.Taking.{number_of, code_by}
+use Rattle.grib_groups.specs.Taking.{number_of}
 use Rattle.grib_groups.proofs.Coded.{number_of-code_by}
 use Rattle.grib_groups.proofs.Runs.{number-lt, pow_at_most}
 use Rattle.grib_groups.proofs.Moves.{number_across, went_across}

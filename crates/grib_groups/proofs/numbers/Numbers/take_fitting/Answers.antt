@@ -1,11 +1,11 @@
-use Rattle.std.proofs.Common.{◌≡◌, ℕ, ◌+◌, ◌-◌, ◌*◌, ◌^◌, ◌<◌, ◌≤◌, ◌∷◌, [], List, Bool, drop, length, vec_len, slice_index, sym, ap, ◌∙◌, arith, subst, pow_mono}
+use Rattle.std.proofs.Common.{◌≡◌, ◌+◌, ◌^◌, ◌≤◌, ◌∷◌, [], List, Bool, drop, length, slice_index, sym, ap, ◌∙◌, arith, subst, pow_mono}
 use Rattle.std.proofs.lemmas.List.{length-drop}
 use Rattle.grib_bits.specs.Bits.{bits}
 use Rattle.grib_bits.proofs.OctetBits.{length-bits}
 use Rattle.grib_packing.specs.declared.group.Group.{Group}
 use Rattle.grib_groups.specs.Taking.{Taken, values}
-use Rattle.grib_groups.specs.Table.{groups_in, group_at}
-use Rattle.grib_groups.specs.Going.{left_of, IsReadable, IsShort, Went}
+use Rattle.grib_groups.specs.Table.{groups_in}
+use Rattle.grib_groups.specs.Going.{left_of, IsShort}
 use Rattle.grib_groups.proofs.Taken.{taken_next, taken_all, values-cons}
 use Rattle.grib_groups.proofs.Listed.{groups_from_index, no_groups, narrow_at}
 use Rattle.grib_groups.proofs.Moves.{went_same, went_then}
