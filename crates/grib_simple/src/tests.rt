@@ -174,29 +174,14 @@ fn section_5_has_its_numbers(rt: HostRuntime) {
         kind: 0,
     };
     assert_eq!(rt; read(&rt, &FIELD, 4), Ok(simple));
-    let refused = |octets: &[u8], points: u32| match read(&rt, octets, points) {
-        Err(fault) => (fault.octet, fault.reason, fault.detail),
-        Ok(_) => panic!(rt; "no refusal"),
-    };
     let mut changed = FIELD;
     changed[10] = 41;
-    assert_eq!(rt; refused(&changed, 4), (153, Reason::PngPacked, 41));
-    changed[10] = 3;
-    assert_eq!(rt; refused(&changed, 4), (144, Reason::SectionLength, 21));
-    assert_eq!(rt; refused(&FIELD, 3), (149, Reason::ValueCount, 4));
-    let mut infinite = FIELD;
-    infinite[11] = 0x7f;
-    infinite[12] = 0x80;
+    let Err(fault) = read(&rt, &changed, 4) else {
+        panic!(rt; "template 5.41 is accepted");
+    };
     assert_eq!(rt;
-        refused(&infinite, 4),
-        (155, Reason::ReferenceNotFinite, 0x7f804000)
-    );
-    let mut wide = FIELD;
-    wide[19] = 49;
-    assert_eq!(rt; refused(&wide, 4), (163, Reason::BitWidth, 49));
-    assert_eq!(rt;
-        refused(&[0, 0, 0, 10, 5, 0, 0, 0, 4, 0], 4),
-        (144, Reason::SectionLength, 10)
+        (fault.octet, fault.reason, fault.detail),
+        (153, Reason::PngPacked, 41)
     );
 }
 

@@ -1,14 +1,13 @@
-use Rattle.std.proofs.Common.{◌≡◌, ◌+◌, ◌*◌, ◌-◌, ◌≤◌, ℕ, List, [], None, length, map, pos, drop, take, sym, ap, ap₂, ◌∙◌, arith}
+use Rattle.std.proofs.Common.{◌≡◌, ◌+◌, ◌*◌, ◌-◌, ◌≤◌, ℕ, List, [], length, map, pos, drop, take, sym, ap, ap₂, ◌∙◌, arith}
 use Rattle.std.proofs.lemmas.Bool.{le-ltb}
 use Rattle.std.proofs.lemmas.List.{take_rest}
 use Rattle.grib_bits.specs.Bits.{bits}
 use Rattle.grib_bits.specs.Plain.{plain}
-use Rattle.grib_io.specs.Rows.{first_fault}
 use Rattle.grib_packing.specs.declared.column.Point.{Point}
 use Rattle.grib_packing.specs.declared.column.Point.TheVariants.{Scaled}
 use Rattle.grib_packing.specs.Column.{points_with_mask}
 use Rattle.grib_packing.specs.Packing.{bit_width, value_count}
-use Rattle.grib_packing.specs.Simple.{plain_bits, simple_rows}
+use Rattle.grib_packing.specs.Simple.{plain_bits}
 use Rattle.grib_simple.proofs.Accepted.{row_passes, data_fault-simple, entries_of-simple, same_column}
 use Rattle.grib_simple.proofs.simple.SimplePackingPacking.unpack.Goals as goal
 
