@@ -50,7 +50,7 @@ mark_number a b c d ha hb hc hd e =
     (first, second, third, omega arith)
 
 -- so four octets that make it are `7777`
-pub mark_from_number : (left : List ℕ) → 4 ≤ length left → All (λ octet. octet < 256) left → num_on 0 (take 4 left) ≡ 926365495
+pub mark_from_number : (left : List ℕ) → 4 ≤ length left → All (λ octet. octet < 256) (take 4 left) → num_on 0 (take 4 left) ≡ 926365495
     → take 4 left ≡ end_mark
 mark_from_number [] long small e = absurd (omega arith)
 mark_from_number (a ∷ []) long small e = absurd (omega arith)

@@ -2,7 +2,8 @@
 use Rattle.std.proofs.Common.{◌≡◌, ℕ, zero, suc, ◌+◌, ◌-◌, ◌<◌, ◌≤◌, Bool, true, false, not, ◌&&◌, IsTrue, None, List, [], ◌∷◌, ◌++◌, length, take, drop, All, nat_lt, inl, inr, refl, ap, sym, ◌∙◌, arith, append_assoc, length-drop, length-take-le, length-append, take-append-drop, drop-drop, ltb-false, eqb-true}
 use Rattle.std.specs.List.{concat}
 use Rattle.std.proofs.lemmas.Bool.{or_parts, not-false}
-use Rattle.std.proofs.lemmas.List.Elements.{All-drop}
+use Rattle.std.proofs.lemmas.List.Elements.{All-drop, All-same}
+use Rattle.std.proofs.lemmas.List.{drop-take}
 use Rattle.grib_bits.specs.Octets.{octets, num_on}
 use Rattle.grib2_sections.specs.Verdict.{Accepted}
 use Rattle.grib2_sections.specs.Head.{total_length, end_mark}
@@ -24,13 +25,13 @@ second_holds : (a b : Bool) → (a && not b) ≡ false → a ≡ true → b ≡ 
 second_holds a b e on = not-false b (second_fails a (not b) e on)
 
 -- what the rows of a mark say where they pass
-record MarkPasses (m : List ℕ) (total last q : ℕ) : Type 0 where
+pub record MarkPasses (m : List ℕ) (total last q : ℕ) : Type 0 where
   pub there : q + 3 ≤ length m
   pub may_end : ends_at m q ≡ true → IsTrue (may_end last)
   pub at_end : ends_at m q ≡ true → total ≤ q + 3
 
 -- they say so
-mark_passes : (m : List ℕ) (total last q : ℕ) → AllPass (mark_rows m total last q) → MarkPasses m total last q
+pub mark_passes : (m : List ℕ) (total last q : ℕ) → AllPass (mark_rows m total last q) → MarkPasses m total last q
 mark_passes m total last q p = record {
   there = ltb-false (length m) (q + 3) p.0;
   may_end = λ ends. second_holds (ends_at m q) (may_end last) p.1.0 ends;
@@ -38,14 +39,14 @@ mark_passes m total last q p = record {
 }
 
 -- and what the rows of a frame say
-record FramePasses (m : List ℕ) (total last q : ℕ) : Type 0 where
+pub record FramePasses (m : List ℕ) (total last q : ℕ) : Type 0 where
   pub least : 5 ≤ octets m q (q + 3)
   pub room : q - 1 + octets m q (q + 3) + 4 ≤ total
   pub follows : IsTrue (may_follow last (octets m (q + 4) (q + 4)))
   pub there : q - 1 + octets m q (q + 3) ≤ length m
 
 -- they say so
-frame_passes : (m : List ℕ) (total last q : ℕ) → AllPass (frame_rows m total last q) → FramePasses m total last q
+pub frame_passes : (m : List ℕ) (total last q : ℕ) → AllPass (frame_rows m total last q) → FramePasses m total last q
 frame_passes m total last q p =
     let sized = or_parts (nat_lt (octets m q (q + 3)) 5) (nat_lt total (q - 1 + octets m q (q + 3) + 4)) p.1.0 in
     record {
@@ -64,14 +65,21 @@ pub record Found (m : List ℕ) (before : List Placed) (q total : ℕ) : Type 0 
   pub ends : q + length (concat sections) + 3 ≡ total
   pub states : total_length m ≡ total
 
+-- the last n octets of a front
+last_octets : (before n whole : ℕ) (m : List ℕ) → whole ≡ before + n → drop before (take whole m) ≡ take n (drop before m)
+last_octets before n whole m e = ap (λ k. drop before (take k m)) e ∙ drop-take before n m
+
 -- none but the end mark, where it stands at q
-found_end : (m : List ℕ) (before : List Placed) (q total : ℕ) → 1 ≤ q → All (λ octet. octet < 256) m → q + 3 ≤ total_length m
+found_end : (m : List ℕ) (before : List Placed) (q total : ℕ) → 1 ≤ q → All (λ octet. octet < 256) (take total m) → q + 3 ≤ total_length m
     → MarkPasses m (total_length m) (last_number before) q → Ended m q total → Found m before q total
 found_end m before q total low small room p e =
     let long : 4 ≤ length (from q m) = omega (arith, length-drop (q - 1) m, p.there) in
     let number : num_on 0 (take 4 (from q m)) ≡ 926365495 = ap (num_on 0) (sym (four_at m q)) ∙ eqb-true (octets m q (q + 3)) 926365495 e.ends in
-    let stands : take 4 (from q m) ≡ end_mark = mark_from_number (from q m) long (All-drop (λ octet. octet < 256) (q - 1) m small) number in
     let ends : total_length m ≤ q + 3 = p.at_end e.ends in
+    let last_four : drop (q - 1) (take total m) ≡ take 4 (from q m) = last_octets (q - 1) 4 total m (omega (arith, e.states)) in
+    let below : All (λ octet. octet < 256) (take 4 (from q m)) =
+    All-same (λ octet. octet < 256) (take 4 (from q m)) (drop (q - 1) (take total m)) (sym last_four) (All-drop (λ octet. octet < 256) (q - 1) (take total m) small) in
+    let stands : take 4 (from q m) ≡ end_mark = mark_from_number (from q m) long below number in
     record {
       sections = [];
       after = drop 4 (from q m);
@@ -82,13 +90,13 @@ found_end m before q total low small room p e =
     }
 
 -- the section at q may stand there, and what is left from its end on comes after it
-record Stands (m : List ℕ) (before : List Placed) (q : ℕ) : Type 0 where
+pub record Stands (m : List ℕ) (before : List Placed) (q : ℕ) : Type 0 where
   pub is_section : IsSection before q (section_at m q)
   pub as_long : length (section_at m q) ≡ octets m q (q + 3)
   pub joined : from q m ≡ section_at m q ++ from (q + length (section_at m q)) m
 
 -- it is so where no row refuses it
-stands : (m : List ℕ) (before : List Placed) (q total : ℕ) → 1 ≤ q
+pub stands : (m : List ℕ) (before : List Placed) (q total : ℕ) → 1 ≤ q
     → FramePasses m total (last_number before) q → section_fault before (here m q) ≡ None → Stands m before q
 stands m before q total low p contents =
     let is : section_at m q ≡ take (octets m q (q + 3)) (from q m) = section_is m q (octets m q (q + 3)) low refl in
@@ -127,7 +135,7 @@ found_more m before q total s f = record {
 }
 
 -- what the walk accepts from octet q on
-pub walked : (turns : ℕ) (m : List ℕ) (before : List Placed) (q total : ℕ) → All (λ octet. octet < 256) m → 1 ≤ q → q + 3 ≤ total_length m
+pub walked : (turns : ℕ) (m : List ℕ) (before : List Placed) (q total : ℕ) → All (λ octet. octet < 256) (take total m) → 1 ≤ q → q + 3 ≤ total_length m
     → verdict_from turns m before q ≡ Accepted total → Found m before q total
 walked zero m before q total small low room e = cc
 walked (suc turns) m before q total small low room e =

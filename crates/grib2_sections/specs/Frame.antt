@@ -80,3 +80,28 @@ pub record Placed : Type 0 where
 
 abbrev pub placed_at : ℕ → List ℕ → Placed
 placed_at start s = record { start = start; octets = s }
+
+-- where a walk stands in a message with this total length: at octet `place`, after a section with the
+-- number `last`, 0 for Section 0
+pub record Position : Type 0 where
+  pub total : ℕ
+  pub place : ℕ
+  pub last : ℕ
+
+-- what the rows of a mark, and those of a frame, refuse there
+abbrev pub mark_fault : List ℕ → Position → Option Fault
+mark_fault message at = first_fault (mark_rows message at.total at.last at.place)
+
+abbrev pub frame_fault : List ℕ → Position → Option Fault
+frame_fault message at = first_fault (frame_rows message at.total at.last at.place)
+
+abbrev pub step_from : List ℕ → Position → Step
+step_from message at = step message at.total at.last at.place
+
+-- where it stands after this section
+abbrev pub position_after : Position → List ℕ → Position
+position_after at section = record {
+  total = at.total;
+  place = at.place + length section;
+  last = section_number section;
+}

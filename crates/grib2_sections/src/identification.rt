@@ -76,8 +76,9 @@ pub fn read_identification(section: &Section<'_>) -> Result<Identification, Faul
 pub fn write_identification(value: &Identification, out: &mut BitWriter)
     requires whole { length out.old.bits % 8 ≡ 0 }
     requires room { 168 ≤ out.old.spare }
-    ensures { (section : List ℕ) × StatesItself 1 section × (length section ≡ 21)
+    ensures section { (section : List ℕ) × StatesItself 1 section × (length section ≡ 21)
         × Spelled value.now section × AddsOctets out.old out.new section }
+    ensures whole { length out.new.bits % 8 ≡ 0 }
 {
     write_u32(21, out);
     write_u8(1, out);

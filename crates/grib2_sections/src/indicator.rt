@@ -1,10 +1,10 @@
 //! Section 0, the indicator section.
 
-ghost use Rattle.std.specs.Prelude.{◌≡◌, ◌+◌, ◌-◌, ◌^◌, ◌<◌, take, Some, None, MatchResult};
-ghost use Rattle.grib_io.specs.Rows as rows;
+ghost use Rattle.std.specs.Prelude.{◌≡◌, take, Some, None, MatchResult};
 ghost use Rattle.grib_io.specs.Rows.{first_fault};
 ghost use Rattle.grib2_sections.specs.Head.{indicator, head_rows, head_of};
 
+use crate::refusal::{refusal, truncated};
 use byteorder::{BigEndian, ByteOrder};
 use grib_io::{Fault, Reason};
 
@@ -62,25 +62,6 @@ pub fn read_head(octets: &[u8]) -> Result<Head, Fault>
         discipline: octets[6],
         total,
     })
-}
-
-/// The refusal at this octet, for this reason, with this detail.
-fn refusal(octet: u64, reason: Reason, detail: u64) -> Fault
-    ensures { result ≡ rows.refusal octet reason detail }
-{
-    Fault {
-        octet,
-        reason,
-        detail,
-    }
-}
-
-/// The refusal of a message of which only `present` octets are there.
-fn truncated(present: u64) -> Fault
-    requires { present < 2 ^ 64 - 1 }
-    ensures { result ≡ rows.refusal (present + 1) Reason.Truncated present }
-{
-    refusal(present + 1, Reason::Truncated, present)
 }
 
 #[cfg(test)]

@@ -1,10 +1,17 @@
 //! Section 0, the frame of the sections that follow, and Section 1 of edition 2.
 #![tactic(auto)]
 
+mod frame;
 mod identification;
 mod indicator;
 mod number;
+mod refusal;
+mod section;
+#[cfg(test)]
+mod tests;
 
+pub use frame::Frame;
 pub use identification::{Identification, read_identification, write_identification};
 pub use indicator::{Head, read_head};
 pub use number::{write_number, write_u8, write_u16, write_u32};
+pub use section::{write_octets, write_section};

@@ -1,2 +1,11 @@
 //! Bitmaps: Section 6 of edition 2.
 #![tactic(auto)]
+
+mod mask;
+mod section;
+#[cfg(test)]
+mod tests;
+mod words;
+
+pub use mask::{Mask, Run, ones, write_mask};
+pub use section::{MaskFault, read_mask};

@@ -1,4 +1,21 @@
 //! Groups of complex packing.
 #![tactic(auto)]
 
-pub use grib_packing::Layout;
+mod coding;
+mod decoding;
+mod lists;
+mod numbers;
+mod run;
+mod table;
+mod taker;
+#[cfg(test)]
+mod tests;
+
+pub use decoding::decode_groups;
+pub use grib_packing::{Group, Layout};
+pub use lists::{
+    Lengths, Lists, References, Widths, lists_fit, octets_of, octets_of_lists, plain_layout,
+};
+pub use numbers::Numbers;
+pub use table::Table;
+pub use taker::Taker;

@@ -1,6 +1,7 @@
 -- Spatial differences (WMO-No. 306, Volume I.2, FM 92 GRIB edition 2, data template 7.3, code table 5.6):
 -- numbers, told by the first ones, the overall minimum of their differences, and a code for each.
-use Rattle.std.specs.Prelude.{◌≡◌, ℕ, ◌+◌, ◌<◌, List, [], ◌∷◌, length, get_or, cond, ◌==◌, ℤ, pos, ◌+ℤ◌, ◌-ℤ◌, ◌*ℤ◌}
+use Rattle.std.specs.Prelude.{◌≡◌, ℕ, ◌+◌, ◌-◌, ◌<◌, List, [], ◌∷◌, length, get_or, map, cond, Bool, nat_lt, int_lt, ◌==◌, ◌^◌, ℤ, pos, nat_abs, ◌+ℤ◌, ◌-ℤ◌, ◌*ℤ◌}
+use Rattle.std.specs.List.{range_with_len}
 
 -- The numbers xs have these codes: the first `order` of them are the first values, whatever their
 -- codes are, and each further code and the minimum m make the difference of that order.
@@ -47,3 +48,45 @@ undone_from d last (code ∷ codes) =
 
 abbrev pub undone : Descriptors → List ℕ → List ℤ
 undone d codes = undone_from d NoNumber codes
+
+-- whether a number is outside plus and minus 2 ^ 60, which no scaled number may be
+abbrev pub is_beyond : ℤ → Bool
+is_beyond x = nat_lt (2 ^ 60) (nat_abs x)
+
+-- The way back: the difference of the number at place k, from 0, with those before it,
+abbrev pub difference_at : ℕ → List ℤ → ℕ → ℤ
+difference_at order xs k =
+    cond (order == 1) (get_or xs k (pos 0) -ℤ get_or xs (k - 1) (pos 0))
+    ((get_or xs k (pos 0) -ℤ (pos 2 *ℤ get_or xs (k - 1) (pos 0))) +ℤ get_or xs (k - 2) (pos 0))
+
+-- the differences of all numbers but the first `order`,
+abbrev pub differences : ℕ → List ℤ → List ℤ
+differences order xs = map (difference_at order xs) (range_with_len order (length xs - order))
+
+-- the least of some numbers, 0 for none,
+abbrev pub lesser : ℤ → ℤ → ℤ
+lesser x y = cond (int_lt y x) y x
+
+abbrev pub least_of : ℤ → List ℤ → ℤ
+least_of x [] = x
+least_of x (y ∷ ys) = least_of (lesser x y) ys
+
+abbrev pub least : List ℤ → ℤ
+least [] = pos 0
+least (x ∷ xs) = least_of x xs
+
+-- what the numbers are told with, where a first value that does not exist is 0,
+abbrev pub descriptors_of : ℕ → List ℤ → Descriptors
+descriptors_of order xs = record {
+  order = order;
+  first = get_or xs 0 (pos 0);
+  second = cond (order == 1) (pos 0) (get_or xs 1 (pos 0));
+  minimum = least (differences order xs);
+}
+
+-- and a code for each of them: 0 for the first `order`
+abbrev pub code_at : ℕ → List ℤ → ℕ → ℕ
+code_at order xs k = cond (nat_lt k order) 0 (nat_abs (difference_at order xs k -ℤ least (differences order xs)))
+
+abbrev pub difference_codes : ℕ → List ℤ → List ℕ
+difference_codes order xs = map (code_at order xs) (range_with_len 0 (length xs))

@@ -1,5 +1,5 @@
 -- Section 7 of complex packing (WMO-No. 306, Volume I.2, FM 92 GRIB edition 2, data templates 7.2 and 7.3).
-use Rattle.std.specs.Prelude.{ℕ, ◌+◌, ◌-◌, ◌*◌, ◌^◌, Bool, false, cond, ◌&&◌, Option, List, [], ◌∷◌, ◌++◌, length, drop, map, replicate, Some, None, nat_lt, ◌==◌, ℤ, pos, nat_abs}
+use Rattle.std.specs.Prelude.{ℕ, ◌+◌, ◌-◌, ◌*◌, Bool, false, cond, ◌&&◌, Option, List, [], ◌∷◌, ◌++◌, length, drop, map, replicate, Some, None, nat_lt, ◌==◌, ℤ, pos}
 use Rattle.std.specs.List.{filter_map}
 use Rattle.grib_bits.specs.Octets.{octets, signed_octets}
 use Rattle.grib_io.specs.declared.code.Code.{Code}
@@ -14,7 +14,7 @@ use Rattle.grib_packing.specs.declared.column.Column.{Column}
 use Rattle.grib_packing.specs.declared.column.Point.{Point}
 use Rattle.grib_packing.specs.declared.column.Point.TheVariants.{Scaled, Missing, Missing2}
 use Rattle.grib_packing.specs.Packing.{packing_template, value_count, packing_rows}
-use Rattle.grib_packing.specs.Differences.{Descriptors, undone}
+use Rattle.grib_packing.specs.Differences.{Descriptors, undone, is_beyond}
 use Rattle.grib_packing.specs.Complex.{layout_of, complex_rows, difference_order, extra_octets, descriptor_octets}
 
 -- whether there are no groups: then every value is 0 and Section 7 is not read
@@ -85,7 +85,7 @@ first_value_rows s5 s7 =
 
 -- whether a number is outside plus and minus 2 ^ 60
 abbrev pub is_out_of_range : Point → Bool
-is_out_of_range (Scaled x) = nat_lt (2 ^ 60) (nat_abs x)
+is_out_of_range (Scaled x) = is_beyond x
 is_out_of_range Missing = false
 is_out_of_range Missing2 = false
 

@@ -8,6 +8,7 @@ use Rattle.grib_io.specs.declared.code.Code.{Code}
 use Rattle.grib_io.specs.declared.code.Code.TheVariants.{Present, Primary, Secondary}
 use Rattle.grib_io.specs.declared.fault.Reason.TheVariants.{DataTooShort, GroupWidth, GroupShape}
 use Rattle.grib_io.specs.Rows.{Row, row, first_place}
+use Rattle.grib_packing.specs.declared.group.Group.{Group}
 use Rattle.grib_packing.specs.declared.layout.Layout.{Layout}
 
 -- the octets that `count` numbers of w bits take, padded to whole octets
@@ -26,13 +27,6 @@ length_octets layout = octets_for layout.length_bits layout.groups
 
 abbrev pub list_octets : Layout → ℕ
 list_octets layout = reference_octets layout + width_octets layout + length_octets layout
-
--- a group: the reference of its codes, the width of its packed numbers in bits, and its length, which
--- is how many values it has
-pub record Group : Type 0 where
-  pub reference : ℕ
-  pub width : ℕ
-  pub count : ℕ
 
 -- The lists, of the octets that begin with the first of them.
 abbrev pub references : Layout → List ℕ → List ℕ

@@ -5,3 +5,6 @@ pub mod Groups
 pub mod Differences
 pub mod Complex
 pub mod Entries
+pub mod Groupings
+pub mod Misfits
+pub mod Packed

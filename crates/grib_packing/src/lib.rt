@@ -3,7 +3,9 @@
 #![tactic(auto)]
 
 mod column;
+mod group;
 mod layout;
 
 pub use column::{Column, Point};
+pub use group::Group;
 pub use layout::Layout;

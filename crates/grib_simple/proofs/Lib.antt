@@ -1,1 +1,3 @@
 mod Unpacking
+pub mod Accepted
+pub mod Masked

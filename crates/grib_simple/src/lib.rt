@@ -2,12 +2,15 @@
 //! packing: template 5.0.
 #![tactic(auto)]
 
-
 mod numbers;
+mod packing;
+mod representation;
 mod simple;
 #[cfg(test)]
 mod tests;
 
 pub use grib_packing::{Column, Point};
 pub use numbers::{unpack_numbers, unpack_points};
-pub use simple::simple_column;
+pub use packing::Packing;
+pub use representation::{Simple, read_simple};
+pub use simple::{SimplePacking, simple_column};

@@ -1,12 +1,16 @@
 //! Numbers of one width that stand one after another.
 
-ghost use Rattle.std.specs.Prelude.{◌≡◌, ℕ, ◌+◌, ◌*◌, ◌/◌, ◌^◌, ◌<◌, ◌≤◌, length, take, drop, map, pos, IfOk, OnOk};
+ghost use Rattle.std.specs.Prelude.{◌≡◌, ℕ, ◌+◌, ◌-◌, ◌*◌, ◌/◌, ◌^◌, ◌<◌, ◌≤◌, ◌++◌, length, replicate, take, drop, map, pos, IfOk, OnOk};
 ghost use Rattle.grib_bits.specs.Bits.{bits as bits_in, num};
 ghost use Rattle.grib_bits.specs.Plain.{plain};
+ghost use Rattle.grib_bitmap.specs.Mask.{present_count};
+ghost use Rattle.grib_packing.specs.Column.{points_with_mask};
 ghost use Rattle.grib_packing.specs.declared.column.Point.TheVariants.{Scaled};
+ghost use Rattle.grib_simple.specs.Part.{plain_from};
 
 use crate::Point;
 use byteorder::{BigEndian, ByteOrder};
+use grib_bitmap::{Mask, ones};
 use grib_bits::get_bits;
 use std::alloc::{AllocError, Global};
 
@@ -51,7 +55,7 @@ pub fn unpack_points(
 }
 
 /// What is made of a packed number.
-trait Unpacked: Drop {
+trait Unpacked: Copy + Drop {
     ghost unpacked: { ℕ → Self };
 
     fn of(number: u64) -> Self
@@ -91,12 +95,103 @@ fn unpack<T: Unpacked>(
 {
     let mut items = Vec::with_capacity(alloc, count as usize)?;
     let whole = count_in_words(octets.len(), bits, count);
-    for index in 0..whole {
+    push_numbers(octets, bits, whole, 0, count, &mut items)?;
+    Ok(items)
+}
+
+/// The numbers of the points that a mask has, and the points that it leaves out as missing: each point
+/// takes its place in one pass.
+///
+/// # Errors
+///
+/// There is no memory for the points.
+pub fn masked_points(
+    alloc: Global,
+    octets: &[u8],
+    bits: u32,
+    mask: &Mask,
+) -> Result<Vec<Point>, AllocError>
+    requires width { bits ≤ 48 }
+    requires within { bits * present_count mask.now ≤ 8 * length octets.now }
+    ensures { IfOk result (λ points. points.items
+        ≡ points_with_mask mask.now (map (λ x. Scaled (pos x))
+        (plain (bits_in octets.now) bits (present_count mask.now)))) }
+{
+    let mut points = Vec::with_capacity(alloc, mask.len() as usize)?;
+    let whole = count_in_words(octets.len(), bits, ones(mask));
+    let mut place = 0;
+    let mut taken = 0;
+    while place < mask.len() {
+        let run = mask.run(place);
+        if run.present {
+            push_numbers(octets, bits, whole, taken, taken + run.length, &mut points)?;
+            taken += run.length;
+        } else {
+            push_same(Point::Missing, run.length, &mut points)?;
+        }
+        place += run.length;
+    }
+    Ok(points)
+}
+
+/// Adds what is made of the numbers from the one at `from` up to the one at `to`. The first `whole` of
+/// all numbers have a word of octets.
+#[inline]
+fn push_numbers<T: Unpacked>(
+    octets: &[u8],
+    bits: u32,
+    whole: u32,
+    from: u32,
+    to: u32,
+    items: &mut Vec<T>,
+) -> Result<(), AllocError>
+    requires width { bits ≤ 48 }
+    requires within { bits * to ≤ 8 * length octets.now }
+    requires words { (k : ℕ) → k < whole → 1 ≤ bits × (k * bits / 8 + 8 ≤ length octets.now) }
+    requires order { from ≤ to }
+    ensures { OnOk result (items.new.items
+        ≡ items.old.items ++ map T.unpacked (plain_from (bits_in octets.now) bits from (to - from))) }
+{
+    if bits == 0 {
+        return push_same(T::of(0), to - from, items);
+    }
+    let middle = whole.min(to).max(from);
+    push_words(octets, bits, from, middle, items)?;
+    push_last(octets, bits, middle, to, items)
+}
+
+/// Adds an item `count` times.
+#[inline]
+fn push_same<T: Copy + Drop>(item: T, count: u32, items: &mut Vec<T>) -> Result<(), AllocError>
+    ensures { OnOk result (items.new.items ≡ items.old.items ++ replicate count item) }
+{
+    for _pushed in 0..count {
+        items.push(item)?;
+    }
+    Ok(())
+}
+
+/// Adds what is made of numbers that have a word of octets.
+#[inline(always)]
+fn push_words<T: Unpacked>(
+    octets: &[u8],
+    bits: u32,
+    from: u32,
+    to: u32,
+    items: &mut Vec<T>,
+) -> Result<(), AllocError>
+    requires width { bits ≤ 48 }
+    requires words { (k : ℕ) → from ≤ k → k < to
+        → 1 ≤ bits × (k * bits / 8 + 8 ≤ length octets.now) }
+    requires order { from ≤ to }
+    ensures { OnOk result (items.new.items
+        ≡ items.old.items ++ map T.unpacked (plain_from (bits_in octets.now) bits from (to - from))) }
+{
+    for index in from..to {
         let at = u64::from(index) * u64::from(bits);
         items.push(T::of(number_in_word(octets, at, bits)))?;
     }
-    push_last(octets, bits, whole, count, &mut items)?;
-    Ok(items)
+    Ok(())
 }
 
 /// How many of the numbers begin where eight octets are left, or a few less.
@@ -125,22 +220,21 @@ fn number_in_word(octets: &[u8], at: u64, bits: u32) -> u64
     word >> (64 - (at % 8) as u32 - bits) & ((1 << bits) - 1)
 }
 
-/// Adds what is made of the numbers from the one at `from` on: a few, unless they have no bits.
+/// Adds what is made of numbers that may end with the octets: a few.
 fn push_last<T: Unpacked>(
     octets: &[u8],
     bits: u32,
     from: u32,
-    count: u32,
+    to: u32,
     items: &mut Vec<T>,
 ) -> Result<(), AllocError>
     requires width { bits ≤ 48 }
-    requires within { bits * count ≤ 8 * length octets.now }
-    requires from { from ≤ count }
-    requires front { items.old.items ≡ map T.unpacked (plain (bits_in octets.now) bits from) }
+    requires within { bits * to ≤ 8 * length octets.now }
+    requires order { from ≤ to }
     ensures { OnOk result (items.new.items
-        ≡ map T.unpacked (plain (bits_in octets.now) bits count)) }
+        ≡ items.old.items ++ map T.unpacked (plain_from (bits_in octets.now) bits from (to - from))) }
 {
-    for index in from..count {
+    for index in from..to {
         let at = u64::from(index) * u64::from(bits);
         items.push(T::of(get_bits(octets, at, bits)))?;
     }

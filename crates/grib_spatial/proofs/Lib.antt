@@ -1,2 +1,5 @@
 pub mod Undone
 pub mod Told
+pub mod Whole
+pub mod Least
+pub mod Again

@@ -1,8 +1,8 @@
 -- Codes of order 1 or 2 tell one list of numbers.
 use Rattle.std.proofs.Common.{◌≡◌, ℕ, suc, List, [], ◌∷◌, length, ℤ, refl, ap, arith}
 use native.Mathlib.Numerals.{unary_clauses}
-use Rattle.grib_packing.specs.Differences.{Differenced, undone_1, undone_2, after_one, after_two}
-use Rattle.grib_spatial.proofs.Undone.{length-after_one, length-after_two, difference_one, difference_two, only_after_one, only_after_two}
+use Rattle.grib_packing.specs.Differences.{Differenced}
+use Rattle.grib_spatial.proofs.Undone.{undone_1, undone_2, after_one, after_two, length-after_one, length-after_two, difference_one, difference_two, only_after_one, only_after_two}
 
 pub told_1 : (f1 f2 m : ℤ) (codes : List ℕ) → Differenced 1 f1 f2 m codes (undone_1 f1 m codes)
 told_1 f1 f2 m [] = record {

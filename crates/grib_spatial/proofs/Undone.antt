@@ -1,7 +1,48 @@
 -- The numbers that codes tell, one after another.
 use Rattle.std.proofs.Common.{◌≡◌, ℕ, zero, suc, ◌<◌, List, [], ◌∷◌, length, get_or, ℤ, pos, ◌+ℤ◌, ◌-ℤ◌, ◌*ℤ◌, refl, ap, arith}
 use Rattle.std.proofs.lemmas.Int.{ints}
-use Rattle.grib_packing.specs.Differences.{after_one, after_two}
+use Rattle.grib_packing.specs.Differences.{Descriptors, One, Two, undone, undone_from}
+
+-- the numbers after x by first differences, and after x and y by second ones
+abbrev pub after_one : ℤ → ℤ → List ℕ → List ℤ
+after_one m x [] = []
+after_one m x (code ∷ codes) = let next = (pos code +ℤ m) +ℤ x in next ∷ after_one m next codes
+
+abbrev pub after_two : ℤ → ℤ → ℤ → List ℕ → List ℤ
+after_two m x y [] = []
+after_two m x y (code ∷ codes) = let next = ((pos code +ℤ m) +ℤ (pos 2 *ℤ y)) -ℤ x in next ∷ after_two m y next codes
+
+-- and with the first values before them
+abbrev pub undone_1 : ℤ → ℤ → List ℕ → List ℤ
+undone_1 f1 m [] = []
+undone_1 f1 m (code ∷ codes) = f1 ∷ after_one m f1 codes
+
+abbrev pub undone_2 : ℤ → ℤ → ℤ → List ℕ → List ℤ
+undone_2 f1 f2 m [] = []
+undone_2 f1 f2 m (code ∷ []) = f1 ∷ []
+undone_2 f1 f2 m (code ∷ second ∷ codes) = f1 ∷ f2 ∷ after_two m f1 f2 codes
+
+-- they are the numbers of the definition
+from_one : (d : Descriptors) (x : ℤ) (codes : List ℕ) → d.order ≡ 1 → undone_from d (One x) codes ≡ after_one d.minimum x codes
+from_one d x [] e = refl
+from_one d x (code ∷ codes) e =
+    let next = (pos code +ℤ d.minimum) +ℤ x in
+    rw e (ap (λ xs. next ∷ xs) (from_one d next codes e))
+
+from_two : (d : Descriptors) (x y : ℤ) (codes : List ℕ) → undone_from d (Two x y) codes ≡ after_two d.minimum x y codes
+from_two d x y [] = refl
+from_two d x y (code ∷ codes) =
+    let next = ((pos code +ℤ d.minimum) +ℤ (pos 2 *ℤ y)) -ℤ x in
+    ap (λ xs. next ∷ xs) (from_two d y next codes)
+
+pub undone-first : (d : Descriptors) (codes : List ℕ) → d.order ≡ 1 → undone d codes ≡ undone_1 d.first d.minimum codes
+undone-first d [] e = refl
+undone-first d (code ∷ codes) e = ap (λ xs. d.first ∷ xs) (from_one d d.first codes e)
+
+pub undone-second : (d : Descriptors) (codes : List ℕ) → d.order ≡ 2 → undone d codes ≡ undone_2 d.first d.second d.minimum codes
+undone-second d [] e = refl
+undone-second d (code ∷ []) e = refl
+undone-second d (code ∷ second ∷ codes) e = rw e (ap (λ xs. d.first ∷ d.second ∷ xs) (from_two d d.first d.second codes))
 
 pub length-after_one : (m x : ℤ) (codes : List ℕ) → length (after_one m x codes) ≡ length codes
 length-after_one m x [] = refl

@@ -1,7 +1,7 @@
 //! Laws over the definitions.
 
 ghost use Rattle.std.specs.Prelude.{◌≡◌, ℕ, ◌⊎◌, List, ℤ};
-ghost use Rattle.grib_packing.specs.Differences.{Differenced, Descriptors, undone};
+ghost use Rattle.grib_packing.specs.Differences.{Differenced, Descriptors, undone, descriptors_of, difference_codes};
 
 /// Codes of order 1 or 2 tell one list of numbers, and it is the one that `undone` computes.
 pub fn codes_tell_one_list()
@@ -9,4 +9,10 @@ pub fn codes_tell_one_list()
         → Differenced d.order d.first d.second d.minimum codes (undone d codes) }
     ensures the_only_one { (d : Descriptors) (codes : List ℕ) (xs : List ℤ) → (d.order ≡ 1) ⊎ (d.order ≡ 2)
         → Differenced d.order d.first d.second d.minimum codes xs → xs ≡ undone d codes }
+{}
+
+/// Numbers are told again by their differences of order 1 or 2.
+pub fn differences_tell_their_numbers()
+    ensures { (order : ℕ) (xs : List ℤ) → (order ≡ 1) ⊎ (order ≡ 2)
+        → undone (descriptors_of order xs) (difference_codes order xs) ≡ xs }
 {}

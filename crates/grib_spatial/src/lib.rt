@@ -1,4 +1,15 @@
-//! Spatial differences.
+//! Spatial differences: what they tell, one number after another or whole, and the way back.
 #![tactic(auto)]
 
+mod differences;
+mod differencing;
 pub mod laws;
+mod running;
+#[cfg(test)]
+mod tests;
+mod undoing;
+
+pub use differences::Differences;
+pub use differencing::difference;
+pub use running::{Running, ScaledRange};
+pub use undoing::{UndoFault, undo};

@@ -1,8 +1,8 @@
 -- The section is that of the numbers' octets, one after another.
-use Rattle.std.proofs.Common.{◌≡◌, ℕ, List, ◌++◌, sym, refl, arith}
-use Rattle.grib2_sections.specs.Encoding.{octets_of, AddsOctets}
+use Rattle.std.proofs.Common.{ℕ, List, ◌++◌, sym, refl, arith}
+use Rattle.grib2_sections.specs.Encoding.{octets_of}
 use Rattle.grib2_sections.specs.declared.identification.Identification.{Identification}
-use Rattle.grib2_sections.proofs.Octets.{AddsOctets-append}
+use Rattle.grib2_sections.proofs.Octets.{AddsOctets-append, AddsOctets-whole}
 use Rattle.grib2_sections.proofs.identification.write_identification.Goals as goal
 
 -- octets 1-12, 13-21
@@ -16,37 +16,45 @@ section value = front value ++ octets_of 2 value.year ++ octets_of 1 value.month
     ++ octets_of 1 value.status ++ octets_of 1 value.data_type
 
 pub returns : goal.returns
-returns c = (section c.args.value.now,
-    record { length_stands = refl; least = omega arith; number_stands = refl },
-    refl,
-    record {
-      centre = sym c.write_u16.ensures.number;
-      sub_centre = sym c.write_u16-2.ensures.number;
-      master = sym c.write_u8-2.ensures.number;
-      local = sym c.write_u8-3.ensures.number;
-      significance = sym c.write_u8-4.ensures.number;
-      year = sym c.write_u16-3.ensures.number;
-      month = sym c.write_u8-5.ensures.number;
-      day = sym c.write_u8-6.ensures.number;
-      hour = sym c.write_u8-7.ensures.number;
-      minute = sym c.write_u8-8.ensures.number;
-      second = sym c.write_u8-9.ensures.number;
-      status = sym c.write_u8-10.ensures.number;
-      data_type = sym c.write_u8-11.ensures.number;
-    },
+returns c =
+    let written =
     AddsOctets-append (AddsOctets-append (AddsOctets-append (AddsOctets-append (AddsOctets-append (AddsOctets-append (AddsOctets-append (AddsOctets-append (AddsOctets-append (AddsOctets-append (AddsOctets-append (AddsOctets-append (AddsOctets-append (AddsOctets-append
-      c.write_u32.ensures.octets
-      c.write_u8.ensures.octets)
-      c.write_u16.ensures.octets)
-      c.write_u16-2.ensures.octets)
-      c.write_u8-2.ensures.octets)
-      c.write_u8-3.ensures.octets)
-      c.write_u8-4.ensures.octets)
-      c.write_u16-3.ensures.octets)
-      c.write_u8-5.ensures.octets)
-      c.write_u8-6.ensures.octets)
-      c.write_u8-7.ensures.octets)
-      c.write_u8-8.ensures.octets)
-      c.write_u8-9.ensures.octets)
-      c.write_u8-10.ensures.octets)
-      c.write_u8-11.ensures.octets)
+    c.write_u32.ensures.octets
+    c.write_u8.ensures.octets)
+    c.write_u16.ensures.octets)
+    c.write_u16-2.ensures.octets)
+    c.write_u8-2.ensures.octets)
+    c.write_u8-3.ensures.octets)
+    c.write_u8-4.ensures.octets)
+    c.write_u16-3.ensures.octets)
+    c.write_u8-5.ensures.octets)
+    c.write_u8-6.ensures.octets)
+    c.write_u8-7.ensures.octets)
+    c.write_u8-8.ensures.octets)
+    c.write_u8-9.ensures.octets)
+    c.write_u8-10.ensures.octets)
+    c.write_u8-11.ensures.octets
+    in record {
+      section = (
+        section c.args.value.now,
+        record { length_stands = refl; least = omega arith; number_stands = refl },
+        refl,
+        record {
+          centre = sym c.write_u16.ensures.number;
+          sub_centre = sym c.write_u16-2.ensures.number;
+          master = sym c.write_u8-2.ensures.number;
+          local = sym c.write_u8-3.ensures.number;
+          significance = sym c.write_u8-4.ensures.number;
+          year = sym c.write_u16-3.ensures.number;
+          month = sym c.write_u8-5.ensures.number;
+          day = sym c.write_u8-6.ensures.number;
+          hour = sym c.write_u8-7.ensures.number;
+          minute = sym c.write_u8-8.ensures.number;
+          second = sym c.write_u8-9.ensures.number;
+          status = sym c.write_u8-10.ensures.number;
+          data_type = sym c.write_u8-11.ensures.number;
+        },
+        written,
+      );
+      whole = AddsOctets-whole written c.requires.whole;
+    }

@@ -1,0 +1,152 @@
+//! The sections of a message, one after another.
+
+ghost use Rattle.std.specs.Prelude.{◌≡◌, ◌+◌, ◌≤◌, false, length, IsTrue, Some, None, MatchResult, MatchOption};
+ghost use Rattle.grib_bits.specs.Octets.{StatesItself};
+ghost use Rattle.grib2_sections.specs.Frame.{End, Fails, Next, step_from, position_after, mark_fault, frame_fault, ends_at, section_at, may_follow as is_successor};
+
+use crate::refusal::{refusal, truncated};
+use byteorder::{BigEndian, ByteOrder};
+use grib_io::{Fault, Reason, Section};
+use std::marker::Model;
+
+/// The walk over the sections of a message of edition 2 after Section 0 (WMO-No. 306, Volume I.2,
+/// FM 92 GRIB edition 2). A clause sees the total length of the message, the octet at which the next
+/// section or the end mark begins, and the number of the section before it.
+#[derive(Debug, Drop)]
+pub struct Frame {
+    total: u64,
+    place: u64,
+    last: u8,
+}
+
+// Four octets are always left.
+impl Model for Frame {
+    ghost use Rattle.std.specs.Prelude.{◌+◌, ◌≤◌};
+    ghost use Rattle.grib2_sections.specs.Frame.{Position};
+
+    ghost Value = { Position };
+
+    ghost view = { λ frame. record { total = frame.total; place = frame.place; last = frame.last } };
+
+    ghost invariant = { λ frame. (frame.total ≤ 268435456) × (17 ≤ frame.place)
+        × (frame.place + 3 ≤ frame.total) × (frame.last ≤ 7) };
+}
+
+/// The end mark `7777` as a number.
+const END_MARK: u32 = 0x37373737;
+
+impl Frame {
+    /// The walk that has passed Section 0 of a message of `total` octets.
+    pub fn new(total: u64) -> Frame
+        requires shortest { 20 ≤ total }
+        requires longest { total ≤ 268435456 }
+        ensures { result ≡ record { total = total; place = 17; last = 0 } }
+    {
+        Frame {
+            total,
+            place: 17,
+            last: 0,
+        }
+    }
+
+    /// The next section of the message that begins with these octets, which may go on past its end,
+    /// or nothing at the end mark. A refusal is that of the first row of the profile that fails: the
+    /// octets end too early, a section may not stand there, or a length disagrees with the total. It
+    /// and the end mark leave the frame as it was.
+    pub fn next<'a>(&mut self, octets: &'a [u8]) -> Result<Option<Section<'a>>, Fault>
+        ensures { MatchResult result
+            (λ next. MatchOption next
+            ((step_from octets.now self.old ≡ End) × (self.new ≡ self.old))
+            (λ section. (step_from octets.now self.old ≡ Next section.octets.now)
+            × StatesItself section.number section.octets.now
+            × (section.start ≡ self.old.place)
+            × (1 ≤ section.start) × (section.start ≤ 268435456)
+            × (self.new ≡ position_after self.old section.octets.now)))
+            (λ fault. (step_from octets.now self.old ≡ Fails fault) × (self.new ≡ self.old)) }
+    {
+        if self.is_at_end(octets)? {
+            return Ok(None);
+        }
+        let section = self.section(octets)?;
+        self.place += section.octets.len() as u64;
+        self.last = section.number;
+        Ok(Some(section))
+    }
+
+    /// Whether the end mark stands here, and may.
+    fn is_at_end(&self, octets: &[u8]) -> Result<bool, Fault>
+        ensures { MatchResult result
+            (λ ends. (mark_fault octets.now self.now ≡ None)
+            × (ends ≡ ends_at octets.now self.now.place))
+            (λ fault. mark_fault octets.now self.now ≡ Some fault) }
+    {
+        let present = octets.len() as u64;
+        let last_octet = self.place + 3;
+        if present < last_octet {
+            return Err(truncated(present));
+        }
+        let mark = BigEndian::read_u32(&octets[self.place as usize - 1..]);
+        if mark == END_MARK && self.last != 7 {
+            return Err(refusal(self.place, Reason::SectionOrder, 8));
+        }
+        if mark == END_MARK && last_octet < self.total {
+            let left = self.total - last_octet;
+            return Err(refusal(self.place + 4, Reason::LengthDisagrees, left));
+        }
+        if mark != END_MARK && last_octet == self.total {
+            return Err(refusal(self.place, Reason::EndMark, u64::from(mark)));
+        }
+        Ok(mark == END_MARK)
+    }
+
+    /// The section that stands here, and may.
+    fn section<'a>(&self, octets: &'a [u8]) -> Result<Section<'a>, Fault>
+        ensures { MatchResult result
+            (λ section. (frame_fault octets.now self.now ≡ None)
+            × (section.octets.now ≡ section_at octets.now self.now.place)
+            × StatesItself section.number section.octets.now
+            × (section.start ≡ self.now.place) × (section.number ≤ 7)
+            × (self.now.place + length section.octets.now + 3 ≤ self.now.total))
+            (λ fault. frame_fault octets.now self.now ≡ Some fault) }
+    {
+        let present = octets.len() as u64;
+        if present < self.place + 4 {
+            return Err(truncated(present));
+        }
+        let before = self.place - 1;
+        let length = u64::from(BigEndian::read_u32(&octets[before as usize..]));
+        let number = octets[before as usize + 4];
+        if length < 5 || self.total < before + length + 4 {
+            return Err(refusal(self.place, Reason::SectionLength, length));
+        }
+        if !may_follow(self.last, number) {
+            return Err(refusal(self.place + 4, Reason::SectionOrder, u64::from(number)));
+        }
+        if present < before + length {
+            return Err(truncated(present));
+        }
+        Ok(Section {
+            number,
+            start: self.place,
+            octets: &octets[before as usize..(before + length) as usize],
+        })
+    }
+}
+
+/// Whether a section with this number may stand behind the section with the number `last`.
+fn may_follow(last: u8, number: u8) -> bool
+    requires { last ≤ 7 }
+    ensures answer { result ≡ is_successor last number }
+    ensures known { IsTrue result → number ≤ 7 }
+{
+    match last {
+        0 => number == 1,
+        1 => number == 2 || number == 3,
+        2 => number == 3,
+        3 => number == 4,
+        4 => number == 5,
+        5 => number == 6,
+        6 => number == 7,
+        _ => number == 2 || number == 3 || number == 4,
+    }
+}

@@ -1,0 +1,5 @@
+pub mod WordBits
+pub mod RunBits
+pub mod Made
+pub mod Writing
+pub mod Runs

@@ -1,0 +1,2 @@
+pub mod Representation
+pub mod Told

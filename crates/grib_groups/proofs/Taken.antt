@@ -1,0 +1,142 @@
+-- Lemmas on codes that are taken from groups and bits.
+use Rattle.std.proofs.Common.{◌≡◌, ℕ, ◌+◌, ◌*◌, ◌<◌, ◌≤◌, Bool, List, [], ◌∷◌, ◌++◌, length, take, drop, map, refl, sym, ap, ap₂, ◌∙◌, arith, append_assoc, add-mul, mul_comm, inl, inr}
+use Rattle.std.proofs.lemmas.Bool.{cases_lt}
+use Rattle.std.proofs.lemmas.List.{append-nil, map-append, drop-drop, drop-append-le, length-append, length-drop, length-map, take-append-drop, nil_from_length}
+use Rattle.std.proofs.lemmas.List.Sums.{sum_by-cons}
+use Rattle.std.proofs.Math.Nat.{mul-le-mul_right}
+use Rattle.grib_bits.specs.Plain.{plain}
+use Rattle.grib_io.specs.declared.code.Code.{Code}
+use Rattle.grib_packing.specs.declared.group.Group.{Group}
+use Rattle.grib_packing.specs.declared.layout.Layout.{Layout}
+use Rattle.grib_packing.specs.Groups.{code_of, codes_from, packed_bits}
+use Rattle.grib_groups.specs.Taking.{values, Taken}
+use Rattle.grib_groups.proofs.Plain.{plain-add, plain-append, length-plain}
+
+pub values-cons : (group : Group) (groups : List Group) → values (group ∷ groups) ≡ group.count + values groups
+values-cons group groups = sum_by-cons (λ (g : Group). g.count) group groups
+
+pub packed_bits-cons : (group : Group) (groups : List Group) → packed_bits (group ∷ groups) ≡ group.count * group.width + packed_bits groups
+packed_bits-cons group groups = sum_by-cons (λ (g : Group). g.count * g.width) group groups
+
+-- there is a code for each value
+pub length-codes_from : (layout : Layout) (groups : List Group) (numbers : List Bool) → length (codes_from layout groups numbers) ≡ values groups
+length-codes_from layout [] numbers = refl
+length-codes_from layout (group ∷ groups) numbers =
+    let first = plain numbers group.width group.count in
+    let rest = drop (group.width * group.count) numbers in
+    omega (arith, length-append (map (code_of layout group) first) (codes_from layout groups rest), length-map first (code_of layout group), length-plain numbers group.width group.count, length-codes_from layout groups rest, values-cons group groups)
+
+no_codes : (layout : Layout) (groups : List Group) (numbers : List Bool) → values groups ≡ 0 → codes_from layout groups numbers ≡ []
+no_codes layout groups numbers none = nil_from_length (codes_from layout groups numbers) (length-codes_from layout groups numbers ∙ none)
+
+-- nothing was taken
+pub taken_none : (layout : Layout) (groups : List Group) (bits : List Bool) → Taken layout groups bits [] groups bits
+taken_none layout groups bits = record {
+  agree = λ more. refl;
+  counted = omega arith;
+  used = λ some. refl;
+  ends = record { before = []; joined = refl };
+}
+
+-- one taking after another
+pub taken_then : {layout : Layout} {groups left after : List Group} {bits rest last : List Bool} {codes more_codes : List Code}
+    → Taken layout groups bits codes left rest → Taken layout left rest more_codes after last → Taken layout groups bits (codes ++ more_codes) after last
+taken_then {layout} {groups} {left} {after} {bits} {rest} {last} {codes} {more_codes} first second = record {
+  agree = λ more. first.agree more ∙ ap (λ cs. codes ++ cs) (second.agree more) ∙ sym (append_assoc codes more_codes (codes_from layout after (last ++ more)));
+  counted = omega (arith, length-append codes more_codes, first.counted, second.counted);
+  used = λ some.
+      let here : 0 < values left = omega (arith, second.counted) in
+      omega (arith, first.used here, second.used some);
+  ends = record {
+    before = first.ends.before ++ second.ends.before;
+    joined = append_assoc first.ends.before second.ends.before last ∙ ap (λ bs. first.ends.before ++ bs) second.ends.joined ∙ first.ends.joined;
+  };
+}
+
+-- the same with more bits behind
+pub taken_on : {layout : Layout} {groups left : List Group} {bits rest : List Bool} {codes : List Code} (behind : List Bool)
+    → Taken layout groups bits codes left rest → Taken layout groups (bits ++ behind) codes left (rest ++ behind)
+taken_on {layout} {groups} {left} {bits} {rest} {codes} behind taken = record {
+  agree = λ more.
+      ap (codes_from layout groups) (append_assoc bits behind more)
+      ∙ taken.agree (behind ++ more)
+      ∙ ap (λ bs. codes ++ codes_from layout left bs) (sym (append_assoc rest behind more));
+  counted = taken.counted;
+  used = λ some. omega (arith, length-append bits behind, length-append rest behind, taken.used some);
+  ends = record {
+    before = taken.ends.before;
+    joined = sym (append_assoc taken.ends.before rest behind) ∙ ap (λ bs. bs ++ behind) taken.ends.joined;
+  };
+}
+
+-- the first m of the m + n numbers of a group
+module _ (layout : Layout) (group : Group) (groups : List Group) (bits : List Bool) (m n : ℕ) (parts : group.count ≡ m + n) (within : group.width * m ≤ length bits) where
+  pub taken_run : Taken layout (group ∷ groups) bits (map (code_of layout group) (plain bits group.width m)) (record group { count = n } ∷ groups) (drop (group.width * m) bits)
+  taken_run =
+      let w = group.width in
+      let code = code_of layout group in
+      let rest = drop (w * m) bits in
+      let left : Group = record group { count = n } in
+      let product : group.count * w ≡ m * w + n * w = ap (λ (k : ℕ). k * w) parts ∙ add-mul m n w in
+      record {
+        agree = λ more.
+            let all = bits ++ more in
+            let behind : drop (w * m) all ≡ rest ++ more = drop-append-le (w * m) bits more within in
+            let split : plain all w (m + n) ≡ plain bits w m ++ plain (rest ++ more) w n =
+            plain-add all w m n ∙ ap₂ (λ xs ys. xs ++ plain ys w n) (plain-append bits more w m within) behind in
+            let place : w * (m + n) ≡ w * m + w * n = omega (arith, mul_comm w (m + n), add-mul m n w, mul_comm w m, mul_comm w n) in
+            let after : drop (w * (m + n)) all ≡ drop (w * n) (rest ++ more) =
+            ap (λ (k : ℕ). drop k all) place ∙ sym (drop-drop (w * n) (w * m) all) ∙ ap (drop (w * n)) behind in
+            ap (λ (k : ℕ). map code (plain all w k) ++ codes_from layout groups (drop (w * k) all)) parts
+            ∙ ap₂ (λ xs ys. map code xs ++ codes_from layout groups ys) split after
+            ∙ ap (λ cs. cs ++ codes_from layout groups (drop (w * n) (rest ++ more))) (map-append code (plain bits w m) (plain (rest ++ more) w n))
+            ∙ append_assoc (map code (plain bits w m)) (map code (plain (rest ++ more) w n)) (codes_from layout groups (drop (w * n) (rest ++ more)));
+        counted = omega (arith, parts, values-cons group groups, values-cons left groups, length-map (plain bits w m) code, length-plain bits w m);
+        used = λ some. omega (arith, within, product, mul_comm w m, length-drop (w * m) bits, packed_bits-cons group groups, packed_bits-cons left groups);
+        ends = record { before = take (w * m) bits; joined = take-append-drop (w * m) bits };
+      }
+
+-- a group with nothing left gives way to the next
+pub taken_next : (layout : Layout) (group : Group) (groups : List Group) (bits : List Bool) → group.count ≡ 0 → Taken layout (group ∷ groups) bits [] groups bits
+taken_next layout group groups bits empty = record {
+  agree = λ more.
+      let all = bits ++ more in
+      let nowhere : group.width * 0 ≡ 0 = omega arith in
+      ap (λ (k : ℕ). map (code_of layout group) (plain all group.width k) ++ codes_from layout groups (drop (group.width * k) all)) empty
+      ∙ ap (λ (k : ℕ). codes_from layout groups (drop k all)) nowhere;
+  counted = omega (arith, empty, values-cons group groups);
+  used = λ some.
+      let nowhere : group.width * 0 ≡ 0 = omega arith in
+      let none : group.count * group.width ≡ 0 = ap (λ (k : ℕ). k * group.width) empty ∙ mul_comm 0 group.width ∙ nowhere in
+      omega (arith, none, packed_bits-cons group groups);
+  ends = record { before = []; joined = refl };
+}
+
+-- where no value is left, no bits are needed
+pub taken_all : (layout : Layout) (groups : List Group) (bits : List Bool) → values groups ≡ 0 → Taken layout groups bits [] groups []
+taken_all layout groups bits none = record {
+  agree = λ more. no_codes layout groups (bits ++ more) none ∙ sym (no_codes layout groups more none);
+  counted = omega arith;
+  used = λ some. absurd (omega (arith, none));
+  ends = record { before = bits; joined = append-nil bits };
+}
+
+-- Where the bits of all numbers were there, and what is left of them is too short for the groups that
+-- are left, all codes were taken.
+pub taken_whole : {layout : Layout} {groups left : List Group} {bits rest : List Bool} {codes : List Code} → Taken layout groups bits codes left rest
+    → packed_bits groups ≤ length bits → (0 < values left → length rest < packed_bits left) → codes ≡ codes_from layout groups bits
+taken_whole {layout} {groups} {left} {bits} {rest} {codes} taken enough short = elim (cases_lt 0 (values left)) [
+  | inl some ↦ absurd (omega (arith, taken.used some, short some))
+  | inr none ↦
+      let empty : values left ≡ 0 = omega arith in
+      sym (append-nil codes)
+      ∙ ap (λ cs. codes ++ cs) (sym (no_codes layout left (rest ++ []) empty))
+      ∙ sym (taken.agree [])
+      ∙ ap (codes_from layout groups) (append-nil bits)
+]
+
+-- a group that has values and is wider than these bits
+pub short_of_group : (group : Group) (groups : List Group) (n : ℕ) → 0 < group.count → n < group.width → n < packed_bits (group ∷ groups)
+short_of_group group groups n some short =
+    let one : 1 * group.width ≤ group.count * group.width = mul-le-mul_right group.width some in
+    omega (arith, one, packed_bits-cons group groups)

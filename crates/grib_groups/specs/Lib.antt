@@ -1,0 +1,5 @@
+pub mod Taking
+pub mod Table
+pub mod Going
+pub mod Lists
+pub mod Laws

@@ -1,0 +1,122 @@
+-- What is read of the three lists of groups.
+use Rattle.std.specs.Prelude.{◌≡◌, ℕ, ◌+◌, ◌*◌, ◌^◌, ◌<◌, ◌≤◌, List, [], ◌∷◌, ◌++◌, length, map, nat_lt, not, ◌==◌, Option, Some, sum, vec_capacity}
+use Rattle.std.specs.List.{All}
+use Rattle.grib_io.specs.declared.code.Code.{Code}
+use Rattle.grib_io.specs.declared.fault.Fault.{Fault}
+use Rattle.grib_io.specs.declared.fault.Reason.TheVariants.{GroupWidth, GroupShape, DataTooShort}
+use Rattle.grib_io.specs.Rows.{Row, row, first_place, first_fault_at}
+use Rattle.grib_packing.specs.declared.layout.Layout.{Layout}
+use Rattle.grib_packing.specs.Groups.{reference_octets, list_octets, packed_bits, groups_from, first_past}
+use Rattle.grib_io.specs.declared.fault.UnpackFault.{UnpackFault}
+use Rattle.grib_io.specs.declared.fault.UnpackFault.TheVariants.{Refused, Memory}
+use Rattle.grib_groups.specs.declared.decoding.Codes.{Codes}
+use Rattle.grib_groups.specs.declared.lists.References.{References}
+use Rattle.grib_groups.specs.declared.lists.Widths.{Widths}
+use Rattle.grib_groups.specs.declared.lists.Lengths.{Lengths}
+use Rattle.grib_groups.specs.declared.lists.Lists.{Lists}
+use Rattle.grib_groups.specs.Taking.{number_of}
+
+-- A list that has memory for so many items was added to.
+pub record Grown {X : Type 0} (before : List X) (memory : ℕ) (added : List X) (after : List X) (memory_after : ℕ) : Type 0 where
+  pub items : after ≡ before ++ added
+  pub capacity : memory ≤ memory_after
+
+abbrev pub ReferencesTook : References → List Code → References → Type 0
+ReferencesTook before codes after =
+    length before.items.items + length codes ≤ vec_capacity before.items
+    → Grown before.items.items (vec_capacity before.items) (map number_of codes) after.items.items (vec_capacity after.items)
+
+-- These widths were read: they are kept, or the first of them that is over 32 is known.
+pub record WidthsAre (widths : Widths) (read : List ℕ) : Type 0 where
+  pub long : length widths.items.items ≡ length read
+  pub items : widths.too_wide ≡ 0 → widths.items.items ≡ read
+  pub place : widths.too_wide ≡ first_place (λ width. nat_lt 32 width) read
+  pub narrow : All (λ width. width ≤ 32) widths.items.items
+
+abbrev pub coded_widths : ℕ → List Code → List ℕ
+coded_widths reference codes = map (λ code. reference + number_of code) codes
+
+pub record WidthsTook (before : Widths) (codes : List Code) (after : Widths) : Type 0 where
+  pub reference : after.reference ≡ before.reference
+  pub capacity : vec_capacity before.items ≤ vec_capacity after.items
+  pub read : (read : List ℕ) → length read + length codes ≤ vec_capacity before.items → WidthsAre before read → WidthsAre after (read ++ coded_widths before.reference codes)
+
+-- These lengths were read, where the field has this many values: they are kept, or the first group that
+-- takes their sum past the values is known.
+pub record LengthsAre (values : ℕ) (lengths : Lengths) (read : List ℕ) : Type 0 where
+  pub long : length lengths.items.items ≡ length read
+  pub items : lengths.past ≡ 0 → lengths.items.items ≡ read
+  pub rest : lengths.past ≡ 0 → sum read + lengths.rest ≡ values
+  pub so_far : lengths.past ≡ 0 → (more : List ℕ) → first_past values 0 (read ++ more) ≡ first_past lengths.rest (length read) more
+  pub over : 0 < lengths.past → values < sum read
+  pub past : 0 < lengths.past → (more : List ℕ) → first_past values 0 (read ++ more) ≡ lengths.past
+
+abbrev pub coded_lengths_by : ℕ → ℕ → List Code → List ℕ
+coded_lengths_by reference increment codes = map (λ code. reference + increment * number_of code) codes
+
+-- the parts that all lengths are read with stay
+pub record SameCoding (before after : Lengths) : Type 0 where
+  pub reference : after.reference ≡ before.reference
+  pub increment : after.increment ≡ before.increment
+  pub capacity : vec_capacity before.items ≤ vec_capacity after.items
+
+pub record LengthAdded (before : Lengths) (added : ℕ) (after : Lengths) : Type 0 where
+  pub same : SameCoding before after
+  pub read : (values : ℕ) (read : List ℕ) → length read + 1 ≤ vec_capacity before.items → LengthsAre values before read → LengthsAre values after (read ++ added ∷ [])
+
+pub record LengthsTook (before : Lengths) (codes : List Code) (after : Lengths) : Type 0 where
+  pub same : SameCoding before after
+  pub read : (values : ℕ) (read : List ℕ) → length read + length codes ≤ vec_capacity before.items → LengthsAre values before read
+      → LengthsAre values after (read ++ coded_lengths_by before.reference before.increment codes)
+
+-- No group was read, and there is memory for all of them.
+pub record AreEmpty (layout : Layout) (values : ℕ) (lists : Lists) : Type 0 where
+  pub references : lists.references.items.items ≡ []
+  pub reference_memory : layout.groups ≤ vec_capacity lists.references.items
+  pub widths : WidthsAre lists.widths []
+  pub width_reference : lists.widths.reference ≡ layout.width_reference
+  pub width_memory : layout.groups ≤ vec_capacity lists.widths.items
+  pub lengths : LengthsAre values lists.lengths []
+  pub length_reference : lists.lengths.reference ≡ layout.length_reference
+  pub length_increment : lists.lengths.increment ≡ layout.length_increment
+  pub length_memory : layout.groups ≤ vec_capacity lists.lengths.items
+
+-- These three lists were read, each with an entry for every group.
+pub record ListsAre (layout : Layout) (values : ℕ) (lists : Lists) (references widths lengths : List ℕ) : Type 0 where
+  pub references_are : lists.references.items.items ≡ references
+  pub widths_are : WidthsAre lists.widths widths
+  pub lengths_are : LengthsAre values lists.lengths lengths
+  pub reference_count : length references ≡ layout.groups
+  pub width_count : length widths ≡ layout.groups
+  pub length_count : length lengths ≡ layout.groups
+
+-- Some lists were read, of a field of some values.
+pub record WereRead (layout : Layout) (lists : Lists) : Type 0 where
+  pub values : ℕ
+  pub small : values < 2 ^ 32
+  pub references : List ℕ
+  pub widths : List ℕ
+  pub lengths : List ℕ
+  pub are : ListsAre layout values lists references widths lengths
+
+-- rows S7.4 to S7.6 of a Section 7 of l octets that has these lists
+abbrev pub lists_rows : Layout → ℕ → ℕ → ℕ → List ℕ → List ℕ → List ℕ → List Row
+lists_rows layout skip l values references widths lengths =
+    let too_wide = first_place (λ w. nat_lt 32 w) widths in
+    row (nat_lt 0 too_wide) (6 + skip + reference_octets layout) GroupWidth too_wide  -- S7.4
+    ∷ row (not (sum lengths == values)) 1 GroupShape (first_past values 0 lengths)  -- S7.5
+    ∷ row (nat_lt (8 * l) (8 * (5 + skip + list_octets layout) + packed_bits (groups_from references widths lengths))) 1 DataTooShort l  -- S7.6
+    ∷ []
+
+abbrev pub lists_fault : Layout → ℕ → ℕ → ℕ → ℕ → List ℕ → List ℕ → List ℕ → Option Fault
+lists_fault layout start skip l values references widths lengths = first_fault_at start (lists_rows layout skip l values references widths lengths)
+
+abbrev pub CodesTook : Codes → List Code → Codes → Type 0
+CodesTook before codes after =
+    length before.items.items + length codes ≤ vec_capacity before.items
+    → Grown before.items.items (vec_capacity before.items) (map (λ code. code) codes) after.items.items (vec_capacity after.items)
+
+-- A refusal is this fault; want of memory says nothing.
+abbrev pub IsRefusal : Option Fault → UnpackFault → Type 0
+IsRefusal fault (Refused refused) = fault ≡ Some refused
+IsRefusal fault Memory = Unit {0}

@@ -1,0 +1,109 @@
+//! The codes of a whole Section 7.
+
+ghost use Rattle.std.specs.Prelude.{◌≡◌, ℕ, ◌+◌, ◌*◌, ◌^◌, ◌≤◌, ◌<◌, length, drop, None, MatchResult, vec_len};
+ghost use Rattle.grib_bits.specs.Bits.{bits as bits_in};
+ghost use Rattle.grib_bits.specs.Octets.{StatesItself};
+ghost use Rattle.grib_io.specs.Rows.{first_fault, first_fault_at};
+ghost use Rattle.grib_packing.specs.Groups.{codes_from, grouped, group_rows, list_rows, packed_bits};
+ghost use Rattle.grib_groups.specs.Table.{groups_in, IsWhole, IsNarrow};
+ghost use Rattle.grib_groups.specs.Lists.{CodesTook, IsRefusal};
+ghost use Rattle.grib_groups.specs.Laws.{codes-none, codes-more};
+
+use crate::lists::{Lists, octets_of_lists, push_within};
+use crate::{Group, Layout, Numbers, Table, Taker};
+use byteorder::{BigEndian, ByteOrder};
+use grib_io::{Code, Section, UnpackFault};
+use std::alloc::Global;
+
+/// Codes one after another, for which there is memory.
+#[derive(Debug, Drop)]
+struct Codes {
+    items: Vec<Code>,
+}
+
+impl Taker for Codes {
+    ghost limit = { 2 ^ 33 };
+
+    ghost took = { CodesTook };
+
+    fn take(mut self, code: Code) -> Codes {
+        push_within(&mut self.items, code);
+        self
+    }
+
+    ghost none = { codes-none };
+
+    ghost more = { codes-more };
+}
+
+/// The codes of all values of a Section 7 that has `skip` octets of extra descriptors after octet 5,
+/// where Section 5 has `count` values (WMO-No. 306, Volume I.2, FM 92 GRIB edition 2, data templates
+/// 7.2 and 7.3). All octets of the three lists are there, as [`lists_fit`](crate::lists_fit) says.
+///
+/// # Errors
+///
+/// The section is refused: the first group whose width is over 32, then lengths that do not add up to
+/// the values, then too few octets for the packed numbers. Or there is no memory for the groups and
+/// the codes.
+pub fn decode_groups(
+    alloc: Global,
+    layout: &Layout,
+    section7: &Section<'_>,
+    skip: u32,
+    count: u32,
+) -> Result<Vec<Code>, UnpackFault>
+    requires references { layout.now.reference_bits ≤ 32 }
+    requires widths { layout.now.width_bits ≤ 32 }
+    requires lengths { layout.now.length_bits ≤ 32 }
+    requires groups { 1 ≤ layout.now.groups }
+    requires itself { StatesItself section7.now.number section7.now.octets.now }
+    requires low { 1 ≤ section7.now.start }
+    requires high { section7.now.start ≤ 268435456 }
+    requires skip { skip ≤ 12 }
+    requires lists { first_fault (list_rows layout.now (length section7.now.octets.now) skip) ≡ None }
+    ensures { MatchResult result
+        (λ codes. (first_fault_at section7.now.start (group_rows layout.now section7.now.octets.now skip count) ≡ None)
+        × (codes.items ≡ grouped layout.now (drop (5 + skip) section7.now.octets.now)))
+        (IsRefusal (first_fault_at section7.now.start (group_rows layout.now section7.now.octets.now skip count))) }
+{
+    let length = length_of(section7);
+    let octets = &section7.octets[5 + skip as usize..];
+    let Ok(lists) = Lists::read(alloc, layout, octets, count) else {
+        return Err(UnpackFault::Memory);
+    };
+    if let Some(fault) = lists.fault(layout, skip, length, section7.start) {
+        return Err(UnpackFault::Refused(fault));
+    }
+    let Ok(items) = Vec::with_capacity(alloc, count as usize) else {
+        return Err(UnpackFault::Memory);
+    };
+    let numbers = &octets[octets_of_lists(layout) as usize..];
+    Ok(take_all(layout, &lists.into_table(), numbers, Codes { items }).items)
+}
+
+/// The length that a section states, which is its own.
+fn length_of(section: &Section<'_>) -> u32
+    requires { StatesItself section.now.number section.now.octets.now }
+    ensures { result ≡ length section.now.octets.now }
+{
+    BigEndian::read_u32(section.octets)
+}
+
+/// Hands the codes of all groups on, whose packed numbers stand from the first octet on.
+fn take_all<T: Taker>(layout: &Layout, table: &Table, octets: &[u8], taker: T) -> T
+    requires bits { layout.now.reference_bits ≤ 48 }
+    requires whole { IsWhole table.now }
+    requires narrow { IsNarrow table.now }
+    requires limit { 2 ^ 33 ≤ T.limit }
+    requires short { length octets.now < 2 ^ 32 }
+    requires enough { packed_bits (groups_in table.now) ≤ 8 * length octets.now }
+    ensures { T.took taker (codes_from layout.now (groups_in table.now) (bits_in octets.now)) result }
+{
+    let nothing = Group {
+        reference: 0,
+        width: 0,
+        count: 0,
+    };
+    let mut numbers = Numbers::start(nothing);
+    numbers.push(layout, table, octets, taker)
+}

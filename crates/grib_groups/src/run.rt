@@ -1,0 +1,138 @@
+//! Runs of numbers of one width.
+
+ghost use Rattle.std.specs.Prelude.{◌≡◌, ℕ, ◌+◌, ◌-◌, ◌*◌, ◌/◌, ◌^◌, ◌<◌, ◌≤◌, length, take, drop, map};
+ghost use Rattle.grib_bits.specs.Bits.{bits as bits_in, num};
+ghost use Rattle.grib_bits.specs.Plain.{plain};
+ghost use Rattle.grib_packing.specs.Groups.{code_of};
+ghost use Rattle.grib_groups.specs.Taking.{code_by};
+
+use crate::coding::Coding;
+use crate::{Group, Layout, Taker};
+use byteorder::{BigEndian, ByteOrder};
+use grib_bits::get_bits;
+
+/// Takes `count` numbers of a group, which stand after the first `at` bits of `octets`.
+#[inline]
+pub fn take_run<T: Taker>(
+    layout: &Layout,
+    group: Group,
+    octets: &[u8],
+    at: u64,
+    count: u32,
+    taker: T,
+) -> T
+    requires width { group.width ≤ 48 }
+    requires bits { layout.now.reference_bits ≤ 48 }
+    requires limit { group.reference + 2 ^ group.width ≤ T.limit }
+    requires short { length octets.now < 2 ^ 32 }
+    requires within { at + count * group.width ≤ 8 * length octets.now }
+    ensures { T.took taker (map (code_of layout.now group) (plain (drop at (bits_in octets.now)) group.width count)) result }
+{
+    let width = u32::from(group.width);
+    let coding = Coding::of(layout, group);
+    if width == 0 {
+        return take_same(coding, count, taker);
+    }
+    let whole = count_in_words(octets.len() as u64, at, width, count);
+    let taker = take_from_words(coding, octets, at, width, whole, taker);
+    let at = at + u64::from(whole) * u64::from(width);
+    take_from_end(coding, octets, at, width, count - whole, taker)
+}
+
+/// Takes `count` numbers of no bits.
+#[inline]
+fn take_same<T: Taker>(coding: Coding, count: u32, mut taker: T) -> T
+    requires limit { coding.reference + 1 ≤ T.limit }
+    requires reference { coding.reference < 2 ^ 32 }
+    ensures { (xs : _) → T.took taker (map (code_by coding) (plain xs 0 count)) result }
+{
+    let code = coding.code(0);
+    for _index in 0..count {
+        taker = taker.take(code);
+    }
+    taker
+}
+
+/// How many of `count` numbers begin where eight octets are left.
+#[inline]
+fn count_in_words(length: u64, at: u64, width: u32, count: u32) -> u32
+    requires some { 1 ≤ width }
+    requires width { width ≤ 48 }
+    requires short { length < 2 ^ 32 }
+    requires at { at ≤ 8 * length }
+    ensures count { result ≤ count }
+    ensures within { 0 < result → at + result * width + 64 ≤ 8 * length + width }
+{
+    let bits = 8 * length;
+    if at + u64::from(count) * u64::from(width) + 64 <= bits + u64::from(width) {
+        return count;
+    }
+    if bits < at + 64 {
+        return 0;
+    }
+    u64::from(count).min((bits - at - 64) / u64::from(width) + 1) as u32
+}
+
+/// Takes `count` numbers from words of eight octets.
+#[inline]
+fn take_from_words<T: Taker>(
+    coding: Coding,
+    octets: &[u8],
+    at: u64,
+    width: u32,
+    count: u32,
+    mut taker: T,
+) -> T
+    requires some { 1 ≤ width }
+    requires width { width ≤ 48 }
+    requires limit { coding.reference + 2 ^ width ≤ T.limit }
+    requires reference { coding.reference < 2 ^ 32 }
+    requires short { length octets.now < 2 ^ 32 }
+    requires within { 0 < count → at + count * width + 64 ≤ 8 * length octets.now + width }
+    ensures { T.took taker (map (code_by coding) (plain (drop at (bits_in octets.now)) width count)) result }
+{
+    let mut place = at;
+    for _index in 0..count {
+        let number = number_in_word(octets, place, width);
+        taker = taker.take(coding.code(number));
+        place += u64::from(width);
+    }
+    taker
+}
+
+/// The number of the `width` bits after the first `at` bits, from the eight octets that begin there.
+#[inline]
+fn number_in_word(octets: &[u8], at: u64, width: u32) -> u64
+    requires some { 1 ≤ width }
+    requires width { width ≤ 48 }
+    requires within { at / 8 + 8 ≤ length octets.now }
+    ensures { result ≡ num (take width (drop at (bits_in octets.now))) }
+{
+    let word = BigEndian::read_u64(&octets[(at / 8) as usize..]);
+    word >> (64 - (at % 8) as u32 - width) & ((1 << width) - 1)
+}
+
+/// Takes the last `count` numbers of some octets, a few.
+fn take_from_end<T: Taker>(
+    coding: Coding,
+    octets: &[u8],
+    at: u64,
+    width: u32,
+    count: u32,
+    mut taker: T,
+) -> T
+    requires width { width ≤ 48 }
+    requires limit { coding.reference + 2 ^ width ≤ T.limit }
+    requires reference { coding.reference < 2 ^ 32 }
+    requires short { length octets.now < 2 ^ 32 }
+    requires within { at + count * width ≤ 8 * length octets.now }
+    ensures { T.took taker (map (code_by coding) (plain (drop at (bits_in octets.now)) width count)) result }
+{
+    let mut place = at;
+    for _index in 0..count {
+        let number = get_bits(octets, place, width);
+        taker = taker.take(coding.code(number));
+        place += u64::from(width);
+    }
+    taker
+}

@@ -1,0 +1,27 @@
+//! What takes codes on.
+
+ghost use Rattle.std.specs.Prelude.{ℕ, ◌<◌, List, [], ◌∷◌, ◌++◌};
+ghost use Rattle.grib_io.specs.declared.code.Code.{Code};
+ghost use Rattle.grib_groups.specs.Taking.{number_of};
+
+use grib_io::Code;
+
+/// What takes codes one after another. It is handed on by value, so that what it counts stays in
+/// registers over a run of codes.
+pub trait Taker {
+    // Codes are below this.
+    ghost limit: { ℕ };
+
+    // Where codes are taken one after another, it goes from one state to another.
+    ghost took: { Self → List Code → Self → Type 0 };
+
+    /// Takes the next code.
+    fn take(self, code: Code) -> Self
+        requires { number_of code < limit }
+        ensures { took self (code ∷ []) result };
+
+    ghost none: { (taker : Self) → took taker [] taker };
+
+    ghost more: { (before between after : Self) (codes more_codes : List Code) → took before codes between → took between more_codes after
+        → took before (codes ++ more_codes) after };
+}

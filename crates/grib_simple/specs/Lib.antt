@@ -1,0 +1,3 @@
+pub mod Part
+pub mod Simple
+pub mod Unpacked

@@ -1,0 +1,45 @@
+//! What each packing of the numbers of a field offers.
+
+ghost use Rattle.std.specs.Prelude.{◌≡◌, ◌≤◌, ℕ, None, length};
+ghost use Rattle.grib_bits.specs.Octets.{StatesItself};
+ghost use Rattle.grib_bitmap.specs.Mask.{present_count};
+ghost use Rattle.grib_packing.specs.Entries.{packing_fault};
+ghost use Rattle.grib_packing.specs.Packing.{packing_template, value_count};
+ghost use Rattle.grib_simple.specs.Unpacked.{IsUnpacked};
+
+use crate::Column;
+use grib_bitmap::Mask;
+use grib_io::{Section, UnpackFault};
+use std::alloc::Global;
+
+/// A packing of the numbers of a field (WMO-No. 306, Volume I.2, FM 92 GRIB edition 2, code table 5.0).
+pub trait Packing {
+    // the number of its data representation template
+    ghost template: { Self → ℕ };
+
+    /// The column of a field, from its Section 5, which is accepted and has this packing's template, its
+    /// mask, in which as many points are present as Section 5 has values, and its Section 7.
+    ///
+    /// # Errors
+    ///
+    /// Section 7 is refused by the first row of the profile that fails, or there is no memory.
+    fn unpack(
+        &self,
+        alloc: Global,
+        section5: &Section<'_>,
+        mask: &Mask,
+        section7: &Section<'_>,
+    ) -> Result<Column, UnpackFault>
+        requires itself_5 { StatesItself section5.now.number section5.now.octets.now }
+        requires low_5 { 1 ≤ section5.now.start }
+        requires high_5 { section5.now.start ≤ 268435456 }
+        requires itself_7 { StatesItself section7.now.number section7.now.octets.now }
+        requires low_7 { 1 ≤ section7.now.start }
+        requires high_7 { section7.now.start ≤ 268435456 }
+        requires some { 1 ≤ length mask.now }
+        requires few { length mask.now ≤ 33554432 }
+        requires accepted { packing_fault section5.now.octets.now (length mask.now) ≡ None }
+        requires template { packing_template section5.now.octets.now ≡ template self.now }
+        requires values { present_count mask.now ≡ value_count section5.now.octets.now }
+        ensures { IsUnpacked section5.now.octets.now mask.now section7.now.start section7.now.octets.now result };
+}

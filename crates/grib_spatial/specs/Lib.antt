@@ -1,0 +1,3 @@
+pub mod Running
+pub mod Follows
+pub mod Undoing

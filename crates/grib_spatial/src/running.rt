@@ -1,0 +1,123 @@
+//! Numbers that are undone one after another.
+
+ghost use Rattle.std.specs.Prelude.{◌≡◌, ◌⊎◌, ◌^◌, ◌<◌, ◌≤◌, true, false, pos, ◌+ℤ◌, ◌-ℤ◌, ◌*ℤ◌, nat_abs, IfOk, OnOk, OnErr};
+ghost use Rattle.grib_packing.specs.Differences.{NoNumber, is_beyond};
+ghost use Rattle.grib_spatial.specs.Running.{next_of, after_code};
+
+use std::marker::Model;
+
+/// A scaled number is outside plus and minus 2^60.
+#[derive(Clone, Copy, Debug, PartialEq, Eq)]
+pub struct ScaledRange;
+
+/// The numbers that the next one follows.
+#[derive(Clone, Copy, Debug)]
+enum Last {
+    NoNumber,
+    One(i64),
+    Two(i64, i64),
+}
+
+/// Undoes the spatial differences of a field, a code at a time (WMO-No. 306, Volume I.2, FM 92 GRIB
+/// edition 2, data template 7.3). A clause sees what the codes are read with, and the numbers that the
+/// next one follows.
+#[derive(Debug, Drop)]
+pub struct Running {
+    order: u8,
+    first: i64,
+    second: i64,
+    minimum: i64,
+    last: Last,
+}
+
+impl Model for Running {
+    ghost use Rattle.std.specs.Prelude.{◌≡◌, ◌⊎◌, ◌^◌, ◌≤◌, nat_abs};
+    ghost use Rattle.grib_packing.specs.Differences.{Descriptors, NoNumber, One, Two};
+    ghost use Rattle.grib_spatial.specs.Running.{Run};
+    ghost use Rattle.grib_spatial.specs.Follows.{last_of, IsSmall};
+
+    ghost Value = { Run };
+
+    ghost view = { λ r. record {
+      told = record { order = r.order; first = r.first; second = r.second; minimum = r.minimum };
+      last = last_of r.last;
+    } };
+
+    ghost invariant = { λ r. ((r.order ≡ 1) ⊎ (r.order ≡ 2))
+        × (nat_abs r.first ≤ 2 ^ 31) × (nat_abs r.second ≤ 2 ^ 31) × (nat_abs r.minimum ≤ 2 ^ 31)
+        × IsSmall r.last };
+}
+
+impl Running {
+    /// A run of no numbers so far, of differences of this order, with these first values and this
+    /// overall minimum.
+    pub fn new(order: u8, first: i64, second: i64, minimum: i64) -> Running
+        requires order { (order ≡ 1) ⊎ (order ≡ 2) }
+        requires first { nat_abs first ≤ 2 ^ 31 }
+        requires second { nat_abs second ≤ 2 ^ 31 }
+        requires minimum { nat_abs minimum ≤ 2 ^ 31 }
+        ensures { result ≡ record {
+          told = record { order = order; first = first; second = second; minimum = minimum };
+          last = NoNumber;
+        } }
+    {
+        Running {
+            order,
+            first,
+            second,
+            minimum,
+            last: Last::NoNumber,
+        }
+    }
+
+    /// The next number, by its code.
+    ///
+    /// # Errors
+    ///
+    /// The number is outside plus and minus 2^60. Nothing has changed.
+    #[inline]
+    pub fn push(&mut self, code: u64) -> Result<i64, ScaledRange>
+        requires { code < 2 ^ 33 }
+        ensures number { IfOk result (λ number. number ≡ next_of self.old code) }
+        ensures within { OnOk result (is_beyond (next_of self.old code) ≡ false) }
+        ensures after { OnOk result (self.new ≡ after_code self.old code) }
+        ensures beyond { OnErr result (is_beyond (next_of self.old code) ≡ true) }
+        ensures unchanged { OnErr result (self.new ≡ self.old) }
+    {
+        let number = self.next(code);
+        if number.unsigned_abs() > 1 << 60 {
+            return Err(ScaledRange);
+        }
+        self.last = match self.last {
+            Last::One(one) if self.order == 2 => Last::Two(one, number),
+            Last::NoNumber | Last::One(_) => Last::One(number),
+            Last::Two(_, two) => Last::Two(two, number),
+        };
+        Ok(number)
+    }
+
+    /// The number that follows, by its code.
+    #[inline]
+    fn next(&self, code: u64) -> i64
+        requires { code < 2 ^ 33 }
+        ensures { result ≡ next_of self.now code }
+    {
+        match self.last {
+            Last::NoNumber => self.first,
+            Last::One(_) if self.order == 2 => self.second,
+            Last::One(one) => code as i64 + self.minimum + one,
+            Last::Two(one, two) => after_two(code as i64 + self.minimum, one, two),
+        }
+    }
+}
+
+/// The number after `one` and `two` that makes this second difference with them.
+#[inline]
+fn after_two(difference: i64, one: i64, two: i64) -> i64
+    requires difference { nat_abs difference ≤ 2 ^ 34 }
+    requires one { nat_abs one ≤ 2 ^ 60 }
+    requires two { nat_abs two ≤ 2 ^ 60 }
+    ensures { result ≡ (difference +ℤ (pos 2 *ℤ two)) -ℤ one }
+{
+    difference + 2 * two - one
+}
