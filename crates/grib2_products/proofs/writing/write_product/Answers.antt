@@ -40,6 +40,17 @@ returns c =
     let v = c.args.value.now in
     let count = ap length c.as_slice-coordinates.ensures in
     let long : c.template_length.result + 4 * c.from.result ≡ written_length v = omega (arith, c.template_length.ensures.length, c.from.ensures, count) in
-    let HeaderIs : ℕ → ℕ → Type 0 = λ l n. AddsOctets c.args.out.now c.write_header.new.out (header l n (template_of v.product)) in
-    let adds_header = ? in
-    ?
+    let Adds : ℕ → ℕ → ℕ → List ℕ → Type 0 = λ l n template words. AddsOctets c.args.out.now c.write_coordinates.new.out
+    (header l n template ++ template_octets v.product ++ coordinate_octets words) in
+    let From : ℕ → ℕ → Type 0 = λ l n. Adds l n c.template_number.result c.as_slice-coordinates.result.now in
+    let To : ℕ → List ℕ → Type 0 = λ template words. Adds (written_length v) (length v.coordinates) template words in
+    let adds = subst₂ To c.template_number.ensures c.as_slice-coordinates.ensures
+    (subst₂ From long count (AddsOctets-append (AddsOctets-append c.write_header.ensures.octets c.write_template.ensures.octets) c.write_coordinates.ensures)) in
+    let words = coordinate_octets v.coordinates in
+    let Begins : ℕ → ℕ → ℕ → Type 0 = λ l n template. SpelledHeader l n template (header l n template ++ template_octets v.product ++ words) in
+    let Counted : ℕ → ℕ → Type 0 = λ l n. Begins l n c.template_number.result in
+    let Numbered : ℕ → Type 0 = λ template. Begins (written_length v) (length v.coordinates) template in
+    let begins = subst Numbered c.template_number.ensures (subst₂ Counted long count (c.write_header.ensures.spelled (template_octets v.product ++ words))) in
+    let fixed = c.write_template.ensures.spelled (written_length v) (length v.coordinates) (template_of v.product) words in
+    let built = rebuilt v is.0 is.1 begins fixed adds.small in
+    (section_of_value v, built.0, built.1, adds)
