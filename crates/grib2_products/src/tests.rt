@@ -155,10 +155,10 @@ fn an_interval_is_read(rt: HostRuntime) -> Result<(), Fail> {
     put_length(&rt, &mut octets);
     let value = read(&rt, rt.alloc(), octets.as_slice())?;
     assert_eq!(rt; value.coordinates.as_slice(), [0x42c8_0000, 0x3f00_0000].as_slice());
-    let Product::EnsembleInterval(instant, ensemble, interval) = value.product else {
+    let Product::EnsembleInterval(instant, ensemble, interval) = &value.product else {
         return Err(Fail::from("no template 4.11"));
     };
-    assert_eq!(rt; instant, INSTANT);
+    assert_eq!(rt; *instant, INSTANT);
     assert_eq!(rt; (ensemble.kind, ensemble.perturbation, ensemble.size), (35, 36, 37));
     assert_eq!(rt; (interval.year, interval.month, interval.day), (0x2627, 40, 41));
     assert_eq!(rt; (interval.hour, interval.minute, interval.second), (42, 43, 44));
