@@ -1,13 +1,13 @@
 -- Lemmas on numbers and time ranges that stand one after another.
 use Rattle.std.proofs.Common.{◌≡◌, ℕ, zero, suc, ◌+◌, ◌-◌, ◌*◌, ◌^◌, ◌<◌, ◌≤◌, List, [], ◌∷◌, ◌++◌, length, map, take, drop, get_or, refl, sym, ap, ap₂, ◌∙◌, arith, append_assoc, subst}
-use Rattle.std.proofs.lemmas.List.{length-append, append-nil, take_more, drop_at, drop-drop}
-use Rattle.std.proofs.lemmas.List.FromFn.{map-range_with_len_more, length-map-range_with_len, get_or-map-range_with_len}
+use Rattle.std.proofs.lemmas.List.{length-append, take_more, drop_at, drop-drop}
+use Rattle.std.proofs.lemmas.List.FromFn.{map-range_with_len_more, get_or-map-range_with_len}
 use Rattle.std.specs.List.{range_with_len}
 use Rattle.grib_bits.specs.Octets.{num_on, octets}
 use Rattle.grib_bits.proofs.OctetBits.{AreOctets}
 use Rattle.grib_bits.proofs.OctetNumbers.{octets-lt}
 use Rattle.grib2_sections.specs.Encoding.{octets_of}
-use Rattle.grib2_sections.proofs.Octets.{length-octets_of, octets-within, num_on-octets_of}
+use Rattle.grib2_sections.proofs.Octets.{octets-within, num_on-octets_of}
 use Rattle.grib2_products.specs.Spelled.{spec_at}
 use Rattle.grib2_products.specs.Written.{spec_octets, specs_octets, coordinate_octets}
 use Rattle.grib2_products.specs.declared.templates.Spec.{Spec}
@@ -86,7 +86,12 @@ SpecFits-spec_at s p known counted within = record {
 
 abbrev spec_of : ℕ → ℕ → ℕ → ℕ → ℕ → ℕ → Spec
 spec_of process increment_type unit l increment_unit increment = record {
-  process = process; increment_type = increment_type; unit = unit; length = l; increment_unit = increment_unit; increment = increment;
+  process = process;
+  increment_type = increment_type;
+  unit = unit;
+  length = l;
+  increment_unit = increment_unit;
+  increment = increment;
 }
 
 same_spec : (a b c d e f a' b' c' d' e' f' : ℕ) → a ≡ a' → b ≡ b' → c ≡ c' → d ≡ d' → e ≡ e' → f ≡ f' → spec_of a b c d e f ≡ spec_of a' b' c' d' e' f'

@@ -1,10 +1,9 @@
 -- What is known of a value that a section has which passes the rows.
-use Rattle.std.proofs.Common.{◌≡◌, ℕ, zero, suc, ◌+◌, ◌-◌, ◌*◌, ◌^◌, ◌<◌, ◌≤◌, eqb, cond, List, [], ◌++◌, length, map, get_or, All, refl, sym, ap, ap₂, ◌∙◌, arith, subst, inl, inr}
+use Rattle.std.proofs.Common.{◌≡◌, ℕ, ◌+◌, ◌*◌, ◌^◌, ◌<◌, ◌≤◌, eqb, cond, List, length, get_or, All, refl, sym, ap, ap₂, ◌∙◌, arith, subst, inl, inr}
 use Rattle.std.proofs.lemmas.Bool.{cases_lt}
 use Rattle.std.proofs.lemmas.List.{get_or_past}
 use Rattle.std.proofs.lemmas.List.Elements.{All-get_or, All-from_get_or}
 use Rattle.std.proofs.lemmas.List.FromFn.{length-map-range_with_len, get_or-map-range_with_len}
-use Rattle.std.specs.List.{range_with_len}
 use Rattle.std.specs.Prelude.{None, Option, Some}
 use Rattle.grib_bits.specs.Octets.{octets, StatesItself}
 use Rattle.grib_bits.proofs.OctetBits.{AreOctets}
@@ -14,8 +13,7 @@ use Rattle.grib_io.specs.Rows.{first_fault, first_fault_at, located}
 use Rattle.grib2_sections.specs.Template.{least_length}
 use Rattle.grib2_products.specs.Product.{product_rows, product_templates, product_template, product_length, template_length, time_ranges, coordinate_count}
 use Rattle.grib2_products.specs.Spelled.{IsSectionOf, Spelled, SpelledTemplate, SpelledInterval, spec_at, template_of, range_count, written_length}
-use Rattle.grib2_products.specs.Written.{SpelledFixed, template_octets, specs_octets}
-use Rattle.grib2_products.specs.declared.templates.Spec.{Spec}
+use Rattle.grib2_products.specs.Written.{SpelledFixed, template_octets}
 use Rattle.grib2_products.specs.declared.templates.Interval.{Interval as IntervalOf}
 use Rattle.grib2_products.specs.declared.product.ProductSection.{ProductSection}
 use Rattle.grib2_products.specs.declared.product.Product.{Product}

@@ -1,22 +1,21 @@
 -- A section that is written from a value has the value again.
-use Rattle.std.proofs.Common.{◌≡◌, ℕ, ◌+◌, ◌-◌, ◌*◌, ◌^◌, ◌<◌, ◌≤◌, not, List, ◌++◌, length, map, get_or, All, refl, sym, ap, ap₂, ◌∙◌, arith, subst}
+use Rattle.std.proofs.Common.{◌≡◌, ℕ, ◌+◌, ◌*◌, ◌<◌, ◌≤◌, not, List, ◌++◌, length, map, get_or, All, refl, sym, ap, ap₂, ◌∙◌, arith}
 use Rattle.std.proofs.lemmas.List.{length-append}
 use Rattle.std.proofs.lemmas.List.FromFn.{fill_by_all}
 use Rattle.std.specs.List.{range_with_len}
 use Rattle.std.specs.Prelude.{None}
 use Rattle.grib_io.specs.Rows.{first_fault}
 use Rattle.grib2_sections.specs.Template.{least_length, is_template}
-use Rattle.grib2_products.specs.Product.{product_rows, product_templates, product_template, product_length, template_length, time_ranges, coordinate_count}
+use Rattle.grib2_products.specs.Product.{product_rows, product_templates, product_template, product_length, template_length}
 use Rattle.grib2_products.specs.Spelled.{IsSectionOf, Spelled, SpelledTemplate, SpelledInterval, SpelledEnd, spec_at, template_of, range_count, coordinate_list, written_length}
 use Rattle.grib2_products.specs.Written.{SpelledHeader, SpelledFixed, header, instant_octets, ensemble_octets, end_octets, specs_octets, template_octets, coordinate_octets}
-use Rattle.grib2_products.specs.declared.templates.Spec.{Spec}
 use Rattle.grib2_products.specs.declared.templates.Interval.{Interval as IntervalOf}
 use Rattle.grib2_products.specs.declared.product.ProductSection.{ProductSection}
 use Rattle.grib2_products.specs.declared.product.Product.{Product}
 use Rattle.grib2_products.specs.declared.product.Product.TheVariants.{Instant, Ensemble, Interval, EnsembleInterval}
-use Rattle.grib2_products.proofs.Passing.{AllPass-from_none, none_from-AllPass, le-from_test, test-from_le}
+use Rattle.grib2_products.proofs.Passing.{AllPass-from_none, none_from-AllPass, test-from_le}
 use Rattle.grib2_products.proofs.Ranges.{SpecFits, specs_fit, spec_at-behind, word_at, word_at-behind, length-coordinate_octets}
-use Rattle.grib2_products.proofs.Readable.{known, long, template_same, within, word-lt, fixed_part, ranges_spelled, specs_count, length-template_octets}
+use Rattle.grib2_products.proofs.Readable.{known, long, template_same, word-lt, ranges_spelled, specs_count, length-template_octets}
 
 -- the section that is written from a value
 abbrev pub section_of_value : ProductSection → List ℕ
@@ -32,8 +31,8 @@ interval_again : (i : IntervalOf) (b : ℕ) (s front after : List ℕ) → Spell
 interval_again i b s front after old fits place end = record {
   end = end;
   specs =
-    fill_by_all (λ (k : ℕ). spec_at (front ++ (specs_octets i.specs ++ after)) (b + 12 + 12 * k)) i.specs i.n (spec_at s 0) (specs_count i b s old)
-    (λ k below. sym (spec_at-behind front after i.specs (b + 12) k (spec_at s 0) place fits (omega (arith, specs_count i b s old))));
+      fill_by_all (λ (k : ℕ). spec_at (front ++ (specs_octets i.specs ++ after)) (b + 12 + 12 * k)) i.specs i.n (spec_at s 0) (specs_count i b s old)
+      (λ k below. sym (spec_at-behind front after i.specs (b + 12) k (spec_at s 0) place fits (omega (arith, specs_count i b s old))));
 }
 
 -- the time ranges of a section fit their octets
@@ -47,12 +46,17 @@ template_again : (p : Product) (s : List ℕ) (l count template : ℕ) (after : 
     → SpelledFixed p (header l count template ++ template_octets p ++ after) → SpelledTemplate p (header l count template ++ template_octets p ++ after)
 template_again (Instant v) s l count template after octets old ends h = h
 template_again (Ensemble v e) s l count template after octets old ends h = h
-template_again (Interval v i) s l count template after octets old ends h =
-    (h.0, interval_again i 35 s (header l count template ++ instant_octets v ++ end_octets i) after old.1
-    (interval_fits i 35 s octets old.1 (omega arith)) refl h.1)
-template_again (EnsembleInterval v e i) s l count template after octets old ends h =
-    (h.0, h.1, interval_again i 38 s (header l count template ++ instant_octets v ++ ensemble_octets e ++ end_octets i) after old.2
-    (interval_fits i 38 s octets old.2 (omega arith)) refl h.2)
+template_again (Interval v i) s l count template after octets old ends h = (
+  h.0,
+  interval_again i 35 s (header l count template ++ instant_octets v ++ end_octets i) after old.1
+      (interval_fits i 35 s octets old.1 (omega arith)) refl h.1,
+)
+template_again (EnsembleInterval v e i) s l count template after octets old ends h = (
+  h.0,
+  h.1,
+  interval_again i 38 s (header l count template ++ instant_octets v ++ ensemble_octets e ++ end_octets i) after old.2
+      (interval_fits i 38 s octets old.2 (omega arith)) refl h.2,
+)
 
 -- ---- the section that is written
 
@@ -87,7 +91,7 @@ module _ (value : ProductSection) (s : List ℕ) (is : IsSectionOf value s)
     count = h.count_octets;
     template = h.template_octets;
     product = template_again value.product s (written_length value) (length value.coordinates) (template_of value.product) (coordinate_octets value.coordinates)
-      (known value s is) is.spelled.product (omega (arith, long value s is, template_same value s is)) fixed;
+        (known value s is) is.spelled.product (omega (arith, long value s is, template_same value s is)) fixed;
     coordinates = list_new;
   }
 
@@ -101,24 +105,35 @@ module _ (value : ProductSection) (s : List ℕ) (is : IsSectionOf value s)
       let count = h.count_octets in
       let whole : product_length new ≤ length new = omega (arith, template_length-new) in
       let least : least_length product_templates (product_template new) ≤ length new = omega (arith, template_length-new) in
-      none_from-AllPass (product_rows new 1)
-      (test-from_le (length new) 9 (omega arith),
-      (refl,
-      (ap (λ (n : ℕ). not (is_template product_templates n)) template ∙ rows.1.1.0,
-      (test-from_le (length new) (least_length product_templates (product_template new)) least,
-      (test-from_le (length new) (product_length new) whole,
-      tt)))))
+      none_from-AllPass (product_rows new 1) (
+        test-from_le (length new) 9 (omega arith),
+        (
+          refl,
+          (
+            ap (λ (n : ℕ). not (is_template product_templates n)) template ∙ rows.1.1.0,
+            (
+              test-from_le (length new) (least_length product_templates (product_template new)) least,
+              (
+                test-from_le (length new) (product_length new) whole,
+                tt,
+              ),
+            ),
+          ),
+        ),
+      )
 
   pub rebuilt : All (λ (octet : ℕ). octet < 256) (section_of_value value) → IsSectionOf value (section_of_value value) × (length (section_of_value value) ≡ written_length value)
   rebuilt small =
-      let size = length-new value s is in
-      (record {
-        small = small;
-        itself = record {
-          length_stands = sym h.length_octets ∙ sym size;
-          least = omega arith;
-          number_stands = sym h.number_octets;
-        };
-        rows = pass_again;
-        spelled = again;
-      }, size)
+      let size = length-new value s is in (
+        record {
+          small = small;
+          itself = record {
+            length_stands = sym h.length_octets ∙ sym size;
+            least = omega arith;
+            number_stands = sym h.number_octets;
+          };
+          rows = pass_again;
+          spelled = again;
+        },
+        size,
+      )

@@ -61,7 +61,7 @@ pub(crate) fn check(section: &Section<'_>) -> Result<(), Fault>
     ensures rows { MatchResult result
         (λ _. first_fault (product_rows section.now.octets.now 1) ≡ None)
         (λ fault. first_fault_at section.now.start (product_rows section.now.octets.now 1)
-            ≡ Some fault) }
+        ≡ Some fault) }
     ensures whole { OnOk result (IsWhole section.now.octets.now) }
 {
     let octets = section.octets;

@@ -141,7 +141,10 @@ fn an_ensemble_is_read(rt: HostRuntime) -> Result<(), Fail> {
         return Err(Fail::from("no template 4.1"));
     };
     assert_eq!(rt; instant, INSTANT);
-    assert_eq!(rt; (ensemble.kind, ensemble.perturbation, ensemble.size), (35, 36, 37));
+    assert_eq!(rt;
+        (ensemble.kind, ensemble.perturbation, ensemble.size),
+        (35, 36, 37)
+    );
     Ok(())
 }
 
@@ -154,14 +157,26 @@ fn an_interval_is_read(rt: HostRuntime) -> Result<(), Fail> {
     octets.extend_from_slice(&COORDINATES)?;
     put_length(&rt, &mut octets);
     let value = read(&rt, rt.alloc(), octets.as_slice())?;
-    assert_eq!(rt; value.coordinates.as_slice(), [0x42c8_0000, 0x3f00_0000].as_slice());
-    let Product::EnsembleInterval(instant, ensemble, interval) = value.product else {
+    assert_eq!(rt;
+        value.coordinates.as_slice(),
+        [0x42c8_0000, 0x3f00_0000].as_slice()
+    );
+    let Product::EnsembleInterval(instant, ensemble, interval) = &value.product else {
         return Err(Fail::from("no template 4.11"));
     };
-    assert_eq!(rt; instant, INSTANT);
-    assert_eq!(rt; (ensemble.kind, ensemble.perturbation, ensemble.size), (35, 36, 37));
-    assert_eq!(rt; (interval.year, interval.month, interval.day), (0x2627, 40, 41));
-    assert_eq!(rt; (interval.hour, interval.minute, interval.second), (42, 43, 44));
+    assert_eq!(rt; *instant, INSTANT);
+    assert_eq!(rt;
+        (ensemble.kind, ensemble.perturbation, ensemble.size),
+        (35, 36, 37)
+    );
+    assert_eq!(rt;
+        (interval.year, interval.month, interval.day),
+        (0x2627, 40, 41)
+    );
+    assert_eq!(rt;
+        (interval.hour, interval.minute, interval.second),
+        (42, 43, 44)
+    );
     assert_eq!(rt; (interval.n, interval.missing), (2, 0x2e2f_3031));
     let mean = Spec {
         process: 0,
@@ -196,9 +211,15 @@ fn a_worked_section_is_read(rt: HostRuntime) -> Result<(), Fail> {
     let Product::Instant(instant) = value.product else {
         return Err(Fail::from("no template 4.0"));
     };
-    assert_eq!(rt; (instant.category, instant.number, instant.process), (0, 0, 2));
+    assert_eq!(rt;
+        (instant.category, instant.number, instant.process),
+        (0, 0, 2)
+    );
     assert_eq!(rt; (instant.unit, instant.time), (1, 6));
-    assert_eq!(rt; (instant.surface1, instant.scale1, instant.value1), (103, 0, 2));
+    assert_eq!(rt;
+        (instant.surface1, instant.scale1, instant.value1),
+        (103, 0, 2)
+    );
     assert_eq!(rt; instant.surface2, 255);
     assert_eq!(rt; value.coordinates.as_slice().len(), 0);
     Ok(())

@@ -1,8 +1,7 @@
-use Rattle.std.proofs.Common.{◌≡◌, ◌+◌, ◌*◌, ◌≤◌, ℕ, List, length, take, subst, sym, ap, ◌∙◌, arith}
+use Rattle.std.proofs.Common.{ℕ, List, take, subst, sym, arith}
 use Rattle.std.proofs.lemmas.List.{length-take-le}
 use Rattle.grib2_sections.specs.Encoding.{AddsOctets}
 use Rattle.grib2_sections.proofs.Octets.{AddsOctets-append}
-use Rattle.grib2_products.specs.Written.{coordinate_octets}
 use Rattle.grib2_products.proofs.Ranges.{coordinate_octets-more, length-coordinate_octets}
 use Rattle.grib2_products.proofs.writing.write_coordinates.Goals as goal
 

@@ -5,9 +5,9 @@ use Rattle.grib2_products.proofs.writing.write_ensemble.Goals as goal
 
 pub returns-clause-octets : goal.returns-clause-octets
 returns-clause-octets c = AddsOctets-append (AddsOctets-append
-      c.write_u8.ensures.octets
-      c.write_u8-2.ensures.octets)
-      c.write_u8-3.ensures.octets
+    c.write_u8.ensures.octets
+    c.write_u8-2.ensures.octets)
+    c.write_u8-3.ensures.octets
 
 pub returns-clause-spelled : goal.returns-clause-spelled
 returns-clause-spelled c = λ l count template v rest.

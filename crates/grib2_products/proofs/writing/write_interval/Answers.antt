@@ -11,15 +11,15 @@ returns-clause-octets c =
     let v = c.args.value.now in
     let Adds : List Spec → Type 0 = λ specs. AddsOctets c.args.out.now c.write_specs.new.out (end_octets v ++ specs_octets specs) in
     subst Adds c.as_slice.ensures (AddsOctets-append (AddsOctets-append (AddsOctets-append (AddsOctets-append (AddsOctets-append (AddsOctets-append (AddsOctets-append (AddsOctets-append
-      c.write_u16.ensures.octets
-      c.write_u8.ensures.octets)
-      c.write_u8-2.ensures.octets)
-      c.write_u8-3.ensures.octets)
-      c.write_u8-4.ensures.octets)
-      c.write_u8-5.ensures.octets)
-      c.write_u8-6.ensures.octets)
-      c.write_u32.ensures.octets)
-      c.write_specs.ensures)
+    c.write_u16.ensures.octets
+    c.write_u8.ensures.octets)
+    c.write_u8-2.ensures.octets)
+    c.write_u8-3.ensures.octets)
+    c.write_u8-4.ensures.octets)
+    c.write_u8-5.ensures.octets)
+    c.write_u8-6.ensures.octets)
+    c.write_u32.ensures.octets)
+    c.write_specs.ensures)
 
 pub returns-clause-at_35 : goal.returns-clause-at_35
 returns-clause-at_35 c = λ l count template v rest.

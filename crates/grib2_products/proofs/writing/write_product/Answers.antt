@@ -1,26 +1,26 @@
-use Rattle.std.proofs.Common.{◌≡◌, ◌<◌, ◌*◌, ◌+◌, ◌^◌, ◌≤◌, ℕ, List, ◌++◌, length, sym, ap, ap₂, ◌∙◌, arith, subst, subst₂}
+use Rattle.std.proofs.Common.{◌≡◌, ◌*◌, ◌+◌, ℕ, List, ◌++◌, length, ap, arith, subst, subst₂}
 use Rattle.grib2_sections.specs.Encoding.{AddsOctets}
 use Rattle.grib2_sections.proofs.Octets.{AddsOctets-append}
 use Rattle.grib2_products.specs.Spelled.{template_of, written_length}
 use Rattle.grib2_products.specs.Written.{SpelledHeader, header, template_octets, coordinate_octets}
-use Rattle.grib2_products.proofs.Readable.{within, length-lt, count-lt, length-template_octets}
+use Rattle.grib2_products.proofs.Readable.{count-lt, length-template_octets}
 use Rattle.grib2_products.proofs.Rebuilt.{section_of_value, rebuilt}
 use Rattle.grib2_products.proofs.writing.write_product.Goals as goal
 
 pub overflow_cast-count : goal.overflow_cast-count
 overflow_cast-count c =
     let is = c.requires.readable in
-    record { fits = omega (arith, count-lt c.args.value.now is.0 is.1, ap length c.as_slice-coordinates.ensures); }
+    record { fits = omega (arith, count-lt c.args.value.now is.0 is.1, ap length c.as_slice-coordinates.ensures) }
 
 pub overflow_mul-length : goal.overflow_mul-length
 overflow_mul-length c =
     let is = c.requires.readable in
-    record { fits = omega (arith, count-lt c.args.value.now is.0 is.1, ap length c.as_slice-coordinates.ensures, c.from.ensures); }
+    record { fits = omega (arith, count-lt c.args.value.now is.0 is.1, ap length c.as_slice-coordinates.ensures, c.from.ensures) }
 
 pub overflow_add-length : goal.overflow_add-length
 overflow_add-length c =
     let is = c.requires.readable in
-    record { fits = omega (arith, count-lt c.args.value.now is.0 is.1, ap length c.as_slice-coordinates.ensures, c.from.ensures, c.template_length.ensures.short); }
+    record { fits = omega (arith, count-lt c.args.value.now is.0 is.1, ap length c.as_slice-coordinates.ensures, c.from.ensures, c.template_length.ensures.short) }
 
 pub write_template-requires : goal.write_template-requires
 write_template-requires c =

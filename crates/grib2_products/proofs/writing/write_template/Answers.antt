@@ -1,5 +1,5 @@
 -- The template is that of the arm.
-use Rattle.std.proofs.Common.{ℕ, List, ◌++◌, length, ap, arith}
+use Rattle.std.proofs.Common.{◌++◌, length, ap, arith}
 use Rattle.grib2_sections.proofs.Octets.{AddsOctets-append}
 use Rattle.grib2_products.specs.Written.{template_octets, ensemble_octets, end_octets, specs_octets}
 use Rattle.grib2_products.specs.declared.product.Product.{Product}
@@ -13,8 +13,13 @@ write_interval-requires c =
 
 pub write_interval-requires-in-EnsembleInterval : goal.write_interval-requires-in-EnsembleInterval
 write_interval-requires-in-EnsembleInterval c =
-    omega (arith, ap (λ (p : Product). length (template_octets p)) c.in-EnsembleInterval.is, length-specs_octets c.in-EnsembleInterval.interval.specs,
-      c.write_instant-in-EnsembleInterval.ensures.octets.spare, c.write_ensemble-in-EnsembleInterval.ensures.octets.spare)
+    omega (
+      arith,
+      ap (λ (p : Product). length (template_octets p)) c.in-EnsembleInterval.is,
+      length-specs_octets c.in-EnsembleInterval.interval.specs,
+      c.write_instant-in-EnsembleInterval.ensures.octets.spare,
+      c.write_ensemble-in-EnsembleInterval.ensures.octets.spare,
+    )
 
 pub returns-in-Instant-clause-octets : goal.returns-in-Instant-clause-octets
 returns-in-Instant-clause-octets c = octets_of_variant _ _ c.in-Instant.is _ _ c.write_instant.ensures.octets
@@ -29,9 +34,10 @@ returns-in-Ensemble-clause-octets c =
 
 pub returns-in-Ensemble-clause-spelled : goal.returns-in-Ensemble-clause-spelled
 returns-in-Ensemble-clause-spelled c = λ l count template rest.
-    spelled_by_variant _ _ c.in-Ensemble.is l count template rest
-    (c.write_instant-in-Ensemble.ensures.spelled l count template (ensemble_octets c.in-Ensemble.ensemble ++ rest),
-    c.write_ensemble.ensures.spelled l count template c.in-Ensemble.instant rest)
+    spelled_by_variant _ _ c.in-Ensemble.is l count template rest (
+      c.write_instant-in-Ensemble.ensures.spelled l count template (ensemble_octets c.in-Ensemble.ensemble ++ rest),
+      c.write_ensemble.ensures.spelled l count template c.in-Ensemble.instant rest,
+    )
 
 pub returns-in-Interval-clause-octets : goal.returns-in-Interval-clause-octets
 returns-in-Interval-clause-octets c =
@@ -40,16 +46,17 @@ returns-in-Interval-clause-octets c =
 pub returns-in-Interval-clause-spelled : goal.returns-in-Interval-clause-spelled
 returns-in-Interval-clause-spelled c = λ l count template rest.
     let i = c.in-Interval.interval in
-    spelled_by_variant _ _ c.in-Interval.is l count template rest
-    (c.write_instant-in-Interval.ensures.spelled l count template ((end_octets i ++ specs_octets i.specs) ++ rest),
-    c.write_interval.ensures.at_35 l count template c.in-Interval.instant rest)
+    spelled_by_variant _ _ c.in-Interval.is l count template rest (
+      c.write_instant-in-Interval.ensures.spelled l count template ((end_octets i ++ specs_octets i.specs) ++ rest),
+      c.write_interval.ensures.at_35 l count template c.in-Interval.instant rest,
+    )
 
 pub returns-in-EnsembleInterval-clause-octets : goal.returns-in-EnsembleInterval-clause-octets
 returns-in-EnsembleInterval-clause-octets c =
     octets_of_variant _ _ c.in-EnsembleInterval.is _ _ (AddsOctets-append (AddsOctets-append
-      c.write_instant-in-EnsembleInterval.ensures.octets
-      c.write_ensemble-in-EnsembleInterval.ensures.octets)
-      c.write_interval-in-EnsembleInterval.ensures.octets)
+    c.write_instant-in-EnsembleInterval.ensures.octets
+    c.write_ensemble-in-EnsembleInterval.ensures.octets)
+    c.write_interval-in-EnsembleInterval.ensures.octets)
 
 pub returns-in-EnsembleInterval-clause-spelled : goal.returns-in-EnsembleInterval-clause-spelled
 returns-in-EnsembleInterval-clause-spelled c = λ l count template rest.
@@ -57,7 +64,8 @@ returns-in-EnsembleInterval-clause-spelled c = λ l count template rest.
     let v = c.in-EnsembleInterval.instant in
     let e = c.in-EnsembleInterval.ensemble in
     let after = (end_octets i ++ specs_octets i.specs) ++ rest in
-    spelled_by_variant _ _ c.in-EnsembleInterval.is l count template rest
-    (c.write_instant-in-EnsembleInterval.ensures.spelled l count template (ensemble_octets e ++ after),
-    c.write_ensemble-in-EnsembleInterval.ensures.spelled l count template v after,
-    c.write_interval-in-EnsembleInterval.ensures.at_38 l count template v e rest)
+    spelled_by_variant _ _ c.in-EnsembleInterval.is l count template rest (
+      c.write_instant-in-EnsembleInterval.ensures.spelled l count template (ensemble_octets e ++ after),
+      c.write_ensemble-in-EnsembleInterval.ensures.spelled l count template v after,
+      c.write_interval-in-EnsembleInterval.ensures.at_38 l count template v e rest,
+    )
