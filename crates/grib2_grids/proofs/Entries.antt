@@ -1,28 +1,13 @@
 -- Lemmas on numbers of 1 to 4 octets that stand one after another.
-use Rattle.std.proofs.Common.{◌≡◌, ℕ, zero, suc, ◌+◌, ◌-◌, ◌*◌, ◌^◌, ◌<◌, ◌≤◌, List, [], ◌∷◌, ◌++◌, length, map, take, drop, get_or, refl, sym, ap, ap₂, ◌∙◌, arith, pow_mono, append_assoc}
+use Rattle.std.proofs.Common.{◌≡◌, ℕ, zero, suc, ◌+◌, ◌-◌, ◌*◌, ◌^◌, ◌<◌, ◌≤◌, List, [], ◌∷◌, ◌++◌, length, map, take, get_or, refl, sym, ap, ap₂, ◌∙◌, arith, append_assoc}
 use Rattle.std.proofs.Math.Nat.{mul-le-mul_right}
 use Rattle.std.proofs.lemmas.List.{length-append, append-nil, take_more}
 use Rattle.std.proofs.lemmas.List.FromFn.{map-range_with_len_more}
 use Rattle.std.specs.List.{range_with_len}
-use Rattle.byteorder.specs.Endian.{big_number}
 use Rattle.grib_bits.specs.Octets.{octets}
-use Rattle.grib_bits.proofs.OctetBits.{AreOctets}
-use Rattle.grib_bits.proofs.OctetNumbers.{big_number-rest, octets-lt}
 use Rattle.grib2_sections.specs.Encoding.{octets_of}
 use Rattle.grib2_sections.proofs.Octets.{length-octets_of, octets-within, num_on-octets_of}
 use Rattle.grib2_grids.specs.Written.{entry_octets}
-
--- a number of at most four octets fits 32 bits
-pub octets-lt_32 : (s : List ℕ) (first size : ℕ) → AreOctets s → 1 ≤ first → 1 ≤ size → size ≤ 4 → first + size ≤ length s + 1 → octets s first (first + size - 1) < 2 ^ 32
-octets-lt_32 s first size known counted some word within =
-    let below = octets-lt s first (first + size - 1) size known counted (omega arith) (omega arith) in
-    let power : 2 ^ (8 * size) ≤ 2 ^ 32 = let short : 8 * size ≤ 32 = omega arith in pow_mono short in
-    omega arith
-
--- as `read_uint` gives it
-pub big_number-size : (s : List ℕ) (first size : ℕ) → AreOctets s → 1 ≤ first → 1 ≤ size → first + size ≤ length s + 1
-    → big_number size (take (length s - (first - 1)) (drop (first - 1) s)) ≡ octets s first (first + size - 1)
-big_number-size s first size known counted some within = big_number-rest s first (first + size - 1) size known counted (omega arith) (omega arith)
 
 -- the entry in row `row` of `count` ends within the list
 pub entry_within : (row count size : ℕ) → row < count → row * size + size ≤ size * count

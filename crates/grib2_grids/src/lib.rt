@@ -2,7 +2,6 @@
 #![tactic(auto)]
 
 mod grid;
-mod octets;
 mod reading;
 mod row_list;
 mod rows;

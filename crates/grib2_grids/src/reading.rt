@@ -8,12 +8,12 @@ ghost use Rattle.grib2_grids.specs.Whole.{IsWhole};
 ghost use Rattle.grib2_grids.specs.Refused.{IsRefusal};
 ghost use Rattle.grib2_grids.specs.Spelled.{Spelled, SpelledTemplate, template_of, SpelledCommon, SpelledLatLon, SpelledRotation, SpelledMercator, SpelledPolar, SpelledLambert, SpelledGaussian};
 
-use crate::octets::{u8_at, u16_at, u32_at};
 use crate::row_list::read_list;
 use crate::rows::{check_head, check_list, check_points};
 use crate::templates::{Common, template};
 use crate::{Gaussian, Grid, GridFault, GridSection, Lambert, LatLon, Mercator, Polar, Rotation};
 use grib_io::{List, Section};
+use grib2_sections::{u8_at, u16_at, u32_at};
 use std::alloc::Global;
 
 /// Reads Section 3.

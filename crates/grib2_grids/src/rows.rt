@@ -8,22 +8,8 @@ ghost use Rattle.grib2_grids.specs.Grid as grid;
 ghost use Rattle.grib2_grids.specs.Grid.{grid_rows, grid_templates, row_list};
 ghost use Rattle.grib2_grids.specs.Whole.{IsWhole, HasList};
 
-use crate::octets::{u8_at, u16_at, u32_at};
 use grib_io::{Fault, Reason, Section};
-
-/// The refusal at this octet of the section, for this reason, with this detail.
-fn refusal(section: &Section<'_>, place: u64, reason: Reason, detail: u64) -> Fault
-    requires high { section.now.start ≤ 268435456 }
-    requires counted { 1 ≤ place }
-    requires near { place ≤ 100 }
-    ensures { result ≡ fault_at section.now.start (rows.refusal place reason detail) }
-{
-    Fault {
-        octet: section.start + (place - 1),
-        reason,
-        detail,
-    }
-}
+use grib2_sections::{refusal_in, u8_at, u16_at, u32_at};
 
 /// The least length in octets of a section with this template, if the profile has it.
 fn least_length(template: u16) -> Option<usize>
@@ -60,22 +46,22 @@ pub(crate) fn check_head(section: &Section<'_>) -> Result<(), Fault>
     let octets = section.octets;
     let length = octets.len();
     if length < 14 {
-        return Err(refusal(section, 1, Reason::SectionLength, length as u64));
+        return Err(refusal_in(section, 1, Reason::SectionLength, length as u64));
     }
     let source = u8_at(octets, 6);
     if source != 0 {
-        return Err(refusal(section, 6, Reason::GridSource, u64::from(source)));
+        return Err(refusal_in(section, 6, Reason::GridSource, u64::from(source)));
     }
     let template = u16_at(octets, 13);
     let Some(least) = least_length(template) else {
-        return Err(refusal(section, 13, Reason::GridTemplate, u64::from(template)));
+        return Err(refusal_in(section, 13, Reason::GridTemplate, u64::from(template)));
     };
     if length < least {
-        return Err(refusal(section, 1, Reason::SectionLength, length as u64));
+        return Err(refusal_in(section, 1, Reason::SectionLength, length as u64));
     }
     let points = u32_at(octets, 7);
     if points == 0 || points > 33_554_432 {
-        return Err(refusal(section, 7, Reason::PointCount, u64::from(points)));
+        return Err(refusal_in(section, 7, Reason::PointCount, u64::from(points)));
     }
     Ok(())
 }
@@ -97,19 +83,19 @@ pub(crate) fn check_list(section: &Section<'_>) -> Result<(), Fault>
     }
     let meaning = u8_at(octets, 12);
     if meaning != 1 && meaning != 2 {
-        return Err(refusal(section, 12, Reason::ListShape, u64::from(meaning)));
+        return Err(refusal_in(section, 12, Reason::ListShape, u64::from(meaning)));
     }
     let template = u16_at(octets, 13);
     if size > 4 || !may_have_list(template) {
-        return Err(refusal(section, 11, Reason::ListShape, u64::from(size)));
+        return Err(refusal_in(section, 11, Reason::ListShape, u64::from(size)));
     }
     let nj = u32_at(octets, 35);
     if nj == 0 || nj == u32::MAX {
-        return Err(refusal(section, 35, Reason::ListShape, u64::from(nj)));
+        return Err(refusal_in(section, 35, Reason::ListShape, u64::from(nj)));
     }
     let first = list_start(template) as u64;
     if first - 1 + u64::from(size) * u64::from(nj) > octets.len() as u64 {
-        return Err(refusal(section, first, Reason::ListShape, u64::from(nj)));
+        return Err(refusal_in(section, first, Reason::ListShape, u64::from(nj)));
     }
     Ok(())
 }
@@ -133,7 +119,7 @@ pub(crate) fn check_points(section: &Section<'_>, rows: &[u32]) -> Result<(), Fa
         total(rows)
     };
     if stated != points {
-        return Err(refusal(section, 7, Reason::PointCount, stated));
+        return Err(refusal_in(section, 7, Reason::PointCount, stated));
     }
     Ok(())
 }

@@ -8,9 +8,9 @@ ghost use Rattle.grib2_grids.specs.Grid.{grid_rows};
 ghost use Rattle.grib2_grids.specs.Spelled.{Spelled};
 
 use super::*;
-use crate::octets::{u8_at, u32_at};
 use grib_bits::BitWriter;
 use grib_io::{Fault, Reason, Section};
+use grib2_sections::{u8_at, u32_at};
 use std::alloc::{AllocError, Global};
 use std::process::Abort;
 use std::test::Fail;

@@ -2,7 +2,6 @@
 #![tactic(auto)]
 
 mod lists;
-mod octets;
 mod product;
 mod reading;
 mod rows;

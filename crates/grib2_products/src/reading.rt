@@ -9,10 +9,10 @@ ghost use Rattle.grib2_products.specs.Refused.{IsRefusal};
 ghost use Rattle.grib2_products.specs.Spelled.{Spelled, SpelledTemplate, template_of, SpelledInstant, SpelledEnsemble, SpelledInterval};
 
 use crate::lists::{read_coordinates, read_specs};
-use crate::octets::{u8_at, u16_at, u32_at};
 use crate::rows::check;
 use crate::{Ensemble, Instant, Interval, Product, ProductFault, ProductSection};
 use grib_io::{List, Section};
+use grib2_sections::{u8_at, u16_at, u32_at};
 use std::alloc::{AllocError, Global};
 
 /// Reads Section 4. That it is not the 4,097th of its message is for the reader of the message to see.

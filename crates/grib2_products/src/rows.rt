@@ -8,22 +8,8 @@ ghost use Rattle.grib2_products.specs.Product as product;
 ghost use Rattle.grib2_products.specs.Product.{product_rows, product_templates, product_template};
 ghost use Rattle.grib2_products.specs.Whole.{IsWhole};
 
-use crate::octets::{u8_at, u16_at};
 use grib_io::{Fault, Reason, Section};
-
-/// The refusal at this octet of the section, for this reason, with this detail.
-fn refusal(section: &Section<'_>, place: u64, reason: Reason, detail: u64) -> Fault
-    requires high { section.now.start ≤ 268435456 }
-    requires counted { 1 ≤ place }
-    requires near { place ≤ 100 }
-    ensures { result ≡ fault_at section.now.start (rows.refusal place reason detail) }
-{
-    Fault {
-        octet: section.start + (place - 1),
-        reason,
-        detail,
-    }
-}
+use grib2_sections::{refusal_in, u8_at, u16_at};
 
 /// The least length in octets of a section with this template, if the profile has it.
 fn least_length(template: u16) -> Option<usize>
@@ -67,19 +53,19 @@ pub(crate) fn check(section: &Section<'_>) -> Result<(), Fault>
     let octets = section.octets;
     let length = octets.len();
     if length < 9 {
-        return Err(refusal(section, 1, Reason::SectionLength, length as u64));
+        return Err(refusal_in(section, 1, Reason::SectionLength, length as u64));
     }
     let template = u16_at(octets, 8);
     let Some(least) = least_length(template) else {
-        return Err(refusal(section, 8, Reason::ProductTemplate, u64::from(template)));
+        return Err(refusal_in(section, 8, Reason::ProductTemplate, u64::from(template)));
     };
     if length < least {
-        return Err(refusal(section, 1, Reason::SectionLength, length as u64));
+        return Err(refusal_in(section, 1, Reason::SectionLength, length as u64));
     }
     let ranges = usize::from(time_ranges(octets));
     let coordinates = usize::from(u16_at(octets, 6));
     if length < least + 12 * ranges + 4 * coordinates {
-        return Err(refusal(section, 1, Reason::SectionLength, length as u64));
+        return Err(refusal_in(section, 1, Reason::SectionLength, length as u64));
     }
     Ok(())
 }

@@ -4,7 +4,7 @@ ghost use Rattle.std.specs.Prelude.{◌≡◌, ◌+◌, ◌≤◌, false, length
 ghost use Rattle.grib_bits.specs.Octets.{StatesItself};
 ghost use Rattle.grib2_sections.specs.Frame.{End, Fails, Next, step_from, position_after, mark_fault, frame_fault, ends_at, section_at, may_follow as is_successor};
 
-use crate::refusal::{refusal, truncated};
+use crate::refusing::{refusal, truncated};
 use byteorder::{BigEndian, ByteOrder};
 use grib_io::{Fault, Reason, Section};
 use std::marker::Model;

@@ -12,6 +12,7 @@ ghost use Rattle.grib_simple.specs.Simple.{Spelled};
 
 use byteorder::{BigEndian, ByteOrder};
 use grib_io::{Fault, Reason, Section};
+use grib2_sections::refusal;
 
 /// What Section 5 says in each template of the profile (WMO-No. 306, Volume I.2, FM 92 GRIB edition 2, data
 /// representation templates 5.0, 5.2 and 5.3).
@@ -90,17 +91,6 @@ pub(crate) fn numbers(octets: &[u8]) -> Simple
         d: BigEndian::read_u16(&octets[17..]),
         bits: octets[19],
         kind: octets[20],
-    }
-}
-
-/// The refusal at this octet of the message.
-fn refusal(octet: u64, reason: Reason, detail: u64) -> Fault
-    ensures { result ≡ rows.refusal octet reason detail }
-{
-    Fault {
-        octet,
-        reason,
-        detail,
     }
 }
 

@@ -1,7 +1,7 @@
 use Rattle.std.proofs.Common.{◌<◌, ◌^◌, ℕ, sym, subst, ◌∙◌}
 use Rattle.grib_bits.proofs.OctetNumbers.{AreOctets-known}
-use Rattle.grib2_grids.proofs.Entries.{octets-lt_32, big_number-size}
-use Rattle.grib2_grids.proofs.octets.uint_at.Goals as goal
+use Rattle.grib2_sections.proofs.Counted.{octets-lt_32, big_number-size}
+use Rattle.grib2_sections.proofs.reading.uint_at.Goals as goal
 
 pub overflow_cast-result : goal.overflow_cast-result
 overflow_cast-result c =

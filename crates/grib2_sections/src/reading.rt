@@ -1,4 +1,4 @@
-//! Numbers at octets as the manual counts them, from 1.
+//! Numbers at octets of a section as the manual counts them, from 1.
 
 ghost use Rattle.std.specs.Prelude.{◌≡◌, ◌+◌, ◌-◌, ◌≤◌, length};
 ghost use Rattle.grib_bits.specs.Octets.{octets as octets_of};
@@ -7,7 +7,7 @@ use byteorder::{BigEndian, ByteOrder};
 
 /// Octet `place`.
 #[inline]
-pub(crate) fn u8_at(octets: &[u8], place: usize) -> u8
+pub fn u8_at(octets: &[u8], place: usize) -> u8
     requires counted { 1 ≤ place }
     requires within { place ≤ length octets.now }
     ensures { result ≡ octets_of octets.now place place }
@@ -17,7 +17,7 @@ pub(crate) fn u8_at(octets: &[u8], place: usize) -> u8
 
 /// The number of the two octets from `first` on.
 #[inline]
-pub(crate) fn u16_at(octets: &[u8], first: usize) -> u16
+pub fn u16_at(octets: &[u8], first: usize) -> u16
     requires counted { 1 ≤ first }
     requires within { first + 1 ≤ length octets.now }
     ensures { result ≡ octets_of octets.now first (first + 1) }
@@ -27,7 +27,7 @@ pub(crate) fn u16_at(octets: &[u8], first: usize) -> u16
 
 /// The number of the four octets from `first` on.
 #[inline]
-pub(crate) fn u32_at(octets: &[u8], first: usize) -> u32
+pub fn u32_at(octets: &[u8], first: usize) -> u32
     requires counted { 1 ≤ first }
     requires within { first + 3 ≤ length octets.now }
     ensures { result ≡ octets_of octets.now first (first + 3) }
@@ -37,7 +37,7 @@ pub(crate) fn u32_at(octets: &[u8], first: usize) -> u32
 
 /// The number of the `size` octets from `first` on.
 #[inline]
-pub(crate) fn uint_at(octets: &[u8], first: usize, size: usize) -> u32
+pub fn uint_at(octets: &[u8], first: usize, size: usize) -> u32
     requires counted { 1 ≤ first }
     requires some { 1 ≤ size }
     requires word { size ≤ 4 }
