@@ -2,6 +2,7 @@
 #![tactic(auto)]
 
 mod grid;
+pub mod laws;
 mod octets;
 mod reading;
 mod row_list;
