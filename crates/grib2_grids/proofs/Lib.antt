@@ -4,4 +4,5 @@ pub mod Parts
 pub mod Passing
 pub mod Readable
 pub mod Rebuilt
+pub mod Unique
 pub mod Variants

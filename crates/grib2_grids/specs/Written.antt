@@ -17,6 +17,7 @@ header l points list_octets list_meaning template =
     octets_of 4 l ++ octets_of 1 3 ++ octets_of 1 0 ++ octets_of 4 points ++ octets_of 1 list_octets
     ++ octets_of 1 list_meaning ++ octets_of 2 template
 
+-- the same numbers, by their octets
 pub record SpelledHeader (l points list_octets list_meaning template : ℕ) (s : List ℕ) : Type 0 where
   pub length_octets : l ≡ octets s 1 4
   pub number_octets : 3 ≡ octets s 5 5

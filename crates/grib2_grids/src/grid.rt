@@ -31,8 +31,8 @@ pub struct GridSection {
     pub list_octets: u8,
     /// What the list means (code table 3.11): octet 12.
     pub list_meaning: u8,
-    /// The number of points of each row, for a grid whose rows differ in length; else empty. The list
-    /// stands after the template.
+    /// The number of points of each row, for a grid whose rows differ in length; else empty. The
+    /// list stands after the template.
     pub rows: List<u32>,
     /// The template's numbers: octets 13-14, and octet 15 onwards.
     pub grid: Grid,

@@ -2,6 +2,7 @@
 #![tactic(auto)]
 
 mod grid;
+pub mod laws;
 mod reading;
 mod row_list;
 mod rows;

@@ -20,9 +20,9 @@ use std::alloc::Global;
 ///
 /// # Errors
 ///
-/// The first row of the profile that fails: the section is too short, or has a grid that the profile
-/// does not have, a list of rows of another shape, or another number of points than it states. Or
-/// there is no memory for the list of rows, where there is one.
+/// The first row of the profile that fails: the section is too short, has a grid that the profile
+/// does not have or a list of rows of another shape, or states another number of points than it has.
+/// Or there is no memory for the list of rows, where there is one.
 pub fn read_grid(alloc: Global, section: &Section<'_>) -> Result<GridSection, GridFault>
     requires itself { StatesItself section.now.number section.now.octets.now }
     requires low { 1 ≤ section.now.start }

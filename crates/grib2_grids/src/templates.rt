@@ -1,8 +1,9 @@
-//! The grid definition templates (WMO-No. 306, Volume I.2, FM 92 GRIB edition 2, templates 3.0 to 3.40).
+//! The grid definition templates (WMO-No. 306, Volume I.2, FM 92 GRIB edition 2, templates 3.0 to
+//! 3.40).
 //!
 //! Each field has the number of its octets as they stand. Angles are in 10^-6 degree where the basic
-//! angle is 0, with the sign in the first bit; lengths of the grid are in 10^-3 metre. A field of all
-//! ones is missing.
+//! angle is 0, with the sign in the first bit. Lengths of the grid are in 10^-3 metre. All ones mean
+//! that a number is missing.
 
 /// Template 3.0, latitude and longitude.
 #[derive(Clone, Copy, Debug, PartialEq, Eq)]
@@ -85,7 +86,7 @@ pub struct Mercator {
     pub lo1: u32,
     /// Resolution and component flags (flag table 3.3): octet 47.
     pub flags: u8,
-    /// The latitude where the cylinder intersects the earth, at which the lengths hold: octets 48-51.
+    /// The latitude at which the cylinder intersects the earth and the lengths hold: octets 48-51.
     pub lad: u32,
     /// The latitude of the last grid point: octets 52-55.
     pub la2: u32,

@@ -14,6 +14,7 @@ use Rattle.grib2_products.specs.declared.product.Product.TheVariants as product
 abbrev pub header : ℕ → ℕ → ℕ → List ℕ
 header l count template = octets_of 4 l ++ octets_of 1 4 ++ octets_of 2 count ++ octets_of 2 template
 
+-- the same numbers, by their octets
 pub record SpelledHeader (l count template : ℕ) (s : List ℕ) : Type 0 where
   pub length_octets : l ≡ octets s 1 4
   pub number_octets : 4 ≡ octets s 5 5

@@ -1,6 +1,7 @@
 //! Products: Section 4 of edition 2.
 #![tactic(auto)]
 
+pub mod laws;
 mod lists;
 mod product;
 mod reading;

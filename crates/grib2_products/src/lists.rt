@@ -61,8 +61,8 @@ pub(crate) fn read_coordinates(alloc: Global, octets: &[u8]) -> Result<Vec<u32>,
     read_words(alloc, octets, coordinate_start(octets), u16_at(octets, 6))
 }
 
-/// The `count` numbers of four octets each from octet `first` on. The memory is taken once; for none,
-/// none is.
+/// The `count` numbers of four octets each from octet `first` on. The memory is taken once; for
+/// none, none is.
 fn read_words(
     alloc: Global,
     octets: &[u8],
@@ -72,7 +72,8 @@ fn read_words(
     requires counted { 1 ≤ first }
     requires within { first + 4 * count ≤ length octets.now + 1 }
     ensures words { IfOk result (λ words. words.items
-        ≡ map (λ k. octets_of octets.now (first + 4 * k) (first + 4 * k + 3)) (range_with_len 0 count)) }
+        ≡ map (λ k. octets_of octets.now (first + 4 * k) (first + 4 * k + 3))
+        (range_with_len 0 count)) }
     ensures memory { count ≡ 0 → IsOk result }
 {
     let mut words = Vec::new(alloc);

@@ -17,12 +17,12 @@ pub enum Product {
     EnsembleInterval(Instant, Ensemble, Interval),
 }
 
-/// What Section 4 says of a field (WMO-No. 306, Volume I.2, FM 92 GRIB edition 2, Section 4). Each field
-/// has the number of its octets as they stand.
+/// What Section 4 says of a field (WMO-No. 306, Volume I.2, FM 92 GRIB edition 2, Section 4). Each
+/// field has the number of its octets as they stand.
 #[derive(Debug, Drop)]
 pub struct ProductSection {
-    /// The words of the coordinate values, which stand after the template: IEEE 754 binary32 (octets 6-7
-    /// are their number).
+    /// The words of the coordinate values, in IEEE 754 binary32: octets 6-7 are their number, and they
+    /// stand after the template.
     pub coordinates: List<u32>,
     /// The template's numbers: octets 8-9, and octet 10 onwards.
     pub product: Product,

@@ -15,13 +15,13 @@ use grib_io::{List, Section};
 use grib2_sections::{u8_at, u16_at, u32_at};
 use std::alloc::{AllocError, Global};
 
-/// Reads Section 4. That it is not the 4,097th of its message is for the reader of the message to see.
+/// Reads Section 4. How many there are in a message is for the reader of the message to see.
 ///
 /// # Errors
 ///
-/// The first row of the profile that fails: the section is too short for its template, time ranges and
-/// coordinate values, or has a template that the profile does not have. Or there is no memory for the
-/// time ranges or the coordinate values, where there are any.
+/// The first row of the profile that fails: the section is too short for its template, time ranges
+/// and coordinate values, or has a template that the profile does not have. Or there is no memory
+/// for the time ranges or the coordinate values, where there are any.
 pub fn read_product(alloc: Global, section: &Section<'_>) -> Result<ProductSection, ProductFault>
     requires itself { StatesItself section.now.number section.now.octets.now }
     requires low { 1 ≤ section.now.start }
@@ -103,7 +103,8 @@ fn read_ensemble(octets: &[u8]) -> Ensemble
 fn read_interval(alloc: Global, octets: &[u8], first: usize) -> Result<Interval, AllocError>
     requires counted { 1 ≤ first }
     requires fixed { first + 11 ≤ length octets.now }
-    requires within { first + 11 + 12 * octets_of octets.now (first + 7) (first + 7) ≤ length octets.now }
+    requires within { first + 11 + 12 * octets_of octets.now (first + 7) (first + 7)
+        ≤ length octets.now }
     ensures octets { IfOk result (λ interval. SpelledInterval interval first octets.now) }
     ensures memory { octets_of octets.now (first + 7) (first + 7) ≡ 0 → IsOk result }
 {

@@ -1,5 +1,5 @@
-//! Sections in which the octets of a template are numbered, so that a number tells where it stands, and
-//! worked messages.
+//! Sections in which the octets of a template are numbered, so that a number tells where it stands,
+//! and worked messages.
 
 ghost use Rattle.std.specs.Prelude.{◌≡◌, None, IfOk};
 ghost use Rattle.grib_bits.specs.Octets.{StatesItself};

@@ -13,8 +13,8 @@ use crate::{Ensemble, Instant, Interval, Product, ProductSection, Spec};
 use grib_bits::BitWriter;
 use grib2_sections::{write_u8, write_u16, write_u32};
 
-/// Writes Section 4 without surplus, as the value was read: reading the octets gives the value again.
-/// The writer has the memory already.
+/// Writes Section 4 without surplus, as the value was read, so that reading the octets gives the
+/// value again. The writer has the memory already.
 pub fn write_product(value: &ProductSection, out: &mut BitWriter)
     requires whole { length out.old.bits % 8 ≡ 0 }
     requires readable { (section : List ℕ) × IsSectionOf value.now section }
