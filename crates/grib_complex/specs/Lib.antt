@@ -1,2 +1,5 @@
 pub mod Representation
 pub mod Told
+pub mod Tells
+pub mod Kept
+pub mod Laws

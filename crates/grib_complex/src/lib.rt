@@ -1,6 +1,12 @@
 //! Complex packing, with and without spatial differencing: templates 5.2 and 5.3.
 #![tactic(auto)]
 
+mod keeping;
 mod representation;
+mod telling;
+mod values;
 
+pub use keeping::{Keeper, Nothing, Points};
 pub use representation::{Complex, read_complex};
+pub use telling::Teller;
+pub use values::Values;
