@@ -23,6 +23,7 @@ after-append telling (code ∷ codes) more = after-append (telling_after telling
 pub values-none : {K : Type 0} (kept : K → List Point → K → Type 0) → ((keeper : K) → kept keeper [] keeper) → (taker : Values K) → ValuesTook kept taker [] taker
 values-none kept none taker = record {
   stays = λ some. refl;
+  plain = λ none. (none, refl);
   tells = λ start seen room tells. subst (λ (codes : List Code). Tells start codes taker.teller) (sym (append-nil seen)) tells;
   keeps = λ start seen room tells within. none taker.keeper;
 }
@@ -36,6 +37,10 @@ values-more kept more before between last codes more_codes first second = record
     let same = first.stays some in
     let some_between : 0 < between.teller.beyond = omega arith in
     second.stays some_between ∙ same;
+  plain = λ none.
+    let one = first.plain none in
+    let two = second.plain one.0 in
+    (two.0, two.1 ∙ one.1);
   tells = λ start seen room tells.
     let one = first.tells start seen (omega (arith, length-append codes more_codes)) tells in
     let two = second.tells start (seen ++ codes) (omega (arith, length-append codes more_codes, length-append seen codes)) one in

@@ -3,3 +3,4 @@ pub mod Told
 pub mod Tells
 pub mod Kept
 pub mod Laws
+pub mod Descriptors

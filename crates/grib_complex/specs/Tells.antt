@@ -23,6 +23,7 @@ pub record Tells (start : Telling) (seen : List Code) (teller : Teller) : Type 0
 -- The points of these codes went to what keeps them, as long as none is out of range.
 pub record ValuesTook {K : Type 0} (kept : K → List Point → K → Type 0) (before : Values K) (codes : List Code) (after_them : Values K) : Type 0 where
   pub stays : 0 < before.teller.beyond → after_them.teller.beyond ≡ before.teller.beyond
+  pub plain : before.teller.running ≡ None → (after_them.teller.running ≡ None) × (after_them.teller.beyond ≡ before.teller.beyond)
   pub tells : (start : Telling) (seen : List Code) → length seen + length codes < 2 ^ 63 → Tells start seen before.teller → Tells start (seen ++ codes) after_them.teller
   pub keeps : (start : Telling) (seen : List Code) → length seen + length codes < 2 ^ 63 → Tells start seen before.teller → after_them.teller.beyond ≡ 0
       → kept before.keeper (told (after start seen) codes) after_them.keeper

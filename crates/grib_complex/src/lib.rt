@@ -1,12 +1,15 @@
 //! Complex packing, with and without spatial differencing: templates 5.2 and 5.3.
 #![tactic(auto)]
 
+mod descriptors;
 mod keeping;
 mod representation;
 mod telling;
+mod unpacking;
 mod values;
 
 pub use keeping::{Keeper, Nothing, Points};
 pub use representation::{Complex, read_complex};
 pub use telling::Teller;
+pub use unpacking::take_values;
 pub use values::Values;

@@ -1,6 +1,6 @@
 //! The points that codes tell.
 
-ghost use Rattle.std.specs.Prelude.{◌≡◌, ℕ, ◌+◌, ◌<◌, ◌^◌, List, [], ◌∷◌, ◌++◌, length, Option};
+ghost use Rattle.std.specs.Prelude.{◌≡◌, ℕ, ◌+◌, ◌<◌, ◌^◌, List, [], ◌∷◌, ◌++◌, length, None};
 ghost use Rattle.grib_io.specs.declared.code.Code.{Code as code_of_value};
 ghost use Rattle.grib_groups.specs.Taking.{number_of};
 ghost use Rattle.grib_complex.specs.Told.{Telling, point_of, after};
@@ -45,6 +45,7 @@ impl Teller {
     pub fn tell(&mut self, code: Code) -> Point
         requires { number_of code < 2 ^ 49 }
         ensures stays { 0 < self.old.beyond → self.new.beyond ≡ self.old.beyond }
+        ensures plain { self.old.running ≡ None → (self.new.running ≡ None) × (self.new.beyond ≡ self.old.beyond) }
         ensures tells { (start : Telling) (seen : List code_of_value) → length seen + 1 < 2 ^ 63 → Tells start seen self.old → Tells start (seen ++ code ∷ []) self.new }
         ensures point { (start : Telling) (seen : List code_of_value) → length seen + 1 < 2 ^ 63 → Tells start seen self.old → self.new.beyond ≡ 0 → result ≡ point_of (after start seen) code }
     {
