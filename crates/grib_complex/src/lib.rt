@@ -3,12 +3,14 @@
 
 mod descriptors;
 mod keeping;
+mod packing;
 mod representation;
 mod telling;
 mod unpacking;
 mod values;
 
 pub use keeping::{Keeper, Nothing, Points};
+pub use packing::{ComplexPacking, SpatialPacking};
 pub use representation::{Complex, read_complex};
 pub use telling::Teller;
 pub use unpacking::take_values;
