@@ -39,7 +39,7 @@ ends_here m q total after h =
     eq-eqb (octets m q (q + 3)) 926365495 (ap (num_on 0) (four_at m q) ∙ ap (λ xs. num_on 0 (take 4 xs)) h.joined)
 
 -- and the rows of a mark pass there
-marks_pass : (m : List ℕ) (total last q : ℕ) → ends_at m q ≡ true → q + 3 ≡ total → total ≤ length m → IsTrue (may_end last)
+pub marks_pass : (m : List ℕ) (total last q : ℕ) → ends_at m q ≡ true → q + 3 ≡ total → total ≤ length m → IsTrue (may_end last)
     → AllPass (mark_rows m total last q)
 marks_pass m total last q ends at long may = (
   le-ltb (length m) (q + 3) (omega arith),
@@ -90,7 +90,7 @@ begins m q total s sections after length_stands least h =
     }
 
 -- the rows of a mark pass where no end mark stands, before the end
-goes_pass : (m : List ℕ) (total last q : ℕ) → ends_at m q ≡ false → q + 3 < total → total ≤ length m
+pub goes_pass : (m : List ℕ) (total last q : ℕ) → ends_at m q ≡ false → q + 3 < total → total ≤ length m
     → AllPass (mark_rows m total last q)
 goes_pass m total last q goes before_end long = (
   le-ltb (length m) (q + 3) (omega arith),
@@ -104,7 +104,7 @@ goes_pass m total last q goes before_end long = (
 )
 
 -- and the rows of a frame pass where the section may follow and has room
-frame_pass : (m : List ℕ) (total last q l number : ℕ) → octets m q (q + 3) ≡ l → octets m (q + 4) (q + 4) ≡ number
+pub frame_pass : (m : List ℕ) (total last q l number : ℕ) → octets m q (q + 3) ≡ l → octets m (q + 4) (q + 4) ≡ number
     → 1 ≤ q → 5 ≤ l → q - 1 + l + 4 ≤ total → total ≤ length m → IsTrue (may_follow last number)
     → AllPass (frame_rows m total last q)
 frame_pass m total last q l number states numbered low least room long follows = (
@@ -120,7 +120,7 @@ frame_pass m total last q l number states numbered low least room long follows =
 )
 
 -- the walk goes on after a section that no row refuses
-goes_on : (turns : ℕ) (m : List ℕ) (before : List Placed) (q : ℕ) → ends_at m q ≡ false
+pub goes_on : (turns : ℕ) (m : List ℕ) (before : List Placed) (q : ℕ) → ends_at m q ≡ false
     → AllPass (mark_rows m (total_length m) (last_number before) q) → AllPass (frame_rows m (total_length m) (last_number before) q)
     → section_fault before (here m q) ≡ None → verdict_from (suc turns) m before q ≡ after_section turns m before q
 goes_on turns m before q goes marks frame contents =
@@ -132,7 +132,7 @@ goes_on turns m before q goes marks frame contents =
     ∙ unless_none (section_fault before (here m q)) (λ _. after_section turns m before q) contents)
 
 -- the walk ends at the end mark
-stops : (turns : ℕ) (m : List ℕ) (before : List Placed) (q : ℕ) → ends_at m q ≡ true
+pub stops : (turns : ℕ) (m : List ℕ) (before : List Placed) (q : ℕ) → ends_at m q ≡ true
     → AllPass (mark_rows m (total_length m) (last_number before) q) → verdict_from (suc turns) m before q ≡ Accepted (total_length m)
 stops turns m before q ends marks =
     walk_is turns m before q

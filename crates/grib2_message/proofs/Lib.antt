@@ -1,7 +1,9 @@
-pub mod Passed
+pub mod Fronts
+pub mod Joined
 pub mod Parts
+pub mod Passed
+pub mod Placing
+pub mod Stays
 pub mod Steps
 pub mod Walk
-pub mod Joined
-pub mod Placing
 pub mod Whole

@@ -25,13 +25,13 @@ second_holds : (a b : Bool) → (a && not b) ≡ false → a ≡ true → b ≡ 
 second_holds a b e on = not-false b (second_fails a (not b) e on)
 
 -- what the rows of a mark say where they pass
-record MarkPasses (m : List ℕ) (total last q : ℕ) : Type 0 where
+pub record MarkPasses (m : List ℕ) (total last q : ℕ) : Type 0 where
   pub there : q + 3 ≤ length m
   pub may_end : ends_at m q ≡ true → IsTrue (may_end last)
   pub at_end : ends_at m q ≡ true → total ≤ q + 3
 
 -- they say so
-mark_passes : (m : List ℕ) (total last q : ℕ) → AllPass (mark_rows m total last q) → MarkPasses m total last q
+pub mark_passes : (m : List ℕ) (total last q : ℕ) → AllPass (mark_rows m total last q) → MarkPasses m total last q
 mark_passes m total last q p = record {
   there = ltb-false (length m) (q + 3) p.0;
   may_end = λ ends. second_holds (ends_at m q) (may_end last) p.1.0 ends;
@@ -39,14 +39,14 @@ mark_passes m total last q p = record {
 }
 
 -- and what the rows of a frame say
-record FramePasses (m : List ℕ) (total last q : ℕ) : Type 0 where
+pub record FramePasses (m : List ℕ) (total last q : ℕ) : Type 0 where
   pub least : 5 ≤ octets m q (q + 3)
   pub room : q - 1 + octets m q (q + 3) + 4 ≤ total
   pub follows : IsTrue (may_follow last (octets m (q + 4) (q + 4)))
   pub there : q - 1 + octets m q (q + 3) ≤ length m
 
 -- they say so
-frame_passes : (m : List ℕ) (total last q : ℕ) → AllPass (frame_rows m total last q) → FramePasses m total last q
+pub frame_passes : (m : List ℕ) (total last q : ℕ) → AllPass (frame_rows m total last q) → FramePasses m total last q
 frame_passes m total last q p =
     let sized = or_parts (nat_lt (octets m q (q + 3)) 5) (nat_lt total (q - 1 + octets m q (q + 3) + 4)) p.1.0 in
     record {
@@ -90,13 +90,13 @@ found_end m before q total low small room p e =
     }
 
 -- the section at q may stand there, and what is left from its end on comes after it
-record Stands (m : List ℕ) (before : List Placed) (q : ℕ) : Type 0 where
+pub record Stands (m : List ℕ) (before : List Placed) (q : ℕ) : Type 0 where
   pub is_section : IsSection before q (section_at m q)
   pub as_long : length (section_at m q) ≡ octets m q (q + 3)
   pub joined : from q m ≡ section_at m q ++ from (q + length (section_at m q)) m
 
 -- it is so where no row refuses it
-stands : (m : List ℕ) (before : List Placed) (q total : ℕ) → 1 ≤ q
+pub stands : (m : List ℕ) (before : List Placed) (q total : ℕ) → 1 ≤ q
     → FramePasses m total (last_number before) q → section_fault before (here m q) ≡ None → Stands m before q
 stands m before q total low p contents =
     let is : section_at m q ≡ take (octets m q (q + 3)) (from q m) = section_is m q (octets m q (q + 3)) low refl in

@@ -32,14 +32,14 @@ octets_before message after first last low order within =
     ∙ ap (λ xs. octets xs first last) (take_at message after (length message) refl)
 
 -- what the rows of Section 0 say of edition 2 where they pass
-record HeadPasses (m : List ℕ) : Type 0 where
+pub record HeadPasses (m : List ℕ) : Type 0 where
   pub second_edition : edition m ≡ 2
   pub there : 16 ≤ length m
   pub least : 20 ≤ total_length m
   pub most : total_length m ≤ 268435456
 
 -- they say so where the edition is not 1
-head_passes : (m : List ℕ) → edition m ≢ 1 → AllPass (head_rows m) → HeadPasses m
+pub head_passes : (m : List ℕ) → edition m ≢ 1 → AllPass (head_rows m) → HeadPasses m
 head_passes m other p =
     let is_other : (edition m == 1) ≡ false = ne_eqb (edition m) 1 other in
     let is_second : (edition m == 2) ≡ true =
@@ -54,7 +54,7 @@ head_passes m other p =
     }
 
 -- and they pass where that is so
-head_pass : (m : List ℕ) → edition m ≡ 2 → 16 ≤ length m → 20 ≤ total_length m → total_length m ≤ 268435456 → AllPass (head_rows m)
+pub head_pass : (m : List ℕ) → edition m ≡ 2 → 16 ≤ length m → 20 ≤ total_length m → total_length m ≤ 268435456 → AllPass (head_rows m)
 head_pass m second there least most =
     let not_first : (edition m == 1) ≡ false = ne_eqb (edition m) 1 (λ same. omega arith) in
     let is_second : (edition m == 2) ≡ true = eq-eqb (edition m) 2 second in (

@@ -1,8 +1,10 @@
 //! Laws over the definitions.
 
 ghost use Rattle.std.specs.Prelude.{◌≡◌, ◌≢◌, ℕ, ◌<◌, ◌≤◌, List, ◌++◌, length, take, map, All};
-ghost use Rattle.grib2_sections.specs.Head.{indicator, edition};
-ghost use Rattle.grib2_sections.specs.Verdict.{Accepted};
+ghost use Rattle.grib_io.specs.declared.fault.Fault.{Fault};
+ghost use Rattle.grib_io.specs.declared.fault.Reason.TheVariants.{Truncated};
+ghost use Rattle.grib2_sections.specs.Head.{indicator, edition, total_length};
+ghost use Rattle.grib2_sections.specs.Verdict.{Accepted, Refused};
 ghost use Rattle.grib2_message.specs.Acceptance.{verdict_2};
 ghost use Rattle.grib2_message.specs.Grammar.{Grammar2};
 ghost use Rattle.grib2_message.specs.Fields.{sections_of};
@@ -19,4 +21,27 @@ pub fn accepted_is_in_the_grammar()
         → map (λ s. s.octets) (sections_of message) ≡ sections }
     ensures the_same_sections { (message after : List ℕ) (sections : List (List ℕ))
         → Grammar2 message sections → sections_of (message ++ after) ≡ sections_of message }
+{}
+
+/// What is said of octets stays said whatever follows them: an acceptance, and each refusal but that of
+/// octets that end too early.
+pub fn verdict_stays()
+    ensures accepted { (octets more : List ℕ) (total : ℕ) → edition octets ≢ 1
+        → verdict_2 octets ≡ Accepted total → verdict_2 (octets ++ more) ≡ Accepted total }
+    ensures refused { (octets more : List ℕ) (fault : Fault) → edition octets ≢ 1
+        → verdict_2 octets ≡ Refused fault → fault.reason ≢ Truncated
+        → verdict_2 (octets ++ more) ≡ Refused fault }
+{}
+
+/// An accepted length is the stated one, at least 20, and its octets are there. The acceptance rests on
+/// them alone.
+pub fn accepted_length()
+    ensures stated { (octets : List ℕ) (total : ℕ) → edition octets ≢ 1
+        → verdict_2 octets ≡ Accepted total → total_length octets ≡ total }
+    ensures least { (octets : List ℕ) (total : ℕ) → edition octets ≢ 1
+        → verdict_2 octets ≡ Accepted total → 20 ≤ total }
+    ensures there { (octets : List ℕ) (total : ℕ) → edition octets ≢ 1
+        → verdict_2 octets ≡ Accepted total → total ≤ length octets }
+    ensures alone { (octets : List ℕ) (total : ℕ) → edition octets ≢ 1
+        → verdict_2 octets ≡ Accepted total → verdict_2 (take total octets) ≡ Accepted total }
 {}

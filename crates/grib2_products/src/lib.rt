@@ -1,2 +1,17 @@
 //! Products: Section 4 of edition 2.
 #![tactic(auto)]
+
+pub mod laws;
+mod lists;
+mod product;
+mod reading;
+mod rows;
+mod templates;
+#[cfg(test)]
+mod tests;
+mod writing;
+
+pub use product::{Product, ProductFault, ProductSection};
+pub use reading::read_product;
+pub use templates::{Ensemble, Instant, Interval, Spec};
+pub use writing::write_product;

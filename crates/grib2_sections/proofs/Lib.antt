@@ -1,2 +1,3 @@
 pub mod Frames
 pub mod Octets
+pub mod Counted

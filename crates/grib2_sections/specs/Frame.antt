@@ -88,6 +88,13 @@ pub record Position : Type 0 where
   pub place : ℕ
   pub last : ℕ
 
+-- what the rows of a mark, and those of a frame, refuse there
+abbrev pub mark_fault : List ℕ → Position → Option Fault
+mark_fault message at = first_fault (mark_rows message at.total at.last at.place)
+
+abbrev pub frame_fault : List ℕ → Position → Option Fault
+frame_fault message at = first_fault (frame_rows message at.total at.last at.place)
+
 abbrev pub step_from : List ℕ → Position → Step
 step_from message at = step message at.total at.last at.place
 

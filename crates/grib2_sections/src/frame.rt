@@ -2,10 +2,9 @@
 
 ghost use Rattle.std.specs.Prelude.{◌≡◌, ◌+◌, ◌≤◌, false, length, IsTrue, Some, None, MatchResult, MatchOption};
 ghost use Rattle.grib_bits.specs.Octets.{StatesItself};
-ghost use Rattle.grib_io.specs.Rows.{first_fault};
-ghost use Rattle.grib2_sections.specs.Frame.{End, Fails, Next, step_from, position_after, mark_rows, frame_rows, ends_at, section_at, may_follow as is_successor};
+ghost use Rattle.grib2_sections.specs.Frame.{End, Fails, Next, step_from, position_after, mark_fault, frame_fault, ends_at, section_at, may_follow as is_successor};
 
-use crate::refusal::{refusal, truncated};
+use crate::refusing::{refusal, truncated};
 use byteorder::{BigEndian, ByteOrder};
 use grib_io::{Fault, Reason, Section};
 use std::marker::Model;
@@ -77,9 +76,9 @@ impl Frame {
     /// Whether the end mark stands here, and may.
     fn is_at_end(&self, octets: &[u8]) -> Result<bool, Fault>
         ensures { MatchResult result
-            (λ ends. (first_fault (mark_rows octets.now self.now.total self.now.last self.now.place) ≡ None)
+            (λ ends. (mark_fault octets.now self.now ≡ None)
             × (ends ≡ ends_at octets.now self.now.place))
-            (λ fault. first_fault (mark_rows octets.now self.now.total self.now.last self.now.place) ≡ Some fault) }
+            (λ fault. mark_fault octets.now self.now ≡ Some fault) }
     {
         let present = octets.len() as u64;
         let last_octet = self.place + 3;
@@ -103,12 +102,12 @@ impl Frame {
     /// The section that stands here, and may.
     fn section<'a>(&self, octets: &'a [u8]) -> Result<Section<'a>, Fault>
         ensures { MatchResult result
-            (λ section. (first_fault (frame_rows octets.now self.now.total self.now.last self.now.place) ≡ None)
+            (λ section. (frame_fault octets.now self.now ≡ None)
             × (section.octets.now ≡ section_at octets.now self.now.place)
             × StatesItself section.number section.octets.now
             × (section.start ≡ self.now.place) × (section.number ≤ 7)
             × (self.now.place + length section.octets.now + 3 ≤ self.now.total))
-            (λ fault. first_fault (frame_rows octets.now self.now.total self.now.last self.now.place) ≡ Some fault) }
+            (λ fault. frame_fault octets.now self.now ≡ Some fault) }
     {
         let present = octets.len() as u64;
         if present < self.place + 4 {

@@ -4,7 +4,7 @@ ghost use Rattle.std.specs.Prelude.{◌≡◌, take, Some, None, MatchResult};
 ghost use Rattle.grib_io.specs.Rows.{first_fault};
 ghost use Rattle.grib2_sections.specs.Head.{indicator, head_rows, head_of};
 
-use crate::refusal::{refusal, truncated};
+use crate::refusing::{refusal, truncated};
 use byteorder::{BigEndian, ByteOrder};
 use grib_io::{Fault, Reason};
 

@@ -182,7 +182,8 @@ record Joined (octets : List ℕ) : Type 0 where
 
 joined : (octets : List ℕ) → All (λ octet. octet < 256) octets → take 4 octets ≡ indicator → IsPlain octets → Joined octets
 joined octets small starts p =
-    let found = accepted_in_grammar octets (length octets) small starts (λ one. omega (arith, p.second_edition, one)) p.accepted in
+    let Below : List ℕ → Type 0 = λ xs. All (λ octet. octet < 256) xs in
+    let found = accepted_in_grammar octets (length octets) (subst Below (sym (take-length octets)) small) starts (λ one. omega (arith, p.second_edition, one)) p.accepted in
     let Whole : List ℕ → Type 0 = λ xs. Grammar2 xs found.0 in
     record { sections = found.0; grammar = subst Whole {y = octets} (take-length octets) found.2 }
 

@@ -4,7 +4,7 @@ use Rattle.std.specs.List.{concat}
 use Rattle.std.proofs.lemmas.Bool.{and_parts}
 use Rattle.std.proofs.lemmas.List.{take-append-le}
 use Rattle.grib_bits.specs.Octets.{num_on}
-use Rattle.grib_io.specs.Rows.{first_fault}
+use Rattle.grib_io.specs.Rows.{first_fault_at, located}
 use Rattle.grib2_sections.specs.Head.{indicator, end_mark}
 use Rattle.grib2_sections.specs.Frame.{Placed, placed_at, section_number, may_follow, may_end}
 use Rattle.grib2_message.specs.Grid.{grid_points, grid_template, list_octets}
@@ -17,7 +17,7 @@ use Rattle.grib2_message.specs.Acceptance.{contents_faults, no_rows, section_fau
 use Rattle.grib2_message.specs.Grammar.{IsSection, AreSections}
 use Rattle.grib_engine.specs.Plain.{has_plain_templates}
 use Rattle.grib_engine.specs.PlainParts.{IsPlainMessage, IsNumbered, BeginsWith, HasSections, ArePlain}
-use Rattle.grib_engine.proofs.PlainRows.{identification_from_rows, rows_from_identification, grid_from_rows, rows_from_grid, product_from_rows, rows_from_product, representation_from_rows, rows_from_representation, bitmap_from_rows, rows_from_bitmap, data_from_rows, rows_from_data}
+use Rattle.grib_engine.proofs.PlainRows.{located_none, none_located, identification_from_rows, rows_from_identification, grid_from_rows, rows_from_grid, product_from_rows, rows_from_product, representation_from_rows, rows_from_representation, bitmap_from_rows, rows_from_bitmap, data_from_rows, rows_from_data}
 
 -- ---- one section at the front
 
@@ -97,24 +97,24 @@ follow octets s1 s3 s4 s5 s6 s7 h a =
     let n5 = h.fifth.number_stands in
     let n6 = h.sixth.number_stands in
     let b = before_of p1 p3 p4 p5 p6 n1 n3 n4 n5 n6 in
-    let First : ℕ → Type 0 = λ n. first_fault (product_rows s4 q4 n) ≡ None in
-    let Packed : ℕ → Type 0 = λ n. packing_fault s5 q5 n ≡ None in
-    let Masked : ℕ → List ℕ → Type 0 = λ n s. first_fault (bitmap_rows s6 q6 n (value_count s) (earlier_mask (p5 ∷ p4 ∷ p3 ∷ p1 ∷ []))) ≡ None in
-    let Filled : List ℕ → Type 0 = λ s. data_fault s s7 q7 ≡ None in
-    let masked = rows_from_bitmap s6 q6 (grid_points s3) (value_count s5) (earlier_mask (p5 ∷ p4 ∷ p3 ∷ p1 ∷ [])) a.bitmap a.representation.values in (
-      is_section [] 17 s1 0 1 h.first refl refl (rows_from_identification s1 17 a.identification),
+    let First : ℕ → Type 0 = λ n. first_fault_at q4 (product_rows s4 n) ≡ None in
+    let Packed : ℕ → Type 0 = λ n. located q5 (packing_fault s5 n) ≡ None in
+    let Masked : ℕ → List ℕ → Type 0 = λ n s. first_fault_at q6 (bitmap_rows s6 n (value_count s) (earlier_mask (p5 ∷ p4 ∷ p3 ∷ p1 ∷ []))) ≡ None in
+    let Filled : List ℕ → Type 0 = λ s. located q7 (data_fault s s7) ≡ None in
+    let masked = located_none q6 _ (rows_from_bitmap s6 (grid_points s3) (value_count s5) (earlier_mask (p5 ∷ p4 ∷ p3 ∷ p1 ∷ [])) a.bitmap a.representation.values) in (
+      is_section [] 17 s1 0 1 h.first refl refl (located_none 17 _ (rows_from_identification s1 a.identification)),
       (
-        is_section (p1 ∷ []) q3 s3 1 3 h.third n1 refl (rows_from_grid s3 q3 a.grid),
+        is_section (p1 ∷ []) q3 s3 1 3 h.third n1 refl (located_none q3 _ (rows_from_grid s3 a.grid)),
         (
-          is_section (p3 ∷ p1 ∷ []) q4 s4 3 4 h.fourth n3 refl (subst First (sym b.first_product) (rows_from_product s4 q4 a.product)),
+          is_section (p3 ∷ p1 ∷ []) q4 s4 3 4 h.fourth n3 refl (subst First (sym b.first_product) (located_none q4 _ (rows_from_product s4 a.product))),
           (
-            is_section (p4 ∷ p3 ∷ p1 ∷ []) q5 s5 4 5 h.fifth n4 refl (subst Packed (sym b.points) (rows_from_representation s5 q5 (grid_points s3) a.representation)),
+            is_section (p4 ∷ p3 ∷ p1 ∷ []) q5 s5 4 5 h.fifth n4 refl (subst Packed (sym b.points) (located_none q5 _ (rows_from_representation s5 (grid_points s3) a.representation))),
             (
               is_section (p5 ∷ p4 ∷ p3 ∷ p1 ∷ []) q6 s6 5 6 h.sixth n5 refl
                   (subst (λ n. Masked n (octets_in_force 5 (p5 ∷ p4 ∷ p3 ∷ p1 ∷ []))) (sym b.same_points) (subst (Masked (grid_points s3)) (sym b.representation) masked)),
               (
                 is_section (p6 ∷ p5 ∷ p4 ∷ p3 ∷ p1 ∷ []) q7 s7 6 7 h.seventh n6 refl
-                    (subst Filled (sym b.same_representation) (rows_from_data s5 s7 q7 a.representation.template a.values)),
+                    (subst Filled (sym b.same_representation) (located_none q7 _ (rows_from_data s5 s7 a.representation.template a.values))),
                 ap may_end h.seventh.number_stands,
               ),
             ),
@@ -243,19 +243,19 @@ plain_in octets s1 s3 s4 s5 s6 s7 m =
     let n6 = h.sixth.number_stands in
     let n7 = h.seventh.number_stands in
     let b = before_of p1 p3 p4 p5 p6 n1 n3 n4 n5 n6 in
-    let Masked : ℕ → List ℕ → Type 0 = λ n s. first_fault (bitmap_rows s6 q6 n (value_count s) (earlier_mask (p5 ∷ p4 ∷ p3 ∷ p1 ∷ []))) ≡ None in
-    let Packed : ℕ → Type 0 = λ n. packing_fault s5 q5 n ≡ None in
-    let Filled : List ℕ → Type 0 = λ s. data_fault s s7 q7 ≡ None in
+    let Masked : ℕ → List ℕ → Type 0 = λ n s. first_fault_at q6 (bitmap_rows s6 n (value_count s) (earlier_mask (p5 ∷ p4 ∷ p3 ∷ p1 ∷ []))) ≡ None in
+    let Packed : ℕ → Type 0 = λ n. located q5 (packing_fault s5 n) ≡ None in
+    let Filled : List ℕ → Type 0 = λ s. located q7 (data_fault s s7) ≡ None in
     let masked = subst (Masked (grid_points s3)) b.representation (subst (λ n. Masked n (octets_in_force 5 (p5 ∷ p4 ∷ p3 ∷ p1 ∷ []))) b.same_points
     (sym (fault_of (p5 ∷ p4 ∷ p3 ∷ p1 ∷ []) q6 s6 6 n6) ∙ f.1.1.1.1.0.rows_hold)) in
-    let bitmap = bitmap_from_rows s6 q6 (grid_points s3) (value_count s5) (earlier_mask (p5 ∷ p4 ∷ p3 ∷ p1 ∷ [])) masked t.all_present in
+    let bitmap = bitmap_from_rows s6 (grid_points s3) (value_count s5) (earlier_mask (p5 ∷ p4 ∷ p3 ∷ p1 ∷ [])) (none_located q6 _ masked) t.all_present in
     let packed = subst Packed b.points (sym (fault_of (p4 ∷ p3 ∷ p1 ∷ []) q5 s5 5 n5) ∙ f.1.1.1.0.rows_hold) in
     let filled = subst Filled b.same_representation (sym (fault_of (p6 ∷ p5 ∷ p4 ∷ p3 ∷ p1 ∷ []) q7 s7 7 n7) ∙ f.1.1.1.1.1.0.rows_hold) in
     record {
-      identification = identification_from_rows s1 17 (sym (fault_of [] 17 s1 1 n1) ∙ f.0.rows_hold);
-      grid = grid_from_rows s3 q3 (sym (fault_of (p1 ∷ []) q3 s3 3 n3) ∙ f.1.0.rows_hold) t.grid t.unlisted;
-      product = product_from_rows s4 q4 (section_count 4 (p3 ∷ p1 ∷ []) + 1) (sym (fault_of (p3 ∷ p1 ∷ []) q4 s4 4 n4) ∙ f.1.1.0.rows_hold) t.product t.bare;
-      representation = representation_from_rows s5 q5 (grid_points s3) packed t.packing bitmap.1;
+      identification = identification_from_rows s1 (none_located 17 _ (sym (fault_of [] 17 s1 1 n1) ∙ f.0.rows_hold));
+      grid = grid_from_rows s3 (none_located q3 _ (sym (fault_of (p1 ∷ []) q3 s3 3 n3) ∙ f.1.0.rows_hold)) t.grid t.unlisted;
+      product = product_from_rows s4 (section_count 4 (p3 ∷ p1 ∷ []) + 1) (none_located q4 _ (sym (fault_of (p3 ∷ p1 ∷ []) q4 s4 4 n4) ∙ f.1.1.0.rows_hold)) t.product t.bare;
+      representation = representation_from_rows s5 (grid_points s3) (none_located q5 _ packed) t.packing bitmap.1;
       bitmap = bitmap.0;
-      values = data_from_rows s5 s7 q7 filled t.packing;
+      values = data_from_rows s5 s7 (none_located q7 _ filled) t.packing;
     }

@@ -1,12 +1,14 @@
 -- Lemmas on rows that do not fail.
-use Rattle.std.proofs.Common.{◌≡◌, ℕ, ◌<◌, ◌≤◌, Bool, true, false, not, cond, eqb, ltb, Option, Some, None, List, ◌∷◌, length, refl, sym, ap, ◌∙◌, subst, arith}
-use Rattle.grib_io.specs.Rows.{Row, first_fault, choose}
+use Rattle.std.proofs.Common.{◌≡◌, ℕ, Bool, true, false, cond, eqb, Option, Some, None, List, [], ◌∷◌, length, refl, ap, ◌∙◌}
+use Rattle.grib_io.specs.Rows.{Row, first_fault, first_fault_at, located, or_then, choose}
+use Rattle.grib_io.specs.declared.fault.Fault.{Fault}
+use Rattle.grib_packing.specs.Complex.{complex_rows}
 use Rattle.grib_packing.specs.declared.column.Column.{Column}
 use Rattle.grib_packing.specs.declared.column.Point.{Point}
-use Rattle.grib_packing.specs.Packing.{packing_template, reference_word, binary_scale, decimal_scale}
+use Rattle.grib_packing.specs.Packing.{packing_rows, packing_template, reference_word, binary_scale, decimal_scale}
 use Rattle.grib_packing.specs.Simple.{simple_rows, simple_entries}
 use Rattle.grib_packing.specs.Column.{column_with}
-use Rattle.grib_packing.specs.Entries.{data_fault, complex_data_fault, entries_of, complex_entries}
+use Rattle.grib_packing.specs.Entries.{packing_fault, data_fault, complex_data_fault, entries_of, complex_entries}
 
 -- a row that does not fail leaves the answer to the others, and one that fails gives it
 pub row_passes : (r : Row) (rows : List Row) → r.fails ≡ false → first_fault (r ∷ rows) ≡ first_fault rows
@@ -37,3 +39,12 @@ pub same_column : (s5 : List ℕ) (reference e d : ℕ) (points expected : List 
     → ◌≡◌ {A = Column} (record { reference = reference; e = e; d = d; points = points }) (column_with s5 expected)
 same_column s5 reference e d points expected is_reference is_e is_d is_points =
     λ i. record { reference = is_reference i; e = is_e i; d = is_d i; points = is_points i }
+
+-- A Section 5 of template 5.0 that passes the rows of all templates is accepted.
+pub accepted-simple : (start : ℕ) (s : List ℕ) (points : ℕ) → first_fault_at start (packing_rows s points) ≡ None → packing_template s ≡ 0 → packing_fault s points ≡ None
+accepted-simple start s points passes template = go (first_fault (packing_rows s points)) refl passes where
+  go : (fault : Option Fault) → first_fault (packing_rows s points) ≡ fault → located start fault ≡ None → packing_fault s points ≡ None
+  go (Some fault) e none = absurd (cc)
+  go None e none =
+      ap (λ (f : Option Fault). or_then f (λ _. choose (eqb (packing_template s) 0) (λ _. []) (λ _. complex_rows s))) e
+      ∙ ap (λ (t : ℕ). first_fault (choose (eqb t 0) (λ _. []) (λ _. complex_rows s))) template

@@ -12,6 +12,7 @@ ghost use Rattle.grib_simple.specs.Simple.{Spelled};
 
 use byteorder::{BigEndian, ByteOrder};
 use grib_io::{Fault, Reason, Section};
+use grib2_sections::refusal;
 
 /// What Section 5 says in each template of the profile (WMO-No. 306, Volume I.2, FM 92 GRIB edition 2, data
 /// representation templates 5.0, 5.2 and 5.3).
@@ -65,7 +66,11 @@ pub fn read_simple(section: &Section<'_>, points: u32) -> Result<Simple, Fault>
         return Err(refusal(start + 5, Reason::ValueCount, u64::from(simple.values)));
     }
     if !is_finite(simple.reference) {
-        return Err(refusal(start + 11, Reason::ReferenceNotFinite, u64::from(simple.reference)));
+        return Err(refusal(
+            start + 11,
+            Reason::ReferenceNotFinite,
+            u64::from(simple.reference),
+        ));
     }
     if simple.bits > most_bits(template) {
         return Err(refusal(start + 19, Reason::BitWidth, u64::from(simple.bits)));
@@ -86,17 +91,6 @@ pub(crate) fn numbers(octets: &[u8]) -> Simple
         d: BigEndian::read_u16(&octets[17..]),
         bits: octets[19],
         kind: octets[20],
-    }
-}
-
-/// The refusal at this octet of the message.
-fn refusal(octet: u64, reason: Reason, detail: u64) -> Fault
-    ensures { result ≡ rows.refusal octet reason detail }
-{
-    Fault {
-        octet,
-        reason,
-        detail,
     }
 }
 

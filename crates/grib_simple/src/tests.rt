@@ -1,6 +1,13 @@
-//! Expected numbers are from Python, which cuts the digits of one whole number.
+//! Expected numbers are from Python, which cuts the digits of one whole number; fields and refusals are
+//! those of worked messages.
+
+ghost use Rattle.std.specs.Prelude.{◌≡◌};
+ghost use Rattle.grib_bits.specs.Octets.{StatesItself};
 
 use super::*;
+use byteorder::{BigEndian, ByteOrder};
+use grib_bitmap::{Mask, ones, read_mask};
+use grib_io::{Fault, Reason, Section, UnpackFault};
 use std::alloc::{AllocError, Global};
 use std::process::Abort;
 use std::test::Fail;
@@ -122,5 +129,202 @@ fn points_of_half_octets(rt: HostRuntime) -> Result<(), Fail> {
         Point::Scaled(11),
     ];
     assert_eq!(rt; points.as_slice(), expected.as_slice());
+    Ok(())
+}
+
+/// The octets as a section that begins there, for which it is seen first that they state themselves.
+fn section<'a>(rt: &impl Abort, number: u8, start: u64, octets: &'a [u8]) -> Section<'a>
+    ensures itself { StatesItself result.number result.octets.now }
+    ensures start { result.start ≡ start }
+    ensures octets { result.octets.now ≡ octets.now }
+{
+    assert!(rt; octets.len() >= 5 && octets[4] == number);
+    assert!(rt; BigEndian::read_u32(octets) as usize == octets.len());
+    Section {
+        number,
+        start,
+        octets,
+    }
+}
+
+/// What stands in a Section 5 that begins at octet 144.
+fn read(rt: &impl Abort, octets: &[u8], points: u32) -> Result<Simple, Fault> {
+    read_simple(&section(rt, 5, 144, octets), points)
+}
+
+/// A Section 5 of template 5.0: four values of 8 bits, with R = -118.625, E = -3 and D = 1.
+const FIELD: [u8; 21] = [
+    0, 0, 0, 21, 5, 0, 0, 0, 4, 0, 0, 0xc2, 0xed, 0x40, 0x00, 0x80, 0x03, 0x00, 0x01, 8, 0,
+];
+
+/// The same, of three values.
+const THREE: [u8; 21] = [
+    0, 0, 0, 21, 5, 0, 0, 0, 3, 0, 0, 0xc2, 0xed, 0x40, 0x00, 0x80, 0x03, 0x00, 0x01, 8, 0,
+];
+
+#[test]
+fn section_5_has_its_numbers(rt: HostRuntime) {
+    let simple = Simple {
+        values: 4,
+        template: 0,
+        reference: 0xc2ed4000,
+        e: 0x8003,
+        d: 1,
+        bits: 8,
+        kind: 0,
+    };
+    assert_eq!(rt; read(&rt, &FIELD, 4), Ok(simple));
+    let mut changed = FIELD;
+    changed[10] = 41;
+    let Err(fault) = read(&rt, &changed, 4) else {
+        panic!(rt; "template 5.41 is accepted");
+    };
+    assert_eq!(rt;
+        (fault.octet, fault.reason, fault.detail),
+        (153, Reason::PngPacked, 41)
+    );
+}
+
+/// The column of a field in simple packing, for which it is seen first that Section 5 is accepted. Section
+/// 7 begins at octet 171.
+fn unpacked_field(
+    rt: &impl Abort,
+    alloc: Global,
+    representation: &[u8],
+    mask: &Mask,
+    data: &[u8],
+) -> Result<Column, UnpackFault> {
+    let section5 = section(rt, 5, 144, representation);
+    let section7 = section(rt, 7, 171, data);
+    let Ok(simple) = read_simple(&section5, mask.len()) else {
+        panic!(rt; "the representation is refused");
+    };
+    assert!(rt; simple.template == 0 && simple.values == ones(mask));
+    assert!(rt; mask.len() >= 1 && mask.len() <= 33_554_432);
+    SimplePacking.unpack(alloc, &section5, mask, &section7)
+}
+
+/// The column that was unpacked.
+fn column(rt: &impl Abort, unpacked: Result<Column, UnpackFault>) -> Column {
+    match unpacked {
+        Ok(column) => column,
+        Err(_) => panic!(rt; "the field is refused"),
+    }
+}
+
+/// The mask of a Section 6.
+fn mask_of(
+    rt: &impl Abort,
+    alloc: Global,
+    octets: &[u8],
+    points: u32,
+    values: u32,
+    earlier: Option<&Mask>,
+) -> Mask {
+    match read_mask(alloc, &section(rt, 6, 165, octets), points, values, earlier) {
+        Ok(mask) => mask,
+        Err(_) => panic!(rt; "the bitmap is refused"),
+    }
+}
+
+#[test]
+fn fields_of_a_message_with_a_bitmap(rt: HostRuntime) {
+    let mask = mask_of(&rt, rt.alloc(), &[0, 0, 0, 7, 6, 0, 0xb0], 4, 3, None);
+    let first = column(
+        &rt,
+        unpacked_field(&rt, rt.alloc(), &THREE, &mask, &[0, 0, 0, 8, 7, 0, 1, 2]),
+    );
+    let points = [
+        Point::Scaled(0),
+        Point::Missing,
+        Point::Scaled(1),
+        Point::Scaled(2),
+    ];
+    assert_eq!(rt; first.points.as_slice(), points.as_slice());
+    assert_eq!(rt;
+        (first.reference, first.e, first.d),
+        (0xc2ed4000, 0x8003, 1)
+    );
+
+    let again = mask_of(&rt, rt.alloc(), &[0, 0, 0, 6, 6, 254], 4, 3, Some(&mask));
+    let second = column(
+        &rt,
+        unpacked_field(&rt, rt.alloc(), &THREE, &again, &[0, 0, 0, 8, 7, 3, 4, 5]),
+    );
+    let points = [
+        Point::Scaled(3),
+        Point::Missing,
+        Point::Scaled(4),
+        Point::Scaled(5),
+    ];
+    assert_eq!(rt; second.points.as_slice(), points.as_slice());
+}
+
+#[test]
+fn numbers_of_no_bits_are_not_read(rt: HostRuntime) -> Result<(), Fail> {
+    let mut constant = FIELD;
+    constant[19] = 0;
+    let all = Mask::all(rt.alloc(), 4)?;
+    let field = column(
+        &rt,
+        unpacked_field(&rt, rt.alloc(), &constant, &all, &[0, 0, 0, 5, 7]),
+    );
+    assert_eq!(rt; field.points.as_slice(), [Point::Scaled(0); 4].as_slice());
+
+    let short = unpacked_field(&rt, rt.alloc(), &FIELD, &all, &[0, 0, 0, 8, 7, 0, 1, 2]);
+    let Err(UnpackFault::Refused(fault)) = short else {
+        panic!(rt; "the data are accepted");
+    };
+    assert_eq!(rt;
+        (fault.octet, fault.reason, fault.detail),
+        (171, Reason::DataTooShort, 8)
+    );
+    Ok(())
+}
+
+/// A Section 6 with runs of 5, 70, 1, 64, 3, 1, 2 and 47 points, left out and present in turn.
+const RUNS: [u8; 31] = [
+    0, 0, 0, 31, 6, 0, 0x07, 0xff, 0xff, 0xff, 0xff, 0xff, 0xff, 0xff, 0xff, 0xef, 0xff, 0xff,
+    0xff, 0xff, 0xff, 0xff, 0xff, 0xf1, 0x3f, 0xff, 0xff, 0xff, 0xff, 0xff, 0x80,
+];
+
+#[test]
+fn wide_numbers_of_a_long_mask(rt: HostRuntime) -> Result<(), Fail> {
+    let mask = mask_of(&rt, rt.alloc(), &RUNS, 193, 182, None);
+    // The k-th number, of 40 bits, is 2^39 + k.
+    let mut representation = THREE;
+    representation[8] = 182;
+    representation[19] = 40;
+    let mut data = [0, 0, 0x03, 0x93, 7].to_vec(rt.alloc())?;
+    for k in 0..182u8 {
+        data.extend_from_slice(&[0x80, 0, 0, 0, k])?;
+    }
+    let field = column(
+        &rt,
+        unpacked_field(&rt, rt.alloc(), &representation, &mask, &data),
+    );
+    let mut points = field.points.as_slice().iter().copied();
+    let mut number = 1i64 << 39;
+    for (length, present) in [
+        (5, false),
+        (70, true),
+        (1, false),
+        (64, true),
+        (3, false),
+        (1, true),
+        (2, false),
+        (47, true),
+    ] {
+        for _ in 0..length {
+            let expected = if present {
+                Point::Scaled(number)
+            } else {
+                Point::Missing
+            };
+            assert_eq!(rt; points.next(), Some(expected));
+            number = number.wrapping_add(i64::from(present));
+        }
+    }
+    assert_eq!(rt; points.next(), None);
     Ok(())
 }

@@ -1,4 +1,4 @@
-use Rattle.std.proofs.Common.{◌≡◌, ◌-◌, ◌<◌, ◌++◌, ℕ, List, map, replicate, arith, sym, subst, ap, ◌∙◌}
+use Rattle.std.proofs.Common.{◌-◌, ◌<◌, ◌++◌, ℕ, map, replicate, arith, sym, ap, ◌∙◌}
 use Rattle.grib_bits.specs.Bits.{bits}
 use Rattle.grib_simple.specs.Part.{plain_from}
 use Rattle.grib_simple.proofs.Unpacking.{pushed_both, no_bits, on_ok}

@@ -1,4 +1,4 @@
-use Rattle.std.proofs.Common.{ap, ◌/◌, ◌^◌, ℕ, not, eqb, arith}
+use Rattle.std.proofs.Common.{ap, ◌/◌, ◌^◌, ℕ, not, eqb}
 use Rattle.std.proofs.lemmas.Nat.{and_mask}
 use Rattle.grib_simple.proofs.representation.is_finite.Goals as goal
 

@@ -1,4 +1,4 @@
-use Rattle.std.proofs.Common.{◌≡◌, ℕ, List, map, pos, sym, ◌∙◌, Vec, Global, vec_items}
+use Rattle.std.proofs.Common.{◌≡◌, ℕ, map, pos, sym, ◌∙◌, Vec, Global}
 use Rattle.grib_bits.specs.Bits.{bits}
 use Rattle.grib_bits.specs.Plain.{plain}
 use Rattle.grib_packing.specs.declared.column.Point.{Point}

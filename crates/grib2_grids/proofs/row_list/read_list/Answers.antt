@@ -1,0 +1,16 @@
+-- The list that the section has as a whole is the list of rows.
+use Rattle.std.proofs.Common.{◌≡◌, ◌<◌, eqb, cond, List, ℕ, subst, ap, ◌∙◌, arith}
+use Rattle.std.specs.Prelude.{IfOk}
+use Rattle.grib2_grids.specs.Grid.{list_start}
+use Rattle.grib2_grids.proofs.Lists.{row_list-whole}
+use Rattle.grib2_grids.proofs.row_list.read_list.Goals as goal
+
+pub returns-clause-rows : goal.returns-clause-rows
+returns-clause-rows c =
+    let s = c.args.octets.now in
+    let start : c.list_start-first.result ≡ list_start s = c.list_start-first.ensures ∙ ap (λ (n : ℕ). cond (eqb n 1) 85 73) c.u16_at.ensures in
+    let some : 0 < c.u8_at-size.result = omega arith in
+    let RowsAre : List ℕ → Type 0 = λ xs. IfOk c.read_rows.result (λ rows. rows.items ≡ xs) in
+    subst RowsAre
+    (row_list-whole s c.list_start-first.result c.u8_at-size.result c.u32_at.result c.requires.list start c.u8_at-size.ensures c.u32_at.ensures some)
+    c.read_rows.ensures.entries

@@ -1,0 +1,30 @@
+-- The octets of the numbers, one after another.
+use Rattle.std.proofs.Common.{sym}
+use Rattle.grib2_sections.proofs.Octets.{AddsOctets-append}
+use Rattle.grib2_grids.proofs.writing.write_common.Goals as goal
+
+pub returns-clause-octets : goal.returns-clause-octets
+returns-clause-octets c = AddsOctets-append (AddsOctets-append (AddsOctets-append (AddsOctets-append (AddsOctets-append (AddsOctets-append (AddsOctets-append (AddsOctets-append
+    c.write_u8.ensures.octets
+    c.write_u8-2.ensures.octets)
+    c.write_u32.ensures.octets)
+    c.write_u8-3.ensures.octets)
+    c.write_u32-2.ensures.octets)
+    c.write_u8-4.ensures.octets)
+    c.write_u32-3.ensures.octets)
+    c.write_u32-4.ensures.octets)
+    c.write_u32-5.ensures.octets
+
+pub returns-clause-spelled : goal.returns-clause-spelled
+returns-clause-spelled c = λ l points list_octets list_meaning template rest.
+    record {
+      shape_octets = sym c.write_u8.ensures.number;
+      radius_scale_octets = sym c.write_u8-2.ensures.number;
+      radius_octets = sym c.write_u32.ensures.number;
+      major_scale_octets = sym c.write_u8-3.ensures.number;
+      major_octets = sym c.write_u32-2.ensures.number;
+      minor_scale_octets = sym c.write_u8-4.ensures.number;
+      minor_octets = sym c.write_u32-3.ensures.number;
+      ni_octets = sym c.write_u32-4.ensures.number;
+      nj_octets = sym c.write_u32-5.ensures.number;
+    }

@@ -1,0 +1,20 @@
+-- The octets of the numbers, one after another.
+use Rattle.std.proofs.Common.{ℕ, subst}
+use Rattle.grib2_sections.specs.Encoding.{AddsOctets}
+use Rattle.grib2_sections.proofs.Octets.{AddsOctets-append}
+use Rattle.grib2_grids.specs.Written.{header}
+use Rattle.grib2_grids.proofs.writing.write_header.Goals as goal
+
+pub returns-clause-octets : goal.returns-clause-octets
+returns-clause-octets c =
+    let v = c.args.value.now in
+    let Added : ℕ → Type 0 = λ template. AddsOctets c.args.out.now c.write_u16.new.out (header c.args.length v.points v.list_octets v.list_meaning template) in
+    subst Added c.template_number.ensures
+    (AddsOctets-append (AddsOctets-append (AddsOctets-append (AddsOctets-append (AddsOctets-append (AddsOctets-append
+    c.write_u32.ensures.octets
+    c.write_u8.ensures.octets)
+    c.write_u8-2.ensures.octets)
+    c.write_u32-2.ensures.octets)
+    c.write_u8-3.ensures.octets)
+    c.write_u8-4.ensures.octets)
+    c.write_u16.ensures.octets)

@@ -1,0 +1,34 @@
+-- The octets of the numbers, one after another.
+use Rattle.std.proofs.Common.{◌++◌, sym}
+use Rattle.grib2_sections.specs.Encoding.{octets_of}
+use Rattle.grib2_sections.proofs.Octets.{AddsOctets-append}
+use Rattle.grib2_grids.proofs.writing.write_lambert.Goals as goal
+
+pub returns-clause-octets : goal.returns-clause-octets
+returns-clause-octets c = AddsOctets-append (AddsOctets-append (AddsOctets-append (AddsOctets-append
+    c.write_polar.ensures.octets
+    c.write_u32.ensures.octets)
+    c.write_u32-2.ensures.octets)
+    c.write_u32-3.ensures.octets)
+    c.write_u32-4.ensures.octets
+
+pub returns-clause-spelled : goal.returns-clause-spelled
+returns-clause-spelled c = λ l points list_octets list_meaning template rest.
+    let v = c.args.value.now in
+    let polar = c.write_polar.ensures.spelled l points list_octets list_meaning template (octets_of 4 v.latin1 ++ octets_of 4 v.latin2 ++ octets_of 4 v.pole_la ++ octets_of 4 v.pole_lo ++ rest) in
+    record {
+      common = polar.common;
+      la1 = polar.la1;
+      lo1 = polar.lo1;
+      flags = polar.flags;
+      lad = polar.lad;
+      lov = polar.lov;
+      dx = polar.dx;
+      dy = polar.dy;
+      centre = polar.centre;
+      scanning = polar.scanning;
+      latin1 = sym c.write_u32.ensures.number;
+      latin2 = sym c.write_u32-2.ensures.number;
+      pole_la = sym c.write_u32-3.ensures.number;
+      pole_lo = sym c.write_u32-4.ensures.number;
+    }

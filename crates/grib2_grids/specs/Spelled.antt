@@ -1,0 +1,145 @@
+-- The values of Section 3, each with its octets (WMO-No. 306, Volume I.2, FM 92 GRIB edition 2, Section 3 and
+-- grid definition templates 3.0, 3.1, 3.10, 3.20, 3.30 and 3.40).
+use Rattle.std.specs.Prelude.{◌≡◌, ℕ, ◌+◌, ◌*◌, ◌<◌, List, All, length, None}
+use Rattle.grib_bits.specs.Octets.{octets, StatesItself}
+use Rattle.grib_io.specs.Rows.{first_fault}
+use Rattle.grib2_sections.specs.Template.{least_length}
+use Rattle.grib2_grids.specs.Grid.{grid_templates, grid_rows, row_list}
+use Rattle.grib2_grids.specs.declared.templates.LatLon.{LatLon}
+use Rattle.grib2_grids.specs.declared.templates.Rotation.{Rotation}
+use Rattle.grib2_grids.specs.declared.templates.Mercator.{Mercator}
+use Rattle.grib2_grids.specs.declared.templates.Polar.{Polar}
+use Rattle.grib2_grids.specs.declared.templates.Lambert.{Lambert}
+use Rattle.grib2_grids.specs.declared.templates.Gaussian.{Gaussian}
+use Rattle.grib2_grids.specs.declared.grid.Grid.{Grid}
+use Rattle.grib2_grids.specs.declared.grid.Grid.TheVariants as grid
+use Rattle.grib2_grids.specs.declared.grid.GridSection.{GridSection}
+
+-- what all six templates share
+pub record SpelledCommon (shape radius_scale radius major_scale major minor_scale minor ni nj : ℕ) (s : List ℕ) : Type 0 where
+  pub shape_octets : shape ≡ octets s 15 15
+  pub radius_scale_octets : radius_scale ≡ octets s 16 16
+  pub radius_octets : radius ≡ octets s 17 20
+  pub major_scale_octets : major_scale ≡ octets s 21 21
+  pub major_octets : major ≡ octets s 22 25
+  pub minor_scale_octets : minor_scale ≡ octets s 26 26
+  pub minor_octets : minor ≡ octets s 27 30
+  pub ni_octets : ni ≡ octets s 31 34
+  pub nj_octets : nj ≡ octets s 35 38
+
+-- template 3.0, latitude and longitude
+pub record SpelledLatLon (v : LatLon) (s : List ℕ) : Type 0 where
+  pub common : SpelledCommon v.shape v.radius_scale v.radius v.major_scale v.major v.minor_scale v.minor v.ni v.nj s
+  pub basic : v.basic ≡ octets s 39 42
+  pub subdivisions : v.subdivisions ≡ octets s 43 46
+  pub la1 : v.la1 ≡ octets s 47 50
+  pub lo1 : v.lo1 ≡ octets s 51 54
+  pub flags : v.flags ≡ octets s 55 55
+  pub la2 : v.la2 ≡ octets s 56 59
+  pub lo2 : v.lo2 ≡ octets s 60 63
+  pub di : v.di ≡ octets s 64 67
+  pub dj : v.dj ≡ octets s 68 71
+  pub scanning : v.scanning ≡ octets s 72 72
+
+-- template 3.1, rotated latitude and longitude, after the octets of template 3.0
+pub record SpelledRotation (v : Rotation) (s : List ℕ) : Type 0 where
+  pub pole_la : v.pole_la ≡ octets s 73 76
+  pub pole_lo : v.pole_lo ≡ octets s 77 80
+  pub angle : v.angle ≡ octets s 81 84
+
+-- template 3.10, Mercator
+pub record SpelledMercator (v : Mercator) (s : List ℕ) : Type 0 where
+  pub common : SpelledCommon v.shape v.radius_scale v.radius v.major_scale v.major v.minor_scale v.minor v.ni v.nj s
+  pub la1 : v.la1 ≡ octets s 39 42
+  pub lo1 : v.lo1 ≡ octets s 43 46
+  pub flags : v.flags ≡ octets s 47 47
+  pub lad : v.lad ≡ octets s 48 51
+  pub la2 : v.la2 ≡ octets s 52 55
+  pub lo2 : v.lo2 ≡ octets s 56 59
+  pub scanning : v.scanning ≡ octets s 60 60
+  pub orientation : v.orientation ≡ octets s 61 64
+  pub di : v.di ≡ octets s 65 68
+  pub dj : v.dj ≡ octets s 69 72
+
+-- template 3.20, polar stereographic
+pub record SpelledPolar (v : Polar) (s : List ℕ) : Type 0 where
+  pub common : SpelledCommon v.shape v.radius_scale v.radius v.major_scale v.major v.minor_scale v.minor v.ni v.nj s
+  pub la1 : v.la1 ≡ octets s 39 42
+  pub lo1 : v.lo1 ≡ octets s 43 46
+  pub flags : v.flags ≡ octets s 47 47
+  pub lad : v.lad ≡ octets s 48 51
+  pub lov : v.lov ≡ octets s 52 55
+  pub dx : v.dx ≡ octets s 56 59
+  pub dy : v.dy ≡ octets s 60 63
+  pub centre : v.centre ≡ octets s 64 64
+  pub scanning : v.scanning ≡ octets s 65 65
+
+-- template 3.30, Lambert conformal
+pub record SpelledLambert (v : Lambert) (s : List ℕ) : Type 0 where
+  pub common : SpelledCommon v.shape v.radius_scale v.radius v.major_scale v.major v.minor_scale v.minor v.ni v.nj s
+  pub la1 : v.la1 ≡ octets s 39 42
+  pub lo1 : v.lo1 ≡ octets s 43 46
+  pub flags : v.flags ≡ octets s 47 47
+  pub lad : v.lad ≡ octets s 48 51
+  pub lov : v.lov ≡ octets s 52 55
+  pub dx : v.dx ≡ octets s 56 59
+  pub dy : v.dy ≡ octets s 60 63
+  pub centre : v.centre ≡ octets s 64 64
+  pub scanning : v.scanning ≡ octets s 65 65
+  pub latin1 : v.latin1 ≡ octets s 66 69
+  pub latin2 : v.latin2 ≡ octets s 70 73
+  pub pole_la : v.pole_la ≡ octets s 74 77
+  pub pole_lo : v.pole_lo ≡ octets s 78 81
+
+-- template 3.40, Gaussian latitude and longitude
+pub record SpelledGaussian (v : Gaussian) (s : List ℕ) : Type 0 where
+  pub common : SpelledCommon v.shape v.radius_scale v.radius v.major_scale v.major v.minor_scale v.minor v.ni v.nj s
+  pub basic : v.basic ≡ octets s 39 42
+  pub subdivisions : v.subdivisions ≡ octets s 43 46
+  pub la1 : v.la1 ≡ octets s 47 50
+  pub lo1 : v.lo1 ≡ octets s 51 54
+  pub flags : v.flags ≡ octets s 55 55
+  pub la2 : v.la2 ≡ octets s 56 59
+  pub lo2 : v.lo2 ≡ octets s 60 63
+  pub di : v.di ≡ octets s 64 67
+  pub n : v.n ≡ octets s 68 71
+  pub scanning : v.scanning ≡ octets s 72 72
+
+-- the number of a grid's template
+abbrev pub template_of : Grid → ℕ
+template_of (grid.LatLon v) = 0
+template_of (grid.Rotated v r) = 1
+template_of (grid.Mercator v) = 10
+template_of (grid.Polar v) = 20
+template_of (grid.Lambert v) = 30
+template_of (grid.Gaussian v) = 40
+
+-- the octets of a grid's template
+abbrev pub SpelledTemplate : Grid → List ℕ → Type 0
+SpelledTemplate (grid.LatLon v) s = SpelledLatLon v s
+SpelledTemplate (grid.Rotated v r) s = SpelledLatLon v s × SpelledRotation r s
+SpelledTemplate (grid.Mercator v) s = SpelledMercator v s
+SpelledTemplate (grid.Polar v) s = SpelledPolar v s
+SpelledTemplate (grid.Lambert v) s = SpelledLambert v s
+SpelledTemplate (grid.Gaussian v) s = SpelledGaussian v s
+
+-- the value has the numbers of the section; octet 6 says that the grid is that of octets 13-14
+pub record Spelled (value : GridSection) (s : List ℕ) : Type 0 where
+  pub source : 0 ≡ octets s 6 6
+  pub points : value.points ≡ octets s 7 10
+  pub list_octets : value.list_octets ≡ octets s 11 11
+  pub list_meaning : value.list_meaning ≡ octets s 12 12
+  pub template : template_of value.grid ≡ octets s 13 14
+  pub grid : SpelledTemplate value.grid s
+  pub rows : value.rows ≡ row_list s
+
+-- Octets that are a Section 3 which no row of the profile refuses, and of which the value has the numbers.
+pub record IsSectionOf (value : GridSection) (s : List ℕ) : Type 0 where
+  pub small : All (λ octet. octet < 256) s
+  pub itself : StatesItself 3 s
+  pub rows : first_fault (grid_rows s) ≡ None
+  pub spelled : Spelled value s
+
+-- the length of a section that has its template and its list, and no more
+abbrev pub written_length : GridSection → ℕ
+written_length value = least_length grid_templates (template_of value.grid) + value.list_octets * length value.rows

@@ -1,0 +1,198 @@
+//! Reading Section 3.
+
+ghost use Rattle.std.specs.Prelude.{◌≡◌, ◌≢◌, ◌≤◌, length, Some, None, Err, MatchResult};
+ghost use Rattle.grib_bits.specs.Octets.{octets as octets_of, StatesItself};
+ghost use Rattle.grib_io.specs.Rows.{first_fault_at};
+ghost use Rattle.grib2_grids.specs.Grid.{grid_rows, list_octets};
+ghost use Rattle.grib2_grids.specs.Whole.{IsWhole};
+ghost use Rattle.grib2_grids.specs.Refused.{IsRefusal};
+ghost use Rattle.grib2_grids.specs.Spelled.{Spelled, SpelledTemplate, template_of, SpelledCommon, SpelledLatLon, SpelledRotation, SpelledMercator, SpelledPolar, SpelledLambert, SpelledGaussian};
+
+use crate::row_list::read_list;
+use crate::rows::{check_head, check_list, check_points};
+use crate::templates::{Common, template};
+use crate::{Gaussian, Grid, GridFault, GridSection, Lambert, LatLon, Mercator, Polar, Rotation};
+use grib_io::{List, Section};
+use grib2_sections::{u8_at, u16_at, u32_at};
+use std::alloc::Global;
+
+/// Reads Section 3.
+///
+/// # Errors
+///
+/// The first row of the profile that fails: the section is too short, has a grid that the profile
+/// does not have or a list of rows of another shape, or states another number of points than it has.
+/// Or there is no memory for the list of rows, where there is one.
+pub fn read_grid(alloc: Global, section: &Section<'_>) -> Result<GridSection, GridFault>
+    requires itself { StatesItself section.now.number section.now.octets.now }
+    requires low { 1 ≤ section.now.start }
+    requires high { section.now.start ≤ 268435456 }
+    ensures rows { MatchResult result
+        (λ value. (first_fault_at section.now.start (grid_rows section.now.octets.now) ≡ None)
+        × Spelled value section.now.octets.now)
+        (λ fault. IsRefusal fault
+        (first_fault_at section.now.start (grid_rows section.now.octets.now))) }
+    ensures memory { list_octets section.now.octets.now ≡ 0 → result ≢ Err GridFault.Memory }
+{
+    let octets = section.octets;
+    check_head(section)?;
+    check_list(section)?;
+    let rows = read_list(alloc, octets)?;
+    check_points(section, rows.as_slice())?;
+    Ok(GridSection {
+        points: u32_at(octets, 7),
+        list_octets: u8_at(octets, 11),
+        list_meaning: u8_at(octets, 12),
+        rows: List::of(rows),
+        grid: read_template(octets),
+    })
+}
+
+/// The template, by its number in octets 13-14.
+fn read_template(octets: &[u8]) -> Grid
+    requires { IsWhole octets.now }
+    ensures template { template_of result ≡ octets_of octets.now 13 14 }
+    ensures octets { SpelledTemplate result octets.now }
+{
+    match u16_at(octets, 13) {
+        0 => Grid::LatLon(read_lat_lon(octets)),
+        1 => Grid::Rotated(read_lat_lon(octets), read_rotation(octets)),
+        10 => Grid::Mercator(read_mercator(octets)),
+        20 => Grid::Polar(read_polar(octets)),
+        30 => Grid::Lambert(read_lambert(octets)),
+        _ => Grid::Gaussian(read_gaussian(octets)),
+    }
+}
+
+/// Octets 15 to 38, which all templates share.
+fn read_common(octets: &[u8]) -> Common
+    requires { 38 ≤ length octets.now }
+    ensures { SpelledCommon result.shape result.radius_scale result.radius result.major_scale
+        result.major result.minor_scale result.minor result.ni result.nj octets.now }
+{
+    Common {
+        shape: u8_at(octets, 15),
+        radius_scale: u8_at(octets, 16),
+        radius: u32_at(octets, 17),
+        major_scale: u8_at(octets, 21),
+        major: u32_at(octets, 22),
+        minor_scale: u8_at(octets, 26),
+        minor: u32_at(octets, 27),
+        ni: u32_at(octets, 31),
+        nj: u32_at(octets, 35),
+    }
+}
+
+/// Template 3.0.
+fn read_lat_lon(octets: &[u8]) -> LatLon
+    requires { 72 ≤ length octets.now }
+    ensures { SpelledLatLon result octets.now }
+{
+    let common = read_common(octets);
+    template!(LatLon, common, {
+        basic: u32_at(octets, 39),
+        subdivisions: u32_at(octets, 43),
+        la1: u32_at(octets, 47),
+        lo1: u32_at(octets, 51),
+        flags: u8_at(octets, 55),
+        la2: u32_at(octets, 56),
+        lo2: u32_at(octets, 60),
+        di: u32_at(octets, 64),
+        dj: u32_at(octets, 68),
+        scanning: u8_at(octets, 72),
+    })
+}
+
+/// What template 3.1 has after the octets of template 3.0.
+fn read_rotation(octets: &[u8]) -> Rotation
+    requires { 84 ≤ length octets.now }
+    ensures { SpelledRotation result octets.now }
+{
+    Rotation {
+        pole_la: u32_at(octets, 73),
+        pole_lo: u32_at(octets, 77),
+        angle: u32_at(octets, 81),
+    }
+}
+
+/// Template 3.10.
+fn read_mercator(octets: &[u8]) -> Mercator
+    requires { 72 ≤ length octets.now }
+    ensures { SpelledMercator result octets.now }
+{
+    let common = read_common(octets);
+    template!(Mercator, common, {
+        la1: u32_at(octets, 39),
+        lo1: u32_at(octets, 43),
+        flags: u8_at(octets, 47),
+        lad: u32_at(octets, 48),
+        la2: u32_at(octets, 52),
+        lo2: u32_at(octets, 56),
+        scanning: u8_at(octets, 60),
+        orientation: u32_at(octets, 61),
+        di: u32_at(octets, 65),
+        dj: u32_at(octets, 69),
+    })
+}
+
+/// Template 3.20.
+fn read_polar(octets: &[u8]) -> Polar
+    requires { 65 ≤ length octets.now }
+    ensures { SpelledPolar result octets.now }
+{
+    let common = read_common(octets);
+    template!(Polar, common, {
+        la1: u32_at(octets, 39),
+        lo1: u32_at(octets, 43),
+        flags: u8_at(octets, 47),
+        lad: u32_at(octets, 48),
+        lov: u32_at(octets, 52),
+        dx: u32_at(octets, 56),
+        dy: u32_at(octets, 60),
+        centre: u8_at(octets, 64),
+        scanning: u8_at(octets, 65),
+    })
+}
+
+/// Template 3.30.
+fn read_lambert(octets: &[u8]) -> Lambert
+    requires { 81 ≤ length octets.now }
+    ensures { SpelledLambert result octets.now }
+{
+    let polar = read_polar(octets);
+    template!(Lambert, polar, {
+        la1: polar.la1,
+        lo1: polar.lo1,
+        flags: polar.flags,
+        lad: polar.lad,
+        lov: polar.lov,
+        dx: polar.dx,
+        dy: polar.dy,
+        centre: polar.centre,
+        scanning: polar.scanning,
+        latin1: u32_at(octets, 66),
+        latin2: u32_at(octets, 70),
+        pole_la: u32_at(octets, 74),
+        pole_lo: u32_at(octets, 78),
+    })
+}
+
+/// Template 3.40.
+fn read_gaussian(octets: &[u8]) -> Gaussian
+    requires { 72 ≤ length octets.now }
+    ensures { SpelledGaussian result octets.now }
+{
+    let lat_lon = read_lat_lon(octets);
+    template!(Gaussian, lat_lon, {
+        basic: lat_lon.basic,
+        subdivisions: lat_lon.subdivisions,
+        la1: lat_lon.la1,
+        lo1: lat_lon.lo1,
+        flags: lat_lon.flags,
+        la2: lat_lon.la2,
+        lo2: lat_lon.lo2,
+        di: lat_lon.di,
+        n: lat_lon.dj,
+        scanning: lat_lon.scanning,
+    })
+}

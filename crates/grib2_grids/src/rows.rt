@@ -1,0 +1,140 @@
+//! The rows of the profile that decide whether Section 3 is accepted.
+
+ghost use Rattle.std.specs.Prelude.{◌≡◌, ◌+◌, ◌-◌, ◌*◌, ◌<◌, ◌≤◌, ◌^◌, ◌==◌, true, false, if◌then◌else◌, length, take, drop, sum, Some, None, MatchResult, MatchOption, OnOk};
+ghost use Rattle.grib_io.specs.Rows as rows;
+ghost use Rattle.grib_io.specs.Rows.{first_fault, first_fault_at, fault_at};
+ghost use Rattle.grib2_sections.specs.Template.{is_template, least_length as least_of};
+ghost use Rattle.grib2_grids.specs.Grid as grid;
+ghost use Rattle.grib2_grids.specs.Grid.{grid_rows, grid_templates, row_list};
+ghost use Rattle.grib2_grids.specs.Whole.{IsWhole, HasList};
+
+use grib_io::{Fault, Reason, Section};
+use grib2_sections::{refusal_in, u8_at, u16_at, u32_at};
+
+/// The least length in octets of a section with this template, if the profile has it.
+fn least_length(template: u16) -> Option<usize>
+    ensures { MatchOption result (is_template grid_templates template ≡ false)
+        (λ least. (is_template grid_templates template ≡ true)
+        × (least ≡ least_of grid_templates template)) }
+{
+    match template {
+        0 | 10 | 40 => Some(72),
+        1 => Some(84),
+        20 => Some(65),
+        30 => Some(81),
+        _ => None,
+    }
+}
+
+/// The octet at which the list of rows begins.
+pub(crate) fn list_start(template: u16) -> usize
+    ensures { result ≡ (if template == 1 then 85 else 73) }
+{
+    if template == 1 { 85 } else { 73 }
+}
+
+/// Rows S3.1 to S3.5: the source, the template, the length and the number of points.
+pub(crate) fn check_head(section: &Section<'_>) -> Result<(), Fault>
+    requires low { 1 ≤ section.now.start }
+    requires high { section.now.start ≤ 268435456 }
+    ensures rows { MatchResult result
+        (λ _. first_fault (take 5 (grid_rows section.now.octets.now)) ≡ None)
+        (λ fault. first_fault_at section.now.start (take 5 (grid_rows section.now.octets.now))
+        ≡ Some fault) }
+    ensures template { OnOk result (IsWhole section.now.octets.now) }
+{
+    let octets = section.octets;
+    let length = octets.len();
+    if length < 14 {
+        return Err(refusal_in(section, 1, Reason::SectionLength, length as u64));
+    }
+    let source = u8_at(octets, 6);
+    if source != 0 {
+        return Err(refusal_in(section, 6, Reason::GridSource, u64::from(source)));
+    }
+    let template = u16_at(octets, 13);
+    let Some(least) = least_length(template) else {
+        return Err(refusal_in(section, 13, Reason::GridTemplate, u64::from(template)));
+    };
+    if length < least {
+        return Err(refusal_in(section, 1, Reason::SectionLength, length as u64));
+    }
+    let points = u32_at(octets, 7);
+    if points == 0 || points > 33_554_432 {
+        return Err(refusal_in(section, 7, Reason::PointCount, u64::from(points)));
+    }
+    Ok(())
+}
+
+/// Rows S3.6 to S3.9: the list of rows, where there is one.
+pub(crate) fn check_list(section: &Section<'_>) -> Result<(), Fault>
+    requires high { section.now.start ≤ 268435456 }
+    requires long { 65 ≤ length section.now.octets.now }
+    ensures rows { MatchResult result
+        (λ _. first_fault (take 4 (drop 5 (grid_rows section.now.octets.now))) ≡ None)
+        (λ fault. first_fault_at section.now.start
+        (take 4 (drop 5 (grid_rows section.now.octets.now))) ≡ Some fault) }
+    ensures list { OnOk result (HasList section.now.octets.now) }
+{
+    let octets = section.octets;
+    let size = u8_at(octets, 11);
+    if size == 0 {
+        return Ok(());
+    }
+    let meaning = u8_at(octets, 12);
+    if meaning != 1 && meaning != 2 {
+        return Err(refusal_in(section, 12, Reason::ListShape, u64::from(meaning)));
+    }
+    let template = u16_at(octets, 13);
+    if size > 4 || !may_have_list(template) {
+        return Err(refusal_in(section, 11, Reason::ListShape, u64::from(size)));
+    }
+    let nj = u32_at(octets, 35);
+    if nj == 0 || nj == u32::MAX {
+        return Err(refusal_in(section, 35, Reason::ListShape, u64::from(nj)));
+    }
+    let first = list_start(template) as u64;
+    if first - 1 + u64::from(size) * u64::from(nj) > octets.len() as u64 {
+        return Err(refusal_in(section, first, Reason::ListShape, u64::from(nj)));
+    }
+    Ok(())
+}
+
+/// Rows S3.10 and S3.11: the number of points, by the list of rows or else by Ni and Nj.
+pub(crate) fn check_points(section: &Section<'_>, rows: &[u32]) -> Result<(), Fault>
+    requires high { section.now.start ≤ 268435456 }
+    requires long { 65 ≤ length section.now.octets.now }
+    requires few { length rows.now < 2 ^ 32 }
+    requires rows { rows.now ≡ row_list section.now.octets.now }
+    ensures { MatchResult result
+        (λ _. first_fault (drop 9 (grid_rows section.now.octets.now)) ≡ None)
+        (λ fault. first_fault_at section.now.start (drop 9 (grid_rows section.now.octets.now))
+        ≡ Some fault) }
+{
+    let octets = section.octets;
+    let points = u64::from(u32_at(octets, 7));
+    let stated = if u8_at(octets, 11) == 0 {
+        u64::from(u32_at(octets, 31)) * u64::from(u32_at(octets, 35))
+    } else {
+        total(rows)
+    };
+    if stated != points {
+        return Err(refusal_in(section, 7, Reason::PointCount, stated));
+    }
+    Ok(())
+}
+
+/// Whether a grid with this template may have a list of rows.
+fn may_have_list(template: u16) -> bool
+    ensures { result ≡ grid.may_have_list template }
+{
+    matches!(template, 0 | 1 | 40)
+}
+
+/// The sum of the numbers of points of each row.
+fn total(rows: &[u32]) -> u64
+    requires { length rows.now < 2 ^ 32 }
+    ensures { result ≡ sum rows.now }
+{
+    rows.iter().map(|row| u64::from(*row)).sum()
+}

@@ -1,0 +1,6 @@
+pub mod Ranges
+pub mod Passing
+pub mod Readable
+pub mod Rebuilt
+pub mod Unique
+pub mod Variants

@@ -1,0 +1,11 @@
+-- The octets of the numbers, one after another.
+use Rattle.grib2_sections.proofs.Octets.{AddsOctets-append}
+use Rattle.grib2_products.proofs.writing.write_header.Goals as goal
+
+pub returns-clause-octets : goal.returns-clause-octets
+returns-clause-octets c =
+    AddsOctets-append (AddsOctets-append (AddsOctets-append
+    c.write_u32.ensures.octets
+    c.write_u8.ensures.octets)
+    c.write_u16.ensures.octets)
+    c.write_u16-2.ensures.octets

@@ -1,0 +1,48 @@
+-- The octets of the numbers, one after another.
+use Rattle.std.proofs.Common.{List, ◌++◌, sym, subst}
+use Rattle.grib2_sections.specs.Encoding.{AddsOctets}
+use Rattle.grib2_products.specs.Written.{end_octets, specs_octets}
+use Rattle.grib2_products.specs.declared.templates.Spec.{Spec}
+use Rattle.grib2_sections.proofs.Octets.{AddsOctets-append}
+use Rattle.grib2_products.proofs.writing.write_interval.Goals as goal
+
+pub returns-clause-octets : goal.returns-clause-octets
+returns-clause-octets c =
+    let v = c.args.value.now in
+    let Adds : List Spec → Type 0 = λ specs. AddsOctets c.args.out.now c.write_specs.new.out (end_octets v ++ specs_octets specs) in
+    subst Adds c.as_slice.ensures (AddsOctets-append (AddsOctets-append (AddsOctets-append (AddsOctets-append (AddsOctets-append (AddsOctets-append (AddsOctets-append (AddsOctets-append
+    c.write_u16.ensures.octets
+    c.write_u8.ensures.octets)
+    c.write_u8-2.ensures.octets)
+    c.write_u8-3.ensures.octets)
+    c.write_u8-4.ensures.octets)
+    c.write_u8-5.ensures.octets)
+    c.write_u8-6.ensures.octets)
+    c.write_u32.ensures.octets)
+    c.write_specs.ensures)
+
+pub returns-clause-at_35 : goal.returns-clause-at_35
+returns-clause-at_35 c = λ l count template v rest.
+    record {
+      year = sym c.write_u16.ensures.number;
+      month = sym c.write_u8.ensures.number;
+      day = sym c.write_u8-2.ensures.number;
+      hour = sym c.write_u8-3.ensures.number;
+      minute = sym c.write_u8-4.ensures.number;
+      second = sym c.write_u8-5.ensures.number;
+      n = sym c.write_u8-6.ensures.number;
+      missing = sym c.write_u32.ensures.number;
+    }
+
+pub returns-clause-at_38 : goal.returns-clause-at_38
+returns-clause-at_38 c = λ l count template v e rest.
+    record {
+      year = sym c.write_u16.ensures.number;
+      month = sym c.write_u8.ensures.number;
+      day = sym c.write_u8-2.ensures.number;
+      hour = sym c.write_u8-3.ensures.number;
+      minute = sym c.write_u8-4.ensures.number;
+      second = sym c.write_u8-5.ensures.number;
+      n = sym c.write_u8-6.ensures.number;
+      missing = sym c.write_u32.ensures.number;
+    }

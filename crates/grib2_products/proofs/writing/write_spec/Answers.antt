@@ -1,0 +1,12 @@
+-- The octets of the numbers, one after another.
+use Rattle.grib2_sections.proofs.Octets.{AddsOctets-append}
+use Rattle.grib2_products.proofs.writing.write_spec.Goals as goal
+
+pub returns : goal.returns
+returns c = AddsOctets-append (AddsOctets-append (AddsOctets-append (AddsOctets-append (AddsOctets-append
+    c.write_u8.ensures.octets
+    c.write_u8-2.ensures.octets)
+    c.write_u8-3.ensures.octets)
+    c.write_u32.ensures.octets)
+    c.write_u8-4.ensures.octets)
+    c.write_u32-2.ensures.octets

@@ -1,0 +1,69 @@
+-- The octets of Section 4 as they are written, part after part.
+use Rattle.std.specs.Prelude.{◌≡◌, ℕ, List, [], ◌∷◌, ◌++◌}
+use Rattle.grib_bits.specs.Octets.{octets}
+use Rattle.grib2_sections.specs.Encoding.{octets_of}
+use Rattle.grib2_products.specs.Spelled.{SpelledInstant, SpelledEnsemble, SpelledEnd}
+use Rattle.grib2_products.specs.declared.templates.Instant.{Instant}
+use Rattle.grib2_products.specs.declared.templates.Ensemble.{Ensemble}
+use Rattle.grib2_products.specs.declared.templates.Interval.{Interval}
+use Rattle.grib2_products.specs.declared.templates.Spec.{Spec}
+use Rattle.grib2_products.specs.declared.product.Product.{Product}
+use Rattle.grib2_products.specs.declared.product.Product.TheVariants as product
+
+-- octets 1-9, of a section of l octets
+abbrev pub header : ℕ → ℕ → ℕ → List ℕ
+header l count template = octets_of 4 l ++ octets_of 1 4 ++ octets_of 2 count ++ octets_of 2 template
+
+-- the same numbers, by their octets
+pub record SpelledHeader (l count template : ℕ) (s : List ℕ) : Type 0 where
+  pub length_octets : l ≡ octets s 1 4
+  pub number_octets : 4 ≡ octets s 5 5
+  pub count_octets : count ≡ octets s 6 7
+  pub template_octets : template ≡ octets s 8 9
+
+-- octets 10-34
+abbrev pub instant_octets : Instant → List ℕ
+instant_octets v =
+    octets_of 1 v.category ++ octets_of 1 v.number ++ octets_of 1 v.process ++ octets_of 1 v.background
+    ++ octets_of 1 v.generator ++ octets_of 2 v.cutoff_hours ++ octets_of 1 v.cutoff_minutes ++ octets_of 1 v.unit
+    ++ octets_of 4 v.time ++ octets_of 1 v.surface1 ++ octets_of 1 v.scale1 ++ octets_of 4 v.value1
+    ++ octets_of 1 v.surface2 ++ octets_of 1 v.scale2 ++ octets_of 4 v.value2
+
+-- octets 35-37
+abbrev pub ensemble_octets : Ensemble → List ℕ
+ensemble_octets v = octets_of 1 v.kind ++ octets_of 1 v.perturbation ++ octets_of 1 v.size
+
+-- the first 12 octets of an interval
+abbrev pub end_octets : Interval → List ℕ
+end_octets v =
+    octets_of 2 v.year ++ octets_of 1 v.month ++ octets_of 1 v.day ++ octets_of 1 v.hour ++ octets_of 1 v.minute
+    ++ octets_of 1 v.second ++ octets_of 1 v.n ++ octets_of 4 v.missing
+
+-- a time range
+abbrev pub spec_octets : Spec → List ℕ
+spec_octets v =
+    octets_of 1 v.process ++ octets_of 1 v.increment_type ++ octets_of 1 v.unit ++ octets_of 4 v.length
+    ++ octets_of 1 v.increment_unit ++ octets_of 4 v.increment
+
+abbrev pub specs_octets : List Spec → List ℕ
+specs_octets [] = []
+specs_octets (spec ∷ specs) = spec_octets spec ++ specs_octets specs
+
+-- octet 10 onwards of each template
+abbrev pub template_octets : Product → List ℕ
+template_octets (product.Instant v) = instant_octets v
+template_octets (product.Ensemble v e) = instant_octets v ++ ensemble_octets e
+template_octets (product.Interval v i) = instant_octets v ++ (end_octets i ++ specs_octets i.specs)
+template_octets (product.EnsembleInterval v e i) = instant_octets v ++ ensemble_octets e ++ (end_octets i ++ specs_octets i.specs)
+
+-- the template's numbers, but for the time ranges
+abbrev pub SpelledFixed : Product → List ℕ → Type 0
+SpelledFixed (product.Instant v) s = SpelledInstant v s
+SpelledFixed (product.Ensemble v e) s = SpelledInstant v s × SpelledEnsemble e s
+SpelledFixed (product.Interval v i) s = SpelledInstant v s × SpelledEnd i 35 s
+SpelledFixed (product.EnsembleInterval v e i) s = SpelledInstant v s × SpelledEnsemble e s × SpelledEnd i 38 s
+
+-- coordinate values, of four octets each
+abbrev pub coordinate_octets : List ℕ → List ℕ
+coordinate_octets [] = []
+coordinate_octets (word ∷ words) = octets_of 4 word ++ coordinate_octets words

@@ -1,0 +1,74 @@
+-- How large the numbers get: spans of codes of 32 bits, and costs of up to 33,554,432 codes.
+use Rattle.std.proofs.Common.{◌≡◌, ℕ, suc, ◌+◌, ◌-◌, ◌*◌, ◌^◌, ◌<◌, ◌≤◌, max, List, [], ◌∷◌, length, take, drop, All, refl, subst, arith, eq-eqb}
+use Rattle.std.proofs.Math.Nat.{mul-le-mul_left, suc-mul}
+use Rattle.std.proofs.lemmas.List.Elements.{All-head, All-tail, All-take, All-drop}
+use Rattle.grib_io.specs.declared.code.Code.{Code}
+use Rattle.grib_io.specs.declared.code.Code.TheVariants.{Present, Primary, Secondary}
+use Rattle.grib_packing.specs.Groupings.{width_of, cost_of, IsGrouping, greatest, present_codes}
+use Rattle.grib_split.specs.declared.choosing.Costs.{Costs}
+use Rattle.grib_split.specs.declared.slot.Slot.{Slot}
+use Rattle.grib_split.specs.Costs.{header_of, IsBelow}
+use Rattle.grib_split.specs.Least.{IsLeast}
+use Rattle.grib_split.specs.Choosing.{Waiting}
+use Rattle.grib_split.proofs.Optimal.{joined}
+use Rattle.grib_split.proofs.Spans.{smallest_at_most}
+
+-- ---- numbers of runs
+
+small_run : (k : ℕ) (run : List Code) → k ≤ 2 → All (IsBelow k) run → greatest (present_codes run) + k < 2 ^ 32
+small_run k [] few each = omega arith
+small_run k (Present n ∷ run) few each =
+    let here : n + k < 2 ^ 32 = All-head (IsBelow k) (Present n) run each in
+    omega (arith, here, small_run k run few (All-tail (IsBelow k) (Present n) run each))
+small_run k (Primary ∷ run) few each = small_run k run few (All-tail (IsBelow k) Primary run each)
+small_run k (Secondary ∷ run) few each = small_run k run few (All-tail (IsBelow k) Secondary run each)
+
+pub waiting_ordered : (costs : Costs) (codes : List Code) (at l : ℕ) (slot : Slot) → Waiting costs codes at l slot
+    → slot.span.least ≤ slot.span.greatest
+waiting_ordered costs codes at l slot w =
+    let run = take (l - 1) (drop (at + 1) codes) in
+    omega (arith, w.span.least, w.span.greatest, smallest_at_most (present_codes run))
+
+pub waiting_small : (costs : Costs) (codes : List Code) (at l : ℕ) (slot : Slot) → costs.reserved ≤ 2 → All (IsBelow costs.reserved) codes
+    → Waiting costs codes at l slot → slot.span.greatest + costs.reserved < 2 ^ 32
+waiting_small costs codes at l slot few each w =
+    let k = costs.reserved in
+    let run = take (l - 1) (drop (at + 1) codes) in
+    let here : All (IsBelow k) run = All-take (IsBelow k) (l - 1) (drop (at + 1) codes) (All-drop (IsBelow k) (at + 1) codes each) in
+    omega (arith, w.span.greatest, small_run k run few here)
+
+-- ---- costs
+
+-- a group of one code has no bits
+single_width : (k : ℕ) (code : Code) → width_of k (code ∷ []) ≡ 0
+single_width k (Present n) = rw (eq-eqb (max n 0) n (omega arith)) refl
+single_width k Primary = refl
+single_width k Secondary = refl
+
+-- as many groups as codes
+ones : List Code → List ℕ
+ones [] = []
+ones (code ∷ codes) = 1 ∷ ones codes
+
+ones_grouping : (codes : List Code) → IsGrouping (length codes) (ones codes)
+unfolding ones
+ones_grouping [] = record { each = λ k d within. absurd (omega arith); total = refl }
+ones_grouping (code ∷ codes) = joined (length (code ∷ codes)) 1 (ones codes) (omega arith) (omega arith) (omega arith)
+    (let P : ℕ → Type 0 = λ n. IsGrouping n (ones codes) in let e : length codes ≡ suc (length codes) - 1 = omega arith in subst P e (ones_grouping codes))
+
+ones_cost : (header k : ℕ) (codes : List Code) → cost_of header (width_of k) (ones codes) codes ≡ length codes * header
+unfolding ones
+ones_cost header k [] = omega arith
+ones_cost header k (code ∷ codes) = omega (arith, single_width k code, ones_cost header k codes, suc-mul (length codes) header)
+
+pub least_bound : (header k : ℕ) (codes : List Code) (cost : ℕ) → IsLeast header (width_of k) codes cost → cost ≤ length codes * header
+least_bound header k codes cost l = omega (arith, l.least (ones codes) (ones_grouping codes), ones_cost header k codes)
+
+pub cost_bound : (costs : Costs) (codes : List Code) (cost : ℕ) → costs.reference_bits ≤ 32 → costs.width_bits ≤ 6 → length codes ≤ 33554432
+    → IsLeast (header_of costs) (width_of costs.reserved) codes cost → cost ≤ 1476395008
+cost_bound costs codes cost references widths most l =
+    let header = header_of costs in
+    let small : header ≤ 44 = omega arith in
+    let bound = least_bound header costs.reserved codes cost l in
+    let more : length codes * header ≤ length codes * 44 = mul-le-mul_left (length codes) small in
+    omega (arith, bound, more)

@@ -1,0 +1,8 @@
+pub mod Optimal
+pub mod Following
+pub mod Spans
+pub mod Steps
+pub mod Bounds
+pub mod Choices
+pub mod Followed
+pub mod Heads

@@ -1,0 +1,15 @@
+//! The choice of groups: the grouping of a field's codes that takes the fewest bits.
+#![tactic(auto)]
+
+mod choosing;
+mod chosen;
+pub mod laws;
+mod lengths;
+mod slot;
+mod span;
+#[cfg(test)]
+mod tests;
+
+pub use choosing::{Costs, least_choices};
+pub use chosen::chosen_lengths;
+pub use lengths::lengths_of;
