@@ -46,33 +46,33 @@ accepted_from complex s start points packing located_none spelled templates =
       length_bits = omega (arith, ap (λ l. l.length_bits) spelled.layout, ltb-false 32 (layout_of s).length_bits c.1.1.1.1.0);
       extra = elim templates [
         | inl two ↦
-          let none : extra_octets s ≡ 0 = cond-false (eqb (packing_template s) 3) _ 0 (ne_eqb (packing_template s) 3 (λ three. absurd (omega arith))) in
-          omega (arith, spelled.extra, none)
+            let none : extra_octets s ≡ 0 = cond-false (eqb (packing_template s) 3) _ 0 (ne_eqb (packing_template s) 3 (λ three. absurd (omega arith))) in
+            omega (arith, spelled.extra, none)
         | inr three ↦
-          omega (arith, spelled.extra, ltb-false 4 (extra_octets s) (second_fails (eqb (packing_template s) 3) _ c.1.1.1.1.1.1.0 (eq-eqb (packing_template s) 3 three)))
-        ];
+            omega (arith, spelled.extra, ltb-false 4 (extra_octets s) (second_fails (eqb (packing_template s) 3) _ c.1.1.1.1.1.1.0 (eq-eqb (packing_template s) 3 three)))
+      ];
       order = elim templates [
         | inl two ↦
-          let none : difference_order s ≡ 0 = cond-false (eqb (packing_template s) 3) _ 0 (ne_eqb (packing_template s) 3 (λ three. absurd (omega arith))) in
-          inl (spelled.simple.template ∙ two, spelled.order ∙ none)
+            let none : difference_order s ≡ 0 = cond-false (eqb (packing_template s) 3) _ 0 (ne_eqb (packing_template s) 3 (λ three. absurd (omega arith))) in
+            inl (spelled.simple.template ∙ two, spelled.order ∙ none)
         | inr three ↦
-          let template : complex.simple.template ≡ 3 = spelled.simple.template ∙ three in
-          inr (template, orders (eqb (packing_template s) 3) (difference_order s) complex.order spelled.order c.1.1.1.1.1.0 (eq-eqb (packing_template s) 3 three))
-        ];
+            let template : complex.simple.template ≡ 3 = spelled.simple.template ∙ three in
+            inr (template, orders (eqb (packing_template s) 3) (difference_order s) complex.order spelled.order c.1.1.1.1.1.0 (eq-eqb (packing_template s) 3 three))
+      ];
     } where
-  orders : (spatial : Bool) (o order : ℕ) → order ≡ o → (spatial && not (eqb o 1) && not (eqb o 2)) ≡ false → spatial ≡ true → (order ≡ 1) ⊎ (order ≡ 2)
-  orders spatial o order is_order fails holds = elim (cases_eq o 1) [
-    | inl one ↦ inl (is_order ∙ one)
-    | inr other ↦ elim (cases_eq o 2) [
-      | inl two ↦ inr (is_order ∙ two)
-      | inr third ↦ absurd (apart spatial (eqb o 1) (eqb o 2) fails holds (ne_eqb o 1 other) (ne_eqb o 2 third))
-      ]
-    ] where
-    apart : (a b c : Bool) → (a && not b && not c) ≡ false → a ≡ true → b ≡ false → c ≡ false → ⊥
-    apart true false false fails x y z = absurd (cc)
-    apart true true c fails x y z = absurd (cc)
-    apart true false true fails x y z = absurd (cc)
-    apart false b c fails x y z = absurd (cc)
+      orders : (spatial : Bool) (o order : ℕ) → order ≡ o → (spatial && not (eqb o 1) && not (eqb o 2)) ≡ false → spatial ≡ true → (order ≡ 1) ⊎ (order ≡ 2)
+      orders spatial o order is_order fails holds = elim (cases_eq o 1) [
+        | inl one ↦ inl (is_order ∙ one)
+        | inr other ↦ elim (cases_eq o 2) [
+          | inl two ↦ inr (is_order ∙ two)
+          | inr third ↦ absurd (apart spatial (eqb o 1) (eqb o 2) fails holds (ne_eqb o 1 other) (ne_eqb o 2 third))
+        ]
+      ] where
+        apart : (a b c : Bool) → (a && not b && not c) ≡ false → a ≡ true → b ≡ false → c ≡ false → ⊥
+        apart true false false fails x y z = absurd (cc)
+        apart true true c fails x y z = absurd (cc)
+        apart true false true fails x y z = absurd (cc)
+        apart false b c fails x y z = absurd (cc)
 
 -- rows S5.1 to S5.6 of an accepted section
 pub packing_none : (s : List ℕ) (points : ℕ) → packing_fault s points ≡ None → first_fault (packing_rows s points) ≡ None

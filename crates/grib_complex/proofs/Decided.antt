@@ -24,8 +24,8 @@ first_fault-append [] ys none = refl
 first_fault-append (r ∷ xs) ys none =
     let rest = first_fault-append xs ys in
     elim r.fails as (λ b. cond b (Some r.fault) (first_fault xs) ≡ None → cond b (Some r.fault) (first_fault (xs ++ ys)) ≡ first_fault ys) [
-    | true ↦ λ h. absurd (cc)
-    | false ↦ λ h. rest h
+      | true ↦ λ h. absurd (cc)
+      | false ↦ λ h. rest h
     ] none
 
 first_fault-front : (xs ys : List Row) (f : Fault) → first_fault xs ≡ Some f → first_fault (xs ++ ys) ≡ Some f
@@ -33,8 +33,8 @@ first_fault-front [] ys f some = absurd (cc)
 first_fault-front (r ∷ xs) ys f some =
     let rest = first_fault-front xs ys f in
     elim r.fails as (λ b. cond b (Some r.fault) (first_fault xs) ≡ Some f → cond b (Some r.fault) (first_fault (xs ++ ys)) ≡ Some f) [
-    | true ↦ λ h. h
-    | false ↦ λ h. rest h
+      | true ↦ λ h. h
+      | false ↦ λ h. rest h
     ] some
 
 none_located : (start : ℕ) (o : Option Fault) → located start o ≡ None → o ≡ None
@@ -71,9 +71,9 @@ module _ (s5 s7 : List ℕ) (start : ℕ) (lists : first_fault (list_rows (layou
       → located start (group_data_fault s5 s7) ≡ Some f
   fault_of_groups f fails =
       ap (located start) (after_signs s5 s7 start lists signs) ∙ go (first_fault (group_rows (layout_of s5) s7 (descriptor_octets s5) (value_count s5))) fails where
-    go : (o : Option Fault) → located start o ≡ Some f → located start (or_then o (λ _. range_rows s5 s7)) ≡ Some f
-    go None h = absurd (cc)
-    go (Some g) h = h
+        go : (o : Option Fault) → located start o ≡ Some f → located start (or_then o (λ _. range_rows s5 s7)) ≡ Some f
+        go None h = absurd (cc)
+        go (Some g) h = h
 
   -- only row S7.7 is left
   pub after_groups : located start (first_fault (group_rows (layout_of s5) s7 (descriptor_octets s5) (value_count s5))) ≡ None → group_data_fault s5 s7 ≡ first_fault (range_rows s5 s7)
@@ -150,8 +150,8 @@ module _ (s5 s7 : List ℕ) (order extra : ℕ) (is_order : order ≡ difference
       let full : told (After by NoNumber) codes ≡ told (After (record by { second = second }) NoNumber) codes = elim orders [
         | inl one ↦ told-second by second one NoNumber codes
         | inr two ↦
-          ap (λ (x : ℤ). told (After (record by { second = x }) NoNumber) codes) (cond-true (eqb order 2) second (pos 0) (eq-eqb order 2 two))
-        ] in
+            ap (λ (x : ℤ). told (After (record by { second = x }) NoNumber) codes) (cond-true (eqb order 2) second (pos 0) (eq-eqb order 2 two))
+      ] in
       ap (λ (t : Telling). told t codes) (cond-false (eqb order 0) Plainly (After by NoNumber) (ne_eqb order 0 some))
       ∙ full
       ∙ ap (λ (d : Descriptors). told (After d NoNumber) codes) (descriptors-full s5 s7 order extra is_order is_extra)

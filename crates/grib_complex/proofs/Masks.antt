@@ -24,18 +24,18 @@ module _ (mask : List Bool) (seen : List Point) (before after : Points) (are : A
         memory = omega (arith, are.memory);
         within = omega (arith, long);
         agree = λ more.
-          are.agree more
-          ∙ ap (λ (bs : List Bool). points ++ points_with_mask bs more) run
-          ∙ ap (λ ps. points ++ ps) (with_mask_missing n (drop (place + n) mask) more)
-          ∙ sym (append_assoc points (replicate n Missing) (points_with_mask (drop (place + n) mask) more))
-          ∙ ap₂ (λ (ps : List Point) (k : ℕ). ps ++ points_with_mask (drop k mask) more) (sym is_points) (sym long);
+            are.agree more
+            ∙ ap (λ (bs : List Bool). points ++ points_with_mask bs more) run
+            ∙ ap (λ ps. points ++ ps) (with_mask_missing n (drop (place + n) mask) more)
+            ∙ sym (append_assoc points (replicate n Missing) (points_with_mask (drop (place + n) mask) more))
+            ∙ ap₂ (λ (ps : List Point) (k : ℕ). ps ++ points_with_mask (drop k mask) more) (sym is_points) (sym long);
         counted =
-          are.counted ∙ ap (λ (bs : List Bool). length seen + present_count bs) run
-          ∙ ap (λ (k : ℕ). length seen + k) (present_count-run n false (drop (place + n) mask))
-          ∙ omega (arith, ap (λ (k : ℕ). present_count (drop k mask)) long);
+            are.counted ∙ ap (λ (bs : List Bool). length seen + present_count bs) run
+            ∙ ap (λ (k : ℕ). length seen + k) (present_count-run n false (drop (place + n) mask))
+            ∙ omega (arith, ap (λ (k : ℕ). present_count (drop k mask)) long);
         ahead =
-          let nothing : length after.points.items + after.left ≡ length after.points.items = omega arith in
-          ap₂ (λ (j k : ℕ). replicate j true ++ drop k mask) (sym still_none) (sym nothing);
+            let nothing : length after.points.items + after.left ≡ length after.points.items = omega arith in
+            ap₂ (λ (j k : ℕ). replicate j true ++ drop k mask) (sym still_none) (sym nothing);
       }
 
   -- points that are present
@@ -48,8 +48,8 @@ module _ (mask : List Bool) (seen : List Point) (before after : Points) (are : A
     agree = λ more. are.agree more ∙ ap (λ v. v.items ++ points_with_mask (drop (length v.items) mask) more) (sym same_points);
     counted = are.counted ∙ ap (λ v. length seen + present_count (drop (length v.items) mask)) (sym same_points);
     ahead =
-      ap (λ v. drop (length v.items) mask) same_points ∙ run
-      ∙ ap₂ (λ (j k : ℕ). replicate j true ++ drop (k + j) mask) (sym is_left) (ap (λ v. length v.items) (sym same_points));
+        ap (λ v. drop (length v.items) mask) same_points ∙ run
+        ∙ ap₂ (λ (j k : ℕ). replicate j true ++ drop (k + j) mask) (sym is_left) (ap (λ v. length v.items) (sym same_points));
   }
 
 -- where values are still to come, points are too
@@ -57,7 +57,7 @@ pub some_ahead : (mask : List Bool) (seen : List Point) (points : Points) → Ar
 some_ahead mask seen points are more = elim (cases_lt (length points.points.items) (length mask)) [
   | inl within ↦ within
   | inr past ↦ absurd (omega (arith, are.counted, ap present_count (drop_all (length points.points.items) mask past)))
-  ]
+]
 
 -- one value more
 pub are_kept : (mask : List Bool) (seen : List Point) (before after : Points) (point : Point) → ArePoints mask seen before → 0 < before.left → after.mask ≡ before.mask
@@ -78,17 +78,17 @@ are_kept mask seen before after point are some same_mask is_left is_points memor
       memory = omega (arith, are.memory);
       within = omega (arith, are.within, long);
       agree = λ more.
-        ap (points_with_mask mask) (append_assoc seen (point ∷ []) more)
-        ∙ are.agree (point ∷ more)
-        ∙ ap (λ (bs : List Bool). points ++ points_with_mask bs (point ∷ more)) here
-        ∙ sym (append_assoc points (point ∷ []) (points_with_mask ahead_left more))
-        ∙ ap₂ (λ (ps : List Point) (bs : List Bool). ps ++ points_with_mask bs more) (sym is_points) (sym next ∙ ap (λ (k : ℕ). drop k mask) (sym long));
+          ap (points_with_mask mask) (append_assoc seen (point ∷ []) more)
+          ∙ are.agree (point ∷ more)
+          ∙ ap (λ (bs : List Bool). points ++ points_with_mask bs (point ∷ more)) here
+          ∙ sym (append_assoc points (point ∷ []) (points_with_mask ahead_left more))
+          ∙ ap₂ (λ (ps : List Point) (bs : List Bool). ps ++ points_with_mask bs more) (sym is_points) (sym next ∙ ap (λ (k : ℕ). drop k mask) (sym long));
       counted =
-        let count : present_count (drop place mask) ≡ 1 + present_count ahead_left = ap present_count here ∙ present_count-cons true ahead_left in
-        omega (arith, are.counted, count, ap present_count (sym next ∙ ap (λ (k : ℕ). drop k mask) (sym long)), length_push seen point);
+          let count : present_count (drop place mask) ≡ 1 + present_count ahead_left = ap present_count here ∙ present_count-cons true ahead_left in
+          omega (arith, are.counted, count, ap present_count (sym next ∙ ap (λ (k : ℕ). drop k mask) (sym long)), length_push seen point);
       ahead =
-        let end : place + left ≡ length after.points.items + after.left = omega arith in
-        ap (λ (k : ℕ). drop k mask) long ∙ next ∙ ap₂ (λ (j k : ℕ). replicate j true ++ drop k mask) (sym is_left) end;
+          let end : place + left ≡ length after.points.items + after.left = omega arith in
+          ap (λ (k : ℕ). drop k mask) long ∙ next ∙ ap₂ (λ (j k : ℕ). replicate j true ++ drop k mask) (sym is_left) end;
     }
 
 -- all values came
@@ -98,7 +98,7 @@ all_points mask seen points are =
     let place = length points.points.items in
     let rest = drop place mask in
     sym (ap (points_with_mask mask) (sym (append-nil seen)) ∙ are.agree [] ∙ ap (λ ps. points.points.items ++ ps) (missing rest ∙ ap (λ (k : ℕ). replicate k Missing) (length-drop place mask))) where
-  missing : (bs : List Bool) → points_with_mask bs [] ≡ replicate (length bs) Missing
-  missing [] = refl
-  missing (false ∷ bs) = ap (λ ps. Missing ∷ ps) (missing bs)
-  missing (true ∷ bs) = ap (λ ps. Missing ∷ ps) (missing bs)
+      missing : (bs : List Bool) → points_with_mask bs [] ≡ replicate (length bs) Missing
+      missing [] = refl
+      missing (false ∷ bs) = ap (λ ps. Missing ∷ ps) (missing bs)
+      missing (true ∷ bs) = ap (λ ps. Missing ∷ ps) (missing bs)

@@ -61,7 +61,7 @@ module _ (s5 s7 : List ℕ) (layout : Layout) (skip count order extra template :
   entries_are = elim same.orders [
     | inl two ↦ entries-plain s5 s7 order extra same.is_order same.is_extra (sym same.is_template ∙ two.0) two.1
     | inr three ↦ entries-differences s5 s7 order extra same.is_order same.is_extra (sym same.is_template ∙ three.0) three.1
-    ]
+  ]
 
 no_run : (running : Option Run) → telling_of running ≡ Plainly → running ≡ None
 no_run None plain = refl
@@ -93,12 +93,12 @@ module _ {K : Type 0} (kept : K → List Point → K → Type 0) (s5 s7 : List �
         keeps = λ within. subst (λ (ps : List Point). kept before.keeper ps after.keeper) entries (took.keeps start [] (omega arith) fresh within);
         differences = λ some. elim same.orders [
           | inl two ↦
-            let plain : telling_of running ≡ Plainly = is_telling ∙ cond-true (eqb order 0) Plainly _ (eq-eqb order 0 two.1) in
-            let none = took.plain (is_running ∙ no_run running plain) in
-            let zero_before : before.teller.beyond ≡ 0 = nothing.beyond in
-            absurd (omega (arith, none.1, zero_before))
+              let plain : telling_of running ≡ Plainly = is_telling ∙ cond-true (eqb order 0) Plainly _ (eq-eqb order 0 two.1) in
+              let none = took.plain (is_running ∙ no_run running plain) in
+              let zero_before : before.teller.beyond ≡ 0 = nothing.beyond in
+              absurd (omega (arith, none.1, zero_before))
           | inr three ↦ sym same.is_template ∙ three.0
-          ];
+        ];
         long = sym (ap length entries) ∙ length-told start codes ∙ is_count;
       }
 
@@ -156,11 +156,11 @@ module _ (s5 s7 : List ℕ) (layout : Layout) (skip count order extra template :
   pub refused_groups : (fault : UnpackFault) → IsRefusal (first_fault_at start (group_rows layout s7 skip count)) fault → IsUnpackFault (located start (group_data_fault s5 s7)) fault
   refused_groups (Refused f) is_fault =
       fault_of_groups s5 s7 start (lists_hold s5 s7 layout skip count order extra template same start l is_length lists signs) (signs_hold s5 s7 layout skip count order extra template same start l is_length lists signs)
-        f (sym (rows_are s5 s7 layout skip count order extra template same start) ∙ is_fault)
+      f (sym (rows_are s5 s7 layout skip count order extra template same start) ∙ is_fault)
   refused_groups Memory is_fault = tt
 
   -- only row S7.7 is left
   pub rest_is_range : first_fault_at start (group_rows layout s7 skip count) ≡ None → group_data_fault s5 s7 ≡ first_fault (range_rows s5 s7)
   rest_is_range none =
       after_groups s5 s7 start (lists_hold s5 s7 layout skip count order extra template same start l is_length lists signs) (signs_hold s5 s7 layout skip count order extra template same start l is_length lists signs)
-        (sym (rows_are s5 s7 layout skip count order extra template same start) ∙ none)
+      (sym (rows_are s5 s7 layout skip count order extra template same start) ∙ none)

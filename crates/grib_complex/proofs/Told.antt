@@ -30,10 +30,10 @@ module _ (start : Telling) (seen : List Code) (before last : Teller) (code : Cod
         beyond = same ∙ tells.beyond ∙ elim (cases_lt 0 before.beyond) [
           | inl some ↦ sym (place_before is_out_of_range points point (omega (arith, tells.beyond)))
           | inr none ↦
-            let nothing : before.beyond ≡ 0 = omega arith in
-            let nowhere : first_place is_out_of_range points ≡ 0 = sym tells.beyond ∙ nothing in
-            nowhere ∙ sym (place_nowhere is_out_of_range points point nowhere (within nothing))
-          ] ∙ ap (first_place is_out_of_range) (sym more);
+              let nothing : before.beyond ≡ 0 = omega arith in
+              let nowhere : first_place is_out_of_range points ≡ 0 = sym tells.beyond ∙ nothing in
+              nowhere ∙ sym (place_nowhere is_out_of_range points point nowhere (within nothing))
+        ] ∙ ap (first_place is_out_of_range) (sym more);
         telling = λ none. telling (sym same ∙ none) ∙ sym (after-append start seen (code ∷ []));
       }
 

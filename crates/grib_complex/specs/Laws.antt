@@ -34,30 +34,30 @@ pub values-more : {K : Type 0} (kept : K → List Point → K → Type 0)
     → ValuesTook kept before (codes ++ more_codes) last
 values-more kept more before between last codes more_codes first second = record {
   stays = λ some.
-    let same = first.stays some in
-    let some_between : 0 < between.teller.beyond = omega arith in
-    second.stays some_between ∙ same;
+      let same = first.stays some in
+      let some_between : 0 < between.teller.beyond = omega arith in
+      second.stays some_between ∙ same;
   plain = λ none.
-    let one = first.plain none in
-    let two = second.plain one.0 in
-    (two.0, two.1 ∙ one.1);
+      let one = first.plain none in
+      let two = second.plain one.0 in
+      (two.0, two.1 ∙ one.1);
   tells = λ start seen room tells.
-    let one = first.tells start seen (omega (arith, length-append codes more_codes)) tells in
-    let two = second.tells start (seen ++ codes) (omega (arith, length-append codes more_codes, length-append seen codes)) one in
-    subst (λ (cs : List Code). Tells start cs last.teller) (append_assoc seen codes more_codes) two;
+      let one = first.tells start seen (omega (arith, length-append codes more_codes)) tells in
+      let two = second.tells start (seen ++ codes) (omega (arith, length-append codes more_codes, length-append seen codes)) one in
+      subst (λ (cs : List Code). Tells start cs last.teller) (append_assoc seen codes more_codes) two;
   keeps = λ start seen room tells within.
-    let between_within : between.teller.beyond ≡ 0 = elim (cases_lt 0 between.teller.beyond) [
-      | inl some ↦
-        let same = second.stays some in
-        omega arith
-      | inr none ↦ omega arith
+      let between_within : between.teller.beyond ≡ 0 = elim (cases_lt 0 between.teller.beyond) [
+        | inl some ↦
+            let same = second.stays some in
+            omega arith
+        | inr none ↦ omega arith
       ] in
-    let one = first.tells start seen (omega (arith, length-append codes more_codes)) tells in
-    let kept_first = first.keeps start seen (omega (arith, length-append codes more_codes)) tells between_within in
-    let kept_second = second.keeps start (seen ++ codes) (omega (arith, length-append codes more_codes, length-append seen codes)) one within in
-    let points : told (after start seen) codes ++ told (after start (seen ++ codes)) more_codes ≡ told (after start seen) (codes ++ more_codes) =
+      let one = first.tells start seen (omega (arith, length-append codes more_codes)) tells in
+      let kept_first = first.keeps start seen (omega (arith, length-append codes more_codes)) tells between_within in
+      let kept_second = second.keeps start (seen ++ codes) (omega (arith, length-append codes more_codes, length-append seen codes)) one within in
+      let points : told (after start seen) codes ++ told (after start (seen ++ codes)) more_codes ≡ told (after start seen) (codes ++ more_codes) =
       ap (λ (t : Telling). told (after start seen) codes ++ told t more_codes) (after-append start seen codes) ∙ sym (told-append (after start seen) codes more_codes) in
-    subst (λ (ps : List Point). kept before.keeper ps last.keeper) points (more before.keeper between.keeper last.keeper _ _ kept_first kept_second);
+      subst (λ (ps : List Point). kept before.keeper ps last.keeper) points (more before.keeper between.keeper last.keeper _ _ kept_first kept_second);
 }
 
 pub points-none : (keeper : Points) → PointsKept keeper [] keeper
@@ -69,7 +69,7 @@ pub points-more : (before between last : Points) (points more_points : List Poin
     → PointsKept before (points ++ more_points) last
 points-more before between last points more_points first second = record {
   keeps = λ mask seen room are.
-    let one = first.keeps mask seen (omega (arith, length-append points more_points)) are in
-    let two = second.keeps mask (seen ++ points) (omega (arith, length-append points more_points, length-append seen points)) one in
-    subst (λ (ps : List Point). ArePoints mask ps last) (append_assoc seen points more_points) two;
+      let one = first.keeps mask seen (omega (arith, length-append points more_points)) are in
+      let two = second.keeps mask (seen ++ points) (omega (arith, length-append points more_points, length-append seen points)) one in
+      subst (λ (ps : List Point). ArePoints mask ps last) (append_assoc seen points more_points) two;
 }

@@ -53,7 +53,11 @@ pub fn running(section: &[u8], order: u8, extra: u8) -> Option<Running>
         return None;
     }
     let first = first_value(section, order, extra, 0);
-    let second = if order == 2 { first_value(section, order, extra, 1) } else { 0 };
+    let second = if order == 2 {
+        first_value(section, order, extra, 1)
+    } else {
+        0
+    };
     Some(Running::new(order, first, second, minimum(section, order, extra)))
 }
 

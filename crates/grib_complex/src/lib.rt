@@ -6,9 +6,12 @@ mod keeping;
 mod packing;
 mod representation;
 mod telling;
+#[cfg(test)]
+mod tests;
 mod unpacking;
 mod values;
 
+pub use grib_groups::Layout;
 pub use keeping::{Keeper, Nothing, Points};
 pub use packing::{ComplexPacking, SpatialPacking};
 pub use representation::{Complex, read_complex};

@@ -55,22 +55,38 @@ pub fn read_complex(section: &Section<'_>, points: u32) -> Result<Complex, Fault
     let start = section.start;
     let layout = complex.layout;
     if layout.management > 2 {
-        return Err(refusal(start + 22, Reason::MissingManagement, u64::from(layout.management)));
+        return Err(refusal(
+            start + 22,
+            Reason::MissingManagement,
+            u64::from(layout.management),
+        ));
     }
     if layout.groups > simple.values {
         return Err(refusal(start + 31, Reason::GroupCount, u64::from(layout.groups)));
     }
     if layout.width_reference > 32 {
-        return Err(refusal(start + 35, Reason::GroupWidth, u64::from(layout.width_reference)));
+        return Err(refusal(
+            start + 35,
+            Reason::GroupWidth,
+            u64::from(layout.width_reference),
+        ));
     }
     if layout.width_bits > 32 {
         return Err(refusal(start + 36, Reason::GroupWidth, u64::from(layout.width_bits)));
     }
     if layout.length_bits > 32 {
-        return Err(refusal(start + 46, Reason::GroupShape, u64::from(layout.length_bits)));
+        return Err(refusal(
+            start + 46,
+            Reason::GroupShape,
+            u64::from(layout.length_bits),
+        ));
     }
     if simple.template == 3 && complex.order != 1 && complex.order != 2 {
-        return Err(refusal(start + 47, Reason::DifferenceOrder, u64::from(complex.order)));
+        return Err(refusal(
+            start + 47,
+            Reason::DifferenceOrder,
+            u64::from(complex.order),
+        ));
     }
     if simple.template == 3 && complex.extra > 4 {
         return Err(refusal(start + 48, Reason::ExtraOctets, u64::from(complex.extra)));

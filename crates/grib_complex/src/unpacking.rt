@@ -104,11 +104,17 @@ fn take_group_values<K: Keeper + Drop>(
         keeper,
     };
     let count = complex.simple.values;
-    let Values { teller, keeper } =
-        match take_groups(alloc, &complex.layout, section7, skip, count, values) {
-            Ok(values) => values,
-            Err(fault) => return Err(fault),
-        };
+    let Values { teller, keeper } = match take_groups(
+        alloc,
+        &complex.layout,
+        section7,
+        skip,
+        count,
+        values,
+    ) {
+        Ok(values) => values,
+        Err(fault) => return Err(fault),
+    };
     let beyond = teller.beyond();
     if beyond > 0 {
         return Err(refused(start, Reason::ScaledRange, beyond));

@@ -26,16 +26,16 @@ returns-clause-small c =
     let up : (j + 1) * e ≤ (c.args.order + 1) * e = mul-le-mul_right e (omega arith) in
     let number : c.descriptor.result < 2 ^ 31 = elim (cases_lt 0 e) [
       | inl some ↦
-        let place : 6 + j * e - 1 ≡ k = omega arith in
-        let tested = third_fails (ltb j c.args.order) (ltb 0 e) (ltb 127 (octets s (6 + j * e) (6 + j * e))) c.requires.natural (lt-ltb j c.args.order c.requires.index) (lt-ltb 0 e some) in
-        let small : get_or s k 0 ≤ 127 =
+          let place : 6 + j * e - 1 ≡ k = omega arith in
+          let tested = third_fails (ltb j c.args.order) (ltb 0 e) (ltb 127 (octets s (6 + j * e) (6 + j * e))) c.requires.natural (lt-ltb j c.args.order c.requires.index) (lt-ltb 0 e some) in
+          let small : get_or s k 0 ≤ 127 =
           omega (arith, ltb-false 127 (octets s (6 + j * e) (6 + j * e)) tested, octet_alone s (6 + j * e) known (omega arith) (omega (arith, product, up, c.requires.within)), ap (λ (i : ℕ). get_or s i 0) place) in
-        let first : k + 1 ≡ 6 + j * e = omega arith in
-        let last : k + e ≡ 6 + (j + 1) * e - 1 = omega (arith, product) in
-        subst (λ (n : ℕ). n < 2 ^ 31) (ap₂ (octets s) first last ∙ sym c.descriptor.ensures.value) (natural-lt s k e known (omega (arith, product, up, c.requires.within)) some c.requires.extra small)
+          let first : k + 1 ≡ 6 + j * e = omega arith in
+          let last : k + e ≡ 6 + (j + 1) * e - 1 = omega (arith, product) in
+          subst (λ (n : ℕ). n < 2 ^ 31) (ap₂ (octets s) first last ∙ sym c.descriptor.ensures.value) (natural-lt s k e known (omega (arith, product, up, c.requires.within)) some c.requires.extra small)
       | inr none ↦
-        let nothing : 8 * e ≡ 0 = omega arith in
-        let one = subst (λ (w : ℕ). c.descriptor.result < 2 ^ w) nothing c.descriptor.ensures.small in
-        omega arith
-      ] in
+          let nothing : 8 * e ≡ 0 = omega arith in
+          let one = subst (λ (w : ℕ). c.descriptor.result < 2 ^ w) nothing c.descriptor.ensures.small in
+          omega arith
+    ] in
     subst (λ z. nat_abs z ≤ 2 ^ 31) (sym (kept c.descriptor.result (omega arith))) (omega arith)

@@ -25,9 +25,9 @@ returns c =
     let count = ap present_count c.in-Ok.ensures ∙ c.requires.values in
     let are = taken.1.keeps c.in-Ok.own [] (omega (arith, taken.2, count)) c.in-Ok-start.ensures in
     let points = c.of.ensures ∙ c.finish.ensures c.in-Ok.own entries are
-      ∙ ap (λ (m : List Bool). points_with_mask m entries) c.in-Ok.ensures
-      ∙ ap (λ (b : Bool). points_with_mask mask (choose b (λ _. simple_entries s5 s7) (λ _. entries))) (sym grouped) in
-    let simple = c.in-Ok-read_simple.ensures.1 in
-    ( ap (λ (b : Bool). choose b (λ _. first_fault (simple_rows s5 (length s7))) (λ _. complex_data_fault s5 s7)) grouped ∙ taken.0
-    , same_column s5 _ _ _ c.of.result _ simple.reference simple.e simple.d points
+    ∙ ap (λ (m : List Bool). points_with_mask m entries) c.in-Ok.ensures
+    ∙ ap (λ (b : Bool). points_with_mask mask (choose b (λ _. simple_entries s5 s7) (λ _. entries))) (sym grouped) in
+    let simple = c.in-Ok-read_simple.ensures.1 in (
+      ap (λ (b : Bool). choose b (λ _. first_fault (simple_rows s5 (length s7))) (λ _. complex_data_fault s5 s7)) grouped ∙ taken.0,
+      same_column s5 _ _ _ c.of.result _ simple.reference simple.e simple.d points,
     )

@@ -14,13 +14,13 @@ spatial_octet s template place known is_template counted there =
     ap (λ (t : ℕ). cond (eqb t 3) (get_or s (place - 1) 0) 0) is_template
     ∙ elim (cases_eq (packing_template s) 3) [
       | inl three ↦
-        cond-true (eqb (packing_template s) 3) (get_or s (place - 1) 0) 0 (eq-eqb (packing_template s) 3 three)
-        ∙ octet_alone s place known counted (there three)
-        ∙ sym (cond-true (eqb (packing_template s) 3) (octets s place place) 0 (eq-eqb (packing_template s) 3 three))
+          cond-true (eqb (packing_template s) 3) (get_or s (place - 1) 0) 0 (eq-eqb (packing_template s) 3 three)
+          ∙ octet_alone s place known counted (there three)
+          ∙ sym (cond-true (eqb (packing_template s) 3) (octets s place place) 0 (eq-eqb (packing_template s) 3 three))
       | inr other ↦
-        cond-false (eqb (packing_template s) 3) (get_or s (place - 1) 0) 0 (ne_eqb (packing_template s) 3 other)
-        ∙ sym (cond-false (eqb (packing_template s) 3) (octets s place place) 0 (ne_eqb (packing_template s) 3 other))
-      ]
+          cond-false (eqb (packing_template s) 3) (get_or s (place - 1) 0) 0 (ne_eqb (packing_template s) 3 other)
+          ∙ sym (cond-false (eqb (packing_template s) 3) (octets s place place) 0 (ne_eqb (packing_template s) 3 other))
+    ]
 
 pub returns : goal.returns
 returns c =

@@ -37,8 +37,8 @@ returns-then-beyond-gt0 g c = λ s5 spelled.
     let place : first_place is_out_of_range (group_entries s5 s7) ≡ c.beyond-beyond.result = sym all.beyond ∙ sym c.beyond-beyond.ensures in
     let here : start + 0 ≡ start = omega arith in
     let fails : located start (group_data_fault s5 s7) ≡ Some (refusal start ScaledRange c.beyond-beyond.result) =
-      ap (located start) (rest ∙ beyond_range s5 s7 (all.differences (omega (arith, c.beyond-beyond.ensures, c.if-beyond-gt0.true))) some)
-      ∙ ap₂ (λ (o d : ℕ). Some (refusal o ScaledRange d)) here place in
+    ap (located start) (rest ∙ beyond_range s5 s7 (all.differences (omega (arith, c.beyond-beyond.ensures, c.if-beyond-gt0.true))) some)
+    ∙ ap₂ (λ (o d : ℕ). Some (refusal o ScaledRange d)) here place in
     subst (λ (fault : UnpackFault). IsUnpackFault (located start (group_data_fault s5 s7)) fault) (sym c.refused-then-beyond-gt0.ensures) fails
 
 pub returns : goal.returns
