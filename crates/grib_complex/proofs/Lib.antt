@@ -1,0 +1,6 @@
+pub mod Told
+pub mod Masks
+pub mod Fields
+pub mod Decided
+pub mod Outcome
+pub mod Accepting

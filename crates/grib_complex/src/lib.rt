@@ -1,6 +1,20 @@
 //! Complex packing, with and without spatial differencing: templates 5.2 and 5.3.
 #![tactic(auto)]
 
+mod descriptors;
+mod keeping;
+mod packing;
 mod representation;
+mod telling;
+#[cfg(test)]
+mod tests;
+mod unpacking;
+mod values;
 
+pub use grib_groups::Layout;
+pub use keeping::{Keeper, Nothing, Points};
+pub use packing::{ComplexPacking, SpatialPacking};
 pub use representation::{Complex, read_complex};
+pub use telling::Teller;
+pub use unpacking::take_values;
+pub use values::Values;

@@ -1,6 +1,6 @@
 //! Section 5 of complex packing.
 
-ghost use Rattle.std.specs.Prelude.{◌≡◌, ◌⊎◌, ◌≤◌, length, Some, None, MatchResult};
+ghost use Rattle.std.specs.Prelude.{◌≡◌, ◌⊎◌, ◌<◌, ◌≤◌, ◌==◌, cond, slice_index, length, Some, None, MatchResult};
 ghost use Rattle.grib_bits.specs.Octets.{StatesItself};
 ghost use Rattle.grib_io.specs.Rows as rows;
 ghost use Rattle.grib_io.specs.Rows.{first_fault, first_fault_at};
@@ -55,22 +55,38 @@ pub fn read_complex(section: &Section<'_>, points: u32) -> Result<Complex, Fault
     let start = section.start;
     let layout = complex.layout;
     if layout.management > 2 {
-        return Err(refusal(start + 22, Reason::MissingManagement, u64::from(layout.management)));
+        return Err(refusal(
+            start + 22,
+            Reason::MissingManagement,
+            u64::from(layout.management),
+        ));
     }
     if layout.groups > simple.values {
         return Err(refusal(start + 31, Reason::GroupCount, u64::from(layout.groups)));
     }
     if layout.width_reference > 32 {
-        return Err(refusal(start + 35, Reason::GroupWidth, u64::from(layout.width_reference)));
+        return Err(refusal(
+            start + 35,
+            Reason::GroupWidth,
+            u64::from(layout.width_reference),
+        ));
     }
     if layout.width_bits > 32 {
         return Err(refusal(start + 36, Reason::GroupWidth, u64::from(layout.width_bits)));
     }
     if layout.length_bits > 32 {
-        return Err(refusal(start + 46, Reason::GroupShape, u64::from(layout.length_bits)));
+        return Err(refusal(
+            start + 46,
+            Reason::GroupShape,
+            u64::from(layout.length_bits),
+        ));
     }
     if simple.template == 3 && complex.order != 1 && complex.order != 2 {
-        return Err(refusal(start + 47, Reason::DifferenceOrder, u64::from(complex.order)));
+        return Err(refusal(
+            start + 47,
+            Reason::DifferenceOrder,
+            u64::from(complex.order),
+        ));
     }
     if simple.template == 3 && complex.extra > 4 {
         return Err(refusal(start + 48, Reason::ExtraOctets, u64::from(complex.extra)));
@@ -85,16 +101,23 @@ fn numbers(simple: Simple, octets: &[u8]) -> Complex
     requires spatial { packing_template octets.now ≡ 3 → 49 ≤ length octets.now }
     ensures { Spelled result octets.now }
 {
-    let spatial = simple.template == 3;
     Complex {
         simple,
         split: octets[21],
         primary: BigEndian::read_u32(&octets[23..]),
         secondary: BigEndian::read_u32(&octets[27..]),
         layout: layout(octets),
-        order: if spatial { octets[47] } else { 0 },
-        extra: if spatial { octets[48] } else { 0 },
+        order: spatial_octet(simple.template, octets, 47),
+        extra: spatial_octet(simple.template, octets, 48),
     }
+}
+
+/// An octet of template 5.3, and 0 in another one.
+fn spatial_octet(template: u16, octets: &[u8], index: usize) -> u8
+    requires { template ≡ 3 → index < length octets.now }
+    ensures { result ≡ cond (template == 3) (slice_index octets.now index) 0 }
+{
+    if template == 3 { octets[index] } else { 0 }
 }
 
 /// How the groups are laid out, by Section 5.

@@ -66,6 +66,42 @@ pub fn decode_groups(
         × (codes.items ≡ grouped layout.now (drop (5 + skip) section7.now.octets.now)))
         (IsRefusal (first_fault_at section7.now.start (group_rows layout.now section7.now.octets.now skip count))) }
 {
+    let Ok(items) = Vec::with_capacity(alloc, count as usize) else {
+        return Err(UnpackFault::Memory);
+    };
+    let codes = take_groups(alloc, layout, section7, skip, count, Codes { items })?;
+    Ok(codes.items)
+}
+
+/// Hands the codes of all values of such a section on, in their order.
+///
+/// # Errors
+///
+/// As [`decode_groups`]; what has taken the codes is dropped.
+pub fn take_groups<T: Taker + Drop>(
+    alloc: Global,
+    layout: &Layout,
+    section7: &Section<'_>,
+    skip: u32,
+    count: u32,
+    taker: T,
+) -> Result<T, UnpackFault>
+    requires references { layout.now.reference_bits ≤ 32 }
+    requires widths { layout.now.width_bits ≤ 32 }
+    requires lengths { layout.now.length_bits ≤ 32 }
+    requires groups { 1 ≤ layout.now.groups }
+    requires itself { StatesItself section7.now.number section7.now.octets.now }
+    requires low { 1 ≤ section7.now.start }
+    requires high { section7.now.start ≤ 268435456 }
+    requires skip { skip ≤ 12 }
+    requires lists { first_fault (list_rows layout.now (length section7.now.octets.now) skip) ≡ None }
+    requires limit { 2 ^ 33 ≤ T.limit }
+    ensures { MatchResult result
+        (λ after. (first_fault_at section7.now.start (group_rows layout.now section7.now.octets.now skip count) ≡ None)
+        × T.took taker (grouped layout.now (drop (5 + skip) section7.now.octets.now)) after
+        × (length (grouped layout.now (drop (5 + skip) section7.now.octets.now)) ≡ count))
+        (IsRefusal (first_fault_at section7.now.start (group_rows layout.now section7.now.octets.now skip count))) }
+{
     let length = length_of(section7);
     let octets = &section7.octets[5 + skip as usize..];
     let Ok(lists) = Lists::read(alloc, layout, octets, count) else {
@@ -74,11 +110,8 @@ pub fn decode_groups(
     if let Some(fault) = lists.fault(layout, skip, length, section7.start) {
         return Err(UnpackFault::Refused(fault));
     }
-    let Ok(items) = Vec::with_capacity(alloc, count as usize) else {
-        return Err(UnpackFault::Memory);
-    };
     let numbers = &octets[octets_of_lists(layout) as usize..];
-    Ok(take_all(layout, &lists.into_table(), numbers, Codes { items }).items)
+    Ok(take_all(layout, &lists.into_table(), numbers, taker))
 }
 
 /// The length that a section states, which is its own.

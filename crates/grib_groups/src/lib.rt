@@ -11,7 +11,7 @@ mod taker;
 #[cfg(test)]
 mod tests;
 
-pub use decoding::decode_groups;
+pub use decoding::{decode_groups, take_groups};
 pub use grib_packing::{Group, Layout};
 pub use lists::{
     Lengths, Lists, References, Widths, lists_fit, octets_of, octets_of_lists, plain_layout,

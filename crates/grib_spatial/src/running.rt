@@ -77,7 +77,7 @@ impl Running {
     /// The number is outside plus and minus 2^60. Nothing has changed.
     #[inline]
     pub fn push(&mut self, code: u64) -> Result<i64, ScaledRange>
-        requires { code < 2 ^ 33 }
+        requires { code < 2 ^ 49 }
         ensures number { IfOk result (λ number. number ≡ next_of self.old code) }
         ensures within { OnOk result (is_beyond (next_of self.old code) ≡ false) }
         ensures after { OnOk result (self.new ≡ after_code self.old code) }
@@ -99,7 +99,7 @@ impl Running {
     /// The number that follows, by its code.
     #[inline]
     fn next(&self, code: u64) -> i64
-        requires { code < 2 ^ 33 }
+        requires { code < 2 ^ 49 }
         ensures { result ≡ next_of self.now code }
     {
         match self.last {
@@ -114,7 +114,7 @@ impl Running {
 /// The number after `one` and `two` that makes this second difference with them.
 #[inline]
 fn after_two(difference: i64, one: i64, two: i64) -> i64
-    requires difference { nat_abs difference ≤ 2 ^ 34 }
+    requires difference { nat_abs difference ≤ 2 ^ 50 }
     requires one { nat_abs one ≤ 2 ^ 60 }
     requires two { nat_abs two ≤ 2 ^ 60 }
     ensures { result ≡ (difference +ℤ (pos 2 *ℤ two)) -ℤ one }

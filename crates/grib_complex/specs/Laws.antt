@@ -1,0 +1,75 @@
+-- Laws of what takes codes and of what keeps points.
+use Rattle.std.proofs.Common.{◌≡◌, ℕ, ◌+◌, ◌<◌, ◌≤◌, ◌^◌, List, [], ◌∷◌, ◌++◌, Bool, length, refl, sym, ap, ap₂, ◌∙◌, arith, append_assoc, subst, inl, inr}
+use Rattle.std.proofs.lemmas.Bool.{cases_lt}
+use Rattle.std.proofs.lemmas.List.{append-nil, length-append}
+use Rattle.grib_bitmap.specs.Mask.{present_count}
+use Rattle.grib_io.specs.declared.code.Code.{Code}
+use Rattle.grib_packing.specs.declared.column.Point.{Point}
+use Rattle.grib_complex.specs.declared.keeping.Points.{Points}
+use Rattle.grib_complex.specs.declared.values.Values.{Values}
+use Rattle.grib_complex.specs.Told.{Telling, point_of, telling_after, told, after}
+use Rattle.grib_complex.specs.Tells.{Tells, ValuesTook}
+use Rattle.grib_complex.specs.Kept.{ArePoints, PointsKept}
+
+-- codes after codes
+pub told-append : (telling : Telling) (codes more : List Code) → told telling (codes ++ more) ≡ told telling codes ++ told (after telling codes) more
+told-append telling [] more = refl
+told-append telling (code ∷ codes) more = ap (λ points. point_of telling code ∷ points) (told-append (telling_after telling code) codes more)
+
+pub after-append : (telling : Telling) (codes more : List Code) → after telling (codes ++ more) ≡ after (after telling codes) more
+after-append telling [] more = refl
+after-append telling (code ∷ codes) more = after-append (telling_after telling code) codes more
+
+pub values-none : {K : Type 0} (kept : K → List Point → K → Type 0) → ((keeper : K) → kept keeper [] keeper) → (taker : Values K) → ValuesTook kept taker [] taker
+values-none kept none taker = record {
+  stays = λ some. refl;
+  plain = λ none. (none, refl);
+  tells = λ start seen room tells. subst (λ (codes : List Code). Tells start codes taker.teller) (sym (append-nil seen)) tells;
+  keeps = λ start seen room tells within. none taker.keeper;
+}
+
+pub values-more : {K : Type 0} (kept : K → List Point → K → Type 0)
+    → ((before between after : K) (points more_points : List Point) → kept before points between → kept between more_points after → kept before (points ++ more_points) after)
+    → (before between last : Values K) (codes more_codes : List Code) → ValuesTook kept before codes between → ValuesTook kept between more_codes last
+    → ValuesTook kept before (codes ++ more_codes) last
+values-more kept more before between last codes more_codes first second = record {
+  stays = λ some.
+      let same = first.stays some in
+      let some_between : 0 < between.teller.beyond = omega arith in
+      second.stays some_between ∙ same;
+  plain = λ none.
+      let one = first.plain none in
+      let two = second.plain one.0 in
+      (two.0, two.1 ∙ one.1);
+  tells = λ start seen room tells.
+      let one = first.tells start seen (omega (arith, length-append codes more_codes)) tells in
+      let two = second.tells start (seen ++ codes) (omega (arith, length-append codes more_codes, length-append seen codes)) one in
+      subst (λ (cs : List Code). Tells start cs last.teller) (append_assoc seen codes more_codes) two;
+  keeps = λ start seen room tells within.
+      let between_within : between.teller.beyond ≡ 0 = elim (cases_lt 0 between.teller.beyond) [
+        | inl some ↦
+            let same = second.stays some in
+            omega arith
+        | inr none ↦ omega arith
+      ] in
+      let one = first.tells start seen (omega (arith, length-append codes more_codes)) tells in
+      let kept_first = first.keeps start seen (omega (arith, length-append codes more_codes)) tells between_within in
+      let kept_second = second.keeps start (seen ++ codes) (omega (arith, length-append codes more_codes, length-append seen codes)) one within in
+      let points : told (after start seen) codes ++ told (after start (seen ++ codes)) more_codes ≡ told (after start seen) (codes ++ more_codes) =
+      ap (λ (t : Telling). told (after start seen) codes ++ told t more_codes) (after-append start seen codes) ∙ sym (told-append (after start seen) codes more_codes) in
+      subst (λ (ps : List Point). kept before.keeper ps last.keeper) points (more before.keeper between.keeper last.keeper _ _ kept_first kept_second);
+}
+
+pub points-none : (keeper : Points) → PointsKept keeper [] keeper
+points-none keeper = record {
+  keeps = λ mask seen room are. subst (λ (ps : List Point). ArePoints mask ps keeper) (sym (append-nil seen)) are;
+}
+
+pub points-more : (before between last : Points) (points more_points : List Point) → PointsKept before points between → PointsKept between more_points last
+    → PointsKept before (points ++ more_points) last
+points-more before between last points more_points first second = record {
+  keeps = λ mask seen room are.
+      let one = first.keeps mask seen (omega (arith, length-append points more_points)) are in
+      let two = second.keeps mask (seen ++ points) (omega (arith, length-append points more_points, length-append seen points)) one in
+      subst (λ (ps : List Point). ArePoints mask ps last) (append_assoc seen points more_points) two;
+}

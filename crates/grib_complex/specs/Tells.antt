@@ -1,0 +1,29 @@
+-- What tells the points of codes, as these come.
+use Rattle.std.specs.Prelude.{◌≡◌, ℕ, ◌+◌, ◌<◌, ◌^◌, Option, None, Some, List, ◌++◌, length}
+use Rattle.grib_io.specs.declared.code.Code.{Code}
+use Rattle.grib_io.specs.Rows.{first_place}
+use Rattle.grib_packing.specs.declared.column.Point.{Point}
+use Rattle.grib_packing.specs.Entries.{is_out_of_range}
+use Rattle.grib_spatial.specs.Running.{Run}
+use Rattle.grib_complex.specs.declared.telling.Teller.{Teller}
+use Rattle.grib_complex.specs.declared.values.Values.{Values}
+use Rattle.grib_complex.specs.Told.{Telling, Plainly, After, told, after}
+
+abbrev pub telling_of : Option Run → Telling
+telling_of None = Plainly
+telling_of (Some run) = After run.told run.last
+
+-- It has told the points of these codes: their number and the place of the first out of range are known,
+-- and where there is none, what the next code is told with.
+pub record Tells (start : Telling) (seen : List Code) (teller : Teller) : Type 0 where
+  pub place : teller.place ≡ length seen
+  pub beyond : teller.beyond ≡ first_place is_out_of_range (told start seen)
+  pub telling : teller.beyond ≡ 0 → telling_of teller.running ≡ after start seen
+
+-- The points of these codes went to what keeps them, as long as none is out of range.
+pub record ValuesTook {K : Type 0} (kept : K → List Point → K → Type 0) (before : Values K) (codes : List Code) (after_them : Values K) : Type 0 where
+  pub stays : 0 < before.teller.beyond → after_them.teller.beyond ≡ before.teller.beyond
+  pub plain : before.teller.running ≡ None → (after_them.teller.running ≡ None) × (after_them.teller.beyond ≡ before.teller.beyond)
+  pub tells : (start : Telling) (seen : List Code) → length seen + length codes < 2 ^ 63 → Tells start seen before.teller → Tells start (seen ++ codes) after_them.teller
+  pub keeps : (start : Telling) (seen : List Code) → length seen + length codes < 2 ^ 63 → Tells start seen before.teller → after_them.teller.beyond ≡ 0
+      → kept before.keeper (told (after start seen) codes) after_them.keeper

@@ -1,0 +1,149 @@
+//! What becomes of the points of values.
+
+ghost use Rattle.std.specs.Prelude.{◌≡◌, ◌+◌, ◌≤◌, ◌<◌, List, Bool, [], ◌∷◌, ◌++◌, length, replicate, IfOk, vec_len, vec_capacity};
+ghost use Rattle.grib_bitmap.specs.Mask.{present_count};
+ghost use Rattle.grib_packing.specs.Column.{points_with_mask};
+ghost use Rattle.grib_packing.specs.declared.column.Point.{Point as point};
+ghost use Rattle.grib_packing.specs.declared.column.Point.TheVariants.{Missing};
+ghost use Rattle.grib_complex.specs.Kept.{ArePoints, PointsKept};
+ghost use Rattle.grib_complex.specs.Laws.{points-none, points-more};
+
+use grib_bitmap::Mask;
+use grib_packing::Point;
+use std::alloc::{AllocError, Global};
+
+/// What the points of values go to, one after another, by value like what takes codes.
+pub trait Keeper {
+    // Where points are kept one after another, it goes from one state to another.
+    ghost kept: { Self → List point → Self → Type 0 };
+
+    /// Keeps the next point.
+    fn keep(self, point: Point) -> Self
+        ensures { kept self (point ∷ []) result };
+
+    ghost none: { (keeper : Self) → kept keeper [] keeper };
+
+    ghost more: { (before between after : Self) (points more_points : List point) → kept before points between → kept between more_points after
+        → kept before (points ++ more_points) after };
+}
+
+/// The points of a column, which take the places of a mask that are present.
+#[derive(Debug, Drop)]
+pub struct Points {
+    mask: Mask,
+    points: Vec<Point>,
+    /// How many present points follow for certain.
+    left: u32,
+}
+
+impl Points {
+    /// No points yet.
+    ///
+    /// # Errors
+    ///
+    /// There is no memory for the points. The mask is dropped.
+    pub fn start(alloc: Global, mask: Mask) -> Result<Points, AllocError>
+        ensures { IfOk result (ArePoints mask []) }
+    {
+        Ok(Points {
+            points: Vec::with_capacity(alloc, mask.len() as usize)?,
+            mask,
+            left: 0,
+        })
+    }
+
+    /// Goes on to the next point that is present.
+    #[inline]
+    fn go_on(&mut self)
+        ensures { (mask : List Bool) (seen : List point) → length seen < present_count mask → ArePoints mask seen self.old
+            → ArePoints mask seen self.new × (0 < self.new.left) }
+    {
+        if self.left == 0 {
+            self.skip_missing();
+        }
+    }
+
+    /// The same where the run of present points has ended.
+    fn skip_missing(&mut self)
+        requires { self.old.left ≡ 0 }
+        ensures { (mask : List Bool) (seen : List point) → length seen < present_count mask → ArePoints mask seen self.old
+            → ArePoints mask seen self.new × (0 < self.new.left) }
+    {
+        let mut place = self.points.len();
+        while place < self.mask.len() as usize {
+            let run = self.mask.run(place as u32);
+            if run.present {
+                self.left = run.length;
+                return;
+            }
+            push_missing(&mut self.points, run.length);
+            place += run.length as usize;
+        }
+    }
+
+    /// The points, once all values came.
+    pub fn finish(self) -> Vec<Point>
+        ensures { (mask : List Bool) (seen : List point) → ArePoints mask seen self → result.items ≡ points_with_mask mask seen }
+    {
+        let mut points = self.points;
+        let left = (self.mask.len() as usize).saturating_sub(points.len());
+        push_missing(&mut points, left as u32);
+        points
+    }
+}
+
+impl Keeper for Points {
+    ghost kept = { PointsKept };
+
+    #[inline]
+    fn keep(mut self, point: Point) -> Points {
+        self.go_on();
+        self.left = self.left.saturating_sub(1);
+        push_within(&mut self.points, point);
+        self
+    }
+
+    ghost none = { points-none };
+
+    ghost more = { points-more };
+}
+
+/// Nothing is kept of the points.
+#[derive(Debug, Drop)]
+pub struct Nothing;
+
+impl Keeper for Nothing {
+    ghost kept = { λ _ _ _. Unit {0} };
+
+    #[inline]
+    fn keep(self, _point: Point) -> Nothing {
+        self
+    }
+
+    ghost none = { λ _. tt };
+
+    ghost more = { λ _ _ _ _ _ _ _. tt };
+}
+
+/// Adds so many missing points, for which there is memory.
+fn push_missing(points: &mut Vec<Point>, count: u32)
+    ensures points { vec_len points.old + count ≤ vec_capacity points.old → points.new.items ≡ points.old.items ++ replicate count Missing }
+    ensures capacity { vec_capacity points.old ≤ vec_capacity points.new }
+{
+    for _index in 0..count {
+        push_within(points, Point::Missing);
+    }
+}
+
+/// Adds a point for which there is memory.
+#[inline]
+fn push_within(points: &mut Vec<Point>, point: Point)
+    ensures points { vec_len points.old < vec_capacity points.old → points.new.items ≡ points.old.items ++ point ∷ [] }
+    ensures capacity { vec_capacity points.old ≤ vec_capacity points.new }
+{
+    if points.len() < points.capacity() {
+        let Ok(()) = points.push(point) else {
+            unreachable!();
+        };
+    }
+}

@@ -1,0 +1,106 @@
+//! Complex packing, with and without spatial differencing.
+
+ghost use Rattle.std.specs.Prelude.{◌≡◌, ◌⊎◌, ◌≤◌, None, length};
+ghost use Rattle.grib_bits.specs.Octets.{StatesItself};
+ghost use Rattle.grib_bitmap.specs.Mask.{present_count};
+ghost use Rattle.grib_packing.specs.Entries.{packing_fault};
+ghost use Rattle.grib_packing.specs.Packing.{packing_template, value_count};
+ghost use Rattle.grib_simple.specs.Unpacked.{IsUnpacked};
+
+use crate::keeping::Points;
+use crate::unpacking::take_values;
+use grib_bitmap::Mask;
+use grib_io::{List, Section, UnpackFault};
+use grib_packing::Column;
+use grib_simple::{Packing, read_simple};
+use std::alloc::Global;
+
+/// Complex packing: the numbers of the present points stand in groups, each with a reference and a
+/// width, and may be missing (WMO-No. 306, Volume I.2, FM 92 GRIB edition 2, templates 5.2 and 7.2).
+#[derive(Clone, Copy, Debug, PartialEq, Eq)]
+pub struct ComplexPacking;
+
+impl Packing for ComplexPacking {
+    ghost template = { λ _. 2 };
+
+    fn unpack(
+        &self,
+        alloc: Global,
+        section5: &Section<'_>,
+        mask: &Mask,
+        section7: &Section<'_>,
+    ) -> Result<Column, UnpackFault> {
+        unpack(alloc, section5, mask, section7)
+    }
+}
+
+/// Complex packing of spatial differences: the groups hold what the differences of the numbers are
+/// above the least one (WMO-No. 306, Volume I.2, FM 92 GRIB edition 2, templates 5.3 and 7.3). It unpacks
+/// differences of either order.
+#[derive(Clone, Copy, Debug, PartialEq, Eq)]
+pub struct SpatialPacking {
+    order: u8,
+}
+
+impl SpatialPacking {
+    /// Packing by differences of this order (code table 5.6).
+    pub fn new(order: u8) -> SpatialPacking
+        requires { (order ≡ 1) ⊎ (order ≡ 2) }
+        ensures { result.order ≡ order }
+    {
+        SpatialPacking { order }
+    }
+}
+
+impl Packing for SpatialPacking {
+    ghost template = { λ _. 3 };
+
+    fn unpack(
+        &self,
+        alloc: Global,
+        section5: &Section<'_>,
+        mask: &Mask,
+        section7: &Section<'_>,
+    ) -> Result<Column, UnpackFault> {
+        unpack(alloc, section5, mask, section7)
+    }
+}
+
+/// The column of a field of either template.
+fn unpack(
+    alloc: Global,
+    section5: &Section<'_>,
+    mask: &Mask,
+    section7: &Section<'_>,
+) -> Result<Column, UnpackFault>
+    requires itself_5 { StatesItself section5.now.number section5.now.octets.now }
+    requires low_5 { 1 ≤ section5.now.start }
+    requires high_5 { section5.now.start ≤ 268435456 }
+    requires itself_7 { StatesItself section7.now.number section7.now.octets.now }
+    requires low_7 { 1 ≤ section7.now.start }
+    requires high_7 { section7.now.start ≤ 268435456 }
+    requires accepted { packing_fault section5.now.octets.now (length mask.now) ≡ None }
+    requires template { (packing_template section5.now.octets.now ≡ 2) ⊎ (packing_template section5.now.octets.now ≡ 3) }
+    requires values { present_count mask.now ≡ value_count section5.now.octets.now }
+    ensures { IsUnpacked section5.now.octets.now mask.now section7.now.start section7.now.octets.now result }
+{
+    let Ok(own) = mask.copy(alloc) else {
+        return Err(UnpackFault::Memory);
+    };
+    let Ok(points) = Points::start(alloc, own) else {
+        return Err(UnpackFault::Memory);
+    };
+    let points = match take_values(alloc, section5, mask.len(), section7, points) {
+        Ok(points) => points,
+        Err(fault) => return Err(fault),
+    };
+    let Ok(simple) = read_simple(section5, mask.len()) else {
+        unreachable!();
+    };
+    Ok(Column {
+        reference: simple.reference,
+        e: simple.e,
+        d: simple.d,
+        points: List::of(points.finish()),
+    })
+}

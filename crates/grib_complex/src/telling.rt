@@ -1,0 +1,71 @@
+//! The points that codes tell.
+
+ghost use Rattle.std.specs.Prelude.{◌≡◌, ℕ, ◌+◌, ◌<◌, ◌^◌, List, [], ◌∷◌, ◌++◌, length, None};
+ghost use Rattle.grib_io.specs.declared.code.Code.{Code as code_of_value};
+ghost use Rattle.grib_groups.specs.Taking.{number_of};
+ghost use Rattle.grib_complex.specs.Told.{Telling, point_of, after};
+ghost use Rattle.grib_complex.specs.Tells.{Tells, telling_of};
+
+use grib_io::Code;
+use grib_packing::Point;
+use grib_spatial::{Running, ScaledRange};
+
+/// Tells the points of codes: a code is the scaled number itself, or that of a difference.
+#[derive(Debug, Drop)]
+pub struct Teller {
+    running: Option<Running>,
+    /// How many points were told.
+    place: u64,
+    /// The place, from 1, of the first point out of range, or 0.
+    beyond: u64,
+}
+
+impl Teller {
+    /// Has told nothing.
+    pub fn start(running: Option<Running>) -> Teller
+        ensures running { result.running ≡ running }
+        ensures nothing { Tells (telling_of running) [] result }
+    {
+        Teller {
+            running,
+            place: 0,
+            beyond: 0,
+        }
+    }
+
+    /// The place, from 1, of the first point outside plus and minus 2^60, or 0.
+    pub fn beyond(&self) -> u64
+        ensures { result ≡ self.now.beyond }
+    {
+        self.beyond
+    }
+
+    /// The point of the next code.
+    #[inline]
+    pub fn tell(&mut self, code: Code) -> Point
+        requires { number_of code < 2 ^ 49 }
+        ensures stays { 0 < self.old.beyond → self.new.beyond ≡ self.old.beyond }
+        ensures plain { self.old.running ≡ None → (self.new.running ≡ None) × (self.new.beyond ≡ self.old.beyond) }
+        ensures tells { (start : Telling) (seen : List code_of_value) → length seen + 1 < 2 ^ 63 → Tells start seen self.old → Tells start (seen ++ code ∷ []) self.new }
+        ensures point { (start : Telling) (seen : List code_of_value) → length seen + 1 < 2 ^ 63 → Tells start seen self.old → self.new.beyond ≡ 0 → result ≡ point_of (after start seen) code }
+    {
+        self.place = self.place.wrapping_add(1);
+        let number = match code {
+            Code::Present(number) => number,
+            Code::Primary => return Point::Missing,
+            Code::Secondary => return Point::Missing2,
+        };
+        let Some(running) = &mut self.running else {
+            return Point::Scaled(number as i64);
+        };
+        match running.push(number) {
+            Ok(number) => Point::Scaled(number),
+            Err(ScaledRange) => {
+                if self.beyond == 0 {
+                    self.beyond = self.place;
+                }
+                Point::Missing
+            }
+        }
+    }
+}
