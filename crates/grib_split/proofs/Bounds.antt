@@ -7,11 +7,12 @@ use Rattle.grib_io.specs.declared.code.Code.TheVariants.{Present, Primary, Secon
 use Rattle.grib_packing.specs.Groupings.{width_of, cost_of, IsGrouping, greatest, present_codes}
 use Rattle.grib_split.specs.declared.choosing.Costs.{Costs}
 use Rattle.grib_split.specs.declared.slot.Slot.{Slot}
-use Rattle.grib_split.specs.Costs.{header_of, IsBelow}
+use Rattle.grib_packing.specs.Span.{IsBelow}
+use Rattle.grib_split.specs.Costs.{header_of}
 use Rattle.grib_split.specs.Least.{IsLeast}
 use Rattle.grib_split.specs.Choosing.{Waiting}
 use Rattle.grib_split.proofs.Optimal.{joined}
-use Rattle.grib_split.proofs.Spans.{smallest_at_most}
+use Rattle.grib_packing.proofs.Spans.{smallest_at_most}
 
 -- ---- numbers of runs
 

@@ -2,8 +2,9 @@
 use Rattle.std.specs.Prelude.{◌≡◌, ℕ, ◌+◌, ◌^◌, ◌<◌, List}
 use Rattle.std.specs.List.{list_any}
 use Rattle.grib_io.specs.declared.code.Code.{Code}
+use Rattle.grib_io.specs.declared.code.Code.TheVariants.{Present, Primary, Secondary}
 use Rattle.grib_packing.specs.Groupings.{greatest, smallest, present_codes, is_present, is_primary, is_secondary}
-use Rattle.grib_split.specs.declared.span.Span.{Span}
+use Rattle.grib_packing.specs.declared.span.Span.{Span}
 
 -- the least and the greatest number, 0 for none, and which kinds of codes there are
 pub record IsSpan (span : Span) (run : List Code) : Type 0 where
@@ -16,3 +17,9 @@ pub record IsSpan (span : Span) (run : List Code) : Type 0 where
 -- the numbers and the reserved codes take 32 bits at most
 abbrev pub IsSmall : ℕ → List Code → Type 0
 IsSmall reserved run = greatest (present_codes run) + reserved < 2 ^ 32
+
+-- a number and the reserved codes take 32 bits at most
+abbrev pub IsBelow : ℕ → Code → Type 0
+IsBelow reserved (Present n) = n + reserved < 2 ^ 32
+IsBelow reserved Primary = Unit {0}
+IsBelow reserved Secondary = Unit {0}

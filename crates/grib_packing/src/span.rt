@@ -3,14 +3,13 @@
 ghost use Rattle.std.specs.Prelude.{◌≡◌, ℕ, ◌+◌, ◌<◌, ◌≤◌, ◌^◌, ◌∷◌, [], List, not, ◌&&◌, ◌==◌, cond};
 ghost use Rattle.grib_packing.specs.Groupings.{digits, width_of};
 ghost use Rattle.grib_io.specs.declared.code.Code as code_io;
-ghost use Rattle.grib_split.specs.Costs.{IsBelow};
-ghost use Rattle.grib_split.specs.Span.{IsSpan};
+ghost use Rattle.grib_packing.specs.Span.{IsBelow, IsSpan};
 
 use grib_io::Code;
 
 /// What the width of a run of codes rests on.
 #[derive(Clone, Copy, Debug)]
-pub(crate) struct Span {
+pub struct Span {
     /// The least and the greatest number, 0 where the run has none.
     least: u64,
     greatest: u64,
@@ -22,7 +21,7 @@ pub(crate) struct Span {
 
 impl Span {
     /// That of no codes.
-    pub(crate) fn none() -> Span
+    pub fn none() -> Span
         ensures { IsSpan result [] }
     {
         Span {
@@ -36,7 +35,7 @@ impl Span {
 
     /// That of the run with this code before it.
     #[inline]
-    pub(crate) fn with(self, code: Code) -> Span
+    pub fn with(self, code: Code) -> Span
         ensures span { (run : List code_io.Code) → IsSpan self run → IsSpan result (code ∷ run) }
         ensures ordered { self.least ≤ self.greatest → result.least ≤ result.greatest }
         ensures small { (k : ℕ) → self.greatest + k < 2 ^ 32 → IsBelow k code → result.greatest + k < 2 ^ 32 }
@@ -79,7 +78,7 @@ impl Span {
 
     /// The width of the run as a group, in bits, with this many codes reserved for missing points.
     #[inline]
-    pub(crate) fn width(self, reserved: u32) -> u32
+    pub fn width(self, reserved: u32) -> u32
         requires ordered { self.least ≤ self.greatest }
         requires small { self.greatest + reserved < 2 ^ 32 }
         ensures is { (run : List code_io.Code) → IsSpan self run → result ≡ width_of reserved run }

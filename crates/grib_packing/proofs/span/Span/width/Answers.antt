@@ -1,8 +1,8 @@
 use Rattle.std.proofs.Common.{◌≡◌, ◌+◌, ◌-◌, sym, ◌∙◌, ap, arith}
 use Rattle.std.proofs.lemmas.Bool.{not-true, not-false}
 use Rattle.grib_packing.specs.Groupings.{digits, present_codes, smallest, greatest}
-use Rattle.grib_split.proofs.Spans.{width_of-marks, width_of-constant, width_of-numbers}
-use Rattle.grib_split.proofs.span.Span.width.Goals as goal
+use Rattle.grib_packing.proofs.Spans.{width_of-marks, width_of-constant, width_of-numbers}
+use Rattle.grib_packing.proofs.span.Span.width.Goals as goal
 
 pub returns-then-not-self-clause-is : goal.returns-then-not-self-clause-is
 returns-then-not-self-clause-is c run span =

@@ -2,8 +2,8 @@ use Rattle.std.proofs.Common.{◌≡◌, ℕ, suc, ◌+◌, ◌-◌, ◌*◌, �
 use Rattle.std.proofs.Math.Nat.{pow-suc, pow-le-pow_right}
 use Rattle.std.proofs.lemmas.Nat.{leading_length}
 use Rattle.grib_packing.specs.Groupings.{digits}
-use Rattle.grib_split.proofs.Spans.{digits-is}
-use Rattle.grib_split.proofs.span.bit_length.Goals as goal
+use Rattle.grib_packing.proofs.Spans.{digits-is}
+use Rattle.grib_packing.proofs.span.bit_length.Goals as goal
 
 -- a number of n digits has its highest 1 there
 highest : (number n : ℕ) → 2 ^ n ≤ 2 * number + 1 → 1 ≤ n → 2 ^ (n - 1) ≤ number

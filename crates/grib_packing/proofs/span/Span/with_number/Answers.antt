@@ -1,7 +1,7 @@
 use Rattle.std.proofs.Common.{sym, ◌∙◌, ap, refl, min, max}
 use Rattle.grib_packing.specs.Groupings.{present_codes}
-use Rattle.grib_split.proofs.Spans.{smallest-more, smallest-one, greatest-one, some_present, none_present}
-use Rattle.grib_split.proofs.span.Span.with_number.Goals as goal
+use Rattle.grib_packing.proofs.Spans.{smallest-more, smallest-one, greatest-one, some_present, none_present}
+use Rattle.grib_packing.proofs.span.Span.with_number.Goals as goal
 
 pub returns-then-self-clause-span : goal.returns-then-self-clause-span
 returns-then-self-clause-span c run span =
