@@ -1,6 +1,6 @@
 //! What packing writes for the columns of worked messages, and what it refuses to write.
 
-ghost use Rattle.std.specs.Prelude.{◌≡◌, [], ◌∷◌, ◌++◌, ◌^◌, pos, negsuc, None, Some};
+ghost use Rattle.std.specs.Prelude.{◌≡◌, [], ◌∷◌, ◌++◌, ◌-◌, ◌^◌, pos, negsuc, None, Some};
 ghost use Rattle.grib_bits.specs.Bits.{bits};
 ghost use Rattle.grib_io.specs.declared.code.Code.TheVariants.{Present, Primary, Secondary};
 ghost use Rattle.grib_packing.specs.declared.column.Point.TheVariants.{Scaled, Missing, Missing2};
