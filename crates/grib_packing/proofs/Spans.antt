@@ -1,5 +1,5 @@
 -- Spans of runs, and their widths.
-use Rattle.std.proofs.Common.{◌≡◌, ℕ, zero, suc, ◌+◌, ◌-◌, ◌^◌, ◌<◌, ◌≤◌, min, Bool, true, false, not, ◌&&◌, ◌||◌, cond, List, [], ◌∷◌, ◌++◌, length, nat_lt, ◌==◌, eq-eqb, ne_eqb, refl, ap, sym, ◌∙◌, arith, lt-ltb, le-ltb}
+use Rattle.std.proofs.Common.{◌≡◌, ℕ, zero, suc, ◌+◌, ◌-◌, ◌^◌, ◌<◌, ◌≤◌, min, All, Bool, true, false, not, ◌&&◌, ◌||◌, cond, List, [], ◌∷◌, ◌++◌, length, nat_lt, ◌==◌, eq-eqb, ne_eqb, refl, ap, sym, ◌∙◌, arith, lt-ltb, le-ltb}
 use Rattle.std.specs.List.{range_with_len, list_any, list_all}
 use Rattle.std.proofs.Math.Bool.{and-false}
 use Rattle.std.proofs.lemmas.List.FromFn.{length-range_with_len}
@@ -8,6 +8,9 @@ use Rattle.grib_io.specs.declared.code.Code.{Code}
 use Rattle.grib_io.specs.declared.code.Code.TheVariants.{Present, Primary, Secondary}
 use Rattle.grib_io.specs.Rows.{first_place}
 use Rattle.grib_io.proofs.Places.{NoneOf, first_place-at}
+use Rattle.std.proofs.lemmas.List.Elements.{All-head, All-tail}
+use Rattle.grib_packing.specs.Packed.{reference_of}
+use Rattle.grib_packing.specs.Span.{IsBelow}
 use Rattle.grib_packing.specs.Groupings.{digits, width_of, greatest, smallest, present_codes, is_present, is_primary, is_secondary}
 
 -- ---- the number of binary digits
@@ -141,3 +144,38 @@ pub width_of-numbers : (k : ℕ) (run : List Code) → list_any is_present run �
     → ((not (list_any is_primary run) && not (list_any is_secondary run)) && (greatest (present_codes run) == smallest (present_codes run))) ≡ false
     → width_of k run ≡ digits (greatest (present_codes run) - smallest (present_codes run) + k)
 width_of-numbers k run some other = width_of-by k run ∙ rw (some, other) refl
+
+-- ---- references by kinds
+
+abbrev pub reference_by : Bool → Bool → Bool → ℕ → ℕ → ℕ
+reference_by present primary secondary least b = cond present least (cond secondary (cond primary 0 (2 ^ b - 2)) (2 ^ b - 1))
+
+reference_cases : (present primary secondary : Bool) (count least b : ℕ)
+    → (present ≡ true → 0 < count) → (present ≡ false → count ≡ 0)
+    → cond (count == 0) (cond (not present && not secondary) (2 ^ b - 1) (cond (not present && not primary) (2 ^ b - 2) 0)) least
+    ≡ reference_by present primary secondary least b
+reference_cases true primary secondary count least b some none = rw (ne_eqb count 0 (λ e. let more = some refl in omega arith)) refl
+reference_cases false true true count least b some none = rw (eq-eqb count 0 (none refl)) refl
+reference_cases false true false count least b some none = rw (eq-eqb count 0 (none refl)) refl
+reference_cases false false true count least b some none = rw (eq-eqb count 0 (none refl)) refl
+reference_cases false false false count least b some none = rw (eq-eqb count 0 (none refl)) refl
+
+pub reference_of-by : (b : ℕ) (run : List Code)
+    → reference_of b run ≡ reference_by (list_any is_present run) (list_any is_primary run) (list_any is_secondary run) (smallest (present_codes run)) b
+reference_of-by b run =
+    let numbers = present_codes run in
+    let primary = all_primary run in
+    let secondary = all_secondary run in
+    rw (primary, secondary)
+    (reference_cases (list_any is_present run) (list_any is_primary run) (list_any is_secondary run) (length numbers) (smallest numbers) b
+    (some_present run) (none_present run))
+
+-- ---- how large numbers are
+
+pub small_run : (k : ℕ) (run : List Code) → k ≤ 2 → All (IsBelow k) run → greatest (present_codes run) + k < 2 ^ 32
+small_run k [] few each = omega arith
+small_run k (Present n ∷ run) few each =
+    let here : n + k < 2 ^ 32 = All-head (IsBelow k) (Present n) run each in
+    omega (arith, here, small_run k run few (All-tail (IsBelow k) (Present n) run each))
+small_run k (Primary ∷ run) few each = small_run k run few (All-tail (IsBelow k) Primary run each)
+small_run k (Secondary ∷ run) few each = small_run k run few (All-tail (IsBelow k) Secondary run each)

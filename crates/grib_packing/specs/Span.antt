@@ -1,5 +1,5 @@
 -- What the width of a run of codes rests on.
-use Rattle.std.specs.Prelude.{◌≡◌, ℕ, ◌+◌, ◌^◌, ◌<◌, List}
+use Rattle.std.specs.Prelude.{◌≡◌, ℕ, ◌+◌, ◌^◌, ◌<◌, ◌≤◌, List}
 use Rattle.std.specs.List.{list_any}
 use Rattle.grib_io.specs.declared.code.Code.{Code}
 use Rattle.grib_io.specs.declared.code.Code.TheVariants.{Present, Primary, Secondary}
@@ -23,3 +23,9 @@ abbrev pub IsBelow : ℕ → Code → Type 0
 IsBelow reserved (Present n) = n + reserved < 2 ^ 32
 IsBelow reserved Primary = Unit {0}
 IsBelow reserved Secondary = Unit {0}
+
+-- and a mark is one of the reserved codes
+abbrev pub IsTold : ℕ → Code → Type 0
+IsTold reserved (Present n) = n + reserved < 2 ^ 32
+IsTold reserved Primary = 1 ≤ reserved
+IsTold reserved Secondary = 2 ≤ reserved

@@ -1,7 +1,8 @@
 //! What a run of codes spans.
 
-ghost use Rattle.std.specs.Prelude.{◌≡◌, ℕ, ◌+◌, ◌<◌, ◌≤◌, ◌^◌, ◌∷◌, [], List, not, ◌&&◌, ◌==◌, cond};
+ghost use Rattle.std.specs.Prelude.{◌≡◌, ℕ, ◌+◌, ◌<◌, ◌≤◌, ◌^◌, ◌∷◌, [], List, not, ◌&&◌, ◌==◌, cond, All};
 ghost use Rattle.grib_packing.specs.Groupings.{digits, width_of};
+ghost use Rattle.grib_packing.specs.Packed.{reference_of};
 ghost use Rattle.grib_io.specs.declared.code.Code as code_io;
 ghost use Rattle.grib_packing.specs.Span.{IsBelow, IsSpan};
 
@@ -31,6 +32,19 @@ impl Span {
             primary: false,
             secondary: false,
         }
+    }
+
+    /// That of these codes.
+    pub fn of(run: &[Code]) -> Span
+        ensures span { IsSpan result run.now }
+        ensures ordered { result.least ≤ result.greatest }
+        ensures small { (k : ℕ) → k ≤ 2 → All (IsBelow k) run.now → result.greatest + k < 2 ^ 32 }
+    {
+        let mut span = Span::none();
+        for done in 0..run.len() {
+            span = span.with(run[run.len() - 1 - done]);
+        }
+        span
     }
 
     /// That of the run with this code before it.
@@ -91,6 +105,24 @@ impl Span {
             return 0;
         }
         bit_length(self.greatest - self.least + u64::from(reserved))
+    }
+
+    /// The reference of the run as a group, where a reference has so many bits: the least number; without
+    /// one all bits set where all are primary missing, one less where all are secondary missing, else 0.
+    #[inline]
+    pub fn reference(self, bits: u32) -> u64
+        requires { bits ≤ 32 }
+        ensures { (run : List code_io.Code) → IsSpan self run → result ≡ reference_of bits run }
+    {
+        if self.present {
+            self.least
+        } else if !self.secondary {
+            (1 << bits) - 1
+        } else if !self.primary {
+            (1u64 << bits).saturating_sub(2)
+        } else {
+            0
+        }
     }
 
     /// The width of a run without a number: 1 bit tells two kinds of missing points apart.

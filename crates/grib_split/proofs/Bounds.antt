@@ -12,17 +12,9 @@ use Rattle.grib_split.specs.Costs.{header_of}
 use Rattle.grib_split.specs.Least.{IsLeast}
 use Rattle.grib_split.specs.Choosing.{Waiting}
 use Rattle.grib_split.proofs.Optimal.{joined}
-use Rattle.grib_packing.proofs.Spans.{smallest_at_most}
+use Rattle.grib_packing.proofs.Spans.{small_run, smallest_at_most}
 
 -- ---- numbers of runs
-
-small_run : (k : ℕ) (run : List Code) → k ≤ 2 → All (IsBelow k) run → greatest (present_codes run) + k < 2 ^ 32
-small_run k [] few each = omega arith
-small_run k (Present n ∷ run) few each =
-    let here : n + k < 2 ^ 32 = All-head (IsBelow k) (Present n) run each in
-    omega (arith, here, small_run k run few (All-tail (IsBelow k) (Present n) run each))
-small_run k (Primary ∷ run) few each = small_run k run few (All-tail (IsBelow k) Primary run each)
-small_run k (Secondary ∷ run) few each = small_run k run few (All-tail (IsBelow k) Secondary run each)
 
 pub waiting_ordered : (costs : Costs) (codes : List Code) (at l : ℕ) (slot : Slot) → Waiting costs codes at l slot
     → slot.span.least ≤ slot.span.greatest

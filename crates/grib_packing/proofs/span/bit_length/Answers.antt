@@ -1,16 +1,10 @@
-use Rattle.std.proofs.Common.{◌≡◌, ℕ, suc, ◌+◌, ◌-◌, ◌*◌, ◌^◌, ◌<◌, ◌≤◌, arith, ap}
-use Rattle.std.proofs.Math.Nat.{pow-suc, pow-le-pow_right}
+use Rattle.std.proofs.Common.{◌≡◌, ℕ, ◌+◌, ◌*◌, ◌^◌, ◌<◌, ◌≤◌, arith}
+use Rattle.std.proofs.Math.Nat.{pow-le-pow_right}
 use Rattle.std.proofs.lemmas.Nat.{leading_length}
 use Rattle.grib_packing.specs.Groupings.{digits}
 use Rattle.grib_packing.proofs.Spans.{digits-is}
+use Rattle.grib_packing.proofs.Digits.{highest}
 use Rattle.grib_packing.proofs.span.bit_length.Goals as goal
-
--- a number of n digits has its highest 1 there
-highest : (number n : ℕ) → 2 ^ n ≤ 2 * number + 1 → 1 ≤ n → 2 ^ (n - 1) ≤ number
-highest number n least some =
-    let e : n ≡ suc (n - 1) = omega arith in
-    let twice : 2 ^ n ≡ 2 ^ suc (n - 1) = ap (λ k. 2 ^ k) e in
-    omega (arith, least, twice, pow-suc 2 (n - 1))
 
 -- and it is below 2 ^ 32 where they are 32 at most
 at_most_32 : (number n : ℕ) → number < 2 ^ 32 → 2 ^ n ≤ 2 * number + 1 → n ≤ 32
