@@ -1,20 +1,18 @@
 -- Lemmas on the refusal of a Section 7 with groups, part by part, and on its entries.
-use Rattle.std.proofs.Common.{◌≡◌, ℕ, zero, suc, ◌+◌, ◌-◌, ◌*◌, ◌<◌, ◌≤◌, Bool, true, false, cond, ◌&&◌, eqb, ltb, Option, Some, None, List, [], ◌∷◌, ◌++◌, length, drop, map, ◌⊎◌, refl, sym, ap, ap₂, ◌∙◌, arith, subst, ℤ, pos, inl, inr}
+use Rattle.std.proofs.Common.{◌≡◌, ℕ, true, false, cond, eqb, Option, Some, None, List, [], ◌∷◌, ◌++◌, length, map, ◌⊎◌, refl, sym, ap, ap₂, ◌∙◌, arith, ℤ, pos, inl, inr}
 use Rattle.std.specs.List.{filter_map}
-use Rattle.std.specs.Option.{option_map}
-use Rattle.std.proofs.lemmas.Bool.{cases_eq, cond-true, cond-false, eq-eqb, ne_eqb}
+use Rattle.std.proofs.lemmas.Bool.{cond-true, cond-false, eq-eqb, ne_eqb}
 use Rattle.grib_io.specs.declared.code.Code.{Code}
 use Rattle.grib_io.specs.declared.code.Code.TheVariants.{Present, Primary, Secondary}
 use Rattle.grib_io.specs.declared.fault.Fault.{Fault}
 use Rattle.grib_io.specs.Rows.{Row, first_fault, fault_at, located, or_then}
-use Rattle.grib_packing.specs.declared.column.Point.{Point}
 use Rattle.grib_packing.specs.declared.column.Point.TheVariants.{Scaled, Missing, Missing2}
 use Rattle.grib_packing.specs.Complex.{layout_of, difference_order, extra_octets, descriptor_octets}
 use Rattle.grib_packing.specs.Differences.{Descriptors, Last, NoNumber, One, Two, next_number, last_after, undone_from}
-use Rattle.grib_packing.specs.Entries.{present_code, refilled, codes_of, numbers_of, descriptors, group_entries, first_value_rows, group_data_rows, range_rows, group_data_fault}
+use Rattle.grib_packing.specs.Entries.{present_code, refilled, codes_of, descriptors, group_entries, first_value_rows, group_data_rows, range_rows, group_data_fault}
 use Rattle.grib_packing.specs.Groups.{list_rows, group_rows}
 use Rattle.grib_packing.specs.Packing.{packing_template, value_count}
-use Rattle.grib_complex.specs.Told.{Telling, Plainly, After, point_of, telling_after, told}
+use Rattle.grib_complex.specs.Told.{Telling, Plainly, After, told}
 use Rattle.grib_complex.specs.Descriptors.{descriptors_by, telling_by, descriptor_at}
 
 -- ---- rows after rows

@@ -1,6 +1,5 @@
 -- Lemmas on numbers of whole octets that are taken as bits.
-use Rattle.std.proofs.Common.{◌≡◌, ℕ, zero, suc, ◌+◌, ◌-◌, ◌*◌, ◌/◌, ◌%◌, ◌^◌, ◌<◌, ◌≤◌, Bool, true, false, List, [], ◌∷◌, ◌++◌, length, take, drop, get_or, refl, sym, ap, ap₂, ◌∙◌, arith, subst, eqb, pow_mono, ℤ, pos, neg_ℤ, nat_abs}
-use Rattle.std.proofs.lemmas.Bool.{eq-eqb, ne_eqb}
+use Rattle.std.proofs.Common.{◌≡◌, ℕ, zero, suc, ◌+◌, ◌-◌, ◌*◌, ◌/◌, ◌%◌, ◌^◌, ◌<◌, ◌≤◌, Bool, true, false, List, [], ◌∷◌, ◌++◌, length, take, drop, get_or, refl, sym, ap, ap₂, ◌∙◌, arith, eqb, pow_mono, pos, neg_ℤ, nat_abs}
 use Rattle.std.proofs.lemmas.List.{length-drop, length-take-le, length-append, drop_more}
 use Rattle.grib_bits.specs.Bits.{bits, bits_of, num, signed}
 use Rattle.grib_bits.specs.Octets.{octet_list, octets}

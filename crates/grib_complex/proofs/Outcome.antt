@@ -1,19 +1,17 @@
 -- Lemmas on what becomes of the codes of a Section 7.
-use Rattle.std.proofs.Common.{◌≡◌, ℕ, zero, suc, ◌+◌, ◌-◌, ◌*◌, ◌<◌, ◌≤◌, ◌^◌, ◌⊎◌, Bool, true, false, cond, ◌&&◌, eqb, ltb, Option, Some, None, List, [], ◌∷◌, ◌++◌, length, drop, refl, sym, ap, ap₂, ◌∙◌, arith, subst, inl, inr}
-use Rattle.std.proofs.lemmas.Bool.{cond-true, cond-false, eq-eqb, ne_eqb, lt-ltb, le-ltb, cases_lt}
-use Rattle.grib_io.specs.declared.code.Code.{Code}
-use Rattle.grib_io.specs.declared.fault.Fault.{Fault}
+use Rattle.std.proofs.Common.{◌≡◌, ℕ, ◌+◌, ◌*◌, ◌<◌, ◌^◌, ◌⊎◌, Bool, true, false, cond, ◌&&◌, eqb, ltb, Option, Some, None, List, [], length, drop, refl, sym, ap, ap₂, ◌∙◌, arith, subst, inl, inr}
+use Rattle.std.proofs.lemmas.Bool.{cond-true, eq-eqb, lt-ltb}
 use Rattle.grib_io.specs.declared.fault.Reason.TheVariants.{FirstValueSign, ScaledRange}
-use Rattle.grib_io.specs.Rows.{Row, first_fault, first_fault_at, first_place, fault_at, located, refusal}
+use Rattle.grib_io.specs.Rows.{first_fault, first_fault_at, first_place, located, refusal}
 use Rattle.grib_packing.specs.declared.column.Point.{Point}
 use Rattle.grib_packing.specs.declared.layout.Layout.{Layout}
 use Rattle.grib_packing.specs.Complex.{layout_of, difference_order, extra_octets, descriptor_octets}
-use Rattle.grib_packing.specs.Entries.{codes_of, group_entries, first_value_rows, range_rows, group_data_fault, is_out_of_range, is_first_value_signed}
+use Rattle.grib_packing.specs.Entries.{codes_of, group_entries, first_value_rows, range_rows, group_data_fault, is_out_of_range}
 use Rattle.grib_packing.specs.Groups.{grouped, list_rows, group_rows}
 use Rattle.grib_packing.specs.Packing.{packing_template, value_count}
 use Rattle.grib_spatial.specs.Running.{Run}
 use Rattle.grib_complex.specs.declared.values.Values.{Values}
-use Rattle.grib_complex.specs.Told.{Telling, Plainly, After, told}
+use Rattle.grib_complex.specs.Told.{Telling, Plainly, told}
 use Rattle.grib_complex.specs.Tells.{Tells, telling_of, ValuesTook}
 use Rattle.grib_complex.specs.Descriptors.{is_signed_at, telling_by, IsAccepted}
 use Rattle.grib_complex.proofs.Told.{length-told}

@@ -1,6 +1,6 @@
 -- The extra descriptors of spatial differencing, by their order and octets (WMO-No. 306, Volume I.2, FM 92
 -- GRIB edition 2, data template 7.3).
-use Rattle.std.specs.Prelude.{◌≡◌, ℕ, ◌+◌, ◌-◌, ◌*◌, ◌≤◌, ◌⊎◌, Bool, cond, ◌&&◌, ◌==◌, nat_lt, List, ℤ, pos}
+use Rattle.std.specs.Prelude.{◌≡◌, ℕ, ◌+◌, ◌-◌, ◌*◌, ◌≤◌, ◌⊎◌, Bool, cond, ◌&&◌, ◌==◌, nat_lt, List, pos}
 use Rattle.grib_bits.specs.Octets.{octets, signed_octets}
 use Rattle.grib_packing.specs.Differences.{Descriptors, NoNumber}
 use Rattle.grib_complex.specs.declared.representation.Complex.{Complex}

@@ -1,5 +1,5 @@
 -- What keeps the points of a column.
-use Rattle.std.specs.Prelude.{◌≡◌, ℕ, ◌+◌, ◌≤◌, Bool, true, List, ◌++◌, length, drop, replicate, vec_capacity}
+use Rattle.std.specs.Prelude.{◌≡◌, ◌+◌, ◌≤◌, Bool, true, List, ◌++◌, length, drop, replicate, vec_capacity}
 use Rattle.grib_bitmap.specs.Mask.{present_count}
 use Rattle.grib_packing.specs.declared.column.Point.{Point}
 use Rattle.grib_packing.specs.Column.{points_with_mask}

@@ -1,5 +1,5 @@
 -- What tells the points of codes, as these come.
-use Rattle.std.specs.Prelude.{◌≡◌, ℕ, ◌+◌, ◌<◌, ◌^◌, Option, None, Some, List, ◌++◌, length}
+use Rattle.std.specs.Prelude.{◌≡◌, ◌+◌, ◌<◌, ◌^◌, Option, None, Some, List, ◌++◌, length}
 use Rattle.grib_io.specs.declared.code.Code.{Code}
 use Rattle.grib_io.specs.Rows.{first_place}
 use Rattle.grib_packing.specs.declared.column.Point.{Point}

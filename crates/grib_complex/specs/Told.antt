@@ -1,5 +1,5 @@
 -- The points that codes tell, one after another.
-use Rattle.std.specs.Prelude.{◌≡◌, ℕ, List, [], ◌∷◌, pos}
+use Rattle.std.specs.Prelude.{List, [], ◌∷◌, pos}
 use Rattle.grib_io.specs.declared.code.Code.{Code}
 use Rattle.grib_io.specs.declared.code.Code.TheVariants.{Present, Primary, Secondary}
 use Rattle.grib_packing.specs.declared.column.Point.{Point}

@@ -1,4 +1,4 @@
-use Rattle.std.proofs.Common.{◌≡◌, ℕ, ◌+◌, ◌-◌, ◌*◌, ◌^◌, ◌<◌, ◌≤◌, take, drop, sym, ap, ap₂, ◌∙◌, arith, subst, add-mul}
+use Rattle.std.proofs.Common.{◌≡◌, ℕ, ◌+◌, ◌-◌, ◌*◌, ◌^◌, ◌<◌, take, drop, sym, ap, ap₂, ◌∙◌, arith, subst, add-mul}
 use Rattle.grib_bits.specs.Bits.{bits, num}
 use Rattle.grib_bits.specs.Octets.{octets}
 use Rattle.grib_bits.proofs.OctetNumbers.{AreOctets-known}

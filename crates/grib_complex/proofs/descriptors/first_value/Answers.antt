@@ -1,6 +1,6 @@
 use Rattle.std.proofs.Common.{◌≡◌, ℕ, ◌+◌, ◌-◌, ◌*◌, ◌^◌, ◌<◌, ◌≤◌, Bool, true, false, ltb, ◌&&◌, get_or, nat_abs, sym, ap, ap₂, ◌∙◌, arith, subst, add-mul, inl, inr}
 use Rattle.std.proofs.Math.Nat.{mul-le-mul_right}
-use Rattle.std.proofs.lemmas.Bool.{and_cases, lt-ltb, ltb-false, cases_lt, false≢true}
+use Rattle.std.proofs.lemmas.Bool.{lt-ltb, ltb-false, cases_lt}
 use Rattle.grib_bits.specs.Octets.{octets}
 use Rattle.grib_bits.proofs.OctetNumbers.{AreOctets-known}
 use Rattle.grib_bits.proofs.Signs.{kept}

@@ -1,4 +1,4 @@
-use Rattle.std.proofs.Common.{◌≡◌, ℕ, ◌+◌, ◌-◌, ◌*◌, ◌≤◌, ◌^◌, nat_abs, ℤ, sym, ap, ap₂, ◌∙◌, arith, subst, add-mul, w64, to_z, of_z, SFits, to_z-of_z}
+use Rattle.std.proofs.Common.{◌≡◌, ℕ, ◌+◌, ◌-◌, ◌*◌, ◌≤◌, ◌^◌, nat_abs, sym, ap, ◌∙◌, arith, subst, add-mul, w64, SFits, to_z-of_z}
 use Rattle.grib_bits.specs.Bits.{bits_of, signed}
 use Rattle.grib_bits.proofs.Numbers.{length-bits_of}
 use Rattle.grib_bits.proofs.OctetNumbers.{AreOctets-known, signed-octets}

@@ -1,4 +1,4 @@
-use Rattle.std.proofs.Common.{◌≡◌, ℕ, ◌+◌, ◌-◌, ◌≤◌, List, length, cond, eqb, get_or, ap, ap₂, ◌∙◌, arith, sym, inl, inr}
+use Rattle.std.proofs.Common.{◌≡◌, ℕ, ◌-◌, ◌≤◌, List, length, cond, eqb, get_or, ap, ◌∙◌, arith, sym, inl, inr}
 use Rattle.std.proofs.lemmas.Bool.{cases_eq, cond-true, cond-false, eq-eqb, ne_eqb}
 use Rattle.grib_bits.specs.Octets.{octets}
 use Rattle.grib_bits.proofs.OctetBits.{AreOctets}

@@ -1,5 +1,4 @@
-use Rattle.std.proofs.Common.{◌≡◌, ℕ, ◌+◌, ◌*◌, ◌<◌, ◌^◌, Some, None, Option, List, [], refl, sym, ap, ap₂, ◌∙◌, arith, subst}
-use Rattle.grib_io.specs.declared.fault.Fault.{Fault}
+use Rattle.std.proofs.Common.{◌≡◌, ℕ, ◌+◌, ◌*◌, ◌<◌, Some, sym, ap, ap₂, ◌∙◌, arith, subst}
 use Rattle.grib_io.specs.declared.fault.Reason.TheVariants.{ScaledRange}
 use Rattle.grib_io.specs.declared.fault.UnpackFault.{UnpackFault}
 use Rattle.grib_io.specs.Rows.{refusal, located, first_place}

@@ -1,5 +1,4 @@
-use Rattle.std.proofs.Common.{◌≡◌, ℕ, ◌-◌, ◌++◌, List, length, replicate, sym, ap, ◌∙◌, arith}
-use Rattle.grib_packing.specs.declared.column.Point.{Point}
+use Rattle.std.proofs.Common.{◌≡◌, ℕ, ◌-◌, ◌++◌, length, replicate, ap, ◌∙◌, arith}
 use Rattle.grib_packing.specs.declared.column.Point.TheVariants.{Missing}
 use Rattle.grib_complex.proofs.Masks.{all_points}
 use Rattle.grib_complex.proofs.keeping.Points.finish.Goals as goal

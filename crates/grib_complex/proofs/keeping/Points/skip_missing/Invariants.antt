@@ -1,4 +1,4 @@
-use Rattle.std.proofs.Common.{ℕ, ◌-◌, ◌+◌, ◌≤◌, ◌<◌, ◌≡◌, List, Bool, length}
+use Rattle.std.proofs.Common.{◌-◌, ◌≡◌, List, Bool, length}
 use Rattle.grib_packing.specs.declared.column.Point.{Point}
 use Rattle.grib_complex.specs.Kept.{ArePoints}
 use Rattle.grib_complex.proofs.keeping.Points.skip_missing.Given as goal

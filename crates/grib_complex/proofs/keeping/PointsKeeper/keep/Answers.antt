@@ -1,5 +1,5 @@
-use Rattle.std.proofs.Common.{◌≡◌, ℕ, ◌-◌, ◌+◌, List, length, refl, arith}
-use Rattle.grib_complex.proofs.Masks.{are_kept, some_ahead}
+use Rattle.std.proofs.Common.{refl, arith}
+use Rattle.grib_complex.proofs.Masks.{are_kept}
 use Rattle.grib_complex.proofs.keeping.PointsKeeper.keep.Goals as goal
 
 pub returns : goal.returns

@@ -1,11 +1,10 @@
-use Rattle.std.proofs.Common.{◌≡◌, ◌<◌, ◌^◌, ℕ, Bool, true, false, Some, None, Option, pos, nat_abs, ltb, refl, sym, ap, ◌∙◌, arith, subst, le-ltb}
+use Rattle.std.proofs.Common.{◌≡◌, ◌<◌, ◌^◌, ℕ, Bool, true, false, refl, sym, ap, ◌∙◌, arith, subst, le-ltb}
 use Rattle.grib_io.specs.declared.code.Code.{Code}
 use Rattle.grib_io.specs.declared.code.Code.TheVariants.{Present, Primary, Secondary}
-use Rattle.grib_packing.specs.declared.column.Point.{Point}
 use Rattle.grib_packing.specs.Entries.{is_out_of_range}
 use Rattle.grib_spatial.specs.Running.{Run}
 use Rattle.grib_groups.specs.Taking.{number_of}
-use Rattle.grib_complex.specs.Told.{Telling, Plainly, After, point_of, telling_after, told, after}
+use Rattle.grib_complex.specs.Told.{Telling, Plainly, After, point_of, telling_after, after}
 use Rattle.grib_complex.specs.Tells.{telling_of}
 use Rattle.grib_complex.proofs.Told.{tells_within, tells_beyond}
 use Rattle.grib_complex.proofs.telling.Teller.tell.Goals as goal
