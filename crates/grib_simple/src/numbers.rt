@@ -1,6 +1,7 @@
 //! Numbers of one width that stand one after another.
 
-ghost use Rattle.std.specs.Prelude.{◌≡◌, ℕ, ◌+◌, ◌-◌, ◌*◌, ◌/◌, ◌^◌, ◌<◌, ◌≤◌, ◌++◌, length, replicate, take, drop, map, pos, IfOk, OnOk};
+ghost use Rattle.std.specs.Prelude.{◌≡◌, ℕ, ◌+◌, ◌-◌, ◌*◌, ◌/◌, ◌%◌, ◌^◌, ◌<◌, ◌≤◌, ◌++◌, length, replicate, take, drop, map, pos, IfOk, OnOk};
+ghost use Rattle.std.specs.Simd.Lanes.{Each1};
 ghost use Rattle.grib_bits.specs.Bits.{bits as bits_in, num};
 ghost use Rattle.grib_bits.specs.Plain.{plain};
 ghost use Rattle.grib_bitmap.specs.Mask.{present_count};
@@ -13,6 +14,7 @@ use byteorder::{BigEndian, ByteOrder};
 use grib_bitmap::{Mask, ones};
 use grib_bits::get_bits;
 use std::alloc::{AllocError, Global};
+use std::simd::prelude::*;
 
 /// The first `count` numbers without sign of `bits` bits each, which stand one after another from the
 /// first bit of `octets` on (WMO-No. 306, Volume I.2, FM 92 GRIB edition 2, data template 7.0).
@@ -61,6 +63,12 @@ trait Unpacked: Copy + Drop {
     fn of(number: u64) -> Self
         requires { number < 2 ^ 48 }
         ensures { result ≡ unpacked number };
+
+    // Adds what is made of eight numbers.
+    fn push_eight(numbers: u64x8, items: &mut Vec<Self>) -> Result<(), AllocError>
+        requires length { length numbers ≡ 8 }
+        requires fits { Each1 (λ number. number < 2 ^ 48) numbers }
+        ensures { OnOk result (items.new.items ≡ items.old.items ++ map unpacked numbers) };
 }
 
 impl Unpacked for u64 {
@@ -70,6 +78,11 @@ impl Unpacked for u64 {
     fn of(number: u64) -> u64 {
         number
     }
+
+    #[inline(always)]
+    fn push_eight(numbers: u64x8, items: &mut Vec<u64>) -> Result<(), AllocError> {
+        items.extend_from_slice(&numbers.to_array())
+    }
 }
 
 impl Unpacked for Point {
@@ -78,6 +91,22 @@ impl Unpacked for Point {
     #[inline]
     fn of(number: u64) -> Point {
         Point::Scaled(number as i64)
+    }
+
+    #[inline(always)]
+    fn push_eight(numbers: u64x8, items: &mut Vec<Point>) -> Result<(), AllocError> {
+        let [a, b, c, d, e, f, g, h] = numbers.to_array();
+        items.extend_from_slice(&[
+            Point::of(a),
+            Point::of(b),
+            Point::of(c),
+            Point::of(d),
+            Point::of(e),
+            Point::of(f),
+            Point::of(g),
+            Point::of(h),
+        ])?;
+        Ok(())
     }
 }
 
@@ -95,8 +124,85 @@ fn unpack<T: Unpacked>(
 {
     let mut items = Vec::with_capacity(alloc, count as usize)?;
     let whole = count_in_words(octets.len(), bits, count);
-    push_numbers(octets, bits, whole, 0, count, &mut items)?;
+    let from = push_lanes(octets, bits, count, &mut items)?;
+    push_numbers(octets, bits, whole, from, count, &mut items)?;
     Ok(items)
+}
+
+/// Adds what is made of numbers that fill one octet or two, as far as they come by eights, and gives how
+/// many those are: 0 where numbers have another width.
+fn push_lanes<T: Unpacked>(
+    octets: &[u8],
+    bits: u32,
+    count: u32,
+    items: &mut Vec<T>,
+) -> Result<u32, AllocError>
+    requires { bits * count ≤ 8 * length octets.now }
+    ensures { IfOk result (λ pushed. (pushed ≤ count) × (items.new.items
+        ≡ items.old.items ++ map T.unpacked (plain (bits_in octets.now) bits pushed))) }
+{
+    match bits {
+        8 => push_octets(octets, count / 8, items)?,
+        16 => push_pairs(octets, count / 8, items)?,
+        _ => return Ok(0),
+    }
+    Ok(8 * (count / 8))
+}
+
+/// Adds what is made of so many times eight numbers of one octet.
+fn push_octets<T: Unpacked>(
+    octets: &[u8],
+    eights: u32,
+    items: &mut Vec<T>,
+) -> Result<(), AllocError>
+    requires { 8 * eights ≤ length octets.now }
+    ensures { OnOk result (items.new.items
+        ≡ items.old.items ++ map T.unpacked (plain (bits_in octets.now) 8 (8 * eights))) }
+{
+    for eight in 0..eights {
+        T::push_eight(octet_lanes(octets, 8 * eight as usize), items)?;
+    }
+    Ok(())
+}
+
+/// Adds what is made of so many times eight numbers of two octets.
+fn push_pairs<T: Unpacked>(
+    octets: &[u8],
+    eights: u32,
+    items: &mut Vec<T>,
+) -> Result<(), AllocError>
+    requires { 16 * eights ≤ length octets.now }
+    ensures { OnOk result (items.new.items
+        ≡ items.old.items ++ map T.unpacked (plain (bits_in octets.now) 16 (8 * eights))) }
+{
+    for eight in 0..eights {
+        T::push_eight(pair_lanes(octets, 16 * eight as usize), items)?;
+    }
+    Ok(())
+}
+
+/// The eight numbers of one octet that begin at this octet.
+#[inline(always)]
+fn octet_lanes(octets: &[u8], at: usize) -> u64x8
+    requires { at + 8 ≤ length octets.now }
+    ensures length { length result ≡ 8 }
+    ensures value { result ≡ plain_from (bits_in octets.now) 8 at 8 }
+    ensures fits { Each1 (λ number. number < 2 ^ 48) result }
+{
+    u8x8::from_slice(&octets[at..]).cast::<u64>()
+}
+
+/// The eight numbers of two octets that begin with the pair at this place.
+#[inline(always)]
+fn pair_lanes(octets: &[u8], at: usize) -> u64x8
+    requires within { at + 16 ≤ length octets.now }
+    requires even { at % 2 ≡ 0 }
+    ensures length { length result ≡ 8 }
+    ensures value { result ≡ plain_from (bits_in octets.now) 16 (at / 2) 8 }
+    ensures fits { Each1 (λ number. number < 2 ^ 48) result }
+{
+    let pairs = u16x8::from_le_bytes(u8x16::from_slice(&octets[at..]));
+    ((pairs << 8) | (pairs >> 8)).cast::<u64>()
 }
 
 /// The numbers of the points that a mask has, and the points that it leaves out as missing: each point
