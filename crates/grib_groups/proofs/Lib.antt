@@ -10,3 +10,5 @@ pub mod Reading
 pub mod Faults
 pub mod Parts
 pub mod Packable
+pub mod Marks
+pub mod Back

@@ -18,7 +18,7 @@ some_width true d some = absurd (omega arith)
 some_width false d some = refl
 
 -- the width and the reference of a group that has numbers and is not uniform
-width-numbers : (k w : ℕ) (run : List Code) → w ≡ width_of k run → 0 < w → list_any is_present run ≡ true
+pub width-numbers : (k w : ℕ) (run : List Code) → w ≡ width_of k run → 0 < w → list_any is_present run ≡ true
     → w ≡ digits (greatest (present_codes run) - smallest (present_codes run) + k)
 width-numbers k w run is some present =
     let d = digits (greatest (present_codes run) - smallest (present_codes run) + k) in
@@ -26,7 +26,7 @@ width-numbers k w run is some present =
     width_of-by k run ∙ rw present refl in
     is ∙ by ∙ some_width _ d (omega (arith, some, is, by))
 
-reference-numbers : (b : ℕ) (run : List Code) → list_any is_present run ≡ true → reference_of b run ≡ smallest (present_codes run)
+pub reference-numbers : (b : ℕ) (run : List Code) → list_any is_present run ≡ true → reference_of b run ≡ smallest (present_codes run)
 reference-numbers b run present = reference_of-by b run ∙ rw present refl
 
 pub packable : (k b w r : ℕ) (run : List Code) → w ≡ width_of k run → r ≡ reference_of b run → 0 < w → k ≤ 2 → All (IsBelow k) run

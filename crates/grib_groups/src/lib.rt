@@ -4,6 +4,9 @@
 mod coding;
 mod decoding;
 mod encoding;
+#[cfg(test)]
+mod encoding_tests;
+pub mod laws;
 mod lists;
 mod numbers;
 mod run;

@@ -51,7 +51,7 @@ module _ (lo hi : ℕ) (p q r : Bool) where
   abbrev W : Code → Type 0
   W = IsWithin lo hi p q r
 
-  greatest-within : (run : List Code) → All W run → greatest (present_codes run) ≤ hi
+  pub greatest-within : (run : List Code) → All W run → greatest (present_codes run) ≤ hi
   greatest-within [] all = omega arith
   greatest-within (Present n ∷ run) all =
       let here : (lo ≤ n) × (n ≤ hi) × (p ≡ true) = All-head W (Present n) run all in
@@ -237,6 +237,14 @@ pub widths_fit : (k j w : ℕ) (codes : List Code) (lengths : List ℕ) → j �
     → All (λ run. width_of j run < 2 ^ w) (runs lengths codes)
 widths_fit k j w codes lengths same is few told =
     subst (λ (i : ℕ). All (λ run. width_of i run < 2 ^ w) (runs lengths codes)) (sym same) (widths_fitting k w codes lengths is few told)
+
+pub widths_few : (k : ℕ) (codes : List Code) (lengths : List ℕ) → k ≤ 2 → All (IsTold k) codes → All (λ run. width_of k run ≤ 32) (runs lengths codes)
+widths_few k codes lengths few told =
+    let small = small_run k codes few (all_below k codes told) in
+    let most = width-few k codes small in
+    All-weaker (λ run. width_of k run < 33) (λ run. width_of k run ≤ 32) (λ run h. omega (arith, h)) (runs lengths codes)
+    (widths_below k _ _ 33 _ _ _ lengths codes small (λ primary secondary. primary_reserved k codes told primary)
+    (omega (arith, most, width_of-by k codes)) (within_all codes))
 
 pub width_bits-few : (k w : ℕ) (codes : List Code) → w ≡ width_bits_of k codes → k ≤ 2 → All (IsTold k) codes → w ≤ 6
 width_bits-few k w codes is few told =
