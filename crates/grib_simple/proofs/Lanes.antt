@@ -1,7 +1,6 @@
 -- Lemmas on numbers of one octet or of two that are made by lanes, eight at a time.
 use Rattle.std.proofs.Common.{◌≡◌, ℕ, zero, suc, ◌+◌, ◌-◌, ◌*◌, ◌/◌, ◌%◌, ◌^◌, ◌<◌, ◌≤◌, Bool, List, [], ◌∷◌, ◌++◌, length, take, drop, get_or, map, bit_or, refl, sym, ap, ap₂, ◌∙◌, arith, append_assoc}
-use Rattle.std.proofs.lemmas.List.{length-drop, drop_more, take_all, map-append}
-use Rattle.std.specs.List.{range_with_len}
+use Rattle.std.proofs.lemmas.List.{length-drop, drop_more}
 use Rattle.std.specs.Simd.Lanes.{number_l}
 use Rattle.byteorder.specs.Endian.{big_from}
 use Rattle.grib_bits.specs.Bits.{bits, num}

@@ -112,6 +112,7 @@ fn each_is_cut(
         let at = u64::from(index) * u64::from(bits);
         assert!(rt; at + u64::from(bits) <= 8 * octets.len() as u64);
         let number = get_bits(octets, at, bits);
+        assert!(rt; number <= 65535);
         assert_eq!(rt; numbers[index as usize], number);
         assert_eq!(rt; points[index as usize], Point::Scaled(number as i64));
     }
