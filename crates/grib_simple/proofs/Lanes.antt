@@ -1,7 +1,6 @@
 -- Lemmas on numbers of one octet or of two that are made by lanes, eight at a time.
 use Rattle.std.proofs.Common.{◌≡◌, ℕ, zero, suc, ◌+◌, ◌-◌, ◌*◌, ◌/◌, ◌%◌, ◌^◌, ◌<◌, ◌≤◌, Bool, List, [], ◌∷◌, ◌++◌, length, take, drop, get_or, map, bit_or, refl, sym, ap, ap₂, ◌∙◌, arith, append_assoc}
-use Rattle.std.proofs.lemmas.List.{length-drop, drop_more, take_all, map-append}
-use Rattle.std.specs.List.{range_with_len}
+use Rattle.std.proofs.lemmas.List.{length-drop, drop_more}
 use Rattle.std.specs.Simd.Lanes.{number_l}
 use Rattle.byteorder.specs.Endian.{big_from}
 use Rattle.grib_bits.specs.Bits.{bits, num}
@@ -10,21 +9,6 @@ use Rattle.grib_bits.proofs.Numbers.{shl_plus}
 use Rattle.grib_bits.proofs.OctetBits.{AreOctets, take-bits, drop-bits, big_from-bits}
 use Rattle.grib_simple.specs.Part.{plain_from}
 use Rattle.grib_simple.proofs.Unpacking.{plain_from-append}
-
--- what a function makes of each of eight numbers
-listed : (xs : List ℕ) (n i : ℕ) → i + n ≤ length xs → take n (drop i xs) ≡ map (λ k. get_or xs k 0) (range_with_len i n)
-listed xs zero i within = refl
-listed xs (suc n) i within =
-    ap (take (suc n)) (drop_more xs i 0 (omega arith)) ∙ ap (λ ys. get_or xs i 0 ∷ ys) (listed xs n (i + 1) (omega arith))
-
-pub eight_made : {T : Type 0} (f : ℕ → T) (xs : List ℕ) (a b c d e g h k : T) → length xs ≡ 8
-    → a ≡ f (get_or xs 0 0) → b ≡ f (get_or xs 1 0) → c ≡ f (get_or xs 2 0) → d ≡ f (get_or xs 3 0)
-    → e ≡ f (get_or xs 4 0) → g ≡ f (get_or xs 5 0) → h ≡ f (get_or xs 6 0) → k ≡ f (get_or xs 7 0)
-    → a ∷ b ∷ c ∷ d ∷ e ∷ g ∷ h ∷ k ∷ [] ≡ map f xs
-eight_made f xs a b c d e g h k long pa pb pc pd pe pg ph pk =
-    let all : take 8 xs ≡ xs = take_all 8 xs (omega arith) in
-    ap₂ ◌∷◌ pa (ap₂ ◌∷◌ pb (ap₂ ◌∷◌ pc (ap₂ ◌∷◌ pd (ap₂ ◌∷◌ pe (ap₂ ◌∷◌ pg (ap₂ ◌∷◌ ph (ap (λ x. x ∷ []) pk)))))))
-    ∙ ap (map f) (sym (listed xs 8 0 (omega arith)) ∙ all)
 
 -- a function that leaves each number as it is
 pub map_same : (f : ℕ → ℕ) → ((x : ℕ) → f x ≡ x) → (xs : List ℕ) → map f xs ≡ xs
@@ -87,31 +71,30 @@ plain_pairs octets known (suc n) k at is_at within =
     ∙ ap₂ ◌∷◌ (swapped_pair x y rest all small_x small_y refl ∙ sym here)
     (ap (swapped n) left ∙ plain_pairs octets known n (k + 1) (at + 1 + 1) (omega arith) (omega arith))
 
--- what was made of eight numbers more
-pub pushed_eight : {T : Type 0} (f : ℕ → T) (xs : List Bool) (width index : ℕ) (numbers : List ℕ) (made old items new : List T)
-    → items ≡ old ++ map f (plain xs width (8 * index)) → numbers ≡ plain_from xs width (8 * index) 8 → made ≡ map f numbers → new ≡ items ++ made
-    → new ≡ old ++ map f (plain xs width (8 * (index + 1)))
-pushed_eight f xs width index numbers made old items new before is_numbers is_made is_new =
+-- eight numbers more
+pub pushed_eight : (xs : List Bool) (width index : ℕ) (more old items new : List ℕ)
+    → items ≡ old ++ plain xs width (8 * index) → more ≡ plain_from xs width (8 * index) 8 → new ≡ items ++ more
+    → new ≡ old ++ plain xs width (8 * (index + 1))
+pushed_eight xs width index more old items new before is_more is_new =
     let first = plain xs width (8 * index) in
-    let more = plain_from xs width (8 * index) 8 in
     let place : 0 + 8 * index ≡ 8 * index = omega arith in
     let count : 8 * index + 8 ≡ 8 * (index + 1) = omega arith in
-    let both : first ++ more ≡ plain xs width (8 * (index + 1)) =
+    let both : first ++ plain_from xs width (8 * index) 8 ≡ plain xs width (8 * (index + 1)) =
     ap (λ n. first ++ plain_from xs width n 8) (sym place) ∙ sym (plain_from-append xs width 0 (8 * index) 8) ∙ ap (plain xs width) count in
-    is_new ∙ ap₂ ◌++◌ before (is_made ∙ ap (map f) is_numbers)
-    ∙ append_assoc old (map f first) (map f more)
-    ∙ ap (λ ys. old ++ ys) (sym (map-append f first more) ∙ ap (map f) both)
+    is_new ∙ ap₂ ◌++◌ before is_more
+    ∙ append_assoc old first (plain_from xs width (8 * index) 8)
+    ∙ ap (λ ys. old ++ ys) both
 
 -- the numbers after those
-pub unpacked_both : {T : Type 0} (f : ℕ → T) (xs : List Bool) (width middle last : ℕ) (old items new : List T) → middle ≤ last
-    → items ≡ old ++ map f (plain xs width middle) → new ≡ items ++ map f (plain_from xs width middle (last - middle)) → new ≡ old ++ map f (plain xs width last)
-unpacked_both f xs width middle last old items new ordered before is_new =
+pub numbers_both : (xs : List Bool) (width middle last : ℕ) (old items new : List ℕ) → middle ≤ last
+    → items ≡ old ++ plain xs width middle → new ≡ items ++ map (λ x. x) (plain_from xs width middle (last - middle)) → new ≡ old ++ plain xs width last
+numbers_both xs width middle last old items new ordered before is_new =
     let first = plain xs width middle in
     let more = plain_from xs width middle (last - middle) in
     let place : 0 + middle ≡ middle = omega arith in
     let count : middle + (last - middle) ≡ last = omega arith in
     let both : first ++ more ≡ plain xs width last =
     ap (λ n. first ++ plain_from xs width n (last - middle)) (sym place) ∙ sym (plain_from-append xs width 0 middle (last - middle)) ∙ ap (plain xs width) count in
-    is_new ∙ ap (λ ys. ys ++ map f more) before
-    ∙ append_assoc old (map f first) (map f more)
-    ∙ ap (λ ys. old ++ ys) (sym (map-append f first more) ∙ ap (map f) both)
+    is_new ∙ ap₂ ◌++◌ before (map_same (λ x. x) (λ x. refl) more)
+    ∙ append_assoc old first more
+    ∙ ap (λ ys. old ++ ys) both

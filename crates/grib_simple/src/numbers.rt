@@ -1,7 +1,6 @@
 //! Numbers of one width that stand one after another.
 
 ghost use Rattle.std.specs.Prelude.{◌≡◌, ℕ, ◌+◌, ◌-◌, ◌*◌, ◌/◌, ◌%◌, ◌^◌, ◌<◌, ◌≤◌, ◌++◌, length, replicate, take, drop, map, pos, IfOk, OnOk};
-ghost use Rattle.std.specs.Simd.Lanes.{Each1};
 ghost use Rattle.grib_bits.specs.Bits.{bits as bits_in, num};
 ghost use Rattle.grib_bits.specs.Plain.{plain};
 ghost use Rattle.grib_bitmap.specs.Mask.{present_count};
@@ -33,7 +32,11 @@ pub fn unpack_numbers(
     requires within { bits * count ≤ 8 * length octets.now }
     ensures { IfOk result (λ numbers. numbers.items ≡ plain (bits_in octets.now) bits count) }
 {
-    unpack(alloc, octets, bits, count)
+    let mut numbers = Vec::with_capacity(alloc, count as usize)?;
+    let from = push_lanes(octets, bits, count, &mut numbers)?;
+    let whole = count_in_words(octets.len(), bits, count);
+    push_numbers(octets, bits, whole, from, count, &mut numbers)?;
+    Ok(numbers)
 }
 
 /// The same numbers as the scaled numbers of points: no vector of numbers stands
@@ -53,7 +56,10 @@ pub fn unpack_points(
     ensures { IfOk result (λ points. points.items
         ≡ map (λ x. Scaled (pos x)) (plain (bits_in octets.now) bits count)) }
 {
-    unpack(alloc, octets, bits, count)
+    let mut points = Vec::with_capacity(alloc, count as usize)?;
+    let whole = count_in_words(octets.len(), bits, count);
+    push_numbers(octets, bits, whole, 0, count, &mut points)?;
+    Ok(points)
 }
 
 /// What is made of a packed number.
@@ -63,12 +69,6 @@ trait Unpacked: Copy + Drop {
     fn of(number: u64) -> Self
         requires { number < 2 ^ 48 }
         ensures { result ≡ unpacked number };
-
-    // Adds what is made of eight numbers.
-    fn push_eight(numbers: u64x8, items: &mut Vec<Self>) -> Result<(), AllocError>
-        requires length { length numbers ≡ 8 }
-        requires fits { Each1 (λ number. number < 2 ^ 48) numbers }
-        ensures { OnOk result (items.new.items ≡ items.old.items ++ map unpacked numbers) };
 }
 
 impl Unpacked for u64 {
@@ -77,11 +77,6 @@ impl Unpacked for u64 {
     #[inline]
     fn of(number: u64) -> u64 {
         number
-    }
-
-    #[inline(always)]
-    fn push_eight(numbers: u64x8, items: &mut Vec<u64>) -> Result<(), AllocError> {
-        items.extend_from_slice(&numbers.to_array())
     }
 }
 
@@ -92,114 +87,69 @@ impl Unpacked for Point {
     fn of(number: u64) -> Point {
         Point::Scaled(number as i64)
     }
-
-    #[inline(always)]
-    fn push_eight(numbers: u64x8, items: &mut Vec<Point>) -> Result<(), AllocError> {
-        let [a, b, c, d, e, f, g, h] = numbers.to_array();
-        items.extend_from_slice(&[
-            Point::of(a),
-            Point::of(b),
-            Point::of(c),
-            Point::of(d),
-            Point::of(e),
-            Point::of(f),
-            Point::of(g),
-            Point::of(h),
-        ])?;
-        Ok(())
-    }
 }
 
-/// What is made of the numbers, in one pass.
-fn unpack<T: Unpacked>(
-    alloc: Global,
+/// Adds the numbers that fill one octet or two, as far as they come by eights, and gives how many those
+/// are: 0 where numbers have another width.
+fn push_lanes(
     octets: &[u8],
     bits: u32,
     count: u32,
-) -> Result<Vec<T>, AllocError>
-    requires width { bits ≤ 48 }
-    requires within { bits * count ≤ 8 * length octets.now }
-    ensures { IfOk result (λ items. items.items
-        ≡ map T.unpacked (plain (bits_in octets.now) bits count)) }
-{
-    let mut items = Vec::with_capacity(alloc, count as usize)?;
-    let whole = count_in_words(octets.len(), bits, count);
-    let from = push_lanes(octets, bits, count, &mut items)?;
-    push_numbers(octets, bits, whole, from, count, &mut items)?;
-    Ok(items)
-}
-
-/// Adds what is made of numbers that fill one octet or two, as far as they come by eights, and gives how
-/// many those are: 0 where numbers have another width.
-fn push_lanes<T: Unpacked>(
-    octets: &[u8],
-    bits: u32,
-    count: u32,
-    items: &mut Vec<T>,
+    numbers: &mut Vec<u64>,
 ) -> Result<u32, AllocError>
     requires { bits * count ≤ 8 * length octets.now }
-    ensures { IfOk result (λ pushed. (pushed ≤ count) × (items.new.items
-        ≡ items.old.items ++ map T.unpacked (plain (bits_in octets.now) bits pushed))) }
+    ensures { IfOk result (λ pushed. (pushed ≤ count) × (numbers.new.items
+        ≡ numbers.old.items ++ plain (bits_in octets.now) bits pushed)) }
 {
     match bits {
-        8 => push_octets(octets, count / 8, items)?,
-        16 => push_pairs(octets, count / 8, items)?,
+        8 => push_octets(octets, count / 8, numbers)?,
+        16 => push_pairs(octets, count / 8, numbers)?,
         _ => return Ok(0),
     }
     Ok(8 * (count / 8))
 }
 
-/// Adds what is made of so many times eight numbers of one octet.
-fn push_octets<T: Unpacked>(
-    octets: &[u8],
-    eights: u32,
-    items: &mut Vec<T>,
-) -> Result<(), AllocError>
+/// Adds so many times eight numbers of one octet.
+fn push_octets(octets: &[u8], eights: u32, numbers: &mut Vec<u64>) -> Result<(), AllocError>
     requires { 8 * eights ≤ length octets.now }
-    ensures { OnOk result (items.new.items
-        ≡ items.old.items ++ map T.unpacked (plain (bits_in octets.now) 8 (8 * eights))) }
+    ensures { OnOk result (numbers.new.items
+        ≡ numbers.old.items ++ plain (bits_in octets.now) 8 (8 * eights)) }
 {
     for eight in 0..eights {
-        T::push_eight(octet_lanes(octets, 8 * eight as usize), items)?;
+        let lanes = octet_lanes(octets, 8 * eight as usize);
+        numbers.extend_from_slice(&lanes.to_array())?;
     }
     Ok(())
 }
 
-/// Adds what is made of so many times eight numbers of two octets.
-fn push_pairs<T: Unpacked>(
-    octets: &[u8],
-    eights: u32,
-    items: &mut Vec<T>,
-) -> Result<(), AllocError>
+/// Adds so many times eight numbers of two octets.
+fn push_pairs(octets: &[u8], eights: u32, numbers: &mut Vec<u64>) -> Result<(), AllocError>
     requires { 16 * eights ≤ length octets.now }
-    ensures { OnOk result (items.new.items
-        ≡ items.old.items ++ map T.unpacked (plain (bits_in octets.now) 16 (8 * eights))) }
+    ensures { OnOk result (numbers.new.items
+        ≡ numbers.old.items ++ plain (bits_in octets.now) 16 (8 * eights)) }
 {
     for eight in 0..eights {
-        T::push_eight(pair_lanes(octets, 16 * eight as usize), items)?;
+        let lanes = pair_lanes(octets, 16 * eight as usize);
+        numbers.extend_from_slice(&lanes.to_array())?;
     }
     Ok(())
 }
 
-/// The eight numbers of one octet that begin at this octet.
+/// The eight numbers of one octet that begin at this place in the octets.
 #[inline(always)]
 fn octet_lanes(octets: &[u8], at: usize) -> u64x8
     requires { at + 8 ≤ length octets.now }
-    ensures length { length result ≡ 8 }
-    ensures value { result ≡ plain_from (bits_in octets.now) 8 at 8 }
-    ensures fits { Each1 (λ number. number < 2 ^ 48) result }
+    ensures { result ≡ plain_from (bits_in octets.now) 8 at 8 }
 {
     u8x8::from_slice(&octets[at..]).cast::<u64>()
 }
 
-/// The eight numbers of two octets that begin with the pair at this place.
+/// The eight numbers of two octets that begin at this place in the octets.
 #[inline(always)]
 fn pair_lanes(octets: &[u8], at: usize) -> u64x8
     requires within { at + 16 ≤ length octets.now }
     requires even { at % 2 ≡ 0 }
-    ensures length { length result ≡ 8 }
-    ensures value { result ≡ plain_from (bits_in octets.now) 16 (at / 2) 8 }
-    ensures fits { Each1 (λ number. number < 2 ^ 48) result }
+    ensures { result ≡ plain_from (bits_in octets.now) 16 (at / 2) 8 }
 {
     let pairs = u16x8::from_le_bytes(u8x16::from_slice(&octets[at..]));
     ((pairs << 8) | (pairs >> 8)).cast::<u64>()
