@@ -1,10 +1,10 @@
 -- How large the numbers get: spans of codes of 32 bits, and costs of up to 33,554,432 codes.
 use Rattle.std.proofs.Common.{◌≡◌, ℕ, suc, ◌+◌, ◌-◌, ◌*◌, ◌^◌, ◌<◌, ◌≤◌, max, List, [], ◌∷◌, length, take, drop, All, refl, subst, arith, eq-eqb}
 use Rattle.std.proofs.Math.Nat.{mul-le-mul_left, suc-mul}
-use Rattle.std.proofs.lemmas.List.Elements.{All-head, All-tail, All-take, All-drop}
+use Rattle.std.proofs.lemmas.List.Elements.{All-take, All-drop}
 use Rattle.grib_io.specs.declared.code.Code.{Code}
 use Rattle.grib_io.specs.declared.code.Code.TheVariants.{Present, Primary, Secondary}
-use Rattle.grib_packing.specs.Groupings.{width_of, cost_of, IsGrouping, greatest, present_codes}
+use Rattle.grib_packing.specs.Groupings.{width_of, cost_of, IsGrouping, present_codes}
 use Rattle.grib_split.specs.declared.choosing.Costs.{Costs}
 use Rattle.grib_split.specs.declared.slot.Slot.{Slot}
 use Rattle.grib_packing.specs.Span.{IsBelow}
