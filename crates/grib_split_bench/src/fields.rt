@@ -1,7 +1,7 @@
 //! Codes of fields of several kinds.
 
 ghost use Rattle.std.specs.Prelude.{◌≡◌, ◌+◌, ◌<◌, ◌≤◌, ◌^◌, length, vec_len, All, IfOk};
-ghost use Rattle.grib_split.specs.Costs.{IsBelow};
+ghost use Rattle.grib_packing.specs.Span.{IsBelow};
 
 use grib_io::Code;
 use grib_split::{Costs, least_choices};

@@ -1,5 +1,5 @@
 use Rattle.std.proofs.Common.{◌≡◌, length, All}
-use Rattle.grib_split.specs.Costs.{IsBelow}
+use Rattle.grib_packing.specs.Span.{IsBelow}
 use Rattle.grib_split_bench.proofs.fields.codes_of.Given as goal
 
 abbrev pub invariant-loop-place : goal.invariant-loop-place
