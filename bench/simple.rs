@@ -1,5 +1,5 @@
 // The work that bench/simple.sh measures, in plain Rust: the numbers of simple packing are unpacked, as
-// numbers or as points. Prints one checksum.
+// numbers, as points or as the points of a bitmap. Prints one checksum.
 use std::env;
 
 const STEP: usize = 4096;
@@ -18,6 +18,10 @@ fn main() {
     let bits: u32 = arguments[2].parse().unwrap();
     let count: u32 = arguments[3].parse().unwrap();
     let passes: u32 = arguments[4].parse().unwrap();
+    if arguments[1] == "masked" {
+        println!("{}", masked_sum(bits, count, passes));
+        return;
+    }
     let octets = filled_octets(bits, count);
     let mut sum = 0u64;
     for _ in 0..passes {
@@ -89,4 +93,89 @@ fn last_number(octets: &[u8], at: u64, bits: u32) -> u64 {
         let octet = octets[(place / 8) as usize];
         number << 1 | u64::from(octet >> (7 - place % 8) & 1)
     })
+}
+
+fn next(state: u32) -> u32 {
+    state.wrapping_mul(1664525).wrapping_add(1013904223)
+}
+
+fn masked_sum(bits: u32, points: u32, passes: u32) -> u64 {
+    let mut state = 1u32;
+    let mut octet = 255u8;
+    let mut values = 0u32;
+    let mut bitmap = Vec::new();
+    for _ in 0..points / 8 {
+        state = next(state);
+        if state >> 24 < 51 {
+            octet = if state >> 23 & 1 == 1 { 255 } else { (state >> 15 & 255) as u8 };
+        }
+        bitmap.push(octet);
+        values += octet.count_ones();
+    }
+    let mut octets = Vec::new();
+    for _ in 0..(u64::from(values) * u64::from(bits)).div_ceil(8) {
+        state = next(state);
+        octets.push((state >> 24) as u8);
+    }
+    let points = points / 8 * 8;
+    bitmap.resize(bitmap.len().next_multiple_of(8), 0);
+    let words: Vec<u64> = bitmap
+        .chunks_exact(8)
+        .map(|chunk| u64::from_be_bytes(chunk.try_into().unwrap()))
+        .collect();
+    let mut sum = 0u64;
+    for _ in 0..passes {
+        let unpacked = masked(&words, points, &octets, bits, values);
+        for point in unpacked.iter().step_by(STEP) {
+            if let Point::Scaled(number) = point {
+                sum = sum.wrapping_add(*number as u64);
+            }
+        }
+    }
+    sum
+}
+
+#[inline(never)]
+fn masked(words: &[u64], points: u32, octets: &[u8], bits: u32, values: u32) -> Vec<Point> {
+    let whole = count_in_words(octets.len(), bits, values);
+    let mask = (1u64 << bits) - 1;
+    let mut items = Vec::with_capacity(points as usize);
+    let mut place = 0;
+    let mut taken = 0;
+    while place < points {
+        let present = words[(place / 64) as usize] >> (63 - place % 64) & 1 == 1;
+        let length = run_length(words, points, place, present);
+        if present {
+            let middle = whole.clamp(taken, taken + length);
+            items.extend((u64::from(taken)..u64::from(middle)).map(|index| {
+                let at = index * u64::from(bits);
+                let first = (at / 8) as usize;
+                let word = u64::from_be_bytes(octets[first..first + 8].try_into().unwrap());
+                Point::Scaled((word >> (64 - (at % 8) as u32 - bits) & mask) as i64)
+            }));
+            items.extend((u64::from(middle)..u64::from(taken + length)).map(|index| {
+                Point::Scaled(last_number(octets, index * u64::from(bits), bits) as i64)
+            }));
+            taken += length;
+        } else {
+            items.extend(std::iter::repeat_n(Point::Missing, length as usize));
+        }
+        place += length;
+    }
+    items
+}
+
+fn run_length(words: &[u64], points: u32, place: u32, present: bool) -> u32 {
+    let mut end = place;
+    while end < points {
+        let skip = end % 64;
+        let word = words[(end / 64) as usize];
+        let other = if present { !word } else { word };
+        let same = (other << skip).leading_zeros().min(64 - skip);
+        end += same;
+        if skip + same < 64 {
+            break;
+        }
+    }
+    end.min(points) - place
 }

@@ -8,3 +8,7 @@ pub mod Places
 pub mod Listing
 pub mod Reading
 pub mod Faults
+pub mod Parts
+pub mod Packable
+pub mod Marks
+pub mod Back

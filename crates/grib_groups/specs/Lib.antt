@@ -3,3 +3,4 @@ pub mod Table
 pub mod Going
 pub mod Lists
 pub mod Laws
+pub mod Encoding

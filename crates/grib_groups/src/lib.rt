@@ -3,6 +3,10 @@
 
 mod coding;
 mod decoding;
+mod encoding;
+#[cfg(test)]
+mod encoding_tests;
+pub mod laws;
 mod lists;
 mod numbers;
 mod run;
@@ -12,6 +16,7 @@ mod taker;
 mod tests;
 
 pub use decoding::{decode_groups, take_groups};
+pub use encoding::encode_groups;
 pub use grib_packing::{Group, Layout};
 pub use lists::{
     Lengths, Lists, References, Widths, lists_fit, octets_of, octets_of_lists, plain_layout,

@@ -8,3 +8,4 @@ pub mod Entries
 pub mod Groupings
 pub mod Misfits
 pub mod Packed
+pub mod Span

@@ -5,7 +5,9 @@
 mod column;
 mod group;
 mod layout;
+mod span;
 
 pub use column::{Column, Point};
 pub use group::Group;
 pub use layout::Layout;
+pub use span::Span;

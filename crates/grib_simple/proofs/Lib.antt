@@ -1,3 +1,4 @@
+mod Lanes
 mod Unpacking
 pub mod Accepted
 pub mod Masked

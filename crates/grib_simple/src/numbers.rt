@@ -1,6 +1,6 @@
 //! Numbers of one width that stand one after another.
 
-ghost use Rattle.std.specs.Prelude.{◌≡◌, ℕ, ◌+◌, ◌-◌, ◌*◌, ◌/◌, ◌^◌, ◌<◌, ◌≤◌, ◌++◌, length, replicate, take, drop, map, pos, IfOk, OnOk};
+ghost use Rattle.std.specs.Prelude.{◌≡◌, ℕ, ◌+◌, ◌-◌, ◌*◌, ◌/◌, ◌%◌, ◌^◌, ◌<◌, ◌≤◌, ◌++◌, length, replicate, take, drop, map, pos, IfOk, OnOk};
 ghost use Rattle.grib_bits.specs.Bits.{bits as bits_in, num};
 ghost use Rattle.grib_bits.specs.Plain.{plain};
 ghost use Rattle.grib_bitmap.specs.Mask.{present_count};
@@ -13,6 +13,7 @@ use byteorder::{BigEndian, ByteOrder};
 use grib_bitmap::{Mask, ones};
 use grib_bits::get_bits;
 use std::alloc::{AllocError, Global};
+use std::simd::prelude::*;
 
 /// The first `count` numbers without sign of `bits` bits each, which stand one after another from the
 /// first bit of `octets` on (WMO-No. 306, Volume I.2, FM 92 GRIB edition 2, data template 7.0).
@@ -31,7 +32,11 @@ pub fn unpack_numbers(
     requires within { bits * count ≤ 8 * length octets.now }
     ensures { IfOk result (λ numbers. numbers.items ≡ plain (bits_in octets.now) bits count) }
 {
-    unpack(alloc, octets, bits, count)
+    let mut numbers = Vec::with_capacity(alloc, count as usize)?;
+    let from = push_lanes(octets, bits, count, &mut numbers)?;
+    let whole = count_in_words(octets.len(), bits, count);
+    push_numbers(octets, bits, whole, from, count, &mut numbers)?;
+    Ok(numbers)
 }
 
 /// The same numbers as the scaled numbers of points: no vector of numbers stands
@@ -51,7 +56,10 @@ pub fn unpack_points(
     ensures { IfOk result (λ points. points.items
         ≡ map (λ x. Scaled (pos x)) (plain (bits_in octets.now) bits count)) }
 {
-    unpack(alloc, octets, bits, count)
+    let mut points = Vec::with_capacity(alloc, count as usize)?;
+    let whole = count_in_words(octets.len(), bits, count);
+    push_numbers(octets, bits, whole, 0, count, &mut points)?;
+    Ok(points)
 }
 
 /// What is made of a packed number.
@@ -81,22 +89,70 @@ impl Unpacked for Point {
     }
 }
 
-/// What is made of the numbers, in one pass.
-fn unpack<T: Unpacked>(
-    alloc: Global,
+/// Adds the numbers that fill one octet or two, as far as they come by eights, and gives how many those
+/// are: 0 where numbers have another width.
+fn push_lanes(
     octets: &[u8],
     bits: u32,
     count: u32,
-) -> Result<Vec<T>, AllocError>
-    requires width { bits ≤ 48 }
-    requires within { bits * count ≤ 8 * length octets.now }
-    ensures { IfOk result (λ items. items.items
-        ≡ map T.unpacked (plain (bits_in octets.now) bits count)) }
+    numbers: &mut Vec<u64>,
+) -> Result<u32, AllocError>
+    requires { bits * count ≤ 8 * length octets.now }
+    ensures { IfOk result (λ pushed. (pushed ≤ count) × (numbers.new.items
+        ≡ numbers.old.items ++ plain (bits_in octets.now) bits pushed)) }
 {
-    let mut items = Vec::with_capacity(alloc, count as usize)?;
-    let whole = count_in_words(octets.len(), bits, count);
-    push_numbers(octets, bits, whole, 0, count, &mut items)?;
-    Ok(items)
+    match bits {
+        8 => push_octets(octets, count / 8, numbers)?,
+        16 => push_pairs(octets, count / 8, numbers)?,
+        _ => return Ok(0),
+    }
+    Ok(8 * (count / 8))
+}
+
+/// Adds so many times eight numbers of one octet.
+fn push_octets(octets: &[u8], eights: u32, numbers: &mut Vec<u64>) -> Result<(), AllocError>
+    requires { 8 * eights ≤ length octets.now }
+    ensures { OnOk result (numbers.new.items
+        ≡ numbers.old.items ++ plain (bits_in octets.now) 8 (8 * eights)) }
+{
+    for eight in 0..eights {
+        let lanes = octet_lanes(octets, 8 * eight as usize);
+        numbers.extend_from_slice(&lanes.to_array())?;
+    }
+    Ok(())
+}
+
+/// Adds so many times eight numbers of two octets.
+fn push_pairs(octets: &[u8], eights: u32, numbers: &mut Vec<u64>) -> Result<(), AllocError>
+    requires { 16 * eights ≤ length octets.now }
+    ensures { OnOk result (numbers.new.items
+        ≡ numbers.old.items ++ plain (bits_in octets.now) 16 (8 * eights)) }
+{
+    for eight in 0..eights {
+        let lanes = pair_lanes(octets, 16 * eight as usize);
+        numbers.extend_from_slice(&lanes.to_array())?;
+    }
+    Ok(())
+}
+
+/// The eight numbers of one octet that begin at this place in the octets.
+#[inline(always)]
+fn octet_lanes(octets: &[u8], at: usize) -> u64x8
+    requires { at + 8 ≤ length octets.now }
+    ensures { result ≡ plain_from (bits_in octets.now) 8 at 8 }
+{
+    u8x8::from_slice(&octets[at..]).cast::<u64>()
+}
+
+/// The eight numbers of two octets that begin at this place in the octets.
+#[inline(always)]
+fn pair_lanes(octets: &[u8], at: usize) -> u64x8
+    requires within { at + 16 ≤ length octets.now }
+    requires even { at % 2 ≡ 0 }
+    ensures { result ≡ plain_from (bits_in octets.now) 16 (at / 2) 8 }
+{
+    let pairs = u16x8::from_le_bytes(u8x16::from_slice(&octets[at..]));
+    ((pairs << 8) | (pairs >> 8)).cast::<u64>()
 }
 
 /// The numbers of the points that a mask has, and the points that it leaves out as missing: each point

@@ -7,6 +7,7 @@ ghost use Rattle.grib_bits.specs.Octets.{StatesItself};
 use super::*;
 use byteorder::{BigEndian, ByteOrder};
 use grib_bitmap::{Mask, ones, read_mask};
+use grib_bits::get_bits;
 use grib_io::{Fault, Reason, Section, UnpackFault};
 use std::alloc::{AllocError, Global};
 use std::process::Abort;
@@ -91,6 +92,42 @@ fn few_octets_and_no_bits(rt: HostRuntime) -> Result<(), Fail> {
         unpacked(&rt, rt.alloc(), 6, 16, 3)?.as_slice(),
         sixteen.as_slice()
     );
+    Ok(())
+}
+
+/// Looks at each number, and at each point, beside the number of its bits.
+fn each_is_cut(
+    rt: &impl Abort,
+    alloc: Global,
+    octets: &[u8],
+    bits: u32,
+    count: u32,
+) -> Result<(), AllocError> {
+    assert!(rt; bits <= 48 && octets.len() <= 120);
+    assert!(rt; u64::from(bits) * u64::from(count) <= 8 * octets.len() as u64);
+    let numbers = unpack_numbers(alloc, octets, bits, count)?;
+    let points = unpack_points(alloc, octets, bits, count)?;
+    assert!(rt; numbers.len() == count as usize && points.len() == count as usize);
+    for index in 0..count {
+        let at = u64::from(index) * u64::from(bits);
+        assert!(rt; at + u64::from(bits) <= 8 * octets.len() as u64);
+        let number = get_bits(octets, at, bits);
+        assert!(rt; number <= 65535);
+        assert_eq!(rt; numbers[index as usize], number);
+        assert_eq!(rt; points[index as usize], Point::Scaled(number as i64));
+    }
+    Ok(())
+}
+
+#[test]
+fn numbers_of_whole_octets(rt: HostRuntime) -> Result<(), Fail> {
+    let mut octets = OCTETS.to_vec(rt.alloc())?;
+    octets.extend_from_slice(&OCTETS)?;
+    for bits in [8, 16] {
+        for count in 0..41 {
+            each_is_cut(&rt, rt.alloc(), &octets, bits, count)?;
+        }
+    }
     Ok(())
 }
 

@@ -6,7 +6,7 @@ use grib_simple::{Point, unpack_numbers, unpack_points};
 use std::alloc::{AllocError, Global};
 
 /// Each so many numbers one is looked at.
-const STEP: usize = 4096;
+pub const STEP: usize = 4096;
 
 /// As many octets as the numbers take, with some bits set.
 pub fn filled_octets(alloc: Global, bits: u32, count: u32) -> Result<Vec<u8>, AllocError>

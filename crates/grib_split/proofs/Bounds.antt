@@ -1,27 +1,20 @@
 -- How large the numbers get: spans of codes of 32 bits, and costs of up to 33,554,432 codes.
 use Rattle.std.proofs.Common.{◌≡◌, ℕ, suc, ◌+◌, ◌-◌, ◌*◌, ◌^◌, ◌<◌, ◌≤◌, max, List, [], ◌∷◌, length, take, drop, All, refl, subst, arith, eq-eqb}
 use Rattle.std.proofs.Math.Nat.{mul-le-mul_left, suc-mul}
-use Rattle.std.proofs.lemmas.List.Elements.{All-head, All-tail, All-take, All-drop}
+use Rattle.std.proofs.lemmas.List.Elements.{All-take, All-drop}
 use Rattle.grib_io.specs.declared.code.Code.{Code}
 use Rattle.grib_io.specs.declared.code.Code.TheVariants.{Present, Primary, Secondary}
-use Rattle.grib_packing.specs.Groupings.{width_of, cost_of, IsGrouping, greatest, present_codes}
+use Rattle.grib_packing.specs.Groupings.{width_of, cost_of, IsGrouping, present_codes}
 use Rattle.grib_split.specs.declared.choosing.Costs.{Costs}
 use Rattle.grib_split.specs.declared.slot.Slot.{Slot}
-use Rattle.grib_split.specs.Costs.{header_of, IsBelow}
+use Rattle.grib_packing.specs.Span.{IsBelow}
+use Rattle.grib_split.specs.Costs.{header_of}
 use Rattle.grib_split.specs.Least.{IsLeast}
 use Rattle.grib_split.specs.Choosing.{Waiting}
 use Rattle.grib_split.proofs.Optimal.{joined}
-use Rattle.grib_split.proofs.Spans.{smallest_at_most}
+use Rattle.grib_packing.proofs.Spans.{small_run, smallest_at_most}
 
 -- ---- numbers of runs
-
-small_run : (k : ℕ) (run : List Code) → k ≤ 2 → All (IsBelow k) run → greatest (present_codes run) + k < 2 ^ 32
-small_run k [] few each = omega arith
-small_run k (Present n ∷ run) few each =
-    let here : n + k < 2 ^ 32 = All-head (IsBelow k) (Present n) run each in
-    omega (arith, here, small_run k run few (All-tail (IsBelow k) (Present n) run each))
-small_run k (Primary ∷ run) few each = small_run k run few (All-tail (IsBelow k) Primary run each)
-small_run k (Secondary ∷ run) few each = small_run k run few (All-tail (IsBelow k) Secondary run each)
 
 pub waiting_ordered : (costs : Costs) (codes : List Code) (at l : ℕ) (slot : Slot) → Waiting costs codes at l slot
     → slot.span.least ≤ slot.span.greatest

@@ -11,7 +11,7 @@ use Rattle.grib_split.specs.Costs.{header_of}
 use Rattle.grib_split.specs.Least as least
 use Rattle.grib_split.specs.Least.{IsLeast, with_first, AreLeastAfter, IsHead}
 use Rattle.grib_split.specs.Choosing.{no_slot, slot_of, Waiting, Standing, Waits, Stand, candidate, BestUpTo}
-use Rattle.grib_split.specs.Span.{IsSpan}
+use Rattle.grib_packing.specs.Span.{IsSpan}
 use Rattle.grib_split.proofs.Optimal.{least_step, chosen_step}
 use Rattle.grib_split.proofs.Following.{none_chosen}
 use Rattle.grib_split.proofs.Steps.{slot_here, slot_there}

@@ -1,6 +1,5 @@
 pub mod Optimal
 pub mod Following
-pub mod Spans
 pub mod Steps
 pub mod Bounds
 pub mod Choices

@@ -10,7 +10,7 @@ use Rattle.grib_split.specs.declared.slot.Slot.{Slot}
 use Rattle.grib_split.specs.Costs.{header_of}
 use Rattle.grib_split.specs.Least.{IsLeast}
 use Rattle.grib_split.specs.Choosing.{no_slot, slot_of, Waiting, Standing, BestUpTo}
-use Rattle.grib_split.specs.Span.{IsSpan}
+use Rattle.grib_packing.specs.Span.{IsSpan}
 
 -- places that are less than 64 apart are kept apart
 pub apart : (at l m : ℕ) → l < m → m < l + 64 → (at + l) % 64 ≢ (at + m) % 64

@@ -7,7 +7,7 @@ use Rattle.grib_split.specs.declared.choosing.Best.{Best}
 use Rattle.grib_split.specs.declared.slot.Slot.{Slot}
 use Rattle.grib_split.specs.Costs.{header_of}
 use Rattle.grib_split.specs.Least.{IsLeast, with_first}
-use Rattle.grib_split.specs.Span.{IsSpan}
+use Rattle.grib_packing.specs.Span.{IsSpan}
 
 abbrev pub no_slot : Slot
 no_slot = record { span = record { least = 0; greatest = 0; present = false; primary = false; secondary = false }; width = 0; after = 0 }

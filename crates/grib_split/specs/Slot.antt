@@ -4,7 +4,7 @@ use Rattle.grib_io.specs.declared.code.Code.{Code}
 use Rattle.grib_packing.specs.Groupings.{width_of}
 use Rattle.grib_split.specs.declared.slot.Slot.{Slot}
 use Rattle.grib_split.specs.Least.{IsLeast}
-use Rattle.grib_split.specs.Span.{IsSpan}
+use Rattle.grib_packing.specs.Span.{IsSpan}
 
 pub record Holds (header reserved : ℕ) (slot : Slot) (run rest : List Code) : Type 0 where
   pub span : IsSpan slot.span run

@@ -2,7 +2,8 @@
 
 ghost use Rattle.std.specs.Prelude.{◌≡◌, ℕ, ◌+◌, ◌-◌, ◌*◌, ◌%◌, ◌^◌, ◌<◌, ◌≤◌, min, length, drop, All};
 ghost use Rattle.grib_packing.specs.Groupings.{width_of};
-ghost use Rattle.grib_split.specs.Costs.{header_of, IsBelow};
+ghost use Rattle.grib_packing.specs.Span.{IsBelow};
+ghost use Rattle.grib_split.specs.Costs.{header_of};
 ghost use Rattle.grib_split.specs.Least.{AreHeads};
 ghost use Rattle.grib_split.specs.Choosing.{BestUpTo, candidate, Waits, Stand};
 

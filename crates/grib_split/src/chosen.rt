@@ -2,7 +2,8 @@
 
 ghost use Rattle.std.specs.Prelude.{◌≡◌, ◌≤◌, length, All, IfOk};
 ghost use Rattle.grib_packing.specs.Groupings.{Chosen, width_of};
-ghost use Rattle.grib_split.specs.Costs.{header_of, IsBelow};
+ghost use Rattle.grib_packing.specs.Span.{IsBelow};
+ghost use Rattle.grib_split.specs.Costs.{header_of};
 
 use crate::choosing::{Costs, least_choices};
 use crate::lengths::lengths_of;

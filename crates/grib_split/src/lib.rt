@@ -6,7 +6,6 @@ mod chosen;
 pub mod laws;
 mod lengths;
 mod slot;
-mod span;
 #[cfg(test)]
 mod tests;
 

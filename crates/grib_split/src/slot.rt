@@ -3,11 +3,10 @@
 ghost use Rattle.std.specs.Prelude.{◌≡◌, ◌+◌, ◌^◌, ◌<◌, ◌≤◌, [], ◌∷◌, List};
 ghost use Rattle.grib_packing.specs.Groupings.{width_of};
 ghost use Rattle.grib_io.specs.declared.code.Code as code_io;
-ghost use Rattle.grib_split.specs.Costs.{IsBelow};
-ghost use Rattle.grib_split.specs.Span.{IsSpan};
+ghost use Rattle.grib_packing.specs.Span.{IsBelow, IsSpan};
 
-use crate::span::Span;
 use grib_io::Code;
+use grib_packing::Span;
 
 /// A run of codes, and what comes after it.
 #[derive(Clone, Copy, Debug)]

@@ -7,6 +7,7 @@ pub mod answers;
 pub mod columns;
 pub mod grammar;
 pub mod lines;
+pub mod packings;
 pub mod references;
 pub mod rows;
 pub mod streams;

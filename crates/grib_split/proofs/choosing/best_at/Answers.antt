@@ -7,7 +7,7 @@ use Rattle.grib_split.specs.declared.choosing.Costs.{Costs}
 use Rattle.grib_split.specs.declared.slot.Slot.{Slot}
 use Rattle.grib_split.specs.Costs.{header_of}
 use Rattle.grib_split.specs.Least.{with_first}
-use Rattle.grib_split.specs.Span.{IsSpan}
+use Rattle.grib_packing.specs.Span.{IsSpan}
 use Rattle.grib_split.specs.Choosing.{BestUpTo, candidate, slot_of, Standing, Waiting, Waits}
 use Rattle.grib_split.proofs.Bounds.{waiting_ordered, waiting_small, cost_bound}
 use Rattle.grib_split.proofs.Steps.{standing_next, slot_here, slot_there, slot_before}

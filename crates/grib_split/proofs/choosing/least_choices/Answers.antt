@@ -7,7 +7,7 @@ use Rattle.grib_split.specs.declared.slot.Slot.{Slot}
 use Rattle.grib_split.specs.Costs.{header_of}
 use Rattle.grib_split.specs.Least.{IsLeast}
 use Rattle.grib_split.specs.Choosing.{Stand, Waits}
-use Rattle.grib_split.specs.Span.{IsSpan}
+use Rattle.grib_packing.specs.Span.{IsSpan}
 use Rattle.grib_split.proofs.Choices.{HeadsFrom, waits_from, cost_of_best, head_of_best, heads_more}
 use Rattle.grib_split.proofs.choosing.least_choices.Goals as goal
 

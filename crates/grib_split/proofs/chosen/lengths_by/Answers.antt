@@ -1,9 +1,8 @@
-use Rattle.std.proofs.Common.{◌≡◌, ◌∙◌, length}
+use Rattle.std.proofs.Common.{◌∙◌}
 use Rattle.std.specs.Prelude.{IfOk, Ok, Err}
 use Rattle.std.specs.declared.result.Result.{Result}
-use Rattle.grib_packing.specs.Groupings.{Chosen, width_of}
+use Rattle.grib_packing.specs.Groupings.{width_of}
 use Rattle.grib_split.specs.Costs.{header_of}
-use Rattle.grib_split.specs.Least.{Follows}
 use Rattle.grib_split.proofs.Following.{following_chosen}
 use Rattle.grib_split.proofs.Heads.{heads_choices}
 use Rattle.grib_split.proofs.chosen.lengths_by.Goals as goal

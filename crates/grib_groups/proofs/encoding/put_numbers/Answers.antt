@@ -1,0 +1,42 @@
+use Rattle.std.proofs.Common.{arith, length, get_or}
+use Rattle.grib_packing.specs.Packed.{group_fields}
+use Rattle.grib_groups.proofs.Parts.{below_run, below_after, left_padded, no_parts, grouping-within, grouping-next, part_more, part_room}
+use Rattle.grib_groups.proofs.encoding.put_numbers.Goals as goal
+
+pub split_at-requires : goal.split_at-requires
+split_at-requires c = grouping-within c.args.lengths.now c.loop-length.length-index (omega arith) (length c.loop-length.rest.now) c.loop-length.invariant.grouping
+
+pub put_group-requires-clause-codes : goal.put_group-requires-clause-codes
+put_group-requires-clause-codes c = below_run c.args.reserved c.loop-length.rest.now c.split_at.result.0.now _ c.split_at.ensures.front c.loop-length.invariant.codes
+
+pub put_group-requires-clause-room : goal.put_group-requires-clause-room
+put_group-requires-clause-room c =
+    part_room c.args.lengths.now c.loop-length.length-index (omega arith) (group_fields c.args.reserved c.args.bits) c.args.out.now c.loop-length.out _ c.loop-length.rest.now c.split_at.result.0.now
+    c.split_at.ensures.front c.loop-length.invariant.written c.requires.room
+
+pub loop-length-preserved : goal.loop-length-preserved
+loop-length-preserved c =
+    let lengths = c.args.lengths.now in
+    let i = c.loop-length.length-index in
+    let rest = c.loop-length.rest.now in
+    let run = c.split_at.result.0.now in
+    let after = c.split_at.result.1.now in
+    record {
+      grouping = grouping-next lengths i (omega arith) rest after c.split_at.ensures.back c.loop-length.invariant.grouping;
+      codes = below_after c.args.reserved rest after (get_or lengths i 0) c.split_at.ensures.back c.loop-length.invariant.codes;
+      written =
+          part_more lengths i (omega arith) (group_fields c.args.reserved c.args.bits) c.args.out.now c.loop-length.out c.put_group.new.out _ rest run after
+          c.split_at.ensures.front c.split_at.ensures.back c.loop-length.invariant.written c.put_group.ensures.bits c.put_group.ensures.spare;
+    }
+
+pub returns-clause-bits : goal.returns-clause-bits
+returns-clause-bits c =
+    (left_padded c.args.out.now c.loop-length.out c.align.new.self _ _
+    (no_parts (group_fields c.args.reserved c.args.bits) c.args.lengths.now c.loop-length.length-index c.loop-length.rest.now (omega arith))
+    c.loop-length.invariant.written c.requires.whole c.align.ensures.bits c.align.ensures.spare).bits
+
+pub returns-clause-spare : goal.returns-clause-spare
+returns-clause-spare c =
+    (left_padded c.args.out.now c.loop-length.out c.align.new.self _ _
+    (no_parts (group_fields c.args.reserved c.args.bits) c.args.lengths.now c.loop-length.length-index c.loop-length.rest.now (omega arith))
+    c.loop-length.invariant.written c.requires.whole c.align.ensures.bits c.align.ensures.spare).spare

@@ -1,0 +1,15 @@
+use Rattle.std.proofs.Common.{length, drop, map, All}
+use Rattle.grib_packing.specs.Groupings.{IsGrouping, runs, joined}
+use Rattle.grib_packing.specs.Packed.{group_fields}
+use Rattle.grib_packing.specs.Span.{IsBelow}
+use Rattle.grib_groups.proofs.Parts.{Left}
+use Rattle.grib_groups.proofs.encoding.put_numbers.Given as goal
+
+abbrev pub invariant-loop-length : goal.invariant-loop-length
+invariant-loop-length l =
+    let left = runs (drop l.length-index l.lengths) l.rest in
+    record {
+      grouping : IsGrouping (length l.rest) (drop l.length-index l.lengths);
+      codes : All (IsBelow l.reserved) l.rest;
+      written : Left l.initial.out l.out (joined (map (group_fields l.reserved l.bits) (runs l.lengths l.fn.codes))) (joined (map (group_fields l.reserved l.bits) left));
+    }

@@ -1,0 +1,44 @@
+use Rattle.std.proofs.Common.{◌^◌, ◌<◌, arith, length}
+use Rattle.grib_packing.specs.Packed.{reference_of}
+use Rattle.grib_groups.proofs.Parts.{left_padded, no_fields, grouping-within, grouping-next, fits-next, fits-here, field_more, field_room}
+use Rattle.grib_groups.proofs.encoding.put_references.Goals as goal
+
+pub split_at-requires : goal.split_at-requires
+split_at-requires c = grouping-within c.args.lengths.now c.loop-length.length-index (omega arith) (length c.loop-length.rest.now) c.loop-length.invariant.grouping
+
+pub put-requires-clause-fits : goal.put-requires-clause-fits
+put-requires-clause-fits c =
+    fits-here c.args.lengths.now c.loop-length.length-index (omega arith) (reference_of c.args.bits) (2 ^ c.args.bits) c.reference.result c.loop-length.rest.now c.split_at.result.0.now
+    c.split_at.ensures.front (c.reference.ensures c.split_at.result.0.now c.of.ensures.span) c.loop-length.invariant.fits
+
+pub put-requires-clause-room : goal.put-requires-clause-room
+put-requires-clause-room c =
+    field_room c.args.lengths.now c.loop-length.length-index (omega arith) (reference_of c.args.bits) c.args.bits c.args.out.now c.loop-length.out _ c.loop-length.rest.now
+    c.loop-length.invariant.written c.requires.room
+
+pub loop-length-preserved : goal.loop-length-preserved
+loop-length-preserved c =
+    let lengths = c.args.lengths.now in
+    let i = c.loop-length.length-index in
+    let rest = c.loop-length.rest.now in
+    let run = c.split_at.result.0.now in
+    let after = c.split_at.result.1.now in
+    record {
+      grouping = grouping-next lengths i (omega arith) rest after c.split_at.ensures.back c.loop-length.invariant.grouping;
+      fits = fits-next lengths i (omega arith) (λ xs. reference_of c.args.bits xs < 2 ^ c.args.bits) rest after c.split_at.ensures.back c.loop-length.invariant.fits;
+      written =
+          field_more lengths i (omega arith) (reference_of c.args.bits) c.args.bits c.args.out.now c.loop-length.out c.put.new.self _ c.reference.result rest run after
+          c.split_at.ensures.front c.split_at.ensures.back (c.reference.ensures run c.of.ensures.span) c.loop-length.invariant.written c.put.ensures.bits c.put.ensures.spare;
+    }
+
+pub returns-clause-bits : goal.returns-clause-bits
+returns-clause-bits c =
+    (left_padded c.args.out.now c.loop-length.out c.align.new.self _ _
+    (no_fields (reference_of c.args.bits) c.args.bits c.args.lengths.now c.loop-length.length-index c.loop-length.rest.now (omega arith))
+    c.loop-length.invariant.written c.requires.whole c.align.ensures.bits c.align.ensures.spare).bits
+
+pub returns-clause-spare : goal.returns-clause-spare
+returns-clause-spare c =
+    (left_padded c.args.out.now c.loop-length.out c.align.new.self _ _
+    (no_fields (reference_of c.args.bits) c.args.bits c.args.lengths.now c.loop-length.length-index c.loop-length.rest.now (omega arith))
+    c.loop-length.invariant.written c.requires.whole c.align.ensures.bits c.align.ensures.spare).spare

@@ -1,0 +1,50 @@
+use Rattle.std.proofs.Common.{◌^◌, ◌<◌, ◌∙◌, arith, length, get_or}
+use Rattle.grib_packing.specs.Groupings.{width_of}
+use Rattle.grib_groups.proofs.Parts.{below_run, below_after, left_padded, no_fields, grouping-within, grouping-next, fits-next, fits-here, field_more, field_room}
+use Rattle.grib_groups.proofs.encoding.put_widths.Goals as goal
+
+pub split_at-requires : goal.split_at-requires
+split_at-requires c = grouping-within c.args.lengths.now c.loop-length.length-index (omega arith) (length c.loop-length.rest.now) c.loop-length.invariant.grouping
+
+pub width-requires-clause-small : goal.width-requires-clause-small
+width-requires-clause-small c =
+    let below = below_run c.args.reserved c.loop-length.rest.now c.split_at.result.0.now _ c.split_at.ensures.front c.loop-length.invariant.codes in
+    c.of.ensures.small c.args.reserved c.requires.reserved below
+
+pub put-requires-clause-fits : goal.put-requires-clause-fits
+put-requires-clause-fits c =
+    fits-here c.args.lengths.now c.loop-length.length-index (omega arith) (width_of c.args.reserved) (2 ^ c.args.bits) c.from.result c.loop-length.rest.now c.split_at.result.0.now
+    c.split_at.ensures.front (c.from.ensures ∙ c.width.ensures.is c.split_at.result.0.now c.of.ensures.span) c.loop-length.invariant.fits
+
+pub put-requires-clause-room : goal.put-requires-clause-room
+put-requires-clause-room c =
+    field_room c.args.lengths.now c.loop-length.length-index (omega arith) (width_of c.args.reserved) c.args.bits c.args.out.now c.loop-length.out _ c.loop-length.rest.now
+    c.loop-length.invariant.written c.requires.room
+
+pub loop-length-preserved : goal.loop-length-preserved
+loop-length-preserved c =
+    let lengths = c.args.lengths.now in
+    let i = c.loop-length.length-index in
+    let rest = c.loop-length.rest.now in
+    let run = c.split_at.result.0.now in
+    let after = c.split_at.result.1.now in
+    record {
+      grouping = grouping-next lengths i (omega arith) rest after c.split_at.ensures.back c.loop-length.invariant.grouping;
+      codes = below_after c.args.reserved rest after (get_or lengths i 0) c.split_at.ensures.back c.loop-length.invariant.codes;
+      fits = fits-next lengths i (omega arith) (λ xs. width_of c.args.reserved xs < 2 ^ c.args.bits) rest after c.split_at.ensures.back c.loop-length.invariant.fits;
+      written =
+          field_more lengths i (omega arith) (width_of c.args.reserved) c.args.bits c.args.out.now c.loop-length.out c.put.new.self _ c.from.result rest run after
+          c.split_at.ensures.front c.split_at.ensures.back (c.from.ensures ∙ c.width.ensures.is run c.of.ensures.span) c.loop-length.invariant.written c.put.ensures.bits c.put.ensures.spare;
+    }
+
+pub returns-clause-bits : goal.returns-clause-bits
+returns-clause-bits c =
+    (left_padded c.args.out.now c.loop-length.out c.align.new.self _ _
+    (no_fields (width_of c.args.reserved) c.args.bits c.args.lengths.now c.loop-length.length-index c.loop-length.rest.now (omega arith))
+    c.loop-length.invariant.written c.requires.whole c.align.ensures.bits c.align.ensures.spare).bits
+
+pub returns-clause-spare : goal.returns-clause-spare
+returns-clause-spare c =
+    (left_padded c.args.out.now c.loop-length.out c.align.new.self _ _
+    (no_fields (width_of c.args.reserved) c.args.bits c.args.lengths.now c.loop-length.length-index c.loop-length.rest.now (omega arith))
+    c.loop-length.invariant.written c.requires.whole c.align.ensures.bits c.align.ensures.spare).spare

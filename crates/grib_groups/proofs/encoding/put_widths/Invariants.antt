@@ -1,0 +1,16 @@
+use Rattle.std.proofs.Common.{◌^◌, ◌<◌, length, drop, map, All}
+use Rattle.grib_packing.specs.Groupings.{IsGrouping, runs, width_of}
+use Rattle.grib_packing.specs.Packed.{fields}
+use Rattle.grib_packing.specs.Span.{IsBelow}
+use Rattle.grib_groups.proofs.Parts.{Left}
+use Rattle.grib_groups.proofs.encoding.put_widths.Given as goal
+
+abbrev pub invariant-loop-length : goal.invariant-loop-length
+invariant-loop-length l =
+    let left = runs (drop l.length-index l.lengths) l.rest in
+    record {
+      grouping : IsGrouping (length l.rest) (drop l.length-index l.lengths);
+      codes : All (IsBelow l.reserved) l.rest;
+      fits : All (λ run. width_of l.reserved run < 2 ^ l.bits) left;
+      written : Left l.initial.out l.out (fields l.bits (map (width_of l.reserved) (runs l.lengths l.fn.codes))) (fields l.bits (map (width_of l.reserved) left));
+    }

@@ -1,0 +1,38 @@
+-- What groups are written from.
+use Rattle.std.specs.Prelude.{◌≡◌, ℕ, ◌+◌, ◌-◌, ◌^◌, ◌<◌, ◌≤◌, None, List, length, drop, get_or, sum, All}
+use Rattle.grib_io.specs.declared.code.Code.{Code}
+use Rattle.grib_io.specs.declared.code.Code.TheVariants.{Present, Primary, Secondary}
+use Rattle.grib_io.specs.Rows.{first_fault}
+use Rattle.grib_packing.specs.declared.layout.Layout.{Layout}
+use Rattle.grib_packing.specs.Groupings.{IsGrouping, length_bits, reference_bits_of, width_bits_of}
+use Rattle.grib_packing.specs.Groups.{group_rows, grouped, lengths, list_rows, widths}
+use Rattle.grib_packing.specs.Span.{IsTold}
+
+-- a number is no less than the reference of its group, and its packed number has no more bits than the width
+abbrev pub IsPackable : ℕ → ℕ → Code → Type 0
+IsPackable width reference (Present n) = (reference ≤ n) × (n - reference < 2 ^ width)
+IsPackable width reference Primary = Unit {0}
+IsPackable width reference Secondary = Unit {0}
+
+-- the layout of codes that are written as groups of these lengths
+pub record LaysOut (layout : Layout) (codes : List Code) (lengths : List ℕ) : Type 0 where
+  pub management : layout.management ≤ 2
+  pub codes_are_told : All (IsTold layout.management) codes
+  pub grouping : IsGrouping (length codes) lengths
+  pub groups : layout.groups ≡ length lengths
+  pub reference_bits : layout.reference_bits ≡ reference_bits_of layout.management codes
+  pub width_reference : layout.width_reference ≡ 0
+  pub width_bits : layout.width_bits ≡ width_bits_of layout.management codes
+  pub length_reference : layout.length_reference ≡ 1
+  pub length_increment : layout.length_increment ≡ 1
+  pub last_length : layout.last_length ≡ get_or lengths (length lengths - 1) 0
+  pub coded_length_bits : layout.length_bits ≡ length_bits
+
+-- a Section 7 with groups after `skip` octets of extra descriptors reads back: its rows pass, its widths are
+-- 32 bits at most, its lengths are those of all codes, and the codes are these
+pub record ReadsBack (layout : Layout) (s7 : List ℕ) (skip : ℕ) (codes : List Code) : Type 0 where
+  pub list_rows_pass : first_fault (list_rows layout (length s7) skip) ≡ None
+  pub widths_fit : All (λ w. w ≤ 32) (widths layout (drop (5 + skip) s7))
+  pub total : sum (lengths layout (drop (5 + skip) s7)) ≡ length codes
+  pub group_rows_pass : first_fault (group_rows layout s7 skip (length codes)) ≡ None
+  pub codes_stand : grouped layout (drop (5 + skip) s7) ≡ codes

@@ -1,0 +1,181 @@
+-- Spans of runs, and their widths.
+use Rattle.std.proofs.Common.{◌≡◌, ℕ, zero, suc, ◌+◌, ◌-◌, ◌^◌, ◌<◌, ◌≤◌, min, All, Bool, true, false, not, ◌&&◌, ◌||◌, cond, List, [], ◌∷◌, ◌++◌, length, nat_lt, ◌==◌, eq-eqb, ne_eqb, refl, ap, sym, ◌∙◌, arith, lt-ltb, le-ltb}
+use Rattle.std.specs.List.{range_with_len, list_any, list_all}
+use Rattle.std.proofs.Math.Bool.{and-false}
+use Rattle.std.proofs.lemmas.List.FromFn.{length-range_with_len}
+use Rattle.std.proofs.Math.Nat.{pow-le-pow_right}
+use Rattle.grib_io.specs.declared.code.Code.{Code}
+use Rattle.grib_io.specs.declared.code.Code.TheVariants.{Present, Primary, Secondary}
+use Rattle.grib_io.specs.Rows.{first_place}
+use Rattle.grib_io.proofs.Places.{NoneOf, first_place-at}
+use Rattle.std.proofs.lemmas.List.Elements.{All-head, All-tail}
+use Rattle.grib_packing.specs.Packed.{reference_of}
+use Rattle.grib_packing.specs.Span.{IsBelow}
+use Rattle.grib_packing.specs.Groupings.{digits, width_of, greatest, smallest, present_codes, is_present, is_primary, is_secondary}
+
+-- ---- the number of binary digits
+
+range-split : (a m n : ℕ) → range_with_len a (m + suc n) ≡ range_with_len a m ++ (a + m) ∷ range_with_len (a + m + 1) n
+range-split a zero n =
+    let e : 0 + suc n ≡ suc n = omega arith in
+    let at : a ≡ a + 0 = omega arith in
+    ap (range_with_len a) e ∙ ap (λ k. k ∷ range_with_len (k + 1) n) at
+range-split a (suc m) n =
+    let e : suc m + suc n ≡ suc (m + suc n) = omega arith in
+    let at : a + 1 + m ≡ a + suc m = omega arith in
+    ap (range_with_len a) e ∙ ap (λ xs. a ∷ xs) (range-split (a + 1) m n ∙ ap (λ k. range_with_len (a + 1) m ++ k ∷ range_with_len (k + 1) n) at)
+
+-- none of the widths from a on, below w, holds the number
+none_below : (number w a m : ℕ) → a + m ≤ w → 1 ≤ w → 2 ^ (w - 1) ≤ number → NoneOf (λ v. nat_lt number (2 ^ v)) (range_with_len a m)
+none_below number w a zero room some high = tt
+none_below number w a (suc m) room some high =
+    let low : 2 ^ a ≤ 2 ^ (w - 1) = pow-le-pow_right (omega arith) (omega arith) in
+    (le-ltb number (2 ^ a) (omega (arith, low, high)), none_below number w (a + 1) m (omega arith) some high)
+
+none_of_all : (number w : ℕ) → (1 ≤ w → 2 ^ (w - 1) ≤ number) → NoneOf (λ v. nat_lt number (2 ^ v)) (range_with_len 0 w)
+none_of_all number zero high = tt
+none_of_all number (suc w) high = none_below number (suc w) 0 (suc w) (omega arith) (omega arith) (high (omega arith))
+
+pub digits-is : (number w : ℕ) → w ≤ 64 → number < 2 ^ w → (1 ≤ w → 2 ^ (w - 1) ≤ number) → digits number ≡ w
+digits-is number w most holds high =
+    let test : ℕ → Bool = λ v. nat_lt number (2 ^ v) in
+    let all : 65 ≡ w + suc (64 - w) = omega arith in
+    let zero_on : 0 + w ≡ w = omega arith in
+    let split : range_with_len 0 65 ≡ range_with_len 0 w ++ w ∷ range_with_len (w + 1) (64 - w) =
+    ap (range_with_len 0) all ∙ (range-split 0 w (64 - w) ∙ ap (λ k. range_with_len 0 w ++ k ∷ range_with_len (k + 1) (64 - w)) zero_on) in
+    let found : first_place test (range_with_len 0 65) ≡ length (range_with_len 0 w) + 1 =
+    ap (first_place test) split
+    ∙ first_place-at test (range_with_len 0 w) w (range_with_len (w + 1) (64 - w)) (none_of_all number w high) (lt-ltb number (2 ^ w) holds) in
+    let e : first_place test (range_with_len 0 65) - 1 ≡ w = omega (arith, found, length-range_with_len 0 w) in e
+
+-- ---- runs with one code more
+
+pub smallest-more : (n : ℕ) (xs : List ℕ) → 0 < length xs → smallest (n ∷ xs) ≡ min n (smallest xs)
+smallest-more n [] some = absurd (omega arith)
+smallest-more n (x ∷ xs) some = refl
+
+pub smallest-one : (n : ℕ) (xs : List ℕ) → length xs ≡ 0 → smallest (n ∷ xs) ≡ n
+smallest-one n [] none = refl
+smallest-one n (x ∷ xs) none = absurd (omega arith)
+
+pub greatest-one : (n : ℕ) (xs : List ℕ) → length xs ≡ 0 → greatest (n ∷ xs) ≡ n
+greatest-one n [] none = omega arith
+greatest-one n (x ∷ xs) none = absurd (omega arith)
+
+pub some_present : (run : List Code) → list_any is_present run ≡ true → 0 < length (present_codes run)
+some_present [] e = cc
+some_present (Present n ∷ run) e = omega arith
+some_present (Primary ∷ run) e = some_present run e
+some_present (Secondary ∷ run) e = some_present run e
+
+pub none_present : (run : List Code) → list_any is_present run ≡ false → length (present_codes run) ≡ 0
+none_present [] e = refl
+none_present (Present n ∷ run) e = cc
+none_present (Primary ∷ run) e = none_present run e
+none_present (Secondary ∷ run) e = none_present run e
+
+pub smallest_at_most : (xs : List ℕ) → smallest xs ≤ greatest xs
+smallest_at_most [] = omega arith
+smallest_at_most (x ∷ []) = omega arith
+smallest_at_most (x ∷ y ∷ xs) = omega (arith, smallest_at_most (y ∷ xs))
+
+-- ---- which kinds of codes a run has
+
+all_primary : (run : List Code) → list_all is_primary run ≡ (not (list_any is_present run) && not (list_any is_secondary run))
+all_primary [] = refl
+all_primary (Present n ∷ run) = refl
+all_primary (Primary ∷ run) = all_primary run
+all_primary (Secondary ∷ run) = sym (and-false (not (list_any is_present run)))
+
+all_secondary : (run : List Code) → list_all is_secondary run ≡ (not (list_any is_present run) && not (list_any is_primary run))
+all_secondary [] = refl
+all_secondary (Present n ∷ run) = refl
+all_secondary (Primary ∷ run) = sym (and-false (not (list_any is_present run)))
+all_secondary (Secondary ∷ run) = all_secondary run
+
+all_present : (run : List Code) → list_all is_present run ≡ (not (list_any is_primary run) && not (list_any is_secondary run))
+all_present [] = refl
+all_present (Present n ∷ run) = all_present run
+all_present (Primary ∷ run) = refl
+all_present (Secondary ∷ run) = sym (and-false (not (list_any is_primary run)))
+
+-- ---- widths by kinds
+
+abbrev pub width_by : Bool → Bool → Bool → ℕ → ℕ → ℕ → ℕ
+width_by present primary secondary least most k =
+    cond present (cond ((not primary && not secondary) && (most == least)) 0 (digits (most - least + k)))
+    (cond (primary && secondary) 1 0)
+
+width_cases : (present primary secondary : Bool) (count least most k : ℕ)
+    → (present ≡ true → 0 < count) → (present ≡ false → count ≡ 0)
+    → cond (((not present && not secondary) || (not present && not primary)) || ((not primary && not secondary) && (most == least))) 0
+    (cond (count == 0) 1 (digits (most - least + k)))
+    ≡ width_by present primary secondary least most k
+width_cases true true secondary count least most k some none = rw (ne_eqb count 0 (λ e. let more = some refl in omega arith)) refl
+width_cases true false true count least most k some none = rw (ne_eqb count 0 (λ e. let more = some refl in omega arith)) refl
+width_cases true false false count least most k some none = rw (ne_eqb count 0 (λ e. let more = some refl in omega arith)) refl
+width_cases false true true count least most k some none = rw (eq-eqb count 0 (none refl)) refl
+width_cases false true false count least most k some none = refl
+width_cases false false true count least most k some none = refl
+width_cases false false false count least most k some none = refl
+
+pub width_of-by : (k : ℕ) (run : List Code)
+    → width_of k run ≡ width_by (list_any is_present run) (list_any is_primary run) (list_any is_secondary run) (smallest (present_codes run)) (greatest (present_codes run)) k
+width_of-by k run =
+    let numbers = present_codes run in
+    let primary = all_primary run in
+    let secondary = all_secondary run in
+    let present = all_present run in
+    rw (primary, secondary, present)
+    (width_cases (list_any is_present run) (list_any is_primary run) (list_any is_secondary run) (length numbers) (smallest numbers) (greatest numbers) k
+    (some_present run) (none_present run))
+
+-- a run with a number, all its codes being the same or not, and one without
+pub width_of-marks : (k : ℕ) (run : List Code) → list_any is_present run ≡ false
+    → width_of k run ≡ cond (list_any is_primary run && list_any is_secondary run) 1 0
+width_of-marks k run none = width_of-by k run ∙ rw none refl
+
+pub width_of-constant : (k : ℕ) (run : List Code) → list_any is_present run ≡ true
+    → ((not (list_any is_primary run) && not (list_any is_secondary run)) && (greatest (present_codes run) == smallest (present_codes run))) ≡ true
+    → width_of k run ≡ 0
+width_of-constant k run some same = width_of-by k run ∙ rw (some, same) refl
+
+pub width_of-numbers : (k : ℕ) (run : List Code) → list_any is_present run ≡ true
+    → ((not (list_any is_primary run) && not (list_any is_secondary run)) && (greatest (present_codes run) == smallest (present_codes run))) ≡ false
+    → width_of k run ≡ digits (greatest (present_codes run) - smallest (present_codes run) + k)
+width_of-numbers k run some other = width_of-by k run ∙ rw (some, other) refl
+
+-- ---- references by kinds
+
+abbrev pub reference_by : Bool → Bool → Bool → ℕ → ℕ → ℕ
+reference_by present primary secondary least b = cond present least (cond secondary (cond primary 0 (2 ^ b - 2)) (2 ^ b - 1))
+
+reference_cases : (present primary secondary : Bool) (count least b : ℕ)
+    → (present ≡ true → 0 < count) → (present ≡ false → count ≡ 0)
+    → cond (count == 0) (cond (not present && not secondary) (2 ^ b - 1) (cond (not present && not primary) (2 ^ b - 2) 0)) least
+    ≡ reference_by present primary secondary least b
+reference_cases true primary secondary count least b some none = rw (ne_eqb count 0 (λ e. let more = some refl in omega arith)) refl
+reference_cases false true true count least b some none = rw (eq-eqb count 0 (none refl)) refl
+reference_cases false true false count least b some none = rw (eq-eqb count 0 (none refl)) refl
+reference_cases false false true count least b some none = rw (eq-eqb count 0 (none refl)) refl
+reference_cases false false false count least b some none = rw (eq-eqb count 0 (none refl)) refl
+
+pub reference_of-by : (b : ℕ) (run : List Code)
+    → reference_of b run ≡ reference_by (list_any is_present run) (list_any is_primary run) (list_any is_secondary run) (smallest (present_codes run)) b
+reference_of-by b run =
+    let numbers = present_codes run in
+    let primary = all_primary run in
+    let secondary = all_secondary run in
+    rw (primary, secondary)
+    (reference_cases (list_any is_present run) (list_any is_primary run) (list_any is_secondary run) (length numbers) (smallest numbers) b
+    (some_present run) (none_present run))
+
+-- ---- how large numbers are
+
+pub small_run : (k : ℕ) (run : List Code) → k ≤ 2 → All (IsBelow k) run → greatest (present_codes run) + k < 2 ^ 32
+small_run k [] few each = omega arith
+small_run k (Present n ∷ run) few each =
+    let here : n + k < 2 ^ 32 = All-head (IsBelow k) (Present n) run each in
+    omega (arith, here, small_run k run few (All-tail (IsBelow k) (Present n) run each))
+small_run k (Primary ∷ run) few each = small_run k run few (All-tail (IsBelow k) Primary run each)
+small_run k (Secondary ∷ run) few each = small_run k run few (All-tail (IsBelow k) Secondary run each)

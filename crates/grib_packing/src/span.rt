@@ -1,0 +1,153 @@
+//! What a run of codes spans.
+
+ghost use Rattle.std.specs.Prelude.{◌≡◌, ℕ, ◌+◌, ◌<◌, ◌≤◌, ◌^◌, ◌∷◌, [], List, not, ◌&&◌, ◌==◌, cond, All};
+ghost use Rattle.grib_packing.specs.Groupings.{digits, width_of};
+ghost use Rattle.grib_packing.specs.Packed.{reference_of};
+ghost use Rattle.grib_io.specs.declared.code.Code as code_io;
+ghost use Rattle.grib_packing.specs.Span.{IsBelow, IsSpan};
+
+use grib_io::Code;
+
+/// What the width of a run of codes rests on.
+#[derive(Clone, Copy, Debug)]
+pub struct Span {
+    /// The least and the greatest number, 0 where the run has none.
+    least: u64,
+    greatest: u64,
+    /// Which kinds of codes the run has.
+    present: bool,
+    primary: bool,
+    secondary: bool,
+}
+
+impl Span {
+    /// That of no codes.
+    pub fn none() -> Span
+        ensures { IsSpan result [] }
+    {
+        Span {
+            least: 0,
+            greatest: 0,
+            present: false,
+            primary: false,
+            secondary: false,
+        }
+    }
+
+    /// That of these codes.
+    pub fn of(run: &[Code]) -> Span
+        ensures span { IsSpan result run.now }
+        ensures ordered { result.least ≤ result.greatest }
+        ensures small { (k : ℕ) → k ≤ 2 → All (IsBelow k) run.now → result.greatest + k < 2 ^ 32 }
+    {
+        let mut span = Span::none();
+        for done in 0..run.len() {
+            span = span.with(run[run.len() - 1 - done]);
+        }
+        span
+    }
+
+    /// That of the run with this code before it.
+    #[inline]
+    pub fn with(self, code: Code) -> Span
+        ensures span { (run : List code_io.Code) → IsSpan self run → IsSpan result (code ∷ run) }
+        ensures ordered { self.least ≤ self.greatest → result.least ≤ result.greatest }
+        ensures small { (k : ℕ) → self.greatest + k < 2 ^ 32 → IsBelow k code → result.greatest + k < 2 ^ 32 }
+    {
+        match code {
+            Code::Present(number) => self.with_number(number),
+            Code::Primary => Span {
+                primary: true,
+                ..self
+            },
+            Code::Secondary => Span {
+                secondary: true,
+                ..self
+            },
+        }
+    }
+
+    /// That of the run with this number before it.
+    #[inline]
+    fn with_number(self, number: u64) -> Span
+        ensures span { (run : List code_io.Code) → IsSpan self run → IsSpan result (Code.Present number ∷ run) }
+        ensures ordered { self.least ≤ self.greatest → result.least ≤ result.greatest }
+        ensures small { (k : ℕ) → self.greatest + k < 2 ^ 32 → number + k < 2 ^ 32 → result.greatest + k < 2 ^ 32 }
+    {
+        if self.present {
+            Span {
+                least: number.min(self.least),
+                greatest: number.max(self.greatest),
+                ..self
+            }
+        } else {
+            Span {
+                least: number,
+                greatest: number,
+                present: true,
+                ..self
+            }
+        }
+    }
+
+    /// The width of the run as a group, in bits, with this many codes reserved for missing points.
+    #[inline]
+    pub fn width(self, reserved: u32) -> u32
+        requires ordered { self.least ≤ self.greatest }
+        requires small { self.greatest + reserved < 2 ^ 32 }
+        ensures is { (run : List code_io.Code) → IsSpan self run → result ≡ width_of reserved run }
+        ensures few { result ≤ 32 }
+    {
+        if !self.present {
+            return self.width_of_marks();
+        }
+        if self.is_constant() {
+            return 0;
+        }
+        bit_length(self.greatest - self.least + u64::from(reserved))
+    }
+
+    /// The reference of the run as a group, where a reference has so many bits: the least number; without
+    /// one all bits set where all are primary missing, one less where all are secondary missing, else 0.
+    #[inline]
+    pub fn reference(self, bits: u32) -> u64
+        requires { bits ≤ 32 }
+        ensures { (run : List code_io.Code) → IsSpan self run → result ≡ reference_of bits run }
+    {
+        if self.present {
+            self.least
+        } else if !self.secondary {
+            (1 << bits) - 1
+        } else if !self.primary {
+            (1u64 << bits).saturating_sub(2)
+        } else {
+            0
+        }
+    }
+
+    /// The width of a run without a number: 1 bit tells two kinds of missing points apart.
+    #[inline]
+    fn width_of_marks(self) -> u32
+        ensures { result ≡ cond (self.primary && self.secondary) 1 0 }
+    {
+        if self.primary && self.secondary { 1 } else { 0 }
+    }
+
+    /// Whether all codes of a run with numbers are the same.
+    #[inline]
+    fn is_constant(self) -> bool
+        ensures { result ≡ ((not self.primary && not self.secondary) && (self.greatest == self.least)) }
+    {
+        !self.primary && !self.secondary && self.greatest == self.least
+    }
+}
+
+/// The number of binary digits of a number.
+#[inline]
+fn bit_length(number: u64) -> u32
+    requires { number < 2 ^ 32 }
+    ensures is { result ≡ digits number }
+    ensures few { result ≤ 32 }
+{
+    u64::BITS - number.leading_zeros()
+}
