@@ -2,7 +2,6 @@
 
 ghost use Rattle.std.specs.Prelude.{◌≡◌, ◌⊎◌, ◌<◌, ◌≤◌, ◌==◌, cond, slice_index, length, Some, None, MatchResult};
 ghost use Rattle.grib_bits.specs.Octets.{StatesItself};
-ghost use Rattle.grib_io.specs.Rows as rows;
 ghost use Rattle.grib_io.specs.Rows.{first_fault, first_fault_at};
 ghost use Rattle.grib_packing.specs.Complex.{complex_rows, layout_of};
 ghost use Rattle.grib_packing.specs.Packing.{packing_rows, packing_template};
@@ -13,6 +12,7 @@ use byteorder::{BigEndian, ByteOrder};
 use grib_groups::Layout;
 use grib_io::{Fault, Reason, Section};
 use grib_simple::{Simple, read_simple};
+use grib2_sections::refusal;
 
 /// What Section 5 says of a field in complex packing (WMO-No. 306, Volume I.2, FM 92 GRIB edition 2, data
 /// representation templates 5.2 and 5.3).
@@ -135,16 +135,5 @@ fn layout(octets: &[u8]) -> Layout
         last_length: BigEndian::read_u32(&octets[42..]),
         length_bits: octets[46],
         management: octets[22],
-    }
-}
-
-/// The refusal at this octet of the message.
-fn refusal(octet: u64, reason: Reason, detail: u64) -> Fault
-    ensures { result ≡ rows.refusal octet reason detail }
-{
-    Fault {
-        octet,
-        reason,
-        detail,
     }
 }
