@@ -29,21 +29,21 @@ pub trait Keeper {
 
 /// The points of a column, which take the places of a mask that are present.
 #[derive(Debug, Drop)]
-pub struct Points {
-    mask: Mask,
+pub struct Points<'a> {
+    mask: &'a Mask,
     points: Vec<Point>,
     /// How many present points follow for certain.
     left: u32,
 }
 
-impl Points {
+impl<'a> Points<'a> {
     /// No points yet.
     ///
     /// # Errors
     ///
-    /// There is no memory for the points. The mask is dropped.
-    pub fn start(alloc: Global, mask: Mask) -> Result<Points, AllocError>
-        ensures { IfOk result (ArePoints mask []) }
+    /// There is no memory for the points.
+    pub fn start(alloc: Global, mask: &'a Mask) -> Result<Points<'a>, AllocError>
+        ensures { IfOk result (ArePoints mask.now []) }
     {
         Ok(Points {
             points: Vec::with_capacity(alloc, mask.len() as usize)?,
@@ -53,37 +53,42 @@ impl Points {
     }
 
     /// Goes on to the next point that is present.
-    #[inline]
-    fn go_on(&mut self)
-        ensures { (mask : List Bool) (seen : List point) → length seen < present_count mask → ArePoints mask seen self.old
-            → ArePoints mask seen self.new × (0 < self.new.left) }
+    #[inline(always)]
+    fn go_on(self) -> Points<'a>
+        ensures { (mask : List Bool) (seen : List point) → length seen < present_count mask → ArePoints mask seen self.entry
+            → ArePoints mask seen result × (0 < result.left) }
     {
-        if self.left == 0 {
-            self.skip_missing();
+        if self.left > 0 {
+            return self;
         }
+        self.skip_missing()
     }
 
-    /// The same where the run of present points has ended.
-    fn skip_missing(&mut self)
-        requires { self.old.left ≡ 0 }
-        ensures { (mask : List Bool) (seen : List point) → length seen < present_count mask → ArePoints mask seen self.old
-            → ArePoints mask seen self.new × (0 < self.new.left) }
+    /// The same where the run of present points has ended. It takes the points by value, so that they stay
+    /// in registers where it is not called.
+    #[cold]
+    #[inline(never)]
+    fn skip_missing(mut self) -> Points<'a>
+        requires { self.left ≡ 0 }
+        ensures { (mask : List Bool) (seen : List point) → length seen < present_count mask → ArePoints mask seen self.entry
+            → ArePoints mask seen result × (0 < result.left) }
     {
         let mut place = self.points.len();
         while place < self.mask.len() as usize {
             let run = self.mask.run(place as u32);
             if run.present {
                 self.left = run.length;
-                return;
+                return self;
             }
             push_missing(&mut self.points, run.length);
             place += run.length as usize;
         }
+        self
     }
 
     /// The points, once all values came.
     pub fn finish(self) -> Vec<Point>
-        ensures { (mask : List Bool) (seen : List point) → ArePoints mask seen self → result.items ≡ points_with_mask mask seen }
+        ensures { (mask : List Bool) (seen : List point) → ArePoints mask seen self.entry → result.items ≡ points_with_mask mask seen }
     {
         let mut points = self.points;
         let left = (self.mask.len() as usize).saturating_sub(points.len());
@@ -92,15 +97,15 @@ impl Points {
     }
 }
 
-impl Keeper for Points {
+impl<'a> Keeper for Points<'a> {
     ghost kept = { PointsKept };
 
-    #[inline]
-    fn keep(mut self, point: Point) -> Points {
-        self.go_on();
-        self.left = self.left.saturating_sub(1);
-        push_within(&mut self.points, point);
-        self
+    #[inline(always)]
+    fn keep(self, point: Point) -> Points<'a> {
+        let mut points = self.go_on();
+        points.left = points.left.saturating_sub(1);
+        push_within(&mut points.points, point);
+        points
     }
 
     ghost none = { points-none };
@@ -136,7 +141,7 @@ fn push_missing(points: &mut Vec<Point>, count: u32)
 }
 
 /// Adds a point for which there is memory.
-#[inline]
+#[inline(always)]
 fn push_within(points: &mut Vec<Point>, point: Point)
     ensures points { vec_len points.old < vec_capacity points.old → points.new.items ≡ points.old.items ++ point ∷ [] }
     ensures capacity { vec_capacity points.old ≤ vec_capacity points.new }

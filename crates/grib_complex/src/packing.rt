@@ -84,10 +84,7 @@ fn unpack(
     requires values { present_count mask.now ≡ value_count section5.now.octets.now }
     ensures { IsUnpacked section5.now.octets.now mask.now section7.now.start section7.now.octets.now result }
 {
-    let Ok(own) = mask.copy(alloc) else {
-        return Err(UnpackFault::Memory);
-    };
-    let Ok(points) = Points::start(alloc, own) else {
+    let Ok(points) = Points::start(alloc, mask) else {
         return Err(UnpackFault::Memory);
     };
     let points = match take_values(alloc, section5, mask.len(), section7, points) {

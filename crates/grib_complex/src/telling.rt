@@ -41,7 +41,7 @@ impl Teller {
     }
 
     /// The point of the next code.
-    #[inline]
+    #[inline(always)]
     pub fn tell(&mut self, code: Code) -> Point
         requires { number_of code < 2 ^ 49 }
         ensures stays { 0 < self.old.beyond → self.new.beyond ≡ self.old.beyond }

@@ -21,7 +21,7 @@ impl<K: Keeper> Taker for Values<K> {
 
     ghost took = { ValuesTook K.kept };
 
-    #[inline]
+    #[inline(always)]
     fn take(self, code: Code) -> Values<K> {
         let Values { mut teller, keeper } = self;
         let point = teller.tell(code);

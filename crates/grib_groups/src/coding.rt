@@ -19,7 +19,7 @@ pub struct Coding {
 impl Coding {
     /// The meaning of the numbers of a group. A group of width 0 has the number 0 alone, and the
     /// reference says whether it is a mark.
-    #[inline]
+    #[inline(always)]
     pub fn of(layout: &Layout, group: Group) -> Coding
         requires width { group.width ≤ 48 }
         requires bits { layout.now.reference_bits ≤ 48 }
@@ -71,7 +71,7 @@ impl Coding {
     }
 
     /// The code of a packed number.
-    #[inline]
+    #[inline(always)]
     pub fn code(self, number: u64) -> Code
         requires { self.reference + number < 2 ^ 64 }
         ensures { result ≡ code_by self number }

@@ -119,7 +119,7 @@ impl Numbers {
     }
 
     /// Takes the numbers of the current group that fit.
-    #[inline]
+    #[inline(always)]
     fn take_some<T: Taker>(&mut self, layout: &Layout, piece: &[u8], at: &mut u64, taker: T) -> T
         requires bits { layout.now.reference_bits ≤ 48 }
         requires short { length piece.now < 2 ^ 32 }
@@ -145,7 +145,7 @@ impl Numbers {
 }
 
 /// How many of `count` numbers have all their bits among the next `bits` ones.
-#[inline]
+#[inline(always)]
 fn count_within(bits: u64, width: u32, count: u32) -> u32
     ensures count { result ≤ count }
     ensures within { result * width ≤ bits }

@@ -12,7 +12,7 @@ use byteorder::{BigEndian, ByteOrder};
 use grib_bits::get_bits;
 
 /// Takes `count` numbers of a group, which stand after the first `at` bits of `octets`.
-#[inline]
+#[inline(always)]
 pub fn take_run<T: Taker>(
     layout: &Layout,
     group: Group,
@@ -40,7 +40,7 @@ pub fn take_run<T: Taker>(
 }
 
 /// Takes `count` numbers of no bits.
-#[inline]
+#[inline(always)]
 fn take_same<T: Taker>(coding: Coding, count: u32, mut taker: T) -> T
     requires limit { coding.reference + 1 ≤ T.limit }
     requires reference { coding.reference < 2 ^ 32 }
@@ -54,7 +54,7 @@ fn take_same<T: Taker>(coding: Coding, count: u32, mut taker: T) -> T
 }
 
 /// How many of `count` numbers begin where eight octets are left.
-#[inline]
+#[inline(always)]
 fn count_in_words(length: u64, at: u64, width: u32, count: u32) -> u32
     requires some { 1 ≤ width }
     requires width { width ≤ 48 }
@@ -74,7 +74,7 @@ fn count_in_words(length: u64, at: u64, width: u32, count: u32) -> u32
 }
 
 /// Takes `count` numbers from words of eight octets.
-#[inline]
+#[inline(always)]
 fn take_from_words<T: Taker>(
     coding: Coding,
     octets: &[u8],
@@ -101,7 +101,7 @@ fn take_from_words<T: Taker>(
 }
 
 /// The number of the `width` bits after the first `at` bits, from the eight octets that begin there.
-#[inline]
+#[inline(always)]
 fn number_in_word(octets: &[u8], at: u64, width: u32) -> u64
     requires some { 1 ≤ width }
     requires width { width ≤ 48 }

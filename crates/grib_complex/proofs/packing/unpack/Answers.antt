@@ -22,10 +22,8 @@ returns c =
     let grouped = not_simple (packing_template s5) c.requires.template in
     let taken = c.in-Ok-take_values.ensures in
     let entries = complex_entries s5 s7 in
-    let count = ap present_count c.in-Ok.ensures ∙ c.requires.values in
-    let are = taken.1.keeps c.in-Ok.own [] (omega (arith, taken.2, count)) c.in-Ok-start.ensures in
-    let points = c.of.ensures ∙ c.finish.ensures c.in-Ok.own entries are
-    ∙ ap (λ (m : List Bool). points_with_mask m entries) c.in-Ok.ensures
+    let are = taken.1.keeps mask [] (omega (arith, taken.2, c.requires.values)) c.in-Ok.ensures in
+    let points = c.of.ensures ∙ c.finish.ensures mask entries are
     ∙ ap (λ (b : Bool). points_with_mask mask (choose b (λ _. simple_entries s5 s7) (λ _. entries))) (sym grouped) in
     let simple = c.in-Ok-read_simple.ensures.1 in (
       ap (λ (b : Bool). choose b (λ _. first_fault (simple_rows s5 (length s7))) (λ _. complex_data_fault s5 s7)) grouped ∙ taken.0,
