@@ -4,7 +4,7 @@ ghost use Rattle.std.specs.Prelude.{◌≡◌, ◌+◌, ◌≤◌, false, length
 ghost use Rattle.grib_bits.specs.Octets.{StatesItself};
 ghost use Rattle.grib2_sections.specs.Frame.{End, Fails, Next, step_from, position_after, mark_fault, frame_fault, ends_at, section_at, may_follow as is_successor};
 
-use crate::refusing::{refusal, truncated};
+use crate::refusing::truncated;
 use byteorder::{BigEndian, ByteOrder};
 use grib_io::{Fault, Reason, Section};
 use std::marker::Model;
@@ -87,14 +87,14 @@ impl Frame {
         }
         let mark = BigEndian::read_u32(&octets[self.place as usize - 1..]);
         if mark == END_MARK && self.last != 7 {
-            return Err(refusal(self.place, Reason::SectionOrder, 8));
+            return Err(Fault::at(self.place, Reason::SectionOrder, 8));
         }
         if mark == END_MARK && last_octet < self.total {
             let left = self.total - last_octet;
-            return Err(refusal(self.place + 4, Reason::LengthDisagrees, left));
+            return Err(Fault::at(self.place + 4, Reason::LengthDisagrees, left));
         }
         if mark != END_MARK && last_octet == self.total {
-            return Err(refusal(self.place, Reason::EndMark, u64::from(mark)));
+            return Err(Fault::at(self.place, Reason::EndMark, u64::from(mark)));
         }
         Ok(mark == END_MARK)
     }
@@ -117,10 +117,10 @@ impl Frame {
         let length = u64::from(BigEndian::read_u32(&octets[before as usize..]));
         let number = octets[before as usize + 4];
         if length < 5 || self.total < before + length + 4 {
-            return Err(refusal(self.place, Reason::SectionLength, length));
+            return Err(Fault::at(self.place, Reason::SectionLength, length));
         }
         if !may_follow(self.last, number) {
-            return Err(refusal(self.place + 4, Reason::SectionOrder, u64::from(number)));
+            return Err(Fault::at(self.place + 4, Reason::SectionOrder, u64::from(number)));
         }
         if present < before + length {
             return Err(truncated(present));

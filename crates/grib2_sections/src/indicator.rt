@@ -4,7 +4,7 @@ ghost use Rattle.std.specs.Prelude.{◌≡◌, take, Some, None, MatchResult};
 ghost use Rattle.grib_io.specs.Rows.{first_fault};
 ghost use Rattle.grib2_sections.specs.Head.{indicator, head_rows, head_of};
 
-use crate::refusing::{refusal, truncated};
+use crate::refusing::truncated;
 use byteorder::{BigEndian, ByteOrder};
 use grib_io::{Fault, Reason};
 
@@ -37,12 +37,12 @@ pub fn read_head(octets: &[u8]) -> Result<Head, Fault>
     }
     let edition = octets[7];
     if edition != 1 && edition != 2 {
-        return Err(refusal(8, Reason::Edition, u64::from(edition)));
+        return Err(Fault::at(8, Reason::Edition, u64::from(edition)));
     }
     if edition == 1 {
         let total = u64::from(BigEndian::read_u24(&octets[4..]));
         if total < 12 {
-            return Err(refusal(5, Reason::TotalLength, total));
+            return Err(Fault::at(5, Reason::TotalLength, total));
         }
         return Ok(Head {
             edition,
@@ -55,7 +55,7 @@ pub fn read_head(octets: &[u8]) -> Result<Head, Fault>
     }
     let total = BigEndian::read_u64(&octets[8..]);
     if total < 20 || total > LONGEST {
-        return Err(refusal(9, Reason::TotalLength, total));
+        return Err(Fault::at(9, Reason::TotalLength, total));
     }
     Ok(Head {
         edition,

@@ -16,5 +16,5 @@ pub use identification::{Identification, read_identification, write_identificati
 pub use indicator::{Head, read_head};
 pub use number::{write_number, write_u8, write_u16, write_u32};
 pub use reading::{u8_at, u16_at, u32_at, uint_at};
-pub use refusing::{refusal, refusal_in};
+pub use refusing::refusal_in;
 pub use section::{write_octets, write_section};

@@ -5,17 +5,6 @@ ghost use Rattle.grib_io.specs.Rows as rows;
 
 use grib_io::{Fault, Reason, Section};
 
-/// The refusal at this octet of a message, for this reason, with this detail.
-pub fn refusal(octet: u64, reason: Reason, detail: u64) -> Fault
-    ensures { result ≡ rows.refusal octet reason detail }
-{
-    Fault {
-        octet,
-        reason,
-        detail,
-    }
-}
-
 /// The refusal at this octet of the section, counted from 1, for this reason, with this detail.
 pub fn refusal_in(section: &Section<'_>, place: u64, reason: Reason, detail: u64) -> Fault
     requires high { section.now.start ≤ 268435456 }
@@ -23,7 +12,7 @@ pub fn refusal_in(section: &Section<'_>, place: u64, reason: Reason, detail: u64
     requires near { place ≤ 2 ^ 32 }
     ensures { result ≡ rows.fault_at section.now.start (rows.refusal place reason detail) }
 {
-    refusal(section.start + (place - 1), reason, detail)
+    Fault::at(section.start + (place - 1), reason, detail)
 }
 
 /// The refusal of a message of which only `present` octets are there.
@@ -31,5 +20,5 @@ pub fn truncated(present: u64) -> Fault
     requires { present < 2 ^ 64 - 1 }
     ensures { result ≡ rows.refusal (present + 1) Reason.Truncated present }
 {
-    refusal(present + 1, Reason::Truncated, present)
+    Fault::at(present + 1, Reason::Truncated, present)
 }

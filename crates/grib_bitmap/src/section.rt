@@ -2,7 +2,8 @@
 
 ghost use Rattle.std.specs.Prelude.{◌≡◌, ◌≢◌, ◌≤◌, None, MatchResult, option_copied};
 ghost use Rattle.grib_bits.specs.Octets.{StatesItself};
-ghost use Rattle.grib_io.specs.Rows.{first_fault_at, refusal};
+ghost use Rattle.grib_io.specs.Rows as rows;
+ghost use Rattle.grib_io.specs.Rows.{first_fault_at};
 ghost use Rattle.grib_bitmap.specs.Mask.{mask_of, present_count, bitmap_rows};
 ghost use Rattle.grib_bitmap.specs.Fault.{IsMaskFault};
 ghost use Rattle.grib_bitmap.specs.declared.section.MaskFault.TheVariants.{Memory};
@@ -73,15 +74,11 @@ pub fn read_mask(
     }
 }
 
-/// The refusal at this octet of the message.
+/// The refusal at this octet of the message, as why there is no mask.
 fn refused(octet: u64, reason: Reason, detail: u64) -> MaskFault
-    ensures { result ≡ MaskFault.Refused (refusal octet reason detail) }
+    ensures { result ≡ MaskFault.Refused (rows.refusal octet reason detail) }
 {
-    MaskFault::Refused(Fault {
-        octet,
-        reason,
-        detail,
-    })
+    MaskFault::Refused(Fault::at(octet, reason, detail))
 }
 
 /// The mask, if as many points are present as there are values; else a refusal at this octet.
@@ -89,7 +86,7 @@ fn counted(mask: Mask, values: u32, octet: u64) -> Result<Mask, MaskFault>
     ensures { MatchResult result
         (λ same. (same ≡ mask) × (present_count mask ≡ values))
         (λ fault. (present_count mask ≢ values)
-        × (fault ≡ MaskFault.Refused (refusal octet Reason.ValueCount (present_count mask)))) }
+        × (fault ≡ MaskFault.Refused (rows.refusal octet Reason.ValueCount (present_count mask)))) }
 {
     let present = ones(&mask);
     if present != values {

@@ -4,3 +4,4 @@ pub mod OctetBits
 pub mod OctetNumbers
 pub mod Signs
 pub mod Writing
+pub mod WordNumbers

@@ -1,6 +1,6 @@
 //! Fields of bits that stand anywhere in octets.
 
-ghost use Rattle.std.specs.Prelude.{◌≡◌, ◌+◌, ◌*◌, ◌<◌, ◌≤◌, ◌++◌, length, take, drop, replicate};
+ghost use Rattle.std.specs.Prelude.{◌≡◌, ◌+◌, ◌*◌, ◌/◌, ◌^◌, ◌<◌, ◌≤◌, ◌++◌, length, take, drop, replicate};
 ghost use Rattle.grib_bits.specs.Bits.{bits, num};
 
 use byteorder::{BigEndian, ByteOrder};
@@ -25,6 +25,19 @@ pub fn get_bits(octets: &[u8], at: u64, width: u32) -> u64
     }
     // The last bits, at most seven, stand in a ninth octet.
     field | u64::from(rest[8]) >> (72 - skip - width)
+}
+
+/// The number of the `width` bits after the first `at` bits, from the eight octets that begin there.
+#[inline(always)]
+pub fn number_in_word(octets: &[u8], at: u64, width: u32) -> u64
+    requires some { 1 ≤ width }
+    requires width { width ≤ 48 }
+    requires within { at / 8 + 8 ≤ length octets.now }
+    ensures value { result ≡ num (take width (drop at (bits octets.now))) }
+    ensures fits { result < 2 ^ 48 }
+{
+    let word = BigEndian::read_u64(&octets[(at / 8) as usize..]);
+    word >> (64 - (at % 8) as u32 - width) & ((1 << width) - 1)
 }
 
 /// The number of the first eight octets, with zeros after the last.

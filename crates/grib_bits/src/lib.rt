@@ -11,7 +11,7 @@ mod tests;
 mod window;
 mod writer;
 
-pub use field::get_bits;
+pub use field::{get_bits, number_in_word};
 pub use sign::{raw_of, signed_of};
 pub use window::BitWindow;
 pub use writer::BitWriter;

@@ -9,6 +9,7 @@ ghost use Rattle.grib_complex.specs.Kept.{ArePoints, PointsKept};
 ghost use Rattle.grib_complex.specs.Laws.{points-none, points-more};
 
 use grib_bitmap::Mask;
+use grib_io::push_within;
 use grib_packing::Point;
 use std::alloc::{AllocError, Global};
 
@@ -137,18 +138,5 @@ fn push_missing(points: &mut Vec<Point>, count: u32)
 {
     for _index in 0..count {
         push_within(points, Point::Missing);
-    }
-}
-
-/// Adds a point for which there is memory.
-#[inline(always)]
-fn push_within(points: &mut Vec<Point>, point: Point)
-    ensures points { vec_len points.old < vec_capacity points.old → points.new.items ≡ points.old.items ++ point ∷ [] }
-    ensures capacity { vec_capacity points.old ≤ vec_capacity points.new }
-{
-    if points.len() < points.capacity() {
-        let Ok(()) = points.push(point) else {
-            unreachable!();
-        };
     }
 }

@@ -12,7 +12,6 @@ use byteorder::{BigEndian, ByteOrder};
 use grib_groups::Layout;
 use grib_io::{Fault, Reason, Section};
 use grib_simple::{Simple, read_simple};
-use grib2_sections::refusal;
 
 /// What Section 5 says of a field in complex packing (WMO-No. 306, Volume I.2, FM 92 GRIB edition 2, data
 /// representation templates 5.2 and 5.3).
@@ -55,41 +54,41 @@ pub fn read_complex(section: &Section<'_>, points: u32) -> Result<Complex, Fault
     let start = section.start;
     let layout = complex.layout;
     if layout.management > 2 {
-        return Err(refusal(
+        return Err(Fault::at(
             start + 22,
             Reason::MissingManagement,
             u64::from(layout.management),
         ));
     }
     if layout.groups > simple.values {
-        return Err(refusal(start + 31, Reason::GroupCount, u64::from(layout.groups)));
+        return Err(Fault::at(start + 31, Reason::GroupCount, u64::from(layout.groups)));
     }
     if layout.width_reference > 32 {
-        return Err(refusal(
+        return Err(Fault::at(
             start + 35,
             Reason::GroupWidth,
             u64::from(layout.width_reference),
         ));
     }
     if layout.width_bits > 32 {
-        return Err(refusal(start + 36, Reason::GroupWidth, u64::from(layout.width_bits)));
+        return Err(Fault::at(start + 36, Reason::GroupWidth, u64::from(layout.width_bits)));
     }
     if layout.length_bits > 32 {
-        return Err(refusal(
+        return Err(Fault::at(
             start + 46,
             Reason::GroupShape,
             u64::from(layout.length_bits),
         ));
     }
     if simple.template == 3 && complex.order != 1 && complex.order != 2 {
-        return Err(refusal(
+        return Err(Fault::at(
             start + 47,
             Reason::DifferenceOrder,
             u64::from(complex.order),
         ));
     }
     if simple.template == 3 && complex.extra > 4 {
-        return Err(refusal(start + 48, Reason::ExtraOctets, u64::from(complex.extra)));
+        return Err(Fault::at(start + 48, Reason::ExtraOctets, u64::from(complex.extra)));
     }
     Ok(complex)
 }

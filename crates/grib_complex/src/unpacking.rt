@@ -2,8 +2,7 @@
 
 ghost use Rattle.std.specs.Prelude.{◌≡◌, ◌⊎◌, ℕ, ◌*◌, ◌≤◌, List, length, replicate, pos, None, MatchResult};
 ghost use Rattle.grib_bits.specs.Octets.{StatesItself};
-ghost use Rattle.grib_io.specs.Rows.{located, refusal};
-ghost use Rattle.grib_io.specs.declared.fault.UnpackFault.TheVariants.{Refused};
+ghost use Rattle.grib_io.specs.Rows.{located};
 ghost use Rattle.grib_packing.specs.declared.column.Point.TheVariants.{Scaled};
 ghost use Rattle.grib_packing.specs.Entries.{packing_fault, complex_data_fault, complex_entries, group_data_fault, group_entries};
 ghost use Rattle.grib_packing.specs.Packing.{packing_template, value_count};
@@ -92,12 +91,16 @@ fn take_group_values<K: Keeper + Drop>(
     let extra = complex.extra;
     let skip = u32::from(complex.order + 1) * u32::from(extra);
     if !lists_fit(&complex.layout, length, skip) {
-        return Err(refused(start, Reason::DataTooShort, u64::from(length)));
+        return Err(UnpackFault::Refused(Fault::at(start, Reason::DataTooShort, u64::from(length))));
     }
     let signed = signed_first_value(section7.octets, complex.order, extra);
     if signed > 0 {
         let place = start + 5 + u64::from(signed - 1) * u64::from(extra);
-        return Err(refused(place, Reason::FirstValueSign, u64::from(signed)));
+        return Err(UnpackFault::Refused(Fault::at(
+            place,
+            Reason::FirstValueSign,
+            u64::from(signed),
+        )));
     }
     let values = Values {
         teller: Teller::start(running(section7.octets, complex.order, extra)),
@@ -117,7 +120,7 @@ fn take_group_values<K: Keeper + Drop>(
     };
     let beyond = teller.beyond();
     if beyond > 0 {
-        return Err(refused(start, Reason::ScaledRange, beyond));
+        return Err(UnpackFault::Refused(Fault::at(start, Reason::ScaledRange, beyond)));
     }
     Ok(keeper)
 }
@@ -128,15 +131,4 @@ fn length_of(section: &Section<'_>) -> u32
     ensures { result ≡ length section.now.octets.now }
 {
     BigEndian::read_u32(section.octets)
-}
-
-/// The refusal at this octet of the message.
-fn refused(octet: u64, reason: Reason, detail: u64) -> UnpackFault
-    ensures { result ≡ Refused (refusal octet reason detail) }
-{
-    UnpackFault::Refused(Fault {
-        octet,
-        reason,
-        detail,
-    })
 }

@@ -9,10 +9,10 @@ ghost use Rattle.grib_groups.specs.Table.{groups_in, IsWhole, IsNarrow};
 ghost use Rattle.grib_groups.specs.Lists.{CodesTook, IsRefusal};
 ghost use Rattle.grib_groups.specs.Laws.{codes-none, codes-more};
 
-use crate::lists::{Lists, octets_of_lists, push_within};
+use crate::lists::{Lists, octets_of_lists};
 use crate::{Group, Layout, Numbers, Table, Taker};
 use byteorder::{BigEndian, ByteOrder};
-use grib_io::{Code, Section, UnpackFault};
+use grib_io::{Code, Section, UnpackFault, push_within};
 use std::alloc::Global;
 
 /// Codes one after another, for which there is memory.

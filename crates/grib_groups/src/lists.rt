@@ -13,7 +13,7 @@ ghost use Rattle.grib_groups.specs.Laws.{references-none, references-more, width
 
 use crate::run::take_run;
 use crate::{Group, Layout, Table, Taker};
-use grib_io::{Code, Fault, Reason};
+use grib_io::{Code, Fault, Reason, push_within};
 use std::alloc::{AllocError, Global};
 
 /// The references that were read.
@@ -196,34 +196,20 @@ impl Lists {
     {
         if self.widths.too_wide > 0 {
             let before = u64::from(5 + skip) + octets_of(layout.reference_bits, layout.groups);
-            return Some(Fault {
-                octet: start + before,
-                reason: Reason::GroupWidth,
-                detail: self.widths.too_wide,
-            });
+            let place = start + before;
+            return Some(Fault::at(place, Reason::GroupWidth, self.widths.too_wide));
         }
         if self.lengths.past > 0 {
-            return Some(Fault {
-                octet: start,
-                reason: Reason::GroupShape,
-                detail: self.lengths.past,
-            });
+            return Some(Fault::at(start, Reason::GroupShape, self.lengths.past));
         }
         if self.lengths.rest > 0 {
-            return Some(Fault {
-                octet: start,
-                reason: Reason::GroupShape,
-                detail: u64::from(layout.groups),
-            });
+            let groups = u64::from(layout.groups);
+            return Some(Fault::at(start, Reason::GroupShape, groups));
         }
         let before = u64::from(5 + skip) + octets_of_lists(layout);
         let bits = bits_of_numbers(&self.widths.items, &self.lengths.items);
         if 8 * u64::from(length) < 8 * before + bits {
-            return Some(Fault {
-                octet: start,
-                reason: Reason::DataTooShort,
-                detail: u64::from(length),
-            });
+            return Some(Fault::at(start, Reason::DataTooShort, u64::from(length)));
         }
         None
     }
@@ -340,17 +326,4 @@ fn first_noted(before: u64, here: bool, place: u64) -> u64
     ensures { result ≡ cond (before == 0) (cond here place 0) before }
 {
     if before == 0 && here { place } else { before }
-}
-
-/// Adds an item for which there is memory.
-#[inline]
-pub fn push_within<T: Drop>(items: &mut Vec<T>, item: T)
-    ensures items { vec_len items.old < vec_capacity items.old → items.new.items ≡ items.old.items ++ item ∷ [] }
-    ensures capacity { vec_capacity items.old ≤ vec_capacity items.new }
-{
-    if items.len() < items.capacity() {
-        let Ok(()) = items.push(item) else {
-            unreachable!();
-        };
-    }
 }

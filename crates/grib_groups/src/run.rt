@@ -8,8 +8,7 @@ ghost use Rattle.grib_groups.specs.Taking.{code_by};
 
 use crate::coding::Coding;
 use crate::{Group, Layout, Taker};
-use byteorder::{BigEndian, ByteOrder};
-use grib_bits::get_bits;
+use grib_bits::{get_bits, number_in_word};
 
 /// Takes `count` numbers of a group, which stand after the first `at` bits of `octets`.
 #[inline(always)]
@@ -98,18 +97,6 @@ fn take_from_words<T: Taker>(
         place += u64::from(width);
     }
     taker
-}
-
-/// The number of the `width` bits after the first `at` bits, from the eight octets that begin there.
-#[inline(always)]
-fn number_in_word(octets: &[u8], at: u64, width: u32) -> u64
-    requires some { 1 ≤ width }
-    requires width { width ≤ 48 }
-    requires within { at / 8 + 8 ≤ length octets.now }
-    ensures { result ≡ num (take width (drop at (bits_in octets.now))) }
-{
-    let word = BigEndian::read_u64(&octets[(at / 8) as usize..]);
-    word >> (64 - (at % 8) as u32 - width) & ((1 << width) - 1)
 }
 
 /// Takes the last `count` numbers of some octets, a few.

@@ -2,6 +2,7 @@
 
 ghost use Rattle.std.specs.Prelude.{◌≡◌, Some};
 ghost use Rattle.grib_io.specs.Reason.{number_of, name_of};
+ghost use Rattle.grib_io.specs.Rows.{refusal};
 
 use std::fmt;
 
@@ -116,6 +117,19 @@ pub struct Fault {
     pub octet: u64,
     pub reason: Reason,
     pub detail: u64,
+}
+
+impl Fault {
+    /// The refusal at this octet of a message, for this reason, with this detail.
+    pub fn at(octet: u64, reason: Reason, detail: u64) -> Fault
+        ensures { result ≡ refusal octet reason detail }
+    {
+        Fault {
+            octet,
+            reason,
+            detail,
+        }
+    }
 }
 
 /// The refusal of a message of an input. Messages count from 1.

@@ -13,6 +13,7 @@ mod memory_shelf;
 mod memory_sink;
 mod memory_source;
 mod outside;
+mod room;
 mod section;
 mod storage;
 
@@ -25,4 +26,5 @@ pub use memory_shelf::MemoryShelf;
 pub use memory_sink::MemorySink;
 pub use memory_source::MemorySource;
 pub use outside::{Failed, Shelf, ShelfStop, Sink, Source, Stop};
+pub use room::push_within;
 pub use section::Section;

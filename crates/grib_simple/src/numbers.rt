@@ -11,7 +11,7 @@ ghost use Rattle.grib_simple.specs.Part.{plain_from};
 use crate::Point;
 use byteorder::{BigEndian, ByteOrder};
 use grib_bitmap::{Mask, ones};
-use grib_bits::get_bits;
+use grib_bits::{get_bits, number_in_word};
 use std::alloc::{AllocError, Global};
 use std::simd::prelude::*;
 
@@ -261,19 +261,6 @@ fn count_in_words(length: usize, bits: u32, count: u32) -> u32
     // Eight numbers take as many octets as one has bits.
     let eights = (length as u64 - 8) / u64::from(bits);
     u64::from(count).min(eights.saturating_mul(8)) as u32
-}
-
-/// The number of the `bits` bits after the first `at` bits, from the eight octets that begin there.
-#[inline]
-fn number_in_word(octets: &[u8], at: u64, bits: u32) -> u64
-    requires some { 1 ≤ bits }
-    requires width { bits ≤ 48 }
-    requires within { at / 8 + 8 ≤ length octets.now }
-    ensures value { result ≡ num (take bits (drop at (bits_in octets.now))) }
-    ensures fits { result < 2 ^ 48 }
-{
-    let word = BigEndian::read_u64(&octets[(at / 8) as usize..]);
-    word >> (64 - (at % 8) as u32 - bits) & ((1 << bits) - 1)
 }
 
 /// Adds what is made of numbers that may end with the octets: a few.

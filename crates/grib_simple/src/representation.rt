@@ -12,7 +12,6 @@ ghost use Rattle.grib_simple.specs.Simple.{Spelled};
 
 use byteorder::{BigEndian, ByteOrder};
 use grib_io::{Fault, Reason, Section};
-use grib2_sections::refusal;
 
 /// What Section 5 says in each template of the profile (WMO-No. 306, Volume I.2, FM 92 GRIB edition 2, data
 /// representation templates 5.0, 5.2 and 5.3).
@@ -52,28 +51,28 @@ pub fn read_simple(section: &Section<'_>, points: u32) -> Result<Simple, Fault>
     let length = octets.len() as u64;
     let start = section.start;
     if length < 11 {
-        return Err(refusal(start, Reason::SectionLength, length));
+        return Err(Fault::at(start, Reason::SectionLength, length));
     }
     let template = BigEndian::read_u16(&octets[9..]);
     let Some(least) = least_length(template) else {
-        return Err(refusal(start + 9, template_reason(template), u64::from(template)));
+        return Err(Fault::at(start + 9, template_reason(template), u64::from(template)));
     };
     if length < least {
-        return Err(refusal(start, Reason::SectionLength, length));
+        return Err(Fault::at(start, Reason::SectionLength, length));
     }
     let simple = numbers(octets);
     if simple.values > points {
-        return Err(refusal(start + 5, Reason::ValueCount, u64::from(simple.values)));
+        return Err(Fault::at(start + 5, Reason::ValueCount, u64::from(simple.values)));
     }
     if !is_finite(simple.reference) {
-        return Err(refusal(
+        return Err(Fault::at(
             start + 11,
             Reason::ReferenceNotFinite,
             u64::from(simple.reference),
         ));
     }
     if simple.bits > most_bits(template) {
-        return Err(refusal(start + 19, Reason::BitWidth, u64::from(simple.bits)));
+        return Err(Fault::at(start + 19, Reason::BitWidth, u64::from(simple.bits)));
     }
     Ok(simple)
 }

@@ -2,7 +2,7 @@ use Rattle.std.proofs.Common.{◌≡◌, ℕ, ◌+◌, ◌-◌, ◌*◌, ◌^◌
 use Rattle.grib_bits.specs.Bits.{bits, num}
 use Rattle.grib_bits.specs.Octets.{octets}
 use Rattle.grib_bits.proofs.OctetNumbers.{AreOctets-known}
-use Rattle.grib_groups.proofs.Runs.{number-lt}
+use Rattle.grib_bits.proofs.WordNumbers.{number-lt}
 use Rattle.grib_complex.proofs.Fields.{field-octets}
 use Rattle.grib_complex.proofs.descriptors.descriptor.Goals as goal
 

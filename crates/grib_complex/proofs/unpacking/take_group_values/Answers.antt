@@ -1,6 +1,7 @@
 use Rattle.std.proofs.Common.{◌≡◌, ℕ, ◌+◌, ◌*◌, ◌<◌, Some, sym, ap, ap₂, ◌∙◌, arith, subst}
 use Rattle.grib_io.specs.declared.fault.Reason.TheVariants.{ScaledRange}
 use Rattle.grib_io.specs.declared.fault.UnpackFault.{UnpackFault}
+use Rattle.grib_io.specs.declared.fault.UnpackFault.TheVariants.{Refused}
 use Rattle.grib_io.specs.Rows.{refusal, located, first_place}
 use Rattle.grib_packing.specs.Entries.{group_data_fault, group_entries, is_out_of_range}
 use Rattle.grib_simple.specs.Unpacked.{IsUnpackFault}
@@ -38,7 +39,7 @@ returns-then-beyond-gt0 g c = λ s5 spelled.
     let fails : located start (group_data_fault s5 s7) ≡ Some (refusal start ScaledRange c.beyond-beyond.result) =
     ap (located start) (rest ∙ beyond_range s5 s7 (all.differences (omega (arith, c.beyond-beyond.ensures, c.if-beyond-gt0.true))) some)
     ∙ ap₂ (λ (o d : ℕ). Some (refusal o ScaledRange d)) here place in
-    subst (λ (fault : UnpackFault). IsUnpackFault (located start (group_data_fault s5 s7)) fault) (sym c.refused-then-beyond-gt0.ensures) fails
+    subst (λ (fault : UnpackFault). IsUnpackFault (located start (group_data_fault s5 s7)) fault) (sym (ap Refused c.at-then-beyond-gt0.ensures)) fails
 
 pub returns : goal.returns
 returns g c = λ s5 spelled.

@@ -2,7 +2,8 @@ use Rattle.std.proofs.Common.{◌+◌, ◌<◌, drop, sym, subst, arith}
 use Rattle.grib_bits.specs.Bits.{bits}
 use Rattle.grib_groups.specs.Taking.{number_of, code_by}
 use Rattle.grib_groups.proofs.Coded.{number_of-code_by}
-use Rattle.grib_groups.proofs.Runs.{number-lt, pow_at_most, took_more, next_place}
+use Rattle.grib_bits.proofs.WordNumbers.{number-lt}
+use Rattle.grib_groups.proofs.Runs.{pow_at_most, took_more, next_place}
 use Rattle.grib_groups.proofs.run.take_from_end.Goals as goal
 
 pub code-requires : goal.code-requires

@@ -1,11 +1,12 @@
 use Rattle.std.proofs.Common.{◌*◌, ap₂, drop, ◌<◌, ◌^◌, ℕ, subst, sym, arith}
 use Rattle.grib_bits.specs.Bits.{bits}
-use Rattle.grib_simple.proofs.Unpacking.{number-lt, pushed, pushed_none, pushed_all}
+use Rattle.grib_bits.proofs.WordNumbers.{number-lt_48}
+use Rattle.grib_simple.proofs.Unpacking.{pushed, pushed_none, pushed_all}
 use Rattle.grib_simple.proofs.numbers.push_last.Goals as goal
 
 pub of-requires : goal.of-requires
 of-requires g c =
-    subst (λ (n : ℕ). n < 2 ^ 48) (sym c.get_bits.ensures) (number-lt c.args.bits (drop (c.from.result * c.from-in-loop-index.result) (bits c.args.octets.now)) c.requires.width)
+    subst (λ (n : ℕ). n < 2 ^ 48) (sym c.get_bits.ensures) (number-lt_48 c.args.bits (drop (c.from.result * c.from-in-loop-index.result) (bits c.args.octets.now)) c.requires.width)
 
 pub loop-index-init : goal.loop-index-init
 loop-index-init g c = pushed_none g.T.Unpacked.unpacked (bits c.args.octets.now) c.args.bits c.args.from c.args.items.now.items

@@ -12,8 +12,8 @@ returns-then-not-may_follow c =
     let r = reads m c.self.inside.total c.self.inside.place c.from-length.result c.read_u32.result
     (AreOctets-known m c.type_inv.octets) (omega arith) (omega arith) c.read_u32.ensures c.from-length.ensures (omega arith) (omega arith) in
     read_fails_7 m c.self.inside.total c.self.inside.last c.self.inside.place c.from-length.result _ c.args.self.now c.self.view_is (omega arith) r
-    c.refusal-then-not-may_follow.result
-    (c.refusal-then-not-may_follow.ensures ∙ ap (λ (n : ℕ). refusal (c.self.inside.place + 4) SectionOrder n) c.from.ensures)
+    c.at-then-not-may_follow.result
+    (c.at-then-not-may_follow.ensures ∙ ap (λ (n : ℕ). refusal (c.self.inside.place + 4) SectionOrder n) c.from.ensures)
     (sym c.may_follow.ensures.answer ∙ c.if-not-may_follow.true)
 
 pub returns-then-present-before : goal.returns-then-present-before

@@ -4,7 +4,8 @@ use Rattle.grib_bits.specs.Bits.{bits, num}
 use Rattle.grib_bits.proofs.OctetBits.{length-bits}
 use Rattle.grib_groups.specs.Taking.{number_of}
 use Rattle.grib_groups.proofs.Coded.{number_of-code_by}
-use Rattle.grib_groups.proofs.Runs.{number-lt, pow_at_most}
+use Rattle.grib_bits.proofs.WordNumbers.{number-lt}
+use Rattle.grib_groups.proofs.Runs.{pow_at_most}
 use Rattle.grib_groups.proofs.Moves.{number_across, went_across}
 use Rattle.grib_groups.proofs.numbers.Numbers.take_across.Goals as goal
 
