@@ -1,4 +1,4 @@
--- The number of binary digits of a number below 2 ^ 32.
+-- The number of binary digits of a number.
 use Rattle.std.proofs.Common.{◌≡◌, ℕ, suc, ◌+◌, ◌-◌, ◌*◌, ◌^◌, ◌<◌, ◌≤◌, arith, ap, sym, subst}
 use Rattle.std.proofs.Math.Nat.{pow-suc, pow-le-pow_right}
 use Rattle.std.proofs.lemmas.Nat.{leading_length}
@@ -17,6 +17,25 @@ digits-lt number small =
     let l = leading_length 64 number (omega arith) in
     let is : digits number ≡ l.0 = digits-is number l.0 (omega (arith, l.1)) l.2 (highest number l.0 l.3) in
     subst (λ (w : ℕ). number < 2 ^ w) (sym is) l.2
+
+-- the same of any word
+pub digits-lt_64 : (number : ℕ) → number < 2 ^ 64 → number < 2 ^ digits number
+digits-lt_64 number small =
+    let l = leading_length 64 number small in
+    let is : digits number ≡ l.0 = digits-is number l.0 (omega (arith, l.1)) l.2 (highest number l.0 l.3) in
+    subst (λ (w : ℕ). number < 2 ^ w) (sym is) l.2
+
+-- a number below 2 ^ w has w digits at most
+pub digits-most_64 : (number w : ℕ) → number < 2 ^ 64 → number < 2 ^ w → digits number ≤ w
+digits-most_64 number w small below = omega (arith, clash)
+  where
+    clash : w < digits number → ⊥
+    clash more =
+        let l = leading_length 64 number small in
+        let is : digits number ≡ l.0 = digits-is number l.0 (omega (arith, l.1)) l.2 (highest number l.0 l.3) in
+        let low = highest number l.0 l.3 (omega arith) in
+        let power : 2 ^ w ≤ 2 ^ (l.0 - 1) = pow-le-pow_right (omega arith) (omega arith) in
+        omega (arith, low, power, below)
 
 pub digits-least : (number : ℕ) → number < 2 ^ 32 → 1 ≤ digits number → 2 ^ (digits number - 1) ≤ number
 digits-least number small =

@@ -1,3 +1,6 @@
 pub mod Spans
 pub mod Digits
 pub mod Bounds
+pub mod Left
+pub mod Fields
+pub mod Sections

@@ -10,4 +10,4 @@ mod span;
 pub use column::{Column, Point};
 pub use group::Group;
 pub use layout::Layout;
-pub use span::Span;
+pub use span::{Span, bit_length};

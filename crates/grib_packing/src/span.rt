@@ -142,12 +142,12 @@ impl Span {
     }
 }
 
-/// The number of binary digits of a number.
+/// The number of binary digits of a number, 0 for 0.
 #[inline]
-fn bit_length(number: u64) -> u32
-    requires { number < 2 ^ 32 }
+pub fn bit_length(number: u64) -> u32
     ensures is { result ≡ digits number }
-    ensures few { result ≤ 32 }
+    ensures most { result ≤ 64 }
+    ensures few { number < 2 ^ 32 → result ≤ 32 }
 {
     u64::BITS - number.leading_zeros()
 }

@@ -2,3 +2,6 @@ mod Lanes
 mod Unpacking
 pub mod Accepted
 pub mod Masked
+pub mod Seen
+mod PointByPoint
+pub mod Fitting

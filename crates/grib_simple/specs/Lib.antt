@@ -1,3 +1,6 @@
 pub mod Part
 pub mod Simple
 pub mod Unpacked
+pub mod Survey
+pub mod Written
+pub mod Sections

@@ -3,14 +3,22 @@
 #![tactic(auto)]
 
 mod numbers;
+mod packed;
 mod packing;
+#[cfg(test)]
+mod packing_tests;
 mod representation;
+mod sections;
 mod simple;
+mod survey;
 #[cfg(test)]
 mod tests;
+mod writing;
+mod written;
 
 pub use grib_packing::{Column, Point};
 pub use numbers::{unpack_numbers, unpack_points};
 pub use packing::Packing;
 pub use representation::{Simple, read_simple};
 pub use simple::{SimplePacking, simple_column};
+pub use written::{PackFault, Packed};

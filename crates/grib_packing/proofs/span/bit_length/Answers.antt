@@ -15,11 +15,11 @@ at_most_32 number n small least = omega (arith, clash)
 
 pub returns-clause-is : goal.returns-clause-is
 returns-clause-is c =
-    let l = leading_length 64 c.args.number (omega (arith, c.requires)) in
+    let l = leading_length 64 c.args.number (c.ranges.number).fits in
     let is : digits c.args.number ≡ l.0 = digits-is c.args.number l.0 (omega (arith, l.1)) l.2 (highest c.args.number l.0 l.3) in
     omega (arith, is, l.1)
 
 pub returns-clause-few : goal.returns-clause-few
-returns-clause-few c =
-    let l = leading_length 64 c.args.number (omega (arith, c.requires)) in
-    omega (arith, l.1, at_most_32 c.args.number l.0 c.requires l.3)
+returns-clause-few c small =
+    let l = leading_length 64 c.args.number (c.ranges.number).fits in
+    omega (arith, l.1, at_most_32 c.args.number l.0 small l.3)

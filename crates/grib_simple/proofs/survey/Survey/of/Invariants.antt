@@ -1,0 +1,9 @@
+use Rattle.std.proofs.Common.{◌≤◌, drop}
+use Rattle.grib_simple.specs.Survey.{Surveys}
+use Rattle.grib_simple.proofs.survey.Survey.of.Given as goal
+
+abbrev pub invariant-loop-index : goal.invariant-loop-index
+invariant-loop-index l = record {
+  seen : Surveys l.survey l.index (drop l.index l.points) l.points;
+  few : l.survey.present ≤ l.index;
+}

@@ -1,0 +1,281 @@
+//! Expected octets are those of worked messages, and from Python.
+
+ghost use Rattle.std.specs.Prelude.{◌≡◌, ◌≤◌, false, length};
+ghost use Rattle.std.specs.List.{list_any};
+ghost use Rattle.grib_packing.specs.Entries.{is_out_of_range};
+
+use super::*;
+use grib_io::List;
+use std::alloc::Global;
+use std::test::Fail;
+
+/// The column of these points, with R = -118.625, E = -3 and D = 1, packed simply. Their original values
+/// were of type 1.
+fn packed(alloc: Global, points: &[Point]) -> Result<Packed, PackFault>
+    requires some { 1 ≤ length points.now }
+    requires few { length points.now ≤ 33554432 }
+    requires within { list_any is_out_of_range points.now ≡ false }
+{
+    let column = Column {
+        reference: 0xc2ed4000,
+        e: 0x8003,
+        d: 1,
+        points: List::of(points.to_vec(alloc)?),
+    };
+    SimplePacking.pack(alloc, &column, 1)
+}
+
+/// Whether these are the three sections, the first of so many values of so many bits.
+fn has(packed: &Packed, values: u8, bits: u8, bitmap: &[u8], data: &[u8]) -> bool {
+    let representation = [
+        0, 0, 0, 21, 5, 0, 0, 0, values, 0, 0, 0xc2, 0xed, 0x40, 0x00, 0x80, 0x03, 0x00, 0x01,
+        bits, 1,
+    ];
+    packed.section5.as_slice() == representation.as_slice()
+        && packed.section6.as_slice() == bitmap
+        && packed.section7.as_slice() == data
+}
+
+#[test]
+fn numbers_take_the_bits_of_the_greatest(rt: HostRuntime) -> Result<(), Fail> {
+    let points = [
+        Point::Scaled(6),
+        Point::Scaled(126),
+        Point::Scaled(65),
+        Point::Scaled(171),
+    ];
+    let Ok(made) = packed(rt.alloc(), &points) else {
+        panic!(rt; "not packed");
+    };
+    let data = [0, 0, 0, 9, 7, 0x06, 0x7e, 0x41, 0xab];
+    assert!(rt; has(&made, 4, 8, &[0, 0, 0, 6, 6, 255], &data));
+    Ok(())
+}
+
+#[test]
+fn missing_points_stand_in_a_bitmap(rt: HostRuntime) -> Result<(), Fail> {
+    let points = [Point::Scaled(5), Point::Missing, Point::Scaled(6)];
+    let Ok(made) = packed(rt.alloc(), &points) else {
+        panic!(rt; "not packed");
+    };
+    assert!(rt;
+        has(
+            &made,
+            2,
+            3,
+            &[0, 0, 0, 7, 6, 0, 0xa0],
+            &[0, 0, 0, 6, 7, 0xb8]
+        )
+    );
+    Ok(())
+}
+
+#[test]
+fn nothing_present_takes_no_bits(rt: HostRuntime) -> Result<(), Fail> {
+    let Ok(made) = packed(rt.alloc(), &[Point::Missing; 9]) else {
+        panic!(rt; "not packed");
+    };
+    assert!(rt; has(&made, 0, 0, &[0, 0, 0, 8, 6, 0, 0, 0], &[0, 0, 0, 5, 7]));
+    let Ok(made) = packed(rt.alloc(), &[Point::Scaled(0)]) else {
+        panic!(rt; "not packed");
+    };
+    assert!(rt; has(&made, 1, 0, &[0, 0, 0, 6, 6, 255], &[0, 0, 0, 5, 7]));
+    Ok(())
+}
+
+#[test]
+fn what_does_not_fit_is_named(rt: HostRuntime) -> Result<(), Fail> {
+    let negative = [Point::Scaled(5), Point::Scaled(-5), Point::Scaled(-1)];
+    assert!(rt; matches!(packed(rt.alloc(), &negative), Err(PackFault::OutOfRange(2))));
+    let wide = [
+        Point::Scaled((1 << 48) - 1),
+        Point::Missing,
+        Point::Scaled(1 << 48),
+    ];
+    assert!(rt; matches!(packed(rt.alloc(), &wide), Err(PackFault::OutOfRange(3))));
+    let ends = [Point::Scaled(1 << 60), Point::Scaled(-(1 << 60))];
+    assert!(rt; matches!(packed(rt.alloc(), &ends), Err(PackFault::OutOfRange(1))));
+    let marks = [
+        Point::Scaled(-1),
+        Point::Missing,
+        Point::Missing2,
+        Point::Missing2,
+    ];
+    assert!(rt;
+        matches!(
+            packed(rt.alloc(), &marks),
+            Err(PackFault::SecondaryMissing(3))
+        )
+    );
+    Ok(())
+}
+
+#[test]
+fn numbers_of_48_bits(rt: HostRuntime) -> Result<(), Fail> {
+    let points = [Point::Scaled((1 << 48) - 1), Point::Scaled(1)];
+    let Ok(made) = packed(rt.alloc(), &points) else {
+        panic!(rt; "not packed");
+    };
+    let data = [
+        0, 0, 0, 17, 7, 255, 255, 255, 255, 255, 255, 0, 0, 0, 0, 0, 1,
+    ];
+    assert!(rt; has(&made, 2, 48, &[0, 0, 0, 6, 6, 255], &data));
+    Ok(())
+}
+
+/// Points of 10 bits, whose bitmap goes over two words.
+#[test]
+fn many_points(rt: HostRuntime) -> Result<(), Fail> {
+    let points = [
+        Point::Missing,
+        Point::Scaled(37),
+        Point::Scaled(74),
+        Point::Scaled(111),
+        Point::Scaled(148),
+        Point::Missing,
+        Point::Scaled(222),
+        Point::Scaled(259),
+        Point::Scaled(296),
+        Point::Scaled(333),
+        Point::Missing,
+        Point::Scaled(407),
+        Point::Scaled(444),
+        Point::Scaled(481),
+        Point::Scaled(518),
+        Point::Missing,
+        Point::Scaled(592),
+        Point::Scaled(629),
+        Point::Scaled(666),
+        Point::Scaled(703),
+        Point::Missing,
+        Point::Scaled(777),
+        Point::Scaled(814),
+        Point::Scaled(851),
+        Point::Scaled(888),
+        Point::Missing,
+        Point::Scaled(962),
+        Point::Scaled(999),
+        Point::Scaled(36),
+        Point::Scaled(73),
+        Point::Missing,
+        Point::Scaled(147),
+        Point::Scaled(184),
+        Point::Scaled(221),
+        Point::Scaled(258),
+        Point::Missing,
+        Point::Scaled(332),
+        Point::Scaled(369),
+        Point::Scaled(406),
+        Point::Scaled(443),
+        Point::Missing,
+        Point::Scaled(517),
+        Point::Scaled(554),
+        Point::Scaled(591),
+        Point::Scaled(628),
+        Point::Missing,
+        Point::Scaled(702),
+        Point::Scaled(739),
+        Point::Scaled(776),
+        Point::Scaled(813),
+        Point::Missing,
+        Point::Scaled(887),
+        Point::Scaled(924),
+        Point::Scaled(961),
+        Point::Scaled(998),
+        Point::Missing,
+        Point::Scaled(72),
+        Point::Scaled(109),
+        Point::Scaled(146),
+        Point::Scaled(183),
+        Point::Missing,
+        Point::Scaled(257),
+        Point::Scaled(294),
+        Point::Missing,
+        Point::Missing,
+        Point::Missing,
+        Point::Scaled(442),
+        Point::Scaled(479),
+        Point::Scaled(516),
+        Point::Scaled(553),
+        Point::Missing,
+        Point::Scaled(627),
+        Point::Scaled(664),
+        Point::Scaled(701),
+        Point::Scaled(738),
+        Point::Missing,
+        Point::Scaled(812),
+        Point::Scaled(849),
+        Point::Scaled(886),
+        Point::Scaled(923),
+        Point::Missing,
+        Point::Scaled(997),
+        Point::Scaled(34),
+        Point::Scaled(71),
+        Point::Scaled(108),
+        Point::Missing,
+        Point::Scaled(182),
+        Point::Scaled(219),
+        Point::Scaled(256),
+        Point::Scaled(293),
+        Point::Missing,
+        Point::Scaled(367),
+        Point::Scaled(404),
+        Point::Scaled(441),
+        Point::Scaled(478),
+        Point::Missing,
+        Point::Scaled(552),
+        Point::Scaled(589),
+        Point::Scaled(626),
+        Point::Scaled(663),
+        Point::Missing,
+        Point::Scaled(737),
+        Point::Scaled(774),
+        Point::Scaled(811),
+        Point::Scaled(848),
+        Point::Missing,
+        Point::Scaled(922),
+        Point::Scaled(959),
+        Point::Scaled(996),
+        Point::Scaled(33),
+        Point::Missing,
+        Point::Scaled(107),
+        Point::Scaled(144),
+        Point::Scaled(181),
+        Point::Scaled(218),
+        Point::Missing,
+        Point::Scaled(292),
+        Point::Scaled(329),
+        Point::Scaled(366),
+        Point::Scaled(403),
+        Point::Missing,
+        Point::Scaled(477),
+        Point::Scaled(514),
+        Point::Scaled(551),
+        Point::Scaled(588),
+        Point::Missing,
+        Point::Scaled(662),
+        Point::Scaled(699),
+        Point::Scaled(736),
+        Point::Missing,
+    ];
+    let Ok(made) = packed(rt.alloc(), &points) else {
+        panic!(rt; "not packed");
+    };
+    let bitmap = [
+        0, 0, 0, 23, 6, 0, 0x7b, 0xde, 0xf7, 0xbd, 0xef, 0x7b, 0xde, 0xf6, 0x3d, 0xef, 0x7b, 0xde,
+        0xf7, 0xbd, 0xef, 0x7b, 0x80,
+    ];
+    let data = [
+        0, 0, 0, 132, 7, 0x09, 0x44, 0xa1, 0xbc, 0x94, 0x37, 0x90, 0x34, 0xa1, 0x4d, 0x65, 0xdb,
+        0xc7, 0x86, 0x06, 0x94, 0x27, 0x5a, 0x6a, 0xbf, 0xc2, 0x72, 0xed, 0x4f, 0x78, 0xf0, 0xbe,
+        0x70, 0x90, 0x49, 0x24, 0xcb, 0x83, 0x75, 0x02, 0x53, 0x17, 0x16, 0x59, 0xbb, 0x81, 0x62,
+        0xa9, 0x3e, 0x74, 0xaf, 0xae, 0x3c, 0x23, 0x2d, 0xdd, 0xf9, 0xcf, 0x07, 0xe6, 0x12, 0x06,
+        0xd2, 0x48, 0xb7, 0x40, 0x52, 0x66, 0xe9, 0xdf, 0x81, 0x22, 0x99, 0xce, 0x98, 0xaf, 0x6e,
+        0x2c, 0xb3, 0x51, 0xdd, 0xb9, 0xbf, 0x94, 0x22, 0x11, 0xc6, 0xc2, 0xd8, 0xdb, 0x40, 0x12,
+        0x55, 0xbd, 0x94, 0x6e, 0x5d, 0xe8, 0xa2, 0x4d, 0x9c, 0xa9, 0x7b, 0x87, 0x06, 0xca, 0xf5,
+        0x0e, 0x6b, 0xbf, 0xf9, 0x02, 0x11, 0xac, 0x90, 0x2d, 0x4d, 0xa4, 0x91, 0x49, 0x5b, 0x99,
+        0x37, 0x76, 0x02, 0x89, 0xe4, 0xca, 0x5a, 0xbb, 0xb8, 0x00,
+    ];
+    assert!(rt; has(&made, 101, 10, &bitmap, &data));
+    Ok(())
+}

@@ -1,0 +1,145 @@
+//! Simple packing as it is written.
+
+ghost use Rattle.std.specs.Prelude.{◌≡◌, ◌+◌, ◌*◌, ◌/◌, ◌^◌, ◌<◌, ◌≤◌, ◌++◌, [], cond, not, length, All};
+ghost use Rattle.std.specs.List.{list_any};
+ghost use Rattle.grib_bits.specs.Bits.{bits_of, digit};
+ghost use Rattle.grib_packing.specs.Misfits.{is_missing as is_missing_point};
+ghost use Rattle.grib_packing.specs.Packed.{HasContents, HasNumbers, IsBitmap, fields, no_bitmap_section, present_bits, simple_numbers};
+
+use crate::sections::{write_head, write_numbers, written};
+use crate::{Column, Point};
+use grib_bits::BitWriter;
+use grib_io::List;
+use grib2_sections::write_u8;
+
+/// Section 5 of simple packing, in a writer that has room for its 21 octets (WMO-No. 306, Volume I.2, FM
+/// 92 GRIB edition 2, data representation template 5.0).
+pub fn representation_section(
+    column: &Column,
+    values: u32,
+    bits: u8,
+    kind: u8,
+    mut room: BitWriter,
+) -> List<u8>
+    requires none { room.bits ≡ [] }
+    requires room { 168 ≤ room.spare }
+    ensures length { length result ≡ 21 }
+    ensures numbers { HasNumbers result column.now values 0 bits kind }
+{
+    write_head(21, 5, &mut room);
+    write_numbers(column, values, 0, bits, kind, &mut room);
+    written(room)
+}
+
+/// Section 6, in a writer that has room for it: without a bitmap where no point is missing (WMO-No. 306,
+/// Volume I.2, FM 92 GRIB edition 2, code table 6.0).
+pub fn bitmap_section(points: &[Point], missing: bool, mut room: BitWriter) -> List<u8>
+    requires few { length points.now ≤ 33554432 }
+    requires missing { missing ≡ list_any is_missing_point points.now }
+    requires none { room.bits ≡ [] }
+    requires room { 8 * cond missing (6 + (length points.now + 7) / 8) 6 ≤ room.spare }
+    ensures { IsBitmap result points.now }
+{
+    if missing {
+        own_bitmap(points, room)
+    } else {
+        no_bitmap(room)
+    }
+}
+
+/// Section 6 without a bitmap, in a writer that has room for its 6 octets.
+pub fn no_bitmap(mut room: BitWriter) -> List<u8>
+    requires none { room.bits ≡ [] }
+    requires room { 48 ≤ room.spare }
+    ensures section { result ≡ no_bitmap_section }
+    ensures has { HasContents 6 result (bits_of 8 255) }
+{
+    write_head(6, 6, &mut room);
+    write_u8(255, &mut room);
+    written(room)
+}
+
+/// Section 6 with a bitmap, in a writer that has room for it.
+fn own_bitmap(points: &[Point], mut room: BitWriter) -> List<u8>
+    requires few { length points.now ≤ 33554432 }
+    requires none { room.bits ≡ [] }
+    requires room { 48 + 8 * ((length points.now + 7) / 8) ≤ room.spare }
+    ensures { HasContents 6 result (bits_of 8 0 ++ present_bits points.now) }
+{
+    write_head(6 + (points.len() as u32).div_ceil(8), 6, &mut room);
+    write_u8(0, &mut room);
+    put_present(points, &mut room);
+    room.align();
+    written(room)
+}
+
+/// Writes a bit for each point, 1 for those that are not missing.
+fn put_present(points: &[Point], out: &mut BitWriter)
+    requires { length points.now ≤ out.old.spare }
+    ensures bits { out.new.bits ≡ out.old.bits ++ present_bits points.now }
+    ensures spare { out.new.spare + length points.now ≡ out.old.spare }
+{
+    let mut rest = points;
+    while !rest.is_empty() {
+        let (word, after) = rest.split_at(rest.len().min(64));
+        out.put(present_word(word), word.len() as u32);
+        rest = after;
+    }
+}
+
+/// The bits of at most 64 points, as the last bits of a word.
+#[inline]
+fn present_word(points: &[Point]) -> u64
+    requires { length points.now ≤ 64 }
+    ensures bits { bits_of (length points.now) result ≡ present_bits points.now }
+    ensures fits { result < 2 ^ length points.now }
+{
+    let mut word = 0;
+    for point in points {
+        word = word << 1 | present_bit(*point);
+    }
+    word
+}
+
+/// 1 for a point that is not missing, else 0.
+#[inline(always)]
+fn present_bit(point: Point) -> u64
+    ensures bit { result ≡ digit (not (is_missing_point point)) }
+    ensures small { result < 2 }
+{
+    match point {
+        Point::Missing => 0,
+        _ => 1,
+    }
+}
+
+/// Section 7 of simple packing, in a writer that has room for so many octets: the scaled numbers, in so
+/// many bits each (WMO-No. 306, Volume I.2, FM 92 GRIB edition 2, data template 7.0).
+pub fn values_section(points: &[Point], bits: u32, octets: u32, mut room: BitWriter) -> List<u8>
+    requires width { bits ≤ 48 }
+    requires fits { All (λ number. number < 2 ^ bits) (simple_numbers points.now) }
+    requires octets { octets ≡ 5 + (length (simple_numbers points.now) * bits + 7) / 8 }
+    requires none { room.bits ≡ [] }
+    requires room { 8 * octets ≤ room.spare }
+    ensures { HasContents 7 result (fields bits (simple_numbers points.now)) }
+{
+    write_head(octets, 7, &mut room);
+    put_numbers(points, bits, &mut room);
+    room.align();
+    written(room)
+}
+
+/// Writes the scaled numbers, in so many bits each.
+fn put_numbers(points: &[Point], bits: u32, out: &mut BitWriter)
+    requires width { bits ≤ 48 }
+    requires fits { All (λ number. number < 2 ^ bits) (simple_numbers points.now) }
+    requires room { length (fields bits (simple_numbers points.now)) ≤ out.old.spare }
+    ensures bits { out.new.bits ≡ out.old.bits ++ fields bits (simple_numbers points.now) }
+    ensures spare { out.new.spare + length (fields bits (simple_numbers points.now)) ≡ out.old.spare }
+{
+    for point in points {
+        if let Point::Scaled(x) = *point {
+            out.put(x.unsigned_abs(), bits);
+        }
+    }
+}
