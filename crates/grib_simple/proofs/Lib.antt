@@ -5,3 +5,5 @@ pub mod Masked
 pub mod Seen
 mod PointByPoint
 pub mod Fitting
+mod Bitmaps
+pub mod Back

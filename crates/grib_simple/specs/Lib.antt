@@ -4,3 +4,4 @@ pub mod Unpacked
 pub mod Survey
 pub mod Written
 pub mod Sections
+pub mod Laws

@@ -2,6 +2,7 @@
 //! packing: template 5.0.
 #![tactic(auto)]
 
+pub mod laws;
 mod numbers;
 mod packed;
 mod packing;

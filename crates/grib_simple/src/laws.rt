@@ -1,0 +1,16 @@
+//! Laws over the definitions.
+
+ghost use Rattle.std.specs.Prelude.{◌≡◌, ℕ, None, List};
+ghost use Rattle.grib_packing.specs.declared.column.Column as column_packing;
+ghost use Rattle.grib_packing.specs.Misfits.{ToSimple, first_misfit};
+ghost use Rattle.grib_packing.specs.Packed.{Packed as HasPacked};
+ghost use Rattle.grib_simple.specs.Laws.{UnpackTo};
+ghost use Rattle.grib_simple.specs.Written.{MayBePacked};
+
+/// What is packed simply unpacks to the same column: where nothing of a column fails to fit, the sections
+/// of simple packing are accepted, and their column is the one that was packed.
+pub fn what_is_packed_simply_reads_back()
+    ensures { (column : column_packing.Column) (kind : ℕ) (s5 s6 s7 : List ℕ)
+        → MayBePacked column → first_misfit ToSimple column.points ≡ None
+        → HasPacked ToSimple column kind s5 s6 s7 → UnpackTo column s5 s6 s7 }
+{}
