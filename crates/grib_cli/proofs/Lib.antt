@@ -1,1 +1,4 @@
 mod Asked
+mod Numbers
+mod Parts
+mod Counts

@@ -1,9 +1,21 @@
 //! The words of the command line.
 
-ghost use Rattle.std.specs.Prelude.{◌≡◌, map, string_bytes};
+ghost use Rattle.std.specs.Prelude.{◌≡◌, ◌≤◌, [], length, map, string_bytes};
+ghost use Rattle.grib_cli.specs.Reading as grammar;
+ghost use Rattle.grib_cli.specs.Reading.{entries, size_entries, target_entries, reading};
 ghost use Rattle.grib_cli.specs.Words as asked;
 
 use grib_engine::Job;
+use grib_select::Key;
+
+mod command;
+pub mod laws;
+#[cfg(test)]
+mod tests;
+mod values;
+
+pub use command::Command;
+use values::{is_between, key_value};
 
 /// The job that the words ask for: exactly one word, the command. Other words are not built so far.
 pub fn job_of(words: &[String]) -> Option<Job>
@@ -17,4 +29,142 @@ pub fn job_of(words: &[String]) -> Option<Job>
         "dump" => Some(Job::Dump),
         _ => None,
     }
+}
+
+/// Reads the words of a command line: the command that they ask for. Where they ask for none, the place
+/// of the first word that is not read, from 0 for the command on, or the number of words where all are
+/// read and one that is needed is missing.
+pub fn read_words(words: &[String]) -> Result<Command, u64>
+    ensures { result ≡ reading (map string_bytes words.now) }
+{
+    let [first, later @ ..] = words else {
+        return Err(0);
+    };
+    let Some(command) = Command::named(first.as_str()) else {
+        return Err(0);
+    };
+    let count = read_count(command, later);
+    if count == later.len() && is_complete(command, later) {
+        Ok(command)
+    } else {
+        Err(count as u64 + 1)
+    }
+}
+
+/// How many of the words behind the command are read, from the first on.
+fn read_count(command: Command, words: &[String]) -> usize
+    ensures count { result ≡ grammar.read_count command [] (map string_bytes words.now) }
+    ensures within { result ≤ length words.now }
+{
+    for (place, word) in words.iter().enumerate() {
+        if !is_read(command, &words[..place], word.as_str()) {
+            return place;
+        }
+    }
+    words.len()
+}
+
+/// Whether a word behind these is read: it has a `=`, the command has its name with its value, and none
+/// of the earlier words has its name.
+fn is_read(command: Command, earlier: &[String], word: &str) -> bool
+    ensures { result ≡ grammar.is_read command (map string_bytes earlier.now) word.now }
+{
+    match word.split_once('=') {
+        Some((name, value)) => takes(command, name, value) && !has_name(earlier, name),
+        None => false,
+    }
+}
+
+/// Whether one of the words has this name.
+fn has_name(words: &[String], name: &str) -> bool
+    ensures { result ≡ grammar.has_name name.now (map string_bytes words.now) }
+{
+    words.iter().any(|word| is_named(word.as_str(), name))
+}
+
+/// Whether a word has this name.
+fn is_named(word: &str, name: &str) -> bool
+    ensures { result ≡ grammar.is_named name.now word.now }
+{
+    match word.split_once('=') {
+        Some((found, _)) => found == name,
+        None => false,
+    }
+}
+
+/// Whether a command has a name with this value.
+fn takes(command: Command, name: &str, value: &str) -> bool
+    ensures { result ≡ grammar.takes (entries command) name.now value.now }
+{
+    match command {
+        Command::Check | Command::List | Command::Dump => false,
+        Command::Filter => Key::of(name).is_some() && key_value(value).is_some(),
+        Command::Set => is_key_to_set(name) && key_value(value).is_some(),
+        Command::Split => name == "out" && !value.is_empty(),
+        Command::Repack => takes_target(name, value),
+        Command::Migrate => {
+            (name == "params" && !value.is_empty()) || (name == "local" && value == "keep")
+        }
+        Command::Make => takes_size(name, value) || takes_target(name, value),
+    }
+}
+
+/// Whether a name is that of a key that can be set.
+fn is_key_to_set(name: &str) -> bool
+    ensures { result ≡ grammar.is_key_to_set name.now }
+{
+    match Key::of(name) {
+        Some(key) => key.can_set(),
+        None => false,
+    }
+}
+
+/// Whether the names by which fields are packed anew have a name with this value.
+fn takes_target(name: &str, value: &str) -> bool
+    ensures { result ≡ grammar.takes target_entries name.now value.now }
+{
+    (name == "to" && matches!(value, "0" | "2" | "3"))
+        || (name == "order" && matches!(value, "1" | "2"))
+}
+
+/// Whether the names of the size and the contents of a made message have a name with this value.
+fn takes_size(name: &str, value: &str) -> bool
+    ensures { result ≡ grammar.takes size_entries name.now value.now }
+{
+    (name == "seed" && is_between(value, 0, 2_147_483_647))
+        || (name == "ni" && is_between(value, 1, 4096))
+        || (name == "nj" && is_between(value, 1, 4096))
+}
+
+/// Whether the names that the command needs are among the words.
+fn is_complete(command: Command, words: &[String]) -> bool
+    ensures { result ≡ grammar.is_complete command (map string_bytes words.now) }
+{
+    match command {
+        Command::Check | Command::List | Command::Dump => true,
+        Command::Filter | Command::Set => !words.is_empty(),
+        Command::Split => has_name(words, "out"),
+        Command::Repack => has_target(words),
+        Command::Migrate => has_name(words, "params"),
+        Command::Make => {
+            has_name(words, "seed")
+                && has_name(words, "ni")
+                && has_name(words, "nj")
+                && has_target(words)
+        }
+    }
+}
+
+/// Whether `to` is among the words, with `order` beside `to=3` and beside no other.
+fn has_target(words: &[String]) -> bool
+    ensures { result ≡ grammar.has_target (map string_bytes words.now) }
+{
+    has_name(words, "to") && has_name(words, "order") == has_word(words, "to=3")
+}
+
+/// Whether this is one of the words.
+fn has_word(words: &[String], whole: &str) -> bool
+    ensures { result ≡ grammar.has_word whole.now (map string_bytes words.now) }
+{
+    words.iter().any(|word| word.as_str() == whole)
 }

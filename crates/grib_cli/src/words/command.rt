@@ -1,0 +1,38 @@
+//! The commands by name.
+
+ghost use Rattle.std.specs.Prelude.{◌≡◌};
+ghost use Rattle.grib_cli.specs.Reading.{command_named};
+
+/// What a command line can ask for, by its first word.
+#[derive(Clone, Copy, Debug, PartialEq, Eq)]
+pub enum Command {
+    Check,
+    List,
+    Dump,
+    Filter,
+    Split,
+    Set,
+    Repack,
+    Migrate,
+    Make,
+}
+
+impl Command {
+    /// The command of this name, `None` where there is none.
+    pub fn named(word: &str) -> Option<Command>
+        ensures { result ≡ command_named word.now }
+    {
+        match word {
+            "check" => Some(Command::Check),
+            "list" => Some(Command::List),
+            "dump" => Some(Command::Dump),
+            "filter" => Some(Command::Filter),
+            "split" => Some(Command::Split),
+            "set" => Some(Command::Set),
+            "repack" => Some(Command::Repack),
+            "migrate" => Some(Command::Migrate),
+            "make" => Some(Command::Make),
+            _ => None,
+        }
+    }
+}

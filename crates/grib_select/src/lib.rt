@@ -1,0 +1,11 @@
+//! The keys of a field: numbers in the sections of a message of edition 2, by name.
+#![tactic(auto)]
+
+mod condition;
+mod key;
+pub mod laws;
+#[cfg(test)]
+mod tests;
+
+pub use condition::{Condition, Value};
+pub use key::Key;
