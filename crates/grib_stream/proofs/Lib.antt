@@ -1,0 +1,4 @@
+pub mod Streams
+pub mod Worlds
+pub mod Nexts
+pub mod SoFar

@@ -1,0 +1,7 @@
+pub mod Stream
+pub mod Acts
+pub mod Outcomes
+pub mod Task
+pub mod Answer
+pub mod Faults
+pub mod Run
