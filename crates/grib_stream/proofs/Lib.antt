@@ -2,3 +2,4 @@ pub mod Streams
 pub mod Worlds
 pub mod Nexts
 pub mod SoFar
+pub mod Windows

@@ -9,6 +9,7 @@ use Rattle.memchr.specs.Find.{FindsNeedle}
 use Rattle.memchr.proofs.lemmas.MatchLemmas.{OccursAt-part, OccursAt-from_part}
 use Rattle.grib_io.specs.Rows.{choose}
 use Rattle.grib2_sections.specs.Head.{indicator}
+use Rattle.grib_stream.specs.Searching.{Markless, Unmarked}
 use Rattle.grib_stream.specs.Stream.{begins, Judgement, Message, Faulty, Unbuilt, Found, message_after, Over, Refusing, NotRead, Stream, stream_of, followed_by, on_judgement, stream_from}
 
 -- the octets that are left of a message that was found are passed over
@@ -63,10 +64,6 @@ stream_refused judge place skipped (octet ∷ octets) judged end some is ends =
     (λ total. followed_by (message_after place (take total (octet ∷ octets))) (stream_from judge (total - 1) (place + 1) skipped octets))) is
     ∙ ends _)
 
--- no message begins in the first n octets
-pub record Markless (n : ℕ) (octets : List ℕ) : Type 0 where
-  pub none : (k : ℕ) → k < n → begins (drop k octets) ≡ false
-
 pub stream_passed : (judge : List ℕ → Judgement) (place skipped n : ℕ) (octets : List ℕ) → n ≤ length octets → Markless n octets
     → stream_from judge 0 place skipped octets ≡ stream_from judge 0 (place + n) (skipped + n) (drop n octets)
 stream_passed judge place skipped zero octets within markless =
@@ -105,11 +102,6 @@ pub begins_stays : (octets more : List ℕ) (k : ℕ) → k + 4 ≤ length octet
 begins_stays octets more k there =
     ap begins (drop-append-le k octets more (omega arith))
     ∙ ap (λ xs. bytes_eq xs indicator) (take-append-le 4 (drop k octets) more (omega (arith, length-drop k octets)))
-
--- the first n octets begin no message, whatever follows
-pub record Unmarked (n : ℕ) (octets : List ℕ) : Type 0 where
-  pub there : (k : ℕ) → k < n → k + 4 ≤ length octets
-  pub none : Markless n octets
 
 pub unmarked_within : (n : ℕ) (octets : List ℕ) → Unmarked n octets → n ≤ length octets
 unmarked_within zero octets unmarked = omega arith

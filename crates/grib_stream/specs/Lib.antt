@@ -1,7 +1,10 @@
 pub mod Stream
+pub mod Searching
 pub mod Acts
 pub mod Outcomes
 pub mod Task
 pub mod Answer
+pub mod Reading
+pub mod Rest
 pub mod Faults
 pub mod Run

@@ -2,8 +2,11 @@
 //! whatever pieces the input comes. It knows no command.
 #![tactic(auto)]
 
+mod gathering;
 mod outcome;
 mod place;
+mod searching;
+mod window;
 
 pub use outcome::Outcome;
 pub use place::{Place, Totals};
