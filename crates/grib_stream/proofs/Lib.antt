@@ -3,3 +3,5 @@ pub mod Worlds
 pub mod Nexts
 pub mod SoFar
 pub mod Windows
+pub mod Exits
+pub mod Going

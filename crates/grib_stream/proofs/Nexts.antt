@@ -27,7 +27,7 @@ is_final (Whole total fields acts) = true
 is_final (Refuses fault) = not (is_truncated fault.reason)
 is_final (Stops outcome) = true
 
-not_true : (b : Bool) → not b ≡ true → b ≡ false
+pub not_true : (b : Bool) → not b ≡ true → b ≡ false
 not_true true e = sym e
 not_true false e = refl
 

@@ -6,5 +6,6 @@ pub mod Task
 pub mod Answer
 pub mod Reading
 pub mod Rest
+pub mod Performed
 pub mod Faults
 pub mod Run

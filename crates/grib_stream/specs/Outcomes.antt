@@ -1,5 +1,5 @@
 -- The outcomes of a run.
-use Rattle.std.specs.Prelude.{ℕ, Bool, true, false}
+use Rattle.std.specs.Prelude.{◌≡◌, ◌⊎◌, ℕ, Bool, true, false, not}
 use Rattle.grib_io.specs.declared.fault.Reason.{Reason}
 use Rattle.grib_io.specs.declared.fault.Reason.TheVariants.{Truncated}
 use Rattle.grib_stream.specs.declared.outcome.Outcome.{Outcome}
@@ -53,3 +53,18 @@ is_open WriteFault = false
 is_open Memory = false
 is_open InputTooLong = false
 is_open NotBuilt = false
+
+-- whether it is of a message, before which the run ends, whatever follows
+abbrev pub is_of_message : Outcome → Bool
+is_of_message Done = false
+is_of_message (Usage word) = false
+is_of_message (Refused refusal) = not (is_truncated refusal.fault.reason)
+is_of_message ReadFault = false
+is_of_message WriteFault = false
+is_of_message Memory = false
+is_of_message InputTooLong = false
+is_of_message NotBuilt = true
+
+-- the end of a run keeps the outcome, or writing broke
+abbrev pub KeepsOrCuts : Outcome → Outcome → Type 0
+KeepsOrCuts outcome result = (result ≡ outcome) ⊎ (is_cut_short result ≡ true)

@@ -1,5 +1,5 @@
 -- What is to be done with the messages of an input, as far as a run over them has to know it.
-use Rattle.std.specs.Prelude.{◌≡◌, ℕ, ◌≤◌, false, List, [], ◌++◌, length, take}
+use Rattle.std.specs.Prelude.{◌≡◌, ℕ, ◌≤◌, true, false, List, [], ◌++◌, length, take}
 use Rattle.grib_io.specs.declared.fault.Fault.{Fault}
 use Rattle.grib_stream.specs.declared.outcome.Outcome.{Outcome}
 use Rattle.grib_stream.specs.declared.outcome.Outcome.TheVariants.{NotBuilt}
@@ -7,7 +7,7 @@ use Rattle.grib_stream.specs.declared.place.Place.{Place}
 use Rattle.grib_stream.specs.declared.place.Totals.{Totals}
 use Rattle.grib_stream.specs.Stream.{Judgement, Message, Faulty, Unbuilt}
 use Rattle.grib_stream.specs.Acts.{Act}
-use Rattle.grib_stream.specs.Outcomes.{is_truncated}
+use Rattle.grib_stream.specs.Outcomes.{is_truncated, is_of_message}
 
 -- the result of a message: what is done for it, or the outcome with which the run ends before it
 pub data Given : Type 0 where
@@ -32,7 +32,8 @@ pub record Task : Type 0 where
   pub note : Outcome → List ℕ
 
 -- What is said of octets stays said whatever follows them, but for the refusal of octets that end too
--- early. An accepted length is at least 4, its octets are there, and the acceptance rests on them alone.
+-- early. An accepted length is at least 4, its octets are there, and the acceptance rests on them alone. An
+-- outcome with which a run ends at a message is one of a message.
 pub record IsLawful (task : Task) : Type 0 where
   pub message_stays : (octets more : List ℕ) (total : ℕ) → task.judge octets ≡ Message total → task.judge (octets ++ more) ≡ Message total
   pub refusal_stays : (octets more : List ℕ) (fault : Fault) → task.judge octets ≡ Faulty fault → is_truncated fault.reason ≡ false
@@ -42,6 +43,7 @@ pub record IsLawful (task : Task) : Type 0 where
   pub there : (octets : List ℕ) (total : ℕ) → task.judge octets ≡ Message total → total ≤ length octets
   pub alone : (octets : List ℕ) (total : ℕ) → task.judge octets ≡ Message total → task.judge (take total octets) ≡ Message total
   pub few_fields : (octets : List ℕ) (total : ℕ) → task.judge octets ≡ Message total → task.fields (take total octets) ≤ total
+  pub ends_at_message : (place : Place) (message : List ℕ) (outcome : Outcome) → task.result place message ≡ Ends outcome → is_of_message outcome ≡ true
 
 -- what comes next of the octets from a `GRIB` on: a message of this length with so many fields, for which
 -- this is done; a refusal; or an end with this outcome

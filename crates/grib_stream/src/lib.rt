@@ -4,9 +4,11 @@
 
 mod gathering;
 mod outcome;
+mod performer;
 mod place;
 mod searching;
 mod window;
 
 pub use outcome::Outcome;
+pub use performer::{Performed, Performer, Whole};
 pub use place::{Place, Totals};
