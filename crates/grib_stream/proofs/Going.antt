@@ -1,17 +1,22 @@
 -- A run that goes on, and where it stops.
 use Rattle.std.proofs.Common.{◌≡◌, ℕ, ◌+◌, ◌<◌, ◌≤◌, true, false, List, [], ◌∷◌, ◌++◌, length, take, drop, refl, sym, ap, ◌∙◌, subst, arith, append_assoc, append-nil, length-append}
+use Rattle.std.specs.declared.option.Option.{Option}
+use Rattle.std.specs.Io.KnownBytes.{Consumes, Keeps, IsAtEnd}
+use Rattle.std.proofs.KnownBytes.{Consumes-nil, Consumes-trans, Consumes-kept}
 use Rattle.grib_io.specs.declared.fault.Fault.{Fault}
 use Rattle.grib_stream.specs.declared.outcome.Outcome.{Outcome}
 use Rattle.grib_stream.specs.declared.outcome.Outcome.TheVariants.{Refused}
 use Rattle.grib_stream.specs.declared.place.Totals.{Totals}
 use Rattle.grib_stream.specs.Stream.{begins, Message}
+use Rattle.grib_stream.specs.Searching.{Unmarked}
+use Rattle.grib_stream.specs.Reading.{Gathers}
 use Rattle.grib_stream.specs.Acts.{Act, World, Did, DidFront}
 use Rattle.grib_stream.specs.Outcomes.{is_truncated, is_open}
 use Rattle.grib_stream.specs.Task.{Task, IsLawful, Next, Whole, Refuses, Stops, acts_of}
-use Rattle.grib_stream.specs.Answer.{Answer, silent, done, after, refusal_after, answer_at, answer_of}
-use Rattle.grib_stream.proofs.Worlds.{did_still, front_whole, front_more, front_after, did_none}
-use Rattle.grib_stream.proofs.Nexts.{next_here, next_stays, is_final, skipping, answer_by, answer_next, answer_few, message_next}
-use Rattle.grib_stream.proofs.SoFar.{SoFar, so_far_message, answer_stays}
+use Rattle.grib_stream.specs.Answer.{Answer, silent, done, after, totals_of, refusal_after, answer_at, answer_of}
+use Rattle.grib_stream.proofs.Worlds.{did_then, did_still, front_whole, front_more, front_after, did_none}
+use Rattle.grib_stream.proofs.Nexts.{next_here, next_stays, is_final, counted, skipping, answer_by, answer_next, answer_few, message_next}
+use Rattle.grib_stream.proofs.SoFar.{SoFar, nothing_so_far, so_far_read, so_far_passed, so_far_message, answer_stays}
 
 -- what was done so far is a front of the answer, whatever follows
 pub so_far_front : (task : Task) (taken : List ℕ) (acts : List Act) (totals : Totals) (place : ℕ) (pending : List ℕ) (before now : World)
@@ -109,3 +114,70 @@ stops_whole task lawful taken acts totals place pending n answer begun so is fin
     so.whole more
     ∙ ap (after acts)
     (answer_stays task lawful totals place pending more n begun (next_stays task lawful _ pending more n is final) ∙ same (pending ++ more))
+
+-- ---- the state of a run
+
+-- What was taken and done so far, with so many octets that may still be taken.
+pub record Going (task : Task) (limit left : ℕ) (a b : Option (List ℕ)) (before now : World) (totals : Totals) (place : ℕ) (pending : List ℕ) : Type 0 where
+  pub taken : List ℕ
+  pub acts : List Act
+  pub consumed : Consumes a b taken
+  pub counted : length taken + left ≡ limit
+  pub did : Did before now acts
+  pub so : SoFar task taken acts totals place pending
+
+pub going_nowhere : (task : Task) (limit : ℕ) (a : Option (List ℕ)) (before : World) → Going task limit limit a a before before (totals_of 0 0 0) 0 []
+going_nowhere task limit a before =
+    record { taken = []; acts = []; consumed = Consumes-nil a; counted = omega arith; did = did_none before; so = nothing_so_far task }
+
+-- octets that begin no message were passed over; the window was shown before and after
+pub going_shown : {task : Task} {limit left : ℕ} {a b : Option (List ℕ)} {before mid : World} {totals : Totals} {place : ℕ} {pending : List ℕ} (n : ℕ) (first next shown : List ℕ)
+    → Going task limit left a b before mid totals place pending → first ≡ pending → Unmarked n first → next ≡ drop n pending → shown ≡ next
+    → Going task limit left a b before mid (skipping totals n) (place + n) shown
+going_shown {task} {limit} {left} {a} {b} {before} {mid} {totals} {place} {pending} n first next shown going is unmarked passed is_shown =
+    let here : Unmarked n pending = subst (Unmarked n) is unmarked in
+    let same : drop n pending ≡ shown = sym passed ∙ sym is_shown in
+    record {
+      taken = going.taken;
+      acts = going.acts;
+      consumed = going.consumed;
+      counted = going.counted;
+      did = going.did;
+      so = subst (SoFar task going.taken going.acts (skipping totals n) (place + n)) same (so_far_passed task going.taken going.acts totals place n pending here going.so);
+    }
+
+-- a message was answered and passed over
+pub going_on : {task : Task} {limit left : ℕ} {a b : Option (List ℕ)} {before mid : World} {totals : Totals} {place : ℕ} {shown : List ℕ} (lawful : IsLawful task)
+    (now : World) (total fields : ℕ) (done : List Act) (window : List ℕ) → Going task limit left a b before mid totals place shown → begins shown ≡ true
+    → next_here task totals place shown ≡ Whole total fields done → Did mid now done → window ≡ drop total shown
+    → Going task limit left a b before now (counted totals fields) (place + total) window
+going_on {task} {limit} {left} {a} {b} {before} {mid} {totals} {place} {shown} lawful now total fields done window going begun is did passed = record {
+  taken = going.taken;
+  acts = going.acts ++ done;
+  consumed = going.consumed;
+  counted = going.counted;
+  did = did_then before mid now going.acts done going.did did;
+  so = subst (SoFar task going.taken (going.acts ++ done) (counted totals fields) (place + total)) (sym passed)
+      (so_far_message task lawful going.taken going.acts done totals place total fields shown begun is going.so);
+}
+
+-- more was read, and nothing was done
+pub going_read : {task : Task} {limit left left_now : ℕ} {a b c : Option (List ℕ)} {before mid : World} {totals : Totals} {place : ℕ} {shown window window_now : List ℕ} (now : World)
+    → Going task limit left a b before mid totals place shown → shown ≡ window → Did mid now [] → Gathers b c window window_now left left_now
+    → Going task limit left_now a c before now totals place window_now
+going_read {task} {limit} {left} {left_now} {a} {b} {c} {before} {mid} {totals} {place} {shown} {window} {window_now} now going is still gathers =
+    let grown : shown ++ gathers.piece ≡ window_now = ap (λ xs. xs ++ gathers.piece) is ∙ sym gathers.grown in
+    record {
+      taken = going.taken ++ gathers.piece;
+      acts = going.acts;
+      consumed = Consumes-trans a b c going.taken gathers.piece going.consumed gathers.taken;
+      counted = omega (arith, length-append going.taken gathers.piece, going.counted, gathers.size);
+      did = did_still before mid now going.acts going.did still;
+      so = subst (SoFar task (going.taken ++ gathers.piece) going.acts totals place) grown
+          (so_far_read task going.taken going.acts totals place shown gathers.piece going.so);
+    }
+
+pub going_start : (task : Task) (limit : ℕ) (a : Option (List ℕ)) (before : World) (window : List ℕ) → window ≡ []
+    → Going task limit limit a a before before (totals_of 0 0 0) 0 window
+going_start task limit a before window is =
+    subst (Going task limit limit a a before before (totals_of 0 0 0) 0) (sym is) (going_nowhere task limit a before)

@@ -5,3 +5,4 @@ pub mod SoFar
 pub mod Windows
 pub mod Exits
 pub mod Going
+pub mod Stopping

@@ -1,6 +1,7 @@
 -- What comes next, whatever follows.
-use Rattle.std.proofs.Common.{◌≡◌, ℕ, zero, suc, ◌+◌, ◌-◌, ◌<◌, ◌≤◌, Bool, true, false, not, List, [], ◌∷◌, ◌++◌, length, take, drop, refl, sym, ap, ◌∙◌, subst, arith, length-drop}
+use Rattle.std.proofs.Common.{◌≡◌, ℕ, zero, suc, ◌+◌, ◌-◌, ◌<◌, ◌≤◌, Bool, true, false, not, List, [], ◌∷◌, ◌++◌, length, take, drop, refl, sym, ap, ◌∙◌, subst, arith, length-drop, take-append-drop, ⊎_elim}
 use Rattle.std.proofs.lemmas.List.{take-append-le, drop_all}
+use Rattle.std.proofs.lemmas.Bool.{cases_lt}
 use Rattle.grib_io.specs.declared.fault.Fault.{Fault}
 use Rattle.grib_stream.specs.declared.outcome.Outcome.{Outcome}
 use Rattle.grib_stream.specs.declared.outcome.Outcome.TheVariants.{NotBuilt, Refused}
@@ -15,10 +16,10 @@ use Rattle.grib_stream.specs.Answer.{Answer, silent, done, after, totals_of, pla
 use Rattle.grib_stream.proofs.Streams.{stream_message, stream_refused, stream_passed, none_in_few}
 
 -- what comes next where a message is accepted
-abbrev next_whole : Task → Place → List ℕ → ℕ → Next
+abbrev pub next_whole : Task → Place → List ℕ → ℕ → Next
 next_whole task place octets total = next_given (task.result place (take total octets)) total (task.fields (take total octets))
 
-judged : (task : Task) (place : Place) (octets : List ℕ) (j : Judgement) → task.judge octets ≡ j → next_of task place octets ≡ next_judged j (next_whole task place octets)
+pub judged : (task : Task) (place : Place) (octets : List ℕ) (j : Judgement) → task.judge octets ≡ j → next_of task place octets ≡ next_judged j (next_whole task place octets)
 judged task place octets j is = ap (λ k. next_judged k (next_whole task place octets)) is
 
 -- whether it stays, whatever follows
@@ -78,6 +79,23 @@ message_by task place octets total fields acts Unbuilt so is =
 pub message_next : (task : Task) (place : Place) (octets : List ℕ) (total fields : ℕ) (acts : List Act) → next_of task place octets ≡ Whole total fields acts
     → IsMessage task octets total fields
 message_next task place octets total fields acts is = message_by task place octets total fields acts (task.judge octets) refl is
+
+refuses_not_given : (g : Given) (total fields : ℕ) (fault : Fault) → next_given g total fields ≡ Refuses fault → ⊥
+refuses_not_given (Gives acts) total fields fault is = cc
+refuses_not_given (Ends outcome) total fields fault is = cc
+
+-- octets that are refused are fewer than their message has
+pub longer : (task : Task) → IsLawful task → (place : Place) (octets more : List ℕ) (fault : Fault) (total : ℕ) → next_of task place octets ≡ Refuses fault
+    → task.judge (octets ++ more) ≡ Message total → length octets < total
+longer task lawful place octets more fault total is later =
+    ⊎_elim (λ less. less)
+    (λ there.
+    let alone : task.judge (take total octets) ≡ Message total =
+    ap task.judge (sym (take-append-le total octets more there)) ∙ lawful.alone (octets ++ more) total later in
+    let here : task.judge octets ≡ Message total =
+    ap task.judge (sym (take-append-drop total octets)) ∙ lawful.message_stays (take total octets) (drop total octets) total alone in
+    absurd (refuses_not_given (task.result place (take total octets)) total (task.fields (take total octets)) fault (sym (judged task place octets (Message total) here) ∙ is)))
+    (cases_lt (length octets) total)
 
 -- ---- the answer, by what comes next
 

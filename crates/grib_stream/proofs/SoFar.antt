@@ -55,7 +55,7 @@ so_far_passed task taken acts totals place n pending unmarked so =
       skipped = omega (arith, so.skipped);
     }
 
-begun_stays : (octets more : List ℕ) → begins octets ≡ true → begins (octets ++ more) ≡ true
+pub begun_stays : (octets more : List ℕ) → begins octets ≡ true → begins (octets ++ more) ≡ true
 begun_stays octets more begun = begins_stays octets more 0 (let long : 4 ≤ length octets = begins_long octets begun in omega arith) ∙ begun
 
 -- what comes next stays, and so does the answer

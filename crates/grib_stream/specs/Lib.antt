@@ -7,5 +7,6 @@ pub mod Answer
 pub mod Reading
 pub mod Rest
 pub mod Performed
+pub mod Turning
 pub mod Faults
 pub mod Run

@@ -2,10 +2,12 @@
 //! whatever pieces the input comes. It knows no command.
 #![tactic(auto)]
 
+mod deciding;
 mod gathering;
 mod outcome;
 mod performer;
 mod place;
+mod running;
 mod searching;
 mod window;
 
