@@ -1,5 +1,5 @@
 -- How a run ends, by what was taken and done.
-use Rattle.std.proofs.Common.{◌≡◌, ◌≢◌, ℕ, ◌+◌, ◌-◌, ◌<◌, ◌≤◌, Bool, true, false, cond, List, [], ◌∷◌, ◌++◌, Some, None, IfSome, length, take, drop, nat_lt, refl, sym, ap, ◌∙◌, subst, arith, ⊎_elim, inl, inr, append_assoc, append-nil, length-append, take_at}
+use Rattle.std.proofs.Common.{◌≡◌, ◌≢◌, ℕ, ◌+◌, ◌-◌, ◌<◌, ◌≤◌, true, false, List, [], ◌++◌, Some, None, IfSome, length, take, refl, sym, ap, ◌∙◌, subst, arith, ⊎_elim, inl, inr, append_assoc, append-nil, length-append, take_at}
 use Rattle.std.proofs.lemmas.Bool.{cases_lt, lt-ltb, le-ltb, cond-true, cond-false, cases_Bool, false≢true}
 use Rattle.std.proofs.Math.Seq.{take-append-add}
 use Rattle.std.specs.declared.option.Option.{Option}
@@ -14,7 +14,7 @@ use Rattle.grib_stream.specs.Acts.{Act, World, Did, DidFront}
 use Rattle.grib_stream.specs.Outcomes.{KeepsOrCuts, is_broken, is_cut_short, is_open, is_truncated, is_of_message}
 use Rattle.grib_stream.specs.Task.{Task}
 use Rattle.grib_stream.specs.Answer.{Answer, silent, done, after, answer_of, answer_within, at_limit}
-use Rattle.grib_stream.specs.Run.{Gives, Took, Runs}
+use Rattle.grib_stream.specs.Run.{Gives, Runs, IsOver}
 use Rattle.grib_stream.proofs.Worlds.{did_then, did_still, front_whole, front_more, front_after, front_still}
 use Rattle.grib_stream.proofs.Nexts.{not_true}
 
@@ -101,12 +101,16 @@ runs_to_message task limit outcome a b before now taken acts kind consumed short
     record {
       gives = if_any a b taken (λ input. Gives (answer_within limit task input) outcome before now) consumed
           (λ left. subst (λ x. Gives x outcome before now) (sym (within left)) (silent_gives task acts outcome before now did));
-      taken = (taken, consumed, record {
-        most = omega arith;
-        short = λ unbroken other. short;
-        long = λ e. absurd (of.not_long e);
-        read_fault = λ e. absurd (of.not_read e);
-      });
+      taken = (
+        taken,
+        consumed,
+        record {
+          most = omega arith;
+          short = λ unbroken other. short;
+          long = λ e. absurd (of.not_long e);
+          read_fault = λ e. absurd (of.not_read e);
+        },
+      );
       end = λ e. absurd (of.not_done e);
     }
 
@@ -145,12 +149,16 @@ runs_broken task limit outcome a b before now taken broken consumed short front 
                 (λ more. front_more before now (answer_of task (taken ++ more)).acts (answer_of task (taken ++ more)).ending (front more))
                 (λ more. cut_front task (answer_of task (taken ++ more)) before now (front more));
           });
-      taken = (taken, consumed, record {
-        most = omega arith;
-        short = λ unbroken other. short;
-        long = λ e. let same : is_broken InputTooLong ≡ true = subst (λ o. is_broken o ≡ true) e broken in absurd (false≢true same);
-        read_fault = read;
-      });
+      taken = (
+        taken,
+        consumed,
+        record {
+          most = omega arith;
+          short = λ unbroken other. short;
+          long = λ e. let same : is_broken InputTooLong ≡ true = subst (λ o. is_broken o ≡ true) e broken in absurd (false≢true same);
+          read_fault = read;
+        },
+      );
       end = λ e. let same : is_broken Done ≡ true = subst (λ o. is_broken o ≡ true) e broken in absurd (false≢true same);
     }
 
@@ -201,12 +209,16 @@ runs_undone task limit totals outcome a b before mid now taken acts cut consumed
     record {
       gives = Consumes-whole a b taken (λ input. Gives (answer_within limit task input) outcome before now) consumed ended
           (subst (λ x. Gives x outcome before now) (sym (within_short task limit taken short ∙ whole)) gives);
-      taken = (taken, consumed, record {
-        most = omega arith;
-        short = λ unbroken other. short;
-        long = λ e. let same : is_broken InputTooLong ≡ true = subst (λ o. is_broken o ≡ true) e broken in absurd (false≢true same);
-        read_fault = λ e. let same : is_cut_short ReadFault ≡ true = subst (λ o. is_cut_short o ≡ true) e cut in absurd (false≢true same);
-      });
+      taken = (
+        taken,
+        consumed,
+        record {
+          most = omega arith;
+          short = λ unbroken other. short;
+          long = λ e. let same : is_broken InputTooLong ≡ true = subst (λ o. is_broken o ≡ true) e broken in absurd (false≢true same);
+          read_fault = λ e. let same : is_cut_short ReadFault ≡ true = subst (λ o. is_cut_short o ≡ true) e cut in absurd (false≢true same);
+        },
+      );
       end = λ e. let same : is_broken Done ≡ true = subst (λ o. is_broken o ≡ true) e broken in absurd (false≢true same);
     }
 
@@ -234,12 +246,16 @@ runs_long task limit a b before now first piece acts consumed size one did is un
     record {
       gives = if_any a b (first ++ piece) (λ input. Gives (answer_within limit task input) InputTooLong before now) consumed
           (λ left. subst (λ x. Gives x InputTooLong before now) (sym (within left)) gives);
-      taken = (first ++ piece, consumed, record {
-        most = omega arith;
-        short = λ unbroken other. absurd (other refl);
-        long = λ e. more;
-        read_fault = λ e. cc;
-      });
+      taken = (
+        first ++ piece,
+        consumed,
+        record {
+          most = omega arith;
+          short = λ unbroken other. absurd (other refl);
+          long = λ e. more;
+          read_fault = λ e. cc;
+        },
+      );
       end = λ e. cc;
     }
 
@@ -277,11 +293,26 @@ runs_to_the_end task limit outcome result a b before mid now runs still one_of =
     record {
       gives = if_weaker a (λ input. Gives (answer_within limit task input) outcome before mid) (λ input. Gives (answer_within limit task input) result before now)
           (λ input gives. gives_still (answer_within limit task input) outcome result before mid now gives still same) runs.gives;
-      taken = (taken, consumed, record {
-        most = took.most;
-        short = λ unbroken other. took.short (subst (λ o. is_broken o ≡ false) (same unbroken) unbroken) (λ e. other (same unbroken ∙ e));
-        long = λ e. took.long (kept_unless outcome result InputTooLong one_of e refl);
-        read_fault = λ e. did_still before mid now (answer_of task taken).acts (took.read_fault (kept_unless outcome result ReadFault one_of e refl)) still;
-      });
+      taken = (
+        taken,
+        consumed,
+        record {
+          most = took.most;
+          short = λ unbroken other. took.short (subst (λ o. is_broken o ≡ false) (same unbroken) unbroken) (λ e. other (same unbroken ∙ e));
+          long = λ e. took.long (kept_unless outcome result InputTooLong one_of e refl);
+          read_fault = λ e. did_still before mid now (answer_of task taken).acts (took.read_fault (kept_unless outcome result ReadFault one_of e refl)) still;
+        },
+      );
       end = λ e. runs.end (kept_unless outcome result Done one_of e refl);
     }
+
+-- the ending of an input that was read to its end
+pub over_done : {task : Task} {limit : ℕ} {totals : Totals} {a b : Option (List ℕ)} {before mid : World} (now : World) → IsOver task limit totals a b before mid
+    → Did mid now (task.ending totals).acts → Runs task limit Done a b before now
+over_done {task} {limit} {totals} {a} {b} {before} {mid} now over ending =
+    runs_done task limit totals a b before mid now over.taken over.acts over.consumed over.end over.short over.did ending over.whole
+
+pub over_undone : {task : Task} {limit : ℕ} {totals : Totals} {a b : Option (List ℕ)} {before mid : World} (now : World) (outcome : Outcome)
+    → is_cut_short outcome ≡ true → IsOver task limit totals a b before mid → DidFront mid now (task.ending totals).acts → Runs task limit outcome a b before now
+over_undone {task} {limit} {totals} {a} {b} {before} {mid} now outcome cut over ending =
+    runs_undone task limit totals outcome a b before mid now over.taken over.acts cut over.consumed over.end over.short over.did ending over.whole

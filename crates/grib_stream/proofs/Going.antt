@@ -1,10 +1,9 @@
 -- A run that goes on, and where it stops.
-use Rattle.std.proofs.Common.{◌≡◌, ℕ, ◌+◌, ◌<◌, ◌≤◌, true, false, List, [], ◌∷◌, ◌++◌, length, take, drop, refl, sym, ap, ◌∙◌, subst, arith, append_assoc, append-nil, length-append}
+use Rattle.std.proofs.Common.{◌≡◌, ℕ, ◌+◌, ◌<◌, true, List, [], ◌∷◌, ◌++◌, length, drop, refl, sym, ap, ◌∙◌, subst, arith, append-nil, length-append}
 use Rattle.std.specs.declared.option.Option.{Option}
-use Rattle.std.specs.Io.KnownBytes.{Consumes, Keeps, IsAtEnd}
-use Rattle.std.proofs.KnownBytes.{Consumes-nil, Consumes-trans, Consumes-kept}
+use Rattle.std.specs.Io.KnownBytes.{Consumes}
+use Rattle.std.proofs.KnownBytes.{Consumes-nil, Consumes-trans}
 use Rattle.grib_io.specs.declared.fault.Fault.{Fault}
-use Rattle.grib_stream.specs.declared.outcome.Outcome.{Outcome}
 use Rattle.grib_stream.specs.declared.outcome.Outcome.TheVariants.{Refused}
 use Rattle.grib_stream.specs.declared.place.Totals.{Totals}
 use Rattle.grib_stream.specs.Stream.{begins, Message}
@@ -14,7 +13,7 @@ use Rattle.grib_stream.specs.Acts.{Act, World, Did, DidFront}
 use Rattle.grib_stream.specs.Outcomes.{is_truncated, is_open}
 use Rattle.grib_stream.specs.Task.{Task, IsLawful, Next, Whole, Refuses, Stops, acts_of}
 use Rattle.grib_stream.specs.Answer.{Answer, silent, done, after, totals_of, refusal_after, answer_at, answer_of}
-use Rattle.grib_stream.proofs.Worlds.{did_then, did_still, front_whole, front_more, front_after, did_none}
+use Rattle.grib_stream.proofs.Worlds.{did_then, did_still, front_more, front_after, did_none}
 use Rattle.grib_stream.proofs.Nexts.{next_here, next_stays, is_final, counted, skipping, answer_by, answer_next, answer_few, message_next}
 use Rattle.grib_stream.proofs.SoFar.{SoFar, nothing_so_far, so_far_read, so_far_passed, so_far_message, answer_stays}
 

@@ -1,18 +1,17 @@
 -- What comes next, whatever follows.
-use Rattle.std.proofs.Common.{◌≡◌, ℕ, zero, suc, ◌+◌, ◌-◌, ◌<◌, ◌≤◌, Bool, true, false, not, List, [], ◌∷◌, ◌++◌, length, take, drop, refl, sym, ap, ◌∙◌, subst, arith, length-drop, take-append-drop, ⊎_elim}
+use Rattle.std.proofs.Common.{◌≡◌, ℕ, zero, suc, ◌+◌, ◌<◌, ◌≤◌, Bool, true, false, not, List, [], ◌++◌, length, take, drop, refl, sym, ap, ◌∙◌, subst, arith, length-drop, take-append-drop, ⊎_elim}
 use Rattle.std.proofs.lemmas.List.{take-append-le, drop_all}
 use Rattle.std.proofs.lemmas.Bool.{cases_lt}
 use Rattle.grib_io.specs.declared.fault.Fault.{Fault}
-use Rattle.grib_stream.specs.declared.outcome.Outcome.{Outcome}
 use Rattle.grib_stream.specs.declared.outcome.Outcome.TheVariants.{NotBuilt, Refused}
 use Rattle.grib_stream.specs.declared.place.Place.{Place}
 use Rattle.grib_stream.specs.declared.place.Totals.{Totals}
-use Rattle.grib_stream.specs.Stream.{begins, Judgement, Message, Faulty, Unbuilt, End, Refusing, NotRead, Stream, stream_of, followed_by, message_after, stream_from}
+use Rattle.grib_stream.specs.Stream.{begins, Judgement, Message, Faulty, Unbuilt, Refusing, NotRead, stream_of}
 use Rattle.grib_stream.specs.Searching.{Markless}
 use Rattle.grib_stream.specs.Acts.{Act}
 use Rattle.grib_stream.specs.Outcomes.{is_truncated}
-use Rattle.grib_stream.specs.Task.{Task, IsLawful, Given, Gives, Ends, Next, Whole, Refuses, Stops, next_given, next_judged, next_of, acts_of}
-use Rattle.grib_stream.specs.Answer.{Answer, silent, done, after, totals_of, place_of, refusal_after, on_given, answers, answer_to, answer_at}
+use Rattle.grib_stream.specs.Task.{Task, IsLawful, Given, Gives, Ends, Next, Whole, Refuses, Stops, next_given, next_judged, next_of}
+use Rattle.grib_stream.specs.Answer.{Answer, silent, done, after, totals_of, place_of, refusal_after, on_given, answer_to, answer_at}
 use Rattle.grib_stream.proofs.Streams.{stream_message, stream_refused, stream_passed, none_in_few}
 
 -- what comes next where a message is accepted

@@ -1,5 +1,5 @@
 -- What was answered so far, whatever follows.
-use Rattle.std.proofs.Common.{◌≡◌, ℕ, ◌+◌, ◌<◌, ◌≤◌, true, false, List, [], ◌∷◌, ◌++◌, length, take, drop, refl, sym, ap, ◌∙◌, subst, arith, append_assoc, length-append, length-drop}
+use Rattle.std.proofs.Common.{◌≡◌, ℕ, ◌+◌, ◌≤◌, true, List, [], ◌++◌, length, drop, refl, sym, ap, ◌∙◌, subst, arith, append_assoc, length-append, length-drop}
 use lib.Seq.{drop-append-le}
 use Rattle.grib_stream.specs.declared.place.Totals.{Totals}
 use Rattle.grib_stream.specs.Stream.{begins}
@@ -8,7 +8,7 @@ use Rattle.grib_stream.specs.Acts.{Act}
 use Rattle.grib_stream.specs.Task.{Task, IsLawful, Next, Whole}
 use Rattle.grib_stream.specs.Answer.{Answer, after, totals_of, answer_at, answer_of}
 use Rattle.grib_stream.proofs.Streams.{unmarked_within, markless_more, begins_stays, begins_long}
-use Rattle.grib_stream.proofs.Nexts.{next_here, next_stays, counted, skipping, answer_by, answer_next, answer_passed, IsMessage, message_next}
+use Rattle.grib_stream.proofs.Nexts.{next_here, next_stays, counted, skipping, answer_by, answer_next, answer_passed, message_next}
 
 -- After these octets were taken, these acts were done, and these octets are still to be answered, of
 -- which so many were answered before.

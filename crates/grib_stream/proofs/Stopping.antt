@@ -1,12 +1,11 @@
 -- Where a run stops.
-use Rattle.std.proofs.Common.{◌≡◌, ◌≢◌, ◌⊎◌, inl, inr, ℕ, ◌+◌, ◌<◌, ◌≤◌, Bool, true, false, not, List, [], ◌∷◌, ◌++◌, Some, None, Ok, Err, IfErr, length, take, drop, refl, sym, ap, ◌∙◌, subst, arith, ⊎_elim, append-nil}
+use Rattle.std.proofs.Common.{◌≡◌, ◌≢◌, ◌⊎◌, inl, inr, ℕ, ◌<◌, ◌≤◌, Bool, true, false, not, List, [], ◌++◌, Some, None, Ok, Err, IfErr, length, take, refl, sym, ap, ◌∙◌, subst, arith, ⊎_elim, append-nil}
 use Rattle.std.proofs.lemmas.Bool.{cases_Bool, false≢true}
 use Rattle.std.specs.declared.option.Option.{Option}
 use Rattle.std.specs.declared.result.Result.{Result}
 use Rattle.std.specs.Result.{IsErrAnd}
-use Rattle.std.specs.Io.KnownBytes.{Consumes, Keeps, IsAtEnd}
+use Rattle.std.specs.Io.KnownBytes.{Consumes, IsAtEnd}
 use Rattle.std.proofs.KnownBytes.{Consumes-kept, Consumes-trans}
-use Rattle.grib_io.specs.Outside.{Counted}
 use Rattle.grib_io.specs.declared.fault.Fault.{Fault}
 use Rattle.grib_stream.specs.declared.outcome.Outcome.{Outcome}
 use Rattle.grib_stream.specs.declared.outcome.Outcome.TheVariants.{Done, Refused, ReadFault, WriteFault, Memory, InputTooLong, NotBuilt}
@@ -15,17 +14,17 @@ use Rattle.grib_stream.specs.declared.place.Totals.{Totals}
 use Rattle.grib_stream.specs.declared.gathering.Rest.{Rest}
 use Rattle.grib_stream.specs.declared.gathering.Rest.TheVariants.{Open, Full, Ended}
 use Rattle.grib_stream.specs.Stream.{begins, Judgement, Message, Faulty, Unbuilt}
-use Rattle.grib_stream.specs.Acts.{Act, World, Did, DidFront}
+use Rattle.grib_stream.specs.Acts.{Act, World, Did}
 use Rattle.grib_stream.specs.Outcomes.{is_broken, is_cut_short, is_open, is_truncated, is_of_message}
-use Rattle.grib_stream.specs.Task.{Task, IsLawful, Given, Gives, Ends, Next, Whole, Refuses, Stops, next_given, next_of, acts_of}
-use Rattle.grib_stream.specs.Answer.{Answer, silent, after, place_of, refusal_after, answer_at, answer_of}
+use Rattle.grib_stream.specs.Task.{Task, IsLawful, Given, Gives, Ends, Refuses, Stops, next_given, next_of}
+use Rattle.grib_stream.specs.Answer.{silent, after, place_of, refusal_after, answer_at, answer_of}
 use Rattle.grib_stream.specs.Reading.{Gathers, Probes}
 use Rattle.grib_stream.specs.Rest.{Stands}
-use Rattle.grib_stream.specs.Turning.{Awaits, IsCut, EndsTurn, StopsOrRefuses, refusal_at, conclusion}
-use Rattle.grib_stream.specs.Run.{Runs, IsOver, Reaches}
-use Rattle.grib_stream.specs.Faults.{Faults, faults, CountsOne}
+use Rattle.grib_stream.specs.Turning.{Awaits, EndsTurn, StopsOrRefuses, conclusion}
+use Rattle.grib_stream.specs.Run.{Runs, Reaches}
+use Rattle.grib_stream.specs.Faults.{Faults, CountsOne}
 use Rattle.grib_stream.proofs.Worlds.{did_still, front_whole}
-use Rattle.grib_stream.proofs.Nexts.{judged, next_here, skipping, is_final}
+use Rattle.grib_stream.proofs.Nexts.{judged, next_here}
 use Rattle.grib_stream.proofs.SoFar.{SoFar, begun_stays}
 use Rattle.grib_stream.proofs.Exits.{of_message, cut_broken, runs_to_message, runs_broken, runs_refused, runs_long}
 use Rattle.grib_stream.proofs.Going.{Waits, few_are, few_wait, refused_are, refused_wait, unfinished, exactly, so_far_alone, so_far_front, broken_front, stops_whole, Going, going_read}
@@ -83,17 +82,16 @@ turn_ends {task} {limit} {left} {a} {b} {before} {mid} {totals} {place} {shown} 
     (λ (cut : is_cut_short outcome ≡ true).
     let not_read : outcome ≢ ReadFault = λ e. false≢true (subst (λ o. is_cut_short o ≡ true) e cut) in (
       runs_broken task limit outcome a b before now going.taken (cut_broken outcome cut) going.consumed short
-      (broken_front task lawful going.taken going.acts totals place shown before mid now begun going.so going.did (ends.cut cut))
-      (λ e. absurd (not_read e)),
+          (broken_front task lawful going.taken going.acts totals place shown before mid now begun going.so going.did (ends.cut cut))
+          (λ e. absurd (not_read e)),
       not_read,
     ))
     (λ (whole : is_cut_short outcome ≡ false).
     let (stops, still) = ends.stopped whole in
-    let kind = of_message_turn task lawful (place_of totals.messages place totals.fields) shown outcome stops in
-    (
+    let kind = of_message_turn task lawful (place_of totals.messages place totals.fields) shown outcome stops in (
       runs_to_message task limit outcome a b before now going.taken going.acts kind going.consumed short
-      (did_still before mid now going.acts going.did still)
-      (whole_turn task lawful totals place shown going.taken going.acts outcome begun going.so stops),
+          (did_still before mid now going.acts going.did still)
+          (whole_turn task lawful totals place shown going.taken going.acts outcome begun going.so stops),
       (of_message outcome kind).not_read,
     ))
     (cases_Bool (is_cut_short outcome))
@@ -193,8 +191,8 @@ concludes task lawful limit left a c before now totals place shown None wanted c
 )
 concludes task lawful limit left a c before now totals place shown (Some fault) wanted counts counts_now going cut end calm = (
   runs_refused task limit (refusal_after totals.messages fault) a c before now going.taken going.acts going.consumed end (omega (arith, going.counted)) going.did
-  (so_far_alone task going.taken going.acts totals place shown going.so
-  ∙ ap (after going.acts) (refused_are task lawful totals place shown fault cut.begun cut.refused)),
+      (so_far_alone task going.taken going.acts totals place shown going.so
+      ∙ ap (after going.acts) (refused_are task lawful totals place shown fault cut.begun cut.refused)),
   calm (Refused (refusal_after totals.messages fault)) (λ e. cc) (λ e. cc),
 )
 

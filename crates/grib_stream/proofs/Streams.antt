@@ -1,5 +1,5 @@
 -- The messages of an input, step by step.
-use Rattle.std.proofs.Common.{◌≡◌, ◌≢◌, ℕ, zero, suc, ◌+◌, ◌-◌, ◌<◌, ◌≤◌, Bool, true, false, List, [], ◌∷◌, ◌++◌, length, take, drop, refl, sym, ap, ◌∙◌, arith, subst, length-append, length-drop, Some, None, ⊎_elim}
+use Rattle.std.proofs.Common.{◌≡◌, ℕ, zero, suc, ◌+◌, ◌-◌, ◌<◌, ◌≤◌, true, false, List, [], ◌∷◌, ◌++◌, length, take, drop, refl, ap, ◌∙◌, arith, length-drop, Some, None, ⊎_elim}
 use Rattle.std.proofs.lemmas.Bool.{cases_Bool, false≢true}
 use Rattle.std.proofs.lemmas.List.{take-append-le, length-take}
 use lib.Seq.{drop-append-le}
@@ -10,7 +10,7 @@ use Rattle.memchr.proofs.lemmas.MatchLemmas.{OccursAt-part, OccursAt-from_part}
 use Rattle.grib_io.specs.Rows.{choose}
 use Rattle.grib2_sections.specs.Head.{indicator}
 use Rattle.grib_stream.specs.Searching.{Markless, Unmarked}
-use Rattle.grib_stream.specs.Stream.{begins, Judgement, Message, Faulty, Unbuilt, Found, message_after, Over, Refusing, NotRead, Stream, stream_of, followed_by, on_judgement, stream_from}
+use Rattle.grib_stream.specs.Stream.{begins, Judgement, Message, Found, message_after, Stream, followed_by, on_judgement, stream_from}
 
 -- the octets that are left of a message that was found are passed over
 pub stream_inside : (judge : List ℕ → Judgement) (inside place skipped : ℕ) (octets : List ℕ)

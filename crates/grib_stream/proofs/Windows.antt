@@ -1,6 +1,6 @@
 -- The part of a buffer that a window shows.
-use Rattle.std.proofs.Common.{◌≡◌, ℕ, ◌+◌, ◌-◌, ◌≤◌, List, ◌++◌, length, take, drop, refl, sym, ap, ◌∙◌, subst, arith, length-drop, length-take-le, take-append-drop, take-take, drop_at, [], append_assoc, append-nil, length-append}
-use Rattle.std.proofs.lemmas.List.{take-append-le, drop-take, length-take}
+use Rattle.std.proofs.Common.{◌≡◌, ℕ, ◌+◌, ◌-◌, ◌≤◌, List, ◌++◌, length, take, drop, sym, ap, ◌∙◌, arith, length-drop, length-take-le, take-append-drop, take-take, drop_at, [], append_assoc, append-nil, length-append}
+use Rattle.std.proofs.lemmas.List.{take-append-le}
 use Rattle.std.proofs.Math.Seq.{take-append-add}
 use lib.Seq.{drop-append-le}
 use borrow.Rule.Slice.PartMut.{put_mid, post_of}

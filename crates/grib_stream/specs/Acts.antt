@@ -1,8 +1,7 @@
 -- What is done to the output and to the names of a shelf, one octet or name after another.
-use Rattle.std.specs.Prelude.{◌≡◌, ℕ, cond, List, [], ◌∷◌, ◌++◌, Option, None, Some, unwrap_or, OnOk}
+use Rattle.std.specs.Prelude.{◌≡◌, ℕ, cond, List, [], ◌∷◌, ◌++◌, Option, None, Some, unwrap_or}
 use Rattle.std.specs.Str.{bytes_eq}
 use Rattle.std.specs.Io.KnownBytes.{Appends}
-use Rattle.std.specs.declared.result.Result.{Result}
 use Rattle.grib_io.specs.Shelves.{Held}
 
 -- an octet is written to the output, a name is made, present and empty, or an octet is added at the end

@@ -1,6 +1,5 @@
 -- What is done for the octets from a `GRIB` on.
-use Rattle.std.specs.Prelude.{◌≡◌, ℕ, true, false, List, []}
-use Rattle.grib_io.specs.declared.fault.Fault.{Fault}
+use Rattle.std.specs.Prelude.{◌≡◌, true, false, List, []}
 use Rattle.grib_stream.specs.declared.outcome.Outcome.{Outcome}
 use Rattle.grib_stream.specs.declared.performer.Performed.{Performed}
 use Rattle.grib_stream.specs.declared.performer.Performed.TheVariants.{Whole as Answered, Refused, Ends}

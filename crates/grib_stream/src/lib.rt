@@ -2,6 +2,7 @@
 //! whatever pieces the input comes. It knows no command.
 #![tactic(auto)]
 
+mod answering;
 mod deciding;
 mod gathering;
 mod outcome;
@@ -11,6 +12,7 @@ mod running;
 mod searching;
 mod window;
 
+pub use answering::{LIMIT, answer_within};
 pub use outcome::Outcome;
 pub use performer::{Performed, Performer, Whole};
 pub use place::{Place, Totals};

@@ -4,8 +4,7 @@ use Rattle.grib_stream.proofs.deciding.decide.Goals as goal
 
 pub returns-in-Refused-clause-turns : goal.returns-in-Refused-clause-turns
 returns-in-Refused-clause-turns g c =
-    let refused = c.in-Refused.ensures.performs in
-    (
+    let refused = c.in-Refused.ensures.performs in (
       record {
         begun = c.requires.begun (omega arith);
         refused = refused.0;

@@ -1,11 +1,10 @@
-use Rattle.std.proofs.Common.{rules, ◌≡◌, ◌+◌, ◌-◌, List, ℕ, length, drop, sym, ◌∙◌, ap, subst, arith, refl, Err, length-drop}
+use Rattle.std.proofs.Common.{rules, ◌≡◌, ◌-◌, length, drop, sym, ◌∙◌, ap, subst, arith, refl, Err, length-drop}
 use Rattle.std.proofs.KnownBytes.{Consumes-nil}
 use Rattle.grib_io.specs.Outside.{Counted}
 use Rattle.grib_stream.specs.declared.deciding.Turn.TheVariants.{Ends}
 use Rattle.grib_stream.specs.Rest.{Stands}
-use Rattle.grib_stream.specs.Run.{Reaches}
 use Rattle.grib_stream.proofs.Stopping.{turn_ends, read_stop, read_ends, probe_ends, probe_stop, reaches_end, going_still, stands_on, reaches_passed}
-use Rattle.grib_stream.proofs.Going.{Going, going_start, going_shown, going_on, going_read}
+use Rattle.grib_stream.proofs.Going.{going_start, going_shown, going_on, going_read}
 use Rattle.grib_stream.proofs.Nexts.{message_next}
 use Rattle.grib_stream.proofs.running.answer_messages.Goals as goal
 
@@ -69,15 +68,15 @@ returns-in_err-rest-in-Open-clause-reaches g c =
     let outcome = c.in_err-rest-in-Open.field-0.0 in
     let stop = read_stop outcome c.in_err-rest-in-Open.ensures.one_of in
     reaches_passed c.from_residual.result outcome c.from_residual.ensures.1
-      (read_ends lawful _ outcome c.in-Wait.wait.fault c.in-Wait.wait.wanted going c.as_slice-in-messages.ensures turn.0 turn.2 c.in_err-rest-in-Open.ensures.gathers c.in_err-rest-in-Open.ensures.few stop.0)
-      record {
-        read = λ e. subst (λ n. Counted n (g.S.Source.faults c.read_on.new.input)) c.messages.invariant.read_calm (c.in_err-rest-in-Open.ensures.read_fault e);
-        read_calm = λ other. c.in_err-rest-in-Open.ensures.read_calm other ∙ c.messages.invariant.read_calm;
-        write = λ e. absurd (stop.1 e);
-        write_calm = λ other. c.in-Wait.ensures.write_calm (λ e. cc) ∙ c.messages.invariant.write_calm;
-        notes_calm = refl;
-        shelf_calm = c.in-Wait.ensures.shelf_calm ∙ c.messages.invariant.shelf_calm;
-      }
+    (read_ends lawful _ outcome c.in-Wait.wait.fault c.in-Wait.wait.wanted going c.as_slice-in-messages.ensures turn.0 turn.2 c.in_err-rest-in-Open.ensures.gathers c.in_err-rest-in-Open.ensures.few stop.0)
+    record {
+      read = λ e. subst (λ n. Counted n (g.S.Source.faults c.read_on.new.input)) c.messages.invariant.read_calm (c.in_err-rest-in-Open.ensures.read_fault e);
+      read_calm = λ other. c.in_err-rest-in-Open.ensures.read_calm other ∙ c.messages.invariant.read_calm;
+      write = λ e. absurd (stop.1 e);
+      write_calm = λ other. c.in-Wait.ensures.write_calm (λ e. cc) ∙ c.messages.invariant.write_calm;
+      notes_calm = refl;
+      shelf_calm = c.in-Wait.ensures.shelf_calm ∙ c.messages.invariant.shelf_calm;
+    }
 
 pub returns-in_err-probe-in-Full-clause-reaches : goal.returns-in_err-probe-in-Full-clause-reaches
 returns-in_err-probe-in-Full-clause-reaches g c =
@@ -88,15 +87,15 @@ returns-in_err-probe-in-Full-clause-reaches g c =
     let is : c.probe.result ≡ Err outcome = c.in_err-probe-in-Full.was in
     let none : c.messages.left ≡ 0 = subst (λ rest. Stands rest 0 0 c.messages.left (g.S.Source.left c.messages.input)) c.in-Full.is c.messages.invariant.stands in
     reaches_passed c.from_residual-in_err-probe-in-Full.result outcome c.from_residual-in_err-probe-in-Full.ensures.1
-      (probe_ends lawful _ c.probe.result outcome c.in-Wait.wait.fault c.in-Wait.wait.wanted _ _ going none turn.0 turn.2 c.probe.ensures is)
-      record {
-        read = λ e. subst (λ n. Counted n (g.S.Source.faults c.probe.new.input)) c.messages.invariant.read_calm (c.probe.ensures.counted (is ∙ ap Err e));
-        read_calm = λ other. c.probe.ensures.calm (λ e. other cc) ∙ c.messages.invariant.read_calm;
-        write = λ e. absurd (probe_stop c.probe.result outcome is c.probe.ensures.one_of e);
-        write_calm = λ other. c.in-Wait.ensures.write_calm (λ e. cc) ∙ c.messages.invariant.write_calm;
-        notes_calm = refl;
-        shelf_calm = c.in-Wait.ensures.shelf_calm ∙ c.messages.invariant.shelf_calm;
-      }
+    (probe_ends lawful _ c.probe.result outcome c.in-Wait.wait.fault c.in-Wait.wait.wanted _ _ going none turn.0 turn.2 c.probe.ensures is)
+    record {
+      read = λ e. subst (λ n. Counted n (g.S.Source.faults c.probe.new.input)) c.messages.invariant.read_calm (c.probe.ensures.counted (is ∙ ap Err e));
+      read_calm = λ other. c.probe.ensures.calm (λ e. other cc) ∙ c.messages.invariant.read_calm;
+      write = λ e. absurd (probe_stop c.probe.result outcome is c.probe.ensures.one_of e);
+      write_calm = λ other. c.in-Wait.ensures.write_calm (λ e. cc) ∙ c.messages.invariant.write_calm;
+      notes_calm = refl;
+      shelf_calm = c.in-Wait.ensures.shelf_calm ∙ c.messages.invariant.shelf_calm;
+    }
 
 pub returns-in-Full-clause-reaches : goal.returns-in-Full-clause-reaches
 returns-in-Full-clause-reaches g c =

@@ -1,4 +1,4 @@
-use Rattle.std.proofs.Common.{◌≡◌, ◌≤◌, ◌+◌, ◌*◌, ◌^◌, false, length}
+use Rattle.std.proofs.Common.{◌≡◌, ◌+◌, ◌*◌, false, length}
 use Rattle.grib_stream.specs.Acts.{world}
 use Rattle.grib_stream.specs.Rest.{Stands, turns_left}
 use Rattle.grib_stream.proofs.Going.{Going}

@@ -1,6 +1,4 @@
-use Rattle.std.proofs.Common.{sym, subst, arith, length}
-use Rattle.memchr.specs.Find.{FindsNeedle}
-use Rattle.grib2_sections.specs.Head.{indicator}
+use Rattle.std.proofs.Common.{sym, subst}
 use Rattle.grib_stream.specs.Searching.{Unmarked}
 use Rattle.grib_stream.proofs.Streams.{unmarked_some, unmarked_none, marked_some}
 use Rattle.grib_stream.proofs.searching.octets_before_mark.Goals as goal
