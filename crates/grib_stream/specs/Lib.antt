@@ -1,0 +1,12 @@
+pub mod Stream
+pub mod Searching
+pub mod Acts
+pub mod Outcomes
+pub mod Task
+pub mod Answer
+pub mod Reading
+pub mod Rest
+pub mod Performed
+pub mod Turning
+pub mod Faults
+pub mod Run

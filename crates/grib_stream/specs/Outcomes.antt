@@ -1,0 +1,70 @@
+-- The outcomes of a run.
+use Rattle.std.specs.Prelude.{◌≡◌, ◌⊎◌, ℕ, Bool, true, false, not}
+use Rattle.grib_io.specs.declared.fault.Reason.{Reason}
+use Rattle.grib_io.specs.declared.fault.Reason.TheVariants.{Truncated}
+use Rattle.grib_stream.specs.declared.outcome.Outcome.{Outcome}
+use Rattle.grib_stream.specs.declared.outcome.Outcome.TheVariants.{Done, Usage, Refused, ReadFault, WriteFault, Memory, InputTooLong, NotBuilt}
+
+-- the exit status
+abbrev pub status_of : Outcome → ℕ
+status_of Done = 0
+status_of (Usage word) = 1
+status_of (Refused refusal) = 2
+status_of ReadFault = 5
+status_of WriteFault = 6
+status_of Memory = 8
+status_of InputTooLong = 9
+status_of NotBuilt = 10
+
+-- whether a device or want of memory ended the run, before or after its answer was found
+abbrev pub is_broken : Outcome → Bool
+is_broken Done = false
+is_broken (Usage word) = false
+is_broken (Refused refusal) = false
+is_broken ReadFault = true
+is_broken WriteFault = true
+is_broken Memory = true
+is_broken InputTooLong = false
+is_broken NotBuilt = false
+
+-- whether writing itself broke: then output and notes may wait for the rest
+abbrev pub is_cut_short : Outcome → Bool
+is_cut_short Done = false
+is_cut_short (Usage word) = false
+is_cut_short (Refused refusal) = false
+is_cut_short ReadFault = false
+is_cut_short WriteFault = true
+is_cut_short Memory = true
+is_cut_short InputTooLong = false
+is_cut_short NotBuilt = false
+
+-- whether octets are refused only for their end, so that more of them may be accepted
+abbrev pub is_truncated : Reason → Bool
+is_truncated Truncated = true
+is_truncated _ = false
+
+-- whether more octets may change the outcome: the end of the input brought it
+abbrev pub is_open : Outcome → Bool
+is_open Done = true
+is_open (Usage word) = false
+is_open (Refused refusal) = is_truncated refusal.fault.reason
+is_open ReadFault = false
+is_open WriteFault = false
+is_open Memory = false
+is_open InputTooLong = false
+is_open NotBuilt = false
+
+-- whether it is of a message, before which the run ends, whatever follows
+abbrev pub is_of_message : Outcome → Bool
+is_of_message Done = false
+is_of_message (Usage word) = false
+is_of_message (Refused refusal) = not (is_truncated refusal.fault.reason)
+is_of_message ReadFault = false
+is_of_message WriteFault = false
+is_of_message Memory = false
+is_of_message InputTooLong = false
+is_of_message NotBuilt = true
+
+-- the end of a run keeps the outcome, or writing broke
+abbrev pub KeepsOrCuts : Outcome → Outcome → Type 0
+KeepsOrCuts outcome result = (result ≡ outcome) ⊎ (is_cut_short result ≡ true)

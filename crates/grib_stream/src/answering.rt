@@ -1,0 +1,45 @@
+//! A run over an input, but for its notes.
+
+ghost use Rattle.std.specs.Prelude.{◌≡◌, ◌≤◌, ◌^◌, false};
+ghost use Rattle.grib_stream.specs.Acts.{world};
+ghost use Rattle.grib_stream.specs.Faults.{faults, CountsOne};
+ghost use Rattle.grib_stream.specs.Run.{Runs};
+
+use crate::outcome::Outcome;
+use crate::performer::Performer;
+use crate::running::answer_messages;
+use grib_io::{Shelf, Sink, Source};
+use std::alloc::Global;
+
+/// The most octets of an input that are answered.
+pub const LIMIT: u64 = 1_099_511_627_776;
+
+/// Answers the messages of an input, of which no more than `limit` octets are answered, and does what is to be done at
+/// its end. It answers how the run ends. The answer is a function of the input alone.
+pub fn answer_within<K: Performer, S: Source, T: Sink, H: Shelf>(
+    performer: &K,
+    alloc: Global,
+    limit: u64,
+    input: &mut S,
+    output: &mut T,
+    shelf: &mut H,
+) -> Outcome
+    requires limit { limit ≤ 2 ^ 40 }
+    ensures runs { Runs (K.task performer.now) limit result
+        (S.left input.old) (S.left input.new)
+        (world (T.contents output.old) (H.contents shelf.old))
+        (world (T.contents output.new) (H.contents shelf.new)) }
+    ensures counts { CountsOne result
+        (faults (S.faults input.old) (T.faults output.old) 0 (H.faults shelf.old))
+        (faults (S.faults input.new) (T.faults output.new) 0 (H.faults shelf.new)) }
+    ensures shelf { K.uses_shelf performer.now ≡ false → shelf.new ≡ shelf.old }
+{
+    let totals = match answer_messages(performer, alloc, limit, input, output, shelf) {
+        Ok(totals) => totals,
+        Err(outcome) => return outcome,
+    };
+    match performer.finish(alloc, &totals, output, shelf) {
+        Ok(()) => Outcome::Done,
+        Err(outcome) => outcome,
+    }
+}

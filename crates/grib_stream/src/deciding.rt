@@ -1,0 +1,88 @@
+//! What is to be done next with the octets that were read.
+
+ghost use Rattle.std.specs.Prelude.{◌≡◌, ◌≢◌, ◌≤◌, ◌<◌, ◌^◌, true, false, length};
+ghost use Rattle.grib_io.specs.Outside.{Counted};
+ghost use Rattle.grib_stream.specs.Stream.{begins};
+ghost use Rattle.grib_stream.specs.Acts.{world};
+ghost use Rattle.grib_stream.specs.Turning.{Turns};
+ghost use Rattle.grib_stream.specs.Outcomes as outcomes;
+ghost use Rattle.grib_stream.specs.declared.outcome.Outcome.TheVariants.{WriteFault};
+
+use crate::outcome::Outcome;
+use crate::performer::{Performed, Performer, Whole};
+use crate::place::Place;
+use grib_io::{Fault, Reason, Refusal, Shelf, Sink};
+use std::alloc::Global;
+
+/// Octets for which nothing can be done yet.
+#[derive(Clone, Copy, Debug, PartialEq, Eq)]
+pub(crate) struct Wait {
+    /// Why they are refused where the input ends in them; nothing where no message begins in them.
+    pub fault: Option<Fault>,
+    /// How many there have to be before it makes sense to look again.
+    pub wanted: u64,
+}
+
+/// What was done with the octets that were read.
+#[derive(Clone, Copy, Debug, PartialEq, Eq)]
+pub(crate) enum Turn {
+    /// A message was answered.
+    Message(Whole),
+    /// Nothing, since more octets are wanted.
+    Wait(Wait),
+    /// The run ends.
+    Ends(Outcome),
+}
+
+/// Answers the message that these octets begin with, where all of it is there.
+pub(crate) fn decide<K: Performer, T: Sink, H: Shelf>(
+    performer: &K,
+    alloc: Global,
+    place: &Place,
+    octets: &[u8],
+    output: &mut T,
+    shelf: &mut H,
+) -> Turn
+    requires begun { 4 ≤ length octets.now → begins octets.now ≡ true }
+    requires message { place.now.message ≤ 2 ^ 41 }
+    requires before { place.now.before ≤ 2 ^ 41 }
+    requires fields { place.now.fields ≤ 2 ^ 41 }
+    ensures turns { Turns (K.task performer.now) place.now octets.now result
+        (world (T.contents output.old) (H.contents shelf.old))
+        (world (T.contents output.new) (H.contents shelf.new)) }
+    ensures write_fault { result ≡ Turn.Ends WriteFault
+        → Counted (T.faults output.old) (T.faults output.new) }
+    ensures write_calm { result ≢ Turn.Ends WriteFault → T.faults output.new ≡ T.faults output.old }
+    ensures shelf_calm { H.faults shelf.new ≡ H.faults shelf.old }
+    ensures shelf { K.uses_shelf performer.now ≡ false → shelf.new ≡ shelf.old }
+{
+    if octets.len() < 4 {
+        return Turn::Wait(Wait {
+            fault: None,
+            wanted: 4,
+        });
+    }
+    match performer.perform(alloc, place, octets, output, shelf) {
+        Performed::Whole(message) => Turn::Message(message),
+        Performed::Refused(fault) if is_truncated(&fault) => {
+            let stated = performer.wanted(octets);
+            let wanted = stated.max(octets.len() as u64 + 1);
+            Turn::Wait(Wait {
+                fault: Some(fault),
+                wanted,
+            })
+        }
+        Performed::Refused(fault) => Turn::Ends(Outcome::Refused(Refusal {
+            message: place.message,
+            fault,
+        })),
+        Performed::Ends(outcome) => Turn::Ends(outcome),
+    }
+}
+
+/// Whether octets are refused only for their end, so that more of them may be accepted.
+fn is_truncated(fault: &Fault) -> bool
+    ensures { result ≡ outcomes.is_truncated fault.now.reason }
+{
+    matches!(fault.reason, Reason::Truncated)
+}

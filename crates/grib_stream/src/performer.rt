@@ -1,0 +1,97 @@
+//! What answers the messages of an input.
+
+ghost use Rattle.std.specs.Prelude.{◌≡◌, ◌≢◌, ℕ, ◌≤◌, ◌<◌, ◌+◌, ◌^◌, Bool, true, false, List, [], ◌++◌, length, OnOk, OnErr, IfErr};
+ghost use Rattle.grib_io.specs.Outside.{Counted};
+ghost use Rattle.grib_stream.specs.Stream.{begins, Message};
+ghost use Rattle.grib_stream.specs.Acts.{world, Did, DidFront};
+ghost use Rattle.grib_stream.specs.Task.{Task, IsLawful, next_of};
+ghost use Rattle.grib_stream.specs.Outcomes.{is_cut_short};
+ghost use Rattle.grib_stream.specs.Performed.{Performs};
+ghost use Rattle.grib_stream.specs.declared.performer.Performed.TheVariants.{Ends};
+ghost use Rattle.grib_stream.specs.declared.outcome.Outcome.TheVariants.{WriteFault};
+
+use crate::outcome::Outcome;
+use crate::place::{Place, Totals};
+use grib_io::{Fault, Shelf, Sink};
+use std::alloc::Global;
+
+/// A message that was answered: its octets and its fields.
+#[derive(Clone, Copy, Debug, PartialEq, Eq)]
+pub struct Whole {
+    pub octets: u64,
+    pub fields: u64,
+}
+
+/// What came of the octets from a `GRIB` on.
+#[derive(Clone, Copy, Debug, PartialEq, Eq)]
+pub enum Performed {
+    /// They begin with a message, whose result is done whole.
+    Whole(Whole),
+    /// They are refused. Nothing was done.
+    Refused(Fault),
+    /// The run ends before the message or within its result.
+    Ends(Outcome),
+}
+
+/// Answers the messages of an input, one after another. What is to be done is a `Task`, which a run knows
+/// only as far as its laws go.
+pub trait Performer {
+    ghost use Rattle.grib_stream.specs.Performed.{Performs};
+
+    /// What is to be done.
+    ghost task: { Self → Task };
+
+    /// Whether the shelf is used. Else it stays as it is.
+    ghost uses_shelf: { Self → Bool };
+
+    /// How many octets a message has at least that begins with these, which begin with `GRIB`.
+    fn wanted(&self, octets: &[u8]) -> u64
+        requires { begins octets.now ≡ true }
+        ensures { (more : List ℕ) (total : ℕ) → (task self.now).judge (octets.now ++ more) ≡ Message total
+            → result ≤ total };
+
+    /// Answers the message that these octets begin with, which begin with `GRIB`.
+    fn perform<T: Sink, H: Shelf>(
+        &self,
+        alloc: Global,
+        place: &Place,
+        octets: &[u8],
+        output: &mut T,
+        shelf: &mut H,
+    ) -> Performed
+        requires begun { begins octets.now ≡ true }
+        requires message { place.now.message ≤ 2 ^ 41 }
+        requires before { place.now.before ≤ 2 ^ 41 }
+        requires fields { place.now.fields ≤ 2 ^ 41 }
+        ensures performs { Performs (next_of (task self.now) place.now octets.now) result
+            (world (T.contents output.old) (H.contents shelf.old))
+            (world (T.contents output.new) (H.contents shelf.new)) }
+        ensures write_fault { result ≡ Ends WriteFault
+            → Counted (T.faults output.old) (T.faults output.new) }
+        ensures write_calm { result ≢ Ends WriteFault → T.faults output.new ≡ T.faults output.old }
+        ensures shelf_calm { H.faults shelf.new ≡ H.faults shelf.old }
+        ensures shelf { uses_shelf self.now ≡ false → shelf.new ≡ shelf.old };
+
+    /// Does what is to be done at the end of the input.
+    fn finish<T: Sink, H: Shelf>(
+        &self,
+        alloc: Global,
+        totals: &Totals,
+        output: &mut T,
+        shelf: &mut H,
+    ) -> Result<(), Outcome>
+        ensures done { OnOk result (Did (world (T.contents output.old) (H.contents shelf.old))
+            (world (T.contents output.new) (H.contents shelf.new)) ((task self.now).ending totals.now).acts) }
+        ensures front { OnErr result (DidFront (world (T.contents output.old) (H.contents shelf.old))
+            (world (T.contents output.new) (H.contents shelf.new)) ((task self.now).ending totals.now).acts) }
+        ensures cut { IfErr result (λ outcome. is_cut_short outcome ≡ true) }
+        ensures write_fault { IfErr result (λ outcome. outcome ≡ WriteFault
+            → Counted (T.faults output.old) (T.faults output.new)) }
+        ensures write_calm { IfErr result (λ outcome. outcome ≢ WriteFault
+            → T.faults output.new ≡ T.faults output.old) }
+        ensures calm { OnOk result (T.faults output.new ≡ T.faults output.old) }
+        ensures shelf_calm { H.faults shelf.new ≡ H.faults shelf.old }
+        ensures shelf { uses_shelf self.now ≡ false → shelf.new ≡ shelf.old };
+
+    ghost lawful: { (performer : Self) → IsLawful (task performer) };
+}

@@ -1,0 +1,138 @@
+//! The messages of an input, answered one after another in whatever pieces it comes.
+
+ghost use Rattle.std.specs.Prelude.{◌≡◌, ◌≢◌, ◌≤◌, ◌<◌, ◌^◌, ◌+◌, ◌⊎◌, true, false, length, IfOk, IfErr, OnOk, OnErr};
+ghost use Rattle.grib_io.specs.Outside.{Counted};
+ghost use Rattle.grib_stream.specs.Acts.{world};
+ghost use Rattle.grib_stream.specs.Reading.{Gathers, Probes};
+ghost use Rattle.grib_stream.specs.Turning.{conclusion};
+ghost use Rattle.grib_stream.specs.Rest.{Stands};
+ghost use Rattle.grib_stream.specs.Run.{Reaches};
+ghost use Rattle.grib_stream.specs.Faults.{faults};
+ghost use Rattle.grib_stream.specs.declared.outcome.Outcome.TheVariants.{ReadFault, Memory};
+
+use crate::deciding::{Turn, Wait, decide};
+use crate::gathering::{Rest, gather};
+use crate::outcome::Outcome;
+use crate::performer::Performer;
+use crate::place::{Place, Totals};
+use crate::searching::octets_before_mark;
+use crate::window::Window;
+use grib_io::{Refusal, Shelf, Sink, Source, Stop};
+use std::alloc::Global;
+
+/// Answers the messages of an input, of which no more than `limit` octets are answered. It answers what was counted
+/// where the input was read to its end, and else how the run ends.
+pub(crate) fn answer_messages<K: Performer, S: Source, T: Sink, H: Shelf>(
+    performer: &K,
+    alloc: Global,
+    limit: u64,
+    input: &mut S,
+    output: &mut T,
+    shelf: &mut H,
+) -> Result<Totals, Outcome>
+    requires limit { limit ≤ 2 ^ 40 }
+    ensures reaches { Reaches (K.task performer.now) limit result
+        (S.left input.old) (S.left input.new)
+        (world (T.contents output.old) (H.contents shelf.old))
+        (world (T.contents output.new) (H.contents shelf.new))
+        (faults (S.faults input.old) (T.faults output.old) 0 (H.faults shelf.old))
+        (faults (S.faults input.new) (T.faults output.new) 0 (H.faults shelf.new)) }
+    ensures shelf { K.uses_shelf performer.now ≡ false → shelf.new ≡ shelf.old }
+{
+    let mut window = Window::new(alloc);
+    let mut totals = Totals {
+        messages: 0,
+        fields: 0,
+        skipped: 0,
+    };
+    let mut place = 0u64;
+    let mut left = limit;
+    let mut rest = Rest::Open;
+    'messages: loop {
+        let passed = octets_before_mark(window.as_slice());
+        window.pass(passed);
+        place += passed as u64;
+        totals.skipped += passed as u64;
+        let here = Place {
+            message: totals.messages + 1,
+            before: place,
+            fields: totals.fields,
+        };
+        let wait = match decide(performer, alloc, &here, window.as_slice(), output, shelf) {
+            Turn::Message(message) => {
+                window.pass(message.octets as usize);
+                place += message.octets;
+                totals.messages += 1;
+                totals.fields += message.fields;
+                continue 'messages;
+            }
+            Turn::Wait(wait) => wait,
+            Turn::Ends(outcome) => return Err(outcome),
+        };
+        rest = match rest {
+            Rest::Open => read_on(&mut window, input, &wait, &mut left)?,
+            Rest::Full => {
+                probe(input)?;
+                return conclude(&wait, &here, &totals, window.len());
+            }
+            Rest::Ended => return conclude(&wait, &here, &totals, window.len()),
+        };
+    }
+}
+
+/// Reads as much as is wanted, as far as the input goes and as much may be taken.
+fn read_on<S: Source>(
+    window: &mut Window,
+    input: &mut S,
+    wait: &Wait,
+    left: &mut u64,
+) -> Result<Rest, Outcome>
+    requires few { length window.old < wait.now.wanted }
+    ensures gathers { Gathers (S.left input.old) (S.left input.new) window.old window.new
+        left.old left.new }
+    ensures stands { IfOk result
+        (λ rest. Stands rest wait.now.wanted (length window.new) left.new (S.left input.new)) }
+    ensures few { OnErr result (length window.new < wait.now.wanted) }
+    ensures one_of { IfErr result (λ outcome. (outcome ≡ ReadFault) ⊎ (outcome ≡ Memory)) }
+    ensures read_fault { IfErr result (λ outcome. outcome ≡ ReadFault
+        → Counted (S.faults input.old) (S.faults input.new)) }
+    ensures read_calm { IfErr result (λ outcome. outcome ≢ ReadFault
+        → S.faults input.new ≡ S.faults input.old) }
+    ensures calm { OnOk result (S.faults input.new ≡ S.faults input.old) }
+{
+    match gather(window, input, wait.wanted as usize, left) {
+        Ok(rest) => Ok(rest),
+        Err(Stop::Failed) => Err(Outcome::ReadFault),
+        Err(Stop::Memory) => Err(Outcome::Memory),
+    }
+}
+
+/// Takes one octet more than is answered, which shows whether the input is too long.
+fn probe<S: Source>(input: &mut S) -> Result<(), Outcome>
+    ensures { Probes result (S.left input.old) (S.left input.new) (S.faults input.old) (S.faults input.new) }
+{
+    let mut octet = [0u8; 1];
+    match input.read(&mut octet) {
+        Ok(0) => Ok(()),
+        Ok(_) => Err(Outcome::InputTooLong),
+        Err(_) => Err(Outcome::ReadFault),
+    }
+}
+
+/// The end of the input, of which so many octets are left for which nothing was done.
+fn conclude(wait: &Wait, here: &Place, totals: &Totals, len: usize) -> Result<Totals, Outcome>
+    requires fits { totals.now.skipped + len < 2 ^ 64 }
+    ensures { result ≡ conclusion wait.now.fault here.now totals.now len }
+{
+    match wait.fault {
+        None => Ok(Totals {
+            messages: totals.messages,
+            fields: totals.fields,
+            skipped: totals.skipped + len as u64,
+        }),
+        Some(fault) => Err(Outcome::Refused(Refusal {
+            message: here.message,
+            fault,
+        })),
+    }
+}
