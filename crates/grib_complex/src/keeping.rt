@@ -1,6 +1,6 @@
 //! What becomes of the points of values.
 
-ghost use Rattle.std.specs.Prelude.{◌≡◌, ◌+◌, ◌≤◌, ◌<◌, List, Bool, [], ◌∷◌, ◌++◌, length, replicate, IfOk, vec_len, vec_capacity};
+ghost use Rattle.std.specs.Prelude.{◌≡◌, ◌+◌, ◌≤◌, ◌<◌, List, Bool, false, [], ◌∷◌, ◌++◌, length, replicate, IfOk, vec_len, vec_capacity};
 ghost use Rattle.grib_bitmap.specs.Mask.{present_count};
 ghost use Rattle.grib_packing.specs.Column.{points_with_mask};
 ghost use Rattle.grib_packing.specs.declared.column.Point.{Point as point};
@@ -17,6 +17,10 @@ use std::alloc::{AllocError, Global};
 pub trait Keeper {
     // Where points are kept one after another, it goes from one state to another.
     ghost kept: { Self → List point → Self → Type 0 };
+
+    /// Whether it keeps points. One that keeps none need not be handed any.
+    fn keeps(&self) -> bool
+        ensures { result ≡ false → (points : List point) → kept self.now points self.now };
 
     /// Keeps the next point.
     fn keep(self, point: Point) -> Self
@@ -101,6 +105,11 @@ impl<'a> Points<'a> {
 impl<'a> Keeper for Points<'a> {
     ghost kept = { PointsKept };
 
+    #[inline]
+    fn keeps(&self) -> bool {
+        true
+    }
+
     #[inline(always)]
     fn keep(self, point: Point) -> Points<'a> {
         let mut points = self.go_on();
@@ -120,6 +129,11 @@ pub struct Nothing;
 
 impl Keeper for Nothing {
     ghost kept = { λ _ _ _. Unit {0} };
+
+    #[inline]
+    fn keeps(&self) -> bool {
+        false
+    }
 
     #[inline]
     fn keep(self, _point: Point) -> Nothing {
