@@ -88,6 +88,9 @@ fn unpack(
     let Ok(complex) = read_complex(section5, mask.len()) else {
         unreachable!();
     };
+    let Ok(mask) = mask.copy(alloc) else {
+        return Err(UnpackFault::Memory);
+    };
     let Ok(points) = Points::start(alloc, mask) else {
         return Err(UnpackFault::Memory);
     };

@@ -1,5 +1,5 @@
 -- Lemmas on numbers that come in pieces.
-use Rattle.std.proofs.Common.{◌≡◌, ℕ, Bool, ◌+◌, ◌-◌, ◌*◌, ◌<◌, ◌≤◌, List, [], ◌∷◌, ◌++◌, length, take, drop, map, min, refl, sym, ap, ap₂, ◌∙◌, arith, inl, inr, subst, mul_comm, take-append-drop}
+use Rattle.std.proofs.Common.{◌≡◌, ℕ, Bool, ◌+◌, ◌-◌, ◌*◌, ◌<◌, ◌≤◌, List, [], ◌∷◌, ◌++◌, length, take, drop, map, min, slice_set, refl, sym, ap, ap₂, ◌∙◌, arith, inl, inr, subst, mul_comm, take-append-drop}
 use Rattle.std.proofs.lemmas.Bool.{cases_lt}
 use Rattle.std.proofs.lemmas.List.{append-nil, drop-append-le, take-append-le, drop_all, take_all, length-drop, length-take}
 use Rattle.std.proofs.Math.Seq.{drop-append-add, take-append-add}
@@ -10,7 +10,7 @@ use Rattle.grib_io.specs.declared.code.Code.{Code}
 use Rattle.grib_io.specs.declared.code.Code.TheVariants.{Present}
 use Rattle.grib_packing.specs.declared.group.Group.{Group}
 use Rattle.grib_packing.specs.declared.layout.Layout.{Layout}
-use Rattle.grib_packing.specs.Groups.{code_of, codes_from, packed_bits}
+use Rattle.grib_packing.specs.Groups.{code_of, codes_from, packed_bits, reference_octets, width_octets, list_octets, references, widths, lengths}
 use Rattle.grib_groups.specs.declared.feeding.Fed.{Fed}
 use Rattle.grib_groups.specs.declared.numbers.Numbers.{Numbers}
 use Rattle.grib_groups.specs.Taking.{Taken, values}
@@ -91,6 +91,50 @@ part-append from size xs ys = elim (cases_lt from (length xs)) [
       ∙ clipped k size ys
       ∙ ap₂ (λ (us : List ℕ) (j : ℕ). us ++ take (min j (length ys) - min k (length ys)) (drop (min k (length ys)) ys)) (sym none) (sym end)
 ]
+
+-- what stands behind the first octets of a list with a piece behind it
+pub rest-append : (from : ℕ) (xs ys : List ℕ) → drop from (xs ++ ys) ≡ drop from xs ++ drop (min (from - length xs) (length ys)) ys
+rest-append from xs ys = elim (cases_lt from (length xs)) [
+  | inl within ↦
+      let nothing : min (from - length xs) (length ys) ≡ 0 = omega arith in
+      drop-append-le from xs ys (omega arith) ∙ ap (λ (k : ℕ). drop from xs ++ drop k ys) (sym nothing)
+  | inr past ↦
+      let k = from - length xs in
+      let parts : from ≡ length xs + k = omega arith in
+      let none : drop from xs ≡ [] = drop_all from xs past in
+      ap (λ (j : ℕ). drop j (xs ++ ys)) parts
+      ∙ drop-append-add xs ys k
+      ∙ elim (cases_lt (length ys) k) [
+        | inl over ↦
+            let all : min k (length ys) ≡ length ys = omega arith in
+            drop_all k ys (omega arith) ∙ sym (ap (λ (j : ℕ). drop j ys) all ∙ drop_all (length ys) ys (omega arith))
+        | inr inside ↦
+            let same : min k (length ys) ≡ k = omega arith in
+            ap (λ (j : ℕ). drop j ys) (sym same)
+      ]
+      ∙ ap (λ (us : List ℕ). us ++ drop (min k (length ys)) ys) (sym none)
+]
+
+-- numbers within the first octets, whatever follows
+plain-front : (at w count : ℕ) (octets more : List ℕ) → at ≤ length octets → w * count ≤ 8 * (length octets - at) → plain (bits (drop at (octets ++ more))) w count ≡ plain (bits (drop at octets)) w count
+plain-front at w count octets more within fits =
+    ap (λ (os : List ℕ). plain (bits os) w count) (drop-append-le at octets more within)
+    ∙ ap (λ xs. plain xs w count) (bits-append (drop at octets) more)
+    ∙ plain-append (bits (drop at octets)) (bits more) w count (omega (arith, length-bits (drop at octets), length-drop at octets))
+
+-- the three lists, whatever follows them
+module _ (layout : Layout) (octets more : List ℕ) (within : list_octets layout ≤ length octets) where
+  pub references-front : references layout (octets ++ more) ≡ references layout octets
+  references-front = plain-front 0 layout.reference_bits layout.groups octets more (omega arith) (omega (arith, mul_comm layout.reference_bits layout.groups))
+
+  pub widths-front : widths layout (octets ++ more) ≡ widths layout octets
+  widths-front =
+      ap (map (λ (coded : ℕ). layout.width_reference + coded)) (plain-front (reference_octets layout) layout.width_bits layout.groups octets more (omega arith) (omega (arith, mul_comm layout.width_bits layout.groups)))
+
+  pub lengths-front : lengths layout (octets ++ more) ≡ lengths layout octets
+  lengths-front =
+      ap (λ (ns : List ℕ). slice_set (map (λ n. layout.length_reference + layout.length_increment * n) ns) (layout.groups - 1) layout.last_length)
+      (plain-front (reference_octets layout + width_octets layout) layout.length_bits layout.groups octets more (omega arith) (omega (arith, mul_comm layout.length_bits layout.groups)))
 
 -- numbers within a part
 pub plain-part : (n w count : ℕ) (octets : List ℕ) → n ≤ length octets → w * count ≤ 8 * n → plain (bits (take n octets)) w count ≡ plain (bits octets) w count

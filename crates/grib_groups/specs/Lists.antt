@@ -16,7 +16,7 @@ use Rattle.grib_groups.specs.declared.lists.Lengths.{Lengths}
 use Rattle.grib_groups.specs.declared.lists.Lists.{Lists}
 use Rattle.grib_groups.specs.declared.table.Table.{Table}
 use Rattle.grib_groups.specs.Table.{groups_in, IsWhole, IsNarrow}
-use Rattle.grib_groups.specs.Taking.{number_of, values as values_of}
+use Rattle.grib_groups.specs.Taking.{number_of}
 
 -- A list that has memory for so many items was added to.
 pub record Grown {X : Type 0} (before : List X) (memory : ℕ) (added : List X) (after : List X) (memory_after : ℕ) : Type 0 where
@@ -123,12 +123,11 @@ abbrev pub IsRefusal : Option Fault → UnpackFault → Type 0
 IsRefusal fault (Refused refused) = fault ≡ Some refused
 IsRefusal fault Memory = Unit {0}
 
--- The table of the groups of a Section 7 that has all bits of their packed numbers, `skip` octets of extra
--- descriptors and this many values.
-pub record GroupsRead (layout : Layout) (s7 : List ℕ) (skip values : ℕ) (table : Table) : Type 0 where
+-- The table of the groups of a Section 7 that has all bits of their packed numbers and `skip` octets of
+-- extra descriptors.
+pub record GroupsRead (layout : Layout) (s7 : List ℕ) (skip : ℕ) (table : Table) : Type 0 where
   pub whole : IsWhole table
   pub narrow : IsNarrow table
   pub are : groups_in table ≡ groups layout (drop (5 + skip) s7)
-  pub values_are : values_of (groups layout (drop (5 + skip) s7)) ≡ values
   pub enough : 8 * (5 + skip + list_octets layout) + packed_bits (groups layout (drop (5 + skip) s7)) ≤ 8 * length s7
   pub short : length s7 < 2 ^ 32

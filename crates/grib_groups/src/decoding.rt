@@ -4,6 +4,8 @@ ghost use Rattle.std.specs.Prelude.{◌≡◌, ℕ, ◌+◌, ◌*◌, ◌^◌, �
 ghost use Rattle.grib_bits.specs.Octets.{StatesItself};
 ghost use Rattle.grib_io.specs.Rows.{first_fault, first_fault_at};
 ghost use Rattle.grib_packing.specs.Groups.{grouped, group_rows, list_rows};
+ghost use Rattle.grib_groups.specs.Taking.{values};
+ghost use Rattle.grib_groups.specs.Table.{groups_in};
 ghost use Rattle.grib_groups.specs.Lists.{CodesTook, IsRefusal, GroupsRead};
 ghost use Rattle.grib_groups.specs.Laws.{codes-none, codes-more};
 
@@ -101,9 +103,27 @@ pub fn take_groups<T: Taker + Drop>(
         (IsRefusal (first_fault_at section7.now.start (group_rows layout.now section7.now.octets.now skip count))) }
 {
     let table = read_groups(alloc, layout, section7, skip, count)?;
+    Ok(take_codes(layout, section7, skip, table, taker))
+}
+
+/// Hands the codes of all values of such a section on, of which the groups were read.
+pub fn take_codes<T: Taker>(
+    layout: &Layout,
+    section7: &Section<'_>,
+    skip: u32,
+    table: Table,
+    taker: T,
+) -> T
+    requires references { layout.now.reference_bits ≤ 32 }
+    requires skip { skip ≤ 12 }
+    requires read { GroupsRead layout.now section7.now.octets.now skip table }
+    requires limit { 2 ^ 33 ≤ T.limit }
+    ensures took { T.took taker (grouped layout.now (drop (5 + skip) section7.now.octets.now)) result }
+    ensures count { length (grouped layout.now (drop (5 + skip) section7.now.octets.now)) ≡ values (groups_in table) }
+{
     let before = u64::from(5 + skip) + octets_of_lists(layout);
     let numbers = &section7.octets[before as usize..];
-    Ok(Fed::groups(*layout, table, taker).push(numbers).finish())
+    Fed::groups(*layout, table, taker).push(numbers).finish()
 }
 
 /// The groups of such a section, which has all bits of their packed numbers.
@@ -129,7 +149,8 @@ pub fn read_groups(
     requires lists { first_fault (list_rows layout.now (length section7.now.octets.now) skip) ≡ None }
     ensures { MatchResult result
         (λ table. (first_fault_at section7.now.start (group_rows layout.now section7.now.octets.now skip count) ≡ None)
-        × GroupsRead layout.now section7.now.octets.now skip count table)
+        × GroupsRead layout.now section7.now.octets.now skip table
+        × (values (groups_in table) ≡ count))
         (IsRefusal (first_fault_at section7.now.start (group_rows layout.now section7.now.octets.now skip count))) }
 {
     let length = length_of(section7);

@@ -1,6 +1,6 @@
 //! Packed numbers that come in pieces.
 
-ghost use Rattle.std.specs.Prelude.{◌≡◌, ℕ, ◌+◌, ◌*◌, ◌^◌, ◌<◌, ◌≤◌, List, [], ◌++◌, length};
+ghost use Rattle.std.specs.Prelude.{◌≡◌, ℕ, ◌+◌, ◌*◌, ◌^◌, ◌<◌, ◌≤◌, List, [], ◌++◌, length, drop};
 ghost use Rattle.grib_bits.specs.Bits.{bits as bits_in};
 ghost use Rattle.grib_packing.specs.declared.group.Group.{Group as group_of_numbers};
 ghost use Rattle.grib_packing.specs.declared.layout.Layout.{Layout as layout_of_numbers};
@@ -116,4 +116,14 @@ pub fn part_of(piece: &[u8], before: u64, from: u64, size: u64) -> &[u8]
     let first = from.saturating_sub(before).min(length);
     let last = (from + size).saturating_sub(before).min(length);
     &piece[first as usize..last as usize]
+}
+
+/// The octets of a piece that stand after the first `from` octets of a section, where so many octets of the
+/// section came before the piece.
+pub fn rest_of(piece: &[u8], before: u64, from: u64) -> &[u8]
+    ensures rest { (octets : List ℕ) → length octets ≡ before → drop from (octets ++ piece.now) ≡ drop from octets ++ result.now }
+    ensures short { length result.now ≤ length piece.now }
+{
+    let first = from.saturating_sub(before).min(piece.len() as u64);
+    &piece[first as usize..]
 }

@@ -17,9 +17,9 @@ mod taker;
 #[cfg(test)]
 mod tests;
 
-pub use decoding::{decode_groups, take_groups};
+pub use decoding::{decode_groups, read_groups, take_codes, take_groups};
 pub use encoding::encode_groups;
-pub use feeding::{Fed, part_of};
+pub use feeding::{Fed, part_of, rest_of};
 pub use grib_packing::{Group, Layout};
 pub use list_feeding::FedLists;
 pub use lists::{

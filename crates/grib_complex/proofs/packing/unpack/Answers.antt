@@ -1,4 +1,4 @@
-use Rattle.std.proofs.Common.{◌≡◌, ◌⊎◌, ℕ, Bool, false, eqb, [], length, sym, ap, ◌∙◌, arith, subst, inl, inr}
+use Rattle.std.proofs.Common.{◌≡◌, ◌⊎◌, ℕ, Bool, false, eqb, List, [], [], length, sym, ap, ◌∙◌, arith, subst, inl, inr}
 use Rattle.std.proofs.lemmas.Bool.{ne_eqb}
 use Rattle.grib_io.specs.Rows.{first_fault, located, choose}
 use Rattle.grib_packing.specs.Column.{points_with_mask}
@@ -8,6 +8,7 @@ use Rattle.grib_packing.specs.Simple.{simple_rows, simple_entries}
 use Rattle.grib_simple.proofs.Accepted.{same_column}
 use Rattle.grib_simple.specs.Unpacked.{IsUnpackFault}
 use Rattle.grib_complex.proofs.Accepting.{accepted_from, packing_none}
+use Rattle.grib_complex.specs.Kept.{ArePoints}
 use Rattle.grib_complex.proofs.packing.unpack.Goals as goal
 
 -- a template of groups is not that of simple packing
@@ -37,7 +38,7 @@ returns c =
     let grouped = not_simple (packing_template s5) c.requires.template in
     let taken = c.in-Ok-take_complex_values.ensures s5 c.in-Ok.ensures.1 in
     let entries = complex_entries s5 s7 in
-    let are = taken.1.keeps mask [] (omega (arith, taken.2, c.requires.values)) c.in-Ok-start.ensures in
+    let are = taken.1.keeps mask [] (omega (arith, taken.2, c.requires.values)) (subst (λ (m : List Bool). ArePoints m [] c.in-Ok-start.points) c.in-Ok-copy.ensures c.in-Ok-start.ensures) in
     let points = c.of.ensures ∙ c.finish.ensures mask entries are
     ∙ ap (λ (b : Bool). points_with_mask mask (choose b (λ _. simple_entries s5 s7) (λ _. entries))) (sym grouped) in
     let simple = c.in-Ok.ensures.1.simple in (

@@ -2,6 +2,7 @@ use Rattle.std.proofs.Common.{◌≡◌, ℕ, ◌+◌, ◌-◌, List, length, ta
 use Rattle.std.proofs.lemmas.List.{take_rest}
 use Rattle.grib_packing.specs.Groups.{references, widths, lengths}
 use Rattle.grib_groups.specs.Table.{IsNarrow}
+use Rattle.grib_groups.specs.Taking.{values}
 use Rattle.grib_groups.specs.Lists.{ListsAre, lists_fault}
 use Rattle.grib_groups.proofs.Listed.{values-groups_from}
 use Rattle.grib_groups.proofs.Faults.{fit_from, groups_are}
@@ -25,7 +26,8 @@ returns c =
     let are = subst (λ (os : List ℕ). ListsAre layout count lists (references layout os) (widths layout os) (lengths layout os)) same c.in-Ok.ensures in
     let none = ap (λ (n : ℕ). lists_fault layout start c.args.skip n count rs ws ls) (sym c.length_of-length.ensures)
     ∙ sym (c.fault.ensures count rs ws ls c.ranges.count.fits are) ∙ c.in_default-fault.is in
-    let fit = fit_from layout start c.args.skip (length s7) count rs ws ls none in (
+    let fit = fit_from layout start c.args.skip (length s7) count rs ws ls none in
+    let same_groups = groups_are layout c.args.skip (length s7) count lists table rs ws ls are fit c.into_table.ensures.references c.into_table.ensures.widths c.into_table.ensures.lengths in (
       none,
       record {
         whole = record {
@@ -33,9 +35,9 @@ returns c =
           widths = omega (arith, ap length (ap (λ v. v.items) c.into_table.ensures.widths), ap length (ap (λ v. v.items) c.into_table.ensures.lengths), are.width_count, are.length_count, are.widths_are.long, are.lengths_are.long, table.widths.ok.0, table.lengths.ok.0);
         };
         narrow = subst (λ v. IsNarrow (record table { widths = v })) (sym c.into_table.ensures.widths) are.widths_are.narrow;
-        are = groups_are layout c.args.skip (length s7) count lists table rs ws ls are fit c.into_table.ensures.references c.into_table.ensures.widths c.into_table.ensures.lengths;
-        values_are = values-groups_from rs ws ls (are.reference_count ∙ sym are.length_count) (are.width_count ∙ sym are.length_count) ∙ fit.right;
+        are = same_groups;
         enough = fit.enough;
         short = omega (arith, c.length_of-length.ensures, c.length_of-length.type_inv);
       },
+      ap values same_groups ∙ values-groups_from rs ws ls (are.reference_count ∙ sym are.length_count) (are.width_count ∙ sym are.length_count) ∙ fit.right,
     )
