@@ -20,7 +20,7 @@ module _ (mask : List Bool) (seen : List Point) (before after : Points) (are : A
       let place = length points in
       let long : length after.points.items ≡ place + n = ap length is_points ∙ length-append points (replicate n Missing) ∙ ap (λ (k : ℕ). place + k) (length-replicate {A = Point} n Missing) in
       record {
-        mask_stays = ap (λ m. m.now) same_mask ∙ are.mask_stays;
+        mask_stays = same_mask ∙ are.mask_stays;
         memory = omega (arith, are.memory);
         within = omega (arith, long);
         agree = λ more.
@@ -42,7 +42,7 @@ module _ (mask : List Bool) (seen : List Point) (before after : Points) (are : A
   pub are_present : drop (length before.points.items) mask ≡ replicate n true ++ drop (length before.points.items + n) mask → after.left ≡ n
       → after.points ≡ before.points → ArePoints mask seen after
   are_present run is_left same_points = record {
-    mask_stays = ap (λ m. m.now) same_mask ∙ are.mask_stays;
+    mask_stays = same_mask ∙ are.mask_stays;
     memory = subst (λ v. length mask ≤ vec_capacity v) (sym same_points) are.memory;
     within = omega (arith, ap (λ v. length v.items) same_points);
     agree = λ more. are.agree more ∙ ap (λ v. v.items ++ points_with_mask (drop (length v.items) mask) more) (sym same_points);
@@ -74,7 +74,7 @@ are_kept mask seen before after point are some same_mask is_left is_points memor
     let here : drop place mask ≡ true ∷ ahead_left = are.ahead ∙ ap (λ (k : ℕ). replicate k true ++ rest) (sym whole) in
     let next : drop (place + 1) mask ≡ ahead_left = sym (drop-drop 1 place mask) ∙ ap (drop 1) here in
     record {
-      mask_stays = ap (λ m. m.now) same_mask ∙ are.mask_stays;
+      mask_stays = same_mask ∙ are.mask_stays;
       memory = omega (arith, are.memory);
       within = omega (arith, are.within, long);
       agree = λ more.

@@ -7,13 +7,18 @@ use Rattle.grib_packing.specs.declared.column.Point.{Point}
 use Rattle.grib_packing.specs.declared.layout.Layout.{Layout}
 use Rattle.grib_packing.specs.Complex.{layout_of, difference_order, extra_octets, descriptor_octets}
 use Rattle.grib_packing.specs.Entries.{codes_of, group_entries, first_value_rows, range_rows, group_data_fault, is_out_of_range}
-use Rattle.grib_packing.specs.Groups.{grouped, list_rows, group_rows}
+use Rattle.grib_bits.specs.Bits.{bits}
+use Rattle.grib_packing.specs.declared.group.Group.{Group}
+use Rattle.grib_packing.specs.Groups.{grouped, list_rows, group_rows, list_octets, codes_from}
+use Rattle.grib_groups.specs.declared.table.Table.{Table}
+use Rattle.grib_groups.specs.Table.{groups_in}
+use Rattle.grib_groups.proofs.Taken.{length-codes_from}
 use Rattle.grib_packing.specs.Packing.{packing_template, value_count}
 use Rattle.grib_spatial.specs.Running.{Run}
 use Rattle.grib_complex.specs.declared.values.Values.{Values}
 use Rattle.grib_complex.specs.Told.{Telling, Plainly, told}
 use Rattle.grib_complex.specs.Tells.{Tells, telling_of, ValuesTook}
-use Rattle.grib_complex.specs.Descriptors.{is_signed_at, telling_by, IsAccepted}
+use Rattle.grib_complex.specs.Descriptors.{is_signed_at, telling_by, IsAccepted, IsReadable}
 use Rattle.grib_complex.proofs.Told.{length-told}
 use Rattle.grib_io.specs.declared.fault.UnpackFault.{UnpackFault}
 use Rattle.grib_io.specs.declared.fault.UnpackFault.TheVariants.{Refused, Memory}
@@ -162,3 +167,41 @@ module _ (s5 s7 : List ℕ) (layout : Layout) (skip count order extra template :
   rest_is_range none =
       after_groups s5 s7 start (lists_hold s5 s7 layout skip count order extra template same start l is_length lists signs) (signs_hold s5 s7 layout skip count order extra template same start l is_length lists signs)
       (sym (rows_are s5 s7 layout skip count order extra template same start) ∙ none)
+
+-- the numbers of Section 5, where the octets of the extra descriptors are these
+pub numbers_with : (complex : Complex) (s5 : List ℕ) (skip : ℕ) → Spelled complex s5 → IsAccepted complex → skip ≡ (complex.order + 1) * complex.extra
+    → Numbers s5 complex.layout skip complex.simple.values complex.order complex.extra complex.simple.template
+numbers_with complex s5 skip spelled accepted is_skip =
+    subst (λ (k : ℕ). Numbers s5 complex.layout k complex.simple.values complex.order complex.extra complex.simple.template) (sym is_skip)
+    (numbers_of complex s5 (complex.order + 1) complex.extra spelled accepted refl refl)
+
+-- template 5.2 has no row on the range
+pub no_range : (s5 s7 : List ℕ) → packing_template s5 ≡ 2 → first_fault (range_rows s5 s7) ≡ None
+no_range s5 s7 two =
+    let place = first_place is_out_of_range (group_entries s5 s7) in
+    ap (λ (t : ℕ). cond (eqb t 3 && ltb 0 place) (Some (refusal 1 ScaledRange place)) None) two
+
+-- what is known of the codes and entries of a Section 7 whose groups were read
+module _ (complex : Complex) (s5 s7 : List ℕ) (table : Table) (spelled : Spelled complex s5) (accepted : IsAccepted complex) (readable : IsReadable complex s7 table) where
+  same_numbers : Numbers s5 complex.layout ((complex.order + 1) * complex.extra) complex.simple.values complex.order complex.extra complex.simple.template
+  same_numbers = numbers_with complex s5 ((complex.order + 1) * complex.extra) spelled accepted refl
+
+  pub codes_by_table : codes_from complex.layout (groups_in table) (bits (drop (list_octets complex.layout) (drop (5 + (complex.order + 1) * complex.extra) s7))) ≡ codes_of s5 s7
+  codes_by_table =
+      let octets = drop (5 + (complex.order + 1) * complex.extra) s7 in
+      ap (λ (gs : List Group). codes_from complex.layout gs (bits (drop (list_octets complex.layout) octets))) readable.read.are
+      ∙ codes_are s5 s7 complex.layout ((complex.order + 1) * complex.extra) complex.simple.values complex.order complex.extra complex.simple.template same_numbers
+
+  pub entries_by_table : told (telling_by complex.order complex.extra s7) (codes_from complex.layout (groups_in table) (bits (drop (list_octets complex.layout) (drop (5 + (complex.order + 1) * complex.extra) s7)))) ≡ group_entries s5 s7
+  entries_by_table =
+      ap (told (telling_by complex.order complex.extra s7)) codes_by_table
+      ∙ entries_are s5 s7 complex.layout ((complex.order + 1) * complex.extra) complex.simple.values complex.order complex.extra complex.simple.template same_numbers
+
+  pub entries_counted : length (group_entries s5 s7) ≡ value_count s5
+  entries_counted =
+      let octets = drop (5 + (complex.order + 1) * complex.extra) s7 in
+      let codes = codes_from complex.layout (groups_in table) (bits (drop (list_octets complex.layout) octets)) in
+      sym (ap length entries_by_table)
+      ∙ length-told (telling_by complex.order complex.extra s7) codes
+      ∙ length-codes_from complex.layout (groups_in table) (bits (drop (list_octets complex.layout) octets))
+      ∙ readable.counted ∙ same_numbers.is_count

@@ -1,6 +1,6 @@
 //! The extra descriptors of spatial differencing, which stand before the groups.
 
-ghost use Rattle.std.specs.Prelude.{◌≡◌, ℕ, ◌+◌, ◌-◌, ◌*◌, ◌^◌, ◌<◌, ◌≤◌, ◌⊎◌, false, cond, List, length, pos, nat_abs};
+ghost use Rattle.std.specs.Prelude.{◌≡◌, ℕ, ◌+◌, ◌-◌, ◌*◌, ◌^◌, ◌<◌, ◌≤◌, ◌⊎◌, false, cond, List, length, pos, nat_abs, ◌==◌};
 ghost use Rattle.grib_bits.specs.Octets.{octets as octets_of, signed_octets};
 ghost use Rattle.grib_complex.specs.Tells.{telling_of};
 ghost use Rattle.grib_complex.specs.Descriptors.{descriptor_at, is_signed_at, telling_by};
@@ -53,16 +53,28 @@ pub fn running(section: &[u8], order: u8, extra: u8) -> Option<Running>
         return None;
     }
     let first = first_value(section, order, extra, 0);
-    let second = if order == 2 {
-        first_value(section, order, extra, 1)
-    } else {
-        0
-    };
+    let second = second_value(section, order, extra);
     Some(Running::new(order, first, second, minimum(section, order, extra)))
 }
 
+/// The second first value, and 0 where there is none.
+pub fn second_value(section: &[u8], order: u8, extra: u8) -> i64
+    requires order { order ≤ 2 }
+    requires extra { extra ≤ 4 }
+    requires within { 5 + (order + 1) * extra ≤ length section.now }
+    requires short { length section.now < 2 ^ 32 }
+    requires natural { is_signed_at order extra section.now 1 ≡ false }
+    ensures value { result ≡ cond (order == 2) (pos (descriptor_at extra section.now 1)) (pos 0) }
+    ensures small { nat_abs result ≤ 2 ^ 31 }
+{
+    if order < 2 {
+        return 0;
+    }
+    first_value(section, order, extra, 1)
+}
+
 /// A first value, counted from 0.
-fn first_value(section: &[u8], order: u8, extra: u8, index: u8) -> i64
+pub fn first_value(section: &[u8], order: u8, extra: u8, index: u8) -> i64
     requires order { order ≤ 2 }
     requires index { index < order }
     requires extra { extra ≤ 4 }
@@ -76,7 +88,7 @@ fn first_value(section: &[u8], order: u8, extra: u8, index: u8) -> i64
 }
 
 /// The overall minimum.
-fn minimum(section: &[u8], order: u8, extra: u8) -> i64
+pub fn minimum(section: &[u8], order: u8, extra: u8) -> i64
     requires order { order ≤ 2 }
     requires extra { extra ≤ 4 }
     requires within { 5 + (order + 1) * extra ≤ length section.now }

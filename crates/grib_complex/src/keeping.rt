@@ -1,6 +1,6 @@
 //! What becomes of the points of values.
 
-ghost use Rattle.std.specs.Prelude.{◌≡◌, ◌+◌, ◌≤◌, ◌<◌, List, Bool, [], ◌∷◌, ◌++◌, length, replicate, IfOk, vec_len, vec_capacity};
+ghost use Rattle.std.specs.Prelude.{◌≡◌, ◌+◌, ◌≤◌, ◌<◌, List, Bool, false, [], ◌∷◌, ◌++◌, length, replicate, IfOk, vec_len, vec_capacity};
 ghost use Rattle.grib_bitmap.specs.Mask.{present_count};
 ghost use Rattle.grib_packing.specs.Column.{points_with_mask};
 ghost use Rattle.grib_packing.specs.declared.column.Point.{Point as point};
@@ -18,6 +18,10 @@ pub trait Keeper {
     // Where points are kept one after another, it goes from one state to another.
     ghost kept: { Self → List point → Self → Type 0 };
 
+    /// Whether it keeps points. One that keeps none need not be handed any.
+    fn keeps(&self) -> bool
+        ensures { result ≡ false → (points : List point) → kept self.now points self.now };
+
     /// Keeps the next point.
     fn keep(self, point: Point) -> Self
         ensures { kept self (point ∷ []) result };
@@ -30,33 +34,34 @@ pub trait Keeper {
 
 /// The points of a column, which take the places of a mask that are present.
 #[derive(Debug, Drop)]
-pub struct Points<'a> {
-    mask: &'a Mask,
+pub struct Points {
+    mask: Mask,
     points: Vec<Point>,
     /// How many present points follow for certain.
     left: u32,
 }
 
-impl<'a> Points<'a> {
+impl Points {
     /// No points yet.
     ///
     /// # Errors
     ///
     /// There is no memory for the points.
-    pub fn start(alloc: Global, mask: &'a Mask) -> Result<Points<'a>, AllocError>
-        ensures { IfOk result (ArePoints mask.now []) }
+    pub fn start(alloc: Global, mask: Mask) -> Result<Points, AllocError>
+        ensures { IfOk result (ArePoints mask []) }
     {
+        let points = Vec::with_capacity(alloc, mask.len() as usize)?;
         Ok(Points {
-            points: Vec::with_capacity(alloc, mask.len() as usize)?,
             mask,
+            points,
             left: 0,
         })
     }
 
     /// Goes on to the next point that is present.
     #[inline(always)]
-    fn go_on(self) -> Points<'a>
-        ensures { (mask : List Bool) (seen : List point) → length seen < present_count mask → ArePoints mask seen self.entry
+    fn go_on(self) -> Points
+        ensures { (mask : List Bool) (seen : List point) → length seen < present_count mask → ArePoints mask seen self
             → ArePoints mask seen result × (0 < result.left) }
     {
         if self.left > 0 {
@@ -69,9 +74,9 @@ impl<'a> Points<'a> {
     /// in registers where it is not called.
     #[cold]
     #[inline(never)]
-    fn skip_missing(mut self) -> Points<'a>
+    fn skip_missing(mut self) -> Points
         requires { self.left ≡ 0 }
-        ensures { (mask : List Bool) (seen : List point) → length seen < present_count mask → ArePoints mask seen self.entry
+        ensures { (mask : List Bool) (seen : List point) → length seen < present_count mask → ArePoints mask seen self
             → ArePoints mask seen result × (0 < result.left) }
     {
         let mut place = self.points.len();
@@ -89,7 +94,7 @@ impl<'a> Points<'a> {
 
     /// The points, once all values came.
     pub fn finish(self) -> Vec<Point>
-        ensures { (mask : List Bool) (seen : List point) → ArePoints mask seen self.entry → result.items ≡ points_with_mask mask seen }
+        ensures { (mask : List Bool) (seen : List point) → ArePoints mask seen self → result.items ≡ points_with_mask mask seen }
     {
         let mut points = self.points;
         let left = (self.mask.len() as usize).saturating_sub(points.len());
@@ -98,11 +103,16 @@ impl<'a> Points<'a> {
     }
 }
 
-impl<'a> Keeper for Points<'a> {
+impl Keeper for Points {
     ghost kept = { PointsKept };
 
+    #[inline]
+    fn keeps(&self) -> bool {
+        true
+    }
+
     #[inline(always)]
-    fn keep(self, point: Point) -> Points<'a> {
+    fn keep(self, point: Point) -> Points {
         let mut points = self.go_on();
         points.left = points.left.saturating_sub(1);
         push_within(&mut points.points, point);
@@ -120,6 +130,11 @@ pub struct Nothing;
 
 impl Keeper for Nothing {
     ghost kept = { λ _ _ _. Unit {0} };
+
+    #[inline]
+    fn keeps(&self) -> bool {
+        false
+    }
 
     #[inline]
     fn keep(self, _point: Point) -> Nothing {

@@ -4,6 +4,7 @@
 mod descriptors;
 mod keeping;
 mod packing;
+mod range;
 mod representation;
 mod telling;
 #[cfg(test)]

@@ -8,11 +8,12 @@ ghost use Rattle.grib_packing.specs.Packing.{packing_template, value_count};
 ghost use Rattle.grib_simple.specs.Unpacked.{IsUnpacked};
 
 use crate::keeping::Points;
-use crate::unpacking::take_values;
+use crate::representation::read_complex;
+use crate::unpacking::take_complex_values;
 use grib_bitmap::Mask;
 use grib_io::{List, Section, UnpackFault};
 use grib_packing::Column;
-use grib_simple::{Packing, read_simple};
+use grib_simple::Packing;
 use std::alloc::Global;
 
 /// Complex packing: the numbers of the present points stand in groups, each with a reference and a
@@ -84,20 +85,23 @@ fn unpack(
     requires values { present_count mask.now ≡ value_count section5.now.octets.now }
     ensures { IsUnpacked section5.now.octets.now mask.now section7.now.start section7.now.octets.now result }
 {
+    let Ok(complex) = read_complex(section5, mask.len()) else {
+        unreachable!();
+    };
+    let Ok(mask) = mask.copy(alloc) else {
+        return Err(UnpackFault::Memory);
+    };
     let Ok(points) = Points::start(alloc, mask) else {
         return Err(UnpackFault::Memory);
     };
-    let points = match take_values(alloc, section5, mask.len(), section7, points) {
+    let points = match take_complex_values(alloc, &complex, section7, points) {
         Ok(points) => points,
         Err(fault) => return Err(fault),
     };
-    let Ok(simple) = read_simple(section5, mask.len()) else {
-        unreachable!();
-    };
     Ok(Column {
-        reference: simple.reference,
-        e: simple.e,
-        d: simple.d,
+        reference: complex.simple.reference,
+        e: complex.simple.e,
+        d: complex.simple.d,
         points: List::of(points.finish()),
     })
 }

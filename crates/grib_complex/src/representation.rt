@@ -1,6 +1,6 @@
 //! Section 5 of complex packing.
 
-ghost use Rattle.std.specs.Prelude.{◌≡◌, ◌⊎◌, ◌<◌, ◌≤◌, ◌==◌, cond, slice_index, length, Some, None, MatchResult};
+ghost use Rattle.std.specs.Prelude.{◌≡◌, ◌⊎◌, ◌+◌, ◌*◌, ◌<◌, ◌≤◌, ◌==◌, cond, slice_index, length, Some, None, MatchResult};
 ghost use Rattle.grib_bits.specs.Octets.{StatesItself};
 ghost use Rattle.grib_io.specs.Rows.{first_fault, first_fault_at};
 ghost use Rattle.grib_packing.specs.Complex.{complex_rows, layout_of};
@@ -31,6 +31,16 @@ pub struct Complex {
     pub order: u8,
     /// The octets of each extra descriptor: octet 49, and 0 without differencing.
     pub extra: u8,
+}
+
+impl Complex {
+    /// The octets of the extra descriptors, which stand after octet 5 of Section 7.
+    pub fn skip(&self) -> u32
+        requires { self.now.order ≤ 2 }
+        ensures { result ≡ (self.now.order + 1) * self.now.extra }
+    {
+        u32::from(self.order + 1) * u32::from(self.extra)
+    }
 }
 
 /// Reads what Section 5 says of complex packing, where [`read_simple`] has accepted it with template 2 or

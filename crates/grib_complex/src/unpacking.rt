@@ -1,22 +1,23 @@
 //! The values of a field in complex packing.
 
-ghost use Rattle.std.specs.Prelude.{◌≡◌, ◌⊎◌, ℕ, ◌*◌, ◌≤◌, List, length, replicate, pos, None, MatchResult};
+ghost use Rattle.std.specs.Prelude.{◌≡◌, ◌⊎◌, ℕ, ◌*◌, ◌≤◌, List, length, replicate, pos, true, None, Some, IfOk, MatchResult};
 ghost use Rattle.grib_bits.specs.Octets.{StatesItself};
-ghost use Rattle.grib_io.specs.Rows.{located};
+ghost use Rattle.grib_io.specs.Rows.{first_fault, first_fault_at, located};
 ghost use Rattle.grib_packing.specs.declared.column.Point.TheVariants.{Scaled};
-ghost use Rattle.grib_packing.specs.Entries.{packing_fault, complex_data_fault, complex_entries, group_data_fault, group_entries};
+ghost use Rattle.grib_packing.specs.Entries.{packing_fault, complex_data_fault, complex_entries, group_data_fault, group_entries, range_rows};
 ghost use Rattle.grib_packing.specs.Packing.{packing_template, value_count};
 ghost use Rattle.grib_simple.specs.Unpacked.{IsUnpackFault};
 ghost use Rattle.grib_complex.specs.Representation.{Spelled};
-ghost use Rattle.grib_complex.specs.Descriptors.{IsAccepted};
+ghost use Rattle.grib_complex.specs.Descriptors.{IsAccepted, IsReadable};
 
 use crate::descriptors::{running, signed_first_value};
 use crate::keeping::Keeper;
+use crate::range::stays_within;
 use crate::representation::{Complex, read_complex};
 use crate::telling::Teller;
 use crate::values::Values;
 use byteorder::{BigEndian, ByteOrder};
-use grib_groups::{lists_fit, take_groups};
+use grib_groups::{Table, lists_fit, read_groups, take_codes};
 use grib_io::{Fault, Reason, Section, UnpackFault};
 use grib_packing::Point;
 use std::alloc::Global;
@@ -52,10 +53,30 @@ pub fn take_values<K: Keeper + Drop>(
     let Ok(complex) = read_complex(section5, points) else {
         unreachable!();
     };
+    take_complex_values(alloc, &complex, section7, keeper)
+}
+
+/// The same where Section 5 was read.
+pub fn take_complex_values<K: Keeper + Drop>(
+    alloc: Global,
+    complex: &Complex,
+    section7: &Section<'_>,
+    keeper: K,
+) -> Result<K, UnpackFault>
+    requires accepted { IsAccepted complex.now }
+    requires itself { StatesItself section7.now.number section7.now.octets.now }
+    requires low { 1 ≤ section7.now.start }
+    requires high { section7.now.start ≤ 268435456 }
+    ensures { (s5 : List ℕ) → Spelled complex.now s5 → MatchResult result
+        (λ after. (complex_data_fault s5 section7.now.octets.now ≡ None)
+        × K.kept keeper (complex_entries s5 section7.now.octets.now) after
+        × (length (complex_entries s5 section7.now.octets.now) ≡ value_count s5))
+        (IsUnpackFault (located section7.now.start (complex_data_fault s5 section7.now.octets.now))) }
+{
     if complex.layout.groups == 0 {
         return Ok(keep_zeros(complex.simple.values, keeper));
     }
-    take_group_values(alloc, &complex, section7, keeper)
+    take_group_values(alloc, complex, section7, keeper)
 }
 
 /// Keeps the points of so many values that are 0.
@@ -86,10 +107,39 @@ fn take_group_values<K: Keeper + Drop>(
         × (length (group_entries s5 section7.now.octets.now) ≡ value_count s5))
         (IsUnpackFault (located section7.now.start (group_data_fault s5 section7.now.octets.now))) }
 {
+    let table = match read_table(alloc, complex, section7) {
+        Ok(table) => table,
+        Err(fault) => return Err(fault),
+    };
+    if !keeper.keeps() && stays_in_range(complex, section7.octets, &table) {
+        return Ok(keeper);
+    }
+    match take_points(complex, section7, table, keeper) {
+        Ok(keeper) => Ok(keeper),
+        Err(fault) => Err(UnpackFault::Refused(fault)),
+    }
+}
+
+/// The groups of a field, whose Section 7 passes all rows but that on the range of its numbers.
+fn read_table(
+    alloc: Global,
+    complex: &Complex,
+    section7: &Section<'_>,
+) -> Result<Table, UnpackFault>
+    requires accepted { IsAccepted complex.now }
+    requires groups { 1 ≤ complex.now.layout.groups }
+    requires itself { StatesItself section7.now.number section7.now.octets.now }
+    requires low { 1 ≤ section7.now.start }
+    requires high { section7.now.start ≤ 268435456 }
+    ensures read { IfOk result (IsReadable complex.now section7.now.octets.now) }
+    ensures fault { (s5 : List ℕ) → Spelled complex.now s5 → MatchResult result
+        (λ _. group_data_fault s5 section7.now.octets.now ≡ first_fault (range_rows s5 section7.now.octets.now))
+        (IsUnpackFault (located section7.now.start (group_data_fault s5 section7.now.octets.now))) }
+{
     let start = section7.start;
     let length = length_of(section7);
     let extra = complex.extra;
-    let skip = u32::from(complex.order + 1) * u32::from(extra);
+    let skip = complex.skip();
     if !lists_fit(&complex.layout, length, skip) {
         return Err(UnpackFault::Refused(Fault::at(start, Reason::DataTooShort, u64::from(length))));
     }
@@ -102,25 +152,60 @@ fn take_group_values<K: Keeper + Drop>(
             u64::from(signed),
         )));
     }
-    let values = Values {
-        teller: Teller::start(running(section7.octets, complex.order, extra)),
-        keeper,
-    };
-    let count = complex.simple.values;
-    let Values { teller, keeper } = match take_groups(
+    read_groups(
         alloc,
         &complex.layout,
         section7,
         skip,
-        count,
-        values,
-    ) {
-        Ok(values) => values,
-        Err(fault) => return Err(fault),
+        complex.simple.values,
+    )
+}
+
+/// Whether no number of a field can be out of range, whatever its packed numbers are: without differences
+/// none can, and with them the groups may bound all numbers.
+fn stays_in_range(complex: &Complex, octets: &[u8], table: &Table) -> bool
+    requires accepted { IsAccepted complex.now }
+    requires read { IsReadable complex.now octets.now table.now }
+    ensures { result ≡ true → (s5 : List ℕ) → Spelled complex.now s5 → first_fault (range_rows s5 octets.now) ≡ None }
+{
+    if complex.order == 0 {
+        return true;
+    }
+    let values = complex.simple.values.max(1);
+    stays_within(octets, complex.order, complex.extra, table, values)
+}
+
+/// Hands the points of all values on, or refuses the section for the first number out of range.
+fn take_points<K: Keeper + Drop>(
+    complex: &Complex,
+    section7: &Section<'_>,
+    table: Table,
+    keeper: K,
+) -> Result<K, Fault>
+    requires accepted { IsAccepted complex.now }
+    requires low { 1 ≤ section7.now.start }
+    requires high { section7.now.start ≤ 268435456 }
+    requires read { IsReadable complex.now section7.now.octets.now table }
+    ensures { (s5 : List ℕ) → Spelled complex.now s5 → MatchResult result
+        (λ after. (first_fault (range_rows s5 section7.now.octets.now) ≡ None)
+        × K.kept keeper (group_entries s5 section7.now.octets.now) after)
+        (λ fault. first_fault_at section7.now.start (range_rows s5 section7.now.octets.now) ≡ Some fault) }
+{
+    let running = running(section7.octets, complex.order, complex.extra);
+    let values = Values {
+        teller: Teller::start(running),
+        keeper,
     };
+    let Values { teller, keeper } = take_codes(
+        &complex.layout,
+        section7,
+        complex.skip(),
+        table,
+        values,
+    );
     let beyond = teller.beyond();
     if beyond > 0 {
-        return Err(UnpackFault::Refused(Fault::at(start, Reason::ScaledRange, beyond)));
+        return Err(Fault::at(section7.start, Reason::ScaledRange, beyond));
     }
     Ok(keeper)
 }

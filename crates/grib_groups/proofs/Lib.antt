@@ -12,3 +12,4 @@ pub mod Parts
 pub mod Packable
 pub mod Marks
 pub mod Back
+pub mod Pieces

@@ -1,14 +1,9 @@
 -- Lemmas on runs of numbers, taken one after another.
-use Rattle.std.proofs.Common.{◌≡◌, ℕ, zero, suc, ◌+◌, ◌-◌, ◌*◌, ◌/◌, ◌%◌, ◌^◌, ◌<◌, ◌≤◌, Bool, List, [], ◌∷◌, ◌++◌, length, take, drop, map, bit_and, refl, sym, ap, ap₂, ◌∙◌, arith, pow_mono, subst, add-mul, mul_comm}
+use Rattle.std.proofs.Common.{◌≡◌, ℕ, zero, suc, ◌+◌, ◌*◌, ◌/◌, ◌^◌, ◌<◌, ◌≤◌, Bool, List, [], ◌∷◌, ◌++◌, take, drop, map, refl, sym, ap, ap₂, ◌∙◌, arith, pow_mono, subst, add-mul, mul_comm}
 use Rattle.std.proofs.Math.Nat.{mul-le-mul_right}
-use Rattle.std.proofs.lemmas.List.{length-drop, length-take, length-take-le, take-take, take_rest, drop-take, drop-drop, map-append}
-use Rattle.byteorder.specs.Endian.{big_number}
+use Rattle.std.proofs.lemmas.List.{drop-drop, map-append}
 use Rattle.grib_bits.specs.Bits.{bits, num}
 use Rattle.grib_bits.specs.Plain.{plain, plain_at}
-use Rattle.grib_bits.proofs.Numbers.{and_ones, num-field, num-lt}
-use Rattle.grib_bits.proofs.OctetBits.{AreOctets, length-bits, take-bits, big_from-bits}
-use Rattle.grib_bits.proofs.OctetNumbers.{AreOctets-drop}
-use Rattle.grib_bits.proofs.Fields.{field_start}
 use Rattle.grib_bits.proofs.WordNumbers.{number-lt}
 use Rattle.grib_io.specs.declared.code.Code.{Code}
 use Rattle.grib_groups.proofs.Plain.{plain_more, plain_at-drop, plain-add}

@@ -4,3 +4,4 @@ pub mod Going
 pub mod Lists
 pub mod Laws
 pub mod Encoding
+pub mod Feeding

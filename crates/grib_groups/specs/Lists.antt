@@ -1,12 +1,12 @@
 -- What is read of the three lists of groups.
-use Rattle.std.specs.Prelude.{◌≡◌, ℕ, ◌+◌, ◌*◌, ◌^◌, ◌<◌, ◌≤◌, List, [], ◌∷◌, ◌++◌, length, map, nat_lt, not, ◌==◌, Option, Some, sum, vec_capacity}
+use Rattle.std.specs.Prelude.{◌≡◌, ℕ, ◌+◌, ◌*◌, ◌^◌, ◌<◌, ◌≤◌, List, [], ◌∷◌, ◌++◌, length, drop, map, nat_lt, not, ◌==◌, Option, Some, sum, vec_capacity}
 use Rattle.std.specs.List.{All}
 use Rattle.grib_io.specs.declared.code.Code.{Code}
 use Rattle.grib_io.specs.declared.fault.Fault.{Fault}
 use Rattle.grib_io.specs.declared.fault.Reason.TheVariants.{GroupWidth, GroupShape, DataTooShort}
 use Rattle.grib_io.specs.Rows.{Row, row, first_place, first_fault_at}
 use Rattle.grib_packing.specs.declared.layout.Layout.{Layout}
-use Rattle.grib_packing.specs.Groups.{reference_octets, list_octets, packed_bits, groups_from, first_past}
+use Rattle.grib_packing.specs.Groups.{reference_octets, list_octets, packed_bits, groups, groups_from, first_past}
 use Rattle.grib_io.specs.declared.fault.UnpackFault.{UnpackFault}
 use Rattle.grib_io.specs.declared.fault.UnpackFault.TheVariants.{Refused, Memory}
 use Rattle.grib_groups.specs.declared.decoding.Codes.{Codes}
@@ -14,6 +14,8 @@ use Rattle.grib_groups.specs.declared.lists.References.{References}
 use Rattle.grib_groups.specs.declared.lists.Widths.{Widths}
 use Rattle.grib_groups.specs.declared.lists.Lengths.{Lengths}
 use Rattle.grib_groups.specs.declared.lists.Lists.{Lists}
+use Rattle.grib_groups.specs.declared.table.Table.{Table}
+use Rattle.grib_groups.specs.Table.{groups_in, IsWhole, IsNarrow}
 use Rattle.grib_groups.specs.Taking.{number_of}
 
 -- A list that has memory for so many items was added to.
@@ -120,3 +122,12 @@ CodesTook before codes after =
 abbrev pub IsRefusal : Option Fault → UnpackFault → Type 0
 IsRefusal fault (Refused refused) = fault ≡ Some refused
 IsRefusal fault Memory = Unit {0}
+
+-- The table of the groups of a Section 7 that has all bits of their packed numbers and `skip` octets of
+-- extra descriptors.
+pub record GroupsRead (layout : Layout) (s7 : List ℕ) (skip : ℕ) (table : Table) : Type 0 where
+  pub whole : IsWhole table
+  pub narrow : IsNarrow table
+  pub are : groups_in table ≡ groups layout (drop (5 + skip) s7)
+  pub enough : 8 * (5 + skip + list_octets layout) + packed_bits (groups layout (drop (5 + skip) s7)) ≤ 8 * length s7
+  pub short : length s7 < 2 ^ 32

@@ -1,16 +1,16 @@
 //! The codes of a whole Section 7.
 
 ghost use Rattle.std.specs.Prelude.{◌≡◌, ℕ, ◌+◌, ◌*◌, ◌^◌, ◌≤◌, ◌<◌, length, drop, None, MatchResult, vec_len};
-ghost use Rattle.grib_bits.specs.Bits.{bits as bits_in};
 ghost use Rattle.grib_bits.specs.Octets.{StatesItself};
 ghost use Rattle.grib_io.specs.Rows.{first_fault, first_fault_at};
-ghost use Rattle.grib_packing.specs.Groups.{codes_from, grouped, group_rows, list_rows, packed_bits};
-ghost use Rattle.grib_groups.specs.Table.{groups_in, IsWhole, IsNarrow};
-ghost use Rattle.grib_groups.specs.Lists.{CodesTook, IsRefusal};
+ghost use Rattle.grib_packing.specs.Groups.{grouped, group_rows, list_rows};
+ghost use Rattle.grib_groups.specs.Taking.{values};
+ghost use Rattle.grib_groups.specs.Table.{groups_in};
+ghost use Rattle.grib_groups.specs.Lists.{CodesTook, IsRefusal, GroupsRead};
 ghost use Rattle.grib_groups.specs.Laws.{codes-none, codes-more};
 
 use crate::lists::{Lists, octets_of_lists};
-use crate::{Group, Layout, Numbers, Table, Taker};
+use crate::{Fed, Layout, Table, Taker};
 use byteorder::{BigEndian, ByteOrder};
 use grib_io::{Code, Section, UnpackFault, push_within};
 use std::alloc::Global;
@@ -102,6 +102,57 @@ pub fn take_groups<T: Taker + Drop>(
         × (length (grouped layout.now (drop (5 + skip) section7.now.octets.now)) ≡ count))
         (IsRefusal (first_fault_at section7.now.start (group_rows layout.now section7.now.octets.now skip count))) }
 {
+    let table = read_groups(alloc, layout, section7, skip, count)?;
+    Ok(take_codes(layout, section7, skip, table, taker))
+}
+
+/// Hands the codes of all values of such a section on, of which the groups were read.
+pub fn take_codes<T: Taker>(
+    layout: &Layout,
+    section7: &Section<'_>,
+    skip: u32,
+    table: Table,
+    taker: T,
+) -> T
+    requires references { layout.now.reference_bits ≤ 32 }
+    requires skip { skip ≤ 12 }
+    requires read { GroupsRead layout.now section7.now.octets.now skip table }
+    requires limit { 2 ^ 33 ≤ T.limit }
+    ensures took { T.took taker (grouped layout.now (drop (5 + skip) section7.now.octets.now)) result }
+    ensures count { length (grouped layout.now (drop (5 + skip) section7.now.octets.now)) ≡ values (groups_in table) }
+{
+    let before = u64::from(5 + skip) + octets_of_lists(layout);
+    let numbers = &section7.octets[before as usize..];
+    Fed::groups(*layout, table, taker).push(numbers).finish()
+}
+
+/// The groups of such a section, which has all bits of their packed numbers.
+///
+/// # Errors
+///
+/// As [`decode_groups`].
+pub fn read_groups(
+    alloc: Global,
+    layout: &Layout,
+    section7: &Section<'_>,
+    skip: u32,
+    count: u32,
+) -> Result<Table, UnpackFault>
+    requires references { layout.now.reference_bits ≤ 32 }
+    requires widths { layout.now.width_bits ≤ 32 }
+    requires lengths { layout.now.length_bits ≤ 32 }
+    requires groups { 1 ≤ layout.now.groups }
+    requires itself { StatesItself section7.now.number section7.now.octets.now }
+    requires low { 1 ≤ section7.now.start }
+    requires high { section7.now.start ≤ 268435456 }
+    requires skip { skip ≤ 12 }
+    requires lists { first_fault (list_rows layout.now (length section7.now.octets.now) skip) ≡ None }
+    ensures { MatchResult result
+        (λ table. (first_fault_at section7.now.start (group_rows layout.now section7.now.octets.now skip count) ≡ None)
+        × GroupsRead layout.now section7.now.octets.now skip table
+        × (values (groups_in table) ≡ count))
+        (IsRefusal (first_fault_at section7.now.start (group_rows layout.now section7.now.octets.now skip count))) }
+{
     let length = length_of(section7);
     let octets = &section7.octets[5 + skip as usize..];
     let Ok(lists) = Lists::read(alloc, layout, octets, count) else {
@@ -110,8 +161,7 @@ pub fn take_groups<T: Taker + Drop>(
     if let Some(fault) = lists.fault(layout, skip, length, section7.start) {
         return Err(UnpackFault::Refused(fault));
     }
-    let numbers = &octets[octets_of_lists(layout) as usize..];
-    Ok(take_all(layout, &lists.into_table(), numbers, taker))
+    Ok(lists.into_table())
 }
 
 /// The length that a section states, which is its own.
@@ -120,23 +170,4 @@ fn length_of(section: &Section<'_>) -> u32
     ensures { result ≡ length section.now.octets.now }
 {
     BigEndian::read_u32(section.octets)
-}
-
-/// Hands the codes of all groups on, whose packed numbers stand from the first octet on.
-fn take_all<T: Taker>(layout: &Layout, table: &Table, octets: &[u8], taker: T) -> T
-    requires bits { layout.now.reference_bits ≤ 48 }
-    requires whole { IsWhole table.now }
-    requires narrow { IsNarrow table.now }
-    requires limit { 2 ^ 33 ≤ T.limit }
-    requires short { length octets.now < 2 ^ 32 }
-    requires enough { packed_bits (groups_in table.now) ≤ 8 * length octets.now }
-    ensures { T.took taker (codes_from layout.now (groups_in table.now) (bits_in octets.now)) result }
-{
-    let nothing = Group {
-        reference: 0,
-        width: 0,
-        count: 0,
-    };
-    let mut numbers = Numbers::start(nothing);
-    numbers.push(layout, table, octets, taker)
 }

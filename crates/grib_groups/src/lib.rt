@@ -6,7 +6,9 @@ mod decoding;
 mod encoding;
 #[cfg(test)]
 mod encoding_tests;
+mod feeding;
 pub mod laws;
+mod list_feeding;
 mod lists;
 mod numbers;
 mod run;
@@ -15,9 +17,11 @@ mod taker;
 #[cfg(test)]
 mod tests;
 
-pub use decoding::{decode_groups, take_groups};
+pub use decoding::{decode_groups, read_groups, take_codes, take_groups};
 pub use encoding::encode_groups;
+pub use feeding::{Fed, part_of, rest_of};
 pub use grib_packing::{Group, Layout};
+pub use list_feeding::FedLists;
 pub use lists::{
     Lengths, Lists, References, Widths, lists_fit, octets_of, octets_of_lists, plain_layout,
 };

@@ -9,10 +9,10 @@ ghost use Rattle.grib_io.specs.Rows.{first_fault};
 ghost use Rattle.grib_groups.specs.Taking.{number_of};
 ghost use Rattle.grib_packing.specs.Groups.{list_octets, packed_bits, groups_from, octets_for, list_rows, references as all_references, widths as all_widths, lengths as all_lengths};
 ghost use Rattle.grib_groups.specs.Lists.{ListsAre, lists_fault, AreEmpty, WereRead, ReferencesTook, WidthsTook, LengthsTook, LengthAdded};
+ghost use Rattle.grib_groups.specs.Feeding.{no_marks};
 ghost use Rattle.grib_groups.specs.Laws.{references-none, references-more, widths-none, widths-more, lengths-none, lengths-more};
 
-use crate::run::take_run;
-use crate::{Group, Layout, Table, Taker};
+use crate::{FedLists, Layout, Table, Taker};
 use grib_io::{Code, Fault, Reason, push_within};
 use std::alloc::{AllocError, Global};
 
@@ -165,22 +165,8 @@ impl Lists {
         ensures { IfOk result (λ lists. ListsAre layout.now values lists (all_references layout.now octets.now)
             (all_widths layout.now octets.now) (all_lengths layout.now octets.now)) }
     {
-        let Lists {
-            references,
-            widths,
-            lengths,
-        } = Lists::start(alloc, layout, values)?;
-        let groups = layout.groups;
-        let first = octets_of(layout.reference_bits, groups) as usize;
-        let second = first + octets_of(layout.width_bits, groups) as usize;
-        let references = take_plain(octets, layout.reference_bits, groups, references);
-        let widths = take_plain(&octets[first..], layout.width_bits, groups, widths);
-        let lengths = take_plain(&octets[second..], layout.length_bits, groups - 1, lengths);
-        Ok(Lists {
-            references,
-            widths,
-            lengths: lengths.add(u64::from(layout.last_length)),
-        })
+        let lists = FedLists::start(alloc, layout, values)?;
+        Ok(lists.push(layout, 0, octets).finish(layout))
     }
 
     /// The refusal of a Section 7 of `length` octets that begins at octet `start` of the message and
@@ -279,6 +265,7 @@ pub fn lists_fit(layout: &Layout, length: u32, skip: u32) -> bool
 pub fn plain_layout() -> Layout
     ensures management { result.management ≡ 0 }
     ensures bits { result.reference_bits ≡ 0 }
+    ensures all { result ≡ no_marks }
 {
     Layout {
         groups: 0,
@@ -291,22 +278,6 @@ pub fn plain_layout() -> Layout
         length_bits: 0,
         management: 0,
     }
-}
-
-/// Hands `count` numbers of `bits` bits on, which stand one after another.
-fn take_plain<T: Taker>(octets: &[u8], bits: u8, count: u32, taker: T) -> T
-    requires width { bits ≤ 32 }
-    requires limit { 2 ^ 32 ≤ T.limit }
-    requires short { length octets.now < 2 ^ 32 }
-    requires within { count * bits ≤ 8 * length octets.now }
-    ensures { T.took taker (map Present (plain (bits_in octets.now) bits count)) result }
-{
-    let group = Group {
-        reference: 0,
-        width: bits,
-        count,
-    };
-    take_run(&plain_layout(), group, octets, 0, count, taker)
 }
 
 /// The number of a code that is present.

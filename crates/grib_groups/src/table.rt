@@ -1,9 +1,10 @@
 //! The groups of a field, as their three lists.
 
-ghost use Rattle.std.specs.Prelude.{◌≡◌, ◌^◌, ◌<◌, vec_len};
+ghost use Rattle.std.specs.Prelude.{◌≡◌, ◌^◌, ◌<◌, [], vec_len};
 ghost use Rattle.grib_groups.specs.Table.{group_at, IsWhole};
 
 use crate::Group;
+use std::alloc::Global;
 
 /// The groups of a field. Their references, widths and lengths stand in three lists, as in Section 7.
 #[derive(Debug, Drop)]
@@ -14,6 +15,19 @@ pub struct Table {
 }
 
 impl Table {
+    /// No group. It takes no memory.
+    pub fn empty(alloc: Global) -> Table
+        ensures references { result.references.items ≡ [] }
+        ensures widths { result.widths.items ≡ [] }
+        ensures lengths { result.lengths.items ≡ [] }
+    {
+        Table {
+            references: Vec::new(alloc),
+            widths: Vec::new(alloc),
+            lengths: Vec::new(alloc),
+        }
+    }
+
     /// How many groups there are.
     #[inline]
     pub fn len(&self) -> usize

@@ -21,7 +21,7 @@ loop-place-preserved c = record {
       let known = c.loop-place.invariant.are mask seen are in
       let now = known.0 in
       let place = length before.points.items in
-      let run = run_of mask before.mask.now place c.loop-place.place n c.run-run.result.present false now.mask_stays known.1 c.if-run.false c.run-run.ensures.same in
+      let run = run_of mask before.mask place c.loop-place.place n c.run-run.result.present false now.mask_stays known.1 c.if-run.false c.run-run.ensures.same in
       let within : place + n ≤ length mask = omega (arith, known.1, c.run-run.ensures.within, ap length now.mask_stays) in
       let points = c.push_missing.ensures.points (omega (arith, within, now.memory, before.points.ok.0)) in (
         are_missing mask seen before (record before { points = c.push_missing.new.points }) now c.loop-place.invariant.none n within refl run c.loop-place.invariant.none points c.push_missing.ensures.capacity,
@@ -36,7 +36,7 @@ returns-then-run c = λ mask seen more are.
     let known = c.loop-place.invariant.are mask seen are in
     let now = known.0 in
     let place = length before.points.items in
-    let run = run_of mask before.mask.now place c.loop-place.place n c.run-run.result.present true now.mask_stays known.1 c.if-run.true c.run-run.ensures.same in
+    let run = run_of mask before.mask place c.loop-place.place n c.run-run.result.present true now.mask_stays known.1 c.if-run.true c.run-run.ensures.same in
     let within : place + n ≤ length mask = omega (arith, known.1, c.run-run.ensures.within, ap length now.mask_stays) in (
       are_present mask seen before (record before { left = n }) now c.loop-place.invariant.none n within refl run refl refl,
       c.run-run.ensures.some,

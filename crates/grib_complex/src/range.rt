@@ -1,0 +1,74 @@
+//! Fields whose numbers cannot leave the range, whatever their codes are.
+
+ghost use Rattle.std.specs.Prelude.{◌≡◌, ◌⊎◌, ℕ, ◌+◌, ◌-◌, ◌*◌, ◌^◌, ◌<◌, ◌≤◌, min, cond, ◌==◌, List, Bool, true, false, length, nat_abs};
+ghost use Rattle.grib_io.specs.Rows.{first_place};
+ghost use Rattle.grib_packing.specs.declared.layout.Layout.{Layout as layout_of_groups};
+ghost use Rattle.grib_packing.specs.Entries.{is_out_of_range};
+ghost use Rattle.grib_packing.specs.Groups.{codes_from};
+ghost use Rattle.grib_groups.specs.Taking.{values as values_of};
+ghost use Rattle.grib_groups.specs.Table.{groups_in, IsWhole, IsNarrow};
+ghost use Rattle.grib_complex.specs.Told.{told};
+ghost use Rattle.grib_complex.specs.Descriptors.{is_signed_at, telling_by};
+ghost use Rattle.grib_complex.specs.Range.{stretch as stretch_of, reach as reach_of};
+
+use crate::descriptors::{first_value, minimum, second_value};
+use grib_groups::{Group, Table};
+
+/// Whether the numbers of a field cannot leave plus and minus 2^60, whatever the codes of its groups are:
+/// a code moves the next difference by no more than its group says, and a difference moves the numbers that
+/// follow. No first value of this Section 7 has its top bit set.
+pub fn stays_within(section: &[u8], order: u8, extra: u8, table: &Table, values: u32) -> bool
+    requires order { (order ≡ 1) ⊎ (order ≡ 2) }
+    requires extra { extra ≤ 4 }
+    requires within { 5 + (order + 1) * extra ≤ length section.now }
+    requires first { is_signed_at order extra section.now 0 ≡ false }
+    requires second { is_signed_at order extra section.now 1 ≡ false }
+    requires short { length section.now < 2 ^ 32 }
+    requires whole { IsWhole table.now }
+    requires narrow { IsNarrow table.now }
+    requires values { values_of (groups_in table.now) ≤ values }
+    requires some { 1 ≤ values }
+    ensures { result ≡ true → (layout : layout_of_groups) (numbers : List Bool)
+        → first_place is_out_of_range (told (telling_by order extra section.now) (codes_from layout (groups_in table.now) numbers)) ≡ 0 }
+{
+    let first = first_value(section, order, extra, 0).unsigned_abs();
+    let second = second_value(section, order, extra).unsigned_abs();
+    let far = first + second;
+    let each = far.saturating_add(reach(table, minimum(section, order, extra)));
+    far.saturating_add(each.saturating_mul(times(order, values))) <= 1 << 60
+}
+
+/// How often a difference moves the numbers at most: each of the values once, where the differences
+/// themselves are differences.
+fn times(order: u8, values: u32) -> u64
+    ensures { result ≡ cond (order == 2) values 1 }
+{
+    if order == 2 { u64::from(values) } else { 1 }
+}
+
+/// How far all codes together can move a difference.
+fn reach(table: &Table, minimum: i64) -> u64
+    requires whole { IsWhole table.now }
+    requires narrow { IsNarrow table.now }
+    requires minimum { nat_abs minimum ≤ 2 ^ 31 }
+    ensures { result ≡ min (reach_of minimum (groups_in table.now)) (2 ^ 64 - 1) }
+{
+    let mut reach = 0u64;
+    for index in 0..table.len() {
+        let group = table.group(index);
+        let codes = u64::from(group.count).saturating_mul(stretch(group, minimum));
+        reach = reach.saturating_add(codes);
+    }
+    reach
+}
+
+/// How far a code of a group can move a difference.
+fn stretch(group: Group, minimum: i64) -> u64
+    requires width { group.width ≤ 32 }
+    requires minimum { nat_abs minimum ≤ 2 ^ 31 }
+    ensures { result ≡ stretch_of minimum group }
+{
+    let least = i64::from(group.reference) + minimum;
+    let most = least + ((1u64 << group.width) - 1) as i64;
+    least.unsigned_abs().max(most.unsigned_abs())
+}

@@ -1,0 +1,12 @@
+use Rattle.std.proofs.Common.{ℕ, List, ap}
+use Rattle.grib_packing.specs.Groups.{groups_from}
+use Rattle.grib_groups.specs.declared.feeding.Fed.{Fed}
+use Rattle.grib_groups.proofs.Pieces.{fed_list}
+use Rattle.grib_groups.proofs.feeding.Fed.list.Goals as goal
+
+pub returns-clause-fed : goal.returns-clause-fed
+returns-clause-fed g c =
+    let table = c.empty.result in
+    let none = ap (λ (rs : List ℕ). groups_from rs table.widths.items table.lengths.items) c.empty.ensures.references in
+    let fed : Fed g.row.T.Denot = record { layout = c.plain_layout.result; table = table; numbers = c.start.result; taker = c.args.taker } in
+    fed_list g.T.Taker.took g.met.T.Taker.none g.met.T.Taker.more fed c.args.bits c.args.count c.plain_layout.ensures.all none c.start.ensures.current c.start.ensures.next c.start.ensures.pending
