@@ -1,5 +1,5 @@
 #!/usr/bin/env bash
-# Builds the proved program and puts it into PREFIX/bin as `grib`.
+# Puts the proved program into PREFIX/bin as `grib`: the shipped one, or else one that is built first.
 #
 #     ./install.sh [PREFIX]     PREFIX is ~/.local where none is given
 set -uo pipefail
@@ -18,10 +18,12 @@ prefix=${1:-${HOME:+$HOME/.local}}
 bin=$prefix/bin
 self=$(readlink -f -- "$0") || fail "cannot find the folder of $0"
 top=${self%/*}
+source "$top/dist/common.sh" || fail "cannot read $top/dist/common.sh"
+find_program
 
-"$top/grib" check <"$top/examples/four-points.grib2" >/dev/null || fail "the program ended with status $?"
+"$program" check <"$top/examples/four-points.grib2" >/dev/null || fail "the program ended with status $?"
 # The program takes its name there as a whole.
 trap 'rm -f "$bin/grib.$$"' EXIT
-mkdir -p "$bin" && install -m 755 "$top/crates/grib_cli/out/grib" "$bin/grib.$$" && mv -fT "$bin/grib.$$" "$bin/grib" ||
+mkdir -p "$bin" && install -m 755 "$program" "$bin/grib.$$" && mv -fT "$bin/grib.$$" "$bin/grib" ||
   fail "cannot write to $bin"
 echo "installed $bin/grib"

@@ -1,0 +1,85 @@
+#!/usr/bin/env python3
+"""Compares `grib dump` with ecCodes on files of edition 2, value by value: eccodes.py PROGRAM FILE..
+
+Wants grib_get_data and grib_copy of ecCodes (Debian: libeccodes-tools). Each message is handed to both by
+itself. Of each value that ecCodes gives, the scaled number is computed back by the reference value and the
+scale factors that PROGRAM prints, and has to be the one that PROGRAM prints for that point. Prints a line
+for each file: messages, fields and points that agree, refusals by their reason, and what differs."""
+import collections
+import subprocess
+import sys
+
+
+def messages(data):
+    """The messages of edition 2 in the octets, by their stated total length."""
+    at = data.find(b"GRIB")
+    while at >= 0 and at + 16 <= len(data):
+        total = int.from_bytes(data[at + 8 : at + 16], "big")
+        if data[at + 7] == 2 and data[at + total - 4 : at + total] == b"7777":
+            yield data[at : at + total]
+            at = data.find(b"GRIB", at + total)
+        else:
+            at = data.find(b"GRIB", at + 4)
+
+
+def our_fields(text):
+    """For each field its reference value, scale factors and points, None where missing."""
+    fields = []
+    for line in text.splitlines():
+        words = line.split()
+        if words[0] == "reference":
+            mantissa, exponent = words[1].split("*2^")
+            reference = int(mantissa) * 2.0 ** int(exponent)
+            fields.append((reference, int(words[3]), int(words[5]), []))
+        elif "." not in words[0]:
+            fields[-1][3].append(None if words[1].startswith("missing") else int(words[1]))
+    return fields
+
+
+def their_fields(message):
+    """For each field its values, None where missing."""
+    run = subprocess.run(["grib_get_data", "-m", "missing", "-F", "%.17g", "-L", "%.0f %.0f", "-"],
+                         input=message, capture_output=True)
+    if run.returncode != 0:
+        return None
+    fields = []
+    for line in run.stdout.decode().splitlines():
+        words = line.replace(",", " ").split()
+        if words and words[0].startswith("Lat"):
+            fields.append([])
+        elif words:
+            fields[-1].append(None if words[-1] == "missing" else float(words[-1]))
+    return fields
+
+
+def agrees(ours, theirs):
+    reference, binary, decimal, points = ours
+    scaled = [None if value is None else round((value * 10.0**decimal - reference) / 2.0**binary) for value in theirs]
+    key = lambda number: (number is None, number or 0)
+    return scaled == points or sorted(scaled, key=key) == sorted(points, key=key)
+
+
+def main():
+    program, failed = sys.argv[1], False
+    for path in sys.argv[2:]:
+        counts = collections.Counter()
+        for message in messages(open(path, "rb").read()):
+            counts["messages"] += 1
+            run = subprocess.run([program, "dump"], input=message, capture_output=True)
+            if run.returncode != 0:
+                counts["refused " + " ".join(run.stderr.decode().split()[5:])] += 1
+                continue
+            ours, theirs = our_fields(run.stdout.decode()), their_fields(message)
+            if theirs is None:
+                counts["accepted, and ecCodes fails"] += 1
+                continue
+            counts["fields differ in number"] += len(ours) != len(theirs)
+            for one, other in zip(ours, theirs):
+                counts["fields that agree" if agrees(one, other) else "fields that DIFFER"] += 1
+                counts["points"] += len(one[3])
+        failed |= counts["fields that DIFFER"] + counts["fields differ in number"] > 0
+        print(path + ": " + ", ".join(f"{number} {what}" for what, number in counts.items() if number))
+    sys.exit(failed)
+
+
+main()

@@ -1,0 +1,64 @@
+#!/usr/bin/env bash
+# Measures, in one run, `check`, `list` and `dump` against ecCodes (Debian's libeccodes-tools) on the same
+# messages. A ratio is the time of ecCodes over ours: above 1, ours is the faster.
+#
+#     bench/read.sh [SIDE]     the large messages have SIDE times SIDE points, 4096 where none is given
+#
+# `check` decides every row of the format, and is compared with `grib_ls -p max`, which decodes every value.
+# `dump` prints the scaled number of every point, where `grib_get_data` prints places and rounded values.
+set -euo pipefail
+source "$(dirname "$0")/common.sh"
+need grib_ls "Debian: libeccodes-tools"
+side=${1:-4096}
+sample=/usr/share/eccodes/samples/regular_ll_pl_grib2.tmpl
+"$top/grib" check <"$top/examples/four-points.grib2" >/dev/null || fail "the program ended with status $?"
+grib=$(
+  source "$top/dist/common.sh"
+  find_program
+  echo "$program"
+)
+
+# A field of 14 bits, made by `grib_filter` from the sample: waves in both directions and some noise.
+{
+  printf 'set Ni = %d; set Nj = %d; set bitsPerValue = 14;\nset values = {\n' "$side" "$side"
+  awk -v side="$side" 'BEGIN {
+    srand(1)
+    for (j = 0; j < side; j++) for (i = 0; i < side; i++)
+      printf "%s%.2f\n", (i + j ? "," : ""), 250 + 30 * sin(i / 97) * cos(j / 61) + rand()
+  }'
+  printf '};\nwrite;\n'
+} >"$work/filter"
+grib_filter -o "$work/simple.grib2" "$work/filter" "$sample"
+grib_set -r -s packingType=grid_complex "$work/simple.grib2" "$work/complex.grib2"
+for order in 1 2; do
+  grib_set -r -s packingType=grid_complex_spatial_differencing,orderOfSpatialDifferencing=$order \
+    "$work/simple.grib2" "$work/order$order.grib2"
+done
+
+for packing in simple complex order1 order2; do
+  message=$work/$packing.grib2
+  "$grib" list <"$message" | sed 's/.*packing=/packing=/; s/^/  /'
+  ours() { "$grib" check <"$message"; }
+  theirs() { grib_ls -p max "$message"; }
+  ratio "check, $packing" 3
+done
+message=$work/simple.grib2
+ours() { "$grib" dump <"$message"; }
+theirs() { grib_get_data "$message"; }
+ratio "dump, simple" 1
+
+# 500 messages of 496 points each.
+for ((message = 0; message < 500; message++)); do cat "$sample"; done >"$work/many.grib2"
+ours() { "$grib" list <"$work/many.grib2"; }
+theirs() { grib_ls "$work/many.grib2"; }
+ratio "list of 500 messages" 3
+
+# The most memory of a run, in octets for each point beside the message.
+for command in check dump; do
+  for packing in simple order2; do
+    message=$work/$packing.grib2
+    peak=$({ /usr/bin/time -f %M "$grib" "$command" <"$message" >/dev/null; } 2>&1)
+    awk -v what="$command, $packing" -v peak="$peak" -v size="$(wc -c <"$message")" -v points=$((side * side)) \
+      'BEGIN { printf "%s: %.1f MB and %.1f octets a point beside the message of %.1f MB\n", what, 16, (peak * 1024 - size - 16e6) / points, size / 1e6 }'
+  done
+done
