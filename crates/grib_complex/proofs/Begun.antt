@@ -20,7 +20,7 @@ use Rattle.grib_packing.specs.Entries.{data_fault, entries_of, is_out_of_range}
 use Rattle.grib_groups.specs.Taking.{values}
 use Rattle.grib_groups.proofs.Taken.{length-codes_from}
 use Rattle.grib_complex.specs.declared.feeding.Feeder.{Feeder}
-use Rattle.grib_complex.specs.Feeding.{Agrees, BeginningAgrees, Continues, ReadingAgrees, StateAgrees, IsFaultOf}
+use Rattle.grib_complex.specs.Feeding.{Agrees, BeginningAgrees, Continues, ReadingAgrees, StateAgrees, IsFaultOf, octets_left}
 use Rattle.grib_complex.proofs.Told.{length-told}
 use Rattle.grib_complex.specs.Kept.{ArePoints, PointsKept}
 use Rattle.grib_complex.specs.Tells.{ValuesTook}
@@ -102,12 +102,12 @@ fault_more s5 start l octets piece fault is = λ s7 continues. is s7 (continues_
 
 -- ---- a feeder
 
-pub push_agrees : (feeder : Feeder) (state after : State) (piece : List ℕ) (pushed : ℕ) → feeder.state ≡ Some state → pushed ≡ feeder.pushed + length piece
+pub push_agrees : (feeder : Feeder) (state after : State) (piece : List ℕ) (pushed : ℕ) → feeder.state ≡ Some state → pushed ≡ feeder.pushed + length piece → length piece ≤ octets_left feeder
     → ((s5 : List ℕ) (mask : List Bool) (octets : List ℕ) → length octets ≡ feeder.pushed → StateAgrees s5 mask feeder.start feeder.length octets (Some state)
     → StateAgrees s5 mask feeder.start feeder.length (octets ++ piece) (Some after))
     → (s5 : List ℕ) (mask : List Bool) (start l : ℕ) (octets : List ℕ) → Agrees s5 mask start l octets feeder
     → Agrees s5 mask start l (octets ++ piece) (record feeder { pushed = pushed; state = Some after })
-push_agrees feeder state after piece pushed is_state is_pushed step s5 mask start l octets agrees =
+push_agrees feeder state after piece pushed is_state is_pushed room step s5 mask start l octets agrees =
     let before = subst (λ (o : Option State). StateAgrees s5 mask start l octets o) is_state agrees.state in
     let at_start = subst (λ (n : ℕ). StateAgrees s5 mask n l octets (Some state)) (sym agrees.start_is) before in
     let at_length = subst (λ (n : ℕ). StateAgrees s5 mask feeder.start n octets (Some state)) (sym agrees.length_is) at_start in
@@ -119,8 +119,8 @@ push_agrees feeder state after piece pushed is_state is_pushed step s5 mask star
       low = agrees.low;
       high = agrees.high;
       length_is = agrees.length_is;
-      least = agrees.least;
       pushed = omega (arith, is_pushed, agrees.pushed, length-append octets piece);
+      within = omega (arith, room, agrees.pushed, agrees.within, agrees.length_is, length-append octets piece);
       state = subst (λ (n : ℕ). StateAgrees s5 mask start n (octets ++ piece) (Some after)) agrees.length_is back;
     }
 

@@ -1,5 +1,5 @@
 -- A Section 7 that comes in pieces: what is known of it by the octets that came after its fifth.
-use Rattle.std.specs.Prelude.{◌≡◌, ℕ, ◌+◌, ◌*◌, ◌^◌, ◌<◌, ◌≤◌, Bool, Option, None, Some, List, [], ◌++◌, length, take, drop, min}
+use Rattle.std.specs.Prelude.{◌≡◌, ℕ, ◌+◌, ◌-◌, ◌*◌, ◌^◌, ◌<◌, ◌≤◌, Bool, Option, None, Some, List, [], ◌++◌, length, take, drop, min}
 use Rattle.grib_bits.specs.Bits.{bits}
 use Rattle.grib_bitmap.specs.Mask.{present_count}
 use Rattle.grib_io.specs.declared.fault.Fault.{Fault}
@@ -103,9 +103,13 @@ pub record Agrees (s5 : List ℕ) (mask : List Bool) (start l : ℕ) (octets : L
   pub low : 1 ≤ start
   pub high : start ≤ 268435456
   pub length_is : feeder.length ≡ l
-  pub least : 5 ≤ l
   pub pushed : feeder.pushed ≡ length octets
+  pub within : 5 + length octets ≤ l
   pub state : StateAgrees s5 mask start l octets feeder.state
+
+-- how many octets are still to come
+abbrev pub octets_left : Feeder → ℕ
+octets_left feeder = feeder.length - (5 + feeder.pushed)
 
 -- It agrees with some octets.
 pub record IsFed (feeder : Feeder) : Type 0 where

@@ -12,7 +12,7 @@ ghost use Rattle.grib_complex.specs.Representation.{Spelled};
 ghost use Rattle.grib_complex.specs.Descriptors.{IsAccepted};
 ghost use Rattle.grib_complex.specs.Kept.{ArePoints};
 ghost use Rattle.grib_complex.specs.declared.feeding.State.TheVariants.{Begins};
-ghost use Rattle.grib_complex.specs.Feeding.{BeginningAgrees, StateAgrees, Agrees, IsFed, IsFedState, IsWholeBeginning};
+ghost use Rattle.grib_complex.specs.Feeding.{BeginningAgrees, StateAgrees, Agrees, IsFed, IsFedState, IsWholeBeginning, octets_left};
 
 use crate::descriptors::{running, signed_first_value};
 use crate::keeping::Points;
@@ -103,10 +103,17 @@ impl Feeder {
         })
     }
 
-    /// Reads the next octets of the section.
+    /// How many octets are still to come.
+    pub fn left(&self) -> u32
+        ensures { result ≡ octets_left self.now }
+    {
+        self.length.saturating_sub(5).saturating_sub(self.pushed)
+    }
+
+    /// Reads the next octets of the section, no more than are still to come.
     pub fn push(&mut self, piece: &[u8])
         requires fed { IsFed self.old }
-        requires within { 5 + self.old.pushed + length_of piece.now ≤ self.old.length }
+        requires within { length_of piece.now ≤ octets_left self.old }
         ensures agrees { (s5 : List ℕ) (mask : List Bool) (start l : ℕ) (octets : List ℕ) → Agrees s5 mask start l octets self.old
             → Agrees s5 mask start l (octets ++ piece.now) self.new }
         ensures fed { IsFed self.new }
@@ -126,7 +133,7 @@ impl Feeder {
     /// Section 7 is refused by the first row of the profile that fails.
     pub fn finish(self) -> Result<Column, Fault>
         requires fed { IsFed self }
-        requires all { 5 + self.pushed ≡ self.length }
+        requires all { octets_left self ≡ 0 }
         ensures { (s5 : List ℕ) (mask : List Bool) (start : ℕ) (s7 : List ℕ) → Agrees s5 mask start (length_of s7) (drop 5 s7) self
             → MatchResult result
             (λ column. (data_fault s5 s7 ≡ None) × (column ≡ column_from s5 mask s7))

@@ -11,8 +11,8 @@ starts c = record {
   low = c.requires.low;
   high = c.requires.high;
   length_is = refl;
-  least = c.requires.least;
   pushed = refl;
+  within = c.requires.least;
   state = subst (λ (m : List Bool). StateAgrees c.args.section5.now.octets.now m c.args.start c.args.length [] (Some c.in_ok-state.state)) c.in_ok-points.ensures.mask_stays c.in_ok-state.ensures;
 }
 

@@ -4,7 +4,7 @@ use Rattle.grib_complex.proofs.feeding.Feeder.push.Goals as goal
 
 pub returns-clause-agrees : goal.returns-clause-agrees
 returns-clause-agrees c =
-    push_agrees c.args.self.now c.in-Some.state c.push-state.result c.args.piece.now _ (sym c.take.ensures.value ∙ c.in-Some.is) refl c.push-state.ensures
+    push_agrees c.args.self.now c.in-Some.state c.push-state.result c.args.piece.now _ (sym c.take.ensures.value ∙ c.in-Some.is) refl c.requires.within c.push-state.ensures
 
 pub returns-clause-fed : goal.returns-clause-fed
 returns-clause-fed c =
@@ -15,5 +15,5 @@ returns-clause-fed c =
       start = fed.start;
       l = fed.l;
       octets = fed.octets ++ c.args.piece.now;
-      agrees = push_agrees c.args.self.now c.in-Some.state c.push-state.result c.args.piece.now _ (sym c.take.ensures.value ∙ c.in-Some.is) refl c.push-state.ensures fed.s5 fed.mask fed.start fed.l fed.octets fed.agrees;
+      agrees = push_agrees c.args.self.now c.in-Some.state c.push-state.result c.args.piece.now _ (sym c.take.ensures.value ∙ c.in-Some.is) refl c.requires.within c.push-state.ensures fed.s5 fed.mask fed.start fed.l fed.octets fed.agrees;
     }
