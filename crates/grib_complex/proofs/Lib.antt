@@ -6,3 +6,6 @@ pub mod Results
 pub mod Outcome
 pub mod Accepting
 pub mod Reach
+pub mod Arriving
+pub mod Begun
+pub mod Starting

@@ -66,7 +66,7 @@ module _ (s5 s7 : List ℕ) (layout : Layout) (skip count order extra template :
     | inr three ↦ entries-differences s5 s7 order extra same.is_order same.is_extra (sym same.is_template ∙ three.0) three.1
   ]
 
-no_run : (running : Option Run) → telling_of running ≡ Plainly → running ≡ None
+pub no_run : (running : Option Run) → telling_of running ≡ Plainly → running ≡ None
 no_run None plain = refl
 no_run (Some run) plain = absurd (cc)
 
@@ -134,7 +134,7 @@ numbers_of complex s5 orders extra spelled accepted is_orders is_extra = record 
   orders = accepted.order;
 }
 
-no_signs : (a b : Bool) → ◌≡◌ {A = ℕ} (cond a 1 (cond b 2 0)) 0 → (a ≡ false) × (b ≡ false)
+pub no_signs : (a b : Bool) → ◌≡◌ {A = ℕ} (cond a 1 (cond b 2 0)) 0 → (a ≡ false) × (b ≡ false)
 no_signs true b none = absurd (omega arith)
 no_signs false true none = absurd (omega arith)
 no_signs false false none = (refl, refl)
@@ -183,7 +183,7 @@ no_range s5 s7 two =
 
 -- what is known of the codes and entries of a Section 7 whose groups were read
 module _ (complex : Complex) (s5 s7 : List ℕ) (table : Table) (spelled : Spelled complex s5) (accepted : IsAccepted complex) (readable : IsReadable complex s7 table) where
-  same_numbers : Numbers s5 complex.layout ((complex.order + 1) * complex.extra) complex.simple.values complex.order complex.extra complex.simple.template
+  pub same_numbers : Numbers s5 complex.layout ((complex.order + 1) * complex.extra) complex.simple.values complex.order complex.extra complex.simple.template
   same_numbers = numbers_with complex s5 ((complex.order + 1) * complex.extra) spelled accepted refl
 
   pub codes_by_table : codes_from complex.layout (groups_in table) (bits (drop (list_octets complex.layout) (drop (5 + (complex.order + 1) * complex.extra) s7))) ≡ codes_of s5 s7

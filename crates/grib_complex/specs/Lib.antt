@@ -5,3 +5,4 @@ pub mod Kept
 pub mod Laws
 pub mod Descriptors
 pub mod Range
+pub mod Feeding

@@ -2,6 +2,7 @@
 #![tactic(auto)]
 
 mod descriptors;
+mod feeding;
 mod keeping;
 mod packing;
 mod range;
@@ -12,6 +13,7 @@ mod tests;
 mod unpacking;
 mod values;
 
+pub use feeding::Feeder;
 pub use grib_groups::Layout;
 pub use keeping::{Keeper, Nothing, Points};
 pub use packing::{ComplexPacking, SpatialPacking};

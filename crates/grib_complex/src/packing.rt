@@ -8,7 +8,7 @@ ghost use Rattle.grib_packing.specs.Packing.{packing_template, value_count};
 ghost use Rattle.grib_simple.specs.Unpacked.{IsUnpacked};
 
 use crate::keeping::Points;
-use crate::representation::read_complex;
+use crate::representation::accepted_complex;
 use crate::unpacking::take_complex_values;
 use grib_bitmap::Mask;
 use grib_io::{List, Section, UnpackFault};
@@ -85,9 +85,7 @@ fn unpack(
     requires values { present_count mask.now ≡ value_count section5.now.octets.now }
     ensures { IsUnpacked section5.now.octets.now mask.now section7.now.start section7.now.octets.now result }
 {
-    let Ok(complex) = read_complex(section5, mask.len()) else {
-        unreachable!();
-    };
+    let complex = accepted_complex(section5, mask.len());
     let Ok(mask) = mask.copy(alloc) else {
         return Err(UnpackFault::Memory);
     };

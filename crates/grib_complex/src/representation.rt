@@ -1,11 +1,13 @@
 //! Section 5 of complex packing.
 
-ghost use Rattle.std.specs.Prelude.{◌≡◌, ◌⊎◌, ◌+◌, ◌*◌, ◌<◌, ◌≤◌, ◌==◌, cond, slice_index, length, Some, None, MatchResult};
+ghost use Rattle.std.specs.Prelude.{◌≡◌, ◌⊎◌, ◌+◌, ◌*◌, ◌^◌, ◌<◌, ◌≤◌, ◌==◌, cond, slice_index, length, Some, None, MatchResult};
 ghost use Rattle.grib_bits.specs.Octets.{StatesItself};
 ghost use Rattle.grib_io.specs.Rows.{first_fault, first_fault_at};
 ghost use Rattle.grib_packing.specs.Complex.{complex_rows, layout_of};
+ghost use Rattle.grib_packing.specs.Entries.{packing_fault};
 ghost use Rattle.grib_packing.specs.Packing.{packing_rows, packing_template};
 ghost use Rattle.grib_simple.specs.Simple as shared;
+ghost use Rattle.grib_complex.specs.Descriptors.{IsAccepted};
 ghost use Rattle.grib_complex.specs.Representation.{Spelled};
 
 use byteorder::{BigEndian, ByteOrder};
@@ -101,6 +103,23 @@ pub fn read_complex(section: &Section<'_>, points: u32) -> Result<Complex, Fault
         return Err(Fault::at(start + 48, Reason::ExtraOctets, u64::from(complex.extra)));
     }
     Ok(complex)
+}
+
+/// The same of a section that is accepted.
+pub fn accepted_complex(section: &Section<'_>, points: u32) -> Complex
+    requires itself { StatesItself section.now.number section.now.octets.now }
+    requires low { 1 ≤ section.now.start }
+    requires high { section.now.start ≤ 268435456 }
+    requires accepted { packing_fault section.now.octets.now points ≡ None }
+    requires template { (packing_template section.now.octets.now ≡ 2) ⊎ (packing_template section.now.octets.now ≡ 3) }
+    ensures accepted { IsAccepted result }
+    ensures few { result.simple.values < 2 ^ 32 }
+    ensures spelled { Spelled result section.now.octets.now }
+{
+    let Ok(complex) = read_complex(section, points) else {
+        unreachable!();
+    };
+    complex
 }
 
 /// The numbers that stand in Section 5.

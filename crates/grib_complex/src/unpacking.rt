@@ -13,7 +13,7 @@ ghost use Rattle.grib_complex.specs.Descriptors.{IsAccepted, IsReadable};
 use crate::descriptors::{running, signed_first_value};
 use crate::keeping::Keeper;
 use crate::range::stays_within;
-use crate::representation::{Complex, read_complex};
+use crate::representation::{Complex, accepted_complex};
 use crate::telling::Teller;
 use crate::values::Values;
 use byteorder::{BigEndian, ByteOrder};
@@ -50,9 +50,7 @@ pub fn take_values<K: Keeper + Drop>(
         × (length (complex_entries section5.now.octets.now section7.now.octets.now) ≡ value_count section5.now.octets.now))
         (IsUnpackFault (located section7.now.start (complex_data_fault section5.now.octets.now section7.now.octets.now))) }
 {
-    let Ok(complex) = read_complex(section5, points) else {
-        unreachable!();
-    };
+    let complex = accepted_complex(section5, points);
     take_complex_values(alloc, &complex, section7, keeper)
 }
 

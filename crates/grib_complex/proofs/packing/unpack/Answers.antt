@@ -7,7 +7,6 @@ use Rattle.grib_packing.specs.Packing.{packing_template}
 use Rattle.grib_packing.specs.Simple.{simple_rows, simple_entries}
 use Rattle.grib_simple.proofs.Accepted.{same_column}
 use Rattle.grib_simple.specs.Unpacked.{IsUnpackFault}
-use Rattle.grib_complex.proofs.Accepting.{accepted_from, packing_none}
 use Rattle.grib_complex.specs.Kept.{ArePoints}
 use Rattle.grib_complex.proofs.packing.unpack.Goals as goal
 
@@ -16,19 +15,13 @@ not_simple : (template : ℕ) → (template ≡ 2) ⊎ (template ≡ 3) → eqb 
 not_simple template (inl two) = ne_eqb template 0 (λ none. absurd (omega arith))
 not_simple template (inr three) = ne_eqb template 0 (λ none. absurd (omega arith))
 
-pub take_complex_values-requires-clause-accepted : goal.take_complex_values-requires-clause-accepted
-take_complex_values-requires-clause-accepted c =
-    let s5 = c.args.section5.now.octets.now in
-    let packing = packing_none s5 (length c.args.mask.now) c.requires.accepted in
-    accepted_from c.in-Ok.complex s5 c.args.section5.now.start (length c.args.mask.now) packing c.in-Ok.ensures.0 c.in-Ok.ensures.1 c.requires.template
-
 pub returns-in-Err : goal.returns-in-Err
 returns-in-Err c =
     let s5 = c.args.section5.now.octets.now in
     let s7 = c.args.section7.now.octets.now in
     let grouped = not_simple (packing_template s5) c.requires.template in
     subst (λ (b : Bool). IsUnpackFault (located c.args.section7.now.start (choose b (λ _. first_fault (simple_rows s5 (length s7))) (λ _. complex_data_fault s5 s7))) c.in-Err.fault) (sym grouped)
-    (c.in-Err.ensures s5 c.in-Ok.ensures.1)
+    (c.in-Err.ensures s5 c.accepted_complex-complex.ensures.spelled)
 
 pub returns : goal.returns
 returns c =
@@ -36,12 +29,12 @@ returns c =
     let s7 = c.args.section7.now.octets.now in
     let mask = c.args.mask.now in
     let grouped = not_simple (packing_template s5) c.requires.template in
-    let taken = c.in-Ok-take_complex_values.ensures s5 c.in-Ok.ensures.1 in
+    let taken = c.in-Ok-take_complex_values.ensures s5 c.accepted_complex-complex.ensures.spelled in
     let entries = complex_entries s5 s7 in
-    let are = taken.1.keeps mask [] (omega (arith, taken.2, c.requires.values)) (subst (λ (m : List Bool). ArePoints m [] c.in-Ok-start.points) c.in-Ok-copy.ensures c.in-Ok-start.ensures) in
+    let are = taken.1.keeps mask [] (omega (arith, taken.2, c.requires.values)) (subst (λ (m : List Bool). ArePoints m [] c.in-Ok-start.points) c.in-Ok.ensures c.in-Ok-start.ensures) in
     let points = c.of.ensures ∙ c.finish.ensures mask entries are
     ∙ ap (λ (b : Bool). points_with_mask mask (choose b (λ _. simple_entries s5 s7) (λ _. entries))) (sym grouped) in
-    let simple = c.in-Ok.ensures.1.simple in (
+    let simple = c.accepted_complex-complex.ensures.spelled.simple in (
       ap (λ (b : Bool). choose b (λ _. first_fault (simple_rows s5 (length s7))) (λ _. complex_data_fault s5 s7)) grouped ∙ taken.0,
       same_column s5 _ _ _ c.of.result _ simple.reference simple.e simple.d points,
     )

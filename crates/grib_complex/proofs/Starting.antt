@@ -1,0 +1,157 @@
+-- Lemmas on a Section 7 of which no octet came.
+use Rattle.std.proofs.Common.{◌≡◌, ℕ, zero, suc, ◌+◌, ◌*◌, ◌^◌, ◌<◌, ◌≤◌, min, Bool, true, false, cond, eqb, Option, Some, None, List, [], ◌∷◌, length, take, drop, map, replicate, pos, refl, sym, ap, ap₂, ◌∙◌, arith, subst, le-ltb}
+use Rattle.std.proofs.lemmas.Bool.{lt-ltb, eq-eqb}
+use Rattle.std.proofs.lemmas.List.{take_all, drop_all}
+use Rattle.grib_bits.specs.Bits.{bits}
+use Rattle.grib_bits.specs.Octets.{octets}
+use Rattle.grib_bits.specs.Plain.{plain}
+use Rattle.grib_bitmap.specs.Mask.{present_count}
+use Rattle.grib_io.specs.declared.code.Code.TheVariants.{Present}
+use Rattle.grib_io.specs.declared.fault.Fault.{Fault}
+use Rattle.grib_io.specs.declared.fault.Reason.TheVariants.{DataTooShort}
+use Rattle.grib_io.specs.Rows.{first_fault, located, refusal, choose}
+use Rattle.grib_packing.specs.declared.column.Point.TheVariants.{Scaled}
+use Rattle.grib_packing.specs.Entries.{data_fault, entries_of, group_data_fault, group_entries, complex_data_fault, complex_entries}
+use Rattle.grib_packing.specs.Groups.{list_octets, list_rows}
+use Rattle.grib_packing.specs.Packing.{packing_template, value_count, bit_width}
+use Rattle.grib_packing.specs.Simple.{plain_bits, simple_rows, simple_entries}
+use Rattle.grib_groups.specs.declared.feeding.Fed.{Fed}
+use Rattle.grib_groups.specs.Feeding.{AreFeedable, IsFeedable, ListsFed, WasFed, no_marks, plain_groups}
+use Rattle.grib_groups.specs.Taking.{values}
+use Rattle.grib_groups.proofs.Pieces.{plain_codes, plain_packed}
+use Rattle.grib_groups.proofs.Plain.{plain-add}
+use Rattle.grib_groups.proofs.Taken.{values-cons}
+use Rattle.grib_complex.specs.declared.keeping.Points.{Points}
+use Rattle.grib_complex.specs.declared.values.Values.{Values}
+use Rattle.grib_complex.specs.declared.representation.Complex.{Complex}
+use Rattle.grib_complex.specs.Descriptors.{IsAccepted}
+use Rattle.grib_complex.specs.Representation.{Spelled}
+use Rattle.grib_complex.proofs.Arriving.{fault_grouped}
+use Rattle.grib_complex.proofs.Decided.{fault_of_lists}
+use Rattle.grib_complex.proofs.Outcome.{numbers_with, lists_are}
+use Rattle.grib_groups.specs.declared.list_feeding.FedLists.{FedLists}
+use Rattle.grib_complex.specs.Feeding.{ReadingAgrees, BeginningAgrees}
+use Rattle.grib_complex.specs.Kept.{ArePoints, PointsKept}
+use Rattle.grib_complex.specs.Tells.{Tells, ValuesTook}
+use Rattle.grib_complex.specs.Told.{Plainly, told}
+
+told_plain : (ns : List ℕ) → told Plainly (map Present ns) ≡ map (λ n. Scaled (pos n)) ns
+told_plain [] = refl
+told_plain (n ∷ ns) = ap (λ ps. Scaled (pos n) ∷ ps) (told_plain ns)
+
+-- numbers of no bits
+no_bits : (xs : List Bool) (count : ℕ) → map (λ n. Scaled (pos n)) (plain xs 0 count) ≡ replicate count (Scaled (pos 0))
+no_bits xs zero = refl
+no_bits xs (suc count) =
+    let more : suc count ≡ 1 + count = omega arith in
+    ap (λ (k : ℕ). map (λ n. Scaled (pos n)) (plain xs 0 k)) more
+    ∙ ap (map (λ n. Scaled (pos n))) (plain-add xs 0 1 count)
+    ∙ ap (λ ps. Scaled (pos 0) ∷ ps) (no_bits xs count)
+
+plain_values : (w count : ℕ) → values (plain_groups w count) ≡ count
+plain_values w count = omega (arith, values-cons (record { reference = 0; width = w; count = count }) [])
+
+module _ (s5 : List ℕ) (mask : List Bool) (start l w count : ℕ) (first : Values Points) (fed : Fed (Values Points)) (feedable : IsFeedable (2 ^ 49) fed)
+    (fresh_fed : WasFed (ValuesTook PointsKept) no_marks (plain_groups w count) first [] fed) (no_run : first.teller.running ≡ None) (nothing : Tells Plainly [] first.teller) (points : ArePoints mask [] first.keeper)
+    (few : count < 2 ^ 32) (counted : count ≡ present_count mask) (enough : 40 + count * w ≤ 8 * l)
+    (entries : (s7 : List ℕ) → map (λ n. Scaled (pos n)) (plain (bits (drop 5 s7)) w count) ≡ entries_of s5 s7) (passes : (s7 : List ℕ) → length s7 ≡ l → data_fault s5 s7 ≡ None) where
+  -- the numbers of all values are one group
+  pub starts_plain : ReadingAgrees s5 mask start l [] fed
+  starts_plain = record {
+    layout = no_marks;
+    groups = plain_groups w count;
+    telling = Plainly;
+    first = first;
+    before = 0;
+    came = omega arith;
+    feedable = feedable;
+    so_far = fresh_fed;
+    fresh = nothing;
+    points = points;
+    few = omega (arith, plain_values w count);
+    counted = plain_values w count ∙ counted;
+    enough = omega (arith, plain_packed w count);
+    entries = λ s7 c. ap (told Plainly) (plain_codes w count (bits (drop 5 s7))) ∙ told_plain (plain (bits (drop 5 s7)) w count) ∙ entries s7;
+    within = λ s7 c nowhere. passes s7 c.long;
+    beyond = λ s7 c somewhere not_plain. absurd (not_plain no_run);
+  }
+
+module _ (s5 : List ℕ) (zero_template : packing_template s5 ≡ 0) where
+  simple_branch : eqb (packing_template s5) 0 ≡ true
+  simple_branch = eq-eqb (packing_template s5) 0 zero_template
+
+  pub plain_entries : (w count : ℕ) → w ≡ bit_width s5 → count ≡ value_count s5 → (s7 : List ℕ) → map (λ n. Scaled (pos n)) (plain (bits (drop 5 s7)) w count) ≡ entries_of s5 s7
+  plain_entries w count is_w is_count s7 =
+      ap₂ (λ (k n : ℕ). map (λ x. Scaled (pos x)) (plain (bits (drop 5 s7)) k n)) is_w is_count
+      ∙ sym (ap (λ (b : Bool). choose b (λ _. simple_entries s5 s7) (λ _. complex_entries s5 s7)) simple_branch)
+
+  pub plain_passes : (l w count : ℕ) → w ≡ bit_width s5 → count ≡ value_count s5 → count * w + 40 ≤ 8 * l → (s7 : List ℕ) → length s7 ≡ l → data_fault s5 s7 ≡ None
+  plain_passes l w count is_w is_count enough s7 long =
+      let room : plain_bits s5 + 40 ≤ 8 * length s7 = omega (arith, long, ap₂ (λ (n k : ℕ). n * k) is_count is_w) in
+      ap (λ (b : Bool). choose b (λ _. first_fault (simple_rows s5 (length s7))) (λ _. complex_data_fault s5 s7)) simple_branch
+      ∙ ap (λ (b : Bool). cond b (Some (refusal 1 DataTooShort (length s7))) None) (le-ltb (8 * length s7) (plain_bits s5 + 40) room)
+
+  pub plain_refused : (start l w count : ℕ) → w ≡ bit_width s5 → count ≡ value_count s5 → 8 * l < count * w + 40 → (s7 : List ℕ) → length s7 ≡ l → located start (data_fault s5 s7) ≡ Some (refusal start DataTooShort l)
+  plain_refused start l w count is_w is_count short s7 long =
+      let over : 8 * length s7 < plain_bits s5 + 40 = omega (arith, long, ap₂ (λ (n k : ℕ). n * k) is_count is_w) in
+      let origin : start + 0 ≡ start = omega arith in
+      ap (λ (b : Bool). located start (choose b (λ _. first_fault (simple_rows s5 (length s7))) (λ _. complex_data_fault s5 s7))) simple_branch
+      ∙ ap (λ (b : Bool). located start (cond b (Some (refusal 1 DataTooShort (length s7))) None)) (lt-ltb (8 * length s7) (plain_bits s5 + 40) over)
+      ∙ ap₂ (λ (o d : ℕ). Some (refusal o DataTooShort d)) origin long
+
+-- where there are no groups
+module _ (s5 : List ℕ) (grouped : eqb (packing_template s5) 0 ≡ false) (none : octets s5 32 35 ≡ 0) where
+  no_groups : eqb (octets s5 32 35) 0 ≡ true
+  no_groups = eq-eqb (octets s5 32 35) 0 none
+
+  pub zero_entries : (count : ℕ) → count ≡ value_count s5 → (s7 : List ℕ) → map (λ n. Scaled (pos n)) (plain (bits (drop 5 s7)) 0 count) ≡ entries_of s5 s7
+  zero_entries count is_count s7 =
+      no_bits (bits (drop 5 s7)) count
+      ∙ ap (λ (n : ℕ). replicate n (Scaled (pos 0))) is_count
+      ∙ sym (ap (λ (b : Bool). choose b (λ _. simple_entries s5 s7) (λ _. complex_entries s5 s7)) grouped
+      ∙ ap (λ (b : Bool). choose b (λ _. replicate (value_count s5) (Scaled (pos 0))) (λ _. group_entries s5 s7)) no_groups)
+
+  pub zero_passes : (s7 : List ℕ) → data_fault s5 s7 ≡ None
+  zero_passes s7 =
+      ap (λ (b : Bool). choose b (λ _. first_fault (simple_rows s5 (length s7))) (λ _. complex_data_fault s5 s7)) grouped
+      ∙ ap (λ (b : Bool). choose b (λ _. let o : Option Fault = None in o) (λ _. group_data_fault s5 s7)) no_groups
+
+-- ---- before the lists
+
+-- the descriptors and lists of a section of which nothing came
+pub begins : (complex : Complex) (s5 : List ℕ) (mask : List Bool) (l : ℕ) (descriptors : List ℕ) (lists : FedLists) (points : Points) → Spelled complex s5 → IsAccepted complex → 1 ≤ complex.layout.groups
+    → complex.simple.values < 2 ^ 32 → complex.simple.values ≡ present_count mask → 5 + (complex.order + 1) * complex.extra + list_octets complex.layout ≤ l
+    → ListsFed complex.layout complex.simple.values [] lists → AreFeedable lists → ArePoints mask [] points
+    → BeginningAgrees s5 mask l [] (record { complex = complex; descriptors = descriptors; lists = lists; points = points })
+begins complex s5 mask l descriptors lists points spelled accepted groups few counted within fed feedable are =
+    let k = (complex.order + 1) * complex.extra in
+    let nothing : min 0 k ≡ 0 = omega arith in
+    let none : List ℕ = [] in
+    let nowhere : take k none ≡ none = take_all k none (omega arith) in
+    let rest : drop k none ≡ none = drop_all k none (omega arith) in
+    record {
+      spelled = spelled;
+      accepted = accepted;
+      groups = groups;
+      few = few;
+      counted = counted;
+      within = within;
+      descriptors = ap (λ (n : ℕ). take n (drop 5 descriptors)) nothing ∙ sym nowhere;
+      lists = subst (λ (os : List ℕ). ListsFed complex.layout complex.simple.values os lists) (sym rest) fed;
+      feedable = feedable;
+      points = are;
+    }
+
+-- a section that is shorter than its lists
+pub lists_refused : (complex : Complex) (s5 : List ℕ) (start l : ℕ) → Spelled complex s5 → IsAccepted complex → 1 ≤ complex.layout.groups → l < 5 + (complex.order + 1) * complex.extra + list_octets complex.layout
+    → (s7 : List ℕ) → length s7 ≡ l → located start (data_fault s5 s7) ≡ Some (refusal start DataTooShort l)
+lists_refused complex s5 start l spelled accepted groups short s7 long =
+    let k = (complex.order + 1) * complex.extra in
+    let numbers = numbers_with complex s5 k spelled accepted refl in
+    let fails : first_fault (list_rows complex.layout l k) ≡ Some (refusal 1 DataTooShort l) =
+    ap (λ (b : Bool). cond b (Some (refusal 1 DataTooShort l)) None) (lt-ltb l (5 + k + list_octets complex.layout) short) in
+    let here = sym (lists_are s5 s7 complex.layout k complex.simple.values complex.order complex.extra complex.simple.template numbers l (sym long)) ∙ fails in
+    let origin : start + 0 ≡ start = omega arith in
+    ap (located start) (fault_grouped complex s5 spelled accepted groups s7)
+    ∙ fault_of_lists s5 s7 start (refusal 1 DataTooShort l) here
+    ∙ ap (λ (o : ℕ). Some (refusal o DataTooShort l)) origin
