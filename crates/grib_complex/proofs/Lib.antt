@@ -4,3 +4,6 @@ pub mod Fields
 pub mod Decided
 pub mod Outcome
 pub mod Accepting
+pub mod CodeByCode
+pub mod GroupByGroup
+pub mod Wholly

@@ -4,3 +4,4 @@ pub mod Tells
 pub mod Kept
 pub mod Laws
 pub mod Descriptors
+pub mod Written

@@ -1,8 +1,12 @@
 //! Complex packing, with and without spatial differencing: templates 5.2 and 5.3.
 #![tactic(auto)]
 
+mod coding;
 mod descriptors;
+mod differencing;
+mod grouping;
 mod keeping;
+mod packed;
 mod packing;
 mod representation;
 mod telling;
@@ -10,6 +14,7 @@ mod telling;
 mod tests;
 mod unpacking;
 mod values;
+mod writing;
 
 pub use grib_groups::Layout;
 pub use keeping::{Keeper, Nothing, Points};
