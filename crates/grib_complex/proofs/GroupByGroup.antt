@@ -1,13 +1,11 @@
 -- Lemmas on groups, one after another, and on the octets that they take.
-use Rattle.std.proofs.Common.{◌≡◌, ℕ, zero, suc, ◌+◌, ◌-◌, ◌*◌, ◌/◌, ◌^◌, ◌<◌, ◌≤◌, Bool, List, [], ◌∷◌, ◌++◌, length, take, drop, get_or, map, sum, All, refl, sym, ap, ap₂, ◌∙◌, arith, subst, mul-le-mul_left}
-use Rattle.std.proofs.lemmas.List.{length-append, length-take-le, length-drop, length-map}
-use Rattle.std.proofs.lemmas.List.Elements.{All-head, All-tail, All-get_or, All-weaker}
+use Rattle.std.proofs.Common.{◌≡◌, ℕ, ◌+◌, ◌-◌, ◌*◌, ◌/◌, ◌<◌, ◌≤◌, List, [], ◌∷◌, ◌++◌, length, take, drop, get_or, map, sum, refl, sym, ap, ap₂, ◌∙◌, arith}
+use Rattle.std.proofs.lemmas.List.{length-append, length-take-le, length-map}
+use Rattle.std.proofs.lemmas.List.Elements.{All-head, All-tail}
 use Rattle.grib_io.specs.declared.code.Code.{Code}
 use Rattle.grib_packing.specs.declared.layout.Layout.{Layout}
-use Rattle.grib_packing.specs.Groups.{octets_for}
-use Rattle.grib_packing.specs.Groupings.{IsGrouping, greatest, present_codes, joined, runs, length_bits, width_of, reference_bits_of, width_bits_of}
-use Rattle.grib_packing.specs.Packed.{fields, padded, reference_of, group_fields, group_parts}
-use Rattle.grib_packing.specs.Span.{IsBelow, IsTold}
+use Rattle.grib_packing.specs.Groupings.{IsGrouping, greatest, present_codes, joined, runs, length_bits, width_of}
+use Rattle.grib_packing.specs.Packed.{reference_of, group_fields, group_parts}
 use Rattle.grib_packing.proofs.Bounds.{all_below, width_bits-few}
 use Rattle.grib_packing.proofs.Digits.{digits-most}
 use Rattle.grib_packing.proofs.Spans.{small_run}
@@ -19,7 +17,15 @@ use Rattle.grib_groups.proofs.Back.{length-group, length-runs, padded_octets, le
 run_bits : (k b : ℕ) (run : List Code) → k ≤ 2 → length (group_fields k b run) ≡ length run * width_of k run
 run_bits k b run few =
     let layout : Layout = record {
-      groups = 0; reference_bits = b; width_reference = 0; width_bits = 0; length_reference = 0; length_increment = 0; last_length = 0; length_bits = 0; management = k;
+      groups = 0;
+      reference_bits = b;
+      width_reference = 0;
+      width_bits = 0;
+      length_reference = 0;
+      length_increment = 0;
+      last_length = 0;
+      length_bits = 0;
+      management = k;
     } in
     length-group layout few run
 

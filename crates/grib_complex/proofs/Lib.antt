@@ -7,3 +7,4 @@ pub mod Accepting
 pub mod CodeByCode
 pub mod GroupByGroup
 pub mod Wholly
+pub mod Differing

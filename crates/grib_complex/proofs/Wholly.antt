@@ -1,14 +1,12 @@
 -- Lemmas on sections of complex packing that are written.
-use Rattle.std.proofs.Common.{◌≡◌, ℕ, ◌+◌, ◌-◌, ◌*◌, ◌%◌, ◌^◌, ◌<◌, ◌≤◌, Bool, false, List, [], ◌∷◌, ◌++◌, length, get_or, replicate, All, refl, sym, ap, ap₂, ◌∙◌, arith, subst, subst₂}
+use Rattle.std.proofs.Common.{◌≡◌, ℕ, ◌+◌, ◌*◌, ◌%◌, ◌^◌, ◌<◌, Bool, false, List, [], ◌++◌, length, replicate, All, sym, ap, ◌∙◌, arith, subst, subst₂}
 use Rattle.std.proofs.lemmas.List.{append-nil}
 use Rattle.grib_bits.specs.Bits.{bits}
-use Rattle.grib_bits.specs.Octets.{octets}
 use Rattle.grib_bits.specs.Written.{padding}
 use Rattle.grib_io.specs.declared.code.Code.{Code}
 use Rattle.grib_packing.specs.declared.column.Column.{Column}
 use Rattle.grib_packing.specs.declared.layout.Layout.{Layout}
-use Rattle.grib_packing.specs.Complex.{layout_of}
-use Rattle.grib_packing.specs.Groupings.{Chosen, header_bits, length_bits, width_of, width_bits_of, reference_bits_of}
+use Rattle.grib_packing.specs.Groupings.{Chosen, header_bits, width_of, width_bits_of, reference_bits_of}
 use Rattle.grib_packing.specs.Misfits.{ToComplex, management_of}
 use Rattle.grib_packing.specs.Packed.{HasContents, HasLayout, HasNumbers, IsComplex, group_parts, no_bitmap_section, padded, target_codes}
 use Rattle.grib_packing.proofs.Sections.{head_of, has_contents}

@@ -110,7 +110,11 @@ pub fn scaled_numbers(alloc: Global, points: &[Point]) -> Result<Vec<i64>, Alloc
 /// # Errors
 ///
 /// There is no memory for the codes.
-pub fn codes_at_points(alloc: Global, points: &[Point], numbers: &[u64]) -> Result<Vec<Code>, AllocError>
+pub fn codes_at_points(
+    alloc: Global,
+    points: &[Point],
+    numbers: &[u64],
+) -> Result<Vec<Code>, AllocError>
     requires { length numbers.now ≡ length (numbers_in points.now) }
     ensures { IfOk result (λ codes. codes.items ≡ placed_codes points.now numbers.now) }
 {

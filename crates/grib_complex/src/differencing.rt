@@ -25,7 +25,10 @@ pub fn are_out(differences: &Differences, reserved: u8) -> bool
     is_outside(differences.first, MOST)
         || is_outside(differences.second, MOST)
         || differences.minimum.unsigned_abs() > u64::from(MOST)
-        || is_any_above(differences.codes.as_slice(), u64::from(u32::MAX - u32::from(reserved)))
+        || is_any_above(
+            differences.codes.as_slice(),
+            u64::from(u32::MAX - u32::from(reserved)),
+        )
 }
 
 /// Whether a code is above the greatest.

@@ -14,7 +14,7 @@ use grib_bits::BitWriter;
 use grib_groups::{Layout, encode_groups};
 use grib_io::{Code, List};
 use grib_packing::Column;
-use grib_simple::{write_head, write_numbers, octets_written};
+use grib_simple::{octets_written, write_head, write_numbers};
 use grib2_sections::{write_u8, write_u32};
 
 /// What Section 5 says of differences: their order (code table 5.6), and the octets of each extra descriptor.
@@ -96,7 +96,12 @@ fn write_layout(layout: &Layout, out: &mut BitWriter)
 
 /// Section 7 of the groups of these codes, where octets 1 to 5 and the extra descriptors stand in a writer
 /// that has room for the groups.
-pub fn groups_section(codes: &[Code], lengths: &[u32], layout: &Layout, mut begun: BitWriter) -> List<u8>
+pub fn groups_section(
+    codes: &[Code],
+    lengths: &[u32],
+    layout: &Layout,
+    mut begun: BitWriter,
+) -> List<u8>
     requires lays_out { LaysOut layout.now codes.now lengths.now }
     requires most { length codes.now ≤ 33554432 }
     requires whole { length begun.bits % 8 ≡ 0 }

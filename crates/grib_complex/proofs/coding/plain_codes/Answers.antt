@@ -1,4 +1,4 @@
-use Rattle.std.proofs.Common.{◌≡◌, ◌-◌, ◌+◌, ℕ, ap, sym, ◌∙◌, arith, subst, Some, None}
+use Rattle.std.proofs.Common.{◌≡◌, ◌-◌, ◌+◌, ℕ, arith, subst, Some, None}
 use Rattle.grib_packing.specs.Misfits.{OutOfRange, is_scaled_outside, misfit_at, greatest_code, management_of}
 use Rattle.grib_complex.proofs.CodeByCode.{code_more, inside_more, outside_here, codes_whole, none_outside}
 use Rattle.grib_complex.proofs.coding.plain_codes.Goals as goal
@@ -27,6 +27,7 @@ pub returns : goal.returns
 returns c =
     let points = c.args.points.now in
     let i = c.loop-index.index in
-    let limit = most c.args.management (management_of points) c.from-greatest.result c.requires.management c.from-greatest.ensures in
-    (subst (λ (m : ℕ). misfit_at OutOfRange (is_scaled_outside m) points ≡ None) limit (none_outside points i (omega arith) (4294967295 - c.from-greatest.result) c.loop-index.invariant.inside),
-    codes_whole points i (omega arith) c.loop-index.codes.items c.loop-index.invariant.codes)
+    let limit = most c.args.management (management_of points) c.from-greatest.result c.requires.management c.from-greatest.ensures in (
+      subst (λ (m : ℕ). misfit_at OutOfRange (is_scaled_outside m) points ≡ None) limit (none_outside points i (omega arith) (4294967295 - c.from-greatest.result) c.loop-index.invariant.inside),
+      codes_whole points i (omega arith) c.loop-index.codes.items c.loop-index.invariant.codes,
+    )

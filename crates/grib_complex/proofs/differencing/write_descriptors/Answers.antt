@@ -1,4 +1,4 @@
-use Rattle.std.proofs.Common.{◌≡◌, ◌⊎◌, ◌==◌, ℕ, ◌+◌, ◌-◌, ◌*◌, ◌++◌, ◌∷◌, [], Bool, true, false, cond, List, ℤ, pos, int_lt, nat_abs, inl, inr, refl, ap, ap₂, sym, ◌∙◌, arith, append_assoc, append-nil, w64, SFits, to_z-of_z, rules, eq-eqb, ne_eqb}
+use Rattle.std.proofs.Common.{◌≡◌, ◌==◌, ℕ, ◌-◌, ◌*◌, ◌++◌, ◌∷◌, [], Bool, true, false, cond, List, ℤ, pos, int_lt, nat_abs, refl, ap, sym, ◌∙◌, arith, append_assoc, append-nil, w64, SFits, to_z-of_z, rules, eq-eqb, ne_eqb}
 use Rattle.grib_bits.specs.Bits.{bits_of, digit}
 use Rattle.grib_packing.specs.Differences.{Descriptors}
 use Rattle.grib_packing.specs.Packed.{descriptor_fields, descriptor_size, signed_field}

@@ -1,6 +1,5 @@
-use Rattle.std.proofs.Common.{◌≡◌, ℕ, ◌+◌, ◌*◌, ◌≤◌, length, take, drop, get_or, ap, sym, ◌∙◌, arith}
+use Rattle.std.proofs.Common.{◌*◌, ◌≤◌, length, get_or, ap, ◌∙◌, arith}
 use Rattle.std.proofs.Math.Nat.{mul-le-mul_left}
-use Rattle.std.proofs.lemmas.List.{length-drop}
 use Rattle.grib_packing.specs.Groupings.{width_of}
 use Rattle.grib_packing.specs.Packed.{group_fields}
 use Rattle.grib_groups.proofs.Parts.{no_parts, grouping-within, grouping-next, below_run, below_after}

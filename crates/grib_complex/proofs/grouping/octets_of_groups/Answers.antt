@@ -1,4 +1,4 @@
-use Rattle.std.proofs.Common.{◌≡◌, ℕ, ◌+◌, ◌*◌, ◌≤◌, length, map, All, ap, sym, subst, arith}
+use Rattle.std.proofs.Common.{◌≡◌, ℕ, ◌+◌, ◌*◌, ◌≤◌, length, map, All, sym, subst, arith}
 use Rattle.grib_packing.specs.Groupings.{joined, runs}
 use Rattle.grib_packing.specs.Packed.{group_fields}
 use Rattle.grib_packing.specs.Span.{IsBelow}

@@ -1,6 +1,5 @@
-use Rattle.std.proofs.Common.{◌≡◌, ◌+◌, ◌*◌, ◌++◌, ◌∷◌, [], ◌≤◌, ℕ, List, length, ap, ap₂, sym, ◌∙◌, arith, subst}
+use Rattle.std.proofs.Common.{◌≡◌, ◌+◌, ◌*◌, ◌++◌, [], ◌≤◌, length, ap, ap₂, ◌∙◌, arith}
 use Rattle.grib_bits.specs.Bits.{bits}
-use Rattle.grib_bits.proofs.OctetBits.{length-bits}
 use Rattle.grib_packing.specs.Packed.{HasContents, group_parts}
 use Rattle.grib_packing.proofs.Sections.{head_of}
 use Rattle.grib_groups.specs.Encoding.{LaysOut}

@@ -1,12 +1,8 @@
-use Rattle.std.proofs.Common.{◌≡◌, ◌∷◌, ◌++◌, ℕ, List, ap, ◌∙◌}
-use Rattle.grib_bits.specs.Octets.{num_on, octets}
-use Rattle.grib2_sections.specs.Encoding.{octets_of}
+use Rattle.std.proofs.Common.{◌≡◌, ℕ, List, ap, ◌∙◌}
+use Rattle.grib_bits.specs.Octets.{octets}
 use Rattle.grib2_sections.proofs.Octets.{AddsOctets-append}
-use Rattle.grib_packing.specs.declared.column.Column.{Column}
 use Rattle.grib_packing.specs.declared.layout.Layout.{Layout}
 use Rattle.grib_packing.specs.Complex.{layout_of}
-use Rattle.grib_simple.specs.Sections.{number_octets}
-use Rattle.grib_complex.specs.Written.{HasLayoutOf, layout_octets}
 use Rattle.grib_complex.proofs.writing.write_layout.Goals as goal
 
 pub returns-clause-octets : goal.returns-clause-octets
@@ -29,7 +25,15 @@ same_layout : (s : List ℕ) (layout : Layout) → octets s 32 35 ≡ layout.gro
     → octets s 37 37 ≡ layout.width_bits → octets s 38 41 ≡ layout.length_reference → octets s 42 42 ≡ layout.length_increment → octets s 43 46 ≡ layout.last_length
     → octets s 47 47 ≡ layout.length_bits → octets s 23 23 ≡ layout.management → layout_of s ≡ layout
 same_layout s layout g r wr w lr li l lb m = λ i. record {
-  groups = g i; reference_bits = r i; width_reference = wr i; width_bits = w i; length_reference = lr i; length_increment = li i; last_length = l i; length_bits = lb i; management = m i;
+  groups = g i;
+  reference_bits = r i;
+  width_reference = wr i;
+  width_bits = w i;
+  length_reference = lr i;
+  length_increment = li i;
+  last_length = l i;
+  length_bits = lb i;
+  management = m i;
 }
 
 pub returns-clause-layout : goal.returns-clause-layout
