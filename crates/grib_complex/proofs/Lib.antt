@@ -9,3 +9,7 @@ pub mod Reach
 pub mod Arriving
 pub mod Begun
 pub mod Starting
+pub mod CodeByCode
+pub mod GroupByGroup
+pub mod Wholly
+pub mod Differing

@@ -6,3 +6,4 @@ pub mod Laws
 pub mod Descriptors
 pub mod Range
 pub mod Feeding
+pub mod Written

@@ -1,9 +1,13 @@
 //! Complex packing, with and without spatial differencing: templates 5.2 and 5.3.
 #![tactic(auto)]
 
+mod coding;
 mod descriptors;
+mod differencing;
 mod feeding;
+mod grouping;
 mod keeping;
+mod packed;
 mod packing;
 mod range;
 mod representation;
@@ -12,6 +16,7 @@ mod telling;
 mod tests;
 mod unpacking;
 mod values;
+mod writing;
 
 pub use feeding::Feeder;
 pub use grib_groups::Layout;

@@ -40,7 +40,7 @@ impl Packing for ComplexPacking {
 /// differences of either order.
 #[derive(Clone, Copy, Debug, PartialEq, Eq)]
 pub struct SpatialPacking {
-    order: u8,
+    pub(crate) order: u8,
 }
 
 impl SpatialPacking {

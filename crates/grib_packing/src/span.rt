@@ -1,7 +1,7 @@
 //! What a run of codes spans.
 
 ghost use Rattle.std.specs.Prelude.{◌≡◌, ℕ, ◌+◌, ◌<◌, ◌≤◌, ◌^◌, ◌∷◌, [], List, not, ◌&&◌, ◌==◌, cond, All};
-ghost use Rattle.grib_packing.specs.Groupings.{digits, width_of};
+ghost use Rattle.grib_packing.specs.Groupings.{digits, width_of, reference_bits_of};
 ghost use Rattle.grib_packing.specs.Packed.{reference_of};
 ghost use Rattle.grib_io.specs.declared.code.Code as code_io;
 ghost use Rattle.grib_packing.specs.Span.{IsBelow, IsSpan};
@@ -123,6 +123,17 @@ impl Span {
         } else {
             0
         }
+    }
+
+    /// The bits of each group reference where all codes are this run and so many are reserved for missing
+    /// points: those of the greatest number and the reserved codes.
+    #[inline]
+    pub fn reference_bits(self, reserved: u32) -> u32
+        requires { self.greatest + reserved < 2 ^ 32 }
+        ensures is { (run : List code_io.Code) → IsSpan self run → result ≡ reference_bits_of reserved run }
+        ensures few { result ≤ 32 }
+    {
+        bit_length(self.greatest + u64::from(reserved))
     }
 
     /// The width of a run without a number: 1 bit tells two kinds of missing points apart.

@@ -21,5 +21,7 @@ pub use grib_packing::{Column, Point};
 pub use numbers::{unpack_numbers, unpack_points};
 pub use packing::Packing;
 pub use representation::{Simple, read_simple};
+pub use sections::{octets_written, room_for, write_head, write_numbers};
 pub use simple::{SimplePacking, simple_column};
+pub use writing::no_bitmap;
 pub use written::{PackFault, Packed};

@@ -27,7 +27,7 @@ pub fn room_for(alloc: Global, octets: u32) -> Result<BitWriter, AllocError>
 }
 
 /// What was written, as octets.
-pub fn written(out: BitWriter) -> List<u8>
+pub fn octets_written(out: BitWriter) -> List<u8>
     requires { length out.bits % 8 ≡ 0 }
     ensures bits { bits_in result ≡ out.bits }
     ensures octets { All (λ octet. octet < 256) result }

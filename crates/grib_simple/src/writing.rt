@@ -6,7 +6,7 @@ ghost use Rattle.grib_bits.specs.Bits.{bits_of, digit};
 ghost use Rattle.grib_packing.specs.Misfits.{is_missing as is_missing_point};
 ghost use Rattle.grib_packing.specs.Packed.{HasContents, HasNumbers, IsBitmap, fields, no_bitmap_section, present_bits, simple_numbers};
 
-use crate::sections::{write_head, write_numbers, written};
+use crate::sections::{octets_written, write_head, write_numbers};
 use crate::{Column, Point};
 use grib_bits::BitWriter;
 use grib_io::List;
@@ -28,7 +28,7 @@ pub fn representation_section(
 {
     write_head(21, 5, &mut room);
     write_numbers(column, values, 0, bits, kind, &mut room);
-    written(room)
+    octets_written(room)
 }
 
 /// Section 6, in a writer that has room for it: without a bitmap where no point is missing (WMO-No. 306,
@@ -56,7 +56,7 @@ pub fn no_bitmap(mut room: BitWriter) -> List<u8>
 {
     write_head(6, 6, &mut room);
     write_u8(255, &mut room);
-    written(room)
+    octets_written(room)
 }
 
 /// Section 6 with a bitmap, in a writer that has room for it.
@@ -70,7 +70,7 @@ fn own_bitmap(points: &[Point], mut room: BitWriter) -> List<u8>
     write_u8(0, &mut room);
     put_present(points, &mut room);
     room.align();
-    written(room)
+    octets_written(room)
 }
 
 /// Writes a bit for each point, 1 for those that are not missing.
@@ -126,7 +126,7 @@ pub fn values_section(points: &[Point], bits: u32, octets: u32, mut room: BitWri
     write_head(octets, 7, &mut room);
     put_numbers(points, bits, &mut room);
     room.align();
-    written(room)
+    octets_written(room)
 }
 
 /// Writes the scaled numbers, in so many bits each.

@@ -19,6 +19,6 @@ returns c =
     let marked = c.write_u8.ensures.octets.bits ∙ ap (λ xs. xs ++ bits_of 8 0) begun in
     let now = c.put_present.ensures.bits ∙ ap (λ xs. xs ++ present_bits points) marked ∙ append_assoc (bits head) (bits_of 8 0) (present_bits points) in
     let long : length (present_bits points) ≡ length points = length-map points (λ point. not (is_missing point)) in
-    has_contents c.written.result 6 n contents c.written.ensures.octets (omega arith) (omega (arith, c.requires.few, c.div_ceil.ensures))
+    has_contents c.octets_written.result 6 n contents c.octets_written.ensures.octets (omega arith) (omega (arith, c.requires.few, c.div_ceil.ensures))
     (omega (arith, length-padded8 contents, long, c.div_ceil.ensures))
-    (c.written.ensures.bits ∙ contents_padded (bits head) contents c.put_present.new.out.bits c.align.new.self.bits (omega (arith, length-bits head)) now c.align.ensures.bits)
+    (c.octets_written.ensures.bits ∙ contents_padded (bits head) contents c.put_present.new.out.bits c.align.new.self.bits (omega (arith, length-bits head)) now c.align.ensures.bits)

@@ -18,6 +18,6 @@ returns c =
     let head = head_of c.args.octets 7 in
     let begun = c.write_head.ensures.bits ∙ ap (λ xs. xs ++ bits head) c.requires.none in
     let now = c.put_numbers.ensures.bits ∙ ap (λ xs. xs ++ contents) begun in
-    has_contents c.written.result 7 c.args.octets contents c.written.ensures.octets (omega arith) (c.ranges.octets).fits
+    has_contents c.octets_written.result 7 c.args.octets contents c.octets_written.ensures.octets (omega arith) (c.ranges.octets).fits
     (omega (arith, c.requires.octets, length-padded8 contents, length-fields c.args.bits numbers))
-    (c.written.ensures.bits ∙ contents_padded (bits head) contents c.put_numbers.new.out.bits c.align.new.self.bits (omega (arith, length-bits head)) now c.align.ensures.bits)
+    (c.octets_written.ensures.bits ∙ contents_padded (bits head) contents c.put_numbers.new.out.bits c.align.new.self.bits (omega (arith, length-bits head)) now c.align.ensures.bits)

@@ -1,0 +1,42 @@
+use Rattle.std.proofs.Common.{◌≡◌, ◌∷◌, [], ◌++◌, ℕ, List, length, ap, ◌∙◌, arith}
+use Rattle.grib_bits.specs.Bits.{bits}
+use Rattle.grib_bits.specs.Octets.{StatesItself}
+use Rattle.grib_bits.proofs.OctetBits.{same_from_bits}
+use Rattle.grib2_sections.specs.Encoding.{octets_of, AddsOctets}
+use Rattle.grib2_sections.proofs.Octets.{AddsOctets-append}
+use Rattle.grib_packing.specs.Packed.{HasNumbers}
+use Rattle.grib_packing.proofs.Sections.{AreOctets-all, states_itself}
+use Rattle.grib_simple.specs.Sections.{number_octets}
+use Rattle.grib_complex.specs.Written.{layout_octets}
+use Rattle.grib_complex.proofs.writing.complex_representation.Goals as goal
+
+module _ (c : goal.After-octets_written) where
+  abbrev front : List ℕ
+  front = octets_of 4 47 ++ 5 ∷ number_octets c.args.column.now c.args.values 2 c.args.layout.now.reference_bits c.args.kind
+
+  abbrev all : List ℕ
+  all = front ++ layout_octets c.args.layout.now
+
+  added : AddsOctets c.args.room c.write_layout.new.out all
+  added = AddsOctets-append (AddsOctets-append c.write_head.ensures c.write_numbers.ensures.octets) c.write_layout.ensures.octets
+
+  is : c.octets_written.result ≡ all
+  is = same_from_bits c.octets_written.result all (AreOctets-all c.octets_written.result c.octets_written.ensures.octets) (AreOctets-all all added.small)
+      (c.octets_written.ensures.bits ∙ added.bits ∙ ap (λ xs. xs ++ bits all) c.requires.none)
+
+  itself : StatesItself 5 c.octets_written.result
+  itself = states_itself c.octets_written.result (number_octets c.args.column.now c.args.values 2 c.args.layout.now.reference_bits c.args.kind ++ layout_octets c.args.layout.now) 5 47 is (ap length is) (omega arith)
+
+  numbers : HasNumbers c.octets_written.result c.args.column.now c.args.values 2 c.args.layout.now.reference_bits c.args.kind
+  numbers = c.write_numbers.ensures.numbers c.octets_written.result (layout_octets c.args.layout.now) 47 is itself c.octets_written.ensures.octets
+
+pub returns-clause-length : goal.returns-clause-length
+returns-clause-length c = ap length (is c)
+
+pub returns-clause-numbers : goal.returns-clause-numbers
+returns-clause-numbers c = numbers c
+
+pub returns-clause-layout : goal.returns-clause-layout
+returns-clause-layout c =
+    let has = numbers c in
+    c.write_layout.ensures.layout c.octets_written.result [] c.args.column.now 47 c.args.values 2 c.args.kind (is c) has.bit_width_stands

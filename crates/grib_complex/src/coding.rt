@@ -1,0 +1,135 @@
+//! The codes of a column.
+
+ghost use Rattle.std.specs.Prelude.{◌≡◌, ◌≤◌, ◌∷◌, [], length, false, true, None, IfOk, MatchOption, MatchResult};
+ghost use Rattle.grib_packing.specs.Misfits.{ToComplex, first_misfit, is_outside as is_outside_of, is_scaled_outside, management_of, scaled_numbers as numbers_in};
+ghost use Rattle.grib_packing.specs.Packed.{placed_codes, target_codes};
+ghost use Rattle.grib_simple.specs.Written.{IsPackFault};
+
+use grib_io::Code;
+use grib_packing::Point;
+use grib_simple::PackFault;
+use std::alloc::{AllocError, Global};
+
+/// The missing value management of these points (code table 5.5), which is also how many codes are reserved:
+/// 2 where a point is secondary missing, else 1 where one is missing, else 0.
+pub fn management(points: &[Point]) -> u8
+    ensures is { result ≡ management_of points.now }
+    ensures few { result ≤ 2 }
+{
+    let mut most = 0;
+    for point in points {
+        most = marks(*point).max(most);
+    }
+    most
+}
+
+/// How many codes are reserved for a point alone.
+#[inline(always)]
+fn marks(point: Point) -> u8
+    ensures is { result ≡ management_of (point ∷ []) }
+    ensures few { result ≤ 2 }
+{
+    match point {
+        Point::Scaled(_) => 0,
+        Point::Missing => 1,
+        Point::Missing2 => 2,
+    }
+}
+
+/// The codes of the points themselves: their scaled numbers, and the marks of missing points.
+///
+/// # Errors
+///
+/// A scaled number is negative, or it and the reserved codes take more than 32 bits; or there is no memory.
+pub fn plain_codes(alloc: Global, points: &[Point], management: u8) -> Result<Vec<Code>, PackFault>
+    requires few { length points.now ≤ 33554432 }
+    requires management { management ≡ management_of points.now }
+    ensures { MatchResult result
+        (λ codes. (first_misfit ToComplex points.now ≡ None) × (codes.items ≡ target_codes ToComplex points.now))
+        (IsPackFault (first_misfit ToComplex points.now)) }
+{
+    let greatest = u32::MAX - u32::from(management);
+    let mut codes = Vec::with_capacity(alloc, points.len())?;
+    for index in 0..points.len() {
+        let Some(code) = plain_code(points[index], greatest) else {
+            return Err(PackFault::OutOfRange(index as u32 + 1));
+        };
+        let Ok(()) = codes.push(code) else {
+            return Err(PackFault::Memory);
+        };
+    }
+    Ok(codes)
+}
+
+/// The code of a point itself, unless its number is outside 0 to the greatest.
+#[inline(always)]
+fn plain_code(point: Point, greatest: u32) -> Option<Code>
+    ensures { MatchOption result
+        (is_scaled_outside greatest point ≡ true)
+        (λ code. (is_scaled_outside greatest point ≡ false) × (target_codes ToComplex (point ∷ []) ≡ code ∷ [])) }
+{
+    match point {
+        Point::Scaled(x) => {
+            if is_outside(x, greatest) {
+                return None;
+            }
+            Some(Code::Present(x.unsigned_abs()))
+        }
+        Point::Missing => Some(Code::Primary),
+        Point::Missing2 => Some(Code::Secondary),
+    }
+}
+
+/// Whether a number is outside 0 to the greatest.
+#[inline(always)]
+pub fn is_outside(x: i64, greatest: u32) -> bool
+    ensures { result ≡ is_outside_of greatest x }
+{
+    x < 0 || x.unsigned_abs() > u64::from(greatest)
+}
+
+/// The scaled numbers of the points that are not missing.
+///
+/// # Errors
+///
+/// There is no memory for the numbers.
+pub fn scaled_numbers(alloc: Global, points: &[Point]) -> Result<Vec<i64>, AllocError>
+    ensures { IfOk result (λ numbers. numbers.items ≡ numbers_in points.now) }
+{
+    let mut numbers = Vec::with_capacity(alloc, points.len())?;
+    for point in points {
+        if let Point::Scaled(x) = *point {
+            numbers.push(x)?;
+        }
+    }
+    Ok(numbers)
+}
+
+/// These codes at the points that are not missing, and the marks of missing points.
+///
+/// # Errors
+///
+/// There is no memory for the codes.
+pub fn codes_at_points(
+    alloc: Global,
+    points: &[Point],
+    numbers: &[u64],
+) -> Result<Vec<Code>, AllocError>
+    requires { length numbers.now ≡ length (numbers_in points.now) }
+    ensures { IfOk result (λ codes. codes.items ≡ placed_codes points.now numbers.now) }
+{
+    let mut codes = Vec::with_capacity(alloc, points.len())?;
+    let mut used = 0;
+    for point in points {
+        let code = match *point {
+            Point::Scaled(_) => {
+                used += 1;
+                Code::Present(numbers[used - 1])
+            }
+            Point::Missing => Code::Primary,
+            Point::Missing2 => Code::Secondary,
+        };
+        codes.push(code)?;
+    }
+    Ok(codes)
+}

@@ -1,0 +1,101 @@
+//! How the codes of a column are laid out in groups.
+
+ghost use Rattle.std.specs.Prelude.{◌≡◌, ℕ, ◌+◌, ◌*◌, ◌/◌, ◌<◌, ◌≤◌, length, map, All, IfOk};
+ghost use Rattle.grib_packing.specs.Groupings.{Chosen, IsGrouping, header_bits, joined, runs, width_of};
+ghost use Rattle.grib_packing.specs.Packed.{group_fields, group_parts};
+ghost use Rattle.grib_packing.specs.Span.{IsTold, IsBelow};
+ghost use Rattle.grib_groups.specs.Encoding.{LaysOut};
+
+use grib_groups::Layout;
+use grib_io::Code;
+use grib_packing::{Span, bit_length};
+use grib_split::{Costs, chosen_lengths};
+use std::alloc::{AllocError, Global};
+
+/// The lengths of groups and what Section 5 says of them.
+#[derive(Debug, Drop)]
+pub struct Grouping {
+    pub lengths: Vec<u32>,
+    pub layout: Layout,
+}
+
+/// The groups of these codes that take the fewest bits, where the management reserves as many codes as it
+/// says.
+///
+/// # Errors
+///
+/// There is no memory for the lengths.
+pub fn grouping_of(alloc: Global, codes: &[Code], management: u8) -> Result<Grouping, AllocError>
+    requires some { 1 ≤ length codes.now }
+    requires most { length codes.now ≤ 33554432 }
+    requires few { management ≤ 2 }
+    requires codes { All (IsTold management) codes.now }
+    ensures lays_out { IfOk result (λ grouping. LaysOut grouping.layout codes.now grouping.lengths.items) }
+    ensures management { IfOk result (λ grouping. grouping.layout.management ≡ management) }
+    ensures chosen { IfOk result (λ grouping.
+        Chosen (header_bits management codes.now) (width_of management) codes.now grouping.lengths.items) }
+{
+    let reserved = u32::from(management);
+    let span = Span::of(codes);
+    let costs = Costs {
+        reserved,
+        reference_bits: span.reference_bits(reserved),
+        width_bits: bit_length(u64::from(span.width(reserved))),
+    };
+    let lengths = chosen_lengths(alloc, codes, &costs)?;
+    let layout = Layout {
+        groups: lengths.len() as u32,
+        reference_bits: costs.reference_bits as u8,
+        width_reference: 0,
+        width_bits: costs.width_bits as u8,
+        length_reference: 1,
+        length_increment: 1,
+        last_length: lengths[lengths.len() - 1],
+        length_bits: 6,
+        management,
+    };
+    Ok(Grouping { lengths, layout })
+}
+
+/// The octets that the groups of these codes take in Section 7.
+pub fn octets_of_groups(codes: &[Code], lengths: &[u32], layout: &Layout) -> u32
+    requires lays_out { LaysOut layout.now codes.now lengths.now }
+    requires most { length codes.now ≤ 33554432 }
+    ensures is { 8 * result ≡ length (group_parts layout.now.management codes.now lengths.now) }
+    ensures few { result ≤ 1000000000 }
+{
+    let bits = bits_of_groups(codes, lengths, u32::from(layout.management));
+    let references = octets_for(layout.groups, layout.reference_bits);
+    let widths = octets_for(layout.groups, layout.width_bits);
+    references + widths + octets_for(layout.groups, 6) + bits.div_ceil(8)
+}
+
+/// The octets of so many numbers of so many bits.
+#[inline]
+fn octets_for(count: u32, bits: u8) -> u32
+    requires count { count ≤ 33554432 }
+    requires bits { bits ≤ 32 }
+    ensures is { result ≡ (count * bits + 7) / 8 }
+    ensures few { result ≤ 4 * count + 1 }
+{
+    (count * u32::from(bits)).div_ceil(8)
+}
+
+/// The bits that the packed numbers of all groups take.
+fn bits_of_groups(codes: &[Code], lengths: &[u32], reserved: u32) -> u32
+    requires reserved { reserved ≤ 2 }
+    requires grouping { IsGrouping (length codes.now) lengths.now }
+    requires codes { All (IsBelow reserved) codes.now }
+    requires most { length codes.now ≤ 33554432 }
+    ensures is { (bits : ℕ) → result ≡ length (joined (map (group_fields reserved bits) (runs lengths.now codes.now))) }
+    ensures few { result ≤ 32 * length codes.now }
+{
+    let mut rest = codes;
+    let mut bits = 0;
+    for length in lengths {
+        let (run, after) = rest.split_at(*length as usize);
+        bits += *length * Span::of(run).width(reserved);
+        rest = after;
+    }
+    bits
+}

@@ -1,0 +1,185 @@
+//! Columns that are packed in groups.
+
+ghost use Rattle.std.specs.Prelude.{◌≡◌, ◌⊎◌, ◌^◌, ◌<◌, All, IfOk, length, nat_abs, false};
+ghost use Rattle.std.specs.List.{list_any};
+ghost use Rattle.grib_packing.specs.Differences.{descriptors_of, difference_codes};
+ghost use Rattle.grib_packing.specs.Entries.{is_out_of_range};
+ghost use Rattle.grib_packing.specs.Misfits.{ToComplex, ToSpatial, are_differences_out, management_of, scaled_numbers as numbers_in};
+ghost use Rattle.grib_packing.specs.Packed.{IsComplex, IsSpatial, target_codes};
+ghost use Rattle.grib_spatial.specs.Undoing.{read_with};
+ghost use Rattle.grib_packing.specs.Span.{IsTold};
+ghost use Rattle.grib_simple.specs.Written.{IsPacked, MayBePacked};
+
+use crate::coding::{codes_at_points, management, plain_codes, scaled_numbers};
+use crate::differencing::{are_out, descriptor_octets, write_descriptors};
+use crate::grouping::{grouping_of, octets_of_groups};
+use crate::packing::{ComplexPacking, SpatialPacking};
+use crate::writing::{
+    Differencing, complex_representation, groups_section, spatial_representation,
+};
+use grib_io::Code;
+use grib_packing::{Column, Point};
+use grib_simple::{PackFault, Packed, no_bitmap, room_for, write_head};
+use grib_spatial::{Differences, difference};
+use std::alloc::{AllocError, Global};
+
+impl ComplexPacking {
+    /// Sections 5, 6 and 7 of a column: its scaled numbers and missing points in the groups of 1 to 64
+    /// points that take the fewest bits. `kind` is the type of the original values (code table 5.1).
+    ///
+    /// # Errors
+    ///
+    /// A scaled number is negative, or it and the reserved codes take more than 32 bits; or there is no
+    /// memory.
+    pub fn pack(&self, alloc: Global, column: &Column, kind: u8) -> Result<Packed, PackFault>
+        requires { MayBePacked column.now }
+        ensures { IsPacked ToComplex column.now kind result }
+    {
+        let points = column.points.as_slice();
+        let management = management(points);
+        let codes = match plain_codes(alloc, points, management) {
+            Ok(codes) => codes,
+            Err(fault) => return Err(fault),
+        };
+        let Ok(packed) = pack_plainly(alloc, column, kind, &codes, management) else {
+            return Err(PackFault::Memory);
+        };
+        Ok(packed)
+    }
+}
+
+/// The sections of a column whose points have these codes.
+///
+/// # Errors
+///
+/// There is no memory.
+fn pack_plainly(
+    alloc: Global,
+    column: &Column,
+    kind: u8,
+    codes: &[Code],
+    management: u8,
+) -> Result<Packed, AllocError>
+    requires column { MayBePacked column.now }
+    requires codes { codes.now ≡ target_codes ToComplex column.now.points }
+    requires as_long { length codes.now ≡ length column.now.points }
+    requires management { management ≡ management_of column.now.points }
+    requires told { All (IsTold management) codes.now }
+    ensures { IfOk result (λ packed.
+        IsComplex column.now kind packed.section5 packed.section6 packed.section7) }
+{
+    let grouping = grouping_of(alloc, codes, management)?;
+    let octets = 5 + octets_of_groups(codes, &grouping.lengths, &grouping.layout);
+    let section5 = room_for(alloc, 47)?;
+    let section6 = room_for(alloc, 6)?;
+    let mut section7 = room_for(alloc, octets)?;
+    write_head(octets, 7, &mut section7);
+    let values = codes.len() as u32;
+    Ok(Packed {
+        section5: complex_representation(column, values, &grouping.layout, kind, section5),
+        section6: no_bitmap(section6),
+        section7: groups_section(codes, &grouping.lengths, &grouping.layout, section7),
+    })
+}
+
+impl SpatialPacking {
+    /// Sections 5, 6 and 7 of a column: how far the differences of its scaled numbers are above the least
+    /// one, and its missing points, in the groups of 1 to 64 points that take the fewest bits. `kind` is the
+    /// type of the original values (code table 5.1).
+    ///
+    /// # Errors
+    ///
+    /// A first value, the minimum or a code of the differences has no place; or there is no memory.
+    pub fn pack(&self, alloc: Global, column: &Column, kind: u8) -> Result<Packed, PackFault>
+        requires order { (self.now.order ≡ 1) ⊎ (self.now.order ≡ 2) }
+        requires column { MayBePacked column.now }
+        ensures { IsPacked (ToSpatial self.now.order) column.now kind result }
+    {
+        let points = column.points.as_slice();
+        let management = management(points);
+        let Ok(differences) = differences_of(alloc, points, self.order) else {
+            return Err(PackFault::Memory);
+        };
+        if are_out(&differences, management) {
+            return Err(PackFault::DifferenceRange);
+        }
+        let Ok(codes) = codes_at_points(alloc, points, differences.codes.as_slice()) else {
+            return Err(PackFault::Memory);
+        };
+        let packed = pack_spatially(
+            alloc,
+            column,
+            kind,
+            &codes,
+            &differences,
+            self.order,
+            management,
+        );
+        let Ok(packed) = packed else {
+            return Err(PackFault::Memory);
+        };
+        Ok(packed)
+    }
+}
+
+/// The differences of the points that are not missing.
+///
+/// # Errors
+///
+/// There is no memory for them.
+fn differences_of(alloc: Global, points: &[Point], order: u8) -> Result<Differences, AllocError>
+    requires order { (order ≡ 1) ⊎ (order ≡ 2) }
+    requires within { list_any is_out_of_range points.now ≡ false }
+    ensures told { IfOk result (λ told. read_with order told ≡ descriptors_of order (numbers_in points.now)) }
+    ensures codes { IfOk result (λ told. told.codes ≡ difference_codes order (numbers_in points.now)) }
+{
+    let numbers = scaled_numbers(alloc, points)?;
+    difference(alloc, &numbers, order)
+}
+
+/// The sections of a column whose points have these codes, which tell its differences.
+///
+/// # Errors
+///
+/// There is no memory.
+fn pack_spatially(
+    alloc: Global,
+    column: &Column,
+    kind: u8,
+    codes: &[Code],
+    differences: &Differences,
+    order: u8,
+    management: u8,
+) -> Result<Packed, AllocError>
+    requires order { (order ≡ 1) ⊎ (order ≡ 2) }
+    requires column { MayBePacked column.now }
+    requires codes { codes.now ≡ target_codes (ToSpatial order) column.now.points }
+    requires as_long { length codes.now ≡ length column.now.points }
+    requires management { management ≡ management_of column.now.points }
+    requires told { All (IsTold management) codes.now }
+    requires differences { read_with order differences.now ≡ descriptors_of order (numbers_in column.now.points) }
+    requires first { nat_abs differences.now.first < 2 ^ 31 }
+    requires second { nat_abs differences.now.second < 2 ^ 31 }
+    requires minimum { nat_abs differences.now.minimum < 2 ^ 31 }
+    ensures { IfOk result (λ packed.
+        IsSpatial order column.now kind packed.section5 packed.section6 packed.section7) }
+{
+    let grouping = grouping_of(alloc, codes, management)?;
+    let size = descriptor_octets(differences);
+    let descriptors = (u32::from(order) + 1) * u32::from(size);
+    let groups = octets_of_groups(codes, &grouping.lengths, &grouping.layout);
+    let octets = 5 + descriptors + groups;
+    let section5 = room_for(alloc, 49)?;
+    let section6 = room_for(alloc, 6)?;
+    let mut section7 = room_for(alloc, octets)?;
+    write_head(octets, 7, &mut section7);
+    write_descriptors(differences, order, size, &mut section7);
+    let values = codes.len() as u32;
+    let differencing = Differencing { order, size };
+    let layout = &grouping.layout;
+    Ok(Packed {
+        section5: spatial_representation(column, values, layout, differencing, kind, section5),
+        section6: no_bitmap(section6),
+        section7: groups_section(codes, &grouping.lengths, layout, section7),
+    })
+}
