@@ -8,6 +8,8 @@ mod grouping;
 mod keeping;
 mod packed;
 mod packing;
+#[cfg(test)]
+mod packing_tests;
 mod representation;
 mod telling;
 #[cfg(test)]
