@@ -8,3 +8,4 @@ pub mod CodeByCode
 pub mod GroupByGroup
 pub mod Wholly
 pub mod Differing
+pub mod Back

@@ -6,6 +6,7 @@ mod descriptors;
 mod differencing;
 mod grouping;
 mod keeping;
+pub mod laws;
 mod packed;
 mod packing;
 #[cfg(test)]
