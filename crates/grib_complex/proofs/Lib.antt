@@ -13,3 +13,4 @@ pub mod CodeByCode
 pub mod GroupByGroup
 pub mod Wholly
 pub mod Differing
+pub mod Back

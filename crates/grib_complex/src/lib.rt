@@ -7,8 +7,11 @@ mod differencing;
 mod feeding;
 mod grouping;
 mod keeping;
+pub mod laws;
 mod packed;
 mod packing;
+#[cfg(test)]
+mod packing_tests;
 mod range;
 mod representation;
 mod telling;

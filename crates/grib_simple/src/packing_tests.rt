@@ -111,6 +111,24 @@ fn what_does_not_fit_is_named(rt: HostRuntime) -> Result<(), Fail> {
 }
 
 #[test]
+fn numbers_of_33_bits(rt: HostRuntime) -> Result<(), Fail> {
+    let points = [
+        Point::Scaled(0),
+        Point::Scaled(1),
+        Point::Scaled(2),
+        Point::Scaled(1 << 32),
+    ];
+    let Ok(made) = packed(rt.alloc(), &points) else {
+        panic!(rt; "not packed");
+    };
+    let data = [
+        0, 0, 0, 22, 7, 0, 0, 0, 0, 0, 0, 0, 0, 0x40, 0, 0, 0, 0x50, 0, 0, 0, 0,
+    ];
+    assert!(rt; has(&made, 4, 33, &[0, 0, 0, 6, 6, 255], &data));
+    Ok(())
+}
+
+#[test]
 fn numbers_of_48_bits(rt: HostRuntime) -> Result<(), Fail> {
     let points = [Point::Scaled((1 << 48) - 1), Point::Scaled(1)];
     let Ok(made) = packed(rt.alloc(), &points) else {
