@@ -1,8 +1,12 @@
 //! Expected points are those of worked messages, or from Python, which packs the numbers of a walk by its own
 //! code.
 
-ghost use Rattle.std.specs.Prelude.{◌≡◌};
+ghost use Rattle.std.specs.Prelude.{◌≡◌, ◌≤◌, None, length as length_of};
 ghost use Rattle.grib_bits.specs.Octets.{StatesItself};
+ghost use Rattle.grib_bitmap.specs.Mask.{present_count};
+ghost use Rattle.grib_packing.specs.Entries.{packing_fault};
+ghost use Rattle.grib_packing.specs.Packing.{value_count};
+ghost use Rattle.grib_complex.specs.Feeding.{IsFed};
 
 use super::*;
 use byteorder::{BigEndian, ByteOrder};
@@ -29,9 +33,26 @@ fn section<'a>(rt: &impl Abort, number: u8, start: u64, octets: &'a [u8]) -> Sec
     }
 }
 
+/// The column of a field whose Section 7 begins at octet 200. It is seen that the section gives the same in
+/// pieces.
+fn unpacked(
+    rt: &impl Abort,
+    alloc: Global,
+    representation: &[u8],
+    mask: &Mask,
+    data: &[u8],
+) -> Result<Column, UnpackFault> {
+    let answer = whole(rt, alloc, representation, mask, data);
+    for size in [1, 7, 1000] {
+        let pieces = in_pieces(rt, alloc, representation, mask, data, size);
+        assert!(rt; is_same(&pieces, &answer));
+    }
+    answer
+}
+
 /// The column of a field whose Section 7 begins at octet 200, of which it is seen first that Section 5 is
 /// accepted.
-fn unpacked(
+fn whole(
     rt: &impl Abort,
     alloc: Global,
     representation: &[u8],
@@ -53,6 +74,79 @@ fn unpacked(
         ComplexPacking.unpack(alloc, &section5, mask, &section7)
     } else {
         SpatialPacking::new(1).unpack(alloc, &section5, mask, &section7)
+    }
+}
+
+/// The same of a section that comes in pieces of so many octets.
+fn in_pieces(
+    rt: &impl Abort,
+    alloc: Global,
+    representation: &[u8],
+    mask: &Mask,
+    data: &[u8],
+    size: usize,
+) -> Result<Column, Fault> {
+    let section5 = section(rt, 5, 144, representation);
+    let Ok(simple) = read_simple(&section5, mask.len()) else {
+        panic!(rt; "the representation is refused");
+    };
+    assert!(rt; simple.values == ones(mask));
+    assert!(rt; simple.template == 2 || simple.template == 3);
+    let Ok(_complex) = read_complex(&section5, mask.len()) else {
+        panic!(rt; "the groups are refused");
+    };
+    assert!(rt; data.len() < 1_000_000);
+    let feeder = feeder(rt, alloc, &section5, mask, data.len() as u32);
+    fed(rt, feeder, data, size)
+}
+
+/// What reads a Section 7 of this length that begins at octet 200.
+fn feeder(
+    rt: &impl Abort,
+    alloc: Global,
+    section5: &Section<'_>,
+    mask: &Mask,
+    length: u32,
+) -> Feeder
+    requires itself { StatesItself section5.now.number section5.now.octets.now }
+    requires low { 1 ≤ section5.now.start }
+    requires high { section5.now.start ≤ 268435456 }
+    requires accepted { packing_fault section5.now.octets.now (length_of mask.now) ≡ None }
+    requires values { present_count mask.now ≡ value_count section5.now.octets.now }
+    ensures { IsFed result }
+{
+    assert!(rt; length >= 5);
+    let Ok(copy) = mask.copy(alloc) else {
+        panic!(rt; "there is no memory for the mask");
+    };
+    match Feeder::new(alloc, section5, copy, 200, length) {
+        Ok(feeder) => feeder,
+        Err(_) => panic!(rt; "there is no memory for the field"),
+    }
+}
+
+/// The answer where a Section 7 comes in pieces of so many octets.
+fn fed(rt: &impl Abort, mut feeder: Feeder, data: &[u8], size: usize) -> Result<Column, Fault>
+    requires { IsFed feeder }
+{
+    assert!(rt; size >= 1 && data.len() >= 5);
+    for piece in data[5..].chunks(size) {
+        assert!(rt; piece.len() <= feeder.left() as usize);
+        feeder.push(piece);
+    }
+    assert!(rt; feeder.left() == 0);
+    feeder.finish()
+}
+
+/// Whether a field that came in pieces has the answer of the whole.
+fn is_same(fed: &Result<Column, Fault>, whole: &Result<Column, UnpackFault>) -> bool {
+    match (fed, whole) {
+        (Ok(column), Ok(same)) => {
+            (column.reference, column.e, column.d) == (same.reference, same.e, same.d)
+                && column.points.as_slice() == same.points.as_slice()
+        }
+        (Err(fault), Err(same)) => *same == UnpackFault::Refused(*fault),
+        _ => false,
     }
 }
 
@@ -246,6 +340,93 @@ fn numbers_out_of_range(rt: HostRuntime) -> Result<(), Fail> {
     ];
     let answer = unpacked(&rt, rt.alloc(), &STEEP, &mask, &data);
     assert!(rt; is_refused(&answer, 200, Reason::ScaledRange, 18921));
+    let accepted = accepted(&rt, rt.alloc(), &STEEP, 33_000, &data);
+    let refusal = Fault {
+        octet: 200,
+        reason: Reason::ScaledRange,
+        detail: 18921,
+    };
+    assert!(rt; accepted == Err(UnpackFault::Refused(refusal)));
+    Ok(())
+}
+
+/// Whether the data of a field are accepted, which keeps no point.
+fn accepted(
+    rt: &impl Abort,
+    alloc: Global,
+    representation: &[u8],
+    points: u32,
+    data: &[u8],
+) -> Result<(), UnpackFault> {
+    let section5 = section(rt, 5, 144, representation);
+    let section7 = section(rt, 7, 200, data);
+    let Ok(simple) = read_simple(&section5, points) else {
+        panic!(rt; "the representation is refused");
+    };
+    assert!(rt; simple.template == 2 || simple.template == 3);
+    let Ok(_complex) = read_complex(&section5, points) else {
+        panic!(rt; "the groups are refused");
+    };
+    match take_values(alloc, &section5, points, &section7, Nothing) {
+        Ok(Nothing) => Ok(()),
+        Err(fault) => Err(fault),
+    }
+}
+
+#[test]
+fn what_is_accepted(rt: HostRuntime) {
+    let accepted_m3 = accepted(&rt, rt.alloc(), &M3, 4, &M3_DATA);
+    assert!(rt; accepted_m3 == Ok(()));
+    assert!(rt; accepted(&rt, rt.alloc(), &WALK_5, 276, &WALK_7) == Ok(()));
+    let short = [0, 0, 0, 12, 7, 0x05, 0x8a, 0x02, 0xc0, 0x0c, 0x04, 0x10];
+    let refusal = Fault {
+        octet: 200,
+        reason: Reason::DataTooShort,
+        detail: 12,
+    };
+    let answer = accepted(&rt, rt.alloc(), &M3, 4, &short);
+    assert!(rt; answer == Err(UnpackFault::Refused(refusal)));
+}
+
+/// Section 5 of 20 values of 12 bits in template 5.0.
+const PLAIN_5: [u8; 21] = [
+    0, 0, 0, 21, 5, 0, 0, 0, 20, 0, 0, 0xc2, 0xed, 0x40, 0x00, 0x80, 0x03, 0x00, 0x01, 12, 0,
+];
+
+#[test]
+fn simple_packing_in_pieces(rt: HostRuntime) -> Result<(), Fail> {
+    let section5 = section(&rt, 5, 144, &PLAIN_5);
+    let mask = Mask::all(rt.alloc(), 20)?;
+    let Ok(simple) = read_simple(&section5, 20) else {
+        panic!(rt; "the representation is refused");
+    };
+    assert!(rt; simple.values == ones(&mask));
+    assert!(rt; simple.template == 0);
+    let mut data = [0xab; 36];
+    data[..5].copy_from_slice(&[0, 0, 0, 36, 7]);
+    for size in [1, 7, 36] {
+        let feeder = feeder(&rt, rt.alloc(), &section5, &mask, 36);
+        let column = match fed(&rt, feeder, &data, size) {
+            Ok(column) => column,
+            Err(_) => panic!(rt; "the field is refused"),
+        };
+        let points = column.points.as_slice();
+        assert_eq!(rt; points.len(), 20);
+        assert!(rt; points[0] == Point::Scaled(0xaba) && points[1] == Point::Scaled(0xbab));
+        assert!(rt; points[18] == Point::Scaled(0xaba) && points[19] == Point::Scaled(0xbab));
+    }
+    let feeder = feeder(&rt, rt.alloc(), &section5, &mask, 34);
+    let answer = fed(&rt, feeder, &data[..34], 7);
+    assert!(rt;
+        matches!(
+            answer,
+            Err(Fault {
+                octet: 200,
+                reason: Reason::DataTooShort,
+                detail: 34
+            })
+        )
+    );
     Ok(())
 }
 
