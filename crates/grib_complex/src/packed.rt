@@ -13,7 +13,6 @@ ghost use Rattle.grib_simple.specs.Written.{IsPacked, MayBePacked};
 use crate::coding::{codes_at_points, management, plain_codes, scaled_numbers};
 use crate::differencing::{are_out, descriptor_octets, write_descriptors};
 use crate::grouping::{grouping_of, octets_of_groups};
-use crate::packing::{ComplexPacking, SpatialPacking};
 use crate::writing::{
     Differencing, complex_representation, groups_section, spatial_representation,
 };
@@ -23,29 +22,27 @@ use grib_simple::{PackFault, Packed, no_bitmap, room_for, write_head};
 use grib_spatial::{Differences, difference};
 use std::alloc::{AllocError, Global};
 
-impl ComplexPacking {
-    /// Sections 5, 6 and 7 of a column: its scaled numbers and missing points in the groups of 1 to 64
-    /// points that take the fewest bits. `kind` is the type of the original values (code table 5.1).
-    ///
-    /// # Errors
-    ///
-    /// A scaled number is negative, or it and the reserved codes take more than 32 bits; or there is no
-    /// memory.
-    pub fn pack(&self, alloc: Global, column: &Column, kind: u8) -> Result<Packed, PackFault>
-        requires { MayBePacked column.now }
-        ensures { IsPacked ToComplex column.now kind result }
-    {
-        let points = column.points.as_slice();
-        let management = management(points);
-        let codes = match plain_codes(alloc, points, management) {
-            Ok(codes) => codes,
-            Err(fault) => return Err(fault),
-        };
-        let Ok(packed) = pack_plainly(alloc, column, kind, &codes, management) else {
-            return Err(PackFault::Memory);
-        };
-        Ok(packed)
-    }
+/// Sections 5, 6 and 7 of a column: its scaled numbers and missing points in the groups of 1 to 64
+/// points that take the fewest bits. `kind` is the type of the original values (code table 5.1).
+///
+/// # Errors
+///
+/// A scaled number is negative, or it and the reserved codes take more than 32 bits; or there is no
+/// memory.
+pub fn pack_complex(alloc: Global, column: &Column, kind: u8) -> Result<Packed, PackFault>
+    requires { MayBePacked column.now }
+    ensures { IsPacked ToComplex column.now kind result }
+{
+    let points = column.points.as_slice();
+    let management = management(points);
+    let codes = match plain_codes(alloc, points, management) {
+        Ok(codes) => codes,
+        Err(fault) => return Err(fault),
+    };
+    let Ok(packed) = pack_plainly(alloc, column, kind, &codes, management) else {
+        return Err(PackFault::Memory);
+    };
+    Ok(packed)
 }
 
 /// The sections of a column whose points have these codes.
@@ -82,44 +79,39 @@ fn pack_plainly(
     })
 }
 
-impl SpatialPacking {
-    /// Sections 5, 6 and 7 of a column: how far the differences of its scaled numbers are above the least
-    /// one, and its missing points, in the groups of 1 to 64 points that take the fewest bits. `kind` is the
-    /// type of the original values (code table 5.1).
-    ///
-    /// # Errors
-    ///
-    /// A first value, the minimum or a code of the differences has no place; or there is no memory.
-    pub fn pack(&self, alloc: Global, column: &Column, kind: u8) -> Result<Packed, PackFault>
-        requires order { (self.now.order ≡ 1) ⊎ (self.now.order ≡ 2) }
-        requires column { MayBePacked column.now }
-        ensures { IsPacked (ToSpatial self.now.order) column.now kind result }
-    {
-        let points = column.points.as_slice();
-        let management = management(points);
-        let Ok(differences) = differences_of(alloc, points, self.order) else {
-            return Err(PackFault::Memory);
-        };
-        if are_out(&differences, management) {
-            return Err(PackFault::DifferenceRange);
-        }
-        let Ok(codes) = codes_at_points(alloc, points, differences.codes.as_slice()) else {
-            return Err(PackFault::Memory);
-        };
-        let packed = pack_spatially(
-            alloc,
-            column,
-            kind,
-            &codes,
-            &differences,
-            self.order,
-            management,
-        );
-        let Ok(packed) = packed else {
-            return Err(PackFault::Memory);
-        };
-        Ok(packed)
+/// Sections 5, 6 and 7 of a column: how far the differences of its scaled numbers are above the least
+/// one, and its missing points, in the groups of 1 to 64 points that take the fewest bits. `kind` is the
+/// type of the original values (code table 5.1).
+///
+/// # Errors
+///
+/// A first value, the minimum or a code of the differences has no place; or there is no memory.
+pub fn pack_spatial(
+    alloc: Global,
+    column: &Column,
+    kind: u8,
+    order: u8,
+) -> Result<Packed, PackFault>
+    requires order { (order ≡ 1) ⊎ (order ≡ 2) }
+    requires column { MayBePacked column.now }
+    ensures { IsPacked (ToSpatial order) column.now kind result }
+{
+    let points = column.points.as_slice();
+    let management = management(points);
+    let Ok(differences) = differences_of(alloc, points, order) else {
+        return Err(PackFault::Memory);
+    };
+    if are_out(&differences, management) {
+        return Err(PackFault::DifferenceRange);
     }
+    let Ok(codes) = codes_at_points(alloc, points, differences.codes.as_slice()) else {
+        return Err(PackFault::Memory);
+    };
+    let packed = pack_spatially(alloc, column, kind, &codes, &differences, order, management);
+    let Ok(packed) = packed else {
+        return Err(PackFault::Memory);
+    };
+    Ok(packed)
 }
 
 /// The differences of the points that are not missing.

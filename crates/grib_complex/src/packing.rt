@@ -4,16 +4,18 @@ ghost use Rattle.std.specs.Prelude.{◌≡◌, ◌⊎◌, ◌≤◌, None, lengt
 ghost use Rattle.grib_bits.specs.Octets.{StatesItself};
 ghost use Rattle.grib_bitmap.specs.Mask.{present_count};
 ghost use Rattle.grib_packing.specs.Entries.{packing_fault};
+ghost use Rattle.grib_packing.specs.Misfits.{ToComplex, ToSpatial};
 ghost use Rattle.grib_packing.specs.Packing.{packing_template, value_count};
 ghost use Rattle.grib_simple.specs.Unpacked.{IsUnpacked};
 
 use crate::keeping::Points;
+use crate::packed::{pack_complex, pack_spatial};
 use crate::representation::accepted_complex;
 use crate::unpacking::take_complex_values;
 use grib_bitmap::Mask;
 use grib_io::{List, Section, UnpackFault};
 use grib_packing::Column;
-use grib_simple::Packing;
+use grib_simple::{PackFault, Packed, Packing};
 use std::alloc::Global;
 
 /// Complex packing: the numbers of the present points stand in groups, each with a reference and a
@@ -24,6 +26,8 @@ pub struct ComplexPacking;
 impl Packing for ComplexPacking {
     ghost template = { λ _. 2 };
 
+    ghost target = { λ _. ToComplex };
+
     fn unpack(
         &self,
         alloc: Global,
@@ -33,6 +37,10 @@ impl Packing for ComplexPacking {
     ) -> Result<Column, UnpackFault> {
         unpack(alloc, section5, mask, section7)
     }
+
+    fn pack(&self, alloc: Global, column: &Column, kind: u8) -> Result<Packed, PackFault> {
+        pack_complex(alloc, column, kind)
+    }
 }
 
 /// Complex packing of spatial differences: the groups hold what the differences of the numbers are
@@ -40,7 +48,7 @@ impl Packing for ComplexPacking {
 /// differences of either order.
 #[derive(Clone, Copy, Debug, PartialEq, Eq)]
 pub struct SpatialPacking {
-    pub(crate) order: u8,
+    order: u8,
 }
 
 impl SpatialPacking {
@@ -56,6 +64,8 @@ impl SpatialPacking {
 impl Packing for SpatialPacking {
     ghost template = { λ _. 3 };
 
+    ghost target = { λ packing. ToSpatial packing.order };
+
     fn unpack(
         &self,
         alloc: Global,
@@ -64,6 +74,10 @@ impl Packing for SpatialPacking {
         section7: &Section<'_>,
     ) -> Result<Column, UnpackFault> {
         unpack(alloc, section5, mask, section7)
+    }
+
+    fn pack(&self, alloc: Global, column: &Column, kind: u8) -> Result<Packed, PackFault> {
+        pack_spatial(alloc, column, kind, self.order)
     }
 }
 

@@ -7,7 +7,7 @@ ghost use Rattle.grib_packing.specs.Entries.{is_out_of_range};
 use super::*;
 use grib_io::List;
 use grib_packing::{Column, Point};
-use grib_simple::{PackFault, Packed};
+use grib_simple::{PackFault, Packed, Packing};
 use std::alloc::{AllocError, Global};
 use std::test::Fail;
 

@@ -1,10 +1,10 @@
 -- What a packing may answer when it writes.
-use Rattle.std.specs.Prelude.{◌≡◌, ℕ, ◌≤◌, false, Option, Some, None, Result, MatchResult, length, ◌==◌}
+use Rattle.std.specs.Prelude.{◌≡◌, ◌⊎◌, ℕ, ◌≤◌, false, Option, Some, None, Result, MatchResult, length, ◌==◌}
 use Rattle.std.specs.List.{list_any}
 use Rattle.grib_bits.specs.Binary32.{ieee_exponent}
 use Rattle.grib_packing.specs.declared.column.Column.{Column}
 use Rattle.grib_packing.specs.Entries.{is_out_of_range}
-use Rattle.grib_packing.specs.Misfits.{Target, Misfit, first_misfit, SecondaryMissing as SecondaryMisfit, OutOfRange as RangeMisfit, DifferenceRange as DifferenceMisfit}
+use Rattle.grib_packing.specs.Misfits.{Target, ToSimple, ToComplex, ToSpatial, Misfit, first_misfit, SecondaryMissing as SecondaryMisfit, OutOfRange as RangeMisfit, DifferenceRange as DifferenceMisfit}
 use Rattle.grib_packing.specs.Packed.{Packed as HasPacked}
 use Rattle.grib_simple.specs.declared.written.Packed.{Packed}
 use Rattle.grib_simple.specs.declared.written.PackFault.{PackFault}
@@ -17,6 +17,12 @@ pub record MayBePacked (column : Column) : Type 0 where
   pub few : length column.points ≤ 33554432
   pub within : list_any is_out_of_range column.points ≡ false
   pub finite : (ieee_exponent column.reference == 255) ≡ false
+
+-- differences are of order 1 or 2
+abbrev pub IsTarget : Target → Type 0
+IsTarget ToSimple = Unit {0}
+IsTarget ToComplex = Unit {0}
+IsTarget (ToSpatial order) = (order ≡ 1) ⊎ (order ≡ 2)
 
 -- the first misfit, or want of memory
 abbrev pub IsPackFault : Option Misfit → PackFault → Type 0

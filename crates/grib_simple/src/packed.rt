@@ -7,37 +7,35 @@ ghost use Rattle.grib_simple.specs.Written.{IsPacked, MayBePacked};
 use crate::sections::room_for;
 use crate::survey::Survey;
 use crate::writing::{bitmap_section, representation_section, values_section};
-use crate::{Column, PackFault, Packed, SimplePacking};
+use crate::{Column, PackFault, Packed};
 use grib_packing::bit_length;
 use std::alloc::Global;
 
-impl SimplePacking {
-    /// Sections 5, 6 and 7 of a column: the numbers of the points that are not missing in the least bits,
-    /// and a bitmap where a point is missing. `kind` is the type of the original values (code table 5.1).
-    /// It looks at all points first, takes all its memory, and then writes.
-    ///
-    /// # Errors
-    ///
-    /// A point is secondary missing, a scaled number is negative or has more than 48 bits, or there is no
-    /// memory.
-    pub fn pack(&self, alloc: Global, column: &Column, kind: u8) -> Result<Packed, PackFault>
-        requires { MayBePacked column.now }
-        ensures { IsPacked ToSimple column.now kind result }
-    {
-        let points = column.points.as_slice();
-        let survey = Survey::of(points);
-        survey.fits()?;
-        let bits = bit_length(survey.greatest);
-        let octets = values_octets(survey.present, bits);
-        let section5 = room_for(alloc, 21)?;
-        let section6 = room_for(alloc, bitmap_octets(points.len() as u32, survey.missing))?;
-        let section7 = room_for(alloc, octets)?;
-        Ok(Packed {
-            section5: representation_section(column, survey.present, bits as u8, kind, section5),
-            section6: bitmap_section(points, survey.missing, section6),
-            section7: values_section(points, bits, octets, section7),
-        })
-    }
+/// Sections 5, 6 and 7 of a column: the numbers of the points that are not missing in the least bits,
+/// and a bitmap where a point is missing. `kind` is the type of the original values (code table 5.1).
+/// It looks at all points first, takes all its memory, and then writes.
+///
+/// # Errors
+///
+/// A point is secondary missing, a scaled number is negative or has more than 48 bits, or there is no
+/// memory.
+pub fn pack_simply(alloc: Global, column: &Column, kind: u8) -> Result<Packed, PackFault>
+    requires { MayBePacked column.now }
+    ensures { IsPacked ToSimple column.now kind result }
+{
+    let points = column.points.as_slice();
+    let survey = Survey::of(points);
+    survey.fits()?;
+    let bits = bit_length(survey.greatest);
+    let octets = values_octets(survey.present, bits);
+    let section5 = room_for(alloc, 21)?;
+    let section6 = room_for(alloc, bitmap_octets(points.len() as u32, survey.missing))?;
+    let section7 = room_for(alloc, octets)?;
+    Ok(Packed {
+        section5: representation_section(column, survey.present, bits as u8, kind, section5),
+        section6: bitmap_section(points, survey.missing, section6),
+        section7: values_section(points, bits, octets, section7),
+    })
 }
 
 /// The octets of a Section 6, with bits for so many points where one is missing.

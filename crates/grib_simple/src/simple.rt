@@ -6,13 +6,15 @@ ghost use Rattle.grib_bits.specs.Plain.{plain};
 ghost use Rattle.grib_bitmap.specs.Mask.{present_count};
 ghost use Rattle.grib_packing.specs.declared.column.Point.TheVariants.{Scaled};
 ghost use Rattle.grib_packing.specs.Column.{column_with, points_with_mask};
+ghost use Rattle.grib_packing.specs.Misfits.{ToSimple};
 ghost use Rattle.grib_packing.specs.Packing.{bit_width};
 ghost use Rattle.grib_packing.specs.Simple.{plain_bits, simple_entries};
 
 use crate::numbers::{masked_points, unpack_points};
+use crate::packed::pack_simply;
 use crate::packing::Packing;
 use crate::representation::numbers;
-use crate::{Column, Point};
+use crate::{Column, PackFault, Packed, Point};
 use byteorder::{BigEndian, ByteOrder};
 use grib_bitmap::Mask;
 use grib_io::{Fault, List, Reason, Section, UnpackFault};
@@ -25,6 +27,8 @@ pub struct SimplePacking;
 
 impl Packing for SimplePacking {
     ghost template = { λ _. 0 };
+
+    ghost target = { λ _. ToSimple };
 
     fn unpack(
         &self,
@@ -53,6 +57,10 @@ impl Packing for SimplePacking {
             d: simple.d,
             points: List::of(points),
         })
+    }
+
+    fn pack(&self, alloc: Global, column: &Column, kind: u8) -> Result<Packed, PackFault> {
+        pack_simply(alloc, column, kind)
     }
 }
 

@@ -7,15 +7,15 @@ use Rattle.grib_packing.specs.Packed.{target_codes, placed_codes}
 use Rattle.grib_packing.specs.Span.{IsTold}
 use Rattle.grib_complex.proofs.CodeByCode.{length-placed}
 use Rattle.grib_complex.proofs.Differing.{length-codes, spatial_told}
-use Rattle.grib_complex.proofs.packing.SpatialPacking.pack.Goals as goal
+use Rattle.grib_complex.proofs.packed.pack_spatial.Goals as goal
 
 pub codes_at_points-requires : goal.codes_at_points-requires
 codes_at_points-requires c =
     let points = c.as_slice-points.result.now in
-    ap length (c.as_slice.ensures ∙ c.in-Ok.ensures.codes) ∙ length-codes c.args.self.now.order (scaled_numbers points)
+    ap length (c.as_slice.ensures ∙ c.in-Ok.ensures.codes) ∙ length-codes c.args.order (scaled_numbers points)
 
 -- the codes of the points
-codes_are : (c : goal.After-differences-3-1) → c.deref.result.now ≡ target_codes (ToSpatial c.args.self.now.order) c.as_slice-points.result.now
+codes_are : (c : goal.After-differences-3-1) → c.deref.result.now ≡ target_codes (ToSpatial c.args.order) c.as_slice-points.result.now
 codes_are c =
     let points = c.as_slice-points.result.now in
     c.deref.ensures.value ∙ c.in-Ok-codes_at_points.ensures ∙ ap (placed_codes points) (c.as_slice.ensures ∙ c.in-Ok.ensures.codes)
@@ -23,13 +23,13 @@ codes_are c =
 pub pack_spatially-packed-requires-clause-as_long : goal.pack_spatially-packed-requires-clause-as_long
 pack_spatially-packed-requires-clause-as_long c =
     let points = c.as_slice-points.result.now in
-    let order = c.args.self.now.order in
+    let order = c.args.order in
     ap length (codes_are c) ∙ length-placed points (difference_codes order (scaled_numbers points)) (length-codes order (scaled_numbers points)) ∙ ap length c.as_slice-points.ensures
 
 pub pack_spatially-packed-requires-clause-told : goal.pack_spatially-packed-requires-clause-told
 pack_spatially-packed-requires-clause-told c =
     let points = c.as_slice-points.result.now in
-    let order = c.args.self.now.order in
+    let order = c.args.order in
     let out = c.are_out.ensures order (scaled_numbers points) c.in-Ok.ensures.told c.in-Ok.ensures.codes in
     let fits : are_differences_out order (management_of points) (scaled_numbers points) ≡ false =
     ap (λ (k : ℕ). are_differences_out order k (scaled_numbers points)) (sym c.management-management.ensures.is) ∙ sym out ∙ c.if-are_out.false in
@@ -38,7 +38,7 @@ pack_spatially-packed-requires-clause-told c =
 pub returns : goal.returns
 returns c =
     let points = c.as_slice-points.result.now in
-    let order = c.args.self.now.order in
+    let order = c.args.order in
     let out = c.are_out.ensures order (scaled_numbers points) c.in-Ok.ensures.told c.in-Ok.ensures.codes in
     let fits : are_differences_out order (management_of points) (scaled_numbers points) ≡ false =
     ap (λ (k : ℕ). are_differences_out order k (scaled_numbers points)) (sym c.management-management.ensures.is) ∙ sym out ∙ c.if-are_out.false in

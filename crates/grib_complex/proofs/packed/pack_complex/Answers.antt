@@ -6,7 +6,7 @@ use Rattle.grib_packing.specs.Misfits.{ToComplex, first_misfit, scaled_numbers}
 use Rattle.grib_packing.specs.Packed.{target_codes}
 use Rattle.grib_packing.specs.Span.{IsTold}
 use Rattle.grib_complex.proofs.CodeByCode.{plain_told, length-placed}
-use Rattle.grib_complex.proofs.packing.ComplexPacking.pack.Goals as goal
+use Rattle.grib_complex.proofs.packed.pack_complex.Goals as goal
 
 pub pack_plainly-requires-clause-as_long : goal.pack_plainly-requires-clause-as_long
 pack_plainly-requires-clause-as_long c =

@@ -5,7 +5,7 @@ use Rattle.grib_packing.specs.Groupings.{digits}
 use Rattle.grib_packing.specs.Misfits.{ToSimple, first_misfit}
 use Rattle.grib_packing.specs.Packed.{HasContents, HasNumbers, IsBitmap, IsSimple, fields, simple_numbers, simple_width}
 use Rattle.grib_simple.proofs.Fitting.{few_numbers, width_few, width_fits}
-use Rattle.grib_simple.proofs.simple.SimplePacking.pack.Goals as goal
+use Rattle.grib_simple.proofs.packed.pack_simply.Goals as goal
 
 pub values_octets-octets-requires-clause-count : goal.values_octets-octets-requires-clause-count
 values_octets-octets-requires-clause-count c =
