@@ -1,34 +1,13 @@
--- How large the numbers get: spans of codes of 32 bits, and costs of up to 33,554,432 codes.
-use Rattle.std.proofs.Common.{◌≡◌, ℕ, suc, ◌+◌, ◌-◌, ◌*◌, ◌^◌, ◌<◌, ◌≤◌, max, List, [], ◌∷◌, length, take, drop, All, refl, subst, arith, eq-eqb}
+-- How large the costs of up to 33,554,432 codes get.
+use Rattle.std.proofs.Common.{◌≡◌, ℕ, suc, ◌-◌, ◌*◌, ◌≤◌, max, List, [], ◌∷◌, length, refl, subst, arith, eq-eqb}
 use Rattle.std.proofs.Math.Nat.{mul-le-mul_left, suc-mul}
-use Rattle.std.proofs.lemmas.List.Elements.{All-take, All-drop}
 use Rattle.grib_io.specs.declared.code.Code.{Code}
 use Rattle.grib_io.specs.declared.code.Code.TheVariants.{Present, Primary, Secondary}
-use Rattle.grib_packing.specs.Groupings.{width_of, cost_of, IsGrouping, present_codes}
+use Rattle.grib_packing.specs.Groupings.{width_of, cost_of, IsGrouping}
 use Rattle.grib_split.specs.declared.choosing.Costs.{Costs}
-use Rattle.grib_split.specs.declared.slot.Slot.{Slot}
-use Rattle.grib_packing.specs.Span.{IsBelow}
 use Rattle.grib_split.specs.Costs.{header_of}
 use Rattle.grib_split.specs.Least.{IsLeast}
-use Rattle.grib_split.specs.Choosing.{Waiting}
 use Rattle.grib_split.proofs.Optimal.{joined}
-use Rattle.grib_packing.proofs.Spans.{small_run, smallest_at_most}
-
--- ---- numbers of runs
-
-pub waiting_ordered : (costs : Costs) (codes : List Code) (at l : ℕ) (slot : Slot) → Waiting costs codes at l slot
-    → slot.span.least ≤ slot.span.greatest
-waiting_ordered costs codes at l slot w =
-    let run = take (l - 1) (drop (at + 1) codes) in
-    omega (arith, w.span.least, w.span.greatest, smallest_at_most (present_codes run))
-
-pub waiting_small : (costs : Costs) (codes : List Code) (at l : ℕ) (slot : Slot) → costs.reserved ≤ 2 → All (IsBelow costs.reserved) codes
-    → Waiting costs codes at l slot → slot.span.greatest + costs.reserved < 2 ^ 32
-waiting_small costs codes at l slot few each w =
-    let k = costs.reserved in
-    let run = take (l - 1) (drop (at + 1) codes) in
-    let here : All (IsBelow k) run = All-take (IsBelow k) (l - 1) (drop (at + 1) codes) (All-drop (IsBelow k) (at + 1) codes each) in
-    omega (arith, w.span.greatest, small_run k run few here)
 
 -- ---- costs
 

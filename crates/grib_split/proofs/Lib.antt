@@ -1,7 +1,12 @@
 pub mod Optimal
 pub mod Following
-pub mod Steps
-pub mod Bounds
-pub mod Choices
 pub mod Followed
 pub mod Heads
+pub mod Lanes
+pub mod Bits
+pub mod Widths
+pub mod Kept
+pub mod Bounds
+pub mod Going
+pub mod Choices
+pub mod Begin

@@ -1,4 +1,3 @@
 pub mod Least
-pub mod Slot
+pub mod Runs
 pub mod Costs
-pub mod Choosing

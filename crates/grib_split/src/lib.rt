@@ -5,7 +5,7 @@ mod choosing;
 mod chosen;
 pub mod laws;
 mod lengths;
-mod slot;
+mod slots;
 #[cfg(test)]
 mod tests;
 

@@ -1,7 +1,11 @@
 //! Groupings that are told by hand: those of a worked message, and of codes that are all the same.
 
+ghost use Rattle.std.specs.Prelude.{◌≡◌, ◌<◌, ◌≤◌, vec_len, All, IfOk};
+ghost use Rattle.grib_packing.specs.Span.{IsBelow};
+
 use super::*;
 use grib_io::Code;
+use std::alloc::{AllocError, Global};
 use std::test::Fail;
 
 #[test]
@@ -33,5 +37,65 @@ fn codes_that_are_the_same_take_the_fewest_groups(rt: HostRuntime) -> Result<(),
     };
     let lengths = chosen_lengths(rt.alloc(), &codes, &costs)?;
     assert_eq!(rt; lengths.as_slice(), [8, 64, 64, 64].as_slice());
+    Ok(())
+}
+
+/// Codes from random bits, of which one less is taken at each `stretch` places: of sixteen codes one is
+/// primary and one secondary missing.
+fn codes_of(alloc: Global, count: u32, stretch: u32) -> Result<Vec<Code>, AllocError>
+    requires { 1 ≤ stretch }
+    ensures long { IfOk result (λ codes. vec_len codes ≡ count) }
+    ensures small { IfOk result (λ codes. All (IsBelow 2) codes.items) }
+{
+    let mut codes = Vec::with_capacity(alloc, count as usize)?;
+    let mut state = 1u32;
+    for place in 0..count {
+        state = state.wrapping_mul(1664525).wrapping_add(1013904223);
+        codes.push(code_from(state, 3 + place / stretch % 29))?;
+    }
+    Ok(codes)
+}
+
+fn code_from(random: u32, shift: u32) -> Code
+    requires { shift < 32 }
+    ensures { IsBelow 2 result }
+{
+    match random >> 28 {
+        0 => Code::Primary,
+        1 => Code::Secondary,
+        _ => Code::Present(u64::from((random >> shift).min(536870911))),
+    }
+}
+
+const COSTS: Costs = Costs {
+    reserved: 2,
+    reference_bits: 4,
+    width_bits: 5,
+};
+
+#[test]
+fn widths_that_change_at_each_place(rt: HostRuntime) -> Result<(), Fail> {
+    // A plain search over all first lengths gives these.
+    let codes = codes_of(rt.alloc(), 70, 1)?;
+    let lengths = chosen_lengths(rt.alloc(), &codes, &COSTS)?;
+    let expected = [
+        1, 1, 1, 1, 2, 1, 1, 2, 1, 1, 1, 1, 1, 1, 1, 2, 1, 3, 6, 1, 1, 1, 1, 1, 1, 1, 1, 1, 1, 1,
+        1, 1, 1, 1, 1, 1, 1, 3, 3, 4, 2, 1, 1, 1, 1, 1, 1, 1, 3, 1,
+    ];
+    assert_eq!(rt; lengths.as_slice(), expected.as_slice());
+    Ok(())
+}
+
+#[test]
+fn seventy_thousand_codes(rt: HostRuntime) -> Result<(), Fail> {
+    // A plain search over all first lengths gives so many groups, and this sum.
+    let codes = codes_of(rt.alloc(), 70000, 100)?;
+    let lengths = chosen_lengths(rt.alloc(), &codes, &COSTS)?;
+    let mut sum = 0u64;
+    for length in &lengths {
+        sum = sum.wrapping_mul(31).wrapping_add(u64::from(*length));
+    }
+    assert_eq!(rt; lengths.len(), 34607);
+    assert_eq!(rt; sum, 3921495306560279766);
     Ok(())
 }

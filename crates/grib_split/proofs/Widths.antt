@@ -1,0 +1,198 @@
+-- Widths of runs, and what is kept of runs, with one code more.
+use Rattle.std.proofs.Common.{◌≡◌, ℕ, ◌+◌, ◌-◌, ◌^◌, ◌<◌, ◌≤◌, ◌⊎◌, inl, inr, min, max, Bool, true, false, cond, List, [], ◌∷◌, length, refl, sym, ap, ap₂, ◌∙◌, arith, eq-eqb, ne_eqb}
+use Rattle.std.specs.List.{list_any}
+use Rattle.grib_io.specs.declared.code.Code.{Code}
+use Rattle.grib_io.specs.declared.code.Code.TheVariants.{Present, Primary, Secondary}
+use Rattle.grib_packing.specs.Groupings.{digits, greatest, smallest, present_codes, is_present, is_primary, is_secondary}
+use Rattle.grib_packing.proofs.Spans.{smallest-more, smallest-one, some_present, none_present, smallest_at_most, width_by, width_of-by}
+use Rattle.grib_packing.proofs.Digits.{digits-most, digits-mono}
+use Rattle.grib_split.specs.Runs.{Tells, Wide}
+
+-- ---- what is kept of a run
+
+with_number : (present : Bool) (low n : ℕ) (numbers : List ℕ) → n ≤ 4294967295
+    → (present ≡ true → 0 < length numbers) → (present ≡ false → length numbers ≡ 0)
+    → low ≡ cond present (smallest numbers) 4294967295 → min low n ≡ smallest (n ∷ numbers)
+with_number true low n numbers small some none is = omega (arith, is, smallest-more n numbers (some refl))
+with_number false low n numbers small some none is = omega (arith, is, smallest-one n numbers (none refl))
+
+pub tells_number : (low high p s n : ℕ) (run : List Code) → n ≤ 4294967295 → Tells low high p s run
+    → Tells (min low n) (max high n) p s (Present n ∷ run)
+tells_number low high p s n run small t = record {
+  least = with_number (list_any is_present run) low n (present_codes run) small (some_present run) (none_present run) t.least;
+  most = omega (arith, t.most);
+  primary = t.primary;
+  secondary = t.secondary;
+}
+
+pub tells_primary : (low high p s : ℕ) (run : List Code) → Tells low high p s run → Tells low high 1 s (Primary ∷ run)
+tells_primary low high p s run t = record { least = t.least; most = t.most; primary = refl; secondary = t.secondary }
+
+pub tells_secondary : (low high p s : ℕ) (run : List Code) → Tells low high p s run → Tells low high p 1 (Secondary ∷ run)
+tells_secondary low high p s run t = record { least = t.least; most = t.most; primary = t.primary; secondary = refl }
+
+-- ---- widths that stay
+
+digits_same : (m n w : ℕ) → m ≤ n → n < 2 ^ 32 → w ≡ digits m → n < 2 ^ w → w ≡ digits n
+digits_same m n w below small is holds = omega (arith, is, digits-mono m n below small, digits-most n w small holds)
+
+same_all : (q r : Bool) (low high low' high' k w : ℕ) → low ≤ high → low' ≤ low → high ≤ high' → high' - low' ≡ 0
+    → w ≡ width_by true q r low high k → w ≡ width_by true q r low' high' k
+same_all q r low high low' high' k w order lower higher none is =
+    let a : low ≡ low' = omega arith in
+    let b : high ≡ high' = omega arith in
+    is ∙ ap₂ (λ x y. width_by true q r x y k) a b
+
+same_wide : (q r : Bool) (low high low' high' k w limit : ℕ) → low ≤ high → low' ≤ low → high ≤ high' → high' + k < 2 ^ 32
+    → high' - low' < limit → limit + k ≤ 2 ^ w → w ≡ width_by true q r low high k → w ≡ width_by true q r low' high' k
+same_wide true r low high low' high' k w limit order lower higher small less room is =
+    digits_same (high - low + k) (high' - low' + k) w (omega arith) (omega arith) is (omega arith)
+same_wide false true low high low' high' k w limit order lower higher small less room is =
+    digits_same (high - low + k) (high' - low' + k) w (omega arith) (omega arith) is (omega arith)
+same_wide false false low high low' high' k w limit order lower higher small less room is = elim (one_or_more (high - low)) [
+  | inl none ↦
+      let same : high ≡ low = omega (arith, none) in
+      let zero_wide : w ≡ 0 = is ∙ rw (eq-eqb high low same) refl in
+      let one : 2 ^ w ≡ 1 = ap (λ n. 2 ^ n) zero_wide in
+      same_all false false low high low' high' k w order lower higher (omega (arith, one)) is
+  | inr some ↦
+      let wide : w ≡ digits (high - low + k) = is ∙ rw (ne_eqb high low (λ e. omega (arith, some, e))) refl in
+      digits_same (high - low + k) (high' - low' + k) w (omega arith) (omega arith) wide (omega arith)
+      ∙ sym (let e : width_by true false false low' high' k ≡ digits (high' - low' + k) = rw (ne_eqb high' low' (λ e. omega (arith, some, e))) refl in e)
+]
+  where
+    one_or_more : (n : ℕ) → (n ≡ 0) ⊎ (1 ≤ n)
+    one_or_more n = grind arith
+
+pub same_width : (q r : Bool) (low high low' high' k w limit : ℕ) → low ≤ high → low' ≤ low → high ≤ high' → high' + k < 2 ^ 32
+    → high' - low' < limit → (limit ≤ 1) ⊎ (limit + k ≤ 2 ^ w) → w ≡ width_by true q r low high k → w ≡ width_by true q r low' high' k
+same_width q r low high low' high' k w limit order lower higher small less (inl few) is =
+    same_all q r low high low' high' k w order lower higher (omega arith) is
+same_width q r low high low' high' k w limit order lower higher small less (inr room) is =
+    same_wide q r low high low' high' k w limit order lower higher small less room is
+
+present_where : (present : Bool) (limit : ℕ) → (present ≡ false → limit ≡ 0) → 0 < limit → present ≡ true
+present_where true limit none some = refl
+present_where false limit none some = absurd (omega (arith, none refl))
+
+pub wide_number : (k bits limit low high p s n : ℕ) (run : List Code) → Tells low high p s run → n + k < 2 ^ 32 → high + k < 2 ^ 32
+    → max high n - min low n < limit → Wide k bits limit run → Wide k bits limit (Present n ∷ run)
+wide_number k bits limit low high p s n run t small below less w =
+    let some : list_any is_present run ≡ true = present_where (list_any is_present run) limit w.none (omega (arith, less)) in
+    let numbers = present_codes run in
+    let low_is : low ≡ smallest numbers = t.least ∙ rw some refl in
+    let more = smallest-more n numbers (some_present run some) in
+    let is : bits ≡ width_by true (list_any is_primary run) (list_any is_secondary run) (smallest numbers) (greatest numbers) k =
+    w.is ∙ (width_of-by k run ∙ ap (λ b. width_by b (list_any is_primary run) (list_any is_secondary run) (smallest numbers) (greatest numbers) k) some) in
+    record {
+      is = same_width (list_any is_primary run) (list_any is_secondary run) (smallest numbers) (greatest numbers) (smallest (n ∷ numbers)) (max n (greatest numbers)) k bits limit
+          (smallest_at_most numbers) (omega (arith, more)) (omega arith) (omega (arith, t.most)) (omega (arith, more, low_is, t.most, less)) w.stays is
+          ∙ sym (width_of-by k (Present n ∷ run));
+      few = w.few;
+      none = λ e. cc;
+      stays = w.stays;
+    }
+
+has_mark : (b : Bool) (mark : ℕ) → mark ≡ cond b 1 0 → 0 < mark → b ≡ true
+has_mark true mark is some = refl
+has_mark false mark is some = absurd (omega (arith, is, some))
+
+pub wide_primary : (k bits limit low high p s : ℕ) (run : List Code) → Tells low high p s run → 0 < p
+    → Wide k bits limit run → Wide k bits limit (Primary ∷ run)
+wide_primary k bits limit low high p s run t some w =
+    let marked : list_any is_primary run ≡ true = has_mark (list_any is_primary run) p t.primary some in
+    let numbers = present_codes run in
+    record {
+      is = w.is ∙ (width_of-by k run
+          ∙ (ap (λ b. width_by (list_any is_present run) b (list_any is_secondary run) (smallest numbers) (greatest numbers) k) marked
+          ∙ sym (width_of-by k (Primary ∷ run))));
+      few = w.few;
+      none = w.none;
+      stays = w.stays;
+    }
+
+pub wide_secondary : (k bits limit low high p s : ℕ) (run : List Code) → Tells low high p s run → 0 < s
+    → Wide k bits limit run → Wide k bits limit (Secondary ∷ run)
+wide_secondary k bits limit low high p s run t some w =
+    let marked : list_any is_secondary run ≡ true = has_mark (list_any is_secondary run) s t.secondary some in
+    let numbers = present_codes run in
+    record {
+      is = w.is ∙ (width_of-by k run
+          ∙ (ap (λ b. width_by (list_any is_present run) (list_any is_primary run) b (smallest numbers) (greatest numbers) k) marked
+          ∙ sym (width_of-by k (Secondary ∷ run))));
+      few = w.few;
+      none = w.none;
+      stays = w.stays;
+    }
+
+-- ---- the width by what is kept
+
+wide_by : (present q r : Bool) (low high p s k bits limit sm gr : ℕ) → low ≡ cond present sm 4294967295 → high ≡ gr → (present ≡ false → gr ≡ 0)
+    → sm ≤ gr → p ≡ cond q 1 0 → s ≡ cond r 1 0 → high < low → bits ≡ min (min p s) 1 → bits ≡ width_by present q r sm gr k
+wide_by true q r low high p s k bits limit sm gr a b none order d e less is = absurd (omega arith)
+wide_by false true true low high p s k bits limit sm gr a b none order d e less is = omega (arith, d, e, is)
+wide_by false true false low high p s k bits limit sm gr a b none order d e less is = omega (arith, d, e, is)
+wide_by false false r low high p s k bits limit sm gr a b none order d e less is = omega (arith, d, is)
+
+one_by : (present q r : Bool) (low high p s k sm gr : ℕ) → low ≡ cond present sm 4294967295 → high ≡ gr → (present ≡ false → gr ≡ 0)
+    → p ≡ cond q 1 0 → s ≡ cond r 1 0 → low ≤ high → max (high - low) (max p s) ≡ 0 → 0 ≡ width_by present q r sm gr k
+one_by true true r low high p s k sm gr a b none d e order is = absurd (omega (arith, d, is))
+one_by true false true low high p s k sm gr a b none d e order is = absurd (omega (arith, e, is))
+one_by true false false low high p s k sm gr a b none d e order is = rw (eq-eqb gr sm (omega (arith, a, b, is, order))) refl
+one_by false q r low high p s k sm gr a b none d e order is = absurd (omega (arith, a, b, none refl, order))
+
+many_by : (present q r : Bool) (low high p s k sm gr : ℕ) → low ≡ cond present sm 4294967295 → high ≡ gr → (present ≡ false → gr ≡ 0)
+    → p ≡ cond q 1 0 → s ≡ cond r 1 0 → low ≤ high → (max (high - low) (max p s) ≡ 0 → ⊥) → digits (high - low + k) ≡ width_by present q r sm gr k
+many_by true true r low high p s k sm gr a b none d e order more = ap₂ (λ x y. digits (x - y + k)) b a
+many_by true false true low high p s k sm gr a b none d e order more = ap₂ (λ x y. digits (x - y + k)) b a
+many_by true false false low high p s k sm gr a b none d e order more =
+    let other : gr ≡ sm → ⊥ = λ same. more (omega (arith, a, b, d, e, same)) in
+    let is : width_by true false false sm gr k ≡ digits (gr - sm + k) = rw (ne_eqb gr sm other) refl in
+    ap₂ (λ x y. digits (x - y + k)) b a ∙ sym is
+many_by false q r low high p s k sm gr a b none d e order more = absurd (omega (arith, a, b, none refl, order))
+
+none_greatest : (run : List Code) → list_any is_present run ≡ false → greatest (present_codes run) ≡ 0
+none_greatest [] e = refl
+none_greatest (Present n ∷ run) e = cc
+none_greatest (Primary ∷ run) e = none_greatest run e
+none_greatest (Secondary ∷ run) e = none_greatest run e
+
+pub wide_marks : (low high p s k bits : ℕ) (run : List Code) → Tells low high p s run → high < low → bits ≡ min (min p s) 1 → bits ≤ 32 → Wide k bits 0 run
+wide_marks low high p s k bits run t less is few = record {
+  is = wide_by (list_any is_present run) (list_any is_primary run) (list_any is_secondary run) low high p s k bits 0 (smallest (present_codes run)) (greatest (present_codes run))
+      t.least t.most (none_greatest run) (smallest_at_most (present_codes run)) t.primary t.secondary less is ∙ sym (width_of-by k run);
+  few = few;
+  none = λ e. refl;
+  stays = inl (omega arith);
+}
+
+with_numbers : (present : Bool) (low high sm gr : ℕ) → low ≡ cond present sm 4294967295 → high ≡ gr → (present ≡ false → gr ≡ 0) → low ≤ high → present ≡ false → ⊥
+with_numbers present low high sm gr a b none order e = let z = none e in let l : low ≡ 4294967295 = a ∙ rw e refl in omega (arith, b, z, l, order)
+
+pub wide_one : (low high p s k : ℕ) (run : List Code) → Tells low high p s run → low ≤ high → max (high - low) (max p s) ≡ 0 → Wide k 0 1 run
+wide_one low high p s k run t order is = record {
+  is = one_by (list_any is_present run) (list_any is_primary run) (list_any is_secondary run) low high p s k (smallest (present_codes run)) (greatest (present_codes run))
+      t.least t.most (none_greatest run) t.primary t.secondary order is ∙ sym (width_of-by k run);
+  few = omega arith;
+  none = λ e. absurd (with_numbers (list_any is_present run) low high (smallest (present_codes run)) (greatest (present_codes run)) t.least t.most (none_greatest run) order e);
+  stays = inl (omega arith);
+}
+
+pub wide_many : (low high p s k bits limit : ℕ) (run : List Code) → Tells low high p s run → low ≤ high → (max (high - low) (max p s) ≡ 0 → ⊥)
+    → bits ≡ digits (high - low + k) → bits ≤ 32 → (limit ≤ 1) ⊎ (limit + k ≤ 2 ^ bits) → Wide k bits limit run
+wide_many low high p s k bits limit run t order more is few stays = record {
+  is = is ∙ (many_by (list_any is_present run) (list_any is_primary run) (list_any is_secondary run) low high p s k (smallest (present_codes run)) (greatest (present_codes run))
+      t.least t.most (none_greatest run) t.primary t.secondary order more ∙ sym (width_of-by k run));
+  few = few;
+  none = λ e. absurd (with_numbers (list_any is_present run) low high (smallest (present_codes run)) (greatest (present_codes run)) t.least t.most (none_greatest run) order e);
+  stays = stays;
+}
+
+pub tells_as : (low high p s low' high' p' s' : ℕ) (run : List Code) → Tells low high p s run
+    → low' ≡ low → high' ≡ high → p' ≡ p → s' ≡ s → Tells low' high' p' s' run
+tells_as low high p s low' high' p' s' run t a b d e = record {
+  least = a ∙ t.least;
+  most = b ∙ t.most;
+  primary = d ∙ t.primary;
+  secondary = e ∙ t.secondary;
+}

@@ -1,0 +1,9 @@
+use Rattle.std.proofs.Common.{◌≡◌, ℕ, ◌+◌, ◌-◌, ◌%◌, ◌<◌, ◌≤◌, arith}
+use Rattle.grib_split.proofs.Lanes.{apart_lane}
+use Rattle.grib_split.proofs.slots.places_apart.Goals as goal
+
+wrapped : (high low : ℕ) → low ≤ high → high < 4294967296 → (high + (4294967296 - low)) % 4294967296 ≡ high - low
+wrapped high low order small = omega arith
+
+pub returns : goal.returns
+returns c place within unset = apart_lane _ c.args.greatest.now c.args.least.now c.args.limit.now place c.told-greatest c.told-least c.told-limit within (wrapped _ _ (c.requires.ordered place within) (c.requires.small place within)) unset

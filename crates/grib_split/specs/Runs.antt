@@ -1,0 +1,90 @@
+-- The runs of codes from a place on, each kept at the place of its end, counted round 64.
+use Rattle.std.specs.Prelude.{◌≡◌, ℕ, ◌+◌, ◌-◌, ◌*◌, ◌^◌, ◌%◌, ◌<◌, ◌≤◌, ◌⊎◌, cond, false, List, length, take, drop, slice_index}
+use Rattle.std.specs.List.{list_any}
+use Rattle.std.specs.Int.{bit_at}
+use Rattle.grib_io.specs.declared.code.Code.{Code}
+use Rattle.grib_packing.specs.Groupings.{width_of, greatest, smallest, present_codes, is_present, is_primary, is_secondary}
+use Rattle.grib_split.specs.declared.slots.Slots.{Slots}
+use Rattle.grib_split.specs.Least.{IsLeast}
+
+-- what is kept of the numbers and the marks of a run
+pub record Tells (low high with_primary with_secondary : ℕ) (run : List Code) : Type 0 where
+  pub least : low ≡ cond (list_any is_present run) (smallest (present_codes run)) 4294967295
+  pub most : high ≡ greatest (present_codes run)
+  pub primary : with_primary ≡ cond (list_any is_primary run) 1 0
+  pub secondary : with_secondary ≡ cond (list_any is_secondary run) 1 0
+
+pub record Told (slots : Slots) (place : ℕ) (run : List Code) : Type 0 where
+  pub tells : Tells (slice_index slots.least place) (slice_index slots.greatest place) (slice_index slots.primary place) (slice_index slots.secondary place) run
+
+-- The width is that of the run. It stays where numbers are added and all differ by less than the limit.
+pub record Wide (reserved bits limit : ℕ) (run : List Code) : Type 0 where
+  pub is : bits ≡ width_of reserved run
+  pub few : bits ≤ 32
+  pub none : list_any is_present run ≡ false → limit ≡ 0
+  pub stays : (limit ≤ 1) ⊎ (limit + reserved ≤ 2 ^ bits)
+
+-- a run of no codes at a place, before codes of this least cost
+pub record Begun (slots : Slots) (place rest : ℕ) : Type 0 where
+  pub least : slice_index slots.least place ≡ 4294967295
+  pub greatest : slice_index slots.greatest place ≡ 0
+  pub primary : slice_index slots.primary place ≡ 0
+  pub secondary : slice_index slots.secondary place ≡ 0
+  pub width : slice_index slots.width place ≡ 0
+  pub limit : slice_index slots.limit place ≡ 0
+  pub cost : slice_index slots.cost place ≡ rest
+  pub after : slice_index slots.after place ≡ rest
+
+-- the width at a place, and the cost of a run of `count` codes there and of the codes after it
+pub record Priced (reserved : ℕ) (slots : Slots) (place count : ℕ) (run : List Code) : Type 0 where
+  pub wide : Wide reserved (slice_index slots.width place) (slice_index slots.limit place) run
+  pub cost : slice_index slots.cost place ≡ count * slice_index slots.width place + slice_index slots.after place
+
+-- the length of the run from `at` on that ends at a place
+abbrev pub length_to : ℕ → ℕ → ℕ
+length_to at place = (place + 63 - at % 64) % 64 + 1
+
+-- the widths are right at the places that are not among these
+abbrev pub PricedBut : ℕ → Slots → ℕ → ℕ → (ℕ → List Code) → Type 0
+PricedBut reserved slots at places run =
+    (place : ℕ) → place < 64 → bit_at places place ≡ 0 → Priced reserved slots place (length_to at place) (run place)
+
+-- the runs from `at` on
+pub record Run (reserved : ℕ) (slots : Slots) (place count : ℕ) (run : List Code) : Type 0 where
+  pub told : Told slots place run
+  pub priced : Priced reserved slots place count run
+
+abbrev pub Runs : ℕ → List Code → ℕ → Slots → Type 0
+Runs reserved codes at slots =
+    (l : ℕ) → 1 ≤ l → l ≤ 64 → Run reserved slots ((at + l) % 64) l (take l (drop at codes))
+
+-- what comes after each of them: the least cost of the codes there, or more than any where the codes are over
+pub record After (header reserved : ℕ) (codes : List Code) (from after : ℕ) : Type 0 where
+  pub some : from ≤ length codes → IsLeast header (width_of reserved) (drop from codes) after
+  pub none : length codes < from → after ≡ 2147483648
+
+-- the runs from the place after `at` on, before the code at `at` is put before each
+abbrev pub Waits : ℕ → List Code → ℕ → Slots → Type 0
+Waits reserved codes at slots =
+    (l : ℕ) → 1 ≤ l → l ≤ 64 → Run reserved slots ((at + l) % 64) (l - 1) (take (l - 1) (drop (at + 1) codes))
+
+-- what comes after the run of each length from `at` on
+abbrev pub after_of : Slots → ℕ → ℕ → ℕ
+after_of slots at l = slice_index slots.after ((at + l) % 64)
+
+abbrev pub Afters : ℕ → ℕ → List Code → ℕ → Slots → Type 0
+Afters header reserved codes at slots =
+    (l : ℕ) → 1 ≤ l → l ≤ 64 → After header reserved codes (at + l) (slice_index slots.after ((at + l) % 64))
+
+-- what of the slots stays the same
+pub record SameNumbers (a b : Slots) : Type 0 where
+  pub least : b.least ≡ a.least
+  pub greatest : b.greatest ≡ a.greatest
+
+pub record SameMarks (a b : Slots) : Type 0 where
+  pub primary : b.primary ≡ a.primary
+  pub secondary : b.secondary ≡ a.secondary
+
+pub record SameWidths (a b : Slots) : Type 0 where
+  pub width : b.width ≡ a.width
+  pub limit : b.limit ≡ a.limit

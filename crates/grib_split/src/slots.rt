@@ -1,0 +1,376 @@
+//! The runs of codes that begin at one place.
+
+ghost use Rattle.std.specs.Prelude.{◌≡◌, ℕ, ◌+◌, ◌-◌, ◌*◌, ◌%◌, ◌^◌, ◌<◌, ◌≤◌, ◌∷◌, ◌≢◌, ◌⊎◌, List, min, max, replicate, slice_index, slice_set};
+ghost use Rattle.std.specs.Int.{bit_at};
+ghost use Rattle.grib_io.specs.declared.code.Code as code_io;
+ghost use Rattle.grib_packing.specs.Span.{IsBelow};
+ghost use Rattle.grib_split.specs.Runs.{Tells, Told, Wide, Begun, Priced, PricedBut, length_to, SameNumbers, SameMarks, SameWidths};
+
+use grib_io::Code;
+use grib_packing::bit_length;
+use std::simd::prelude::*;
+
+/// The runs of 1 to 64 codes from a place on, each kept at the place of its end, counted round 64: all of
+/// them go on by one code at once.
+#[derive(Clone, Copy, Debug)]
+pub(crate) struct Slots {
+    /// The least and the greatest number of each run: 4,294,967,295 and 0 where it has none.
+    least: [u32; 64],
+    greatest: [u32; 64],
+    /// A run keeps its width while its numbers differ by less; 0 where it has none.
+    limit: [u32; 64],
+    /// The width of each run as a group, in bits.
+    width: [u32; 64],
+    /// The least cost of the codes after each run.
+    after: [u32; 64],
+    /// What the numbers of each run and the codes after it cost, without the header of the run.
+    cost: [u32; 64],
+    /// 1 where the run has a primary missing point, and a secondary one, else 0.
+    primary: [u8; 64],
+    secondary: [u8; 64],
+}
+
+/// A width in bits, and the difference of numbers below which it stays.
+#[derive(Clone, Copy, Debug)]
+struct Width {
+    bits: u32,
+    limit: u32,
+}
+
+/// The shortest of the runs that cost least, and this cost.
+#[derive(Clone, Copy, Debug)]
+pub(crate) struct Cheapest {
+    pub length: u32,
+    pub cost: u32,
+}
+
+impl Slots {
+    /// The runs of no codes, behind all codes.
+    pub(crate) fn none() -> Slots
+        ensures least { result.least ≡ replicate 64 4294967295 }
+        ensures greatest { result.greatest ≡ replicate 64 0 }
+        ensures limit { result.limit ≡ replicate 64 0 }
+        ensures width { result.width ≡ replicate 64 0 }
+        ensures after { result.after ≡ replicate 64 2147483648 }
+        ensures cost { result.cost ≡ replicate 64 2147483648 }
+        ensures primary { result.primary ≡ replicate 64 0 }
+        ensures secondary { result.secondary ≡ replicate 64 0 }
+    {
+        Slots {
+            least: [u32::MAX; 64],
+            greatest: [0; 64],
+            limit: [0; 64],
+            width: [0; 64],
+            after: [2147483648; 64],
+            cost: [2147483648; 64],
+            primary: [0; 64],
+            secondary: [0; 64],
+        }
+    }
+
+    /// Puts the run of no codes, before codes of this least cost, at a place.
+    #[inline]
+    pub(crate) fn begin(&mut self, place: usize, cost: u32)
+        requires { place < 64 }
+        ensures here { Begun self.new place cost }
+        ensures least { self.new.least ≡ slice_set self.old.least place 4294967295 }
+        ensures greatest { self.new.greatest ≡ slice_set self.old.greatest place 0 }
+        ensures limit { self.new.limit ≡ slice_set self.old.limit place 0 }
+        ensures width { self.new.width ≡ slice_set self.old.width place 0 }
+        ensures after { self.new.after ≡ slice_set self.old.after place cost }
+        ensures cost { self.new.cost ≡ slice_set self.old.cost place cost }
+        ensures primary { self.new.primary ≡ slice_set self.old.primary place 0 }
+        ensures secondary { self.new.secondary ≡ slice_set self.old.secondary place 0 }
+    {
+        self.least[place] = u32::MAX;
+        self.greatest[place] = 0;
+        self.limit[place] = 0;
+        self.width[place] = 0;
+        self.after[place] = cost;
+        self.cost[place] = cost;
+        self.primary[place] = 0;
+        self.secondary[place] = 0;
+    }
+
+    /// Puts a code before each run, and gives the places where the width may be another one.
+    #[inline]
+    pub(crate) fn take(&mut self, code: Code) -> u64
+        requires { IsBelow 0 code }
+        ensures told { (place : ℕ) (run : List code_io.Code) → place < 64
+            → Told self.old place run → Told self.new place (code ∷ run) }
+        ensures wide { (place k : ℕ) (run : List code_io.Code) → place < 64 → k ≤ 2 → bit_at result place ≡ 0
+            → IsBelow k code → slice_index self.old.greatest place + k < 2 ^ 32 → Told self.old place run
+            → Wide k (slice_index self.old.width place) (slice_index self.old.limit place) run
+            → Wide k (slice_index self.old.width place) (slice_index self.old.limit place) (code ∷ run) }
+        ensures cost { (place : ℕ) → place < 64
+            → slice_index self.old.cost place + slice_index self.old.width place < 2 ^ 32
+            → slice_index self.new.cost place ≡ slice_index self.old.cost place + slice_index self.old.width place }
+        ensures limit { self.new.limit ≡ self.old.limit }
+        ensures width { self.new.width ≡ self.old.width }
+        ensures after { self.new.after ≡ self.old.after }
+    {
+        self.lengthen();
+        match code {
+            Code::Present(number) => self.take_number(number as u32),
+            Code::Primary => self.take_primary(),
+            Code::Secondary => self.take_secondary(),
+        }
+    }
+
+    /// Adds what one code more costs by the width of each run.
+    #[inline]
+    fn lengthen(&mut self)
+        ensures cost { (place : ℕ) → place < 64
+            → slice_index self.old.cost place + slice_index self.old.width place < 2 ^ 32
+            → slice_index self.new.cost place ≡ slice_index self.old.cost place + slice_index self.old.width place }
+        ensures numbers { SameNumbers self.old self.new }
+        ensures marks { SameMarks self.old self.new }
+        ensures widths { SameWidths self.old self.new }
+        ensures after { self.new.after ≡ self.old.after }
+    {
+        self.cost = (u32x64::from_array(self.cost) + u32x64::from_array(self.width)).to_array();
+    }
+
+    #[inline]
+    fn take_number(&mut self, number: u32) -> u64
+        ensures least { (place : ℕ) → place < 64
+            → slice_index self.new.least place ≡ min (slice_index self.old.least place) number }
+        ensures greatest { (place : ℕ) → place < 64
+            → slice_index self.new.greatest place ≡ max (slice_index self.old.greatest place) number }
+        ensures places { (place : ℕ) → place < 64 → bit_at result place ≡ 0
+            → slice_index self.new.greatest place - slice_index self.new.least place < slice_index self.old.limit place }
+        ensures marks { SameMarks self.old self.new }
+        ensures widths { SameWidths self.old self.new }
+        ensures after { self.new.after ≡ self.old.after }
+        ensures cost { self.new.cost ≡ self.old.cost }
+    {
+        self.least = lesser_of(&self.least, number);
+        self.greatest = greater_of(&self.greatest, number);
+        places_apart(&self.least, &self.greatest, &self.limit)
+    }
+
+    #[inline]
+    fn take_primary(&mut self) -> u64
+        ensures places { (place : ℕ) → place < 64 → bit_at result place ≡ 0 → 0 < slice_index self.old.primary place }
+        ensures primary { self.new.primary ≡ replicate 64 1 }
+        ensures secondary { self.new.secondary ≡ self.old.secondary }
+        ensures numbers { SameNumbers self.old self.new }
+        ensures widths { SameWidths self.old self.new }
+        ensures after { self.new.after ≡ self.old.after }
+        ensures cost { self.new.cost ≡ self.old.cost }
+    {
+        let places = places_of_zero(&self.primary);
+        self.primary = [1; 64];
+        places
+    }
+
+    #[inline]
+    fn take_secondary(&mut self) -> u64
+        ensures places { (place : ℕ) → place < 64 → bit_at result place ≡ 0 → 0 < slice_index self.old.secondary place }
+        ensures secondary { self.new.secondary ≡ replicate 64 1 }
+        ensures primary { self.new.primary ≡ self.old.primary }
+        ensures numbers { SameNumbers self.old self.new }
+        ensures widths { SameWidths self.old self.new }
+        ensures after { self.new.after ≡ self.old.after }
+        ensures cost { self.new.cost ≡ self.old.cost }
+    {
+        let places = places_of_zero(&self.secondary);
+        self.secondary = [1; 64];
+        places
+    }
+}
+
+impl Slots {
+    /// Finds the width of the run at each of these places, and its cost.
+    #[inline]
+    pub(crate) fn mend(&mut self, places: u64, at: usize, reserved: u32)
+        requires few { reserved ≤ 2 }
+        requires small { (place : ℕ) → place < 64 → slice_index self.old.greatest place + reserved < 2 ^ 32 }
+        requires after { (place : ℕ) → place < 64 → slice_index self.old.after place ≤ 2147483648 }
+        ensures priced { (run : ℕ → List code_io.Code) → ((place : ℕ) → place < 64 → Told self.old place (run place))
+            → PricedBut reserved self.old at places run → PricedBut reserved self.new at 0 run }
+        ensures numbers { SameNumbers self.old self.new }
+        ensures marks { SameMarks self.old self.new }
+        ensures after { self.new.after ≡ self.old.after }
+    {
+        let mut rest = places;
+        while rest != 0 {
+            let place = rest.trailing_zeros();
+            self.mend_one(place as usize, length_at(at, place as usize), reserved);
+            rest &= !(1 << place);
+        }
+    }
+
+    /// Finds the width of the run of this length at a place, and its cost.
+    #[inline]
+    fn mend_one(&mut self, place: usize, length: u32, reserved: u32)
+        requires place { place < 64 }
+        requires length { length ≤ 64 }
+        requires few { reserved ≤ 2 }
+        requires small { slice_index self.old.greatest place + reserved < 2 ^ 32 }
+        requires after { slice_index self.old.after place ≤ 2147483648 }
+        ensures priced { (run : List code_io.Code) → Told self.old place run → Priced reserved self.new place length run }
+        ensures width { self.new.width ≡ slice_set self.old.width place (slice_index self.new.width place) }
+        ensures limit { self.new.limit ≡ slice_set self.old.limit place (slice_index self.new.limit place) }
+        ensures cost { self.new.cost ≡ slice_set self.old.cost place (slice_index self.new.cost place) }
+        ensures numbers { SameNumbers self.old self.new }
+        ensures marks { SameMarks self.old self.new }
+        ensures after { self.new.after ≡ self.old.after }
+    {
+        let width = width_of(
+            self.least[place],
+            self.greatest[place],
+            self.primary[place],
+            self.secondary[place],
+            reserved,
+        );
+        self.width[place] = width.bits;
+        self.limit[place] = width.limit;
+        self.cost[place] = length * width.bits + self.after[place];
+    }
+
+    /// The shortest of the runs from `at` on that cost least with the codes after them, and this cost.
+    #[inline]
+    pub(crate) fn cheapest(&self, at: usize) -> Cheapest
+        requires { at < 2 ^ 32 }
+        ensures some { 1 ≤ result.length }
+        ensures most { result.length ≤ 64 }
+        ensures cost { slice_index self.now.cost ((at + result.length) % 64) ≡ result.cost }
+        ensures least { (place : ℕ) → place < 64 → result.cost ≤ slice_index self.now.cost place }
+        ensures first { (l : ℕ) → 1 ≤ l → l < result.length → result.cost < slice_index self.now.cost ((at + l) % 64) }
+    {
+        let cost = least_of(&self.cost);
+        let places = places_of(&self.cost, cost);
+        Cheapest {
+            length: first_from(places, (at + 1) % 64) + 1,
+            cost,
+        }
+    }
+}
+
+/// The width of a run by what is kept of it.
+#[inline]
+fn width_of(least: u32, greatest: u32, primary: u8, secondary: u8, reserved: u32) -> Width
+    requires few { reserved ≤ 2 }
+    requires small { greatest + reserved < 2 ^ 32 }
+    ensures few { result.bits ≤ 32 }
+    ensures wide { (run : List code_io.Code) → Tells least greatest primary secondary run
+        → Wide reserved result.bits result.limit run }
+{
+    if greatest < least {
+        let bits = u32::from(primary.min(secondary).min(1));
+        return Width { bits, limit: 0 };
+    }
+    let spread = greatest - least;
+    if spread.max(u32::from(primary.max(secondary))) == 0 {
+        return Width { bits: 0, limit: 1 };
+    }
+    let bits = bit_length(u64::from(spread) + u64::from(reserved));
+    Width {
+        bits,
+        limit: limit_of(bits, reserved),
+    }
+}
+
+/// The difference of numbers below which they take no more bits beside the reserved codes; at most
+/// 4,294,967,295.
+#[inline]
+fn limit_of(bits: u32, reserved: u32) -> u32
+    requires bits { bits ≤ 32 }
+    ensures { (result ≤ 1) ⊎ (result + reserved ≤ 2 ^ bits) }
+{
+    (1u64 << bits)
+        .saturating_sub(u64::from(reserved))
+        .min(4294967295) as u32
+}
+
+/// The length of the run from `at` on that ends at a place.
+#[inline]
+fn length_at(at: usize, place: usize) -> u32
+    requires { place < 64 }
+    ensures is { result ≡ length_to at place }
+    ensures most { result ≤ 64 }
+{
+    ((place + 63 - at % 64) % 64 + 1) as u32
+}
+
+/// The least of 64 costs.
+#[inline]
+fn least_of(costs: &[u32; 64]) -> u32
+    ensures least { (place : ℕ) → place < 64 → result ≤ slice_index costs.now place }
+    ensures one { (place : ℕ) × (place < 64) × (slice_index costs.now place ≡ result) }
+{
+    let mut least = costs[0];
+    for place in 1..64 {
+        least = least.min(costs[place]);
+    }
+    least
+}
+
+/// The places of a cost.
+#[inline]
+fn places_of(costs: &[u32; 64], cost: u32) -> u64
+    ensures in_places { (place : ℕ) → place < 64 → bit_at result place ≡ 1 → slice_index costs.now place ≡ cost }
+    ensures not_in { (place : ℕ) → place < 64 → bit_at result place ≡ 0 → slice_index costs.now place ≢ cost }
+{
+    u32x64::from_array(*costs)
+        .simd_eq(u32x64::splat(cost))
+        .to_bitmask()
+}
+
+/// How far the first of some places is from `start` on, counted round 64.
+#[inline]
+fn first_from(places: u64, start: usize) -> u32
+    requires start { start < 64 }
+    requires some { 0 < places }
+    ensures within { result < 64 }
+    ensures is { bit_at places ((start + result) % 64) ≡ 1 }
+    ensures first { (n : ℕ) → n < result → bit_at places ((start + n) % 64) ≡ 0 }
+{
+    let later = places >> start;
+    if later != 0 {
+        later.trailing_zeros()
+    } else {
+        64 - start as u32 + places.trailing_zeros()
+    }
+}
+
+/// The lesser of each of 64 numbers and one.
+#[inline]
+fn lesser_of(numbers: &[u32; 64], number: u32) -> [u32; 64]
+    ensures { (place : ℕ) → place < 64 → slice_index result place ≡ min (slice_index numbers.now place) number }
+{
+    let lanes = u32x64::from_array(*numbers).simd_min(u32x64::splat(number));
+    lanes.to_array()
+}
+
+/// The greater of each of 64 numbers and one.
+#[inline]
+fn greater_of(numbers: &[u32; 64], number: u32) -> [u32; 64]
+    ensures { (place : ℕ) → place < 64 → slice_index result place ≡ max (slice_index numbers.now place) number }
+{
+    let lanes = u32x64::from_array(*numbers).simd_max(u32x64::splat(number));
+    lanes.to_array()
+}
+
+/// The places where the greatest number is not above the least one by less than the limit.
+#[inline]
+fn places_apart(least: &[u32; 64], greatest: &[u32; 64], limit: &[u32; 64]) -> u64
+    requires ordered { (place : ℕ) → place < 64 → slice_index least.now place ≤ slice_index greatest.now place }
+    requires small { (place : ℕ) → place < 64 → slice_index greatest.now place < 2 ^ 32 }
+    ensures { (place : ℕ) → place < 64 → bit_at result place ≡ 0
+        → slice_index greatest.now place - slice_index least.now place < slice_index limit.now place }
+{
+    let spread = u32x64::from_array(*greatest) - u32x64::from_array(*least);
+    !spread.simd_lt(u32x64::from_array(*limit)).to_bitmask()
+}
+
+/// The places of zero.
+#[inline]
+fn places_of_zero(marks: &[u8; 64]) -> u64
+    ensures { (place : ℕ) → place < 64 → bit_at result place ≡ 0 → 0 < slice_index marks.now place }
+{
+    u8x64::from_array(*marks)
+        .simd_eq(u8x64::splat(0))
+        .to_bitmask()
+}
