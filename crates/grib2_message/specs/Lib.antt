@@ -2,5 +2,8 @@ pub mod View
 pub mod Acceptance
 pub mod Grammar
 pub mod Fields
+pub mod Message
+pub mod ReadFaults
+pub mod Kept
 pub use Rattle.grib2_grids.specs.Grid
 pub use Rattle.grib2_products.specs.Product

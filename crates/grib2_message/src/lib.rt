@@ -1,4 +1,17 @@
 //! Messages of edition 2: acceptance, fields, columns.
 #![tactic(auto)]
 
+mod checking;
+mod columns;
+mod fault;
 pub mod laws;
+mod message;
+mod passing;
+mod places;
+mod reading;
+#[cfg(test)]
+mod tests;
+
+pub use fault::ReadFault;
+pub use message::Message;
+pub use reading::read_message;

@@ -1,0 +1,92 @@
+-- What is kept after one more section.
+use Rattle.std.proofs.Common.{◌≡◌, ◌≢◌, ℕ, ◌+◌, ◌<◌, ◌≤◌, Option, Some, None, List, ◌∷◌, length, get_or, set, inl, inr, sym, ap, ◌∙◌, arith, subst}
+use Rattle.std.specs.Option.{option_map_or}
+use Rattle.std.proofs.lemmas.Bool.{cases_eq}
+use Rattle.std.proofs.lemmas.List.{length-set, get_or-set_same, get_or-set_other}
+use Rattle.grib_io.specs.Rows.{first_fault}
+use Rattle.grib2_sections.specs.Frame.{Placed, placed_at, section_at, section_number}
+use Rattle.grib_bitmap.specs.Mask.{bitmap_indicator, bitmap_rows, own_mask}
+use Rattle.grib_packing.specs.Packing.{value_count}
+use Rattle.grib2_message.specs.View.{last_number, octets_in_force, points_in_force, earlier_mask}
+use Rattle.grib2_message.specs.Acceptance.{section_fault}
+use Rattle.grib2_message.specs.Kept.{StandsAt, ArePlaced, start_in_force, KeepsBitmap, HasPlaces, Comes}
+use Rattle.grib2_message.specs.declared.places.Bitmap.{Bitmap}
+use Rattle.grib2_message.specs.declared.places.Places.{Places}
+use Rattle.grib2_message.proofs.InForce.{in_force_same, in_force_other}
+use Rattle.grib2_message.proofs.Order.{Follows, follows_tells, in_range, one_below}
+use Rattle.grib2_message.proofs.Sound.{none_located, fault_of, earlier_own, earlier_kept, earlier_not_own, sound_after}
+use Rattle.grib2_message.proofs.Bitmaps.{rows_alone}
+
+module _ (m : List ℕ) (before : List Placed) (number start : ℕ) (s : List ℕ) (comes : Comes m before number start s) where
+  -- the order, by the number in the section
+  pub comes_follows : Follows (last_number before) (section_number s)
+  comes_follows = subst (λ (n : ℕ). Follows (last_number before) n) (sym comes.itself.number_stands) (follows_tells (last_number before) number comes.follows)
+
+  pub comes_in_range : (1 ≤ number) × (number ≤ 7)
+  comes_in_range = in_range (last_number before) number (follows_tells (last_number before) number comes.follows)
+
+  pub comes_below : 5 ≤ number → last_number before + 1 ≡ number
+  comes_below high = sym (one_below (last_number before) number (follows_tells (last_number before) number comes.follows) high)
+
+  pub comes_placed : ArePlaced m before → ArePlaced m (placed_at start s ∷ before)
+  comes_placed placed = (subst (λ (n : ℕ). StandsAt m start n) (sym comes.itself.number_stands) comes.stands, comes.octets_are, placed)
+
+  -- the starts with this one in its place
+  pub starts_after : (starts : List ℕ) → length starts ≡ 8 → ((k : ℕ) → k < 8 → get_or starts k 0 ≡ start_in_force k before)
+      → (k : ℕ) → k < 8 → get_or (set starts number start) k 0 ≡ start_in_force k (placed_at start s ∷ before)
+  starts_after starts eight each k low = elim (cases_eq number k) [
+    | inl same ↦
+        let within : number < length starts = (let r = comes_in_range in omega arith) in
+        let here : section_number s ≡ k = comes.itself.number_stands ∙ same in
+        ap (λ (i : ℕ). get_or (set starts number start) i 0) (sym same)
+        ∙ get_or-set_same starts number start 0 within
+        ∙ sym (ap (λ (o : Option Placed). option_map_or (λ t. t.start) o 0) (in_force_same (placed_at start s) before k here))
+    | inr other ↦
+        let away : k ≢ number = λ e. other (sym e) in
+        let elsewhere : section_number s ≢ k = λ e. other (sym comes.itself.number_stands ∙ e) in
+        get_or-set_other starts number k start 0 away
+        ∙ each k low
+        ∙ sym (ap (λ (o : Option Placed). option_map_or (λ t. t.start) o 0) (in_force_other (placed_at start s) before k elsewhere))
+  ]
+
+  pub places_after : (places after : Places) → HasPlaces m before places → section_fault before (placed_at start s) ≡ None
+      → after.starts ≡ set places.starts number start → KeepsBitmap m after.bitmap (earlier_mask (placed_at start s ∷ before))
+      → HasPlaces m (placed_at start s ∷ before) after
+  places_after places after h accepted is bitmap = record {
+    eight = ap length is ∙ length-set places.starts number start ∙ h.eight;
+    starts = λ k low. ap (λ (xs : List ℕ). get_or xs k 0) is ∙ starts_after places.starts h.eight h.starts k low;
+    placed = comes_placed h.placed;
+    bitmap = bitmap;
+    sound = sound_after (placed_at start s) before h.sound comes_follows accepted;
+  }
+
+  -- ---- the earlier bitmap
+
+  pub bitmap_kept : (places : Places) → HasPlaces m before places → number ≢ 6 → KeepsBitmap m places.bitmap (earlier_mask (placed_at start s ∷ before))
+  bitmap_kept places h other =
+      subst (λ (mask : Option _). KeepsBitmap m places.bitmap mask)
+      (sym (earlier_kept (placed_at start s) before (λ e. other (sym comes.itself.number_stands ∙ e)))) h.bitmap
+
+  pub bitmap_not_own : (places : Places) → HasPlaces m before places → number ≡ 6 → bitmap_indicator s ≢ 0
+      → KeepsBitmap m places.bitmap (earlier_mask (placed_at start s ∷ before))
+  bitmap_not_own places h six other =
+      subst (λ (mask : Option _). KeepsBitmap m places.bitmap mask)
+      (sym (earlier_not_own (placed_at start s) before (comes.itself.number_stands ∙ six) other)) h.bitmap
+
+  pub bitmap_own : (bitmap : Bitmap) → section_fault before (placed_at start s) ≡ None → number ≡ 6 → bitmap_indicator s ≡ 0
+      → bitmap.start ≡ start → bitmap.points ≡ points_in_force before → bitmap.present ≡ value_count (octets_in_force 5 before)
+      → KeepsBitmap m (Some bitmap) (earlier_mask (placed_at start s ∷ before))
+  bitmap_own bitmap accepted six own is_start is_points is_present =
+      let here : section_number s ≡ 6 = comes.itself.number_stands ∙ six in
+      let none = none_located start (first_fault (bitmap_rows s (points_in_force before) (value_count (octets_in_force 5 before)) (earlier_mask before))) (sym (fault_of before (placed_at start s) 6 here) ∙ accepted) in
+      let section : section_at m bitmap.start ≡ s = ap (section_at m) is_start ∙ sym comes.octets_are in
+      let not_254 : bitmap_indicator s ≢ 254 = λ e. absurd (omega arith) in
+      subst (λ (mask : Option _). KeepsBitmap m (Some bitmap) mask)
+      (sym (earlier_own (placed_at start s) before here own))
+      (record {
+        stands = subst (λ (x : ℕ). StandsAt m x 6) (sym is_start) (subst (λ (n : ℕ). StandsAt m start n) six comes.stands);
+        own = ap bitmap_indicator section ∙ own;
+        rows = (λ i. first_fault (bitmap_rows (section i) (is_points i) (is_present i) None))
+            ∙ rows_alone s (points_in_force before) (value_count (octets_in_force 5 before)) not_254 None (earlier_mask before) ∙ none;
+        bits = λ i. own_mask (sym section i) (sym is_points i);
+      })

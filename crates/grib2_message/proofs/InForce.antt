@@ -1,0 +1,110 @@
+-- Which sections are in force, and where they begin.
+use Rattle.std.proofs.Common.{◌≡◌, ◌≢◌, ℕ, ◌+◌, ◌-◌, ◌<◌, ◌≤◌, Bool, true, false, cond, ◌⊎◌, Option, Some, None, IsSome, List, [], ◌∷◌, get_or, eqb, inl, inr, refl, sym, ap, ◌∙◌, arith, subst, eq-eqb, ne_eqb, eqb-true, take, drop}
+use Rattle.std.specs.Option.{option_map_or}
+use Rattle.grib_bits.specs.Octets.{octets, StatesItself}
+use Rattle.grib2_sections.specs.Frame.{Placed, placed_at, section_at, section_number}
+use Rattle.grib2_sections.proofs.Frames.{states_itself}
+use Rattle.grib2_message.specs.View.{section_in_force, octets_in_force}
+use Rattle.grib2_message.specs.Kept.{StandsAt, ArePlaced, HasPlaces}
+use Rattle.grib2_message.specs.declared.places.Places.{Places}
+
+-- a section that stands at its place states its own length and number
+pub stands_itself : (m : List ℕ) (start number : ℕ) → StandsAt m start number → StatesItself number (section_at m start)
+stands_itself m start number h =
+    let l = octets m start (start + 3) in
+    let long : l ≡ (start - 1 + l) + 1 - start = omega (arith, h.low) in
+    subst (λ (k : ℕ). StatesItself number (take k (drop (start - 1) m))) long
+    (states_itself m start l number h.low refl h.numbered h.least h.whole)
+
+-- what is found first, or behind the first
+found_first : (b : Bool) (s t : Placed) (rest : Option Placed) → cond b (Some s) rest ≡ Some t
+    → ((b ≡ true) × (s ≡ t)) ⊎ ((b ≡ false) × (rest ≡ Some t))
+found_first true s t rest e = inl (refl, cc)
+found_first false s t rest e = inr (refl, e)
+
+-- a section in force that stands where it is said to
+pub record Found (m : List ℕ) (number : ℕ) (t : Placed) : Type 0 where
+  pub stands : StandsAt m t.start number
+  pub octets_are : t.octets ≡ section_at m t.start
+  pub numbered : section_number t.octets ≡ number
+
+pub found : (m : List ℕ) (number : ℕ) (before : List Placed) (t : Placed) → ArePlaced m before → section_in_force number before ≡ Some t → Found m number t
+found m number [] t placed e = cc
+found m number (s ∷ before) t placed e =
+    elim (found_first (eqb (section_number s.octets) number) s t (section_in_force number before) e) [
+      | inl here ↦
+          let numbered : section_number s.octets ≡ number = eqb-true (section_number s.octets) number here.0 in
+          subst (λ (x : Placed). Found m number x) here.1
+          (record { stands = subst (λ (n : ℕ). StandsAt m s.start n) numbered placed.0; octets_are = placed.1; numbered = numbered })
+      | inr behind ↦ found m number before t placed.2 behind.1
+    ]
+
+-- by the octet at which it begins
+found_by_start : (m : List ℕ) (number start : ℕ) (o : Option Placed) → ((t : Placed) → o ≡ Some t → Found m number t)
+    → start ≡ option_map_or (λ s. s.start) o 0 → 1 ≤ start
+    → section_at m start ≡ option_map_or (λ s. s.octets) o []
+found_by_start m number start None each is low = absurd (omega arith)
+found_by_start m number start (Some t) each is low = ap (section_at m) is ∙ sym (each t refl).octets_are
+
+pub in_force_octets : (m : List ℕ) (before : List Placed) (places : Places) (number : ℕ) → HasPlaces m before places → number < 8
+    → 1 ≤ get_or places.starts number 0 → section_at m (get_or places.starts number 0) ≡ octets_in_force number before
+in_force_octets m before places number h low some =
+    found_by_start m number (get_or places.starts number 0) (section_in_force number before)
+    (λ t e. found m number before t h.placed e) (h.starts number low) some
+
+stands_by_start : (m : List ℕ) (number : ℕ) (o : Option Placed) → ((t : Placed) → o ≡ Some t → Found m number t) → IsSome o
+    → StandsAt m (option_map_or (λ s. s.start) o 0) number
+stands_by_start m number None each some = cc
+stands_by_start m number (Some t) each some = (each t refl).stands
+
+-- a section in force stands where its place is kept
+pub in_force_stands : (m : List ℕ) (before : List Placed) (places : Places) (number : ℕ) → HasPlaces m before places → number < 8
+    → IsSome (section_in_force number before) → StandsAt m (get_or places.starts number 0) number
+in_force_stands m before places number h low some =
+    subst (λ (start : ℕ). StandsAt m start number) (sym (h.starts number low))
+    (stands_by_start m number (section_in_force number before) (λ t e. found m number before t h.placed e) some)
+
+-- where the place is kept, a section is in force
+some_by_start : (start : ℕ) (o : Option Placed) → start ≡ option_map_or (λ s. s.start) o 0 → 1 ≤ start → IsSome o
+some_by_start start None is low = absurd (omega arith)
+some_by_start start (Some t) is low = refl
+
+pub kept_in_force : (m : List ℕ) (before : List Placed) (places : Places) (number : ℕ) → HasPlaces m before places → number < 8
+    → 1 ≤ get_or places.starts number 0 → IsSome (section_in_force number before)
+kept_in_force m before places number h low some = some_by_start (get_or places.starts number 0) (section_in_force number before) (h.starts number low) some
+
+-- and where none is kept, none is
+none_by_start : (m : List ℕ) (number : ℕ) (o : Option Placed) → ((t : Placed) → o ≡ Some t → Found m number t)
+    → option_map_or (λ s. s.start) o 0 ≡ 0 → o ≡ None
+none_by_start m number None each none = refl
+none_by_start m number (Some t) each none = absurd (omega (arith, (each t refl).stands.low))
+
+pub none_in_force : (m : List ℕ) (before : List Placed) (places : Places) (number : ℕ) → HasPlaces m before places → number < 8
+    → get_or places.starts number 0 ≡ 0 → section_in_force number before ≡ None
+none_in_force m before places number h low none =
+    none_by_start m number (section_in_force number before) (λ t e. found m number before t h.placed e) (sym (h.starts number low) ∙ none)
+
+-- ---- after one more section
+
+pub in_force_same : (s : Placed) (before : List Placed) (k : ℕ) → section_number s.octets ≡ k → section_in_force k (s ∷ before) ≡ Some s
+in_force_same s before k e = ap (λ (b : Bool). cond b (Some s) (section_in_force k before)) (eq-eqb (section_number s.octets) k e)
+
+pub in_force_other : (s : Placed) (before : List Placed) (k : ℕ) → section_number s.octets ≢ k → section_in_force k (s ∷ before) ≡ section_in_force k before
+in_force_other s before k ne = ap (λ (b : Bool). cond b (Some s) (section_in_force k before)) (ne_eqb (section_number s.octets) k ne)
+
+pub octets_same : (s : Placed) (before : List Placed) (k : ℕ) → section_number s.octets ≡ k → octets_in_force k (s ∷ before) ≡ s.octets
+octets_same s before k e = ap (λ (o : Option Placed). option_map_or (λ t. t.octets) o []) (in_force_same s before k e)
+
+pub octets_other : (s : Placed) (before : List Placed) (k : ℕ) → section_number s.octets ≢ k → octets_in_force k (s ∷ before) ≡ octets_in_force k before
+octets_other s before k ne = ap (λ (o : Option Placed). option_map_or (λ t. t.octets) o []) (in_force_other s before k ne)
+
+-- the section in force by its start and its octets
+placed_by_start : (start : ℕ) (o : Option Placed) → start ≡ option_map_or (λ s. s.start) o 0 → 1 ≤ start
+    → o ≡ Some (placed_at start (option_map_or (λ s. s.octets) o []))
+placed_by_start start None is low = absurd (omega arith)
+placed_by_start start (Some t) is low = ap (λ (x : ℕ). Some (placed_at x t.octets)) (sym is)
+
+pub in_force_placed : (m : List ℕ) (before : List Placed) (places : Places) (number : ℕ) → HasPlaces m before places → number < 8
+    → 1 ≤ get_or places.starts number 0
+    → section_in_force number before ≡ Some (placed_at (get_or places.starts number 0) (octets_in_force number before))
+in_force_placed m before places number h low some = placed_by_start (get_or places.starts number 0) (section_in_force number before) (h.starts number low) some

@@ -1,0 +1,131 @@
+-- The mask of a field, by its Section 6 or an earlier one.
+use Rattle.std.proofs.Common.{◌≡◌, ◌≢◌, ℕ, ◌+◌, ◌*◌, ◌<◌, ◌≤◌, Bool, true, false, not, cond, Option, Some, None, List, [], length, drop, replicate, nat_lt, ◌==◌, is_none, unwrap_or, inl, inr, refl, sym, ap, ◌∙◌, arith, subst, eq-eqb, eqb-true, ltb-false, lt-ltb, length-drop, length-take-le}
+use Rattle.std.proofs.lemmas.Bool.{not-false, cases_eq, or_parts, eqb-false}
+use Rattle.std.proofs.lemmas.List.{length-replicate}
+use Rattle.grib_bits.specs.Bits.{bits}
+use Rattle.grib_bits.proofs.OctetBits.{length-bits}
+use Rattle.grib_io.specs.Rows.{first_fault}
+use Rattle.grib2_grids.specs.Grid.{grid_rows, grid_points}
+use Rattle.grib_bitmap.specs.Mask.{bitmap_indicator, bitmap_rows, mask_of, own_mask, present_count}
+use Rattle.grib_packing.specs.Packing.{value_count}
+use Rattle.grib2_sections.specs.Frame.{Placed, section_at}
+use Rattle.grib2_message.specs.View.{octets_in_force, points_in_force, earlier_mask, mask_in_force}
+use Rattle.grib2_message.specs.Kept.{IsBitmap, KeepsBitmap, IsField}
+use Rattle.grib2_message.specs.declared.places.Bitmap.{Bitmap}
+use Rattle.grib2_message.specs.declared.places.Places.{Places}
+use Rattle.grib2_message.proofs.Passed.{passes_from_none}
+use Rattle.grib2_message.proofs.Walk.{second_fails}
+use Rattle.grib2_message.proofs.Bitmaps.{mask_alone, rows_alone, mask_from_own}
+
+-- what the code asks of a mask
+pub record IsFieldMask (before : List Placed) (mask : List Bool) : Type 0 where
+  pub is : mask ≡ mask_in_force before
+  pub long : length mask ≡ points_in_force before
+  pub values : present_count mask ≡ value_count (octets_in_force 5 before)
+
+-- ---- a Section 6 that asks for no earlier bitmap
+
+long_own : (s : List ℕ) (points : ℕ) → points + 48 ≤ 8 * length s → length (own_mask s points) ≡ points
+long_own s points room =
+    let long : length (bits (drop 6 s)) ≡ 8 * length (drop 6 s) = length-bits (drop 6 s) in
+    length-take-le points (bits (drop 6 s)) (omega (arith, long, length-drop 6 s))
+
+long_alone : (s : List ℕ) (points values : ℕ) (earlier : Option (List Bool)) → bitmap_indicator s < 256 → bitmap_indicator s ≢ 254 → first_fault (bitmap_rows s points values earlier) ≡ None
+    → length (mask_of s points earlier) ≡ points
+long_alone s points values earlier small other none =
+    let p = passes_from_none (bitmap_rows s points values earlier) none in
+    let i = bitmap_indicator s in
+    elim (cases_eq i 0) [
+      | inl own ↦
+          let size : nat_lt (8 * length s) (points + 48) ≡ false = second_fails (i == 0) (nat_lt (8 * length s) (points + 48)) p.1.1.1.0 (eq-eqb i 0 own) in
+          ap length (mask_from_own s points own earlier) ∙ long_own s points (ltb-false (8 * length s) (points + 48) size)
+      | inr some ↦
+          let high : 254 ≤ i = ltb-false i 254 (second_fails (nat_lt 0 i) (nat_lt i 254) p.1.0 (lt-ltb 0 i (omega arith))) in
+          let all : i ≡ 255 = omega arith in
+          ap (λ (b : Bool). length (cond b (replicate points true) (cond (i == 254) (unwrap_or earlier []) (own_mask s points)))) (eq-eqb i 255 all)
+          ∙ length-replicate points true
+    ]
+
+present_of : (s : List ℕ) (points values : ℕ) (earlier : Option (List Bool)) → first_fault (bitmap_rows s points values earlier) ≡ None
+    → present_count (mask_of s points earlier) ≡ values
+present_of s points values earlier none =
+    let p = passes_from_none (bitmap_rows s points values earlier) none in
+    eqb-true (present_count (mask_of s points earlier)) values (not-false (present_count (mask_of s points earlier) == values) p.1.1.1.1.1.0)
+
+module _ (m : List ℕ) (before : List Placed) (places : Places) (h : IsField m before places) where
+  rows : first_fault (bitmap_rows (octets_in_force 6 before) (points_in_force before) (value_count (octets_in_force 5 before)) (earlier_mask before)) ≡ None
+  rows = h.stand.sound.bitmap (omega (arith, h.ends))
+
+  mask : mask_in_force before ≡ mask_of (octets_in_force 6 before) (points_in_force before) (earlier_mask before)
+  mask = h.stand.sound.mask (omega (arith, h.ends))
+
+  present : present_count (mask_in_force before) ≡ value_count (octets_in_force 5 before)
+  present = ap present_count mask ∙ present_of (octets_in_force 6 before) (points_in_force before) (value_count (octets_in_force 5 before)) (earlier_mask before) rows
+
+  is_field_mask : (found : List Bool) → found ≡ mask_in_force before → length (mask_in_force before) ≡ points_in_force before → IsFieldMask before found
+  is_field_mask found is long = record { is = is; long = ap length is ∙ long; values = ap present_count is ∙ present }
+
+  pub rows_without : bitmap_indicator (octets_in_force 6 before) ≢ 254
+      → first_fault (bitmap_rows (octets_in_force 6 before) (points_in_force before) (value_count (octets_in_force 5 before)) None) ≡ None
+  rows_without other =
+      rows_alone (octets_in_force 6 before) (points_in_force before) (value_count (octets_in_force 5 before)) other None (earlier_mask before) ∙ rows
+
+  pub mask_without : (found : List Bool) → bitmap_indicator (octets_in_force 6 before) < 256 → bitmap_indicator (octets_in_force 6 before) ≢ 254
+      → found ≡ mask_of (octets_in_force 6 before) (points_in_force before) None → IsFieldMask before found
+  mask_without found small other is =
+      is_field_mask found
+      (is ∙ mask_alone (octets_in_force 6 before) (points_in_force before) 0 other None (earlier_mask before) ∙ sym mask)
+      (ap length mask ∙ long_alone (octets_in_force 6 before) (points_in_force before) (value_count (octets_in_force 5 before)) (earlier_mask before) small other rows)
+
+  -- ---- one that does
+
+  earlier_there : bitmap_indicator (octets_in_force 6 before) ≡ 254 → earlier_mask before ≢ None
+  earlier_there repeats none =
+      let p = passes_from_none (bitmap_rows (octets_in_force 6 before) (points_in_force before) (value_count (octets_in_force 5 before)) (earlier_mask before)) rows in
+      let off : is_none (earlier_mask before) ≡ false = second_fails (bitmap_indicator (octets_in_force 6 before) == 254) (is_none (earlier_mask before)) p.1.1.0 (eq-eqb _ 254 repeats) in
+      let on : is_none (earlier_mask before) ≡ true = ap is_none none in
+      absurd (cc)
+
+  pub bitmap_there : bitmap_indicator (octets_in_force 6 before) ≡ 254 → places.bitmap ≡ None → ⊥
+  bitmap_there repeats none =
+      earlier_there repeats (none_kept (earlier_mask before) (subst (λ (b : Option Bitmap). KeepsBitmap m b (earlier_mask before)) none h.stand.bitmap))
+    where
+      none_kept : (e : Option (List Bool)) → KeepsBitmap m None e → e ≡ None
+      none_kept None k = refl
+      none_kept (Some x) k = absurd k
+
+  -- the mask that is kept
+  pub record Repeated (bitmap : Bitmap) : Type 0 where
+    pub kept : List Bool
+    pub is : earlier_mask before ≡ Some kept
+    pub bits : IsBitmap m bitmap kept
+
+  pub repeated : (bitmap : Bitmap) → places.bitmap ≡ Some bitmap → Repeated bitmap
+  repeated bitmap some = go (earlier_mask before) refl (subst (λ (b : Option Bitmap). KeepsBitmap m b (earlier_mask before)) some h.stand.bitmap) where
+    go : (e : Option (List Bool)) → earlier_mask before ≡ e → KeepsBitmap m (Some bitmap) e → Repeated bitmap
+    go None is k = absurd k
+    go (Some kept) is k = record { kept = kept; is = is; bits = k }
+
+  pub mask_repeated : (bitmap : Bitmap) (found : List Bool) → bitmap_indicator (octets_in_force 6 before) ≡ 254 → Repeated bitmap
+      → found ≡ mask_of (section_at m bitmap.start) bitmap.points None → IsFieldMask before found
+  mask_repeated bitmap found repeats r is =
+      let s = octets_in_force 6 before in
+      let points = points_in_force before in
+      let p = passes_from_none (bitmap_rows s points (value_count (octets_in_force 5 before)) (earlier_mask before)) rows in
+      let force : mask_in_force before ≡ unwrap_or (earlier_mask before) [] =
+      mask ∙ ap (λ (i : ℕ). cond (i == 255) (replicate points true) (cond (i == 254) (unwrap_or (earlier_mask before) []) (own_mask s points))) repeats in
+      let same : mask_in_force before ≡ r.kept = force ∙ ap (λ (e : Option (List Bool)). unwrap_or e []) r.is in
+      let size : length (unwrap_or (earlier_mask before) []) ≡ points =
+      eqb-true _ points (not-false (length (unwrap_or (earlier_mask before) []) == points)
+      (second_fails (bitmap_indicator s == 254) (not (length (unwrap_or (earlier_mask before) []) == points)) p.1.1.1.1.0 (eq-eqb _ 254 repeats))) in
+      is_field_mask found
+      (is ∙ mask_from_own (section_at m bitmap.start) bitmap.points r.bits.own None ∙ sym r.bits.bits ∙ sym same)
+      (ap length force ∙ size)
+
+-- the number of points of a grid that is accepted
+pub points_bounds : (s : List ℕ) → first_fault (grid_rows s) ≡ None → (1 ≤ grid_points s) × (grid_points s ≤ 33554432)
+points_bounds s none =
+    let p = passes_from_none (grid_rows s) none in
+    let both = or_parts (grid_points s == 0) (nat_lt 33554432 (grid_points s)) p.1.1.1.1.0 in
+    let some : grid_points s ≢ 0 = eqb-false (grid_points s) 0 both.0 in
+    (omega arith, ltb-false 33554432 (grid_points s) both.1)

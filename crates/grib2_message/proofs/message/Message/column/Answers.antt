@@ -1,0 +1,18 @@
+use Rattle.std.proofs.Common.{◌≡◌, ℕ, ◌≤◌, List, IfOk, sym, subst}
+use Rattle.grib2_message.specs.Fields.{field_sections, field_count, column_of}
+use Rattle.grib2_message.proofs.Shorter.{field_kept}
+use Rattle.grib2_message.proofs.message.Message.column.Goals as goal
+
+pub column_at-requires : goal.column_at-requires
+column_at-requires c =
+    let m = c.self.inside.octets.now in
+    let last = subst (λ (x : List ℕ). c.args.field ≤ field_count x) (sym c.self.view_is) c.requires.last in
+    (field_sections m c.args.field, field_kept m c.self.inside.fields.items c.self.invariant c.args.field c.requires.first last _ c.index-places.ensures)
+
+pub returns : goal.returns
+returns c =
+    let m = c.self.inside.octets.now in
+    let last = subst (λ (x : List ℕ). c.args.field ≤ field_count x) (sym c.self.view_is) c.requires.last in
+    subst (λ (x : List ℕ). IfOk c.column_at.result (λ column. column ≡ column_of x c.args.field)) c.self.view_is
+    (c.column_at.ensures (field_sections m c.args.field)
+    (field_kept m c.self.inside.fields.items c.self.invariant c.args.field c.requires.first last _ c.index-places.ensures))

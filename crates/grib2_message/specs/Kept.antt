@@ -1,0 +1,123 @@
+-- What is kept of the sections of a message while it is read, and after.
+use Rattle.std.specs.Prelude.{◌≡◌, ◌≢◌, ℕ, ◌+◌, ◌-◌, ◌≤◌, ◌<◌, ◌||◌, ◌==◌, Bool, IsTrue, IsSome, Option, Some, None, List, [], ◌∷◌, length, get_or, slice_get, is_none, not, unwrap_or}
+use Rattle.std.specs.Option.{option_map_or}
+use Rattle.grib_bits.specs.Bits.{digit}
+use Rattle.grib_bits.specs.Octets.{octets, StatesItself}
+use Rattle.grib_io.specs.declared.fault.Fault.{Fault}
+use Rattle.grib_io.specs.declared.fault.Reason.TheVariants.{NoEarlierBitmap, BitmapSize}
+use Rattle.grib_io.specs.Rows.{row, first_fault}
+use Rattle.grib2_sections.specs.Head.{total_length}
+use Rattle.grib2_sections.specs.Frame.{Placed, section_at, section_number, may_follow}
+use Rattle.grib2_sections.specs.Identification.{identification_rows}
+use Rattle.grib2_grids.specs.Grid.{grid_rows}
+use Rattle.grib2_products.specs.Product.{product_rows}
+use Rattle.grib_bitmap.specs.Mask.{bitmap_indicator, bitmap_rows, mask_of, own_mask, present_count}
+use Rattle.grib_packing.specs.Packing.{value_count}
+use Rattle.grib_packing.specs.Entries.{packing_fault, data_fault}
+use Rattle.grib2_message.specs.View.{last_number, section_in_force, octets_in_force, points_in_force, earlier_mask, mask_in_force, section_count}
+use Rattle.grib2_message.specs.Fields.{field_sections, field_count}
+use Rattle.grib2_message.specs.Message.{IsMessage}
+use Rattle.grib2_message.specs.declared.places.Bitmap.{Bitmap}
+use Rattle.grib2_message.specs.declared.places.Places.{Places}
+
+-- a section with this number stands whole at octet `start`, before the end mark
+pub record StandsAt (message : List ℕ) (start number : ℕ) : Type 0 where
+  pub low : 1 ≤ start
+  pub high : start ≤ 268435456
+  pub there : start + 4 ≤ length message
+  pub least : 5 ≤ octets message start (start + 3)
+  pub whole : start - 1 + octets message start (start + 3) ≤ length message
+  pub room : start + octets message start (start + 3) + 3 ≤ total_length message
+  pub numbered : octets message (start + 4) (start + 4) ≡ number
+
+-- each section is the one that stands at its place
+abbrev pub ArePlaced : List ℕ → List Placed → Type 0
+ArePlaced message [] = Unit {0}
+ArePlaced message (s ∷ before) =
+    StandsAt message s.start (section_number s.octets) × (s.octets ≡ section_at message s.start) × ArePlaced message before
+
+-- the octet at which the section in force begins, 0 where there is none
+abbrev pub start_in_force : ℕ → List Placed → ℕ
+start_in_force number before = option_map_or (λ s. s.start) (section_in_force number before) 0
+
+-- the last Section 6 with bits of its own, which no row refused, and its mask
+pub record IsBitmap (message : List ℕ) (bitmap : Bitmap) (mask : List Bool) : Type 0 where
+  pub stands : StandsAt message bitmap.start 6
+  pub own : bitmap_indicator (section_at message bitmap.start) ≡ 0
+  pub rows : first_fault (bitmap_rows (section_at message bitmap.start) bitmap.points bitmap.present None) ≡ None
+  pub bits : mask ≡ own_mask (section_at message bitmap.start) bitmap.points
+
+abbrev pub KeepsBitmap : List ℕ → Option Bitmap → Option (List Bool) → Type 0
+KeepsBitmap message None None = Unit {0}
+KeepsBitmap message None (Some mask) = ⊥
+KeepsBitmap message (Some bitmap) None = ⊥
+KeepsBitmap message (Some bitmap) (Some mask) = IsBitmap message bitmap mask
+
+-- what the row on bitmaps asks of an earlier one
+abbrev pub TellsBitmap : Option Bitmap → Option (List Bool) → Type 0
+TellsBitmap None None = Unit {0}
+TellsBitmap None (Some mask) = ⊥
+TellsBitmap (Some bitmap) None = ⊥
+TellsBitmap (Some bitmap) (Some mask) = (length mask ≡ bitmap.points) × (present_count mask ≡ bitmap.present)
+
+-- how many fields have begun and not ended, by the number of the last section
+abbrev pub begun : ℕ → ℕ
+begun last = digit (last == 4 || last == 5 || last == 6)
+
+-- what is known of sections that no row refused, by the number of the last: which are in force, and what
+-- their rows say
+pub record AreSound (before : List Placed) : Type 0 where
+  pub present : (k : ℕ) → 1 ≤ k → k ≤ last_number before → k ≢ 2 → IsSome (section_in_force k before)
+  pub identification : 1 ≤ last_number before → first_fault (identification_rows (octets_in_force 1 before)) ≡ None
+  pub grid : 3 ≤ last_number before → first_fault (grid_rows (octets_in_force 3 before)) ≡ None
+  pub product : 4 ≤ last_number before → first_fault (product_rows (octets_in_force 4 before) 1) ≡ None
+  pub packing : 5 ≤ last_number before → packing_fault (octets_in_force 5 before) (points_in_force before) ≡ None
+  pub bitmap : 6 ≤ last_number before
+      → first_fault (bitmap_rows (octets_in_force 6 before) (points_in_force before) (value_count (octets_in_force 5 before)) (earlier_mask before)) ≡ None
+  pub mask : 6 ≤ last_number before
+      → mask_in_force before ≡ mask_of (octets_in_force 6 before) (points_in_force before) (earlier_mask before)
+  pub values : 7 ≤ last_number before → data_fault (octets_in_force 5 before) (octets_in_force 7 before) ≡ None
+  pub counted : section_count 4 before ≡ section_count 7 before + begun (last_number before)
+  pub few : section_count 4 before ≤ 4096
+
+-- the rows on an earlier bitmap that is to be taken again, for so many points
+abbrev pub earlier_fault : ℕ → Option (List Bool) → Option Fault
+earlier_fault points earlier =
+    let earlier_length = length (unwrap_or earlier []) in
+    first_fault (
+    row (is_none earlier) 6 NoEarlierBitmap 254
+    ∷ row (not (earlier_length == points)) 6 BitmapSize earlier_length
+    ∷ [])
+
+-- where the sections in force after these begin
+pub record HasPlaces (message : List ℕ) (before : List Placed) (places : Places) : Type 0 where
+  pub eight : length places.starts ≡ 8
+  pub starts : (k : ℕ) → k < 8 → get_or places.starts k 0 ≡ start_in_force k before
+  pub placed : ArePlaced message before
+  pub bitmap : KeepsBitmap message places.bitmap (earlier_mask before)
+  pub sound : AreSound before
+
+-- a section that stands after these, as the frame gives it
+pub record Comes (message : List ℕ) (before : List Placed) (number start : ℕ) (s : List ℕ) : Type 0 where
+  pub stands : StandsAt message start number
+  pub octets_are : s ≡ section_at message start
+  pub itself : StatesItself number s
+  pub follows : IsTrue (may_follow (last_number before) number)
+
+-- what is kept of a field: where the sections in force for it begin
+pub record IsField (message : List ℕ) (before : List Placed) (places : Places) : Type 0 where
+  pub stand : HasPlaces message before places
+  pub ends : last_number before ≡ 7
+
+-- what is kept of some first fields
+abbrev pub KeepsFields : List ℕ → List Places → Type 0
+KeepsFields message fields =
+    (i : ℕ) (places : Places) → slice_get fields i ≡ Some places → IsField message (field_sections message (i + 1)) places
+
+-- what a message keeps of its fields
+pub record Keeps (message : List ℕ) (fields : List Places) : Type 0 where
+  pub accepted : IsMessage message
+  pub count : length fields ≡ field_count message
+  pub few : length fields ≤ 4096
+  pub some : 1 ≤ length fields
+  pub each : KeepsFields message fields

@@ -1,0 +1,202 @@
+//! The rows of the profile that decide whether a section is accepted.
+
+ghost use Rattle.std.specs.Prelude.{◌≡◌, ◌+◌, ◌*◌, ◌≤◌, ◌==◌, nat_lt, not, List, [], ◌∷◌, Bool, Option, None, length, unwrap_or, MatchResult};
+ghost use Rattle.grib_bits.specs.Octets.{StatesItself};
+ghost use Rattle.grib_io.specs.Rows.{first_fault, first_fault_at, located, row};
+ghost use Rattle.grib2_grids.specs.Grid.{grid_rows};
+ghost use Rattle.grib2_products.specs.Product.{product_rows};
+ghost use Rattle.grib_bitmap.specs.Mask.{bitmap_rows, present_count};
+ghost use Rattle.grib_packing.specs.Entries.{packing_fault, data_fault};
+ghost use Rattle.grib2_sections.specs.Identification.{identification_rows};
+ghost use Rattle.grib_io.specs.declared.fault.Reason.TheVariants.{ValueCount, DataTooShort};
+ghost use Rattle.grib2_message.specs.Kept.{TellsBitmap, earlier_fault};
+ghost use Rattle.grib2_message.specs.ReadFaults.{AreTried, IsReadFault};
+
+use crate::ReadFault;
+use crate::places::Bitmap;
+use grib_bitmap::read_mask;
+use grib_complex::{Nothing, read_complex, take_values};
+use grib_io::{Fault, Reason, Section};
+use grib_simple::read_simple;
+use grib2_grids::read_grid;
+use grib2_products::read_product;
+use grib2_sections::read_identification;
+use std::alloc::Global;
+
+/// The most fields of a message.
+const MOST_FIELDS: usize = 4096;
+
+/// Tries the row of Section 1.
+pub(crate) fn check_identification(section: &Section<'_>) -> Result<(), ReadFault>
+    requires itself { StatesItself section.now.number section.now.octets.now }
+    requires low { 1 ≤ section.now.start }
+    requires high { section.now.start ≤ 268435456 }
+    ensures { AreTried (first_fault_at section.now.start
+        (identification_rows section.now.octets.now)) result }
+{
+    read_identification(section)?;
+    Ok(())
+}
+
+/// Tries the rows of Section 3.
+pub(crate) fn check_grid(alloc: Global, section: &Section<'_>) -> Result<(), ReadFault>
+    requires itself { StatesItself section.now.number section.now.octets.now }
+    requires low { 1 ≤ section.now.start }
+    requires high { section.now.start ≤ 268435456 }
+    ensures { AreTried (first_fault_at section.now.start
+        (grid_rows section.now.octets.now)) result }
+{
+    read_grid(alloc, section)?;
+    Ok(())
+}
+
+/// Tries the rows of a Section 4 that stands after so many fields.
+pub(crate) fn check_product(
+    alloc: Global,
+    fields: usize,
+    section: &Section<'_>,
+) -> Result<(), ReadFault>
+    requires itself { StatesItself section.now.number section.now.octets.now }
+    requires low { 1 ≤ section.now.start }
+    requires high { section.now.start ≤ 268435456 }
+    ensures { AreTried (first_fault_at section.now.start
+        (product_rows section.now.octets.now (fields + 1))) result }
+{
+    if fields == MOST_FIELDS && section.octets.len() >= 9 {
+        return Err(ReadFault::Refused(Fault::at(
+            section.start,
+            Reason::FieldCount,
+            MOST_FIELDS as u64 + 1,
+        )));
+    }
+    read_product(alloc, section)?;
+    Ok(())
+}
+
+/// Tries the rows of a Section 5, where the grid in force has so many points.
+pub(crate) fn check_representation(section: &Section<'_>, points: u32) -> Result<(), ReadFault>
+    requires itself { StatesItself section.now.number section.now.octets.now }
+    requires low { 1 ≤ section.now.start }
+    requires high { section.now.start ≤ 268435456 }
+    ensures { AreTried (located section.now.start
+        (packing_fault section.now.octets.now points)) result }
+{
+    let simple = read_simple(section, points)?;
+    if simple.template != 0 {
+        read_complex(section, points)?;
+    }
+    Ok(())
+}
+
+/// Tries the rows of a Section 6, where the grid in force has so many points and Section 5 so many
+/// values, after the last Section 6 with bits of its own. Memory is taken only for bits of its own.
+pub(crate) fn check_bitmap(
+    alloc: Global,
+    section: &Section<'_>,
+    points: u32,
+    values: u32,
+    earlier: Option<Bitmap>,
+) -> Result<(), ReadFault>
+    requires itself { StatesItself section.now.number section.now.octets.now }
+    requires low { 1 ≤ section.now.start }
+    requires high { section.now.start ≤ 268435456 }
+    ensures { (mask : Option (List Bool)) → TellsBitmap earlier mask
+        → AreTried (first_fault_at section.now.start
+        (bitmap_rows section.now.octets.now points values mask)) result }
+{
+    let octets = section.octets;
+    if octets.len() > 5 && octets[5] == 255 {
+        return check_count(section, points, values);
+    }
+    if octets.len() > 5 && octets[5] == 254 {
+        let present = check_earlier(section, points, earlier)?;
+        return check_count(section, present, values);
+    }
+    read_mask(alloc, section, points, values, None)?;
+    Ok(())
+}
+
+/// How many points the earlier bitmap leaves present, where there is one for as many points.
+fn check_earlier(
+    section: &Section<'_>,
+    points: u32,
+    earlier: Option<Bitmap>,
+) -> Result<u32, ReadFault>
+    requires high { section.now.start ≤ 268435456 }
+    ensures { (mask : Option (List Bool)) → TellsBitmap earlier mask → MatchResult result
+        (λ present. (earlier_fault points mask ≡ None)
+        × (present ≡ present_count (unwrap_or mask [])))
+        (IsReadFault (located section.now.start (earlier_fault points mask))) }
+{
+    let place = section.start + 5;
+    let Some(bitmap) = earlier else {
+        return Err(ReadFault::Refused(Fault::at(place, Reason::NoEarlierBitmap, 254)));
+    };
+    if bitmap.points != points {
+        return Err(ReadFault::Refused(Fault::at(
+            place,
+            Reason::BitmapSize,
+            u64::from(bitmap.points),
+        )));
+    }
+    Ok(bitmap.present)
+}
+
+/// Tries the last row of Section 6: as many points are present as there are values.
+fn check_count(section: &Section<'_>, present: u32, values: u32) -> Result<(), ReadFault>
+    requires high { section.now.start ≤ 268435456 }
+    ensures { AreTried (located section.now.start
+        (first_fault (row (not (present == values)) 6 ValueCount present ∷ []))) result }
+{
+    if present != values {
+        return Err(ReadFault::Refused(Fault::at(
+            section.start + 5,
+            Reason::ValueCount,
+            u64::from(present),
+        )));
+    }
+    Ok(())
+}
+
+/// Tries the rows of a Section 7 that belongs to this Section 5, which is accepted for so many points. No
+/// column is made.
+pub(crate) fn check_values(
+    alloc: Global,
+    section5: &Section<'_>,
+    points: u32,
+    section7: &Section<'_>,
+) -> Result<(), ReadFault>
+    requires itself_5 { StatesItself section5.now.number section5.now.octets.now }
+    requires low_5 { 1 ≤ section5.now.start }
+    requires high_5 { section5.now.start ≤ 268435456 }
+    requires itself_7 { StatesItself section7.now.number section7.now.octets.now }
+    requires low_7 { 1 ≤ section7.now.start }
+    requires high_7 { section7.now.start ≤ 268435456 }
+    requires accepted { packing_fault section5.now.octets.now points ≡ None }
+    ensures { AreTried (located section7.now.start
+        (data_fault section5.now.octets.now section7.now.octets.now)) result }
+{
+    let Ok(simple) = read_simple(section5, points) else {
+        unreachable!();
+    };
+    if simple.template == 0 {
+        return check_plain(section7, simple.values, simple.bits);
+    }
+    take_values(alloc, section5, points, section7, Nothing)?;
+    Ok(())
+}
+
+/// Tries the row of a Section 7 with so many plain numbers of so many bits.
+fn check_plain(section: &Section<'_>, values: u32, bits: u8) -> Result<(), ReadFault>
+    requires least { 5 ≤ length section.now.octets.now }
+    ensures { AreTried (located section.now.start (first_fault
+        (row (nat_lt (8 * length section.now.octets.now) (values * bits + 40)) 1 DataTooShort
+        (length section.now.octets.now) ∷ []))) result }
+{
+    let length = section.octets.len() as u64;
+    let least = (u64::from(values) * u64::from(bits)).div_ceil(8);
+    if length < 5 + least {
+        return Err(ReadFault::Refused(Fault::at(section.start, Reason::DataTooShort, length)));
+    }
+    Ok(())
+}

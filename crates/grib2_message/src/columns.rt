@@ -1,0 +1,107 @@
+//! The column of a field.
+
+ghost use Rattle.std.specs.Prelude.{◌≡◌, ◌≤◌, List, None, length, IfOk};
+ghost use Rattle.grib_bits.specs.Octets.{StatesItself};
+ghost use Rattle.grib_io.specs.Rows.{first_fault};
+ghost use Rattle.grib_bitmap.specs.Mask.{bitmap_rows, mask_of, present_count};
+ghost use Rattle.grib_packing.specs.Entries.{packing_fault, column_from};
+ghost use Rattle.grib_packing.specs.Packing.{value_count};
+ghost use Rattle.grib_simple.specs.Unpacked.{IsUnpacked};
+ghost use Rattle.grib2_sections.specs.Frame.{Placed};
+ghost use Rattle.grib2_message.specs.View.{octets_in_force, points_in_force, mask_in_force};
+ghost use Rattle.grib2_message.specs.Kept.{IsField};
+
+use crate::places::{Places, section_from};
+use grib_bitmap::{Mask, MaskFault, read_mask};
+use grib_complex::{ComplexPacking, SpatialPacking};
+use grib_io::{Section, UnpackFault};
+use grib_packing::Column;
+use grib_simple::{Packing, SimplePacking};
+use grib2_sections::{u8_at, u16_at};
+use std::alloc::{AllocError, Global};
+
+/// The indicator of a Section 6 that repeats an earlier bitmap (code table 6.0).
+const REPEATS: u8 = 254;
+
+/// The column of the field for which the sections in force begin at these places.
+pub(crate) fn column_at(alloc: Global, octets: &[u8], places: &Places) -> Result<Column, AllocError>
+    requires { (before : List Placed) × IsField octets.now before places.now }
+    ensures { (before : List Placed) → IsField octets.now before places.now → IfOk result
+        (λ column. column ≡ column_from (octets_in_force 5 before) (mask_in_force before)
+        (octets_in_force 7 before)) }
+{
+    let section5 = places.section(octets, 5);
+    let section7 = places.section(octets, 7);
+    let mask = mask_at(alloc, octets, places)?;
+    match unpack(alloc, &section5, &mask, &section7) {
+        Ok(column) => Ok(column),
+        Err(UnpackFault::Memory) => Err(AllocError),
+        Err(UnpackFault::Refused(_)) => unreachable!(),
+    }
+}
+
+/// The column of a Section 5, which is accepted, of any template, its mask and its Section 7.
+fn unpack(
+    alloc: Global,
+    section5: &Section<'_>,
+    mask: &Mask,
+    section7: &Section<'_>,
+) -> Result<Column, UnpackFault>
+    requires itself_5 { StatesItself section5.now.number section5.now.octets.now }
+    requires low_5 { 1 ≤ section5.now.start }
+    requires high_5 { section5.now.start ≤ 268435456 }
+    requires itself_7 { StatesItself section7.now.number section7.now.octets.now }
+    requires low_7 { 1 ≤ section7.now.start }
+    requires high_7 { section7.now.start ≤ 268435456 }
+    requires some { 1 ≤ length mask.now }
+    requires few { length mask.now ≤ 33554432 }
+    requires accepted { packing_fault section5.now.octets.now (length mask.now) ≡ None }
+    requires values { present_count mask.now ≡ value_count section5.now.octets.now }
+    ensures { IsUnpacked section5.now.octets.now mask.now section7.now.start
+        section7.now.octets.now result }
+{
+    match u16_at(section5.octets, 10) {
+        0 => SimplePacking.unpack(alloc, section5, mask, section7),
+        2 => ComplexPacking.unpack(alloc, section5, mask, section7),
+        _ => SpatialPacking::new(1).unpack(alloc, section5, mask, section7),
+    }
+}
+
+/// Which points of that field are present.
+fn mask_at(alloc: Global, octets: &[u8], places: &Places) -> Result<Mask, AllocError>
+    requires { (before : List Placed) × IsField octets.now before places.now }
+    ensures { (before : List Placed) → IsField octets.now before places.now → IfOk result
+        (λ mask. (mask ≡ mask_in_force before) × (length mask ≡ points_in_force before)
+        × (present_count mask ≡ value_count (octets_in_force 5 before))) }
+{
+    let section = places.section(octets, 6);
+    if u8_at(section.octets, 6) != REPEATS {
+        let points = places.points(octets);
+        return accepted_mask(alloc, &section, points, places.values(octets));
+    }
+    let Some(bitmap) = places.bitmap else {
+        unreachable!();
+    };
+    let earlier = section_from(octets, bitmap.start, 6);
+    accepted_mask(alloc, &earlier, bitmap.points, bitmap.present)
+}
+
+/// The mask of a Section 6 that no row refuses where there is no earlier bitmap.
+fn accepted_mask(
+    alloc: Global,
+    section: &Section<'_>,
+    points: u32,
+    values: u32,
+) -> Result<Mask, AllocError>
+    requires itself { StatesItself section.now.number section.now.octets.now }
+    requires low { 1 ≤ section.now.start }
+    requires high { section.now.start ≤ 268435456 }
+    requires accepted { first_fault (bitmap_rows section.now.octets.now points values None) ≡ None }
+    ensures { IfOk result (λ mask. mask ≡ mask_of section.now.octets.now points None) }
+{
+    match read_mask(alloc, section, points, values, None) {
+        Ok(mask) => Ok(mask),
+        Err(MaskFault::Memory) => Err(AllocError),
+        Err(MaskFault::Refused(_)) => unreachable!(),
+    }
+}

@@ -1,0 +1,109 @@
+//! A message that was read.
+
+ghost use Rattle.std.specs.Prelude.{◌≡◌, ◌≢◌, ◌≤◌, length, None, Some, MatchOption, IfOk};
+ghost use Rattle.grib_bits.specs.Octets.{StatesItself};
+ghost use Rattle.grib2_sections.specs.Frame.{placed_at};
+ghost use Rattle.grib2_message.specs.Fields as definitions;
+ghost use Rattle.grib2_message.specs.Fields.{field_count, part_octets, column_of};
+ghost use Rattle.grib2_message.specs.Message.{IsMessage, FieldPasses};
+ghost use Rattle.grib2_message.specs.Kept.{Keeps};
+
+use crate::columns::column_at;
+use crate::places::Places;
+use grib_io::Section;
+use grib_packing::Column;
+use std::alloc::{AllocError, Global};
+use std::marker::Model;
+
+/// A message of edition 2 that is accepted (WMO-No. 306, Volume I.2, FM 92 GRIB edition 2, in the profile
+/// of docs/PROFILE.md). A clause sees its octets, from `GRIB` to `7777`. It keeps where the sections of
+/// each field begin.
+#[derive(Debug, Drop)]
+pub struct Message<'a> {
+    octets: &'a [u8],
+    fields: Vec<Places>,
+}
+
+impl<'a> Model for Message<'a> {
+    ghost use Rattle.std.specs.Prelude.{List, ℕ};
+
+    ghost Value = { List ℕ };
+
+    ghost use Rattle.grib2_message.specs.Kept.{Keeps};
+
+    ghost view = { λ message. message.octets.now };
+
+    ghost invariant = { λ message. Keeps message.octets.now message.fields.items };
+}
+
+impl<'a> Message<'a> {
+    /// The message of these octets, of which this was kept.
+    pub(crate) fn of(octets: &'a [u8], fields: Vec<Places>) -> Message<'a>
+        requires { Keeps octets.now fields.items }
+        ensures { result ≡ octets.now }
+    {
+        Message { octets, fields }
+    }
+
+    /// The number of octets.
+    pub fn length(&self) -> u64
+        ensures { result ≡ length self.now }
+    {
+        self.octets.len() as u64
+    }
+
+    /// The number of fields.
+    pub fn fields(&self) -> u32
+        ensures count { result ≡ field_count self.now }
+        ensures some { 1 ≤ result }
+        ensures few { result ≤ 4096 }
+    {
+        self.fields.len() as u32
+    }
+
+    /// The octets from `GRIB` to `7777`.
+    pub fn octets(&self) -> &'a [u8]
+        ensures octets { result.now ≡ self.now }
+        ensures message { IsMessage self.now }
+    {
+        self.octets
+    }
+
+    /// The section with this number, 1 to 7, that is in force for a field, counted from 1: the last one
+    /// that stands before the end of the field. Only Section 2 may be absent. No row of the profile
+    /// refuses the sections of a field, so each has the octets that these rows ask for.
+    pub fn part(&self, field: u32, section: u8) -> Option<Section<'a>>
+        requires first { 1 ≤ field }
+        requires last { field ≤ field_count self.now }
+        requires low { 1 ≤ section }
+        requires high { section ≤ 7 }
+        ensures part { MatchOption result (definitions.part self.now field section ≡ None)
+            (λ found. (definitions.part self.now field section
+            ≡ Some (placed_at found.start found.octets.now))
+            × (found.octets.now ≡ part_octets self.now field section)
+            × (found.number ≡ section) × StatesItself section found.octets.now
+            × (1 ≤ found.start) × (found.start ≤ 268435456)) }
+        ensures present { section ≢ 2 → result ≢ None }
+        ensures passes { FieldPasses self.now field }
+    {
+        let places = &self.fields[field as usize - 1];
+        if places.starts[section as usize] == 0 {
+            return None;
+        }
+        Some(places.section(self.octets, section))
+    }
+
+    /// What a field holds, one entry for each grid point. Fields count from 1.
+    ///
+    /// # Errors
+    ///
+    /// There is no memory for the points.
+    pub fn column(&self, alloc: Global, field: u32) -> Result<Column, AllocError>
+        requires first { 1 ≤ field }
+        requires last { field ≤ field_count self.now }
+        ensures { IfOk result (λ column. column ≡ column_of self.now field) }
+    {
+        let places = &self.fields[field as usize - 1];
+        column_at(alloc, self.octets, places)
+    }
+}
