@@ -16,3 +16,4 @@ pub mod Steps
 pub mod Walk
 pub mod Ways
 pub mod Whole
+pub mod FieldRows

@@ -1,11 +1,4 @@
 pub mod Outside
-pub mod Fronts
-pub mod Given
-pub mod Noted
 pub mod Pending
-pub mod PlainRows
-pub mod PlainFields
-pub mod PlainForm
-pub mod PlainSections
-pub mod PlainMessages
-pub mod Printed
+pub mod Lawful
+pub mod Noted

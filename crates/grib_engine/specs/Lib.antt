@@ -1,9 +1,11 @@
-pub mod Stream
 pub mod Outcomes
-pub mod Plain
-pub mod PlainParts
-pub mod Answer
+pub mod Tasks
+pub mod Reading
 pub mod Counts
-pub mod Run
 pub mod Closing
 pub mod Pending
+pub use Rattle.grib_stream.specs.Stream
+pub use Rattle.grib_stream.specs.Acts
+pub use Rattle.grib_stream.specs.Answer
+pub use Rattle.grib_stream.specs.Run
+pub use Rattle.grib_stream.specs.Faults

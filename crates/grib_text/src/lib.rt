@@ -4,6 +4,7 @@
 mod counts;
 mod fields;
 mod listed;
+mod messages;
 mod missing;
 mod notes;
 mod points;
@@ -15,6 +16,7 @@ mod times;
 
 pub use counts::{check_line, total_line};
 pub use listed::{ListedField, field_line};
+pub use messages::list_line;
 pub use notes::refusal_note;
 pub use points::{append_point_line, point_line};
 pub use references::reference_line;
