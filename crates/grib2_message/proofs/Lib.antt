@@ -16,4 +16,3 @@ pub mod Steps
 pub mod Walk
 pub mod Ways
 pub mod Whole
-pub mod FieldRows

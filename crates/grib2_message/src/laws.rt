@@ -1,20 +1,13 @@
 //! Laws over the definitions.
 
-ghost use Rattle.std.specs.Prelude.{◌≡◌, ◌≢◌, ℕ, ◌<◌, ◌≤◌, Some, None, List, ◌++◌, length, take, map, All};
+ghost use Rattle.std.specs.Prelude.{◌≡◌, ◌≢◌, ℕ, ◌<◌, ◌≤◌, List, ◌++◌, length, take, map, All};
 ghost use Rattle.grib_io.specs.declared.fault.Fault.{Fault};
 ghost use Rattle.grib_io.specs.declared.fault.Reason.TheVariants.{Truncated};
 ghost use Rattle.grib2_sections.specs.Head.{indicator, edition, total_length};
-ghost use Rattle.grib_io.specs.Rows.{first_fault};
-ghost use Rattle.grib2_sections.specs.Frame.{Placed};
-ghost use Rattle.grib2_sections.specs.Identification.{identification_rows};
-ghost use Rattle.grib2_grids.specs.Grid.{grid_rows};
-ghost use Rattle.grib2_products.specs.Product.{product_rows};
-ghost use Rattle.grib_packing.specs.Entries.{packing_fault};
 ghost use Rattle.grib2_sections.specs.Verdict.{Accepted, Refused};
 ghost use Rattle.grib2_message.specs.Acceptance.{verdict_2};
 ghost use Rattle.grib2_message.specs.Grammar.{Grammar2};
-ghost use Rattle.grib2_message.specs.Fields.{sections_of, part};
-ghost use Rattle.grib2_message.specs.Message.{IsMessage};
+ghost use Rattle.grib2_message.specs.Fields.{sections_of};
 
 /// What is accepted is exactly what is in the grammar, with its total length, whatever comes after it.
 /// A message in the grammar has one list of sections, and it is the one that is found in it.
@@ -51,16 +44,4 @@ pub fn accepted_length()
         → verdict_2 octets ≡ Accepted total → total ≤ length octets }
     ensures alone { (octets : List ℕ) (total : ℕ) → edition octets ≢ 1
         → verdict_2 octets ≡ Accepted total → verdict_2 (take total octets) ≡ Accepted total }
-{}
-
-/// No row refuses a section that is in force for a field of an accepted message.
-pub fn parts_pass_their_rows()
-    ensures identification { (message : List ℕ) (i : ℕ) (s : Placed) → IsMessage message
-        → part message i 1 ≡ Some s → first_fault (identification_rows s.octets) ≡ None }
-    ensures grid { (message : List ℕ) (i : ℕ) (s : Placed) → IsMessage message
-        → part message i 3 ≡ Some s → first_fault (grid_rows s.octets) ≡ None }
-    ensures product { (message : List ℕ) (i : ℕ) (s : Placed) → IsMessage message
-        → part message i 4 ≡ Some s → (n : ℕ) × (first_fault (product_rows s.octets n) ≡ None) }
-    ensures representation { (message : List ℕ) (i : ℕ) (s : Placed) → IsMessage message
-        → part message i 5 ≡ Some s → (points : ℕ) × (packing_fault s.octets points ≡ None) }
 {}

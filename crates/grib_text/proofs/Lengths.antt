@@ -9,19 +9,18 @@ use Rattle.grib_io.specs.Rows.{Row, first_fault, or_then, choose}
 use Rattle.grib2_sections.specs.Template.{Template, is_template, least_length}
 use Rattle.grib2_sections.specs.Frame.{Placed, placed_at}
 use Rattle.grib2_sections.specs.Identification.{identification_rows}
-use Rattle.grib2_message.specs.Grid.{grid_rows}
+use Rattle.grib2_message.specs.Grid.{grid_rows, grid_points}
 use Rattle.grib2_message.specs.Product.{product_rows, product_templates, product_template}
 use Rattle.grib_packing.specs.Packing.{packing_rows, packing_templates, packing_template, reference_word}
 use Rattle.grib_packing.specs.Complex.{complex_rows}
 use Rattle.grib_packing.specs.Entries.{packing_fault}
 use Rattle.grib2_sections.specs.Head.{edition, discipline}
-use Rattle.grib2_message.specs.Message.{IsMessage}
-use Rattle.grib2_message.specs.Fields.{part, part_octets}
+use Rattle.grib2_message.specs.Message.{IsMessage, FieldPasses}
+use Rattle.grib2_message.specs.Fields.{part_octets}
 use Rattle.grib_text.specs.Lines.{field_line, list_line}
 use Rattle.grib_text.specs.Listed.{IsListed}
 use Rattle.grib_text.specs.declared.listed.ListedField.{ListedField}
 use Rattle.grib2_message.proofs.Passed.{AllPass, passes_from_none}
-use Rattle.grib2_message.proofs.FieldRows.{identification_passes, grid_passes, product_passes, representation_passes}
 use Rattle.grib2_message.proofs.Fronts.{accepted_least}
 
 pub message_long : (m : List ℕ) → IsMessage m → 20 ≤ length m
@@ -29,10 +28,6 @@ message_long m message =
     let second : edition m ≡ 2 = message.edition_stands in
     let other : edition m ≢ 1 = omega arith in
     accepted_least m (length m) other message.accepted
-
--- the octets of a section in force
-pub part_is : (m : List ℕ) (i number start : ℕ) (octets : List ℕ) → part m i number ≡ Some (placed_at start octets) → part_octets m i number ≡ octets
-part_is m i number start octets is = ap (λ p. option_map_or (λ s. s.octets) p []) is
 
 -- each template of a table has so many octets at least
 abbrev AllLeast : ℕ → List Template → Type 0
@@ -51,20 +46,16 @@ least_of n number (t ∷ templates) all is =
     (least_of n number templates all.1 later))
     (cases_Bool (t.number == number))
 
-pub identification_long : (m : List ℕ) (i start : ℕ) (octets : List ℕ) → IsMessage m → part m i 1 ≡ Some (placed_at start octets) → 21 ≤ length octets
-identification_long m i start octets message is =
-    let p = passes_from_none (identification_rows octets) (identification_passes m i (placed_at start octets) message is) in
-    ltb-false (length octets) 21 p.0
+pub identification_long : (m : List ℕ) (i : ℕ) → FieldPasses m i → 21 ≤ length (part_octets m i 1)
+identification_long m i passes = ltb-false (length (part_octets m i 1)) 21 (passes_from_none (identification_rows (part_octets m i 1)) passes.identification).0
 
-pub grid_long : (m : List ℕ) (i start : ℕ) (octets : List ℕ) → IsMessage m → part m i 3 ≡ Some (placed_at start octets) → 14 ≤ length octets
-grid_long m i start octets message is =
-    let p = passes_from_none (grid_rows octets) (grid_passes m i (placed_at start octets) message is) in
-    ltb-false (length octets) 14 p.0
+pub grid_long : (m : List ℕ) (i : ℕ) → FieldPasses m i → 14 ≤ length (part_octets m i 3)
+grid_long m i passes = ltb-false (length (part_octets m i 3)) 14 (passes_from_none (grid_rows (part_octets m i 3)) passes.grid).0
 
-pub product_long : (m : List ℕ) (i start : ℕ) (octets : List ℕ) → IsMessage m → part m i 4 ≡ Some (placed_at start octets) → 34 ≤ length octets
-product_long m i start octets message is =
-    let (n, none) = product_passes m i (placed_at start octets) message is in
-    let p = passes_from_none (product_rows octets n) none in
+pub product_long : (m : List ℕ) (i : ℕ) → FieldPasses m i → 34 ≤ length (part_octets m i 4)
+product_long m i passes =
+    let octets = part_octets m i 4 in
+    let p = passes_from_none (product_rows octets 1) passes.product in
     let known : is_template product_templates (product_template octets) ≡ true = not-false (is_template product_templates (product_template octets)) p.1.1.0 in
     let least = ltb-false (length octets) (least_length product_templates (product_template octets)) p.1.1.1.0 in
     let table : 34 ≤ least_length product_templates (product_template octets) =
@@ -75,15 +66,16 @@ none_first : (first : Option Fault) (later : Unit {0} → List Row) → or_then 
 none_first None later none = refl
 none_first (Some fault) later none = let no : ⊥ = cc in absurd no
 
--- Section 5 of an accepted message
+-- Section 5 of a field
 pub record IsRepresentation (octets : List ℕ) : Type 0 where
   pub long : 21 ≤ length octets
   pub finite : ieee_exponent (reference_word octets) < 255
 
-pub representation_long : (m : List ℕ) (i start : ℕ) (octets : List ℕ) → IsMessage m → part m i 5 ≡ Some (placed_at start octets) → IsRepresentation octets
-representation_long m i start octets message is =
-    let (points, none) = representation_passes m i (placed_at start octets) message is in
-    let first = none_first (first_fault (packing_rows octets points)) (λ _. choose (packing_template octets == 0) (λ _. []) (λ _. complex_rows octets)) none in
+pub representation_long : (m : List ℕ) (i : ℕ) → FieldPasses m i → IsRepresentation (part_octets m i 5)
+representation_long m i passes =
+    let octets = part_octets m i 5 in
+    let points = grid_points (part_octets m i 3) in
+    let first = none_first (first_fault (packing_rows octets points)) (λ _. choose (packing_template octets == 0) (λ _. []) (λ _. complex_rows octets)) passes.packing in
     let p = passes_from_none (packing_rows octets points) first in
     let known : is_template packing_templates (packing_template octets) ≡ true = not-false (is_template packing_templates (packing_template octets)) p.1.0 in
     let least = ltb-false (length octets) (least_length packing_templates (packing_template octets)) p.1.1.0 in

@@ -1,10 +1,9 @@
 //! The lines of the fields of a message.
 
-ghost use Rattle.std.specs.Prelude.{◌≡◌, ◌≢◌, ◌≤◌, ℕ, Some, IfOk};
-ghost use Rattle.grib2_sections.specs.Frame.{placed_at};
+ghost use Rattle.std.specs.Prelude.{◌≡◌, ◌≢◌, ◌≤◌, IfOk};
 ghost use Rattle.grib2_message.specs.Fields as fields;
 ghost use Rattle.grib2_message.specs.Fields.{field_count};
-ghost use Rattle.grib2_message.specs.Message.{IsMessage};
+ghost use Rattle.grib2_message.specs.Message.{FieldPasses};
 ghost use Rattle.grib_text.specs.Lines as lines;
 ghost use Rattle.grib_text.specs.Listed.{IsListed};
 
@@ -51,7 +50,8 @@ fn octets_of<'a>(message: &Message<'a>, field: u32, section: u8) -> &'a [u8]
     requires low { 1 ≤ section }
     requires high { section ≤ 7 }
     requires other { section ≢ 2 }
-    ensures in_force { (start : ℕ) × (fields.part message.now field section ≡ Some (placed_at start result.now)) }
+    ensures octets { result.now ≡ fields.part_octets message.now field section }
+    ensures passes { FieldPasses message.now field }
 {
     match message.part(field, section) {
         Some(found) => found.octets,
