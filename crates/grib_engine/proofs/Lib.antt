@@ -1,4 +1,4 @@
 pub mod Outside
 pub mod Pending
-pub mod Lawful
 pub mod Noted
+pub mod Wanted

@@ -1,5 +1,5 @@
 -- The note of a run, by the outcome before the end and by the answer.
-use Rattle.std.proofs.Common.{◌≡◌, ◌⊎◌, ℕ, Bool, false, List, [], None, Some, IfSome, refl, sym, ap, subst, inl, inr}
+use Rattle.std.proofs.Common.{◌≡◌, ◌⊎◌, ℕ, false, List, None, Some, IfSome, refl, ap, subst, inl, inr}
 use Rattle.std.specs.declared.option.Option.{Option}
 use Rattle.grib_io.specs.Outside.{AppendsFront, Counted, Rose}
 use Rattle.grib_stream.specs.declared.outcome.Outcome.{Outcome}
@@ -7,7 +7,7 @@ use Rattle.grib_stream.specs.declared.outcome.Outcome.TheVariants.{Done, Usage, 
 use Rattle.grib_stream.specs.Acts.{World}
 use Rattle.grib_stream.specs.Outcomes.{KeepsOrCuts, is_broken, is_cut_short}
 use Rattle.grib_stream.specs.Task.{Task}
-use Rattle.grib_stream.specs.Answer.{Answer, answer_within}
+use Rattle.grib_stream.specs.Answer.{answer_within}
 use Rattle.grib_stream.specs.Run.{Gives, Runs}
 use Rattle.grib_engine.specs.Outcomes.{note_of, NotesFront, NotesRun}
 use Rattle.grib_engine.proofs.Outside.{front_of_nothing}

@@ -1,6 +1,8 @@
 pub mod Outcomes
 pub mod Tasks
+pub mod Lawful
 pub mod Reading
+pub mod Answering
 pub mod Counts
 pub mod Closing
 pub mod Pending

@@ -1,5 +1,5 @@
 -- What is noted of the outcomes of a run.
-use Rattle.std.specs.Prelude.{◌≡◌, ℕ, ◌⊎◌, List, [], ◌∷◌, ◌++◌, codes}
+use Rattle.std.specs.Prelude.{ℕ, ◌⊎◌, List, [], ◌∷◌, ◌++◌, codes}
 use Rattle.std.specs.Fmt.{decimal}
 use Rattle.std.specs.Prelude.{IfSome}
 use Rattle.std.specs.declared.option.Option.{Option}
@@ -7,7 +7,6 @@ use Rattle.grib_io.specs.Outside.{AppendsFront, Rose}
 use Rattle.grib_text.specs.Notes.{refusal_note}
 use Rattle.grib_stream.specs.declared.outcome.Outcome.{Outcome}
 use Rattle.grib_stream.specs.declared.outcome.Outcome.TheVariants.{Done, Usage, Refused, ReadFault, WriteFault, Memory, InputTooLong, NotBuilt}
-
 use Rattle.grib_stream.specs.Task.{Task}
 use Rattle.grib_stream.specs.Answer.{answer_within}
 

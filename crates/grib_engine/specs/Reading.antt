@@ -1,6 +1,6 @@
 -- What was read of the octets from a `GRIB` on.
 use Rattle.std.specs.Prelude.{◌≡◌, ℕ, List, length, take}
-use Rattle.grib_stream.specs.Stream.{Judgement, Message, Faulty, Unbuilt}
+use Rattle.grib_stream.specs.Stream.{Message, Faulty, Unbuilt}
 use Rattle.grib2_message.specs.Message.{IsMessage}
 use Rattle.grib_engine.specs.declared.reading.Unread.{Unread}
 use Rattle.grib_engine.specs.declared.reading.Unread.TheVariants.{Refused, NotBuilt, Memory}

@@ -1,14 +1,20 @@
 //! What is done with an input: its messages are answered one after another.
 #![tactic(auto)]
 
+mod answering;
 mod closing;
+mod ending;
 mod job;
+mod performing;
 mod points;
+mod printing;
 mod reading;
 mod serving;
 mod writing;
 
+pub use answering::{Answered, answer_message};
 pub use closing::close;
 pub use grib_stream::{Outcome, Place, Totals};
 pub use job::Job;
 pub use reading::Held;
+pub use serving::serve;

@@ -1,23 +1,23 @@
 -- What is said of octets stays said, whatever follows them.
-use Rattle.std.proofs.Common.{◌≡◌, ◌≢◌, ℕ, zero, suc, ◌+◌, ◌-◌, ◌<◌, ◌≤◌, Bool, true, false, List, [], ◌∷◌, ◌++◌, length, take, drop, map, nat_lt, ◌==◌, refl, sym, ap, ◌∙◌, subst, arith, ⊎_elim, lt-ltb, eqb-true, eq-eqb, ne_eqb, length-take-le, length-drop, take-append-drop}
+use Rattle.std.proofs.Common.{◌≡◌, ◌≢◌, ℕ, zero, suc, ◌+◌, ◌<◌, ◌≤◌, true, false, List, [], ◌∷◌, ◌++◌, length, take, drop, nat_lt, ◌==◌, refl, sym, ap, ◌∙◌, arith, ⊎_elim, lt-ltb, eqb-true, eq-eqb, length-take-le, length-drop, take-append-drop}
 use Rattle.std.proofs.lemmas.Bool.{cases_Bool, false≢true, cases_lt}
 use Rattle.std.proofs.lemmas.List.{drop_all, take-append-le}
 use Rattle.std.proofs.lemmas.List.Sums.{count_by-le-length}
 use lib.Seq.{drop-append-le}
-use Rattle.grib_bits.specs.Octets.{num_on, octets, octet_list}
+use Rattle.grib_bits.specs.Octets.{num_on, octets}
 use Rattle.grib_io.specs.declared.fault.Fault.{Fault}
 use Rattle.grib_io.specs.declared.fault.Reason.{Reason}
 use Rattle.grib_io.specs.declared.fault.Reason.TheVariants.{Truncated}
-use Rattle.grib_io.specs.Rows.{choose, row, first_fault}
+use Rattle.grib_io.specs.Rows.{choose}
 use Rattle.grib2_sections.specs.Verdict.{Verdict, Accepted, Refused}
-use Rattle.grib2_sections.specs.Head.{edition, head_rows}
-use Rattle.grib2_sections.specs.Frame.{Placed, ends_at, section_at, placed_at}
+use Rattle.grib2_sections.specs.Head.{edition}
+use Rattle.grib2_sections.specs.Frame.{ends_at, section_at, placed_at}
 use Rattle.grib2_message.specs.View.{is_numbered}
-use Rattle.grib2_message.specs.Acceptance.{verdict_2, verdict_from, unless_refused}
+use Rattle.grib2_message.specs.Acceptance.{verdict_2}
 use Rattle.grib2_message.specs.Fields.{sections_from, sections_of, field_count}
 use Rattle.grib2_message.proofs.Stays.{accepted_stays, refused_stays}
 use Rattle.grib2_message.proofs.Fronts.{accepted_least, accepted_there, accepted_alone}
-use Rattle.grib_stream.specs.Stream.{Judgement, Message, Faulty, Unbuilt}
+use Rattle.grib_stream.specs.Stream.{Message, Faulty, Unbuilt}
 use Rattle.grib_stream.specs.Outcomes.{is_truncated}
 use Rattle.grib_stream.specs.Task.{IsLawful}
 use Rattle.grib_engine.specs.declared.job.Job.{Job}
@@ -35,7 +35,7 @@ other octets is = ap (λ b. choose b (λ _. Unbuilt) (λ _. judged (verdict_2 oc
 short_edition : (octets : List ℕ) → length octets < 8 → edition octets ≡ 0
 short_edition octets short = ap (λ xs. num_on 0 (take 1 xs)) (drop_all 7 octets (omega arith))
 
-same_edition : (octets more : List ℕ) → 8 ≤ length octets → edition (octets ++ more) ≡ edition octets
+pub same_edition : (octets more : List ℕ) → 8 ≤ length octets → edition (octets ++ more) ≡ edition octets
 same_edition octets more there =
     ap (λ xs. num_on 0 (take 1 xs)) (drop-append-le 7 octets more (omega arith))
     ∙ ap (num_on 0) (take-append-le 1 (drop 7 octets) more (omega (arith, length-drop 7 octets)))
