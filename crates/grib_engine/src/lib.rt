@@ -10,6 +10,8 @@ mod points;
 mod printing;
 mod reading;
 mod serving;
+#[cfg(test)]
+mod tests;
 mod writing;
 
 pub use answering::{Answered, answer_message};
