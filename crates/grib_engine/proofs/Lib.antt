@@ -2,3 +2,4 @@ pub mod Outside
 pub mod Pending
 pub mod Noted
 pub mod Wanted
+pub mod Finite

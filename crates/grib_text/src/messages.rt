@@ -1,18 +1,17 @@
-//! The lines of the fields of a message.
+//! The lines of `list` for whole messages.
 
-ghost use Rattle.std.specs.Prelude.{◌≡◌, ◌≢◌, ◌≤◌, IfOk};
-ghost use Rattle.grib2_message.specs.Fields as fields;
-ghost use Rattle.grib2_message.specs.Fields.{field_count};
+ghost use Rattle.std.specs.Prelude.{◌≡◌, ◌≢◌, ◌≤◌, length, IfOk};
+ghost use Rattle.grib2_sections.specs.Head.{discipline};
+ghost use Rattle.grib2_message.specs.Fields.{field_count, part_octets};
 ghost use Rattle.grib2_message.specs.Message.{FieldPasses};
 ghost use Rattle.grib_text.specs.Lines as lines;
-ghost use Rattle.grib_text.specs.Listed.{IsListed};
 
-use crate::listed::{ListedField, field_line};
+use crate::{ListedField, field_line};
 use grib2_message::Message;
 use grib2_sections::u8_at;
 use std::alloc::{AllocError, Global};
 
-/// The line of a field, from 1, of a message with this number, from 1. The only error is want of memory.
+/// The line of a field, from 1, of the message with this number, from 1. The only error is want of memory.
 pub fn list_line(
     alloc: Global,
     message: &Message<'_>,
@@ -24,37 +23,44 @@ pub fn list_line(
     ensures { IfOk result (λ line. line.items ≡ lines.list_line message.now number field) }
 {
     let listed = listed_field(message, field);
-    let line = field_line(alloc, number, field, &listed)?;
-    Ok(line)
+    field_line(alloc, number, field, &listed)
 }
 
-/// What is listed of a field.
+/// What describes a field of a message.
 fn listed_field<'a>(message: &Message<'a>, field: u32) -> ListedField<'a>
     requires first { 1 ≤ field }
     requires last { field ≤ field_count message.now }
-    ensures { IsListed message.now field result }
+    ensures discipline { result.discipline ≡ discipline message.now }
+    ensures identification { result.identification.now ≡ part_octets message.now field 1 }
+    ensures grid { result.grid.now ≡ part_octets message.now field 3 }
+    ensures product { result.product.now ≡ part_octets message.now field 4 }
+    ensures representation { result.representation.now ≡ part_octets message.now field 5 }
+    ensures identification_there { 19 ≤ length result.identification.now }
+    ensures grid_there { 14 ≤ length result.grid.now }
+    ensures product_there { 28 ≤ length result.product.now }
+    ensures representation_there { 20 ≤ length result.representation.now }
 {
     ListedField {
         discipline: u8_at(message.octets(), 7),
-        identification: octets_of(message, field, 1),
-        grid: octets_of(message, field, 3),
-        product: octets_of(message, field, 4),
-        representation: octets_of(message, field, 5),
+        identification: part_of(message, field, 1),
+        grid: part_of(message, field, 3),
+        product: part_of(message, field, 4),
+        representation: part_of(message, field, 5),
     }
 }
 
-/// The octets of the section with this number that is in force for a field, which is not Section 2.
-fn octets_of<'a>(message: &Message<'a>, field: u32, section: u8) -> &'a [u8]
+/// The octets of a section in force that each field has.
+fn part_of<'a>(message: &Message<'a>, field: u32, section: u8) -> &'a [u8]
     requires first { 1 ≤ field }
     requires last { field ≤ field_count message.now }
     requires low { 1 ≤ section }
     requires high { section ≤ 7 }
-    requires other { section ≢ 2 }
-    ensures octets { result.now ≡ fields.part_octets message.now field section }
+    requires present { section ≢ 2 }
+    ensures octets { result.now ≡ part_octets message.now field section }
     ensures passes { FieldPasses message.now field }
 {
-    match message.part(field, section) {
-        Some(found) => found.octets,
-        None => unreachable!(),
-    }
+    let Some(part) = message.part(field, section) else {
+        unreachable!();
+    };
+    part.octets
 }

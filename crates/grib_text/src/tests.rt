@@ -4,6 +4,8 @@ use super::*;
 use grib_dyadic::Dyadic;
 use grib_io::{Fault, Reason, Refusal};
 use grib_simple::Point;
+use grib2_message::read_message;
+use grib2_sections::u8_at;
 use std::test::Fail;
 
 #[test]
@@ -34,6 +36,35 @@ fn field_has_its_line(rt: HostRuntime) -> Result<(), Fail> {
     assert_eq!(rt;
         line.as_slice(),
         b"1.1 ed=2 centre=98 time=2024-01-15T12:00:00 grid=3.0 points=4 product=4.0 param=0.0.0 unit=1 ahead=6 surface=103:0:2 packing=5.0 bits=8 values=4\n".as_slice()
+    );
+    Ok(())
+}
+
+/// A message of one field of 2 by 2 points.
+const MESSAGE: &[u8] = b"GRIB\0\0\0\x02\0\0\0\0\0\0\0\xb7\
+\0\0\0\x15\x01\0\x62\0\0\x02\0\x01\x07\xe8\x01\x0f\x0c\0\0\0\x01\
+\0\0\0\x48\x03\0\0\0\0\x04\0\0\0\0\x06\xff\xff\xff\xff\xff\xff\xff\xff\xff\xff\xff\xff\xff\xff\xff\
+\0\0\0\x02\0\0\0\x02\0\0\0\0\xff\xff\xff\xff\x02\xfa\xf0\x80\0\x98\x96\x80\x30\x02\xeb\xae\x40\
+\0\xa7\xd8\xc0\0\x0f\x42\x40\0\x0f\x42\x40\0\
+\0\0\0\x22\x04\0\0\0\0\0\0\x02\xff\x01\0\0\0\x01\0\0\0\x06\x67\0\0\0\0\x02\xff\xff\xff\xff\xff\xff\
+\0\0\0\x15\x05\0\0\0\x04\0\0\xc2\xed\x40\0\x80\x03\0\x01\x08\0\0\0\0\x06\x06\xff\
+\0\0\0\x09\x07\0\x01\x02\xff7777";
+
+#[test]
+fn message_has_its_line(rt: HostRuntime) -> Result<(), Fail> {
+    if !MESSAGE.starts_with(b"GRIB") || MESSAGE.len() < 8 || u8_at(MESSAGE, 8) != 2 {
+        return Err(Fail::from("no message"));
+    }
+    let Ok(message) = read_message(rt.alloc(), MESSAGE) else {
+        return Err(Fail::from("refused"));
+    };
+    if message.fields() < 1 {
+        return Err(Fail::from("no field"));
+    }
+    let line = list_line(rt.alloc(), &message, 12, 1)?;
+    assert_eq!(rt;
+        line.as_slice(),
+        b"12.1 ed=2 centre=98 time=2024-01-15T12:00:00 grid=3.0 points=4 product=4.0 param=0.0.0 unit=1 ahead=6 surface=103:0:2 packing=5.0 bits=8 values=4\n".as_slice()
     );
     Ok(())
 }

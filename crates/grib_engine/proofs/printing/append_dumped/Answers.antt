@@ -1,15 +1,13 @@
-use Rattle.std.proofs.Common.{◌<◌, refl, ◌∙◌, sym, subst, rules}
-use Rattle.grib_bits.specs.Binary32.{ieee_exponent}
-use Rattle.grib_text.proofs.Lengths.{representation_long}
+use Rattle.std.proofs.Common.{refl, ◌∙◌, rules}
 use Rattle.grib_text.specs.Lines.{point_lines}
 use Rattle.grib_engine.proofs.Outside.{front_none}
+use Rattle.grib_engine.proofs.Finite.{finite_column}
 use Rattle.grib_engine.proofs.Pending.{writes_on, front_on, dump_is, counts_passed, on_refused}
 use Rattle.grib_engine.proofs.printing.append_dumped.Goals as goal
 
 pub dump_heading-requires-clause-finite : goal.dump_heading-requires-clause-finite
 dump_heading-requires-clause-finite g c =
-    let is = c.in_ok-column.ensures.column in
-    subst (λ column. ieee_exponent column.reference < 255) (sym is) (representation_long _ _ c.column.ensures.passes).finite
+    finite_column c.args.message.now c.args.field c.in_ok-column.column c.column.ensures.passes c.in_ok-column.ensures.column
 
 pub returns-in_err-column-clause-octets : goal.returns-in_err-column-clause-octets
 returns-in_err-column-clause-octets g c = record { whole = search rules; front = front_none _ _ }
