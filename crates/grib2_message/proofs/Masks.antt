@@ -1,5 +1,5 @@
 -- The mask of a field, by its Section 6 or an earlier one.
-use Rattle.std.proofs.Common.{◌≡◌, ◌≢◌, ℕ, ◌+◌, ◌*◌, ◌<◌, ◌≤◌, Bool, true, false, not, cond, Option, Some, None, List, [], length, drop, replicate, nat_lt, ◌==◌, is_none, unwrap_or, inl, inr, refl, sym, ap, ◌∙◌, arith, subst, eq-eqb, eqb-true, ltb-false, lt-ltb, length-drop, length-take-le}
+use Rattle.std.proofs.Common.{◌≡◌, ◌≢◌, ℕ, suc, ◌+◌, ◌*◌, ◌<◌, ◌≤◌, Bool, true, false, not, cond, Option, Some, None, List, [], ◌∷◌, length, drop, replicate, nat_lt, ◌==◌, is_none, unwrap_or, inl, inr, refl, sym, ap, ◌∙◌, arith, subst, eq-eqb, eqb-true, ltb-false, lt-ltb, length-drop, length-take-le}
 use Rattle.std.proofs.lemmas.Bool.{not-false, cases_eq, or_parts, eqb-false}
 use Rattle.std.proofs.lemmas.List.{length-replicate}
 use Rattle.grib_bits.specs.Bits.{bits}
@@ -7,6 +7,8 @@ use Rattle.grib_bits.proofs.OctetBits.{length-bits}
 use Rattle.grib_io.specs.Rows.{first_fault}
 use Rattle.grib2_grids.specs.Grid.{grid_rows, grid_points}
 use Rattle.grib_bitmap.specs.Mask.{bitmap_indicator, bitmap_rows, mask_of, own_mask, present_count}
+use Rattle.grib_packing.specs.declared.column.Point.{Point}
+use Rattle.grib_packing.specs.Column.{points_with_mask}
 use Rattle.grib_packing.specs.Packing.{value_count}
 use Rattle.grib2_sections.specs.Frame.{Placed, section_at}
 use Rattle.grib2_message.specs.View.{octets_in_force, points_in_force, earlier_mask, mask_in_force}
@@ -129,3 +131,10 @@ points_bounds s none =
     let both = or_parts (grid_points s == 0) (nat_lt 33554432 (grid_points s)) p.1.1.1.1.0 in
     let some : grid_points s ≢ 0 = eqb-false (grid_points s) 0 both.0 in
     (omega arith, ltb-false 33554432 (grid_points s) both.1)
+
+-- a column has a point for each bit of its mask
+pub points_of_mask : (presence : List Bool) (entries : List Point) → length (points_with_mask presence entries) ≡ length presence
+points_of_mask [] entries = refl
+points_of_mask (false ∷ presence) entries = ap suc (points_of_mask presence entries)
+points_of_mask (true ∷ presence) [] = ap suc (points_of_mask presence [])
+points_of_mask (true ∷ presence) (entry ∷ entries) = ap suc (points_of_mask presence entries)

@@ -1,6 +1,6 @@
 //! The column of a field.
 
-ghost use Rattle.std.specs.Prelude.{◌≡◌, ◌≤◌, List, None, length, IfOk};
+ghost use Rattle.std.specs.Prelude.{◌≡◌, ◌≤◌, length, ◌≤◌, List, None, length, IfOk};
 ghost use Rattle.grib_bits.specs.Octets.{StatesItself};
 ghost use Rattle.grib_io.specs.Rows.{first_fault};
 ghost use Rattle.grib_bitmap.specs.Mask.{bitmap_rows, mask_of, present_count};
@@ -26,9 +26,11 @@ const REPEATS: u8 = 254;
 /// The column of the field for which the sections in force begin at these places.
 pub(crate) fn column_at(alloc: Global, octets: &[u8], places: &Places) -> Result<Column, AllocError>
     requires { (before : List Placed) × IsField octets.now before places.now }
-    ensures { (before : List Placed) → IsField octets.now before places.now → IfOk result
+    ensures column { (before : List Placed) → IsField octets.now before places.now → IfOk result
         (λ column. column ≡ column_from (octets_in_force 5 before) (mask_in_force before)
         (octets_in_force 7 before)) }
+    ensures few { (before : List Placed) → IsField octets.now before places.now → IfOk result
+        (λ column. length column.points ≤ 33554432) }
 {
     let section5 = places.section(octets, 5);
     let section7 = places.section(octets, 7);

@@ -101,7 +101,9 @@ impl<'a> Message<'a> {
     pub fn column(&self, alloc: Global, field: u32) -> Result<Column, AllocError>
         requires first { 1 ≤ field }
         requires last { field ≤ field_count self.now }
-        ensures { IfOk result (λ column. column ≡ column_of self.now field) }
+        ensures column { IfOk result (λ column. column ≡ column_of self.now field) }
+        ensures few { IfOk result (λ column. length column.points ≤ 33554432) }
+        ensures passes { FieldPasses self.now field }
     {
         let places = &self.fields[field as usize - 1];
         column_at(alloc, self.octets, places)

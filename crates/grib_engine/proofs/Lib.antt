@@ -1,11 +1,5 @@
 pub mod Outside
-pub mod Fronts
-pub mod Given
-pub mod Noted
 pub mod Pending
-pub mod PlainRows
-pub mod PlainFields
-pub mod PlainForm
-pub mod PlainSections
-pub mod PlainMessages
-pub mod Printed
+pub mod Noted
+pub mod Wanted
+pub mod Finite

@@ -1,14 +1,20 @@
 -- Octets that go through a buffer to a sink, one step after another.
-use Rattle.std.proofs.Common.{◌≡◌, ℕ, ◌+◌, ◌≤◌, suc, List, [], ◌∷◌, ◌++◌, length, take, drop, ap, sym, ◌∙◌, arith, append_assoc, append-nil, length-take-le, take-append-drop, subst}
+use Rattle.std.proofs.Common.{◌≡◌, ℕ, ◌+◌, ◌-◌, ◌<◌, ◌≤◌, zero, suc, refl, Ok, Err, IfOk, OnOk, List, [], ◌∷◌, ◌++◌, length, take, drop, ap, sym, ◌∙◌, arith, append_assoc, append-nil, length-take-le, take-append-drop, subst}
 use Rattle.std.specs.declared.option.Option.{Option}
 use Rattle.std.specs.declared.result.Result.{Result}
+use Rattle.std.specs.Result.{IsErr, IsErrAnd}
 use Rattle.std.specs.Io.KnownBytes.{Appends}
+use Rattle.grib_io.specs.declared.outside.Stop.{Stop}
 use Rattle.std.proofs.KnownBytes.{Appends-trans}
+use Rattle.std.proofs.lemmas.Bool.{false≢true}
 use Rattle.std.proofs.lemmas.Result.{on_ok_weaker}
-use Rattle.grib_io.specs.Outside.{AppendsFront}
+use Rattle.grib_io.specs.Outside.{AppendsFront, CountsStop, CountsStops}
 use Rattle.grib_packing.specs.declared.column.Point.{Point}
-use Rattle.grib_text.specs.Lines.{point_line, point_lines}
-use Rattle.grib_engine.specs.Pending.{Writes, AppendsAllBut}
+use Rattle.grib_text.specs.Lines.{point_line, point_lines, list_line}
+use Rattle.grib_packing.specs.declared.column.Column.{Column}
+use Rattle.grib2_message.specs.Fields.{column_of}
+use Rattle.grib_engine.specs.Pending.{Writes, AppendsAllBut, WritesAllBut}
+use Rattle.grib_engine.specs.Tasks.{texts_from, dump_text, reference_line_of}
 use Rattle.grib_engine.proofs.Outside.{front_more}
 
 -- one step after another
@@ -94,6 +100,97 @@ pending_ends_front a b c octets pending shown (first, is, told) same (front, res
   is ∙ (ap (λ xs. first ++ xs) (sym same ∙ is_front) ∙ sym (append_assoc first front rest)),
   Appends-trans a b c first front told told_front,
 )
+
+-- a step that was written, or a front of it
+pub writes_then : {T E : Type 0} (result : Result T E) (a b c : Option (List ℕ)) (octets pending more left : List ℕ) → AppendsAllBut a b octets pending
+    → WritesAllBut result b c (pending ++ more) left → WritesAllBut result a c (octets ++ more) left
+writes_then result a b c octets pending more left before now = record {
+  whole = on_ok_weaker result (pending_more a b c octets pending more left before) now.whole;
+  front = pending_front a b c octets pending more before now.front;
+}
+
+-- the same, where the text goes on from `old`
+pub writes_on : {T E : Type 0} (result : Result T E) (a b c : Option (List ℕ)) (old shown more whole pending left : List ℕ) → shown ++ more ≡ whole
+    → AppendsAllBut a b (old ++ shown) pending → WritesAllBut result b c (pending ++ more) left → WritesAllBut result a c (old ++ whole) left
+writes_on result a b c old shown more whole pending left is before now =
+    subst (λ octets. WritesAllBut result a c octets left) (append_assoc old shown more ∙ ap (λ xs. old ++ xs) is)
+    (writes_then result a b c (old ++ shown) pending more left before now)
+
+-- a front of the first part of it
+pub front_on : (a b : Option (List ℕ)) (old shown more whole : List ℕ) → shown ++ more ≡ whole → AppendsFront a b (old ++ shown) → AppendsFront a b (old ++ whole)
+front_on a b old shown more whole is front =
+    subst (AppendsFront a b) (append_assoc old shown more ∙ ap (λ xs. old ++ xs) is) (front_more a b (old ++ shown) more front)
+
+-- the texts of the first fields and of the next one
+pub texts_more : (text : ℕ → List ℕ) (k i : ℕ) → texts_from text (k + 1) i ≡ texts_from text k i ++ text (i + k)
+texts_more text zero i =
+    let e : i ≡ i + 0 = omega arith in
+    let one : texts_from text (0 + 1) i ≡ text i ++ [] = refl in
+    one ∙ (append-nil (text i) ∙ ap text e)
+texts_more text (suc k) i =
+    let e : suc k + 1 ≡ suc (k + 1) = omega arith in
+    let f : (i + 1) + k ≡ i + suc k = omega arith in
+    ap (λ n. texts_from text n i) e
+    ∙ (ap (λ xs. text i ++ xs) (texts_more text k (i + 1) ∙ ap (λ n. texts_from text k (i + 1) ++ text n) f)
+    ∙ sym (append_assoc (text i) (texts_from text k (i + 1)) (text (i + suc k))))
+
+pub texts_join : (text : ℕ → List ℕ) (k n i : ℕ) → texts_from text (k + n) i ≡ texts_from text k i ++ texts_from text n (i + k)
+texts_join text zero n i =
+    let e : 0 + n ≡ n = omega arith in
+    let f : i ≡ i + 0 = omega arith in
+    ap (λ m. texts_from text m i) e ∙ ap (texts_from text n) f
+texts_join text (suc k) n i =
+    let e : suc k + n ≡ suc (k + n) = omega arith in
+    let f : (i + 1) + k ≡ i + suc k = omega arith in
+    ap (λ m. texts_from text m i) e
+    ∙ (ap (λ xs. text i ++ xs) (texts_join text k n (i + 1) ∙ ap (λ m. texts_from text k (i + 1) ++ texts_from text n m) f)
+    ∙ sym (append_assoc (text i) (texts_from text k (i + 1)) (texts_from text n (i + suc k))))
+
+-- a field more was written but for the buffer
+pub field_written : (a b c : Option (List ℕ)) (old pending left : List ℕ) (text : ℕ → List ℕ) (k field : ℕ) → field ≡ 1 + k
+    → AppendsAllBut a b (old ++ texts_from text k 1) pending → AppendsAllBut b c (pending ++ text field) left → AppendsAllBut a c (old ++ texts_from text (k + 1) 1) left
+field_written a b c old pending left text k field is before now =
+    subst (λ octets. AppendsAllBut a c octets left)
+    (append_assoc old (texts_from text k 1) (text field) ∙ ap (λ xs. old ++ xs) (ap (λ n. texts_from text k 1 ++ text n) is ∙ sym (texts_more text k 1)))
+    (pending_more a b c (old ++ texts_from text k 1) pending (text field) left before now)
+
+-- or a front of it
+pub field_refused : (a b c : Option (List ℕ)) (old pending : List ℕ) (text : ℕ → List ℕ) (k field n : ℕ) → field ≡ 1 + k → k < n
+    → AppendsAllBut a b (old ++ texts_from text k 1) pending → AppendsFront b c (pending ++ text field) → AppendsFront a c (old ++ texts_from text n 1)
+field_refused a b c old pending text k field n is less before front =
+    let count : (k + 1) + (n - (k + 1)) ≡ n = omega arith in
+    let texts : (texts_from text k 1 ++ text field) ++ texts_from text (n - (k + 1)) (1 + (k + 1)) ≡ texts_from text n 1 =
+    ap (λ xs. xs ++ texts_from text (n - (k + 1)) (1 + (k + 1))) (ap (λ m. texts_from text k 1 ++ text m) is ∙ sym (texts_more text k 1))
+    ∙ (sym (texts_join text (k + 1) (n - (k + 1)) 1) ∙ ap (λ m. texts_from text m 1) count) in
+    front_on a c old (texts_from text k 1 ++ text field) (texts_from text (n - (k + 1)) (1 + (k + 1))) (texts_from text n 1) texts
+    (subst (AppendsFront a c) (append_assoc old (texts_from text k 1) (text field))
+    (pending_front a b c (old ++ texts_from text k 1) pending (text field) before front))
+
+-- the text of a field in `dump`
+pub dump_is : (m : List ℕ) (number i : ℕ) (column : Column) (shown : List ℕ) (points : List Point) → column ≡ column_of m i
+    → shown ≡ list_line m number i ++ reference_line_of column → points ≡ column.points → shown ++ point_lines 1 points ≡ dump_text m number i
+dump_is m number i column shown points is_column is_shown are_points =
+    ap (λ xs. xs ++ point_lines 1 points) is_shown
+    ∙ (ap (λ ps. (list_line m number i ++ reference_line_of column) ++ point_lines 1 ps) are_points
+    ∙ ap (λ x. (list_line m number i ++ reference_line_of x) ++ point_lines 1 x.points) is_column)
+
+-- what holds of a result, after a refusal that is passed on
+pub if_refused : {T E : Type 0} (result : Result T E) (P : T → Type 0) → IsErr result → IfOk result P
+if_refused (Ok x) P is = absurd (false≢true is)
+if_refused (Err e) P is = tt
+
+pub on_refused : {T E : Type 0} (result : Result T E) (P : Type 0) → IsErr result → OnOk result P
+on_refused (Ok x) P is = absurd (false≢true is)
+on_refused (Err e) P is = tt
+
+-- a buffer that was empty
+pub from_empty : (a b : Option (List ℕ)) (empty octets pending : List ℕ) → empty ≡ [] → AppendsAllBut a b (empty ++ octets) pending → AppendsAllBut a b octets pending
+from_empty a b empty octets pending none before = subst (λ xs. AppendsAllBut a b (xs ++ octets) pending) none before
+
+pub counts_passed : {T : Type 0} (result : Result T Stop) (stop : Stop) (before now : ℕ) → IsErrAnd result (λ e. e ≡ stop) → CountsStop stop before now
+    → CountsStops result before now
+counts_passed (Ok x) stop before now is counts = absurd is
+counts_passed (Err e) stop before now is counts = subst (λ s. CountsStop s before now) (sym is) counts
 
 pub pending_written : {T E : Type 0} (result : Result T E) (a b c : Option (List ℕ)) (octets pending shown : List ℕ) → AppendsAllBut a b octets pending
     → shown ≡ pending → Writes result b c shown → Writes result a c octets

@@ -1,91 +1,70 @@
-//! The answer to the octets of an input.
+//! What a job does with the messages of an input.
 
-ghost use Rattle.std.specs.Prelude.{◌≡◌, ◌≢◌, true, false, take, Some, None};
-ghost use Rattle.grib_io.specs.Outside.{Counted};
-ghost use Rattle.grib_io.specs.Rows.{first_fault};
-ghost use Rattle.grib2_sections.specs.Head.{indicator, head_rows, head_of};
-ghost use Rattle.grib_engine.specs.Answer as answers;
-ghost use Rattle.grib_engine.specs.Answer.{answer, answer_by_head, plain_answer, silent};
-ghost use Rattle.grib_engine.specs.declared.job.Job.{Job as AnyJob};
-ghost use Rattle.grib_engine.specs.Outcomes.{is_broken};
-ghost use Rattle.grib_engine.specs.Run.{GivesAnswer};
-ghost use Rattle.grib_engine.specs.declared.outcome.Outcome.TheVariants.{ReadFault, WriteFault};
+ghost use Rattle.std.specs.Prelude.{◌≡◌, ◌≢◌, false};
+ghost use Rattle.grib_io.specs.Outside.{Counted, CountsStops};
+ghost use Rattle.grib_stream.specs.Acts.{world, writes};
+ghost use Rattle.grib_engine.specs.Pending.{Writes};
+ghost use Rattle.grib_engine.specs.Answering.{DoesActs};
+ghost use Rattle.grib_engine.specs.Reading.{held_octets};
+ghost use Rattle.grib_engine.specs.Tasks.{message_text};
+ghost use Rattle.grib_engine.specs.declared.answering.Answered.TheVariants.{WriteFault};
 
 use crate::job::Job;
-use crate::outcome::Outcome;
-use crate::plain::PlainMessage;
-use crate::printing::write_lines;
-use crate::reading::MOST;
-use grib_io::{Fault, Reason, Refusal, Sink, Stop};
-use grib2_sections::{Head, read_head};
+use crate::printing::write_message;
+use crate::reading::Held;
+use grib_io::{Shelf, Sink, Stop};
+use grib_stream::Place;
 use std::alloc::Global;
 
-/// Answers the octets of an input, but for the note.
-pub(crate) fn answer_octets<T: Sink>(
+/// What came of a message.
+#[derive(Clone, Copy, Debug, PartialEq, Eq)]
+pub enum Answered {
+    /// Its result was appended to the output.
+    Whole,
+    /// The output failed.
+    WriteFault,
+    /// Want of memory.
+    Memory,
+}
+
+/// Does what the job says of a message at this place. After a fault or want of memory some first octets of its result may
+/// have been appended. The shelf is not used by these jobs.
+pub fn answer_message<T: Sink, H: Shelf>(
     alloc: Global,
     job: &Job,
-    octets: &[u8],
+    place: &Place,
+    held: &Held<'_>,
     output: &mut T,
-) -> Outcome
-    ensures answer { GivesAnswer (answer job.now octets.now) result
-        (T.contents output.old) (T.contents output.new) }
-    ensures no_read { result ≢ ReadFault }
-    ensures fault { result ≡ WriteFault → Counted (T.faults output.old) (T.faults output.new) }
-    ensures calm { result ≢ WriteFault → T.faults output.new ≡ T.faults output.old }
+    shelf: &mut H,
+) -> Answered
+    ensures does { DoesActs result
+        (world (T.contents output.old) (H.contents shelf.old))
+        (world (T.contents output.new) (H.contents shelf.new))
+        (writes (message_text job.now place.now (held_octets held.now))) }
+    ensures write_fault { result ≡ WriteFault → Counted (T.faults output.old) (T.faults output.new) }
+    ensures write_calm { result ≢ WriteFault → T.faults output.new ≡ T.faults output.old }
+    ensures shelf { shelf.new ≡ shelf.old }
 {
-    if !may_be_message(octets) {
-        return Outcome::NotBuilt;
-    }
-    match read_head(octets) {
-        Ok(head) => answer_message(alloc, job, octets, &head, output),
-        Err(fault) => outcome_of_refusal(octets, fault),
-    }
-}
-
-/// Whether an input begins with `GRIB` and has at most 65,536 octets.
-fn may_be_message(octets: &[u8]) -> bool
-    ensures told { result ≡ answers.may_be_message octets.now }
-    ensures begins { result ≡ true → take 4 octets.now ≡ indicator }
-{
-    octets.len() <= MOST && octets.starts_with(b"GRIB")
-}
-
-/// The outcome where Section 0 of these octets is refused: for what is not there and for its edition. Total
-/// lengths are not judged so far.
-fn outcome_of_refusal(octets: &[u8], fault: Fault) -> Outcome
-    requires { first_fault (head_rows octets.now) ≡ Some fault }
-    ensures told { (job : AnyJob) → silent result ≡ answer_by_head job octets.now }
-    ensures unbroken { is_broken result ≡ false }
-{
-    match fault.reason {
-        Reason::TotalLength => Outcome::NotBuilt,
-        _ => Outcome::Refused(Refusal { message: 1, fault }),
+    match write_held(alloc, job, place, held, output) {
+        Ok(()) => Answered::Whole,
+        Err(Stop::Failed) => Answered::WriteFault,
+        Err(Stop::Memory) => Answered::Memory,
     }
 }
 
-/// Answers an input that Section 0 does not refuse.
-fn answer_message<T: Sink>(
+/// Writes what the job prints of a message.
+fn write_held<T: Sink>(
     alloc: Global,
     job: &Job,
-    octets: &[u8],
-    head: &Head,
+    place: &Place,
+    held: &Held<'_>,
     output: &mut T,
-) -> Outcome
-    requires indicated { take 4 octets.now ≡ indicator }
-    requires begun { first_fault (head_rows octets.now) ≡ None }
-    requires head { head.now ≡ head_of octets.now }
-    ensures answer { GivesAnswer (plain_answer job.now octets.now) result
-        (T.contents output.old) (T.contents output.new) }
-    ensures no_read { result ≢ ReadFault }
-    ensures fault { result ≡ WriteFault → Counted (T.faults output.old) (T.faults output.new) }
-    ensures calm { result ≢ WriteFault → T.faults output.new ≡ T.faults output.old }
+) -> Result<(), Stop>
+    ensures octets { Writes result (T.contents output.old) (T.contents output.new)
+        (message_text job.now place.now (held_octets held.now)) }
+    ensures counted { CountsStops result (T.faults output.old) (T.faults output.new) }
 {
-    let Some(message) = PlainMessage::of(octets, head) else {
-        return Outcome::NotBuilt;
-    };
-    match write_lines(alloc, job, &message, output) {
-        Ok(()) => Outcome::Done,
-        Err(Stop::Failed) => Outcome::WriteFault,
-        Err(Stop::Memory) => Outcome::Memory,
+    match held {
+        Held::Two(message) => write_message(alloc, job, place, message, output),
     }
 }

@@ -1,19 +1,21 @@
 //! The end of a run: its note, and what a lower layer holds back.
 
-ghost use Rattle.std.specs.Prelude.{◌≡◌, ◌≢◌, ◌<◌, ◌⊎◌, true, false, OnOk, MatchResult};
+ghost use Rattle.std.specs.Prelude.{◌≡◌, ◌≢◌, ◌<◌, ◌⊎◌, true, false, IfOk, OnOk, MatchResult};
 ghost use Rattle.std.specs.Io.KnownBytes.{Appends, Keeps};
 ghost use Rattle.grib_io.specs.Outside.{AppendsFront};
 ghost use Rattle.grib_engine.specs.Closing.{settled_after, Unfinished};
-ghost use Rattle.grib_engine.specs.Counts.{Calm, OneCounted, CountsOne};
-ghost use Rattle.grib_engine.specs.Outcomes.{note_of, is_cut_short, NotesFront};
+ghost use Rattle.grib_stream.specs.Outcomes.{is_cut_short};
+ghost use Rattle.grib_stream.specs.Faults.{OneCounted};
+ghost use Rattle.grib_engine.specs.Counts.{Calm, CountsEither};
+ghost use Rattle.grib_engine.specs.Outcomes.{note_of, NotesFront};
 ghost use Rattle.grib_engine.specs.Pending.{Writes};
-ghost use Rattle.grib_engine.specs.declared.outcome.Outcome.TheVariants.{WriteFault, Memory};
+ghost use Rattle.grib_stream.specs.declared.outcome.Outcome.TheVariants.{Usage, WriteFault, Memory};
 
-use crate::outcome::Outcome;
 use crate::writing::write_whole;
 use grib_io::{Sink, Stop};
+use grib_stream::Outcome;
 use grib_text::refusal_note;
-use std::alloc::Global;
+use std::alloc::{AllocError, Global};
 
 /// Ends a run with this outcome: appends the note to `notes`, finishes the output, and then the notes.
 /// After a write fault it does nothing. It answers the outcome, or WriteFault or Memory where the end
@@ -64,7 +66,7 @@ pub fn close<T: Sink, N: Sink>(
 
 /// Ends a run with the note of its outcome. Where there is no memory for the note, the outcome is want
 /// of memory.
-pub(crate) fn close_with_note<T: Sink, N: Sink>(
+pub fn close_with_note<T: Sink, N: Sink>(
     alloc: Global,
     outcome: Outcome,
     output: &mut T,
@@ -95,11 +97,24 @@ pub(crate) fn close_with_note<T: Sink, N: Sink>(
             Ok(note) => close(outcome, note.as_slice(), output, notes),
             Err(_) => close(Outcome::Memory, b"memory\n", output, notes),
         },
+        Outcome::Usage(word) => match usage_note(alloc, word) {
+            Ok(note) => close(outcome, note.as_slice(), output, notes),
+            Err(_) => close(Outcome::Memory, b"memory\n", output, notes),
+        },
         Outcome::Done | Outcome::WriteFault => close(outcome, b"", output, notes),
         Outcome::ReadFault => close(outcome, b"read fault\n", output, notes),
         Outcome::Memory => close(outcome, b"memory\n", output, notes),
+        Outcome::InputTooLong => close(outcome, b"input too long\n", output, notes),
         Outcome::NotBuilt => close(outcome, b"not built\n", output, notes),
     }
+}
+
+/// The note on words that have no reading, by the first that is not read.
+fn usage_note(alloc: Global, word: u64) -> Result<Vec<u8>, AllocError>
+    ensures { IfOk result (λ note. note.items ≡ note_of (Usage word)) }
+{
+    let note = format!(in alloc; "usage word {word}\n")?;
+    Ok(note.into_bytes())
 }
 
 /// Appends the note, and finishes both sinks.
@@ -110,7 +125,7 @@ fn settle<T: Sink, N: Sink>(note: &[u8], output: &mut T, notes: &mut N) -> Resul
     ensures counted { MatchResult result
         (λ _. Calm (T.faults output.old) (T.faults output.new)
         (N.faults notes.old) (N.faults notes.new))
-        (λ stop. CountsOne stop (T.faults output.old) (T.faults output.new)
+        (λ stop. CountsEither stop (T.faults output.old) (T.faults output.new)
         (N.faults notes.old) (N.faults notes.new)) }
     ensures order { ((output.new ≡ output.old) × Unfinished (N.settled notes.old) (N.settled notes.new))
         ⊎ ((Appends (N.contents notes.old) (N.contents notes.new) note.now

@@ -5,6 +5,8 @@
 pub enum Job {
     /// A line for each message, and at the end a line on the whole input.
     Check,
+    /// A line for each field.
+    List,
     /// For each field its list line, its reference line, and a line for each grid point.
     Dump,
 }

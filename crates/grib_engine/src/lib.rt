@@ -3,10 +3,9 @@
 
 mod answering;
 mod closing;
+mod ending;
 mod job;
-pub mod laws;
-mod outcome;
-mod plain;
+mod performing;
 mod points;
 mod printing;
 mod reading;
@@ -15,7 +14,9 @@ mod serving;
 mod tests;
 mod writing;
 
+pub use answering::{Answered, answer_message};
 pub use closing::close;
+pub use grib_stream::{Outcome, Place, Totals};
 pub use job::Job;
-pub use outcome::Outcome;
+pub use reading::Held;
 pub use serving::serve;

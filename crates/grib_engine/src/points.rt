@@ -1,37 +1,40 @@
-//! The lines of the points of a column, through a buffer.
+//! Text on its way through a buffer, and the lines of the points of a column.
 
 ghost use Rattle.std.specs.Prelude.{◌^◌, ◌<◌, ◌++◌, length};
 ghost use Rattle.grib_io.specs.Outside.{CountsStops};
 ghost use Rattle.grib_text.specs.Lines.{point_line, point_lines};
-ghost use Rattle.grib_engine.specs.Pending.{Writes, WritesAllBut};
+ghost use Rattle.grib_engine.specs.Pending.{WritesAllBut};
 
 use crate::writing::write_whole;
 use grib_io::{Sink, Stop};
-use grib_simple::Point;
+use grib_packing::Point;
 use grib_text::append_point_line;
 
 /// From so many octets on a buffer is passed on.
 pub(crate) const FULL: usize = 65_536;
 
-/// Writes these lines, and after them the line of each point. The lines are the buffer that those of the
-/// points go through.
-pub(crate) fn write_with_points<T: Sink>(
-    mut lines: Vec<u8>,
-    points: &[Point],
+/// Appends some text to the buffer, which is passed on first where it is full.
+pub(crate) fn append_text<T: Sink>(
+    lines: &mut Vec<u8>,
+    text: &[u8],
     output: &mut T,
 ) -> Result<(), Stop>
-    requires few { length points.now < 2 ^ 32 }
-    ensures octets { Writes result (T.contents output.old) (T.contents output.new)
-        (lines.items ++ point_lines 1 points.now) }
+    ensures octets { WritesAllBut result (T.contents output.old) (T.contents output.new)
+        (lines.old.items ++ text.now) lines.new.items }
     ensures counted { CountsStops result (T.faults output.old) (T.faults output.new) }
 {
-    append_points(&mut lines, points, output)?;
-    write_whole(output, lines.as_slice())
+    make_room(lines, output)?;
+    lines.extend_from_slice(text)?;
+    Ok(())
 }
 
 /// Appends the line of each point to the buffer, which is passed on to the sink whenever it is full. What
 /// is left in the buffer is still to be written.
-fn append_points<T: Sink>(lines: &mut Vec<u8>, points: &[Point], output: &mut T) -> Result<(), Stop>
+pub(crate) fn append_points<T: Sink>(
+    lines: &mut Vec<u8>,
+    points: &[Point],
+    output: &mut T,
+) -> Result<(), Stop>
     requires few { length points.now < 2 ^ 32 }
     ensures octets { WritesAllBut result (T.contents output.old) (T.contents output.new)
         (lines.old.items ++ point_lines 1 points.now) lines.new.items }

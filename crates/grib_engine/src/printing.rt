@@ -1,114 +1,193 @@
-//! The lines of an input that is one message in the plain form.
+//! What is printed of a message.
 
 ghost use Rattle.std.specs.Prelude.{◌≡◌, ◌<◌, ◌≤◌, ◌++◌, length, IfOk};
 ghost use Rattle.grib_io.specs.Outside.{CountsStops};
 ghost use Rattle.grib_bits.specs.Binary32.{ieee_exponent};
-ghost use Rattle.grib_text.specs.Lines as lines;
-ghost use Rattle.grib_engine.specs.Answer as answers;
-ghost use Rattle.grib_engine.specs.Pending.{Writes};
-ghost use Rattle.grib_engine.specs.PlainParts.{PlainParts};
+ghost use Rattle.grib_text.specs.Lines as printed;
+ghost use Rattle.grib2_message.specs.Fields.{field_count};
+ghost use Rattle.grib_engine.specs.Pending.{Writes, WritesAllBut};
+ghost use Rattle.grib_engine.specs.Tasks as tasks;
+ghost use Rattle.grib_engine.specs.Tasks.{field_text, texts_from, message_text};
 
 use crate::job::Job;
-use crate::plain::PlainMessage;
-use crate::points::{FULL, write_with_points};
+use crate::points::{FULL, append_points, append_text};
 use crate::writing::write_whole;
 use grib_dyadic::Dyadic;
 use grib_io::{Sink, Stop};
-use grib_simple::{Column, simple_column};
-use grib_text::{ListedField, check_line, field_line, reference_line, total_line};
+use grib_packing::Column;
+use grib_stream::Place;
+use grib_text::{check_line, list_line, reference_line};
+use grib2_message::Message;
 use std::alloc::{AllocError, Global};
 
 /// The octets of lines that are gathered before they are written, and room for some lines more.
-const ROOM: usize = FULL + 128;
+const ROOM: usize = FULL + 1024;
 
-/// Writes what the job prints of the message.
-pub(crate) fn write_lines<T: Sink>(
+/// Writes what the job prints of a message at this place.
+pub(crate) fn write_message<T: Sink>(
     alloc: Global,
     job: &Job,
-    message: &PlainMessage<'_>,
+    place: &Place,
+    message: &Message<'_>,
     output: &mut T,
 ) -> Result<(), Stop>
-    requires parts { PlainParts message.now.octets.now message.now.listed.discipline
-        message.now.listed.identification.now message.now.listed.grid.now
-        message.now.listed.product.now message.now.listed.representation.now
-        message.now.values.now }
     ensures octets { Writes result (T.contents output.old) (T.contents output.new)
-        (answers.lines_of job.now message.now.octets.now) }
+        (message_text job.now place.now message.now) }
     ensures counted { CountsStops result (T.faults output.old) (T.faults output.new) }
 {
     match job {
-        Job::Check => write_check(alloc, message.octets, output),
-        Job::Dump => write_dump(alloc, message, output),
+        Job::Check => write_check(alloc, place, message, output),
+        Job::List | Job::Dump => write_fields(alloc, job, place.message, message, output),
     }
 }
 
-/// Writes what `check` prints of these octets.
-fn write_check<T: Sink>(alloc: Global, octets: &[u8], output: &mut T) -> Result<(), Stop>
+/// Writes the line of a message.
+fn write_check<T: Sink>(
+    alloc: Global,
+    place: &Place,
+    message: &Message<'_>,
+    output: &mut T,
+) -> Result<(), Stop>
     ensures octets { Writes result (T.contents output.old) (T.contents output.new)
-        (answers.check_lines octets.now) }
+        (printed.check_line place.now.message place.now.before 2 (length message.now) (field_count message.now)) }
     ensures counted { CountsStops result (T.faults output.old) (T.faults output.new) }
 {
-    let lines = check_lines(alloc, octets)?;
+    let line = check_line(
+        alloc,
+        place.message,
+        place.before,
+        2,
+        message.length(),
+        message.fields(),
+    )?;
+    write_whole(output, line.as_slice())
+}
+
+/// Writes what the job prints of each field of a message with this number, through one buffer.
+fn write_fields<T: Sink>(
+    alloc: Global,
+    job: &Job,
+    number: u64,
+    message: &Message<'_>,
+    output: &mut T,
+) -> Result<(), Stop>
+    ensures octets { Writes result (T.contents output.old) (T.contents output.new)
+        (texts_from (field_text job.now message.now number) (field_count message.now) 1) }
+    ensures counted { CountsStops result (T.faults output.old) (T.faults output.new) }
+{
+    let mut lines = Vec::with_capacity(alloc, ROOM)?;
+    append_fields(alloc, job, number, message, &mut lines, output)?;
     write_whole(output, lines.as_slice())
 }
 
-/// The line of the message, and the line on the input.
-fn check_lines(alloc: Global, octets: &[u8]) -> Result<Vec<u8>, AllocError>
-    ensures { IfOk result (λ printed. printed.items ≡ answers.check_lines octets.now) }
-{
-    let mut lines = check_line(alloc, 1, 0, 2, octets.len() as u64, 1)?;
-    let total = total_line(alloc, 1, 1, 0)?;
-    lines.extend_from_slice(total.as_slice())?;
-    Ok(lines)
-}
-
-/// Writes what `dump` prints of the message.
-fn write_dump<T: Sink>(
+/// Appends what the job prints of each field to the buffer.
+fn append_fields<T: Sink>(
     alloc: Global,
-    message: &PlainMessage<'_>,
+    job: &Job,
+    number: u64,
+    message: &Message<'_>,
+    lines: &mut Vec<u8>,
     output: &mut T,
 ) -> Result<(), Stop>
-    requires parts { PlainParts message.now.octets.now message.now.listed.discipline
-        message.now.listed.identification.now message.now.listed.grid.now
-        message.now.listed.product.now message.now.listed.representation.now
-        message.now.values.now }
-    ensures octets { Writes result (T.contents output.old) (T.contents output.new)
-        (answers.dump_lines message.now.octets.now) }
+    ensures octets { WritesAllBut result (T.contents output.old) (T.contents output.new)
+        (lines.old.items ++ texts_from (field_text job.now message.now number) (field_count message.now) 1)
+        lines.new.items }
     ensures counted { CountsStops result (T.faults output.old) (T.faults output.new) }
 {
-    let column = simple_column(alloc, message.listed.representation, message.values)?;
-    let lines = dump_heading(alloc, &message.listed, &column)?;
-    write_with_points(lines, column.points.as_slice(), output)
+    let count = message.fields();
+    for index in 0..count {
+        append_field(alloc, job, number, message, index + 1, lines, output)?;
+    }
+    Ok(())
 }
 
-/// The line on the field, and the line on its reference value, with room for the lines of points.
+/// Appends what the job prints of a field to the buffer.
+fn append_field<T: Sink>(
+    alloc: Global,
+    job: &Job,
+    number: u64,
+    message: &Message<'_>,
+    field: u32,
+    lines: &mut Vec<u8>,
+    output: &mut T,
+) -> Result<(), Stop>
+    requires first { 1 ≤ field }
+    requires last { field ≤ field_count message.now }
+    ensures octets { WritesAllBut result (T.contents output.old) (T.contents output.new)
+        (lines.old.items ++ field_text job.now message.now number field) lines.new.items }
+    ensures counted { CountsStops result (T.faults output.old) (T.faults output.new) }
+{
+    match job {
+        Job::Check => append_text(lines, b"", output),
+        Job::List => append_listed(alloc, number, message, field, lines, output),
+        Job::Dump => append_dumped(alloc, number, message, field, lines, output),
+    }
+}
+
+/// Appends the list line of a field to the buffer.
+fn append_listed<T: Sink>(
+    alloc: Global,
+    number: u64,
+    message: &Message<'_>,
+    field: u32,
+    lines: &mut Vec<u8>,
+    output: &mut T,
+) -> Result<(), Stop>
+    requires first { 1 ≤ field }
+    requires last { field ≤ field_count message.now }
+    ensures octets { WritesAllBut result (T.contents output.old) (T.contents output.new)
+        (lines.old.items ++ printed.list_line message.now number field) lines.new.items }
+    ensures counted { CountsStops result (T.faults output.old) (T.faults output.new) }
+{
+    let line = list_line(alloc, message, number, field)?;
+    append_text(lines, line.as_slice(), output)
+}
+
+/// Appends what `dump` prints of a field to the buffer.
+fn append_dumped<T: Sink>(
+    alloc: Global,
+    number: u64,
+    message: &Message<'_>,
+    field: u32,
+    lines: &mut Vec<u8>,
+    output: &mut T,
+) -> Result<(), Stop>
+    requires first { 1 ≤ field }
+    requires last { field ≤ field_count message.now }
+    ensures octets { WritesAllBut result (T.contents output.old) (T.contents output.new)
+        (lines.old.items ++ tasks.dump_text message.now number field) lines.new.items }
+    ensures counted { CountsStops result (T.faults output.old) (T.faults output.new) }
+{
+    let column = message.column(alloc, field)?;
+    let heading = dump_heading(alloc, number, message, field, &column)?;
+    append_text(lines, heading.as_slice(), output)?;
+    append_points(lines, column.points.as_slice(), output)
+}
+
+/// The line of a field, and the line on the numbers of its column.
 fn dump_heading(
     alloc: Global,
-    listed: &ListedField<'_>,
+    number: u64,
+    message: &Message<'_>,
+    field: u32,
     column: &Column,
 ) -> Result<Vec<u8>, AllocError>
-    requires identification { 19 ≤ length listed.now.identification.now }
-    requires grid { 14 ≤ length listed.now.grid.now }
-    requires product { 28 ≤ length listed.now.product.now }
-    requires representation { 20 ≤ length listed.now.representation.now }
+    requires first { 1 ≤ field }
+    requires last { field ≤ field_count message.now }
     requires finite { ieee_exponent column.now.reference < 255 }
     ensures { IfOk result (λ heading. heading.items
-        ≡ lines.field_line 1 1 listed.now.discipline listed.now.identification.now
-        listed.now.grid.now listed.now.product.now listed.now.representation.now
-        ++ answers.reference_line_of column.now) }
+        ≡ printed.list_line message.now number field ++ tasks.reference_line_of column.now) }
 {
-    let field = field_line(alloc, 1, 1, listed)?;
+    let mut heading = list_line(alloc, message, number, field)?;
     let numbers = reference_line_of(alloc, column)?;
-    let mut lines = Vec::with_capacity(alloc, ROOM)?;
-    lines.extend_from_slice(field.as_slice())?;
-    lines.extend_from_slice(numbers.as_slice())?;
-    Ok(lines)
+    heading.extend_from_slice(numbers.as_slice())?;
+    Ok(heading)
 }
 
 /// The line on the reference value and the scale factors of a column.
 fn reference_line_of(alloc: Global, column: &Column) -> Result<Vec<u8>, AllocError>
     requires finite { ieee_exponent column.now.reference < 255 }
-    ensures { IfOk result (λ line. line.items ≡ answers.reference_line_of column.now) }
+    ensures { IfOk result (λ line. line.items ≡ tasks.reference_line_of column.now) }
 {
     let reference = Dyadic::from_ieee(column.reference).unwrap();
     reference_line(alloc, &reference, column.e, column.d)

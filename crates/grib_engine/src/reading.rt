@@ -1,49 +1,70 @@
-//! The octets of an input, taken in pieces into one buffer.
+//! The message that octets begin with.
 
-ghost use Rattle.std.specs.Prelude.{◌≤◌, ◌<◌, length, take, IfOk, OnErr};
-ghost use Rattle.std.specs.Io.KnownBytes.{Consumes, IsAtEnd};
-ghost use Rattle.grib_io.specs.Outside.{CountsFailure, CountsStops};
-ghost use Rattle.grib_engine.specs.Run.{TakesAtMost};
+ghost use Rattle.std.specs.Prelude.{◌≡◌, true, MatchResult};
+ghost use Rattle.grib2_sections.specs.Head as head;
+ghost use Rattle.grib_stream.specs.Stream.{begins};
+ghost use Rattle.grib_engine.specs.Reading.{Holds, IsUnread};
+ghost use Rattle.grib_engine.specs.declared.reading.Unread.TheVariants.{Refused, Memory};
+ghost use Rattle.grib2_message.specs.declared.fault.ReadFault.TheVariants.{Refused as RefusedMessage};
 
-use grib_io::{Failed, Source, Stop};
+use grib_io::Fault;
+use grib2_message::{Message, ReadFault, read_message};
+use grib2_sections::{read_head, u8_at};
 use std::alloc::Global;
 
-/// The most octets of an input that is answered so far, and the most that one read asks for.
-pub(crate) const MOST: usize = 65_536;
-
-/// Takes the octets of an input to its end, or one more than `MOST`, which shows that it is too long.
-pub(crate) fn read_front<S: Source>(alloc: Global, input: &mut S) -> Result<Vec<u8>, Stop>
-    ensures taken { IfOk result
-        (λ octets. Consumes (S.left input.old) (S.left input.new) octets.items) }
-    ensures most { IfOk result (λ octets. length octets.items ≤ 65537) }
-    ensures at_most { TakesAtMost 65537 (S.left input.old) (S.left input.new) }
-    ensures end { IfOk result (λ octets. length octets.items ≤ 65536 → IsAtEnd (S.left input.new)) }
-    ensures counted { CountsStops result (S.faults input.old) (S.faults input.new) }
-{
-    let mut octets = vec![in alloc; 0u8; MOST + 1]?;
-    let count = fill(octets.as_mut_slice(), input)?;
-    octets.truncate(count);
-    Ok(octets)
+/// A message that is held whole.
+#[derive(Debug, Drop)]
+pub enum Held<'a> {
+    /// Of edition 2.
+    Two(Message<'a>),
 }
 
-/// Fills the buffer from the input, as far as either goes, and answers how many octets came.
-fn fill<S: Source>(buffer: &mut [u8], input: &mut S) -> Result<usize, Failed>
-    ensures bound { IfOk result (λ count. count ≤ length buffer.new) }
-    ensures taken { IfOk result
-        (λ count. Consumes (S.left input.old) (S.left input.new) (take count buffer.new)) }
-    ensures refused { OnErr result
-        (TakesAtMost (length buffer.new) (S.left input.old) (S.left input.new)) }
-    ensures end { IfOk result (λ count. count < length buffer.new → IsAtEnd (S.left input.new)) }
-    ensures counted { CountsFailure result (S.faults input.old) (S.faults input.new) }
+/// Why octets from a `GRIB` on were not read as a message.
+#[derive(Clone, Copy, Debug, PartialEq, Eq)]
+pub(crate) enum Unread {
+    /// They are refused.
+    Refused(Fault),
+    /// They are of edition 1, which is not built yet.
+    NotBuilt,
+    /// Want of memory.
+    Memory,
+}
+
+/// Reads the message that these octets begin with, which begin with `GRIB`.
+pub(crate) fn read_held<'a>(alloc: Global, octets: &'a [u8]) -> Result<Held<'a>, Unread>
+    requires { begins octets.now ≡ true }
+    ensures { MatchResult result (Holds octets.now) (IsUnread octets.now) }
 {
-    let mut filled = 0;
-    while filled < buffer.len() {
-        let end = buffer.len().min(filled.saturating_add(MOST));
-        let count = input.read(&mut buffer[filled..end])?;
-        if count == 0 {
-            break;
-        }
-        filled += count;
+    match edition_of(octets) {
+        1 => Err(Unread::NotBuilt),
+        2 => read_second(alloc, octets),
+        _ => match read_head(octets) {
+            Ok(_) => unreachable!(),
+            Err(fault) => Err(Unread::Refused(fault)),
+        },
     }
-    Ok(filled)
+}
+
+/// The edition, 0 where it does not stand.
+fn edition_of(octets: &[u8]) -> u8
+    ensures { result ≡ head.edition octets.now }
+{
+    if octets.len() < 8 {
+        0
+    } else {
+        u8_at(octets, 8)
+    }
+}
+
+/// Reads a message of edition 2.
+fn read_second<'a>(alloc: Global, octets: &'a [u8]) -> Result<Held<'a>, Unread>
+    requires begun { begins octets.now ≡ true }
+    requires second { head.edition octets.now ≡ 2 }
+    ensures { MatchResult result (Holds octets.now) (IsUnread octets.now) }
+{
+    match read_message(alloc, octets) {
+        Ok(message) => Ok(Held::Two(message)),
+        Err(ReadFault::Refused(fault)) => Err(Unread::Refused(fault)),
+        Err(ReadFault::Memory) => Err(Unread::Memory),
+    }
 }

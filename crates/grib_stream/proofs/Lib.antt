@@ -6,3 +6,4 @@ pub mod Windows
 pub mod Exits
 pub mod Going
 pub mod Stopping
+pub mod Within

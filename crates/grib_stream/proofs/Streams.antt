@@ -31,7 +31,7 @@ stream_skip judge place skipped octet octets none =
     (λ _. stream_from judge zero (place + 1) (skipped + 1) octets)) none
 
 -- octets from which a message begins
-stream_begun : (judge : List ℕ → Judgement) (place skipped octet : ℕ) (octets : List ℕ) → begins (octet ∷ octets) ≡ true
+pub stream_begun : (judge : List ℕ → Judgement) (place skipped octet : ℕ) (octets : List ℕ) → begins (octet ∷ octets) ≡ true
     → stream_from judge 0 place skipped (octet ∷ octets)
     ≡ on_judgement (judge (octet ∷ octets))
     (λ total. followed_by (message_after place (take total (octet ∷ octets))) (stream_from judge (total - 1) (place + 1) skipped octets))

@@ -1,4 +1,5 @@
 pub mod Stream
+pub mod Within
 pub mod Searching
 pub mod Acts
 pub mod Outcomes

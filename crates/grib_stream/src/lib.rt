@@ -5,6 +5,7 @@
 mod answering;
 mod deciding;
 mod gathering;
+pub mod laws;
 mod outcome;
 mod performer;
 mod place;

@@ -1,10 +1,10 @@
-use Rattle.std.proofs.Common.{◌≡◌, None, sym, ap, ap₂, ◌∙◌, arith}
+use Rattle.std.proofs.Common.{◌≡◌, length, None, sym, ap, ap₂, ◌∙◌, arith}
 use Rattle.grib_io.specs.Rows.{located}
 use Rattle.grib_packing.specs.Entries.{packing_fault, data_fault, column_from}
 use Rattle.grib_packing.specs.Packing.{value_count}
 use Rattle.grib2_message.specs.View.{octets_in_force}
 use Rattle.grib2_message.proofs.Checked.{stands_below}
-use Rattle.grib2_message.proofs.Masks.{points_bounds}
+use Rattle.grib2_message.proofs.Masks.{points_bounds, points_of_mask}
 use Rattle.grib2_message.proofs.columns.column_at.Goals as goal
 
 pub section-section5-requires-clause-stands : goal.section-section5-requires-clause-stands
@@ -37,8 +37,8 @@ unpack-requires-clause-values c =
     let told = c.in_ok-mask.ensures before h in
     told.2 ∙ sym (ap value_count (c.section-section5.ensures.octets before h.stand))
 
-pub returns-in-Ok : goal.returns-in-Ok
-returns-in-Ok c = λ before h.
+pub returns-in-Ok-clause-column : goal.returns-in-Ok-clause-column
+returns-in-Ok-clause-column c = λ before h.
     let told = c.in_ok-mask.ensures before h in
     let five = c.section-section5.ensures.octets before h.stand in
     let seven = c.section-section7.ensures.octets before h.stand in
@@ -53,3 +53,10 @@ unreachable-requires c =
     ap₂ data_fault (c.section-section5.ensures.octets before h.stand) (c.section-section7.ensures.octets before h.stand) ∙ h.stand.sound.values (omega (arith, h.ends)) in
     let located_none = ap (located c.section-section7.result.start) none in
     absurd (cc)
+
+pub returns-in-Ok-clause-few : goal.returns-in-Ok-clause-few
+returns-in-Ok-clause-few c = λ before h.
+    let told = c.in_ok-mask.ensures before h in
+    let bounds = points_bounds (octets_in_force 3 before) (h.stand.sound.grid (omega (arith, h.ends))) in
+    let size : length c.in-Ok.column.points ≡ length c.in_ok-mask.mask = ap (λ column. length column.points) c.in-Ok.ensures.1 ∙ points_of_mask c.in_ok-mask.mask _ in
+    omega (arith, size, told.1, bounds.1)

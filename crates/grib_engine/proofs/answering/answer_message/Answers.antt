@@ -1,6 +1,11 @@
-use Rattle.std.proofs.Common.{rules}
-use Rattle.grib_engine.proofs.Given.{not_plain_given}
+use Rattle.grib_stream.proofs.Worlds.{did_write, did_write_front}
 use Rattle.grib_engine.proofs.answering.answer_message.Goals as goal
 
-pub returns-in_default-clause-answer : goal.returns-in_default-clause-answer
-returns-in_default-clause-answer g c = not_plain_given (g.T.Sink.contents c.args.output.now) c.args.job.now c.args.octets.now (search rules)
+pub returns-in-Ok-clause-does : goal.returns-in-Ok-clause-does
+returns-in-Ok-clause-does g c = did_write _ _ _ _ c.in-Ok.ensures.octets.whole
+
+pub returns-in-Err-Failed-clause-does : goal.returns-in-Err-Failed-clause-does
+returns-in-Err-Failed-clause-does g c = did_write_front _ _ _ _ c.in-Err-Failed.ensures.octets.front
+
+pub returns-in-Err-Memory-clause-does : goal.returns-in-Err-Memory-clause-does
+returns-in-Err-Memory-clause-does g c = did_write_front _ _ _ _ c.in-Err-Memory.ensures.octets.front

@@ -1,6 +1,7 @@
 use Rattle.std.proofs.Common.{◌≡◌, ℕ, ◌≤◌, List, IfOk, sym, subst}
 use Rattle.grib2_message.specs.Fields.{field_sections, field_count, column_of}
-use Rattle.grib2_message.proofs.Shorter.{field_kept}
+use Rattle.grib2_message.specs.Message.{FieldPasses}
+use Rattle.grib2_message.proofs.Shorter.{field_kept, field_passes}
 use Rattle.grib2_message.proofs.message.Message.column.Goals as goal
 
 pub column_at-requires : goal.column_at-requires
@@ -9,10 +10,24 @@ column_at-requires c =
     let last = subst (λ (x : List ℕ). c.args.field ≤ field_count x) (sym c.self.view_is) c.requires.last in
     (field_sections m c.args.field, field_kept m c.self.inside.fields.items c.self.invariant c.args.field c.requires.first last _ c.index-places.ensures)
 
-pub returns : goal.returns
-returns c =
+pub returns-clause-column : goal.returns-clause-column
+returns-clause-column c =
     let m = c.self.inside.octets.now in
     let last = subst (λ (x : List ℕ). c.args.field ≤ field_count x) (sym c.self.view_is) c.requires.last in
     subst (λ (x : List ℕ). IfOk c.column_at.result (λ column. column ≡ column_of x c.args.field)) c.self.view_is
-    (c.column_at.ensures (field_sections m c.args.field)
+    (c.column_at.ensures.column (field_sections m c.args.field)
     (field_kept m c.self.inside.fields.items c.self.invariant c.args.field c.requires.first last _ c.index-places.ensures))
+
+pub returns-clause-few : goal.returns-clause-few
+returns-clause-few c =
+    let m = c.self.inside.octets.now in
+    let last = subst (λ (x : List ℕ). c.args.field ≤ field_count x) (sym c.self.view_is) c.requires.last in
+    c.column_at.ensures.few (field_sections m c.args.field)
+    (field_kept m c.self.inside.fields.items c.self.invariant c.args.field c.requires.first last _ c.index-places.ensures)
+
+pub returns-clause-passes : goal.returns-clause-passes
+returns-clause-passes c =
+    let m = c.self.inside.octets.now in
+    let last = subst (λ (x : List ℕ). c.args.field ≤ field_count x) (sym c.self.view_is) c.requires.last in
+    let field = field_kept m c.self.inside.fields.items c.self.invariant c.args.field c.requires.first last _ c.index-places.ensures in
+    subst (λ (x : List ℕ). FieldPasses x c.args.field) c.self.view_is (field_passes m c.args.field _ field)

@@ -1,0 +1,18 @@
+use Rattle.std.proofs.Common.{◌∙◌, arith, rules}
+use Rattle.grib_engine.specs.Tasks.{field_text}
+use Rattle.grib_engine.proofs.Pending.{field_written, field_refused}
+use Rattle.grib_engine.proofs.printing.append_fields.Goals as goal
+
+pub returns-in_err-append_field-clause-octets : goal.returns-in_err-append_field-clause-octets
+returns-in_err-append_field-clause-octets g c = record {
+  whole = search rules;
+  front = field_refused _ _ _ c.args.lines.now.items c.loop-index.lines.items (field_text c.args.job.now c.args.message.now c.args.number) c.loop-index.index _ _ (omega arith) (omega arith)
+      c.loop-index.invariant.told c.append_field.ensures.octets.front;
+}
+
+pub loop-index-preserved : goal.loop-index-preserved
+loop-index-preserved g c = record {
+  told = field_written _ _ _ c.args.lines.now.items c.loop-index.lines.items _ (field_text c.args.job.now c.args.message.now c.args.number) c.loop-index.index _ (omega arith)
+      c.loop-index.invariant.told c.in_ok-append_field.ensures.octets.whole;
+  calm = c.in_ok-append_field.ensures.counted ∙ c.loop-index.invariant.calm;
+}

@@ -1,0 +1,173 @@
+-- What is said of octets stays said, whatever follows them.
+use Rattle.std.proofs.Common.{◌≡◌, ◌≢◌, ℕ, zero, suc, ◌+◌, ◌<◌, ◌≤◌, true, false, List, [], ◌∷◌, ◌++◌, length, take, drop, nat_lt, ◌==◌, refl, sym, ap, ◌∙◌, arith, ⊎_elim, lt-ltb, eqb-true, eq-eqb, length-take-le, length-drop, take-append-drop}
+use Rattle.std.proofs.lemmas.Bool.{cases_Bool, false≢true, cases_lt}
+use Rattle.std.proofs.lemmas.List.{drop_all, take-append-le}
+use Rattle.std.proofs.lemmas.List.Sums.{count_by-le-length}
+use lib.Seq.{drop-append-le}
+use Rattle.grib_bits.specs.Octets.{num_on, octets}
+use Rattle.grib_io.specs.declared.fault.Fault.{Fault}
+use Rattle.grib_io.specs.declared.fault.Reason.{Reason}
+use Rattle.grib_io.specs.declared.fault.Reason.TheVariants.{Truncated}
+use Rattle.grib_io.specs.Rows.{choose}
+use Rattle.grib2_sections.specs.Verdict.{Verdict, Accepted, Refused}
+use Rattle.grib2_sections.specs.Head.{edition}
+use Rattle.grib2_sections.specs.Frame.{ends_at, section_at, placed_at}
+use Rattle.grib2_message.specs.View.{is_numbered}
+use Rattle.grib2_message.specs.Acceptance.{verdict_2}
+use Rattle.grib2_message.specs.Fields.{sections_from, sections_of, field_count}
+use Rattle.grib2_message.proofs.Stays.{accepted_stays, refused_stays}
+use Rattle.grib2_message.proofs.Fronts.{accepted_least, accepted_there, accepted_alone}
+use Rattle.grib_stream.specs.Stream.{Message, Faulty, Unbuilt}
+use Rattle.grib_stream.specs.Outcomes.{is_truncated}
+use Rattle.grib_stream.specs.Task.{IsLawful}
+use Rattle.grib_engine.specs.declared.job.Job.{Job}
+use Rattle.grib_engine.specs.Tasks.{judged, judge, task}
+
+-- ---- the judgement, by the edition
+
+first : (octets : List ℕ) → (edition octets == 1) ≡ true → judge octets ≡ Unbuilt
+first octets is = ap (λ b. choose b (λ _. Unbuilt) (λ _. judged (verdict_2 octets))) is
+
+other : (octets : List ℕ) → (edition octets == 1) ≡ false → judge octets ≡ judged (verdict_2 octets)
+other octets is = ap (λ b. choose b (λ _. Unbuilt) (λ _. judged (verdict_2 octets))) is
+
+-- an octet that is told stands
+short_edition : (octets : List ℕ) → length octets < 8 → edition octets ≡ 0
+short_edition octets short = ap (λ xs. num_on 0 (take 1 xs)) (drop_all 7 octets (omega arith))
+
+pub same_edition : (octets more : List ℕ) → 8 ≤ length octets → edition (octets ++ more) ≡ edition octets
+same_edition octets more there =
+    ap (λ xs. num_on 0 (take 1 xs)) (drop-append-le 7 octets more (omega arith))
+    ∙ ap (num_on 0) (take-append-le 1 (drop 7 octets) more (omega (arith, length-drop 7 octets)))
+
+-- what a judgement says of the verdict
+pub record IsOther (octets : List ℕ) (verdict : Verdict) : Type 0 where
+  pub other_edition : (edition octets == 1) ≡ false
+  pub verdict_is : verdict_2 octets ≡ verdict
+
+message_of : (v : Verdict) (total : ℕ) → judged v ≡ Message total → v ≡ Accepted total
+message_of (Accepted n) total is = let e : n ≡ total = cc in ap Accepted e
+message_of (Refused fault) total is = let no : ⊥ = cc in absurd no
+
+refusal_of : (v : Verdict) (fault : Fault) → judged v ≡ Faulty fault → v ≡ Refused fault
+refusal_of (Accepted n) fault is = let no : ⊥ = cc in absurd no
+refusal_of (Refused f) fault is = let e : f ≡ fault = cc in ap Refused e
+
+not_unbuilt : (v : Verdict) → judged v ≢ Unbuilt
+not_unbuilt (Accepted n) is = cc
+not_unbuilt (Refused fault) is = cc
+
+pub message_judged : (octets : List ℕ) (total : ℕ) → judge octets ≡ Message total → IsOther octets (Accepted total)
+message_judged octets total is =
+    ⊎_elim (λ one. let no : Unbuilt ≡ Message total = sym (first octets one) ∙ is in let none : ⊥ = cc in absurd none)
+    (λ not_one. record { other_edition = not_one; verdict_is = message_of (verdict_2 octets) total (sym (other octets not_one) ∙ is) })
+    (cases_Bool (edition octets == 1))
+
+pub refusal_judged : (octets : List ℕ) (fault : Fault) → judge octets ≡ Faulty fault → IsOther octets (Refused fault)
+refusal_judged octets fault is =
+    ⊎_elim (λ one. let no : Unbuilt ≡ Faulty fault = sym (first octets one) ∙ is in let none : ⊥ = cc in absurd none)
+    (λ not_one. record { other_edition = not_one; verdict_is = refusal_of (verdict_2 octets) fault (sym (other octets not_one) ∙ is) })
+    (cases_Bool (edition octets == 1))
+
+unbuilt_judged : (octets : List ℕ) → judge octets ≡ Unbuilt → (edition octets == 1) ≡ true
+unbuilt_judged octets is =
+    ⊎_elim (λ one. one) (λ not_one. absurd (not_unbuilt (verdict_2 octets) (sym (other octets not_one) ∙ is))) (cases_Bool (edition octets == 1))
+
+pub not_first : (octets : List ℕ) → (edition octets == 1) ≡ false → edition octets ≢ 1
+not_first octets not_one e = false≢true (sym not_one ∙ eq-eqb (edition octets) 1 e)
+
+still_other : (octets more : List ℕ) → 8 ≤ length octets → (edition octets == 1) ≡ false → (edition (octets ++ more) == 1) ≡ false
+still_other octets more there not_one = ap (λ n. n == 1) (same_edition octets more there) ∙ not_one
+
+-- ---- the laws
+
+message_stays : (octets more : List ℕ) (total : ℕ) → judge octets ≡ Message total → judge (octets ++ more) ≡ Message total
+message_stays octets more total is =
+    let m = message_judged octets total is in
+    let edition_is = not_first octets m.other_edition in
+    let least = accepted_least octets total edition_is m.verdict_is in
+    let there = accepted_there octets total edition_is m.verdict_is in
+    other (octets ++ more) (still_other octets more (omega arith) m.other_edition) ∙ ap judged (accepted_stays octets more total edition_is m.verdict_is)
+
+-- a refusal of fewer octets than eight is that of their end
+short_verdict : (octets : List ℕ) → length octets < 8 → verdict_2 octets ≡ Refused (record { octet = length octets + 1; reason = Truncated; detail = length octets })
+short_verdict octets short =
+    let first_row : nat_lt (length octets) 8 ≡ true = lt-ltb (length octets) 8 short in
+    rw first_row refl
+
+long_enough : (octets : List ℕ) (fault : Fault) → verdict_2 octets ≡ Refused fault → is_truncated fault.reason ≡ false → 8 ≤ length octets
+long_enough octets fault is whole =
+    ⊎_elim
+    (λ short.
+    let same : Refused (record { octet = length octets + 1; reason = Truncated; detail = length octets }) ≡ Refused fault = sym (short_verdict octets short) ∙ is in
+    let fault_is : record { octet = length octets + 1; reason = Truncated; detail = length octets } ≡ fault = cc in
+    absurd (false≢true (sym whole ∙ sym (ap (λ f. is_truncated f.reason) fault_is))))
+    (λ long. long) (cases_lt (length octets) 8)
+
+reason_other : (reason : Reason) → is_truncated reason ≡ false → reason ≢ Truncated
+reason_other reason whole e = false≢true (sym whole ∙ ap is_truncated e)
+
+refusal_stays : (octets more : List ℕ) (fault : Fault) → judge octets ≡ Faulty fault → is_truncated fault.reason ≡ false → judge (octets ++ more) ≡ Faulty fault
+refusal_stays octets more fault is whole =
+    let m = refusal_judged octets fault is in
+    let edition_is = not_first octets m.other_edition in
+    let there = long_enough octets fault m.verdict_is whole in
+    other (octets ++ more) (still_other octets more there m.other_edition)
+    ∙ ap judged (refused_stays octets more fault edition_is m.verdict_is (reason_other fault.reason whole))
+
+unbuilt_stays : (octets more : List ℕ) → judge octets ≡ Unbuilt → judge (octets ++ more) ≡ Unbuilt
+unbuilt_stays octets more is =
+    let one = unbuilt_judged octets is in
+    let there : 8 ≤ length octets =
+    ⊎_elim
+    (λ short.
+    let none : edition octets ≡ 0 = short_edition octets short in
+    let first_is : edition octets ≡ 1 = eqb-true (edition octets) 1 one in
+    absurd (omega arith))
+    (λ long. long) (cases_lt (length octets) 8) in
+    first (octets ++ more) (ap (λ n. n == 1) (same_edition octets more there) ∙ one)
+
+alone : (octets : List ℕ) (total : ℕ) → judge octets ≡ Message total → judge (take total octets) ≡ Message total
+alone octets total is =
+    let m = message_judged octets total is in
+    let edition_is = not_first octets m.other_edition in
+    let least = accepted_least octets total edition_is m.verdict_is in
+    let there = accepted_there octets total edition_is m.verdict_is in
+    let size : length (take total octets) ≡ total = length-take-le total octets there in
+    let same : edition octets ≡ edition (take total octets) =
+    ap edition (sym (take-append-drop total octets)) ∙ same_edition (take total octets) (drop total octets) (omega arith) in
+    other (take total octets) (ap (λ n. n == 1) (sym same) ∙ m.other_edition) ∙ ap judged (accepted_alone octets total edition_is m.verdict_is)
+
+-- fields are fewer than octets
+few_sections : (turns : ℕ) (message : List ℕ) (q : ℕ) → length (sections_from turns message q) ≤ turns
+few_sections zero message q = omega arith
+few_sections (suc turns) message q =
+    ⊎_elim
+    (λ (ends : ends_at message q ≡ true).
+    let e : length (sections_from (suc turns) message q) ≡ 0 =
+    ap (λ b. length (choose b (λ _. []) (λ _. let s = section_at message q in placed_at q s ∷ sections_from turns message (q + length s)))) ends in
+    omega arith)
+    (λ (goes_on : ends_at message q ≡ false).
+    let later = few_sections turns message (q + length (section_at message q)) in
+    let e : length (sections_from (suc turns) message q) ≡ suc (length (sections_from turns message (q + length (section_at message q)))) =
+    ap (λ b. length (choose b (λ _. []) (λ _. let s = section_at message q in placed_at q s ∷ sections_from turns message (q + length s)))) goes_on in
+    omega arith)
+    (cases_Bool (ends_at message q))
+
+few_fields : (message : List ℕ) → field_count message ≤ length message
+few_fields message = omega (arith, count_by-le-length (is_numbered 7) (sections_of message), few_sections (length message) message 17)
+
+pub lawful : (job : Job) → IsLawful (task job)
+lawful job = record {
+  message_stays = message_stays;
+  refusal_stays = refusal_stays;
+  unbuilt_stays = unbuilt_stays;
+  least = λ octets total is. let m = message_judged octets total is in omega (arith, accepted_least octets total (not_first octets m.other_edition) m.verdict_is);
+  there = λ octets total is. let m = message_judged octets total is in accepted_there octets total (not_first octets m.other_edition) m.verdict_is;
+  alone = alone;
+  few_fields = λ octets total is.
+      let m = message_judged octets total is in
+      let there = accepted_there octets total (not_first octets m.other_edition) m.verdict_is in
+      omega (arith, few_fields (take total octets), length-take-le total octets there);
+  ends_at_message = λ place message outcome is. let no : ⊥ = cc in absurd no;
+}

@@ -1,0 +1,74 @@
+-- What the commands do with the messages of an input.
+use Rattle.std.specs.Prelude.{ℕ, zero, suc, ◌+◌, ◌^◌, List, [], ◌++◌, length, ◌==◌}
+use Rattle.grib_bits.specs.Bits.{bits_of, signed}
+use Rattle.grib_dyadic.specs.Reference.{ieee, reduced}
+use Rattle.grib_io.specs.Rows.{choose}
+use Rattle.grib2_sections.specs.Head.{edition}
+use Rattle.grib2_sections.specs.Verdict.{Verdict, Accepted, Refused}
+use Rattle.grib_packing.specs.declared.column.Column.{Column}
+use Rattle.grib_stream.specs.declared.place.Place.{Place}
+use Rattle.grib_stream.specs.declared.place.Totals.{Totals}
+use Rattle.grib_stream.specs.Stream.{Judgement, Message, Faulty, Unbuilt}
+use Rattle.grib_stream.specs.Acts.{writes}
+use Rattle.grib_stream.specs.Task.{Task, Gives}
+use Rattle.grib_stream.specs.Answer.{Answer, answer_within}
+use Rattle.grib2_message.specs.Acceptance.{verdict_2}
+use Rattle.grib2_message.specs.Fields.{field_count, column_of}
+use Rattle.grib_text.specs.Lines.{check_line, total_line, list_line, reference_line, point_lines}
+use Rattle.grib_engine.specs.declared.job.Job.{Job}
+use Rattle.grib_engine.specs.declared.job.Job.TheVariants.{Check, List as Listing, Dump}
+use Rattle.grib_engine.specs.Outcomes.{note_of}
+
+abbrev pub judged : Verdict → Judgement
+judged (Accepted total) = Message total
+judged (Refused fault) = Faulty fault
+
+-- what the octets from a `GRIB` on are; edition 1 is not built yet
+abbrev pub judge : List ℕ → Judgement
+judge octets = choose (edition octets == 1) (λ _. Unbuilt) (λ _. judged (verdict_2 octets))
+
+-- the line on the reference value and the scale factors of a column
+abbrev pub reference_line_of : Column → List ℕ
+reference_line_of column = reference_line (reduced (ieee column.reference)) (signed (bits_of 16 column.e)) (signed (bits_of 16 column.d))
+
+-- what `dump` prints of field i of message m: the lines of the field, of its reference value and of its points
+abbrev pub dump_text : List ℕ → ℕ → ℕ → List ℕ
+dump_text message m i =
+    let column = column_of message i in
+    (list_line message m i ++ reference_line_of column) ++ point_lines 1 column.points
+
+-- the texts of so many fields, from field i on
+abbrev pub texts_from : (ℕ → List ℕ) → ℕ → ℕ → List ℕ
+texts_from text zero i = []
+texts_from text (suc n) i = text i ++ texts_from text n (i + 1)
+
+-- what is printed of each field of a message
+abbrev pub field_text : Job → List ℕ → ℕ → ℕ → List ℕ
+field_text Check message m i = []
+field_text Listing message m i = list_line message m i
+field_text Dump message m i = dump_text message m i
+
+-- what is printed of a message: a line, or the texts of its fields
+abbrev pub message_text : Job → Place → List ℕ → List ℕ
+message_text Check place message = check_line place.message place.before 2 (length message) (field_count message)
+message_text Listing place message = texts_from (field_text Listing message place.message) (field_count message) 1
+message_text Dump place message = texts_from (field_text Dump message place.message) (field_count message) 1
+
+-- what is printed at the end of the input
+abbrev pub ending_text : Job → Totals → List ℕ
+ending_text Check totals = total_line totals.messages totals.fields totals.skipped
+ending_text Listing totals = []
+ending_text Dump totals = []
+
+abbrev pub task : Job → Task
+task job = record {
+  judge = judge;
+  fields = field_count;
+  result = λ place message. Gives (writes (message_text job place message));
+  ending = λ totals. record { acts = writes (ending_text job totals); note = [] };
+  note = note_of;
+}
+
+-- the answer to a job, by the input
+abbrev pub answer : Job → List ℕ → Answer
+answer job input = answer_within (2 ^ 40) (task job) input

@@ -1,0 +1,49 @@
+//! The end of an input, and what is counted of a message.
+
+ghost use Rattle.std.specs.Prelude.{◌≡◌, length};
+ghost use Rattle.grib_io.specs.Outside.{CountsStops};
+ghost use Rattle.grib2_message.specs.Fields.{field_count};
+ghost use Rattle.grib_engine.specs.Pending.{Writes};
+ghost use Rattle.grib_engine.specs.Reading.{held_octets};
+ghost use Rattle.grib_engine.specs.Tasks.{ending_text};
+
+use crate::job::Job;
+use crate::reading::Held;
+use crate::writing::write_whole;
+use grib_io::{Sink, Stop};
+use grib_stream::{Totals, Whole};
+use grib_text::total_line;
+use std::alloc::Global;
+
+/// Writes what the job prints at the end of the input.
+pub(crate) fn write_ending<T: Sink>(
+    alloc: Global,
+    job: &Job,
+    totals: &Totals,
+    output: &mut T,
+) -> Result<(), Stop>
+    ensures octets { Writes result (T.contents output.old) (T.contents output.new)
+        (ending_text job.now totals.now) }
+    ensures counted { CountsStops result (T.faults output.old) (T.faults output.new) }
+{
+    match job {
+        Job::Check => {
+            let line = total_line(alloc, totals.messages, totals.fields, totals.skipped)?;
+            write_whole(output, line.as_slice())
+        }
+        Job::List | Job::Dump => write_whole(output, b""),
+    }
+}
+
+/// The octets and the fields of a message.
+pub(crate) fn counted(held: &Held<'_>) -> Whole
+    ensures octets { result.octets ≡ length (held_octets held.now) }
+    ensures fields { result.fields ≡ field_count (held_octets held.now) }
+{
+    match held {
+        Held::Two(message) => Whole {
+            octets: message.length(),
+            fields: u64::from(message.fields()),
+        },
+    }
+}
