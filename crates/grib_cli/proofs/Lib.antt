@@ -1,4 +1,3 @@
-mod Asked
 mod Numbers
 mod Parts
 mod Counts

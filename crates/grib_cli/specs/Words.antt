@@ -1,24 +1,31 @@
--- What the words of a command line ask for, and what is answered to them. Word 0 is the command.
-use Rattle.std.specs.Prelude.{ℕ, Bool, ◌&&◌, cond, Option, Some, None, List, [], length, get_or, codes, ◌==◌}
-use Rattle.std.specs.Str.{bytes_eq}
+-- What the words of a command line ask for. Commands that are to come have their words, and are not built.
+use Rattle.std.specs.Prelude.{ℕ, List, Result, Ok, Err}
+use Rattle.grib_stream.specs.declared.outcome.Outcome.{Outcome}
+use Rattle.grib_stream.specs.declared.outcome.Outcome.TheVariants as outcomes
 use Rattle.grib_engine.specs.declared.job.Job.{Job}
-use Rattle.grib_engine.specs.declared.job.Job.TheVariants.{Check, Dump}
-use Rattle.grib_engine.specs.declared.outcome.Outcome.TheVariants.{NotBuilt}
-use Rattle.grib_engine.specs.Answer.{Answer, answer, silent}
+use Rattle.grib_engine.specs.declared.job.Job.TheVariants as jobs
+use Rattle.grib_cli.specs.declared.words.JobFault.{JobFault}
+use Rattle.grib_cli.specs.declared.words.JobFault.TheVariants.{Usage, NotBuilt}
+use Rattle.grib_cli.specs.declared.words.command.Command.{Command}
+use Rattle.grib_cli.specs.declared.words.command.Command.TheVariants as commands
+use Rattle.grib_cli.specs.Reading.{reading}
 
--- whether there is this word alone
-abbrev pub are_only : List ℕ → List (List ℕ) → Bool
-are_only word words = (length words == 1) && bytes_eq word (get_or words 0 [])
+-- the job of a command
+abbrev pub job_of_command : Command → Result Job JobFault
+job_of_command commands.Check = Ok jobs.Check
+job_of_command commands.List = Ok jobs.List
+job_of_command commands.Dump = Ok jobs.Dump
+job_of_command _ = Err NotBuilt
 
--- the job of a command; other words are not built so far
-abbrev pub job_of : List (List ℕ) → Option Job
-job_of words = cond (are_only (codes "check") words) (Some Check) (cond (are_only (codes "dump") words) (Some Dump) None)
+abbrev pub job_of_reading : Result Command ℕ → Result Job JobFault
+job_of_reading (Ok command) = job_of_command command
+job_of_reading (Err word) = Err (Usage word)
 
--- the answer to a job, or that it is not built
-abbrev pub answer_to_job : Option Job → List ℕ → Answer
-answer_to_job None input = silent NotBuilt
-answer_to_job (Some job) input = answer job input
+-- the job that the words ask for
+abbrev pub job_of : List (List ℕ) → Result Job JobFault
+job_of words = job_of_reading (reading words)
 
--- the answer to the words, by the input alone
-abbrev pub answer_to : List (List ℕ) → List ℕ → Answer
-answer_to words input = answer_to_job (job_of words) input
+-- how a run ends whose words ask for no job
+abbrev pub outcome_of : JobFault → Outcome
+outcome_of (Usage word) = outcomes.Usage word
+outcome_of NotBuilt = outcomes.NotBuilt

@@ -16,7 +16,7 @@ mod tests;
 mod words;
 
 pub use running::run;
-pub use words::job_of;
+pub use words::{JobFault, job_of};
 
 /// The exit status where the words can't be fetched, for another cause than want of memory.
 const NO_WORDS: u8 = 11;

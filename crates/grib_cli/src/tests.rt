@@ -31,6 +31,9 @@ const DUMPED: &str = "1.1 ed=2 centre=98 time=2024-01-15T12:00:00 grid=3.0 point
                       param=0.0.0 unit=1 ahead=6 surface=103:0:2 packing=5.0 bits=8 values=4\n\
                       reference -949*2^-3 binary -3 decimal 1\n1 0\n2 1\n3 2\n4 255\n";
 
+// The octets of the first of these lines.
+const LIST_LINE: usize = 145;
+
 const DUMPED_WITHOUT_BITS: &str = "1.1 ed=2 centre=98 time=2024-01-15T12:00:00 grid=3.0 points=4 \
                                    product=4.0 param=0.0.0 unit=1 ahead=6 surface=103:0:2 packing=5.0 \
                                    bits=0 values=4\nreference -949*2^-3 binary -3 decimal 1\n1 0\n2 \
@@ -67,17 +70,20 @@ impl Ran {
     }
 }
 
-// A run of one word over octets that come and go in pieces of this size.
+// A run of words, told apart by spaces, over octets that come and go in pieces of this size.
 fn run_over(
     alloc: Global,
-    word: &str,
+    text: &str,
     octets: &[u8],
     piece: usize,
     failing: Failing,
 ) -> Result<Ran, AllocError>
     requires { 1 ≤ piece }
 {
-    let words = vec![in alloc; String::from_str(alloc, word)?]?;
+    let mut words = Vec::new(alloc);
+    for word in text.split_whitespace() {
+        words.push(String::from_str(alloc, word)?)?;
+    }
     let mut input = MemorySource::new(octets.to_vec(alloc)?, piece, [failing.input].to_vec(alloc)?);
     let mut output = MemorySink::new(alloc, piece, [failing.output].to_vec(alloc)?);
     let mut notes = MemorySink::new(alloc, piece, [failing.notes].to_vec(alloc)?);
@@ -113,30 +119,86 @@ fn answer_is_the_same_in_any_pieces(rt: HostRuntime) -> Result<(), Fail> {
     for piece in [1, 7, 183] {
         let checked = run_over(rt.alloc(), "check", &PLAIN, piece, CALM)?;
         assert!(rt; checked.is(Outcome::Done, CHECKED, ""));
+        let listed = run_over(rt.alloc(), "list", &PLAIN, piece, CALM)?;
+        assert!(rt; listed.is(Outcome::Done, &DUMPED[..LIST_LINE], ""));
         let dumped = run_over(rt.alloc(), "dump", &PLAIN, piece, CALM)?;
         assert!(rt; dumped.is(Outcome::Done, DUMPED, ""));
     }
     Ok(())
 }
 
+// The message twice, after a heading of 12 octets and before five zeros.
+fn stream(alloc: Global) -> Result<Vec<u8>, AllocError> {
+    let mut octets = b"SXXX01 EDZW\n".to_vec(alloc)?;
+    octets.extend_from_slice(&PLAIN)?;
+    octets.extend_from_slice(&PLAIN)?;
+    octets.extend_from_slice(&[0; 5])?;
+    Ok(octets)
+}
+
+const STREAM_CHECKED: &str = "message 1 at 12 edition 2 octets 183 fields 1\n\
+                              message 2 at 195 edition 2 octets 183 fields 1\n\
+                              messages 2 fields 2 skipped 17\n";
+
+// The octets of the first of these lines, and of the second.
+const FIRST_LINE: usize = 46;
+const SECOND_LINE: usize = 47;
+
+#[test]
+fn messages_are_found_among_other_octets(rt: HostRuntime) -> Result<(), Fail> {
+    let octets = stream(rt.alloc())?;
+    for piece in [1, 7, 383] {
+        let checked = run_over(rt.alloc(), "check", octets.as_slice(), piece, CALM)?;
+        assert!(rt; checked.is(Outcome::Done, STREAM_CHECKED, ""));
+    }
+    Ok(())
+}
+
+#[test]
+fn inputs_without_messages(rt: HostRuntime) -> Result<(), Fail> {
+    for (octets, text) in [
+        (b"".as_slice(), "messages 0 fields 0 skipped 0\n"),
+        (b"GRI".as_slice(), "messages 0 fields 0 skipped 3\n"),
+        (b"GRIGRIGGR".as_slice(), "messages 0 fields 0 skipped 9\n"),
+    ] {
+        let checked = run_over(rt.alloc(), "check", octets, 2, CALM)?;
+        assert!(rt; checked.is(Outcome::Done, text, ""));
+    }
+    Ok(())
+}
+
 #[test]
 fn each_read_may_fail(rt: HostRuntime) -> Result<(), Fail> {
-    // Four pieces of 50 octets at most, and the read that finds the end.
-    for input in 1..6 {
-        let failing = Failing { input, ..CALM };
-        let checked = run_over(rt.alloc(), "check", &PLAIN, 50, failing)?;
-        assert!(rt; checked.is(Outcome::ReadFault, "", "read fault\n"));
+    // 383 octets in pieces of 50 at most, and the read that finds the end. The messages end after 195 and
+    // after 378 octets.
+    let octets = stream(rt.alloc())?;
+    for input in 1..10 {
+        let taken = (50 * (input - 1)).min(383);
+        let lines = if taken < 195 {
+            0
+        } else if taken < 378 {
+            FIRST_LINE
+        } else {
+            FIRST_LINE + SECOND_LINE
+        };
+        let failing = Failing {
+            input: input as u64,
+            ..CALM
+        };
+        let checked = run_over(rt.alloc(), "check", octets.as_slice(), 50, failing)?;
+        assert!(rt; checked.is(Outcome::ReadFault, &STREAM_CHECKED[..lines], "read fault\n"));
     }
-    let failing = Failing { input: 6, ..CALM };
-    let checked = run_over(rt.alloc(), "check", &PLAIN, 50, failing)?;
-    assert!(rt; checked.is(Outcome::Done, CHECKED, ""));
+    let failing = Failing { input: 10, ..CALM };
+    let checked = run_over(rt.alloc(), "check", octets.as_slice(), 50, failing)?;
+    assert!(rt; checked.is(Outcome::Done, STREAM_CHECKED, ""));
     Ok(())
 }
 
 #[test]
 fn each_write_may_fail(rt: HostRuntime) -> Result<(), Fail> {
-    // The output takes 30, 30 and 15 octets, and is then finished.
-    let fronts = ["", &CHECKED[..30], &CHECKED[..60], CHECKED];
+    // The output takes 30 and 15 octets of the line of the message, then 30 of the last one, and is then
+    // finished.
+    let fronts = ["", &CHECKED[..30], &CHECKED[..45], CHECKED];
     for (written, front) in fronts.iter().enumerate() {
         let output = written as u64 + 1;
         let checked = run_over(rt.alloc(), "check", &PLAIN, 30, Failing { output, ..CALM })?;
@@ -195,11 +257,11 @@ fn numbers_of_no_bits_are_printed(rt: HostRuntime) -> Result<(), Fail> {
 
 #[test]
 fn octets_that_are_not_there_refuse(rt: HostRuntime) -> Result<(), Fail> {
-    for present in 4..16 {
+    for present in 4..183 {
         let octet = present as u64 + 1;
         let note = format!(in rt.alloc(); "refused message 1 octet {octet} Truncated {present}\n")?;
-        for piece in [1, 7, 183] {
-            let cut = run_over(rt.alloc(), "check", &PLAIN[..present], piece, CALM)?;
+        for piece in [7, 183] {
+            let cut = run_over(rt.alloc(), "list", &PLAIN[..present], piece, CALM)?;
             let outcome = refused(octet, Reason::Truncated, present as u64);
             assert!(rt; cut.is(outcome, "", note.as_str()));
         }
@@ -220,14 +282,24 @@ fn another_edition_refuses(rt: HostRuntime) -> Result<(), Fail> {
 }
 
 #[test]
-fn other_words_and_inputs_are_not_built(rt: HostRuntime) -> Result<(), Fail> {
-    let mut twice = PLAIN.to_vec(rt.alloc())?;
-    twice.extend_from_slice(&PLAIN)?;
-    for piece in [1, 7, 366] {
-        let listed = run_over(rt.alloc(), "list", &PLAIN, piece, CALM)?;
-        assert!(rt; listed.is(Outcome::NotBuilt, "", "not built\n"));
-        let checked = run_over(rt.alloc(), "check", twice.as_slice(), piece, CALM)?;
-        assert!(rt; checked.is(Outcome::NotBuilt, "", "not built\n"));
+fn words_without_a_reading(rt: HostRuntime) -> Result<(), Fail> {
+    for (words, word) in [("", 0), ("--help", 0), ("check file", 1), ("repack to=3", 2)] {
+        let note = format!(in rt.alloc(); "usage word {word}\n")?;
+        let ran = run_over(rt.alloc(), words, &PLAIN, 50, CALM)?;
+        assert!(rt; ran.is(Outcome::Usage(word), "", note.as_str()));
     }
+    Ok(())
+}
+
+#[test]
+fn what_is_to_come_is_not_built(rt: HostRuntime) -> Result<(), Fail> {
+    for words in ["filter centre=98", "repack to=3 order=2", "make seed=1 ni=2 nj=2 to=0"] {
+        let ran = run_over(rt.alloc(), words, &PLAIN, 50, CALM)?;
+        assert!(rt; ran.is(Outcome::NotBuilt, "", "not built\n"));
+    }
+    let mut octets = PLAIN;
+    octets[7] = 1;
+    let ran = run_over(rt.alloc(), "check", &octets, 50, CALM)?;
+    assert!(rt; ran.is(Outcome::NotBuilt, "", "not built\n"));
     Ok(())
 }

@@ -17,17 +17,35 @@ mod values;
 pub use command::Command;
 use values::{is_between, key_value};
 
-/// The job that the words ask for: exactly one word, the command. Other words are not built so far.
-pub fn job_of(words: &[String]) -> Option<Job>
+/// Why the words ask for no job.
+#[derive(Clone, Copy, Debug, PartialEq, Eq)]
+pub enum JobFault {
+    /// They have no reading: the place of the first word that is not read, from 0 for the command on, or
+    /// the number of words where one that is needed is missing.
+    Usage(u64),
+    /// They ask for a command that is not built so far.
+    NotBuilt,
+}
+
+/// The job that the words ask for.
+pub fn job_of(words: &[String]) -> Result<Job, JobFault>
     ensures { result ≡ asked.job_of (map string_bytes words.now) }
 {
-    let [command] = words else {
-        return None;
-    };
-    match command.as_str() {
-        "check" => Some(Job::Check),
-        "dump" => Some(Job::Dump),
-        _ => None,
+    match read_words(words) {
+        Ok(command) => job_of_command(command),
+        Err(word) => Err(JobFault::Usage(word)),
+    }
+}
+
+/// The job of a command.
+fn job_of_command(command: Command) -> Result<Job, JobFault>
+    ensures { result ≡ asked.job_of_command command }
+{
+    match command {
+        Command::Check => Ok(Job::Check),
+        Command::List => Ok(Job::List),
+        Command::Dump => Ok(Job::Dump),
+        _ => Err(JobFault::NotBuilt),
     }
 }
 

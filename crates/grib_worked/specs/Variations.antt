@@ -1,11 +1,13 @@
 -- Worked messages with whole sections exchanged.
-use Rattle.std.specs.Prelude.{ℕ, ◌+◌, List, ◌∷◌, ◌++◌, drop}
+use Rattle.std.specs.Prelude.{ℕ, ◌+◌, List, [], ◌∷◌, ◌++◌, drop}
 use Rattle.grib_io.specs.declared.fault.Reason.TheVariants.{Truncated}
 use Rattle.grib_io.specs.Rows.{refusal}
 use Rattle.grib_io.specs.declared.fault.Fault.{Fault}
 use Rattle.grib2_sections.specs.Verdict.{Verdict, Refused as refused_by}
-use Rattle.grib_engine.specs.declared.outcome.Outcome.TheVariants.{Refused}
-use Rattle.grib_engine.specs.Answer.{Answer, silent}
+use Rattle.grib_stream.specs.declared.outcome.Outcome.TheVariants.{Done, Refused}
+use Rattle.grib_stream.specs.Acts.{writes}
+use Rattle.grib_stream.specs.Answer.{Answer}
+use Rattle.grib_engine.specs.Outcomes.{note_of}
 use Rattle.grib_worked.specs.Hex.{hex, put}
 use Rattle.grib_worked.specs.Messages.{head, end, identification, grid, product, representation, no_bitmap, values, rotated, marks_only, three_values, grid_3_by_1, differences}
 
@@ -82,10 +84,16 @@ second_order count =
     hex "00000031 05 000000" ++ count ∷ hex "0003 C2ED4000 8003 0001 00 00 01 00 FFFFFFFF FFFFFFFF 00000001"
     ++ hex "00 00 00000001 01 000000" ++ count ∷ hex "06 02 01"
 
--- the answer where the first message is refused
-abbrev pub refused_first : Fault → Answer
-refused_first fault = silent (Refused (record { message = 1; fault = fault }))
+-- the answer where all is answered: what is written for the messages, and at the end of the input
+abbrev pub done_with : List ℕ → List ℕ → Answer
+done_with text ending = record { acts = writes text; ending = writes ending; note = []; outcome = Done }
 
--- and where the input ends after k octets, within Section 0
+-- the answer where this message, counted from 1, is refused after these lines
+abbrev pub refused_after : List ℕ → ℕ → Fault → Answer
+refused_after text number fault =
+    let outcome = Refused (record { message = number; fault = fault }) in
+    record { acts = writes text; ending = []; note = note_of outcome; outcome = outcome }
+
+-- and where the input ends after k octets of its first message
 abbrev pub cut_answer : ℕ → Answer
-cut_answer k = refused_first (refusal (k + 1) Truncated k)
+cut_answer k = refused_after [] 1 (refusal (k + 1) Truncated k)

@@ -1,61 +1,65 @@
-//! What is answered to a job whose input is a worked message, or another one.
+//! What is answered to a job whose input is worked messages, or others.
 
-ghost use Rattle.std.specs.Prelude.{◌≡◌, true, false, [], ◌++◌, codes, take, map};
+ghost use Rattle.std.specs.Prelude.{◌≡◌, [], ◌++◌, codes, take, map, replicate};
 ghost use Rattle.std.specs.List.{range_with_len};
-ghost use Rattle.grib_io.specs.declared.fault.Reason.TheVariants.{Edition};
+ghost use Rattle.grib_io.specs.declared.fault.Reason.TheVariants.{Edition, PngPacked, ReferenceNotFinite};
 ghost use Rattle.grib_io.specs.Rows.{refusal};
-ghost use Rattle.grib_engine.specs.declared.job.Job.TheVariants.{Check, Dump};
-ghost use Rattle.grib_engine.specs.declared.outcome.Outcome.TheVariants.{NotBuilt};
-ghost use Rattle.grib_engine.specs.Plain.{is_plain};
-ghost use Rattle.grib_engine.specs.Answer.{answer, done, silent};
+ghost use Rattle.grib_stream.specs.declared.outcome.Outcome.TheVariants.{NotBuilt};
+ghost use Rattle.grib_stream.specs.Acts.{writes};
+ghost use Rattle.grib_stream.specs.Answer.{after, silent};
+ghost use Rattle.grib_engine.specs.declared.job.Job.TheVariants.{Check, List, Dump};
+ghost use Rattle.grib_engine.specs.Tasks.{answer, task};
 ghost use Rattle.grib_worked.specs.Hex.{hex, put};
-ghost use Rattle.grib_worked.specs.Messages.{m1, m2, m3, c1, t1, w};
-ghost use Rattle.grib_worked.specs.Variations.{cut_answer, refused_first, no_bits};
+ghost use Rattle.grib_worked.specs.Messages.{m1, m2, m3, c2};
+ghost use Rattle.grib_worked.specs.Variations.{cut_answer, refused_after, done_with, no_bits};
 
-/// Which of the worked messages have the plain form. Two messages have not, nor has one that is cut, or
-/// whose bitmap is that of an earlier section.
-pub fn plain_forms()
-    ensures m1 { is_plain m1 ≡ true }
-    ensures no_bits { is_plain no_bits ≡ true }
-    ensures w { is_plain w ≡ true }
-    ensures m2 { is_plain m2 ≡ false }
-    ensures m3 { is_plain m3 ≡ false }
-    ensures c1 { is_plain c1 ≡ false }
-    ensures t1 { is_plain t1 ≡ false }
-    ensures twice { is_plain (m1 ++ m1) ≡ false }
-    ensures cut { is_plain (take 182 m1) ≡ false }
-    ensures earlier_bitmap { is_plain (put m1 170 (hex "FE")) ≡ false }
-    ensures first_edition { is_plain (put m1 8 (hex "01")) ≡ false }
-{}
-
-/// `check` of the plain message.
+/// `check` of nothing, of the plain message, and of it twice after a bulletin's heading and before five
+/// zeros.
 pub fn answer_to_check()
-    ensures { answer Check m1 ≡ done (codes "message 1 at 0 edition 2 octets 183 fields 1\nmessages 1 fields 1 skipped 0\n") }
+    ensures nothing { answer Check [] ≡ done_with [] (codes "messages 0 fields 0 skipped 0\n") }
+    ensures short { answer Check (take 3 m1) ≡ done_with [] (codes "messages 0 fields 0 skipped 3\n") }
+    ensures plain { answer Check m1 ≡ done_with (codes "message 1 at 0 edition 2 octets 183 fields 1\n") (codes "messages 1 fields 1 skipped 0\n") }
+    ensures twice { answer Check (codes "SXXX01 EDZW\n" ++ m1 ++ m1 ++ replicate 5 0)
+        ≡ done_with (codes "message 1 at 12 edition 2 octets 183 fields 1\nmessage 2 at 195 edition 2 octets 183 fields 1\n") (codes "messages 2 fields 2 skipped 17\n") }
 {}
 
-/// `dump` of the plain message, and of it with numbers of 0 bits.
+/// `list` of a message with two fields after another message.
+pub fn answer_to_list()
+    ensures { answer List (m1 ++ m2) ≡ done_with (codes "1.1 ed=2 centre=98 time=2024-01-15T12:00:00 grid=3.0 points=4 product=4.0 param=0.0.0 unit=1 ahead=6 surface=103:0:2 packing=5.0 bits=8 values=4\n"
+        ++ codes "2.1 ed=2 centre=98 time=2024-01-15T12:00:00 grid=3.0 points=4 product=4.0 param=0.0.0 unit=1 ahead=6 surface=103:0:2 packing=5.0 bits=8 values=3\n"
+        ++ codes "2.2 ed=2 centre=98 time=2024-01-15T12:00:00 grid=3.0 points=4 product=4.0 param=0.0.0 unit=1 ahead=6 surface=103:0:2 packing=5.0 bits=8 values=3\n") [] }
+{}
+
+/// `dump` of the plain message, of it with numbers of 0 bits, of two fields with a bitmap, of spatial
+/// differencing, and of both kinds of missing marks.
 pub fn answer_to_dump()
-    ensures plain { answer Dump m1 ≡ done (codes "1.1 ed=2 centre=98 time=2024-01-15T12:00:00 grid=3.0 points=4 product=4.0 param=0.0.0 unit=1 "
-        ++ codes "ahead=6 surface=103:0:2 packing=5.0 bits=8 values=4\nreference -949*2^-3 binary -3 decimal 1\n1 0\n2 1\n3 2\n4 255\n") }
-    ensures no_bits { answer Dump no_bits ≡ done (codes "1.1 ed=2 centre=98 time=2024-01-15T12:00:00 grid=3.0 points=4 product=4.0 param=0.0.0 unit=1 "
-        ++ codes "ahead=6 surface=103:0:2 packing=5.0 bits=0 values=4\nreference -949*2^-3 binary -3 decimal 1\n1 0\n2 0\n3 0\n4 0\n") }
+    ensures plain { answer Dump m1 ≡ done_with (codes "1.1 ed=2 centre=98 time=2024-01-15T12:00:00 grid=3.0 points=4 product=4.0 param=0.0.0 unit=1 "
+        ++ codes "ahead=6 surface=103:0:2 packing=5.0 bits=8 values=4\nreference -949*2^-3 binary -3 decimal 1\n1 0\n2 1\n3 2\n4 255\n") [] }
+    ensures no_bits { answer Dump no_bits ≡ done_with (codes "1.1 ed=2 centre=98 time=2024-01-15T12:00:00 grid=3.0 points=4 product=4.0 param=0.0.0 unit=1 "
+        ++ codes "ahead=6 surface=103:0:2 packing=5.0 bits=0 values=4\nreference -949*2^-3 binary -3 decimal 1\n1 0\n2 0\n3 0\n4 0\n") [] }
+    ensures two_fields { answer Dump m2 ≡ done_with (codes "1.1 ed=2 centre=98 time=2024-01-15T12:00:00 grid=3.0 points=4 product=4.0 param=0.0.0 unit=1 "
+        ++ codes "ahead=6 surface=103:0:2 packing=5.0 bits=8 values=3\nreference -949*2^-3 binary -3 decimal 1\n1 0\n2 missing\n3 1\n4 2\n"
+        ++ codes "1.2 ed=2 centre=98 time=2024-01-15T12:00:00 grid=3.0 points=4 product=4.0 param=0.0.0 unit=1 "
+        ++ codes "ahead=6 surface=103:0:2 packing=5.0 bits=8 values=3\nreference -949*2^-3 binary -3 decimal 1\n1 3\n2 missing\n3 4\n4 5\n") [] }
+    ensures differences { answer Dump m3 ≡ done_with (codes "1.1 ed=2 centre=98 time=2024-01-15T12:00:00 grid=3.0 points=4 product=4.0 param=0.0.0 unit=1 "
+        ++ codes "ahead=6 surface=103:0:2 packing=5.3 bits=5 values=4\nreference -949*2^-3 binary -3 decimal 1\n1 5\n2 -5\n3 1\n4 2\n") [] }
+    ensures marks { answer Dump c2 ≡ done_with (codes "1.1 ed=2 centre=98 time=2024-01-15T12:00:00 grid=3.0 points=4 product=4.0 param=0.0.0 unit=1 "
+        ++ codes "ahead=6 surface=103:0:2 packing=5.2 bits=2 values=4\nreference -949*2^-3 binary -3 decimal 1\n1 missing\n2 missing2\n3 missing\n4 missing2\n") [] }
 {}
 
-/// A first message that ends within Section 0, or is of no edition.
-pub fn answers_by_section_0()
+/// A message that ends too early, is of no edition, or is refused by a section; and one that is refused
+/// after another was answered.
+pub fn answers_with_refusals()
     ensures cut { map (λ k. answer Check (take k m1)) (range_with_len 4 12) ≡ map cut_answer (range_with_len 4 12) }
-    ensures edition { answer Check (put m1 8 (hex "03")) ≡ refused_first (refusal 8 Edition 3) }
-    ensures dump { answer Dump (put m1 8 (hex "00")) ≡ refused_first (refusal 8 Edition 0) }
+    ensures cut_later { answer List (take 182 m1) ≡ cut_answer 182 }
+    ensures edition { answer Check (put m1 8 (hex "03")) ≡ refused_after [] 1 (refusal 8 Edition 3) }
+    ensures reference { answer Dump (put m1 155 (hex "7F800000")) ≡ refused_after [] 1 (refusal 155 ReferenceNotFinite 2139095040) }
+    ensures second { answer Check (m1 ++ put m1 153 (hex "0029")) ≡ refused_after (codes "message 1 at 0 edition 2 octets 183 fields 1\n") 2 (refusal 153 PngPacked 41) }
 {}
 
-/// What is not built so far.
+/// Edition 1 is not built so far: nothing is written of such a message.
 pub fn answers_not_built()
-    ensures empty { answer Check [] ≡ silent NotBuilt }
-    ensures short { answer Check (take 3 m1) ≡ silent NotBuilt }
-    ensures later { answer Check (codes "\n" ++ m1) ≡ silent NotBuilt }
-    ensures two_messages { answer Check (m1 ++ m1) ≡ silent NotBuilt }
-    ensures two_fields { answer Dump m2 ≡ silent NotBuilt }
-    ensures cut { answer Check (take 100 m1) ≡ silent NotBuilt }
-    ensures total_length { answer Check (put m1 9 (hex "0000000000000013")) ≡ silent NotBuilt }
-    ensures first_edition { answer Check (put m1 8 (hex "01")) ≡ silent NotBuilt }
+    ensures first { answer Check (put m1 8 (hex "01")) ≡ silent (task Check) NotBuilt }
+    ensures second { answer Check (m1 ++ put m1 8 (hex "01"))
+        ≡ after (writes (codes "message 1 at 0 edition 2 octets 183 fields 1\n")) (silent (task Check) NotBuilt) }
 {}

@@ -3,25 +3,31 @@
 ghost use Rattle.std.specs.Prelude.{◌≡◌, [], ◌∷◌, ◌++◌, codes, take, replicate};
 ghost use Rattle.grib_io.specs.Rows.{refusal};
 ghost use Rattle.grib_io.specs.declared.fault.Reason.TheVariants.{Truncated};
-ghost use Rattle.grib2_message.specs.Acceptance.{verdict_2};
-ghost use Rattle.grib_engine.specs.Stream.{stream, stream_of, message_after, Over, Refusing};
+ghost use Rattle.grib_stream.specs.Stream.{stream, stream_of, message_after, Over, Refusing, NotRead};
+ghost use Rattle.grib_engine.specs.Tasks.{judge};
+ghost use Rattle.grib_worked.specs.Hex.{hex, put};
 ghost use Rattle.grib_worked.specs.Messages.{m1, m2};
 
 /// An empty input, and inputs that end before a whole `GRIB`.
 pub fn inputs_without_messages()
-    ensures empty { stream verdict_2 [] ≡ stream_of [] (Over 0) }
-    ensures one { stream verdict_2 (take 1 m1) ≡ stream_of [] (Over 1) }
-    ensures two { stream verdict_2 (take 2 m1) ≡ stream_of [] (Over 2) }
-    ensures three { stream verdict_2 (take 3 m1) ≡ stream_of [] (Over 3) }
+    ensures empty { stream judge [] ≡ stream_of [] (Over 0) }
+    ensures one { stream judge (take 1 m1) ≡ stream_of [] (Over 1) }
+    ensures two { stream judge (take 2 m1) ≡ stream_of [] (Over 2) }
+    ensures three { stream judge (take 3 m1) ≡ stream_of [] (Over 3) }
 {}
 
 /// The plain message twice, after a bulletin's heading and before five zeros: the octets outside are
 /// skipped and counted.
 pub fn messages_among_other_octets()
-    ensures found { stream verdict_2 (codes "SXXX01 EDZW\n" ++ m1 ++ m1 ++ replicate 5 0) ≡ stream_of (message_after 12 m1 ∷ message_after 195 m1 ∷ []) (Over 17) }
+    ensures found { stream judge (codes "SXXX01 EDZW\n" ++ m1 ++ m1 ++ replicate 5 0) ≡ stream_of (message_after 12 m1 ∷ message_after 195 m1 ∷ []) (Over 17) }
 {}
 
 /// A message after which a cut one stands.
 pub fn cut_second_message()
-    ensures refused { stream verdict_2 (m2 ++ take 100 m1) ≡ stream_of (message_after 0 m2 ∷ []) (Refusing 2 (refusal 101 Truncated 100)) }
+    ensures refused { stream judge (m2 ++ take 100 m1) ≡ stream_of (message_after 0 m2 ∷ []) (Refusing (refusal 101 Truncated 100)) }
+{}
+
+/// A message of edition 1 after one of edition 2, which is not read so far.
+pub fn first_edition()
+    ensures found { stream judge (m1 ++ put m1 8 (hex "01")) ≡ stream_of (message_after 0 m1 ∷ []) NotRead }
 {}
