@@ -1,5 +1,5 @@
 -- The reference value of a field of an accepted message is finite.
-use Rattle.std.proofs.Common.{◌≡◌, ◌≢◌, ℕ, ◌<◌, None, Option, Some, List, [], ◌==◌, refl, sym, ap, ◌∙◌, subst, arith}
+use Rattle.std.proofs.Common.{◌≡◌, ◌≢◌, ℕ, ◌<◌, None, Option, Some, List, [], ◌==◌, refl, sym, ◌∙◌, subst, arith}
 use Rattle.std.proofs.lemmas.Bool.{false≢true, eq-eqb}
 use Rattle.grib_bits.specs.Binary32.{ieee_exponent}
 use Rattle.grib_io.specs.declared.fault.Fault.{Fault}
