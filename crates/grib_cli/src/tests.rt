@@ -142,6 +142,7 @@ const STREAM_CHECKED: &str = "message 1 at 12 edition 2 octets 183 fields 1\n\
 
 // The octets of the first of these lines, and of the second.
 const FIRST_LINE: usize = 46;
+
 const SECOND_LINE: usize = 47;
 
 #[test]
@@ -283,7 +284,12 @@ fn another_edition_refuses(rt: HostRuntime) -> Result<(), Fail> {
 
 #[test]
 fn words_without_a_reading(rt: HostRuntime) -> Result<(), Fail> {
-    for (words, word) in [("", 0), ("--help", 0), ("check file", 1), ("repack to=3", 2)] {
+    for (words, word) in [
+        ("", 0),
+        ("--help", 0),
+        ("check file", 1),
+        ("repack to=3", 2),
+    ] {
         let note = format!(in rt.alloc(); "usage word {word}\n")?;
         let ran = run_over(rt.alloc(), words, &PLAIN, 50, CALM)?;
         assert!(rt; ran.is(Outcome::Usage(word), "", note.as_str()));
@@ -293,7 +299,11 @@ fn words_without_a_reading(rt: HostRuntime) -> Result<(), Fail> {
 
 #[test]
 fn what_is_to_come_is_not_built(rt: HostRuntime) -> Result<(), Fail> {
-    for words in ["filter centre=98", "repack to=3 order=2", "make seed=1 ni=2 nj=2 to=0"] {
+    for words in [
+        "filter centre=98",
+        "repack to=3 order=2",
+        "make seed=1 ni=2 nj=2 to=0",
+    ] {
         let ran = run_over(rt.alloc(), words, &PLAIN, 50, CALM)?;
         assert!(rt; ran.is(Outcome::NotBuilt, "", "not built\n"));
     }

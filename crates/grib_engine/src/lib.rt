@@ -15,7 +15,7 @@ mod tests;
 mod writing;
 
 pub use answering::{Answered, answer_message};
-pub use closing::close;
+pub use closing::{close, close_with_note};
 pub use grib_stream::{Outcome, Place, Totals};
 pub use job::Job;
 pub use reading::Held;
