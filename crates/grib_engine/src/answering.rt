@@ -27,8 +27,8 @@ pub enum Answered {
     Memory,
 }
 
-/// Does what the job says of a message at this place. After a fault or want of memory some first octets of its result may
-/// have been appended. The shelf is not used by these jobs.
+/// Does what the job says of a message at this place. After a fault or want of memory some first octets
+/// of its result may have been appended. The shelf is not used by these jobs.
 pub fn answer_message<T: Sink, H: Shelf>(
     alloc: Global,
     job: &Job,

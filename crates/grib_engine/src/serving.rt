@@ -50,8 +50,9 @@ pub(crate) fn serve_by<K: Performer, S: Source, T: Sink, N: Sink, H: Shelf>(
     close_with_note(alloc, outcome, output, notes)
 }
 
-/// Takes the octets of the input, writes the answer to the job to `output`, and notes how the run ended. The answer is a
-/// function of the input alone; it does not depend on how the input comes in pieces. These jobs do not use the shelf.
+/// Takes the octets of the input, writes the answer to the job to `output`, and notes how the run ended.
+/// The answer is a function of the input alone; it does not depend on how the input comes in pieces.
+/// These jobs do not use the shelf.
 pub fn serve<S: Source, T: Sink, N: Sink, H: Shelf>(
     alloc: Global,
     job: &Job,

@@ -14,8 +14,8 @@ use std::alloc::Global;
 /// The most octets of an input that are answered.
 pub const LIMIT: u64 = 1_099_511_627_776;
 
-/// Answers the messages of an input, of which no more than `limit` octets are answered, and does what is to be done at
-/// its end. It answers how the run ends. The answer is a function of the input alone.
+/// Answers the messages of an input, of which no more than `limit` octets are answered, and does what is
+/// to be done at its end. It answers how the run ends. The answer is a function of the input alone.
 pub fn answer_within<K: Performer, S: Source, T: Sink, H: Shelf>(
     performer: &K,
     alloc: Global,

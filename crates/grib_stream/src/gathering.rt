@@ -19,8 +19,8 @@ pub(crate) enum Rest {
     Ended,
 }
 
-/// Reads until so many octets are there, as far as the input goes and no more than `left` of it, from which what
-/// was read is taken away.
+/// Reads until so many octets are there, as far as the input goes and no more than `left` of it, from
+/// which what was read is taken away.
 pub(crate) fn gather<S: Source>(
     window: &mut Window,
     input: &mut S,

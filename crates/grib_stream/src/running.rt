@@ -20,8 +20,8 @@ use crate::window::Window;
 use grib_io::{Refusal, Shelf, Sink, Source, Stop};
 use std::alloc::Global;
 
-/// Answers the messages of an input, of which no more than `limit` octets are answered. It answers what was counted
-/// where the input was read to its end, and else how the run ends.
+/// Answers the messages of an input, of which no more than `limit` octets are answered. It answers what
+/// was counted where the input was read to its end, and else how the run ends.
 pub(crate) fn answer_messages<K: Performer, S: Source, T: Sink, H: Shelf>(
     performer: &K,
     alloc: Global,

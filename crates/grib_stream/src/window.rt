@@ -65,8 +65,8 @@ impl Window {
         self.start += count;
     }
 
-    /// Reads at most `most` octets, one at least where there is one, into the buffer behind the others. Room is
-    /// made with a view to so many octets that are wanted in the end.
+    /// Reads at most `most` octets, one at least where there is one, into the buffer behind the others.
+    /// Room is made with a view to so many octets that are wanted in the end.
     pub fn read<S: Source>(
         &mut self,
         input: &mut S,
@@ -120,8 +120,8 @@ fn make_room(
     Ok(0)
 }
 
-/// Makes the buffer larger, so that there is room for the octets of one read beside the pending ones: twice as
-/// large as it was, but no larger than for the octets that are wanted and one read.
+/// Makes the buffer larger, so that there is room for the octets of one read beside the pending ones:
+/// twice as large as it was, but no larger than for the octets that are wanted and one read.
 fn enlarge(octets: &mut Vec<u8>, pending: usize, wanted: usize) -> Result<(), AllocError>
     requires within { pending ≤ vec_len octets.old }
     requires little { vec_len octets.old < pending + 65536 }
