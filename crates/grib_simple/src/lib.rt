@@ -22,6 +22,6 @@ pub use numbers::{unpack_numbers, unpack_points};
 pub use packing::Packing;
 pub use representation::{Simple, read_simple};
 pub use sections::{octets_written, room_for, write_head, write_numbers};
-pub use simple::{SimplePacking, simple_column};
+pub use simple::SimplePacking;
 pub use writing::no_bitmap;
 pub use written::{PackFault, Packed};

@@ -131,29 +131,8 @@ fn numbers_of_whole_octets(rt: HostRuntime) -> Result<(), Fail> {
     Ok(())
 }
 
-/// A Section 5 of template 5.0 for four values of 12 bits, with R = 273.15, E = -1 and D = 1.
-const REPRESENTATION: [u8; 21] = [
-    0, 0, 0, 21, 5, 0, 0, 0, 4, 0, 0, 0x43, 0x88, 0x93, 0x33, 0x80, 0x01, 0x00, 0x01, 12, 0,
-];
-
-/// Its Section 7.
+/// A Section 7.
 const DATA: [u8; 11] = [0, 0, 0, 11, 7, 0x00, 0x1a, 0xbc, 0xff, 0xf0, 0x00];
-
-#[test]
-fn columns_of_simple_packing(rt: HostRuntime) -> Result<(), Fail> {
-    let column = simple_column(rt.alloc(), &REPRESENTATION, &DATA)?;
-    assert_eq!(rt; column.reference, 0x43889333);
-    assert_eq!(rt; column.e, 0x8001);
-    assert_eq!(rt; column.d, 1);
-    let points = [
-        Point::Scaled(1),
-        Point::Scaled(2748),
-        Point::Scaled(4095),
-        Point::Scaled(0),
-    ];
-    assert_eq!(rt; column.points.as_slice(), points.as_slice());
-    Ok(())
-}
 
 #[test]
 fn points_of_half_octets(rt: HostRuntime) -> Result<(), Fail> {

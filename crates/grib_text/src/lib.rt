@@ -15,7 +15,6 @@ mod tests;
 mod times;
 
 pub use counts::{check_line, total_line};
-pub use listed::{ListedField, field_line};
 pub use messages::list_line;
 pub use notes::refusal_note;
 pub use points::{append_point_line, point_line};

@@ -6,7 +6,7 @@ ghost use Rattle.grib2_message.specs.Fields.{field_count, part_octets};
 ghost use Rattle.grib2_message.specs.Message.{FieldPasses};
 ghost use Rattle.grib_text.specs.Lines as lines;
 
-use crate::{ListedField, field_line};
+use crate::listed::{ListedField, field_line};
 use grib2_message::Message;
 use grib2_sections::u8_at;
 use std::alloc::{AllocError, Global};

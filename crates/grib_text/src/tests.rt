@@ -1,6 +1,7 @@
 //! The expected lines are written by hand.
 
 use super::*;
+use crate::listed::{ListedField, field_line};
 use grib_dyadic::Dyadic;
 use grib_io::{Fault, Reason, Refusal};
 use grib_simple::Point;
