@@ -71,7 +71,6 @@ same_width q r low high low' high' k w limit order lower higher small less (inl 
 same_width q r low high low' high' k w limit order lower higher small less (inr room) is =
     same_wide q r low high low' high' k w limit order lower higher small less room is
 
-
 -- a run of one number has no width
 one_number : (k n : ℕ) → width_of k (Present n ∷ []) ≡ 0
 one_number k n = rw (eq-eqb (max n 0) n (omega arith)) refl
@@ -107,7 +106,6 @@ wide_next k bits limit low high p s n run t small below less some w =
       none = λ e long. cc;
       stays = w.stays;
     }
-
 
 pub wide_number : (k bits limit low high p s n : ℕ) (run : List Code) → Tells low high p s run → n + k < 2 ^ 32 → high + k < 2 ^ 32
     → max high n - min low n < limit → Wide k bits limit run → Wide k bits limit (Present n ∷ run)

@@ -301,7 +301,7 @@ fn least_of(costs: &[u32; 64]) -> u32
     ensures one { (place : ℕ) × (place < 64) × (slice_index costs.now place ≡ result) }
 {
     let mut least = costs[0];
-    for place in 1..64 {
+    for place in 0..64 {
         least = least.min(costs[place]);
     }
     least
