@@ -13,12 +13,12 @@ use Rattle.grib_split.proofs.Kept.{priced_as, other_at}
 use Rattle.grib_split.proofs.Following.{none_chosen}
 
 empty_run : (k : ℕ) (slots : Slots) (p count : ℕ) → slice_index slots.least p ≡ 4294967295 → slice_index slots.greatest p ≡ 0
-    → slice_index slots.primary p ≡ 0 → slice_index slots.secondary p ≡ 0 → slice_index slots.width p ≡ 0 → slice_index slots.limit p ≡ 0
+    → slice_index slots.primary p ≡ 0 → slice_index slots.secondary p ≡ 0 → slice_index slots.width p ≡ 0 → slice_index slots.limit p ≤ 1
     → slice_index slots.cost p ≡ slice_index slots.after p → Run k slots p count []
 empty_run k slots p count low high primary secondary width limit cost = record {
   told = record { tells = record { least = low; most = high; primary = primary; secondary = secondary } };
   priced = record {
-    wide = record { is = width; few = omega (arith, width); none = λ e. limit; stays = inl (omega (arith, limit)) };
+    wide = record { is = width; few = omega (arith, width); none = λ e long. absurd (omega (arith, long)); stays = inl limit };
     cost = cost ∙ (let zero_wide : count * slice_index slots.width p ≡ count * 0 = ap (λ w. count * w) width in omega (arith, zero_wide));
   };
 }
@@ -63,7 +63,7 @@ pub waits_begun : (k : ℕ) (codes : List Code) (at cost : ℕ) (a b : Slots) �
     → ((p : ℕ) → (at + 1) % 64 ≢ p → Same a b p) → Runs k codes (at + 1) a → Waits k codes at b
 waits_begun k codes at cost a b here same runs zero some most = absurd (omega arith)
 waits_begun k codes at cost a b here same runs (suc zero) some most =
-    empty_run k b ((at + 1) % 64) 0 here.least here.greatest here.primary here.secondary here.width here.limit (here.cost ∙ sym here.after)
+    empty_run k b ((at + 1) % 64) 0 here.least here.greatest here.primary here.secondary here.width (omega (arith, here.limit)) (here.cost ∙ sym here.after)
 waits_begun k codes at cost a b here same runs (suc (suc m)) some most =
     let n : ℕ = suc (suc m) in
     let p = (at + n) % 64 in
@@ -128,7 +128,7 @@ runs_none k codes at slots end b l some most =
     let P : List Code → Type 0 = λ run. Run k slots p l run in
     subst P (sym none)
     (empty_run k slots p l (all_at slots.least 4294967295 p b.least within) (all_at slots.greatest 0 p b.greatest within) (all_at slots.primary 0 p b.primary within)
-    (all_at slots.secondary 0 p b.secondary within) (all_at slots.width 0 p b.width within) (all_at slots.limit 0 p b.limit within)
+    (all_at slots.secondary 0 p b.secondary within) (all_at slots.width 0 p b.width within) (omega (arith, all_at slots.limit 0 p b.limit within))
     (all_at slots.cost 2147483648 p b.cost within ∙ sym (all_at slots.after 2147483648 p b.after within)))
 
 pub afters_none : (header k : ℕ) (codes : List Code) (at : ℕ) (slots : Slots) → length codes ≤ at → Blank slots → Afters header k codes at slots

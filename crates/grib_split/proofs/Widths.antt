@@ -3,7 +3,7 @@ use Rattle.std.proofs.Common.{◌≡◌, ℕ, ◌+◌, ◌-◌, ◌^◌, ◌<◌
 use Rattle.std.specs.List.{list_any}
 use Rattle.grib_io.specs.declared.code.Code.{Code}
 use Rattle.grib_io.specs.declared.code.Code.TheVariants.{Present, Primary, Secondary}
-use Rattle.grib_packing.specs.Groupings.{digits, greatest, smallest, present_codes, is_present, is_primary, is_secondary}
+use Rattle.grib_packing.specs.Groupings.{width_of, digits, greatest, smallest, present_codes, is_present, is_primary, is_secondary}
 use Rattle.grib_packing.proofs.Spans.{smallest-more, smallest-one, some_present, none_present, smallest_at_most, width_by, width_of-by}
 use Rattle.grib_packing.proofs.Digits.{digits-most, digits-mono}
 use Rattle.grib_split.specs.Runs.{Tells, Wide}
@@ -71,14 +71,28 @@ same_width q r low high low' high' k w limit order lower higher small less (inl 
 same_width q r low high low' high' k w limit order lower higher small less (inr room) is =
     same_wide q r low high low' high' k w limit order lower higher small less room is
 
-present_where : (present : Bool) (limit : ℕ) → (present ≡ false → limit ≡ 0) → 0 < limit → present ≡ true
-present_where true limit none some = refl
-present_where false limit none some = absurd (omega (arith, none refl))
+-- a run of one number has no width
+one_number : (k n : ℕ) → width_of k (Present n ∷ []) ≡ 0
+one_number k n = rw (eq-eqb (max n 0) n (omega arith)) refl
 
-pub wide_number : (k bits limit low high p s n : ℕ) (run : List Code) → Tells low high p s run → n + k < 2 ^ 32 → high + k < 2 ^ 32
-    → max high n - min low n < limit → Wide k bits limit run → Wide k bits limit (Present n ∷ run)
-wide_number k bits limit low high p s n run t small below less w =
-    let some : list_any is_present run ≡ true = present_where (list_any is_present run) limit w.none (omega (arith, less)) in
+wide_first : (k bits limit n : ℕ) → Wide k bits limit [] → Wide k bits limit (Present n ∷ [])
+wide_first k bits limit n w = record {
+  is = w.is ∙ sym (one_number k n);
+  few = w.few;
+  none = λ e some. cc;
+  stays = w.stays;
+}
+
+none_left : (k bits limit : ℕ) (run : List Code) → Wide k bits limit run → 0 < limit → 0 < length run → list_any is_present run ≡ false → ⊥
+none_left k bits limit run w some long e = omega (arith, w.none e long)
+
+true_or_false : (b : Bool) → (b ≡ true) ⊎ (b ≡ false)
+true_or_false true = inl refl
+true_or_false false = inr refl
+
+wide_next : (k bits limit low high p s n : ℕ) (run : List Code) → Tells low high p s run → n + k < 2 ^ 32 → high + k < 2 ^ 32
+    → max high n - min low n < limit → list_any is_present run ≡ true → Wide k bits limit run → Wide k bits limit (Present n ∷ run)
+wide_next k bits limit low high p s n run t small below less some w =
     let numbers = present_codes run in
     let low_is : low ≡ smallest numbers = t.least ∙ rw some refl in
     let more = smallest-more n numbers (some_present run some) in
@@ -89,9 +103,21 @@ wide_number k bits limit low high p s n run t small below less w =
           (smallest_at_most numbers) (omega (arith, more)) (omega arith) (omega (arith, t.most)) (omega (arith, more, low_is, t.most, less)) w.stays is
           ∙ sym (width_of-by k (Present n ∷ run));
       few = w.few;
-      none = λ e. cc;
+      none = λ e long. cc;
       stays = w.stays;
     }
+
+pub wide_number : (k bits limit low high p s n : ℕ) (run : List Code) → Tells low high p s run → n + k < 2 ^ 32 → high + k < 2 ^ 32
+    → max high n - min low n < limit → Wide k bits limit run → Wide k bits limit (Present n ∷ run)
+wide_number k bits limit low high p s n [] t small below less w = wide_first k bits limit n w
+wide_number k bits limit low high p s n (code ∷ codes) t small below less w = elim (true_or_false (list_any is_present (code ∷ codes))) [
+  | inl some ↦ wide_next k bits limit low high p s n (code ∷ codes) t small below less some w
+  | inr none ↦ absurd (none_left k bits limit (code ∷ codes) w (omega (arith, less)) (omega arith) none)
+]
+
+long_where : (f : Code → Bool) (run : List Code) → list_any f run ≡ true → 0 < length run
+long_where f [] e = cc
+long_where f (code ∷ run) e = omega arith
 
 has_mark : (b : Bool) (mark : ℕ) → mark ≡ cond b 1 0 → 0 < mark → b ≡ true
 has_mark true mark is some = refl
@@ -107,7 +133,7 @@ wide_primary k bits limit low high p s run t some w =
           ∙ (ap (λ b. width_by (list_any is_present run) b (list_any is_secondary run) (smallest numbers) (greatest numbers) k) marked
           ∙ sym (width_of-by k (Primary ∷ run))));
       few = w.few;
-      none = w.none;
+      none = λ e long. w.none e (long_where is_primary run marked);
       stays = w.stays;
     }
 
@@ -121,7 +147,7 @@ wide_secondary k bits limit low high p s run t some w =
           ∙ (ap (λ b. width_by (list_any is_present run) (list_any is_primary run) b (smallest numbers) (greatest numbers) k) marked
           ∙ sym (width_of-by k (Secondary ∷ run))));
       few = w.few;
-      none = w.none;
+      none = λ e long. w.none e (long_where is_secondary run marked);
       stays = w.stays;
     }
 
@@ -162,7 +188,7 @@ wide_marks low high p s k bits run t less is few = record {
   is = wide_by (list_any is_present run) (list_any is_primary run) (list_any is_secondary run) low high p s k bits 0 (smallest (present_codes run)) (greatest (present_codes run))
       t.least t.most (none_greatest run) (smallest_at_most (present_codes run)) t.primary t.secondary less is ∙ sym (width_of-by k run);
   few = few;
-  none = λ e. refl;
+  none = λ e long. refl;
   stays = inl (omega arith);
 }
 
@@ -174,7 +200,7 @@ wide_one low high p s k run t order is = record {
   is = one_by (list_any is_present run) (list_any is_primary run) (list_any is_secondary run) low high p s k (smallest (present_codes run)) (greatest (present_codes run))
       t.least t.most (none_greatest run) t.primary t.secondary order is ∙ sym (width_of-by k run);
   few = omega arith;
-  none = λ e. absurd (with_numbers (list_any is_present run) low high (smallest (present_codes run)) (greatest (present_codes run)) t.least t.most (none_greatest run) order e);
+  none = λ e long. absurd (with_numbers (list_any is_present run) low high (smallest (present_codes run)) (greatest (present_codes run)) t.least t.most (none_greatest run) order e);
   stays = inl (omega arith);
 }
 
@@ -184,7 +210,7 @@ wide_many low high p s k bits limit run t order more is few stays = record {
   is = is ∙ (many_by (list_any is_present run) (list_any is_primary run) (list_any is_secondary run) low high p s k (smallest (present_codes run)) (greatest (present_codes run))
       t.least t.most (none_greatest run) t.primary t.secondary order more ∙ sym (width_of-by k run));
   few = few;
-  none = λ e. absurd (with_numbers (list_any is_present run) low high (smallest (present_codes run)) (greatest (present_codes run)) t.least t.most (none_greatest run) order e);
+  none = λ e long. absurd (with_numbers (list_any is_present run) low high (smallest (present_codes run)) (greatest (present_codes run)) t.least t.most (none_greatest run) order e);
   stays = stays;
 }
 

@@ -17,11 +17,12 @@ pub record Tells (low high with_primary with_secondary : ℕ) (run : List Code) 
 pub record Told (slots : Slots) (place : ℕ) (run : List Code) : Type 0 where
   pub tells : Tells (slice_index slots.least place) (slice_index slots.greatest place) (slice_index slots.primary place) (slice_index slots.secondary place) run
 
--- The width is that of the run. It stays where numbers are added and all differ by less than the limit.
+-- The width is that of the run. It stays where numbers are added and all differ by less than the limit; a run
+-- of marks keeps its width with none.
 pub record Wide (reserved bits limit : ℕ) (run : List Code) : Type 0 where
   pub is : bits ≡ width_of reserved run
   pub few : bits ≤ 32
-  pub none : list_any is_present run ≡ false → limit ≡ 0
+  pub none : list_any is_present run ≡ false → 0 < length run → limit ≡ 0
   pub stays : (limit ≤ 1) ⊎ (limit + reserved ≤ 2 ^ bits)
 
 -- a run of no codes at a place, before codes of this least cost
@@ -31,7 +32,7 @@ pub record Begun (slots : Slots) (place rest : ℕ) : Type 0 where
   pub primary : slice_index slots.primary place ≡ 0
   pub secondary : slice_index slots.secondary place ≡ 0
   pub width : slice_index slots.width place ≡ 0
-  pub limit : slice_index slots.limit place ≡ 0
+  pub limit : slice_index slots.limit place ≡ 1
   pub cost : slice_index slots.cost place ≡ rest
   pub after : slice_index slots.after place ≡ rest
 

@@ -17,7 +17,7 @@ pub(crate) struct Slots {
     /// The least and the greatest number of each run: 4,294,967,295 and 0 where it has none.
     least: [u32; 64],
     greatest: [u32; 64],
-    /// A run keeps its width while its numbers differ by less; 0 where it has none.
+    /// A run keeps its width while its numbers differ by less; 0 for a run of marks alone.
     limit: [u32; 64],
     /// The width of each run as a group, in bits.
     width: [u32; 64],
@@ -75,7 +75,7 @@ impl Slots {
         ensures here { Begun self.new place cost }
         ensures least { self.new.least ≡ slice_set self.old.least place 4294967295 }
         ensures greatest { self.new.greatest ≡ slice_set self.old.greatest place 0 }
-        ensures limit { self.new.limit ≡ slice_set self.old.limit place 0 }
+        ensures limit { self.new.limit ≡ slice_set self.old.limit place 1 }
         ensures width { self.new.width ≡ slice_set self.old.width place 0 }
         ensures after { self.new.after ≡ slice_set self.old.after place cost }
         ensures cost { self.new.cost ≡ slice_set self.old.cost place cost }
@@ -84,7 +84,7 @@ impl Slots {
     {
         self.least[place] = u32::MAX;
         self.greatest[place] = 0;
-        self.limit[place] = 0;
+        self.limit[place] = 1;
         self.width[place] = 0;
         self.after[place] = cost;
         self.cost[place] = cost;
@@ -301,7 +301,7 @@ fn least_of(costs: &[u32; 64]) -> u32
     ensures one { (place : ℕ) × (place < 64) × (slice_index costs.now place ≡ result) }
 {
     let mut least = costs[0];
-    for place in 1..64 {
+    for place in 0..64 {
         least = least.min(costs[place]);
     }
     least

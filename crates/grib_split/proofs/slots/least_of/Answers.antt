@@ -16,10 +16,10 @@ least_here costs n least now is below p within = elim (below_or_here p n within)
 ]
 
 one_here : (costs : List ℕ) (n least now : ℕ) → now ≡ min least (slice_index costs n)
-    → (p : ℕ) × (p < n) × (slice_index costs p ≡ least) → (p : ℕ) × (p < n + 1) × (slice_index costs p ≡ now)
-one_here costs n least now is one = elim (order least (slice_index costs n)) [
-  | inl kept ↦ (one.0, omega (arith, one.1), one.2 ∙ omega (arith, is))
-  | inr new ↦ (n, omega arith, omega (arith, is))
+    → n < 64 → (p : ℕ) × (p < 64) × (slice_index costs p ≡ least) → (p : ℕ) × (p < 64) × (slice_index costs p ≡ now)
+one_here costs n least now is within one = elim (order least (slice_index costs n)) [
+  | inl kept ↦ (one.0, one.1, one.2 ∙ omega (arith, is))
+  | inr new ↦ (n, within, omega (arith, is))
 ]
 
 pub loop-place-preserved : goal.loop-place-preserved
@@ -27,5 +27,5 @@ loop-place-preserved c =
     let l = c.loop-place in
     record {
       least = least_here c.args.costs.now l.place l.least c.min-least.result c.min-least.ensures l.invariant.least;
-      one = one_here c.args.costs.now l.place l.least c.min-least.result c.min-least.ensures l.invariant.one;
+      one = one_here c.args.costs.now l.place l.least c.min-least.result c.min-least.ensures c.loop-place-test.true l.invariant.one;
     }
