@@ -10,3 +10,15 @@ returns-clause-plain c = refl
 pub returns-clause-no_bits : goal.returns-clause-no_bits
 unfolding digits
 returns-clause-no_bits c = refl
+
+pub returns-clause-two_fields : goal.returns-clause-two_fields
+unfolding digits
+returns-clause-two_fields c = refl
+
+pub returns-clause-differences : goal.returns-clause-differences
+unfolding digits
+returns-clause-differences c = refl
+
+pub returns-clause-marks : goal.returns-clause-marks
+unfolding digits
+returns-clause-marks c = refl
