@@ -155,6 +155,32 @@ fn messages_are_found_among_other_octets(rt: HostRuntime) -> Result<(), Fail> {
     Ok(())
 }
 
+// The message with a Section 7 of 70,008 octets, of which four are read: 70,182 octets.
+fn long_message(alloc: Global) -> Result<Vec<u8>, AllocError> {
+    let mut octets = PLAIN[..170].to_vec(alloc)?;
+    octets[13] = 0x01;
+    octets[14] = 0x12;
+    octets[15] = 0x26;
+    octets.extend_from_slice(&[0x00, 0x01, 0x11, 0x78, 7])?;
+    octets.resize(70_178, 0)?;
+    octets.extend_from_slice(b"7777")?;
+    Ok(octets)
+}
+
+#[test]
+fn messages_longer_than_each_read_are_answered(rt: HostRuntime) -> Result<(), Fail> {
+    let mut octets = long_message(rt.alloc())?;
+    octets.extend_from_slice(long_message(rt.alloc())?.as_slice())?;
+    let lines = "message 1 at 0 edition 2 octets 70182 fields 1\n\
+                 message 2 at 70182 edition 2 octets 70182 fields 1\n\
+                 messages 2 fields 2 skipped 0\n";
+    for piece in [50_000, 65_536, 200_000] {
+        let checked = run_over(rt.alloc(), "check", octets.as_slice(), piece, CALM)?;
+        assert!(rt; checked.is(Outcome::Done, lines, ""));
+    }
+    Ok(())
+}
+
 #[test]
 fn inputs_without_messages(rt: HostRuntime) -> Result<(), Fail> {
     for (octets, text) in [
