@@ -13,4 +13,5 @@ pub mod CodeByCode
 pub mod GroupByGroup
 pub mod Wholly
 pub mod Differing
+pub mod FirstValues
 pub mod Back
