@@ -35,7 +35,7 @@ use Rattle.grib_complex.proofs.Wholly.{padded-whole}
 
 -- ---- the layout
 
-lays_out : (s5 : List ℕ) (column : Column) (values template kind k : ℕ) (codes : List Code) (lengths : List ℕ) → k ≤ 2 → All (IsTold k) codes
+pub lays_out : (s5 : List ℕ) (column : Column) (values template kind k : ℕ) (codes : List Code) (lengths : List ℕ) → k ≤ 2 → All (IsTold k) codes
     → HasNumbers s5 column values template (reference_bits_of k codes) kind → HasLayout s5 k codes lengths → IsGrouping (length codes) lengths → LaysOut (layout_of s5) codes lengths
 lays_out s5 column values template kind k codes lengths few told numbers h g = record {
   management = omega (arith, h.management);
@@ -53,10 +53,10 @@ lays_out s5 column values template kind k codes lengths few told numbers h g = r
 
 -- ---- a section without a bitmap
 
-one_passes : (a : Bool) (fault : Fault) → a ≡ false → cond a (Some fault) None ≡ None
+pub one_passes : (a : Bool) (fault : Fault) → a ≡ false → cond a (Some fault) None ≡ None
 one_passes a fault e = rw e refl
 
-two_pass : (a b : Bool) (fa fb : Fault) (rest : Option Fault) → a ≡ false → b ≡ false → rest ≡ None → cond a (Some fa) (cond b (Some fb) rest) ≡ None
+pub two_pass : (a b : Bool) (fa fb : Fault) (rest : Option Fault) → a ≡ false → b ≡ false → rest ≡ None → cond a (Some fa) (cond b (Some fb) rest) ≡ None
 two_pass a b fa fb rest ea eb er = rw (ea, eb) er
 
 pub no_bitmap_rows : (points values : ℕ) (earlier : Option (List Bool)) → values ≡ points → first_fault (bitmap_rows no_bitmap_section points values earlier) ≡ None
@@ -91,7 +91,7 @@ naturals_back m (Missing2 ∷ points) e = naturals_back m points e
 
 -- ---- the rows of Section 5
 
-none_of_seven : (a b c d e f g : Bool) (fa fb fc fd fe ff fg : Fault) → a ≡ false → b ≡ false → c ≡ false → d ≡ false → e ≡ false → f ≡ false → g ≡ false
+pub none_of_seven : (a b c d e f g : Bool) (fa fb fc fd fe ff fg : Fault) → a ≡ false → b ≡ false → c ≡ false → d ≡ false → e ≡ false → f ≡ false → g ≡ false
     → cond a (Some fa) (cond b (Some fb) (cond c (Some fc) (cond d (Some fd) (cond e (Some fe) (cond f (Some ff) (cond g (Some fg) None)))))) ≡ None
 none_of_seven a b c d e f g fa fb fc fd fe ff fg ea eb ec ed ee ef eg = rw (ea, eb, ec, ed, ee, ef, eg) refl
 

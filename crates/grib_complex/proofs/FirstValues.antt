@@ -1,8 +1,8 @@
 -- The extra descriptors of spatial differencing, as they are written, read back.
-use Rattle.std.proofs.Common.{◌≡◌, ◌==◌, ◌⊎◌, ℕ, suc, ◌+◌, ◌-◌, ◌*◌, ◌/◌, ◌^◌, ◌<◌, ◌≤◌, inl, inr, Bool, true, false, cond, max, ℤ, pos, negsuc, neg_ℤ, nat_abs, nat_lt, int_lt, List, [], ◌∷◌, ◌++◌, length, take, drop, refl, sym, ap, ap₂, ◌∙◌, arith, append_assoc, append-nil, add-mul, mod-eq_of_lt, pow_mono, take-append-drop, le-ltb, lt-ltb, eq-eqb, ne_eqb, subst}
+use Rattle.std.proofs.Common.{◌≡◌, ◌==◌, ◌⊎◌, ℕ, suc, ◌+◌, ◌-◌, ◌*◌, ◌/◌, ◌^◌, ◌<◌, ◌≤◌, inl, inr, Bool, true, false, cond, ℤ, pos, negsuc, neg_ℤ, nat_abs, nat_lt, List, [], ◌∷◌, ◌++◌, length, take, drop, refl, sym, ap, ap₂, ◌∙◌, arith, append_assoc, add-mul, mod-eq_of_lt, pow_mono, take-append-drop, le-ltb, lt-ltb, eq-eqb, ne_eqb, subst}
 use Rattle.std.proofs.lemmas.Bool.{cases_lt}
 use Rattle.std.proofs.lemmas.Nat.{shr_below}
-use Rattle.std.proofs.lemmas.List.{length-append, length-drop, length-take-le, drop-drop, take_at}
+use Rattle.std.proofs.lemmas.List.{length-append, length-take-le, drop-drop, take_at}
 use Rattle.grib_bits.specs.Bits.{bits, bits_of, num, signed}
 use Rattle.grib_bits.specs.Octets.{octets, octet_list, signed_octets}
 use Rattle.grib_bits.proofs.Numbers.{length-bits_of, num-bits_of, num-take_bits_of}
@@ -136,12 +136,12 @@ pub size_room : (most : ℕ) → most < 2 ^ 31 → most < 2 ^ (8 * cond (nat_lt 
 size_room most small = elim (cases_lt most (2 ^ 7)) [
   | inl in_1 ↦ rw (lt-ltb most (2 ^ 7) in_1) in_1
   | inr past_1 ↦ rw (le-ltb most (2 ^ 7) past_1) (elim (cases_lt most (2 ^ 15)) [
-      | inl in_2 ↦ rw (lt-ltb most (2 ^ 15) in_2) in_2
-      | inr past_2 ↦ rw (le-ltb most (2 ^ 15) past_2) (elim (cases_lt most (2 ^ 23)) [
-          | inl in_3 ↦ rw (lt-ltb most (2 ^ 23) in_3) in_3
-          | inr past_3 ↦ rw (le-ltb most (2 ^ 23) past_3) small
-        ])
+    | inl in_2 ↦ rw (lt-ltb most (2 ^ 15) in_2) in_2
+    | inr past_2 ↦ rw (le-ltb most (2 ^ 15) past_2) (elim (cases_lt most (2 ^ 23)) [
+      | inl in_3 ↦ rw (lt-ltb most (2 ^ 23) in_3) in_3
+      | inr past_3 ↦ rw (le-ltb most (2 ^ 23) past_3) small
     ])
+  ])
 ]
 
 pub size_few : (a b c : Bool) → cond a 1 (cond b 2 (cond c 3 4)) ≤ 4

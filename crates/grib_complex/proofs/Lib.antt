@@ -15,3 +15,4 @@ pub mod Wholly
 pub mod Differing
 pub mod FirstValues
 pub mod Back
+pub mod ByDifferences
