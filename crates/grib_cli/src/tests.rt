@@ -199,21 +199,14 @@ fn each_read_may_fail(rt: HostRuntime) -> Result<(), Fail> {
     // 383 octets in pieces of 50 at most, and the read that finds the end. The messages end after 195 and
     // after 378 octets.
     let octets = stream(rt.alloc())?;
-    for input in 1..10 {
-        let taken = (50 * (input - 1)).min(383);
-        let lines = if taken < 195 {
-            0
-        } else if taken < 378 {
-            FIRST_LINE
-        } else {
-            FIRST_LINE + SECOND_LINE
-        };
-        let failing = Failing {
-            input: input as u64,
-            ..CALM
-        };
+    let one = &STREAM_CHECKED[..FIRST_LINE];
+    let both = &STREAM_CHECKED[..FIRST_LINE + SECOND_LINE];
+    let lines = ["", "", "", "", one, one, one, one, both];
+    for (read, text) in lines.iter().enumerate() {
+        let input = read as u64 + 1;
+        let failing = Failing { input, ..CALM };
         let checked = run_over(rt.alloc(), "check", octets.as_slice(), 50, failing)?;
-        assert!(rt; checked.is(Outcome::ReadFault, &STREAM_CHECKED[..lines], "read fault\n"));
+        assert!(rt; checked.is(Outcome::ReadFault, text, "read fault\n"));
     }
     let failing = Failing { input: 10, ..CALM };
     let checked = run_over(rt.alloc(), "check", octets.as_slice(), 50, failing)?;
