@@ -90,7 +90,7 @@ impl Random {
 }
 
 fn next_mark(least: u32, kinds: u32, random: &mut Random) -> u32 {
-    least + random.below(kinds)
+    if kinds == 1 { least } else { least + random.below(kinds) }
 }
 
 fn next_number(numbers: u32, last: i64, bits: u32, random: &mut Random) -> i64 {
@@ -105,6 +105,8 @@ fn next_number(numbers: u32, last: i64, bits: u32, random: &mut Random) -> i64 {
             number - i64::from(random.bits(bits))
         }
         6 => i64::from(u32::MAX) - i64::from(random.bits(2)),
+        7 if random.bits(1) == 0 => i64::from(random.bits(1)),
+        7 => (1 << 31) - 2 + i64::from(random.bits(2)),
         _ if random.below(50) == 0 => (1 << 48) - i64::from(random.bits(1)),
         _ => {
             let number = i64::from(random.bits(31)) * 65536;
@@ -122,7 +124,7 @@ fn random_column(random: &mut Random) -> Column {
         5 | 6 => (0, 3),
         _ => (1, 1 + random.below(2)),
     };
-    let numbers = random.below(8);
+    let numbers = random.below(9);
     let mut last = i64::from(random.bits(10));
     let mut bits = 1 + random.below(32);
     let mut mark = next_mark(least, kinds, random);

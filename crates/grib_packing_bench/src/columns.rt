@@ -31,12 +31,14 @@ enum Numbers {
     Signed,
     /// The four greatest of 32 bits.
     Greatest,
+    /// About 0 and about 2^31, so that first values, differences and codes come to their limits.
+    Limits,
     /// 48 bits and sometimes one more.
     Long,
 }
 
 impl Numbers {
-    /// One of the eight.
+    /// One of the nine.
     fn of(number: u32) -> Numbers {
         match number {
             0 => Numbers::Same,
@@ -46,6 +48,7 @@ impl Numbers {
             4 => Numbers::Walk,
             5 => Numbers::Signed,
             6 => Numbers::Greatest,
+            7 => Numbers::Limits,
             _ => Numbers::Long,
         }
     }
@@ -68,6 +71,8 @@ impl Numbers {
                 number - i64::from(random.bits(bits))
             }
             Numbers::Greatest => i64::from(u32::MAX) - i64::from(random.bits(2)),
+            Numbers::Limits if random.bits(1) == 0 => i64::from(random.bits(1)),
+            Numbers::Limits => (1 << 31) - 2 + i64::from(random.bits(2)),
             Numbers::Long if random.below(50) == 0 => (1 << 48) - i64::from(random.bits(1)),
             Numbers::Long => {
                 let number = i64::from(random.bits(31)) * 65536;
@@ -77,12 +82,19 @@ impl Numbers {
     }
 }
 
-/// Which points of a column are marked as missing: of the numbers from 0 below this one, one is drawn for
-/// a run of points, where 0 stands for a number, 1 for primary and 2 for secondary missing.
+/// Which points of a column are missing. A mark is drawn for a run of points.
 #[derive(Clone, Copy)]
-struct Marks {
-    least: u32,
-    kinds: u32,
+enum Marks {
+    /// None.
+    None,
+    /// Some are primary missing.
+    Some,
+    /// Some are primary missing, and some secondary.
+    SomeOfBoth,
+    /// All are primary missing.
+    All,
+    /// All are missing, some primary and some secondary.
+    AllOfBoth,
 }
 
 impl Marks {
@@ -90,19 +102,28 @@ impl Marks {
     /// point has a number.
     fn of(random: &mut Random) -> Marks {
         match random.below(8) {
-            0..=2 => Marks { least: 0, kinds: 1 },
-            3 | 4 => Marks { least: 0, kinds: 2 },
-            5 | 6 => Marks { least: 0, kinds: 3 },
-            _ => Marks {
-                least: 1,
-                kinds: 1 + random.below(2),
-            },
+            0..=2 => Marks::None,
+            3 | 4 => Marks::Some,
+            5 | 6 => Marks::SomeOfBoth,
+            _ if random.below(2) == 0 => Marks::All,
+            _ => Marks::AllOfBoth,
         }
     }
 
-    /// The mark of the next run.
-    fn next(self, random: &mut Random) -> u32 {
-        self.least.wrapping_add(random.below(self.kinds.max(1)))
+    /// The missing point of the next run, if its points have no numbers.
+    fn next(self, random: &mut Random) -> Option<Point> {
+        let drawn = match self {
+            Marks::None => 0,
+            Marks::Some => random.below(2),
+            Marks::SomeOfBoth => random.below(3),
+            Marks::All => 1,
+            Marks::AllOfBoth => 1 + random.below(2),
+        };
+        match drawn {
+            0 => None,
+            1 => Some(Point::Missing),
+            _ => Some(Point::Missing2),
+        }
     }
 }
 
@@ -122,7 +143,7 @@ pub fn random_column(alloc: Global, random: &mut Random) -> Result<(Column, u8)>
 /// Points with numbers of one kind, of which runs are marked.
 fn random_points(alloc: Global, count: u32, random: &mut Random) -> Result<Vec<Point>> {
     let marks = Marks::of(random);
-    let numbers = Numbers::of(random.below(8));
+    let numbers = Numbers::of(random.below(9));
     let mut last = i64::from(random.bits(10));
     let mut bits = 1 + random.below(32);
     let mut mark = marks.next(random);
@@ -135,11 +156,7 @@ fn random_points(alloc: Global, count: u32, random: &mut Random) -> Result<Vec<P
             mark = marks.next(random);
         }
         last = numbers.next(last, bits, random);
-        points.push(match mark {
-            0 => Point::Scaled(last),
-            1 => Point::Missing,
-            _ => Point::Missing2,
-        })?;
+        points.push(mark.unwrap_or(Point::Scaled(last)))?;
     }
     Ok(points)
 }
