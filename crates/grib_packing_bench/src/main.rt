@@ -20,11 +20,9 @@ mod packings;
 mod random;
 mod tally;
 
-use columns::random_column;
 use field::{field_column, point_sum};
 use packings::{Way, packed_sum};
-use random::Random;
-use tally::Tally;
+use tally::tally_of;
 
 fn main(rt: HostRuntime) -> Result<()> {
     let mut arguments = env::args(&rt)?;
@@ -40,12 +38,7 @@ fn main(rt: HostRuntime) -> Result<()> {
         .parse()?;
     match work.as_str() {
         "columns" => {
-            let mut random = Random::of(which);
-            let mut tally = Tally::none();
-            for _column in 0..size {
-                let (column, kind) = random_column(rt.alloc(), &mut random)?;
-                tally.add(rt.alloc(), &column, kind)?;
-            }
+            let tally = tally_of(rt.alloc(), size, which)?;
             println!(rt;
                 "packed: {} simply, {} in groups",
                 tally.simple, tally.complex

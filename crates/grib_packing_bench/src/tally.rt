@@ -2,8 +2,10 @@
 
 ghost use Rattle.grib_simple.specs.Written.{MayBePacked};
 
+use crate::columns::random_column;
 use crate::groups::group_bits;
 use crate::packings::{Way, are_same, pack, sum_with, unpack};
+use crate::random::Random;
 use anyhow::{Result, bail, ensure};
 use grib_packing::Column;
 use grib_simple::{PackFault, Packed};
@@ -31,9 +33,20 @@ pub struct Tally {
     pub bits: u64,
 }
 
+/// What becomes of so many random columns, which follow from this number.
+pub fn tally_of(alloc: Global, columns: u32, seed: u32) -> Result<Tally> {
+    let mut random = Random::of(seed);
+    let mut tally = Tally::none();
+    for _column in 0..columns {
+        let (column, kind) = random_column(alloc, &mut random)?;
+        tally.add(alloc, &column, kind)?;
+    }
+    Ok(tally)
+}
+
 impl Tally {
     /// That of no columns.
-    pub fn none() -> Tally {
+    fn none() -> Tally {
         Tally {
             simple: 0,
             complex: 0,
@@ -49,7 +62,7 @@ impl Tally {
     }
 
     /// Packs a column in each way, and adds what becomes of it.
-    pub fn add(&mut self, alloc: Global, column: &Column, kind: u8) -> Result<()>
+    fn add(&mut self, alloc: Global, column: &Column, kind: u8) -> Result<()>
         requires { MayBePacked column.now }
     {
         for way in &[Way::Simple, Way::Complex, Way::First, Way::Second] {
