@@ -4,8 +4,12 @@ ghost use Rattle.std.specs.Prelude.{◌≤◌};
 
 use crate::run;
 use grib_engine::Outcome;
-use grib_io::{Fault, MemoryShelf, MemorySink, MemorySource, Reason, Refusal};
+use grib_io::{
+    Fault, MemoryShelf, MemorySink, MemorySource, ReadSource, Reason, Refusal, Sink, Source,
+    WriteSink,
+};
 use std::alloc::{AllocError, Global};
+use std::io::{self, Write};
 use std::test::Fail;
 
 // The message M1 of docs/PROFILE.md, a field of 2 by 2 points.
@@ -331,4 +335,54 @@ fn what_is_to_come_is_not_built(rt: HostRuntime) -> Result<(), Fail> {
     let ran = run_over(rt.alloc(), "check", &octets, 50, CALM)?;
     assert!(rt; ran.is(Outcome::NotBuilt, "", "not built\n"));
     Ok(())
+}
+
+// A writer that takes whole pieces, and counts its octets, its calls and its flushes.
+#[derive(Drop)]
+struct Counting {
+    octets: usize,
+    writes: u32,
+    flushes: u32,
+}
+
+impl Write for Counting {
+    fn write(&mut self, buf: &[u8]) -> io::Result<usize> {
+        self.octets = self.octets.saturating_add(buf.len());
+        self.writes = self.writes.saturating_add(1);
+        Ok(buf.len())
+    }
+
+    fn flush(&mut self) -> io::Result<()> {
+        self.flushes = self.flushes.saturating_add(1);
+        Ok(())
+    }
+}
+
+#[test]
+fn a_long_piece_is_one_write_and_is_flushed_at_the_end(rt: HostRuntime) -> Result<(), Fail> {
+    let piece = vec![in rt.alloc(); 7u8; 70_000]?;
+    let mut counting = Counting {
+        octets: 0,
+        writes: 0,
+        flushes: 0,
+    };
+    let mut sink = WriteSink::new(&mut counting);
+    assert!(rt; Sink::write(&mut sink, piece.as_slice()) == Ok(70_000));
+    assert!(rt; Sink::finish(&mut sink) == Ok(()));
+    drop(sink);
+    assert_eq!(rt; counting.octets, 70_000);
+    assert_eq!(rt; counting.writes, 1);
+    assert_eq!(rt; counting.flushes, 1);
+    Ok(())
+}
+
+#[test]
+fn a_read_without_room_is_no_fault(rt: HostRuntime) {
+    let octets = [5u8, 6];
+    let mut source = ReadSource::new(octets.as_slice());
+    let mut none = [0u8; 0];
+    assert!(rt; Source::read(&mut source, &mut none) == Ok(0));
+    let mut room = [0u8; 3];
+    assert!(rt; Source::read(&mut source, &mut room) == Ok(2));
+    assert_eq!(rt; room, [5, 6, 0]);
 }
