@@ -280,6 +280,28 @@ fn numbers_of_no_bits_are_printed(rt: HostRuntime) -> Result<(), Fail> {
 }
 
 #[test]
+fn lines_are_passed_on_before_the_last(rt: HostRuntime) -> Result<(), Fail> {
+    // The same with 200 by 100 points, whose lines take 148,000 octets: the second write of them fails.
+    let mut octets = PLAIN[..175].to_vec(rt.alloc())?;
+    octets.extend_from_slice(&PLAIN[179..])?;
+    octets[15] = 179;
+    octets[45] = 0x4e;
+    octets[46] = 0x20;
+    octets[70] = 200;
+    octets[74] = 100;
+    octets[150] = 0x4e;
+    octets[151] = 0x20;
+    octets[162] = 0;
+    octets[173] = 5;
+    let failing = Failing { output: 2, ..CALM };
+    let dumped = run_over(rt.alloc(), "dump", octets.as_slice(), 1_000_000, failing)?;
+    assert!(rt; dumped.outcome == Outcome::WriteFault);
+    assert!(rt; !dumped.output.octets().is_empty());
+    assert!(rt; dumped.output.octets().len() < 100_000);
+    Ok(())
+}
+
+#[test]
 fn octets_that_are_not_there_refuse(rt: HostRuntime) -> Result<(), Fail> {
     for present in 4..183 {
         let octet = present as u64 + 1;
