@@ -14,7 +14,6 @@ source "$(dirname "$0")/common.sh"
 need grib_ls "Debian: libeccodes-tools"
 side=${1:-4096}
 sample=/usr/share/eccodes/samples/regular_ll_pl_grib2.tmpl
-"$top/grib" check <"$top/examples/four-points.grib2" >/dev/null || fail "the program ended with status $?"
 grib=$(
   source "$top/dist/common.sh"
   find_program
@@ -45,12 +44,12 @@ theirs() { grib_get_data "$message"; }
 ratio "dump, simple" 1
 
 # 500 messages of 496 points each.
-for ((message = 0; message < 500; message++)); do cat "$sample"; done >"$work/many.grib2"
+for ((copy = 0; copy < 500; copy++)); do cat "$sample"; done >"$work/many.grib2"
 ours() { "$grib" list <"$work/many.grib2"; }
 theirs() { grib_ls "$work/many.grib2"; }
 ratio "list of 500 messages" 3
 
-# The most memory of a run, in octets for each point beside the message.
+# The most memory of a run.
 for command in check dump; do
   for packing in simple complex; do
     message=$work/$packing.grib2

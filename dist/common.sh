@@ -41,13 +41,15 @@ say_progress() {
 
 # Proves the program and builds it, with a run on the example. What the kit says goes to a log.
 build_program() {
-  local log=$crate/out/build.log begun=$SECONDS
+  local log=$crate/out/build.log begun=$SECONDS from
+  from=$(sources) || fail "cannot read the sources"
   mkdir -p "$crate/out" || fail "cannot write to $crate/out"
   (cd "$crate" && rt run -- check <"$top/examples/four-points.grib2") 2>&1 | tee "$log" | say_progress >&2
   [[ ${PIPESTATUS[0]} == 0 ]] || {
     tail -n 5 "$log" >&2
     fail "the program was not built: all that the kit said is in $log"
   }
+  [[ $(sources) == "$from" ]] || fail "the sources changed while the program was built"
   echo "grib: proved and built in $((SECONDS - begun)) seconds" >&2
 }
 
@@ -65,7 +67,6 @@ build_here() {
   [[ -n $kit ]] || fail "no program of these sources is here, and the kit's command rt is not in PATH"
   rm -f "$built_here_from"
   build_program
-  [[ $(sources) == "$sources" ]] || fail "the sources changed while the program was built"
   trap 'rm -f "$built.$$"' EXIT
   cp "$crate/out/grib_cli" "$built.$$" && mv -fT "$built.$$" "$built" && echo "$sources $kit" >"$built_here_from" ||
     fail "cannot write to $crate/out"
@@ -80,9 +81,10 @@ take_turn() {
 
 # Sets `program` to one of the sources at hand: the shipped one, or else one that is built here.
 find_program() {
-  sources=$(sources) && kit=$(kit) || fail "cannot read the sources or the kit"
+  sources=$(sources) || fail "cannot read the sources"
   program=$shipped
   is_shipped && return
+  kit=$(kit) || fail "cannot read the kit"
   program=$built
   is_built || { take_turn; is_built || build_here; } 9<"$top/grib" || fail "cannot read $top/grib"
 }
