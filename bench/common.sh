@@ -52,3 +52,18 @@ ratio() { # WHAT ROUNDS
     awk -v what="$1" 'NR == 1 { if ($2 == 0) exit 1; printf "%s: %.2f\n", what, $1 / $2 }' ||
     fail "$1: the runs are too short"
 }
+
+# Makes a message of SIDE times SIDE points of 14 bits by `grib_filter` of ecCodes, from one of its samples: waves
+# in both directions and some noise.
+field_of_14_bits() { # SIDE SAMPLE FILE
+  {
+    printf 'set Ni = %d; set Nj = %d; set bitsPerValue = 14;\nset values = {\n' "$1" "$1"
+    awk -v side="$1" 'BEGIN {
+      srand(1)
+      for (j = 0; j < side; j++) for (i = 0; i < side; i++)
+        printf "%s%.2f\n", (i + j ? "," : ""), 250 + 30 * sin(i / 97) * cos(j / 61) + rand()
+    }'
+    printf '};\nwrite;\n'
+  } >"$work/filter"
+  grib_filter -o "$3" "$work/filter" "$2"
+}

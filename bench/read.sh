@@ -20,17 +20,7 @@ grib=$(
   echo "$program"
 )
 
-# A field of 14 bits, made by `grib_filter` from the sample: waves in both directions and some noise.
-{
-  printf 'set Ni = %d; set Nj = %d; set bitsPerValue = 14;\nset values = {\n' "$side" "$side"
-  awk -v side="$side" 'BEGIN {
-    srand(1)
-    for (j = 0; j < side; j++) for (i = 0; i < side; i++)
-      printf "%s%.2f\n", (i + j ? "," : ""), 250 + 30 * sin(i / 97) * cos(j / 61) + rand()
-  }'
-  printf '};\nwrite;\n'
-} >"$work/filter"
-grib_filter -o "$work/simple.grib2" "$work/filter" "$sample"
+field_of_14_bits "$side" "$sample" "$work/simple.grib2"
 grib_set -r -s packingType=grid_complex "$work/simple.grib2" "$work/complex.grib2"
 
 for message in "$work/simple.grib2" "$work/complex.grib2" "${@:2}"; do

@@ -1,0 +1,84 @@
+#!/usr/bin/env python3
+"""Packs files of edition 2 to each template and back, and compares: repack.py PROGRAM FILE..
+
+Wants grib_get_data and grib_set of ecCodes (Debian: libeccodes-tools). Each message is handed over by itself.
+What PROGRAM writes by `repack` to each target that can hold it has to print the same points and reference values
+by `dump` as the message, before and after it is packed back to the template that it came from; and ecCodes has to
+read the same values from it. Prints for each file what agrees, what cannot be kept by its cause, what differs, and
+how many octets all messages have in each packing, with those that ecCodes itself writes."""
+import collections
+import subprocess
+import sys
+
+TARGETS = {
+    "to=0": "grid_simple",
+    "to=2": "grid_complex",
+    "to=3 order=1": "grid_complex_spatial_differencing",
+    "to=3 order=2": "grid_complex_spatial_differencing",
+}
+
+
+def messages(data):
+    """The messages of edition 2 in the octets, by their stated total length."""
+    at = data.find(b"GRIB")
+    while at >= 0 and at + 16 <= len(data):
+        total = int.from_bytes(data[at + 8 : at + 16], "big")
+        if data[at + 7] == 2 and data[at + total - 4 : at + total] == b"7777":
+            yield data[at : at + total]
+            at = data.find(b"GRIB", at + total)
+        else:
+            at = data.find(b"GRIB", at + 4)
+
+
+def run(words, octets):
+    return subprocess.run(words, input=octets, capture_output=True)
+
+
+def values(program, message):
+    """What `dump` prints, without the list lines' words on the packing."""
+    text = run([program, "dump"], message).stdout.decode()
+    return "\n".join(line.split(" packing=")[0] for line in text.splitlines())
+
+
+def template(program, message):
+    """The words for the packing of the first field."""
+    words = run([program, "list"], message).stdout.decode().split("\n")[0]
+    number = words.split("packing=5.")[1].split()[0]
+    return "to=3 order=2" if number == "3" else f"to={number}"
+
+
+def eccodes(message):
+    return run(["grib_get_data", "-m", "missing", "-F", "%.17g", "-L", "%.6f %.6f", "-"], message).stdout
+
+
+def main():
+    program, failed = sys.argv[1], False
+    for path in sys.argv[2:]:
+        counts, sizes = collections.Counter(), collections.Counter()
+        for message in messages(open(path, "rb").read()):
+            if run([program, "check"], message).returncode != 0:
+                counts["refused"] += 1
+                continue
+            counts["messages"] += 1
+            sizes["file"] += len(message)
+            before, theirs, home = values(program, message), eccodes(message), template(program, message)
+            for target, packing in TARGETS.items():
+                packed = run([program, "repack"] + target.split(), message)
+                if packed.returncode != 0:
+                    counts[target + " " + packed.stderr.decode().split()[3]] += 1
+                    continue
+                sizes[target] += len(packed.stdout)
+                back = run([program, "repack"] + home.split(), packed.stdout)
+                counts["packed"] += 1
+                counts["DIFFER"] += values(program, packed.stdout) != before
+                counts["DIFFER after the way back"] += values(program, back.stdout) != before
+                counts["ecCodes DIFFERS"] += eccodes(packed.stdout) != theirs
+                own = run(["grib_set", "-r", "-s", "packingType=" + packing, "-", "/dev/stdout"], message)
+                sizes[target + " by ecCodes"] += len(own.stdout)
+        failed |= any("DIFFER" in what and number for what, number in counts.items())
+        print(path + ": " + ", ".join(f"{number} {what}" for what, number in counts.items() if number))
+        print("  octets: " + ", ".join(f"{what} {number}" for what, number in sizes.items()), flush=True)
+    sys.exit(failed)
+
+
+main()
