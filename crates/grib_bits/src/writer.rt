@@ -1,6 +1,6 @@
 //! Bits written one field after another.
 
-ghost use Rattle.std.specs.Prelude.{◌≡◌, ◌+◌, ◌-◌, ◌*◌, ◌%◌, ◌^◌, ◌<◌, ◌≤◌, [], ◌++◌, length, replicate, false, vec_len, vec_capacity, OnOk, OnErr};
+ghost use Rattle.std.specs.Prelude.{◌≡◌, ◌+◌, ◌-◌, ◌*◌, ◌%◌, ◌^◌, ◌<◌, ◌≤◌, [], ◌++◌, length, take, replicate, false, vec_len, OnOk, OnErr};
 ghost use Rattle.std.specs.Int.{w64, to_be_bytes};
 ghost use Rattle.grib_bits.specs.Bits.{bits, bits_of};
 ghost use Rattle.grib_bits.specs.Written.{padding};
@@ -12,30 +12,30 @@ use std::marker::Model;
 /// how many `spare` bits more have their memory already.
 #[derive(Debug, Drop)]
 pub struct BitWriter {
+    // what is written, and then zeros
     octets: Vec<u8>,
-    // how many octets have their memory, at least
-    limit: usize,
+    // how many octets are written
+    len: usize,
     word: u64,
-    // how many bits of the word are pending
-    count: u32,
+    // how many bits of the word are not pending, from 1 to 64
+    free: u32,
 }
 
-// The octets, and then the last `count` bits of the word. What stands before those is left over.
+// The octets that are written, and then the word but for its first `free` bits, which are left over.
 impl Model for BitWriter {
-    ghost use Rattle.std.specs.Prelude.{◌+◌, ◌-◌, ◌*◌, ◌<◌, ◌≤◌, ◌++◌, vec_len, vec_capacity};
+    ghost use Rattle.std.specs.Prelude.{◌+◌, ◌-◌, ◌*◌, ◌<◌, ◌≤◌, ◌++◌, take, vec_len};
     ghost use Rattle.grib_bits.specs.Bits.{bits as bits_in, bits_of};
     ghost use Rattle.grib_bits.specs.Written.{Written};
 
     ghost Value = { Written };
 
     ghost view = { λ writer. record {
-      bits = bits_in writer.octets.items ++ bits_of writer.count writer.word;
-      spare = 8 * writer.limit - (8 * vec_len writer.octets + writer.count);
+      bits = bits_in (take writer.len writer.octets.items) ++ bits_of (64 - writer.free) writer.word;
+      spare = 8 * vec_len writer.octets + writer.free - (8 * writer.len + 64);
     } };
 
-    ghost invariant = { λ writer. (writer.count < 64)
-        × (8 * vec_len writer.octets + writer.count ≤ 8 * writer.limit)
-        × (writer.limit ≤ vec_capacity writer.octets) };
+    ghost invariant = { λ writer. (0 < writer.free) × (writer.free ≤ 64)
+        × (8 * writer.len + 64 ≤ 8 * vec_len writer.octets + writer.free) };
 }
 
 impl BitWriter {
@@ -46,9 +46,9 @@ impl BitWriter {
     {
         BitWriter {
             octets: Vec::new(alloc),
-            limit: 0,
+            len: 0,
             word: 0,
-            count: 0,
+            free: 64,
         }
     }
 
@@ -61,9 +61,11 @@ impl BitWriter {
         ensures whole { OnOk result ((length self.new.bits + self.new.spare) % 8 ≡ 0) }
         ensures err { OnErr result (self.new ≡ self.old) }
     {
-        let more = bits / 8 + (bits % 8 + u64::from(self.count)).div_ceil(8);
-        self.octets.reserve(more as usize)?;
-        self.limit = self.limit.max(self.octets.len() + more as usize);
+        let more = bits / 8 + (bits % 8 + u64::from(64 - self.free)).div_ceil(8);
+        let end = self.len + more as usize;
+        if end > self.octets.len() {
+            self.octets.resize(end, 0)?;
+        }
         Ok(())
     }
 
@@ -77,18 +79,19 @@ impl BitWriter {
         ensures spare { self.new.spare + width ≡ self.old.spare }
     {
         let word = self.word;
-        let free = 64 - self.count;
+        let free = self.free;
         if width < free {
             self.word = word << width | value;
-            self.count += width;
+            self.free = free - width;
             return;
         }
         let rest = width - free;
         // The two parts share no bit. With `|` LLVM would move them apart, octet by octet.
         let full = (word << (free - 1) << 1) + (value >> rest);
-        append_word(&mut self.octets, full);
+        write_word(&mut self.octets, self.len, full);
+        self.len += 8;
         self.word = value;
-        self.count = rest;
+        self.free = 64 - rest;
     }
 
     /// Writes zero bits up to the end of an octet, none where one has just ended.
@@ -96,7 +99,7 @@ impl BitWriter {
         ensures bits { self.new.bits ≡ self.old.bits ++ replicate (padding self.old.bits) false }
         ensures spare { self.new.spare + padding self.old.bits ≡ self.old.spare }
     {
-        self.put(0, (8 - self.count % 8) % 8);
+        self.put(0, self.free % 8);
     }
 
     /// The octets that the bits make.
@@ -106,10 +109,12 @@ impl BitWriter {
     {
         let BitWriter {
             mut octets,
-            limit: _,
+            len,
             word,
-            mut count,
+            free,
         } = self;
+        octets.truncate(len);
+        let mut count = 64 - free;
         while count > 0 {
             count -= 8;
             let Ok(()) = octets.push((word >> count & 255) as u8) else {
@@ -120,15 +125,12 @@ impl BitWriter {
     }
 }
 
-/// Adds the eight octets of a word, which have their memory already.
+/// Writes the eight octets of a word behind the first `len`.
 #[inline(always)]
-fn append_word(octets: &mut Vec<u8>, word: u64)
-    requires { vec_len octets.old + 8 ≤ vec_capacity octets.old }
-    ensures items { octets.new.items ≡ octets.old.items ++ to_be_bytes w64 word }
-    ensures len { vec_len octets.new ≡ vec_len octets.old + 8 }
-    ensures capacity { vec_capacity octets.old ≤ vec_capacity octets.new }
+fn write_word(octets: &mut Vec<u8>, len: usize, word: u64)
+    requires { len + 8 ≤ vec_len octets.old }
+    ensures items { take (len + 8) octets.new.items ≡ take len octets.old.items ++ to_be_bytes w64 word }
+    ensures len { vec_len octets.new ≡ vec_len octets.old }
 {
-    let Ok(()) = octets.extend_from_slice(&word.to_be_bytes()) else {
-        unreachable!();
-    };
+    octets[len..len + 8].copy_from_slice(&word.to_be_bytes());
 }

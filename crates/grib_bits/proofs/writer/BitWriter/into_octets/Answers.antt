@@ -1,4 +1,4 @@
-use Rattle.std.proofs.Common.{◌-◌, length, ap, ◌∙◌, arith, List, ℕ}
+use Rattle.std.proofs.Common.{◌-◌, length, take, ap, ◌∙◌, arith, List, ℕ}
 use Rattle.grib_bits.specs.Written.{Written}
 use Rattle.grib_bits.proofs.Writing.{written, length-written, written_out}
 use Rattle.grib_bits.proofs.writer.BitWriter.into_octets.Goals as goal
@@ -8,8 +8,8 @@ loop-count-init c =
     let w = c.self.inside in
     let seen = ap (λ (v : Written). length v.bits) c.self.view_is in
     record {
-      same = ap (λ (v : Written). v.bits) c.self.view_is;
-      whole = omega (arith, length-written w.octets.items w.count w.word);
+      same = ap (λ (xs : List ℕ). written xs (64 - w.free) w.word) c.truncate.ensures.items ∙ ap (λ (v : Written). v.bits) c.self.view_is;
+      whole = omega (arith, length-written (take w.len w.octets.items) (64 - w.free) w.word);
       below = omega arith;
       room = omega arith;
     }
