@@ -9,3 +9,7 @@ pub record CountedWriter (W : Type 0) : Type 0 where
   pub writer : W
   pub faults : ℕ
   pub settled : Bool
+
+pub record CountedFiles (R : Type 0) : Type 0 where
+  pub files : R
+  pub faults : ℕ

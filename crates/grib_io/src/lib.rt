@@ -1,5 +1,5 @@
 //! The types that all readers of GRIB messages share: refusals, sections, codes and lists. And the
-//! outside: sources, sinks and shelves, in memory and over std's readers and writers.
+//! outside: sources, sinks and shelves, in memory and over std's readers, writers and files.
 #![tactic(auto)]
 
 mod adapters;
@@ -8,6 +8,7 @@ mod calm;
 mod code;
 mod fault;
 mod feed;
+mod file_shelf;
 mod list;
 mod memory_shelf;
 mod memory_sink;
@@ -21,6 +22,7 @@ pub use adapters::{ReadSource, WriteSink};
 pub use calm::{CalmSink, CalmSource};
 pub use code::Code;
 pub use fault::{Fault, Reason, Refusal, UnpackFault};
+pub use file_shelf::FileShelf;
 pub use list::List;
 pub use memory_shelf::MemoryShelf;
 pub use memory_sink::MemorySink;

@@ -1,9 +1,10 @@
 //! Each object of the outside once, through its trait.
 
 use crate::{
-    CalmSink, CalmSource, Failed, MemoryShelf, MemorySink, MemorySource, ReadSource, Shelf,
-    ShelfStop, Sink, Source, Stop, WriteSink,
+    CalmSink, CalmSource, Failed, FileShelf, MemoryShelf, MemorySink, MemorySource, ReadSource,
+    Shelf, ShelfStop, Sink, Source, Stop, WriteSink,
 };
+use std::fs;
 use std::io::{self, Read, Write};
 use std::test::Fail;
 
@@ -205,4 +206,29 @@ fn interrupted_write_and_refused_flush_are_faults(rt: HostRuntime) {
     assert_eq!(rt; write_to(&mut sink, &[1, 2]), Err(Stop::Failed));
     assert_eq!(rt; write_to(&mut sink, &[1, 2]), Ok(2));
     assert_eq!(rt; finish(&mut sink), Err(Stop::Failed));
+}
+
+#[test]
+fn file_shelf_keeps_octets_in_a_file(rt: HostRuntime) -> Result<(), Fail> {
+    let name = "/tmp/grib-io-file-shelf.1";
+    let mut shelf = FileShelf::new(rt.clone()?);
+    assert_eq!(rt; append(&mut shelf, name, &[9]), Ok(()));
+    assert_eq!(rt; make(&mut shelf, name), Ok(()));
+    assert_eq!(rt; append(&mut shelf, name, &[1, 2, 3]), Ok(()));
+    assert_eq!(rt; append(&mut shelf, name, &[4]), Ok(()));
+    assert_eq!(rt; read_two(&mut shelf, name, 1), (Ok(2), [2, 3]));
+    assert_eq!(rt; read_two(&mut shelf, name, 3), (Ok(1), [4, 0]));
+    assert_eq!(rt; read_two(&mut shelf, name, 4), (Ok(0), [0, 0]));
+    fs::remove_file(&rt, name)?;
+    assert_eq!(rt;
+        read_two(&mut shelf, name, 0),
+        (Err(ShelfStop::Absent), [0, 0])
+    );
+    assert_eq!(rt; make(&mut shelf, "/tmp"), Err(Stop::Failed));
+    assert_eq!(rt; append(&mut shelf, "/tmp", &[1]), Err(Stop::Failed));
+    assert_eq!(rt;
+        read_two(&mut shelf, "/tmp", 0),
+        (Err(ShelfStop::Failed), [0, 0])
+    );
+    Ok(())
 }
