@@ -1,9 +1,10 @@
 //! A run over an input, but for its notes.
 
-ghost use Rattle.std.specs.Prelude.{◌≡◌, ◌≤◌, ◌^◌, false};
+ghost use Rattle.std.specs.Prelude.{◌≡◌, ◌≢◌, ◌≤◌, ◌^◌, false};
 ghost use Rattle.grib_stream.specs.Acts.{world};
 ghost use Rattle.grib_stream.specs.Faults.{faults, CountsOne};
 ghost use Rattle.grib_stream.specs.Run.{Runs};
+ghost use Rattle.grib_stream.specs.declared.outcome.Outcome.TheVariants.{ShelfFault};
 
 use crate::outcome::Outcome;
 use crate::performer::Performer;
@@ -33,6 +34,7 @@ pub fn answer_within<K: Performer, S: Source, T: Sink, H: Shelf>(
         (faults (S.faults input.old) (T.faults output.old) 0 (H.faults shelf.old))
         (faults (S.faults input.new) (T.faults output.new) 0 (H.faults shelf.new)) }
     ensures shelf { K.uses_shelf performer.now ≡ false → shelf.new ≡ shelf.old }
+    ensures unshelved { K.uses_shelf performer.now ≡ false → result ≢ ShelfFault }
 {
     let totals = match answer_messages(performer, alloc, limit, input, output, shelf) {
         Ok(totals) => totals,
