@@ -1,6 +1,6 @@
 -- What is answered to a task, by the input alone: the results of its messages in order, up to the first
 -- that ends the run, and the ending where the input is read to its end.
-use Rattle.std.specs.Prelude.{ℕ, ◌+◌, cond, List, [], ◌∷◌, ◌++◌, length, take, nat_lt}
+use Rattle.std.specs.Prelude.{◌≡◌, ◌≢◌, ℕ, ◌+◌, cond, List, [], ◌∷◌, ◌++◌, length, take, nat_lt}
 use Rattle.grib_io.specs.Rows.{choose}
 use Rattle.grib_io.specs.declared.fault.Fault.{Fault}
 use Rattle.grib_io.specs.declared.fault.Refusal.{Refusal}
@@ -75,6 +75,10 @@ abbrev pub at_limit : Task → Answer → Answer
 at_limit task answer =
     cond (is_open answer.outcome)
     (record { acts = answer.acts; ending = []; note = task.note InputTooLong; outcome = InputTooLong }) answer
+
+-- what is noted of an outcome other than of the end of the input is the task's note of it
+abbrev pub NotesOutcome : Task → Answer → Type 0
+NotesOutcome task answer = answer.outcome ≢ Done → answer.note ≡ task.note answer.outcome
 
 -- the answer to an input, of which so many octets are answered at most
 abbrev pub answer_within : ℕ → Task → List ℕ → Answer

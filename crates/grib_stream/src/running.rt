@@ -1,12 +1,12 @@
 //! The messages of an input, answered one after another in whatever pieces it comes.
 
-ghost use Rattle.std.specs.Prelude.{◌≡◌, ◌≢◌, ◌≤◌, ◌<◌, ◌^◌, ◌+◌, ◌⊎◌, true, false, length, Err, IfOk, IfErr, OnOk, OnErr};
+ghost use Rattle.std.specs.Prelude.{◌≡◌, ◌≢◌, ◌≤◌, ◌<◌, ◌^◌, ◌+◌, ◌⊎◌, true, false, length, IfOk, IfErr, OnOk, OnErr};
 ghost use Rattle.grib_io.specs.Outside.{Counted};
 ghost use Rattle.grib_stream.specs.Acts.{world};
 ghost use Rattle.grib_stream.specs.Reading.{Gathers, Probes};
 ghost use Rattle.grib_stream.specs.Turning.{conclusion};
 ghost use Rattle.grib_stream.specs.Rest.{Stands};
-ghost use Rattle.grib_stream.specs.Run.{Reaches};
+ghost use Rattle.grib_stream.specs.Run.{Reaches, outcome_of};
 ghost use Rattle.grib_stream.specs.Faults.{faults};
 ghost use Rattle.grib_stream.specs.declared.outcome.Outcome.TheVariants.{ReadFault, ShelfFault, Memory};
 
@@ -38,7 +38,7 @@ pub(crate) fn answer_messages<K: Performer, S: Source, T: Sink, H: Shelf>(
         (faults (S.faults input.old) (T.faults output.old) 0 (H.faults shelf.old))
         (faults (S.faults input.new) (T.faults output.new) 0 (H.faults shelf.new)) }
     ensures shelf { K.uses_shelf performer.now ≡ false → shelf.new ≡ shelf.old }
-    ensures unshelved { K.uses_shelf performer.now ≡ false → result ≢ Err ShelfFault }
+    ensures unshelved { K.uses_shelf performer.now ≡ false → outcome_of result ≢ ShelfFault }
 {
     let mut window = Window::new(alloc);
     let mut totals = Totals {
