@@ -6,7 +6,7 @@ ghost use Rattle.grib_cli.specs.Reading.{entries, size_entries, target_entries, 
 ghost use Rattle.grib_cli.specs.Words as asked;
 
 use grib_engine::Job;
-use grib_select::Key;
+use grib_keys::Key;
 
 mod command;
 pub mod laws;
