@@ -1,0 +1,10 @@
+//! The message that is made from a number: one field of any size, for trials and measurements.
+#![tactic(auto)]
+
+pub mod laws;
+mod making;
+mod points;
+#[cfg(test)]
+mod tests;
+
+pub use making::made_message;
