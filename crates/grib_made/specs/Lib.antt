@@ -1,2 +1,3 @@
 pub mod Points
-pub mod Made
+pub mod Maker
+pub mod Summary

@@ -2,9 +2,7 @@
 #![tactic(auto)]
 
 pub mod laws;
-mod making;
 mod points;
-#[cfg(test)]
-mod tests;
+mod summary;
 
-pub use making::made_message;
+pub use summary::{Summary, made_summary};
