@@ -2,9 +2,22 @@
 
 ghost use Rattle.std.specs.Prelude.{◌≡◌, ℕ, None};
 ghost use Rattle.grib_packing.specs.Misfits.{Target, first_misfit};
-ghost use Rattle.grib_made.specs.Points.{made_points};
+ghost use Rattle.grib_simple.specs.Written.{MayBePacked};
+ghost use Rattle.grib2_message.specs.Message.{IsMessage};
+ghost use Rattle.grib2_message.specs.Fields.{field_count, column_of};
+ghost use Rattle.grib_made.specs.Points.{made_points, made_column};
+ghost use Rattle.grib_made.specs.Made.{made, MayBeMade};
 
-/// Nothing of a field that is made fails to fit a packing.
+/// What is made is accepted, as a message of one field, whose column is the one that was made.
+pub fn what_is_made_is_accepted()
+    ensures accepted { (seed ni nj : ℕ) → MayBeMade seed ni nj → IsMessage (made seed ni nj) }
+    ensures one_field { (seed ni nj : ℕ) → MayBeMade seed ni nj → field_count (made seed ni nj) ≡ 1 }
+    ensures its_column { (seed ni nj : ℕ) → MayBeMade seed ni nj
+        → column_of (made seed ni nj) 1 ≡ made_column seed ni nj }
+{}
+
+/// The column that is made may be packed, and nothing of it fails to fit a packing.
 pub fn what_is_made_fits()
-    ensures { (target : Target) (seed ni nj : ℕ) → first_misfit target (made_points seed ni nj) ≡ None }
+    ensures may_be_packed { (seed ni nj : ℕ) → MayBeMade seed ni nj → MayBePacked (made_column seed ni nj) }
+    ensures fits { (target : Target) (seed ni nj : ℕ) → first_misfit target (made_points seed ni nj) ≡ None }
 {}
