@@ -1,0 +1,4 @@
+pub mod Chosen
+pub mod Section
+pub mod Written
+pub mod Worked
