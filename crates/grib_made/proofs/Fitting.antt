@@ -16,7 +16,7 @@ use Rattle.grib_packing.specs.Misfits.{Misfit, SecondaryMissing, OutOfRange, Dif
 use Rattle.grib_simple.specs.Written.{MayBePacked}
 use Rattle.grib_made.specs.Points.{made_point, made_points, made_column}
 use Rattle.grib_made.specs.Made.{MayBeMade}
-use Rattle.grib_made.proofs.Making.{few_points}
+use Rattle.grib_made.proofs.OneByOne.{few_points}
 use Rattle.grib_made.proofs.Small.{IsSmall, inside_from, small_points}
 
 -- ---- wherever the end of the range is

@@ -5,6 +5,7 @@ use Rattle.std.specs.List.{concat}
 use Rattle.grib2_sections.specs.Encoding.{octets_of}
 use Rattle.grib2_sections.specs.Head.{indicator, end_mark}
 use Rattle.grib_packing.specs.Misfits.{ToSimple}
+use Rattle.grib_simple.specs.declared.written.Packed.{Packed}
 use Rattle.grib_packed.specs.Written.{packed}
 use Rattle.grib_made.specs.Points.{made_column}
 
@@ -27,17 +28,20 @@ made_grid ni nj =
 abbrev pub made_product : List ℕ
 made_product = octets_of 34 0x00000022_04_0000_0000_00_00_02_FF_01_0000_00_01_00000006_67_00_00000002_FF_FF_FFFFFFFF
 
--- the sections after Section 0
-abbrev pub made_sections : ℕ → ℕ → ℕ → List (List ℕ)
-made_sections seed ni nj =
-    let parts = packed ToSimple (made_column seed ni nj) 0 in
+-- the sections after Section 0, with Sections 5, 6 and 7 of a packing
+abbrev pub sections_with : ℕ → ℕ → Packed → List (List ℕ)
+sections_with ni nj parts =
     made_identification ∷ made_grid ni nj ∷ made_product ∷ parts.section5 ∷ parts.section6 ∷ parts.section7 ∷ []
 
--- the message, whose total length counts Section 0 and the end mark too
-abbrev pub made : ℕ → ℕ → ℕ → List ℕ
-made seed ni nj =
-    let rest = concat (made_sections seed ni nj) in
+-- the message of these sections; its total length counts Section 0 and the end mark too
+abbrev pub message_with : ℕ → ℕ → Packed → List ℕ
+message_with ni nj parts =
+    let rest = concat (sections_with ni nj parts) in
     made_indicator (16 + length rest + 4) ++ rest ++ end_mark
+
+-- with the made field in simple packing
+unfoldable pub made : ℕ → ℕ → ℕ → List ℕ
+made seed ni nj = message_with ni nj (packed ToSimple (made_column seed ni nj) 0)
 
 -- what a message may be made from
 pub record MayBeMade (seed ni nj : ℕ) : Type 0 where

@@ -2,7 +2,9 @@
 #![tactic(auto)]
 
 pub mod laws;
+mod making;
 mod points;
 mod summary;
 
+pub use making::made_message;
 pub use summary::{Summary, made_summary};
