@@ -1,8 +1,7 @@
 -- A message with the sections of a packing behind the made ones is accepted.
-use Rattle.std.proofs.Common.{◌≡◌, ◌≢◌, ℕ, zero, suc, ◌+◌, ◌-◌, ◌*◌, ◌^◌, ◌<◌, ◌≤◌, ◌&&◌, ◌==◌, Bool, true, false, cond, count_by, IsTrue, Option, Some, None, List, [], ◌∷◌, ◌++◌, length, take, refl, ap, ap₂, ◌∙◌, sym, subst, arith, length-append, append-nil, eq-eqb, ne_eqb}
+use Rattle.std.proofs.Common.{◌≡◌, ◌≢◌, ℕ, ◌+◌, ◌*◌, ◌≤◌, ◌==◌, Bool, true, false, count_by, List, [], ◌∷◌, ◌++◌, length, refl, ap, ap₂, ◌∙◌, sym, subst, arith, length-append, append-nil, eq-eqb, ne_eqb}
 use Rattle.std.specs.List.{concat}
-use Rattle.grib_bits.specs.Octets.{octets, StatesItself}
-use Rattle.grib_bits.specs.Bits.{digit}
+use Rattle.grib_bits.specs.Octets.{StatesItself}
 use Rattle.grib_io.specs.Rows.{first_fault, located}
 use Rattle.grib_bitmap.specs.Mask.{bitmap_rows, mask_of}
 use Rattle.grib_packing.specs.declared.column.Column.{Column}
@@ -10,14 +9,13 @@ use Rattle.grib_packing.specs.Packing.{value_count}
 use Rattle.grib_packing.specs.Entries.{packing_fault, data_fault, column_from}
 use Rattle.grib_simple.specs.Laws.{UnpackTo}
 use Rattle.grib2_sections.specs.Frame.{Placed, placed_at, section_number, may_follow, may_end}
-use Rattle.grib2_sections.specs.Head.{end_mark, total_length}
-use Rattle.grib2_sections.specs.Verdict.{Accepted}
+use Rattle.grib2_sections.specs.Head.{end_mark}
 use Rattle.grib2_sections.proofs.Octets.{num_on-octets_of}
-use Rattle.grib2_message.specs.Acceptance.{verdict_2, section_fault}
+use Rattle.grib2_message.specs.Acceptance.{verdict_2}
 use Rattle.grib2_message.specs.Grammar.{IsSection, AreSections, Grammar2}
 use Rattle.grib2_message.specs.Message.{IsMessage}
 use Rattle.grib2_message.specs.View.{is_numbered, octets_in_force, points_in_force, earlier_mask, mask_in_force}
-use Rattle.grib2_message.specs.Fields.{sections_of, field_count, sections_up_to_field, field_sections, part_octets, column_of}
+use Rattle.grib2_message.specs.Fields.{field_count, sections_up_to_field, field_sections, column_of}
 use Rattle.grib2_message.proofs.InForce.{octets_same, octets_other}
 use Rattle.grib2_message.proofs.Placing.{placed_from}
 use Rattle.grib2_message.proofs.Sound.{fault_of, mask_here, mask_kept, points_kept}
@@ -198,14 +196,14 @@ module _ (seed ni nj : ℕ) (column : Column) (s5 s6 s7 : List ℕ) (may : MayBe
   one_last = rw (
     not_last_5 seed ni nj column s5 s6 s7 may parts,
     not_last_6 seed ni nj column s5 s6 s7 may parts,
-    last_7 seed ni nj column s5 s6 s7 may parts
+    last_7 seed ni nj column s5 s6 s7 may parts,
   ) refl
 
   up_to_last : sections_up_to_field 1 [] (placed_from 17 (sections_of_parts ni nj s5 s6 s7)) ≡ placed_7 ni nj s5 s6 s7 ∷ before_7 ni nj s5 s6 s7
   up_to_last = rw (
     not_last_5 seed ni nj column s5 s6 s7 may parts,
     not_last_6 seed ni nj column s5 s6 s7 may parts,
-    last_7 seed ni nj column s5 s6 s7 may parts
+    last_7 seed ni nj column s5 s6 s7 may parts,
   ) refl
 
 module _ (seed ni nj : ℕ) (column : Column) (s5 s6 s7 : List ℕ) (may : MayBeMade seed ni nj) (parts : Parts ni nj column s5 s6 s7) where

@@ -1,5 +1,5 @@
 -- Small points fit every packing.
-use Rattle.std.proofs.Common.{◌≡◌, ℕ, zero, suc, ◌+◌, ◌-◌, ◌*◌, ◌^◌, ◌<◌, ◌≤◌, ◌||◌, ◌==◌, Bool, true, false, cond, Option, Some, None, List, [], ◌∷◌, length, All, ℤ, pos, negsuc, nat_abs, nat_lt, int_lt, ◌+ℤ◌, ◌-ℤ◌, ◌*ℤ◌, map, get_or, ap, ap₂, ◌∙◌, sym, refl, arith, le-ltb, inl, inr}
+use Rattle.std.proofs.Common.{◌≡◌, ℕ, ◌+◌, ◌-◌, ◌*◌, ◌^◌, ◌≤◌, ◌||◌, ◌==◌, Bool, true, false, cond, None, List, [], ◌∷◌, length, All, ℤ, pos, negsuc, nat_abs, nat_lt, int_lt, ◌+ℤ◌, ◌-ℤ◌, ◌*ℤ◌, get_or, ap₂, refl, arith, le-ltb, inl, inr}
 use Rattle.std.specs.List.{list_any, range_with_len}
 use Rattle.std.proofs.lemmas.Bool.{cases_lt}
 use Rattle.std.proofs.lemmas.Int.{ints}
@@ -10,9 +10,9 @@ use Rattle.std.proofs.lemmas.List.FromFn.{length-map-range_with_len}
 use Rattle.std.proofs.lemmas.Nat.{mul-le}
 use Rattle.grib_packing.specs.declared.column.Point.{Point}
 use Rattle.grib_packing.specs.declared.column.Point.TheVariants.{Scaled, Missing, Missing2}
-use Rattle.grib_packing.specs.Differences.{lesser, least, least_of, difference_at, differences, descriptors_of, code_at, difference_codes}
+use Rattle.grib_packing.specs.Differences.{lesser, least, least_of, difference_at, differences, code_at, difference_codes}
 use Rattle.grib_packing.specs.Entries.{is_out_of_range}
-use Rattle.grib_packing.specs.Misfits.{Misfit, SecondaryMissing, OutOfRange, DifferenceRange, Target, ToSimple, ToComplex, ToSpatial, misfit_at, first_misfit, is_missing, is_missing2, is_outside, is_scaled_outside, scaled_numbers, management_of, greatest_code, are_differences_out}
+use Rattle.grib_packing.specs.Misfits.{Misfit, SecondaryMissing, OutOfRange, Target, ToSimple, ToComplex, ToSpatial, misfit_at, first_misfit, is_missing, is_missing2, is_outside, is_scaled_outside, scaled_numbers, management_of, greatest_code, are_differences_out}
 use Rattle.grib_simple.specs.Written.{MayBePacked}
 use Rattle.grib_made.specs.Points.{made_point, made_points, made_column}
 use Rattle.grib_made.specs.Made.{MayBeMade}

@@ -1,5 +1,5 @@
 -- Section 3 of a made message passes its rows.
-use Rattle.std.proofs.Common.{◌≡◌, ℕ, ◌+◌, ◌*◌, ◌^◌, ◌<◌, ◌≤◌, ◌||◌, ◌==◌, false, not, nat_lt, refl, ap, ap₂, ◌∙◌, sym, arith, le-ltb, eq-eqb, ne_eqb}
+use Rattle.std.proofs.Common.{◌≡◌, ℕ, ◌*◌, ◌≤◌, ◌||◌, ◌==◌, false, not, nat_lt, refl, ap, ap₂, ◌∙◌, sym, arith, le-ltb, eq-eqb, ne_eqb}
 use Rattle.std.specs.Prelude.{None}
 use Rattle.std.proofs.lemmas.Nat.{mul-le}
 use Rattle.grib_io.specs.Rows.{first_fault}

@@ -11,7 +11,7 @@ use Rattle.grib_made.proofs.laws.what_is_made_is_accepted.Goals as goal
 pub returns : goal.returns
 returns c =
     let parts : (seed ni nj : ℕ) → MayBeMade seed ni nj
-        → let p = packed ToSimple (made_column seed ni nj) 0 in Parts ni nj (made_column seed ni nj) p.section5 p.section6 p.section7 =
+    → let p = packed ToSimple (made_column seed ni nj) 0 in Parts ni nj (made_column seed ni nj) p.section5 p.section6 p.section7 =
     λ seed ni nj may.
     let column = made_column seed ni nj in
     let p = packed ToSimple column 0 in

@@ -1,4 +1,4 @@
-use Rattle.std.proofs.Common.{◌≡◌, ℕ, ◌+◌, List, [], ◌++◌, length, ap, ◌∙◌, sym, refl, arith}
+use Rattle.std.proofs.Common.{◌≡◌, ℕ, ◌+◌, List, ◌++◌, length, ap, ◌∙◌, arith}
 use Rattle.grib2_sections.specs.Head.{end_mark}
 use Rattle.grib_made.specs.Made.{made_indicator, made_identification, made_grid, made_product}
 use Rattle.grib_made.proofs.Joined.{joined}

@@ -1,12 +1,11 @@
-use Rattle.std.proofs.Common.{◌≡◌, ℕ, ◌+◌, ◌≤◌, List, length, subst, sym, ap, ◌∙◌, arith}
+use Rattle.std.proofs.Common.{◌≡◌, ℕ, ◌+◌, ◌≤◌, List, length, subst, sym, ap, ◌∙◌}
 use Rattle.std.specs.Prelude.{None, IfOk}
 use Rattle.grib_packing.specs.declared.column.Column.{Column}
 use Rattle.grib_packing.specs.declared.column.Point.{Point}
 use Rattle.grib_packing.specs.Misfits.{ToSimple, first_misfit}
-use Rattle.grib_packing.specs.Packed.{IsSimple}
 use Rattle.grib_simple.specs.Written.{MayBePacked}
 use Rattle.grib_simple.specs.declared.written.Packed.{Packed}
-use Rattle.grib_made.specs.Points.{made_column, made_points}
+use Rattle.grib_made.specs.Points.{made_points}
 use Rattle.grib_made.specs.Made.{MayBeMade, message_with}
 use Rattle.grib_made.proofs.Fitting.{made_fits, made_may_be_packed}
 use Rattle.grib_made.proofs.Parts.{made_is, parts_made, parts_short}
