@@ -15,7 +15,7 @@ use Rattle.grib2_message.specs.Acceptance.{verdict_2}
 use Rattle.grib2_message.specs.Grammar.{IsSection, AreSections, Grammar2}
 use Rattle.grib2_message.specs.Message.{IsMessage}
 use Rattle.grib2_message.specs.View.{is_numbered, octets_in_force, points_in_force, earlier_mask, mask_in_force}
-use Rattle.grib2_message.specs.Fields.{field_count, sections_up_to_field, field_sections, column_of}
+use Rattle.grib2_message.specs.Fields.{field_count, sections_up_to_field, field_sections, part_octets, column_of}
 use Rattle.grib2_message.proofs.InForce.{octets_same, octets_other}
 use Rattle.grib2_message.proofs.Placing.{placed_from}
 use Rattle.grib2_message.proofs.Sound.{fault_of, mask_here, mask_kept, points_kept}
@@ -223,7 +223,7 @@ module _ (seed ni nj : ℕ) (column : Column) (s5 s6 s7 : List ℕ) (may : MayBe
 
 module _ (seed ni nj : ℕ) (column : Column) (s5 s6 s7 : List ℕ) (may : MayBeMade seed ni nj) (parts : Parts ni nj column s5 s6 s7)
     (m : List ℕ) (is : m ≡ message_of_parts ni nj s5 s6 s7) where
-  grammar : Grammar2 m (sections_of_parts ni nj s5 s6 s7)
+  pub grammar : Grammar2 m (sections_of_parts ni nj s5 s6 s7)
   grammar = subst (λ (octets : List ℕ). Grammar2 octets (sections_of_parts ni nj s5 s6 s7)) (sym is) (in_grammar seed ni nj column s5 s6 s7 may parts)
 
 module _ (seed ni nj : ℕ) (column : Column) (s5 s6 s7 : List ℕ) (may : MayBeMade seed ni nj) (parts : Parts ni nj column s5 s6 s7)
@@ -258,3 +258,7 @@ module _ (seed ni nj : ℕ) (column : Column) (s5 s6 s7 : List ℕ) (may : MayBe
       ∙ ap (λ (mask : List Bool). column_from s5 mask (octets_in_force 7 F)) (mask_stands seed ni nj column s5 s6 s7 may parts)
       ∙ ap (column_from s5 (mask_of s6 (length column.points) earlier)) (values_stand seed ni nj column s5 s6 s7 may parts)
       ∙ parts.back.column_stands earlier
+
+  pub its_packing : part_octets m 1 5 ≡ s5
+  its_packing =
+      ap (octets_in_force 5) (in_force seed ni nj column s5 s6 s7 may parts m is) ∙ packing_stands seed ni nj column s5 s6 s7 may parts

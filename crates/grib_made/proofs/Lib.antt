@@ -4,5 +4,6 @@ pub mod Grid
 pub mod Joined
 pub mod OneByOne
 pub mod Parts
+pub mod Repacked
 pub mod Small
 pub mod Summing

@@ -2,13 +2,15 @@
 use Rattle.std.proofs.Common.{◌≡◌, ℕ, ◌+◌, ◌*◌, ◌≤◌, List, length, refl, ap, ◌∙◌, subst, arith}
 use Rattle.grib_packing.specs.declared.column.Column.{Column}
 use Rattle.grib_packing.specs.declared.column.Point.{Point}
-use Rattle.grib_packing.specs.Misfits.{ToSimple}
+use Rattle.std.specs.Prelude.{None}
+use Rattle.grib_packing.specs.Misfits.{ToSimple, first_misfit}
+use Rattle.grib_simple.specs.Written.{MayBePacked}
 use Rattle.grib_packing.specs.Packed.{IsSimple}
 use Rattle.grib_simple.specs.Laws.{UnpackTo}
 use Rattle.grib_simple.specs.declared.written.Packed.{Packed}
 use Rattle.grib_packed.specs.Written.{HasWords, packed}
 use Rattle.grib_packed.proofs.Short.{simple_short}
-use Rattle.grib_packed.proofs.Written.{simple_only}
+use Rattle.grib_packed.proofs.Written.{simple_only, simple_written}
 use Rattle.grib_made.specs.Points.{made_column, made_points}
 use Rattle.grib_made.specs.Made.{MayBeMade, made}
 use Rattle.grib_made.proofs.Accepted.{Parts, message_of_parts}
@@ -18,41 +20,51 @@ use Rattle.grib_made.proofs.OneByOne.{few_points}
 pub made_words : (seed ni nj : ℕ) → HasWords (made_column seed ni nj)
 made_words seed ni nj = record { reference = omega arith; binary_scale = omega arith; decimal_scale = omega arith }
 
-pub made_parts : (seed ni nj : ℕ) → MayBeMade seed ni nj
-    → let p = packed ToSimple (made_column seed ni nj) 0 in
-    IsSimple (made_column seed ni nj) 0 p.section5 p.section6 p.section7
-    → UnpackTo (made_column seed ni nj) p.section5 p.section6 p.section7
-    → length p.section5 + length p.section6 + length p.section7 ≤ 11 * length (made_column seed ni nj).points + 200
-    → Parts ni nj (made_column seed ni nj) p.section5 p.section6 p.section7
-made_parts seed ni nj may packing back short =
-    let long = length-made_points seed ni nj in
-    let few = few_points ni nj may.few_columns may.few_rows in
+-- ---- what is packed
+
+-- it has few octets,
+parts_few : (seed ni nj : ℕ) → MayBeMade seed ni nj
+    → let p = packed ToSimple (made_column seed ni nj) 0 in length p.section5 + length p.section6 + length p.section7 ≤ 11 * length (made_column seed ni nj).points + 200
+unfolding packed
+parts_few seed ni nj may = simple_short (made_column seed ni nj) 0 (made_may_be_packed seed ni nj may) (made_fits ToSimple seed ni nj)
+
+pub parts_short : (seed ni nj : ℕ) → MayBeMade seed ni nj
+    → let p = packed ToSimple (made_column seed ni nj) 0 in length p.section5 + length p.section6 + length p.section7 ≤ 268435000
+parts_short seed ni nj may =
+    omega (arith, parts_few seed ni nj may, length-made_points seed ni nj, few_points ni nj may.few_columns may.few_rows)
+
+-- and is a packing,
+pub parts_packed : (seed ni nj : ℕ) → MayBeMade seed ni nj
+    → let p = packed ToSimple (made_column seed ni nj) 0 in IsSimple (made_column seed ni nj) 0 p.section5 p.section6 p.section7
+unfolding packed
+parts_packed seed ni nj may =
+    simple_written (made_column seed ni nj) 0 (made_may_be_packed seed ni nj may) (made_words seed ni nj) (omega arith) (made_fits ToSimple seed ni nj)
+
+-- from which the column reads back where each packing does
+abbrev pub ReadsBack : Type 0
+ReadsBack = (column : Column) (kind : ℕ) (s5 s6 s7 : List ℕ) → MayBePacked column → first_misfit ToSimple column.points ≡ None
+    → IsSimple column kind s5 s6 s7 → UnpackTo column s5 s6 s7
+
+pub made_parts : (seed ni nj : ℕ) → MayBeMade seed ni nj → ReadsBack
+    → let p = packed ToSimple (made_column seed ni nj) 0 in Parts ni nj (made_column seed ni nj) p.section5 p.section6 p.section7
+made_parts seed ni nj may reads =
+    let p = packed ToSimple (made_column seed ni nj) 0 in
+    let packing = parts_packed seed ni nj may in
     record {
-      long = long;
+      long = length-made_points seed ni nj;
       itself_5 = packing.numbers.itself;
       itself_6 = packing.bitmap.itself;
       itself_7 = packing.values.itself;
-      back = back;
-      short = omega (arith, short, long, few);
+      back = reads (made_column seed ni nj) 0 p.section5 p.section6 p.section7 (made_may_be_packed seed ni nj may) (made_fits ToSimple seed ni nj) packing;
+      short = parts_short seed ni nj may;
     }
 
 pub made_is : (seed ni nj : ℕ) → let p = packed ToSimple (made_column seed ni nj) 0 in made seed ni nj ≡ message_of_parts ni nj p.section5 p.section6 p.section7
 unfolding made
 made_is seed ni nj = refl
 
--- ---- what is packed
+-- ---- it is the one packing
 
-module _ (seed ni nj : ℕ) (may : MayBeMade seed ni nj) where
-  -- it has few octets
-  pub parts_short : let p = packed ToSimple (made_column seed ni nj) 0 in length p.section5 + length p.section6 + length p.section7 ≤ 268435000
-  unfolding packed
-  parts_short =
-      let long = length-made_points seed ni nj in
-      let few = few_points ni nj may.few_columns may.few_rows in
-      let short = simple_short (made_column seed ni nj) 0 (made_may_be_packed seed ni nj may) (made_fits ToSimple seed ni nj) in
-      omega (arith, short, long, few)
-
--- and is the one packing
 pub parts_are : (seed ni nj : ℕ) (parts : Packed) → IsSimple (made_column seed ni nj) 0 parts.section5 parts.section6 parts.section7
     → parts ≡ packed ToSimple (made_column seed ni nj) 0
 unfolding packed
