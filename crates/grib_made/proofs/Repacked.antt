@@ -1,11 +1,11 @@
 -- A made message with the sections of another packing is never too long.
-use Rattle.std.proofs.Common.{◌≡◌, ℕ, ◌+◌, ◌≤◌, ◌==◌, Bool, true, false, List, [], ◌∷◌, ◌++◌, length, take, refl, ap, ◌∙◌, arith, length-append, eq-eqb, ne_eqb}
+use Rattle.std.proofs.Common.{◌≡◌, ℕ, ◌+◌, ◌==◌, true, false, List, [], ◌∷◌, ◌++◌, length, take, refl, ap, ◌∙◌, arith, length-append, eq-eqb, ne_eqb}
 use Rattle.std.specs.List.{concat}
 use Rattle.grib_packing.specs.declared.column.Column.{Column}
 use Rattle.grib_simple.specs.declared.written.Packed.{Packed}
+use Rattle.grib2_sections.specs.Encoding.{octets_of}
 use Rattle.grib2_sections.specs.Frame.{section_number}
 use Rattle.grib2_sections.specs.Head.{end_mark}
-use Rattle.grib2_message.specs.Fields.{sections_of}
 use Rattle.grib2_message.specs.Assembled.{replaced, assembled_body, assembled}
 use Rattle.grib2_message.proofs.Placing.{placed_from}
 use Rattle.grib2_message.proofs.Whole.{sections_alone}
@@ -46,4 +46,4 @@ module _ (seed ni nj : ℕ) (column : Column) (s5 s6 s7 : List ℕ) (may : MayBe
       let long : length inner ≡ 127 + length part.section5 + length part.section6 + length part.section7 =
       ap length (body seed ni nj column s5 s6 s7 may parts m is part) ∙ length-sections ni nj part in
       let eight : length (take 8 m) ≡ 8 = ap (λ (xs : List ℕ). length (take 8 xs)) is in
-      omega (arith, long, eight, length-append (take 8 m) _, length-append inner end_mark)
+      omega (arith, long, eight, length-append (take 8 m) (octets_of 8 (16 + length inner + 4) ++ (inner ++ end_mark)), length-append inner end_mark)

@@ -1,4 +1,4 @@
-use Rattle.std.proofs.Common.{◌≡◌, ℕ, ◌+◌, ◌≤◌, [], ◌∷◌, length, arith}
+use Rattle.std.proofs.Common.{arith}
 use Rattle.grib_packing.specs.Misfits.{ToSimple}
 use Rattle.grib_packed.specs.Written.{packed}
 use Rattle.grib_made.specs.Points.{made_column}
