@@ -1,0 +1,12 @@
+//! The message that is made from a number: one field of any size, for trials and measurements.
+#![tactic(auto)]
+
+pub mod laws;
+mod making;
+mod points;
+mod summary;
+#[cfg(test)]
+mod tests;
+
+pub use making::made_message;
+pub use summary::{Summary, made_summary};
