@@ -1,3 +1,6 @@
 mod Fields
 mod Sections
 mod Ranges
+mod Octets
+mod Columns
+mod Kept
