@@ -5,6 +5,7 @@ pub mod PutTogether
 pub mod Bitmaps
 pub mod Checked
 pub mod Fronts
+pub mod Holding
 pub mod InForce
 pub mod Joined
 pub mod Masks

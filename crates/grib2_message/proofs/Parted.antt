@@ -102,3 +102,10 @@ joined_grammar head sections h most follow =
       most = omega arith;
       sections_follow = follow;
     }
+
+-- and 268,435,456 at most
+pub message_most : (m : List ℕ) → IsMessage m → length m ≤ 268435456
+message_most m h =
+    let told = unless_tells (first_fault (head_rows m)) (λ _. verdict_from (length m + 1) m [] 17) (length m) h.accepted in
+    let p = head_passes m (second_edition m h) (passes_from_none (head_rows m) told.0) in
+    omega (arith, p.most, message_states m h)

@@ -314,10 +314,10 @@ grid_ahead (s ∷ sections) before q follow low high =
 abbrev pub left : ℕ → List (List ℕ) → ℕ
 left q sections = count_by (is_numbered 7) (placed_from q sections)
 
-left_7 : (q : ℕ) (s : List ℕ) (sections : List (List ℕ)) → section_number s ≡ 7 → left q (s ∷ sections) ≡ 1 + left (q + length s) sections
+pub left_7 : (q : ℕ) (s : List ℕ) (sections : List (List ℕ)) → section_number s ≡ 7 → left q (s ∷ sections) ≡ 1 + left (q + length s) sections
 left_7 q s sections e = count_same (placed_at q s) (placed_from (q + length s) sections) 7 e
 
-left_other : (q : ℕ) (s : List ℕ) (sections : List (List ℕ)) → section_number s ≢ 7 → left q (s ∷ sections) ≡ left (q + length s) sections
+pub left_other : (q : ℕ) (s : List ℕ) (sections : List (List ℕ)) → section_number s ≢ 7 → left q (s ∷ sections) ≡ left (q + length s) sections
 left_other q s sections ne = count_other (placed_at q s) (placed_from (q + length s) sections) 7 ne
 
 -- where a section is left, so is a field
