@@ -3,4 +3,5 @@ mod Sections
 mod Ranges
 mod Octets
 mod Columns
+mod Packing
 mod Kept

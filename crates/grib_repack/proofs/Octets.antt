@@ -44,7 +44,7 @@ cond_either false here there a c = c
 
 section_of_octets : (message : List ℕ) (q : ℕ) → All (λ octet. octet < 256) message → All (λ octet. octet < 256) (section_at message q)
 section_of_octets message q each =
-    let last = q + octets message q (q + 3) - 1 in
+    let last = q - 1 + octets message q (q + 3) in
     All-take (λ octet. octet < 256) (last + 1 - q) (drop (q - 1) message) (All-drop (λ octet. octet < 256) (q - 1) message each)
 
 all_from : (turns : ℕ) (message : List ℕ) (q : ℕ) → All (λ octet. octet < 256) message → AreOf (sections_from turns message q)
@@ -63,10 +63,10 @@ all_up_to i before (s ∷ sections) a c =
 
 all_in_force : (k : ℕ) (before : List Placed) → AreOf before → All (λ octet. octet < 256) (octets_in_force k before)
 all_in_force k [] a = All-nil (λ octet. octet < 256)
-all_in_force k (s ∷ before) a = go (is_numbered k s) where
-  go : (b : Bool) → All (λ octet. octet < 256) (option_map_or (λ t. t.octets) (cond b (Some s) (find (is_numbered k) before)) [])
-  go true = a.0
-  go false = all_in_force k before a.1
+all_in_force k (s ∷ before) a = go (is_numbered k s) (all_in_force k before a.1) where
+  go : (b : Bool) → All (λ octet. octet < 256) (octets_in_force k before) → All (λ octet. octet < 256) (option_map_or (λ t. t.octets) (cond b (Some s) (find (is_numbered k) before)) [])
+  go true behind = a.0
+  go false behind = behind
 
 pub part_of_octets : (message : List ℕ) (i k : ℕ) → All (λ octet. octet < 256) message → All (λ octet. octet < 256) (part_octets message i k)
 part_of_octets message i k each =

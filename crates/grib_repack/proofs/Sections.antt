@@ -1,8 +1,8 @@
 -- Lemmas on the sections that a packing writes.
-use Rattle.std.proofs.Common.{◌≡◌, ◌⊎◌, ℕ, ◌+◌, ◌*◌, ◌^◌, ◌<◌, ◌≤◌, Bool, true, false, cond, List, [], ◌∷◌, ◌++◌, length, take, All, inl, inr, refl, sym, ap, ◌∙◌, arith, subst, pow_mono}
+use Rattle.std.proofs.Common.{◌≡◌, ◌⊎◌, ℕ, ◌+◌, ◌*◌, ◌^◌, ◌<◌, ◌≤◌, Bool, true, false, cond, List, [], ◌∷◌, ◌++◌, length, take, drop, replicate, append_assoc, All, inl, inr, refl, sym, ap, ◌∙◌, arith, subst, pow_mono}
 use Rattle.std.specs.List.{list_any}
 use Rattle.std.proofs.lemmas.List.{length-take}
-use Rattle.std.proofs.lemmas.List.Elements.{All-take}
+use Rattle.std.proofs.lemmas.List.Elements.{All-nil, All-cons, All-take, All-drop}
 use Rattle.grib_bits.specs.Bits.{bits, bits_of, num}
 use Rattle.grib_bits.specs.Octets.{StatesItself, num_on}
 use Rattle.grib_bits.proofs.Numbers.{num-lt}
@@ -11,9 +11,10 @@ use Rattle.grib_bitmap.specs.Mask.{bitmap_indicator}
 use Rattle.grib_packing.specs.declared.column.Column.{Column}
 use Rattle.grib_packing.specs.declared.column.Point.{Point}
 use Rattle.grib_packing.specs.Misfits.{Target, ToSimple, ToComplex, ToSpatial, is_missing}
-use Rattle.grib_packing.specs.Packed.{HasContents, IsBitmap, IsSimple, IsComplex, IsSpatial, no_bitmap_section, present_bits, Packed as HasPacked}
-use Rattle.grib_packing.proofs.Sections.{AreOctets-all}
-use Rattle.grib_simple.proofs.Bitmaps.{indicator_is}
+use Rattle.grib_packing.specs.Packed.{HasContents, IsBitmap, IsSimple, IsComplex, IsSpatial, padded, no_bitmap_section, present_bits, Packed as HasPacked}
+use Rattle.grib_bits.specs.Written.{padding}
+use Rattle.grib_packing.proofs.Left.{padding-behind}
+use Rattle.grib_packing.proofs.Sections.{AreOctets-all, front_is}
 
 -- a section that states itself has fewer than 2 ^ 32 octets
 short_itself : (number : ℕ) (s : List ℕ) → StatesItself number s → All (λ octet. octet < 256) s → length s < 2 ^ 32
@@ -34,6 +35,18 @@ pub record AreWritten (s5 s6 s7 : List ℕ) : Type 0 where
   pub short_5 : length s5 < 2 ^ 32
   pub short_6 : length s6 < 2 ^ 32
   pub short_7 : length s7 < 2 ^ 32
+
+-- the first octet of the contents of a Section 6
+indicator_is : (s : List ℕ) (first : ℕ) (rest : List Bool) → HasContents 6 s (bits_of 8 first ++ rest) → first < 256 → bitmap_indicator s ≡ first
+indicator_is s first rest h small =
+    let behind : bits (drop 5 s) ≡ bits (first ∷ []) ++ padded rest =
+    h.contents_stand
+    ∙ ap (λ (n : ℕ). (bits_of 8 first ++ rest) ++ replicate n false) (padding-behind (bits_of 8 first) rest refl)
+    ∙ append_assoc (bits_of 8 first) rest (replicate (padding rest) false) in
+    let begins : drop 5 s ≡ (first ∷ []) ++ drop 1 (drop 5 s) =
+    front_is (drop 5 s) (first ∷ []) (padded rest) (All-drop (λ octet. octet < 256) 5 s h.are_octets)
+    (All-cons (λ octet. octet < 256) first [] small (All-nil (λ octet. octet < 256))) behind in
+    let number = ap (λ (xs : List ℕ). num_on 0 (take 1 xs)) begins in omega (arith, number)
 
 bitmap_alone : (s : List ℕ) (points : List Point) → IsBitmap s points → (bitmap_indicator s ≡ 0) ⊎ (bitmap_indicator s ≡ 255)
 bitmap_alone s points h = go (list_any is_missing points) h where
