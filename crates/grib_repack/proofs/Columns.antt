@@ -1,5 +1,5 @@
 -- The columns of an accepted message may be packed.
-use Rattle.std.proofs.Common.{◌≡◌, ℕ, ◌+◌, ◌^◌, ◌<◌, ◌≤◌, List, length, All, refl, sym, ap, subst, arith, ◌∙◌}
+use Rattle.std.proofs.Common.{◌≡◌, ℕ, ◌^◌, ◌<◌, ◌≤◌, List, length, All, refl, sym, ap, subst, arith, ◌∙◌}
 use Rattle.grib_bits.specs.Octets.{octets}
 use Rattle.grib2_grids.specs.Grid.{grid_points}
 use Rattle.grib_packing.specs.declared.column.Column.{Column}

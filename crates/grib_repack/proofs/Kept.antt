@@ -1,5 +1,5 @@
 -- What is repacked may be assembled, and its columns are those that were packed.
-use Rattle.std.proofs.Common.{◌≡◌, ℕ, ◌+◌, ◌-◌, ◌<◌, ◌≤◌, ◌⊎◌, Bool, true, false, cond, nat_lt, Option, Some, None, option_map, List, length, map, All, get_or, slice_get, refl, sym, ap, ◌∙◌, arith, subst, ltb-false}
+use Rattle.std.proofs.Common.{◌≡◌, ℕ, ◌+◌, ◌-◌, ◌<◌, ◌≤◌, ◌⊎◌, Bool, true, false, cond, nat_lt, Option, Some, None, option_map, List, length, All, slice_get, refl, sym, ap, ◌∙◌, arith, subst, ltb-false}
 use Rattle.std.specs.List.{range_with_len}
 use Rattle.std.proofs.lemmas.List.FromFn.{length-map-range_with_len, get_or-map-range_with_len}
 use Rattle.std.proofs.lemmas.Option.{slice_get_within, get_or_from_slice_get, slice_get-get_or}
@@ -15,8 +15,8 @@ use Rattle.grib_simple.specs.Written.{MayBePacked, IsTarget}
 use Rattle.grib_packed.specs.Written.{HasWords, packed}
 use Rattle.grib2_message.specs.Fields.{field_count, part_octets, field_mask, column_of}
 use Rattle.grib2_message.specs.Message.{IsMessage, FieldPasses}
-use Rattle.grib2_message.specs.Assembled.{PartsPass, MayBeAssembled, assembled}
-use Rattle.grib_repack.specs.Repacked.{RepackMisfit, OutputTooLong, MayBeRepacked, kind_of, packed_field, packed_fields, repacked, in_field, field_misfit, misfit_among, length_misfit}
+use Rattle.grib2_message.specs.Assembled.{PartsPass, MayBeAssembled}
+use Rattle.grib_repack.specs.Repacked.{OutputTooLong, MayBeRepacked, kind_of, packed_field, packed_fields, repacked, in_field, misfit_among, length_misfit}
 use Rattle.grib_repack.proofs.Fields.{none_later, each_fits}
 use Rattle.grib_repack.proofs.Sections.{are_written}
 use Rattle.grib_repack.proofs.Columns.{column_long, may_be_packed, has_words, kind_small}

@@ -1,5 +1,5 @@
 -- The sections of a message have its octets.
-use Rattle.std.proofs.Common.{◌≡◌, ℕ, zero, suc, ◌+◌, ◌-◌, ◌*◌, ◌^◌, ◌<◌, ◌≤◌, Bool, true, false, cond, ◌&&◌, ◌==◌, Option, Some, None, List, [], ◌∷◌, length, take, drop, All, find, refl, sym, ap, ◌∙◌, arith, subst, pow_mono}
+use Rattle.std.proofs.Common.{◌≡◌, ℕ, zero, suc, ◌+◌, ◌-◌, ◌*◌, ◌^◌, ◌<◌, ◌≤◌, Bool, true, false, cond, ◌&&◌, ◌==◌, Some, List, [], ◌∷◌, length, take, drop, All, find, arith, pow_mono}
 use Rattle.std.specs.Option.{option_map_or}
 use Rattle.std.proofs.lemmas.List.{length-take}
 use Rattle.std.proofs.lemmas.List.Elements.{All-nil, All-take, All-drop}
@@ -8,7 +8,7 @@ use Rattle.grib_bits.specs.Octets.{num_on, octets}
 use Rattle.grib_bits.proofs.Numbers.{num-lt}
 use Rattle.grib_bits.proofs.OctetBits.{length-bits, num_on-bits}
 use Rattle.grib_io.specs.Rows.{choose}
-use Rattle.grib2_sections.specs.Frame.{Placed, placed_at, ends_at, section_at, section_length}
+use Rattle.grib2_sections.specs.Frame.{Placed, placed_at, ends_at, section_at}
 use Rattle.grib_packing.proofs.Sections.{AreOctets-all}
 use Rattle.grib2_message.specs.View.{is_numbered, octets_in_force}
 use Rattle.grib2_message.specs.Fields.{sections_from, sections_of, sections_up_to_field, field_sections, part_octets}

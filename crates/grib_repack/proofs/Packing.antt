@@ -1,5 +1,8 @@
 -- Lemmas on a field that is packed.
-use Rattle.std.proofs.Common.{◌≡◌, ℕ, ◌<◌, Option, Some, None, option_map, List, length, sym, ap, ap₂, ◌∙◌, subst}
+use Rattle.std.proofs.Common.{◌≡◌, ℕ, ◌+◌, Option, None, option_map, List, [], ◌∷◌, ◌++◌, map, All, sym, ap, ap₂, ◌∙◌, subst, arith}
+use Rattle.std.specs.List.{range_with_len}
+use Rattle.std.proofs.lemmas.List.Elements.{All-nil, All-cons, All-append}
+use Rattle.std.proofs.lemmas.List.FromFn.{map-range_with_len_more}
 use Rattle.grib_packing.specs.declared.column.Column.{Column}
 use Rattle.grib_packing.specs.Misfits.{Target, Misfit, first_misfit}
 use Rattle.grib_packing.specs.Packed.{Packed as HasPacked}
@@ -13,6 +16,17 @@ use Rattle.grib_repack.specs.Repacked.{RepackMisfit, kind_of, packed_field, fiel
 use Rattle.grib_repack.specs.Faults.{IsRepackFault}
 use Rattle.grib_repack.specs.declared.fault.RepackFault.{RepackFault}
 use Rattle.grib_repack.proofs.Sections.{are_written}
+
+-- the parts of one more field
+pub parts_more : (f : ℕ → Packed) (n : ℕ) (items new : List Packed) (p : Packed) → items ≡ map f (range_with_len 1 n) → p ≡ f (n + 1) → new ≡ items ++ p ∷ []
+    → new ≡ map f (range_with_len 1 (n + 1))
+parts_more f n items new p before here is =
+    is ∙ ap₂ (λ (xs : List Packed) (x : Packed). xs ++ x ∷ []) before here ∙ sym (map-range_with_len_more f 1 n (n + 1) (omega arith))
+
+pub short_more : (items new : List Packed) (p : Packed) → All IsShort items → IsShort p → new ≡ items ++ p ∷ [] → All IsShort new
+short_more items new p before here is =
+    subst (λ (xs : List Packed). All IsShort xs) (sym is)
+    (All-append IsShort items (p ∷ []) before (All-cons IsShort p [] here (All-nil IsShort)))
 
 -- no other sections are written
 abbrev pub IsOnly : Type 0

@@ -1,6 +1,6 @@
 -- The numbers of a field that is accepted are within the range of the columns that are packed.
-use Rattle.std.proofs.Common.{◌≡◌, ℕ, zero, suc, ◌+◌, ◌-◌, ◌*◌, ◌^◌, ◌<◌, ◌≤◌, ◌⊎◌, Bool, true, false, cond, not, ◌&&◌, ◌||◌, ◌==◌, nat_lt, find, Option, Some, None, List, [], ◌∷◌, ◌++◌, length, drop, map, replicate, pos, inl, inr, refl, sym, ap, ap₂, ◌∙◌, arith, subst, le-ltb, eqb-true, ltb-false, pow_mono}
-use Rattle.std.specs.List.{list_any, filter_map, range_with_len, position_or_len}
+use Rattle.std.proofs.Common.{◌≡◌, ℕ, zero, suc, ◌+◌, ◌*◌, ◌^◌, ◌<◌, ◌≤◌, ◌⊎◌, Bool, true, false, cond, not, ◌&&◌, ◌||◌, ◌==◌, nat_lt, find, Option, Some, None, List, [], ◌∷◌, ◌++◌, length, drop, map, replicate, pos, inl, inr, refl, sym, ap, ap₂, ◌∙◌, arith, subst, le-ltb, ltb-false, pow_mono}
+use Rattle.std.specs.List.{list_any, filter_map, range_with_len}
 use Rattle.std.specs.Option.{option_map_or}
 use Rattle.std.proofs.lemmas.Bool.{not-false}
 use Rattle.grib_bits.specs.Bits.{bits}
@@ -13,19 +13,19 @@ use Rattle.grib_io.specs.declared.fault.Fault.{Fault}
 use Rattle.grib_io.specs.Rows.{Row, first_fault, first_place, or_then, choose}
 use Rattle.grib_io.proofs.Places.{NoneOf}
 use Rattle.grib_packing.specs.declared.column.Point.{Point}
-use Rattle.grib_packing.specs.declared.column.Point.TheVariants.{Scaled, Missing, Missing2}
+use Rattle.grib_packing.specs.declared.column.Point.TheVariants.{Scaled}
 use Rattle.grib_packing.specs.declared.group.Group.{Group}
 use Rattle.grib_packing.specs.declared.layout.Layout.{Layout}
 use Rattle.grib_packing.specs.Column.{points_with_mask}
 use Rattle.grib_packing.specs.Complex.{layout_of, descriptor_octets, complex_rows}
 use Rattle.grib_packing.specs.Differences.{undone}
-use Rattle.grib_packing.specs.Entries.{data_fault, packing_fault, complex_data_fault, complex_entries, group_data_fault, group_data_rows, group_entries, first_value_rows, range_rows, entries_of, codes_of, numbers_of, descriptors, refilled, present_code, has_no_groups, is_out_of_range}
-use Rattle.grib_packing.specs.Groups.{code_of, codes_from, marked, groups_from, groups, references, widths, lengths, list_octets, list_rows, group_rows}
+use Rattle.grib_packing.specs.Entries.{data_fault, packing_fault, complex_data_fault, complex_entries, group_data_fault, group_data_rows, group_entries, range_rows, entries_of, codes_of, descriptors, refilled, present_code, has_no_groups, is_out_of_range}
+use Rattle.grib_packing.specs.Groups.{code_of, codes_from, marked, groups_from, groups, references, widths, lengths, list_octets, list_rows}
 use Rattle.grib2_sections.specs.Template.{Template, is_template, least_length}
 use Rattle.grib_packing.specs.Packing.{packing_template, packing_templates, packing_rows, bit_width, most_bits, reference_word, value_count}
 use Rattle.grib_packing.specs.Simple.{simple_entries, simple_rows}
 use Rattle.grib_simple.proofs.Seen.{first_place-any}
-use Rattle.grib2_message.proofs.Passed.{AllPass, passes_from_none}
+use Rattle.grib2_message.proofs.Passed.{passes_from_none}
 
 -- ---- lists of points
 

@@ -1,4 +1,4 @@
-use Rattle.std.proofs.Common.{◌≡◌, ℕ, List, length, ap, ◌∙◌, arith}
+use Rattle.std.proofs.Common.{ℕ, List, length, ap, ◌∙◌, arith}
 use Rattle.grib_bits.specs.Octets.{octets}
 use Rattle.grib2_grids.specs.Grid.{grid_points}
 use Rattle.grib2_message.specs.Fields.{part_octets}
