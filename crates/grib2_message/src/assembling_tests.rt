@@ -1,6 +1,6 @@
 //! Messages with other Sections 5, 6 and 7, worked by hand from the tables of the manual.
 
-ghost use Rattle.std.specs.Prelude.{◌<◌, ◌^◌, length, All, IfOk};
+ghost use Rattle.std.specs.Prelude.{◌≡◌, ◌<◌, ◌^◌, length, vec_len, All, IfOk};
 ghost use Rattle.grib2_message.specs.Assembled.{IsShort};
 
 use crate::AssembleFault;
@@ -19,18 +19,25 @@ fn part(
     alloc: Global,
     section5: &[u8],
     section6: &[u8],
-    section7: &[u8],
+    section7: Vec<u8>,
 ) -> Result<Packed, AllocError>
     requires short_5 { length section5.now < 2 ^ 32 }
     requires short_6 { length section6.now < 2 ^ 32 }
-    requires short_7 { length section7.now < 2 ^ 32 }
+    requires short_7 { vec_len section7 < 2 ^ 32 }
     ensures { IfOk result IsShort }
 {
     Ok(Packed {
         section5: List::of(section5.to_vec(alloc)?),
         section6: List::of(section6.to_vec(alloc)?),
-        section7: List::of(section7.to_vec(alloc)?),
+        section7: List::of(section7),
     })
+}
+
+/// So many octets, each 0.
+fn zeros(alloc: Global, count: usize) -> Result<Vec<u8>, AllocError>
+    ensures { IfOk result (λ octets. vec_len octets ≡ count) }
+{
+    vec![in alloc; 0u8; count]
 }
 
 /// A message with these parts; want of memory stands for octets that are no message of so many fields.
@@ -50,7 +57,12 @@ fn assembled(alloc: Global, octets: &[u8], parts: &[Packed]) -> Result<Vec<u8>, 
 fn own_parts_give_the_message_again(rt: HostRuntime) -> Result<(), Fail> {
     let octets = plain(rt.alloc())?;
     let values = b"\0\0\0\x09\x07\0\x01\x02\xff";
-    let parts = [part(rt.alloc(), FOUR_NUMBERS, NO_BITMAP, values)?];
+    let parts = [part(
+        rt.alloc(),
+        FOUR_NUMBERS,
+        NO_BITMAP,
+        values.to_vec(rt.alloc())?,
+    )?];
     let Ok(again) = assembled(rt.alloc(), octets.as_slice(), &parts) else {
         return Err(Fail::from("not put together"));
     };
@@ -77,8 +89,18 @@ fn each_field_has_its_part(rt: HostRuntime) -> Result<(), Fail> {
     ];
     let octets = message(rt.alloc(), 252, &before)?;
     let parts = [
-        part(rt.alloc(), FOUR_NUMBERS, NO_BITMAP, four)?,
-        part(rt.alloc(), THREE_NUMBERS, OWN_BITMAP, second)?,
+        part(
+            rt.alloc(),
+            FOUR_NUMBERS,
+            NO_BITMAP,
+            four.to_vec(rt.alloc())?,
+        )?,
+        part(
+            rt.alloc(),
+            THREE_NUMBERS,
+            OWN_BITMAP,
+            second.to_vec(rt.alloc())?,
+        )?,
     ];
     let Ok(other) = assembled(rt.alloc(), octets.as_slice(), &parts) else {
         return Err(Fail::from("not put together"));
@@ -113,12 +135,8 @@ fn each_field_has_its_part(rt: HostRuntime) -> Result<(), Fail> {
 #[test]
 fn messages_are_not_too_long(rt: HostRuntime) -> Result<(), Fail> {
     let octets = plain(rt.alloc())?;
-    let values = vec![in rt.alloc(); 0u8; 268_435_283]?;
-    let parts = [Packed {
-        section5: List::of(FOUR_NUMBERS.to_vec(rt.alloc())?),
-        section6: List::of(NO_BITMAP.to_vec(rt.alloc())?),
-        section7: List::of(values),
-    }];
+    let values = zeros(rt.alloc(), 268_435_283)?;
+    let parts = [part(rt.alloc(), FOUR_NUMBERS, NO_BITMAP, values)?];
     let fault = assembled(rt.alloc(), octets.as_slice(), &parts).err();
     assert_eq!(rt; fault, Some(AssembleFault::TooLong(268_435_457)));
     Ok(())
