@@ -15,11 +15,11 @@ use Rattle.grib_groups.proofs.Parts.{sum-more}
 
 -- ---- what such a run has
 
-all_same : {X : Type 0} (p : X → Bool) (x : X) (n : ℕ) → p x ≡ true → list_all p (replicate n x) ≡ true
+pub all_same : {X : Type 0} (p : X → Bool) (x : X) (n : ℕ) → p x ≡ true → list_all p (replicate n x) ≡ true
 all_same p x zero is = refl
 all_same p x (suc n) is = rw is (all_same p x n is)
 
-any_same : {X : Type 0} (p : X → Bool) (x : X) (n : ℕ) → list_any p (replicate (suc n) x) ≡ list_any p (x ∷ [])
+pub any_same : {X : Type 0} (p : X → Bool) (x : X) (n : ℕ) → list_any p (replicate (suc n) x) ≡ list_any p (x ∷ [])
 any_same p x zero = refl
 any_same p x (suc n) = ap (λ (b : Bool). p x || b) (any_same p x n) ∙ twice (p x) where
   twice : (b : Bool) → (b || (b || false)) ≡ (b || false)
