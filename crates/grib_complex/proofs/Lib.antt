@@ -16,3 +16,4 @@ pub mod Differing
 pub mod FirstValues
 pub mod Back
 pub mod ByDifferences
+pub mod AllTheSame

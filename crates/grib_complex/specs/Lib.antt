@@ -7,3 +7,5 @@ pub mod Descriptors
 pub mod Range
 pub mod Feeding
 pub mod Written
+pub mod FieldCodes
+pub mod Constant

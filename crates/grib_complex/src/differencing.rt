@@ -13,7 +13,7 @@ use grib_bits::BitWriter;
 use grib_spatial::Differences;
 
 /// The greatest magnitude of a first value and of the minimum.
-const MOST: u32 = (1 << 31) - 1;
+pub const MOST: u32 = (1 << 31) - 1;
 
 /// Whether a first value, the minimum or a code has no place, where so many codes are reserved.
 pub fn are_out(differences: &Differences, reserved: u8) -> bool

@@ -1,16 +1,39 @@
 //! How the codes of a column are laid out in groups.
 
-ghost use Rattle.std.specs.Prelude.{◌≡◌, ℕ, ◌+◌, ◌*◌, ◌/◌, ◌<◌, ◌≤◌, length, map, All, IfOk};
+ghost use Rattle.std.specs.Prelude.{◌≡◌, ℕ, ◌+◌, ◌*◌, ◌/◌, ◌<◌, ◌≤◌, length, map, replicate, All, IfOk};
 ghost use Rattle.grib_packing.specs.Groupings.{Chosen, IsGrouping, header_bits, joined, runs, width_of};
 ghost use Rattle.grib_packing.specs.Packed.{group_fields, group_parts};
 ghost use Rattle.grib_packing.specs.Span.{IsTold, IsBelow};
 ghost use Rattle.grib_groups.specs.Encoding.{LaysOut};
+ghost use Rattle.grib_complex.specs.FieldCodes.{codes_in};
 
 use grib_groups::Layout;
 use grib_io::Code;
 use grib_packing::{Span, bit_length};
-use grib_split::{Costs, chosen_lengths};
+use grib_split::{Costs, chosen_lengths, fewest_lengths};
 use std::alloc::{AllocError, Global};
+
+/// The codes of a field.
+#[derive(Debug, Drop)]
+pub enum FieldCodes {
+    /// One for each point.
+    Each(Vec<Code>),
+    /// The code that all points have, and how many points there are.
+    Same(Code, u32),
+}
+
+impl FieldCodes {
+    /// How many there are.
+    pub fn count(&self) -> u32
+        requires { length (codes_in self.now) ≤ 33554432 }
+        ensures { result ≡ length (codes_in self.now) }
+    {
+        match self {
+            FieldCodes::Each(codes) => codes.len() as u32,
+            FieldCodes::Same(_code, count) => *count,
+        }
+    }
+}
 
 /// The lengths of groups and what Section 5 says of them.
 #[derive(Debug, Drop)]
@@ -25,7 +48,32 @@ pub struct Grouping {
 /// # Errors
 ///
 /// There is no memory for the lengths.
-pub fn grouping_of(alloc: Global, codes: &[Code], management: u8) -> Result<Grouping, AllocError>
+pub fn grouping_of(
+    alloc: Global,
+    codes: &FieldCodes,
+    management: u8,
+) -> Result<Grouping, AllocError>
+    requires some { 1 ≤ length (codes_in codes.now) }
+    requires most { length (codes_in codes.now) ≤ 33554432 }
+    requires few { management ≤ 2 }
+    requires codes { All (IsTold management) (codes_in codes.now) }
+    ensures lays_out { IfOk result (λ grouping. LaysOut grouping.layout (codes_in codes.now) grouping.lengths.items) }
+    ensures management { IfOk result (λ grouping. grouping.layout.management ≡ management) }
+    ensures chosen { IfOk result (λ grouping.
+        Chosen (header_bits management (codes_in codes.now)) (width_of management) (codes_in codes.now) grouping.lengths.items) }
+{
+    match codes {
+        FieldCodes::Each(codes) => grouping_of_each(alloc, codes, management),
+        FieldCodes::Same(code, count) => grouping_of_same(alloc, *code, *count, management),
+    }
+}
+
+/// The groups of codes one after another.
+///
+/// # Errors
+///
+/// There is no memory for the lengths.
+fn grouping_of_each(alloc: Global, codes: &[Code], management: u8) -> Result<Grouping, AllocError>
     requires some { 1 ≤ length codes.now }
     requires most { length codes.now ≤ 33554432 }
     requires few { management ≤ 2 }
@@ -57,11 +105,48 @@ pub fn grouping_of(alloc: Global, codes: &[Code], management: u8) -> Result<Grou
     Ok(Grouping { lengths, layout })
 }
 
+/// The groups of so many codes that are all the same: none takes a bit beside its header, so they are the
+/// fewest.
+///
+/// # Errors
+///
+/// There is no memory for the lengths.
+fn grouping_of_same(
+    alloc: Global,
+    code: Code,
+    count: u32,
+    management: u8,
+) -> Result<Grouping, AllocError>
+    requires some { 1 ≤ count }
+    requires most { count ≤ 33554432 }
+    requires few { management ≤ 2 }
+    requires code { IsTold management code }
+    ensures lays_out { IfOk result (λ grouping. LaysOut grouping.layout (replicate count code) grouping.lengths.items) }
+    ensures management { IfOk result (λ grouping. grouping.layout.management ≡ management) }
+    ensures chosen { IfOk result (λ grouping.
+        Chosen (header_bits management (replicate count code)) (width_of management) (replicate count code) grouping.lengths.items) }
+{
+    let span = Span::of(&[code]);
+    let lengths = fewest_lengths(alloc, count)?;
+    let layout = Layout {
+        groups: lengths.len() as u32,
+        reference_bits: span.reference_bits(u32::from(management)) as u8,
+        width_reference: 0,
+        width_bits: 0,
+        length_reference: 1,
+        length_increment: 1,
+        last_length: lengths[lengths.len() - 1],
+        length_bits: 6,
+        management,
+    };
+    Ok(Grouping { lengths, layout })
+}
+
 /// The octets that the groups of these codes take in Section 7.
-pub fn octets_of_groups(codes: &[Code], lengths: &[u32], layout: &Layout) -> u32
-    requires lays_out { LaysOut layout.now codes.now lengths.now }
-    requires most { length codes.now ≤ 33554432 }
-    ensures is { 8 * result ≡ length (group_parts layout.now.management codes.now lengths.now) }
+pub fn octets_of_groups(codes: &FieldCodes, lengths: &[u32], layout: &Layout) -> u32
+    requires lays_out { LaysOut layout.now (codes_in codes.now) lengths.now }
+    requires most { length (codes_in codes.now) ≤ 33554432 }
+    ensures is { 8 * result ≡ length (group_parts layout.now.management (codes_in codes.now) lengths.now) }
     ensures few { result ≤ 1000000000 }
 {
     let bits = bits_of_groups(codes, lengths, u32::from(layout.management));
@@ -82,7 +167,22 @@ fn octets_for(count: u32, bits: u8) -> u32
 }
 
 /// The bits that the packed numbers of all groups take.
-fn bits_of_groups(codes: &[Code], lengths: &[u32], reserved: u32) -> u32
+fn bits_of_groups(codes: &FieldCodes, lengths: &[u32], reserved: u32) -> u32
+    requires reserved { reserved ≤ 2 }
+    requires grouping { IsGrouping (length (codes_in codes.now)) lengths.now }
+    requires codes { All (IsBelow reserved) (codes_in codes.now) }
+    requires most { length (codes_in codes.now) ≤ 33554432 }
+    ensures is { (bits : ℕ) → result ≡ length (joined (map (group_fields reserved bits) (runs lengths.now (codes_in codes.now)))) }
+    ensures few { result ≤ 32 * length (codes_in codes.now) }
+{
+    match codes {
+        FieldCodes::Each(codes) => bits_of_each(codes, lengths, reserved),
+        FieldCodes::Same(_code, _count) => 0,
+    }
+}
+
+/// The same of codes one after another.
+fn bits_of_each(codes: &[Code], lengths: &[u32], reserved: u32) -> u32
     requires reserved { reserved ≤ 2 }
     requires grouping { IsGrouping (length codes.now) lengths.now }
     requires codes { All (IsBelow reserved) codes.now }

@@ -2,6 +2,7 @@
 #![tactic(auto)]
 
 mod coding;
+mod constant;
 mod descriptors;
 mod differencing;
 mod feeding;
@@ -17,6 +18,7 @@ mod representation;
 mod telling;
 #[cfg(test)]
 mod tests;
+mod told_codes;
 mod unpacking;
 mod values;
 mod writing;

@@ -1,6 +1,6 @@
 //! Columns that are packed in groups.
 
-ghost use Rattle.std.specs.Prelude.{◌≡◌, ◌⊎◌, ◌^◌, ◌<◌, All, IfOk, length, nat_abs, false};
+ghost use Rattle.std.specs.Prelude.{◌≡◌, ◌⊎◌, ◌^◌, ◌<◌, All, IfOk, length, replicate, nat_abs, false};
 ghost use Rattle.std.specs.List.{list_any};
 ghost use Rattle.grib_packing.specs.Differences.{descriptors_of, difference_codes};
 ghost use Rattle.grib_packing.specs.Entries.{is_out_of_range};
@@ -8,11 +8,15 @@ ghost use Rattle.grib_packing.specs.Misfits.{ToComplex, ToSpatial, are_differenc
 ghost use Rattle.grib_packing.specs.Packed.{IsComplex, IsSpatial, target_codes};
 ghost use Rattle.grib_spatial.specs.Undoing.{read_with};
 ghost use Rattle.grib_packing.specs.Span.{IsTold};
+ghost use Rattle.grib_complex.specs.Constant.{DifferencesOf};
+ghost use Rattle.grib_complex.specs.FieldCodes.{codes_in};
 ghost use Rattle.grib_simple.specs.Written.{IsPacked, MayBePacked};
 
-use crate::coding::{codes_at_points, management, plain_codes, scaled_numbers};
+use crate::coding::{codes_at_points, common_point, management, scaled_numbers};
+use crate::constant::Constant;
 use crate::differencing::{are_out, descriptor_octets, write_descriptors};
-use crate::grouping::{grouping_of, octets_of_groups};
+use crate::grouping::{FieldCodes, grouping_of, octets_of_groups};
+use crate::told_codes::plainly_told;
 use crate::writing::{
     Differencing, complex_representation, groups_section, spatial_representation,
 };
@@ -33,13 +37,11 @@ pub fn pack_complex(alloc: Global, column: &Column, kind: u8) -> Result<Packed, 
     requires { MayBePacked column.now }
     ensures { IsPacked ToComplex column.now kind result }
 {
-    let points = column.points.as_slice();
-    let management = management(points);
-    let codes = match plain_codes(alloc, points, management) {
-        Ok(codes) => codes,
+    let told = match plainly_told(alloc, column.points.as_slice()) {
+        Ok(told) => told,
         Err(fault) => return Err(fault),
     };
-    let Ok(packed) = pack_plainly(alloc, column, kind, &codes, management) else {
+    let Ok(packed) = pack_plainly(alloc, column, kind, &told.codes, told.management) else {
         return Err(PackFault::Memory);
     };
     Ok(packed)
@@ -54,14 +56,14 @@ fn pack_plainly(
     alloc: Global,
     column: &Column,
     kind: u8,
-    codes: &[Code],
+    codes: &FieldCodes,
     management: u8,
 ) -> Result<Packed, AllocError>
     requires column { MayBePacked column.now }
-    requires codes { codes.now ≡ target_codes ToComplex column.now.points }
-    requires as_long { length codes.now ≡ length column.now.points }
+    requires codes { codes_in codes.now ≡ target_codes ToComplex column.now.points }
+    requires as_long { length (codes_in codes.now) ≡ length column.now.points }
     requires management { management ≡ management_of column.now.points }
-    requires told { All (IsTold management) codes.now }
+    requires told { All (IsTold management) (codes_in codes.now) }
     ensures { IfOk result (λ packed.
         IsComplex column.now kind packed.section5 packed.section6 packed.section7) }
 {
@@ -71,7 +73,7 @@ fn pack_plainly(
     let section6 = room_for(alloc, 6)?;
     let mut section7 = room_for(alloc, octets)?;
     write_head(octets, 7, &mut section7);
-    let values = codes.len() as u32;
+    let values = codes.count();
     Ok(Packed {
         section5: complex_representation(column, values, &grouping.layout, kind, section5),
         section6: no_bitmap(section6),
@@ -97,6 +99,56 @@ pub fn pack_spatial(
     ensures { IsPacked (ToSpatial order) column.now kind result }
 {
     let points = column.points.as_slice();
+    if let Some(point) = common_point(points) {
+        if let Some(told) = Constant::of(alloc, point, points.len() as u32, order) {
+            return pack_constant(alloc, column, kind, point, &told, order);
+        }
+    }
+    pack_each(alloc, column, kind, order)
+}
+
+/// The sections of a column of which all points are the same.
+fn pack_constant(
+    alloc: Global,
+    column: &Column,
+    kind: u8,
+    point: Point,
+    told: &Constant,
+    order: u8,
+) -> Result<Packed, PackFault>
+    requires order { (order ≡ 1) ⊎ (order ≡ 2) }
+    requires column { MayBePacked column.now }
+    requires same { column.now.points ≡ replicate (length column.now.points) point }
+    requires told { DifferencesOf order (replicate (length column.now.points) point)
+        (read_with order told.now.differences) (replicate (length column.now.points) told.now.code) told.now.management }
+    requires first { nat_abs told.now.differences.first < 2 ^ 31 }
+    requires second { nat_abs told.now.differences.second < 2 ^ 31 }
+    requires minimum { nat_abs told.now.differences.minimum < 2 ^ 31 }
+    ensures { IsPacked (ToSpatial order) column.now kind result }
+{
+    let codes = FieldCodes::Same(told.code, column.points.as_slice().len() as u32);
+    let packed = pack_spatially(
+        alloc,
+        column,
+        kind,
+        &codes,
+        &told.differences,
+        order,
+        told.management,
+    );
+    let Ok(packed) = packed else {
+        return Err(PackFault::Memory);
+    };
+    Ok(packed)
+}
+
+/// The sections of any column.
+fn pack_each(alloc: Global, column: &Column, kind: u8, order: u8) -> Result<Packed, PackFault>
+    requires order { (order ≡ 1) ⊎ (order ≡ 2) }
+    requires column { MayBePacked column.now }
+    ensures { IsPacked (ToSpatial order) column.now kind result }
+{
+    let points = column.points.as_slice();
     let management = management(points);
     let Ok(differences) = differences_of(alloc, points, order) else {
         return Err(PackFault::Memory);
@@ -107,6 +159,7 @@ pub fn pack_spatial(
     let Ok(codes) = codes_at_points(alloc, points, differences.codes.as_slice()) else {
         return Err(PackFault::Memory);
     };
+    let codes = FieldCodes::Each(codes);
     let packed = pack_spatially(alloc, column, kind, &codes, &differences, order, management);
     let Ok(packed) = packed else {
         return Err(PackFault::Memory);
@@ -138,17 +191,17 @@ fn pack_spatially(
     alloc: Global,
     column: &Column,
     kind: u8,
-    codes: &[Code],
+    codes: &FieldCodes,
     differences: &Differences,
     order: u8,
     management: u8,
 ) -> Result<Packed, AllocError>
     requires order { (order ≡ 1) ⊎ (order ≡ 2) }
     requires column { MayBePacked column.now }
-    requires codes { codes.now ≡ target_codes (ToSpatial order) column.now.points }
-    requires as_long { length codes.now ≡ length column.now.points }
+    requires codes { codes_in codes.now ≡ target_codes (ToSpatial order) column.now.points }
+    requires as_long { length (codes_in codes.now) ≡ length column.now.points }
     requires management { management ≡ management_of column.now.points }
-    requires told { All (IsTold management) codes.now }
+    requires told { All (IsTold management) (codes_in codes.now) }
     requires differences { read_with order differences.now ≡ descriptors_of order (numbers_in column.now.points) }
     requires first { nat_abs differences.now.first < 2 ^ 31 }
     requires second { nat_abs differences.now.second < 2 ^ 31 }
@@ -166,7 +219,7 @@ fn pack_spatially(
     let mut section7 = room_for(alloc, octets)?;
     write_head(octets, 7, &mut section7);
     write_descriptors(differences, order, size, &mut section7);
-    let values = codes.len() as u32;
+    let values = codes.count();
     let differencing = Differencing { order, size };
     let layout = &grouping.layout;
     Ok(Packed {

@@ -8,11 +8,13 @@ ghost use Rattle.grib2_sections.specs.Encoding.{octets_of, AddsOctets};
 ghost use Rattle.grib_packing.specs.Packed.{HasContents, HasNumbers, group_parts};
 ghost use Rattle.grib_groups.specs.Encoding.{LaysOut};
 ghost use Rattle.grib_simple.specs.Sections.{number_octets};
+ghost use Rattle.grib_complex.specs.FieldCodes.{codes_in};
 ghost use Rattle.grib_complex.specs.Written.{HasLayoutOf, layout_octets};
 
+use crate::grouping::FieldCodes;
 use grib_bits::BitWriter;
-use grib_groups::{Layout, encode_groups};
-use grib_io::{Code, List};
+use grib_groups::{Layout, encode_groups, encode_same};
+use grib_io::List;
 use grib_packing::Column;
 use grib_simple::{octets_written, write_head, write_numbers};
 use grib2_sections::{write_u8, write_u32};
@@ -97,18 +99,34 @@ fn write_layout(layout: &Layout, out: &mut BitWriter)
 /// Section 7 of the groups of these codes, where octets 1 to 5 and the extra descriptors stand in a writer
 /// that has room for the groups.
 pub fn groups_section(
-    codes: &[Code],
+    codes: &FieldCodes,
     lengths: &[u32],
     layout: &Layout,
     mut begun: BitWriter,
 ) -> List<u8>
-    requires lays_out { LaysOut layout.now codes.now lengths.now }
-    requires most { length codes.now ≤ 33554432 }
+    requires lays_out { LaysOut layout.now (codes_in codes.now) lengths.now }
+    requires some { 1 ≤ length (codes_in codes.now) }
+    requires most { length (codes_in codes.now) ≤ 33554432 }
     requires whole { length begun.bits % 8 ≡ 0 }
-    requires room { length (group_parts layout.now.management codes.now lengths.now) ≤ begun.spare }
-    ensures bits { bits_in result ≡ begun.bits ++ group_parts layout.now.management codes.now lengths.now }
+    requires room { length (group_parts layout.now.management (codes_in codes.now) lengths.now) ≤ begun.spare }
+    ensures bits { bits_in result ≡ begun.bits ++ group_parts layout.now.management (codes_in codes.now) lengths.now }
     ensures octets { All (λ octet. octet < 256) result }
 {
-    encode_groups(codes, lengths, layout, &mut begun);
+    put_groups(codes, lengths, layout, &mut begun);
     octets_written(begun)
+}
+
+/// Writes the groups of these codes.
+fn put_groups(codes: &FieldCodes, lengths: &[u32], layout: &Layout, out: &mut BitWriter)
+    requires lays_out { LaysOut layout.now (codes_in codes.now) lengths.now }
+    requires some { 1 ≤ length (codes_in codes.now) }
+    requires most { length (codes_in codes.now) ≤ 33554432 }
+    requires whole { length out.old.bits % 8 ≡ 0 }
+    requires room { length (group_parts layout.now.management (codes_in codes.now) lengths.now) ≤ out.old.spare }
+    ensures { out.new.bits ≡ out.old.bits ++ group_parts layout.now.management (codes_in codes.now) lengths.now }
+{
+    match codes {
+        FieldCodes::Each(codes) => encode_groups(codes, lengths, layout, out),
+        FieldCodes::Same(code, count) => encode_same(*code, *count, lengths, layout, out),
+    }
 }

@@ -13,3 +13,4 @@ pub mod Packable
 pub mod Marks
 pub mod Back
 pub mod Pieces
+pub mod Same

@@ -1,6 +1,6 @@
 //! Groups written.
 
-ghost use Rattle.std.specs.Prelude.{◌≡◌, ◌+◌, ◌-◌, ◌*◌, ◌%◌, ◌^◌, ◌<◌, ◌≤◌, ◌++◌, length, map, All};
+ghost use Rattle.std.specs.Prelude.{◌≡◌, ◌+◌, ◌-◌, ◌*◌, ◌%◌, ◌^◌, ◌<◌, ◌≤◌, ◌++◌, length, map, replicate, All};
 ghost use Rattle.grib_packing.specs.Groupings.{IsGrouping, joined, length_bits, reference_bits_of, runs, width_bits_of, width_of};
 ghost use Rattle.grib_packing.specs.Packed.{fields, group_fields, group_parts, packed_number, padded, reference_of};
 ghost use Rattle.grib_packing.specs.Span.{IsTold, IsBelow};
@@ -34,6 +34,40 @@ pub fn encode_groups(codes: &[Code], lengths: &[u32], layout: &Layout, out: &mut
     put_widths(codes, lengths, reserved, u32::from(layout.width_bits), out);
     put_lengths(lengths, out);
     put_numbers(codes, lengths, reserved, reference_bits, out);
+}
+
+/// Writes so many codes that are all the same as groups of these lengths, as [`encode_groups`] does. Such
+/// groups have one reference, and no packed numbers.
+pub fn encode_same(code: Code, count: u32, lengths: &[u32], layout: &Layout, out: &mut BitWriter)
+    requires management { layout.now.management ≤ 2 }
+    requires references { layout.now.reference_bits ≡ reference_bits_of layout.now.management (replicate count code) }
+    requires lengths { layout.now.length_bits ≡ length_bits }
+    requires some { 1 ≤ count }
+    requires grouping { IsGrouping count lengths.now }
+    requires code { IsTold layout.now.management code }
+    requires whole { length out.old.bits % 8 ≡ 0 }
+    requires room { length (group_parts layout.now.management (replicate count code) lengths.now) ≤ out.old.spare }
+    ensures bits { out.new.bits ≡ out.old.bits ++ group_parts layout.now.management (replicate count code) lengths.now }
+    ensures spare { out.new.spare + length (group_parts layout.now.management (replicate count code) lengths.now) ≡ out.old.spare }
+{
+    let bits = u32::from(layout.reference_bits);
+    put_same(Span::of(&[code]).reference(bits), bits, lengths, out);
+    put_lengths(lengths, out);
+}
+
+/// Writes the same reference for each group.
+fn put_same(reference: u64, bits: u32, lengths: &[u32], out: &mut BitWriter)
+    requires few { bits ≤ 32 }
+    requires fits { reference < 2 ^ bits }
+    requires whole { length out.old.bits % 8 ≡ 0 }
+    requires room { length (padded (fields bits (map (λ l. reference) lengths.now))) ≤ out.old.spare }
+    ensures bits { out.new.bits ≡ out.old.bits ++ padded (fields bits (map (λ l. reference) lengths.now)) }
+    ensures spare { out.new.spare + length (padded (fields bits (map (λ l. reference) lengths.now))) ≡ out.old.spare }
+{
+    for _length in lengths {
+        out.put(reference, bits);
+    }
+    out.align();
 }
 
 /// Writes the reference of each group.

@@ -18,7 +18,7 @@ mod taker;
 mod tests;
 
 pub use decoding::{decode_groups, read_groups, take_codes, take_groups};
-pub use encoding::encode_groups;
+pub use encoding::{encode_groups, encode_same};
 pub use feeding::{Fed, part_of, rest_of};
 pub use grib_packing::{Group, Layout};
 pub use list_feeding::FedLists;

@@ -8,9 +8,12 @@ use Rattle.grib_io.specs.declared.code.Code.{Code}
 use Rattle.grib_io.specs.declared.code.Code.TheVariants.{Present, Primary, Secondary}
 use Rattle.grib_io.specs.Rows.{first_place}
 use Rattle.grib_io.proofs.Places.{NoneOf, first_place-at}
-use Rattle.std.proofs.lemmas.List.Elements.{All-head, All-tail}
+use Rattle.std.proofs.lemmas.List.{append-nil}
+use Rattle.std.proofs.lemmas.List.Elements.{All-head, All-tail, filter_map-append}
+use Rattle.grib_packing.specs.Entries.{present_code}
+use Rattle.grib_packing.specs.declared.span.Span.{Span}
 use Rattle.grib_packing.specs.Packed.{reference_of}
-use Rattle.grib_packing.specs.Span.{IsBelow}
+use Rattle.grib_packing.specs.Span.{IsBelow, IsSpan}
 use Rattle.grib_packing.specs.Groupings.{digits, width_of, greatest, smallest, present_codes, is_present, is_primary, is_secondary}
 
 -- ---- the number of binary digits
@@ -78,6 +81,48 @@ pub smallest_at_most : (xs : List ℕ) → smallest xs ≤ greatest xs
 smallest_at_most [] = omega arith
 smallest_at_most (x ∷ []) = omega arith
 smallest_at_most (x ∷ y ∷ xs) = omega (arith, smallest_at_most (y ∷ xs))
+
+-- ---- a code behind a run spans what it does before it
+
+greatest-behind : (n : ℕ) (xs : List ℕ) → greatest (xs ++ n ∷ []) ≡ greatest (n ∷ xs)
+greatest-behind n [] = refl
+greatest-behind n (x ∷ xs) = omega (arith, greatest-behind n xs)
+
+smallest-behind : (n : ℕ) (xs : List ℕ) → smallest (xs ++ n ∷ []) ≡ smallest (n ∷ xs)
+smallest-behind n [] = refl
+smallest-behind n (x ∷ []) = omega arith
+smallest-behind n (x ∷ y ∷ xs) = omega (arith, smallest-behind n (y ∷ xs))
+
+present_codes-behind : (code : Code) (run : List Code) → present_codes (run ++ code ∷ []) ≡ present_codes run ++ present_codes (code ∷ [])
+present_codes-behind code run = filter_map-append present_code run (code ∷ [])
+
+smallest-code : (code : Code) (run : List Code) → smallest (present_codes (run ++ code ∷ [])) ≡ smallest (present_codes (code ∷ run))
+smallest-code (Present n) run = ap smallest (present_codes-behind (Present n) run) ∙ smallest-behind n (present_codes run)
+smallest-code Primary run = ap smallest (present_codes-behind Primary run ∙ append-nil (present_codes run))
+smallest-code Secondary run = ap smallest (present_codes-behind Secondary run ∙ append-nil (present_codes run))
+
+greatest-code : (code : Code) (run : List Code) → greatest (present_codes (run ++ code ∷ [])) ≡ greatest (present_codes (code ∷ run))
+greatest-code (Present n) run = ap greatest (present_codes-behind (Present n) run) ∙ greatest-behind n (present_codes run)
+greatest-code Primary run = ap greatest (present_codes-behind Primary run ∙ append-nil (present_codes run))
+greatest-code Secondary run = ap greatest (present_codes-behind Secondary run ∙ append-nil (present_codes run))
+
+any-behind : (p : Code → Bool) (code : Code) (run : List Code) → list_any p (run ++ code ∷ []) ≡ list_any p (code ∷ run)
+any-behind p code [] = refl
+any-behind p code (x ∷ run) = ap (λ (b : Bool). p x || b) (any-behind p code run) ∙ swapped (p x) (p code) (list_any p run) where
+  swapped : (a b c : Bool) → (a || (b || c)) ≡ (b || (a || c))
+  swapped true true c = refl
+  swapped true false c = refl
+  swapped false true c = refl
+  swapped false false c = refl
+
+pub span-behind : (span : Span) (code : Code) (run : List Code) → IsSpan span (code ∷ run) → IsSpan span (run ++ code ∷ [])
+span-behind span code run is = record {
+  least = is.least ∙ sym (smallest-code code run);
+  greatest = is.greatest ∙ sym (greatest-code code run);
+  present = is.present ∙ sym (any-behind is_present code run);
+  primary = is.primary ∙ sym (any-behind is_primary code run);
+  secondary = is.secondary ∙ sym (any-behind is_secondary code run);
+}
 
 -- ---- which kinds of codes a run has
 

@@ -42,7 +42,7 @@ impl Span {
     {
         let mut span = Span::none();
         for done in 0..run.len() {
-            span = span.with(run[run.len() - 1 - done]);
+            span = span.with(run[done]);
         }
         span
     }

@@ -1,3 +1,4 @@
+pub mod FewGroups
 pub mod Optimal
 pub mod Following
 pub mod Followed

@@ -1,3 +1,4 @@
+pub mod Fewest
 pub mod Least
 pub mod Runs
 pub mod Costs

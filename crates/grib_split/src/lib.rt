@@ -3,6 +3,7 @@
 
 mod choosing;
 mod chosen;
+mod fewest;
 pub mod laws;
 mod lengths;
 mod slots;
@@ -11,4 +12,5 @@ mod tests;
 
 pub use choosing::{Costs, least_choices};
 pub use chosen::chosen_lengths;
+pub use fewest::fewest_lengths;
 pub use lengths::lengths_of;

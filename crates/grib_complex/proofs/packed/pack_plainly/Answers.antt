@@ -4,12 +4,13 @@ use Rattle.grib_packing.specs.Packed.{HasContents, group_parts}
 use Rattle.grib_packing.proofs.Sections.{head_of}
 use Rattle.grib_groups.specs.Encoding.{LaysOut}
 use Rattle.grib_complex.proofs.Wholly.{contents_whole, grouped_by, is_complex}
+use Rattle.grib_complex.specs.FieldCodes.{codes_in}
 use Rattle.grib_complex.proofs.packed.pack_plainly.Goals as goal
 
 pub returns : goal.returns
 returns c =
     let column = c.args.column.now in
-    let codes = c.args.codes.now in
+    let codes = codes_in c.args.codes.now in
     let k = c.args.management in
     let grouping = c.in_ok-grouping.grouping in
     let layout = grouping.layout in
@@ -29,5 +30,5 @@ returns c =
     let each = c.groups_section.ensures.octets in
     let contents : HasContents 7 c.groups_section.result parts = contents_whole c.groups_section.result 7 octets parts each (omega arith) (omega arith) (omega arith) ended in
     is_complex column c.args.kind k codes c.complex_representation.result c.no_bitmap.result c.groups_section.result c.requires.codes c.requires.management c.complex_representation.ensures.length
-    (grouped_by column c.args.kind 2 k (length codes) codes lengths layout [] c.complex_representation.result c.no_bitmap.result c.groups_section.result c.requires.as_long laid c.in_ok-grouping.ensures.management
+    (grouped_by column c.args.kind 2 k c.count-values.result codes lengths layout [] c.complex_representation.result c.no_bitmap.result c.groups_section.result (c.count-values.ensures ∙ c.requires.as_long) laid c.in_ok-grouping.ensures.management
     c.in_ok-grouping.ensures.chosen c.complex_representation.ensures.numbers c.complex_representation.ensures.layout c.no_bitmap.ensures.section contents)

@@ -9,6 +9,7 @@ use Rattle.grib_groups.specs.Encoding.{LaysOut}
 use Rattle.grib_spatial.specs.Undoing.{read_with}
 use Rattle.grib_complex.proofs.Wholly.{contents_whole, grouped_by}
 use Rattle.grib_complex.proofs.Differing.{length-descriptors, is_spatial}
+use Rattle.grib_complex.specs.FieldCodes.{codes_in}
 use Rattle.grib_complex.proofs.packed.pack_spatially.Goals as goal
 
 few_octets : (order size o s : ℕ) → o ≡ order → s ≡ size → size ≤ 4 → (order ≡ 1) ⊎ (order ≡ 2) → (o + 1) * s ≤ 12
@@ -32,7 +33,7 @@ groups_section-requires-clause-whole c =
 
 pub groups_section-requires-clause-room : goal.groups_section-requires-clause-room
 groups_section-requires-clause-room c =
-    let codes = c.args.codes.now in
+    let codes = codes_in c.args.codes.now in
     let layout = c.in_ok-grouping.grouping.layout in
     let first : c.deref.result.now ≡ c.in_ok-grouping.grouping.lengths.items = c.deref.ensures.value in
     let second : c.deref-2.result.now ≡ c.in_ok-grouping.grouping.lengths.items = c.deref-2.ensures.value in
@@ -43,7 +44,7 @@ groups_section-requires-clause-room c =
 pub returns : goal.returns
 returns c =
     let column = c.args.column.now in
-    let codes = c.args.codes.now in
+    let codes = codes_in c.args.codes.now in
     let k = c.args.management in
     let grouping = c.in_ok-grouping.grouping in
     let layout = grouping.layout in
@@ -73,5 +74,5 @@ returns c =
     contents_whole c.groups_section.result 7 octets (fields ++ parts) each (omega arith) (omega arith) (omega arith) ended in
     is_spatial c.args.order column c.args.kind k codes d c.spatial_representation.result c.no_bitmap.result c.groups_section.result c.requires.codes c.requires.management c.requires.differences
     c.spatial_representation.ensures.length c.spatial_representation.ensures.order (c.spatial_representation.ensures.size ∙ is_size)
-    (grouped_by column c.args.kind 3 k (length codes) codes lengths layout fields c.spatial_representation.result c.no_bitmap.result c.groups_section.result c.requires.as_long laid c.in_ok-grouping.ensures.management
+    (grouped_by column c.args.kind 3 k c.count-values.result codes lengths layout fields c.spatial_representation.result c.no_bitmap.result c.groups_section.result (c.count-values.ensures ∙ c.requires.as_long) laid c.in_ok-grouping.ensures.management
     c.in_ok-grouping.ensures.chosen c.spatial_representation.ensures.numbers c.spatial_representation.ensures.layout c.no_bitmap.ensures.section contents)

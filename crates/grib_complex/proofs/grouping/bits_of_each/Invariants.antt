@@ -2,7 +2,7 @@ use Rattle.std.proofs.Common.{◌≡◌, ℕ, ◌+◌, ◌*◌, ◌≤◌, lengt
 use Rattle.grib_packing.specs.Groupings.{IsGrouping, joined, runs}
 use Rattle.grib_packing.specs.Packed.{group_fields}
 use Rattle.grib_packing.specs.Span.{IsBelow}
-use Rattle.grib_complex.proofs.grouping.bits_of_groups.Given as goal
+use Rattle.grib_complex.proofs.grouping.bits_of_each.Given as goal
 
 abbrev pub invariant-loop-length : goal.invariant-loop-length
 invariant-loop-length l = record {

@@ -7,7 +7,7 @@ use Rattle.grib_packing.specs.Packed.{target_codes, placed_codes}
 use Rattle.grib_packing.specs.Span.{IsTold}
 use Rattle.grib_complex.proofs.CodeByCode.{length-placed}
 use Rattle.grib_complex.proofs.Differing.{length-codes, spatial_told}
-use Rattle.grib_complex.proofs.packed.pack_spatial.Goals as goal
+use Rattle.grib_complex.proofs.packed.pack_each.Goals as goal
 
 pub codes_at_points-requires : goal.codes_at_points-requires
 codes_at_points-requires c =
@@ -15,10 +15,10 @@ codes_at_points-requires c =
     ap length (c.as_slice.ensures ∙ c.in-Ok.ensures.codes) ∙ length-codes c.args.order (scaled_numbers points)
 
 -- the codes of the points
-codes_are : (c : goal.After-differences-3-1) → c.deref.result.now ≡ target_codes (ToSpatial c.args.order) c.as_slice-points.result.now
+codes_are : (c : goal.After-differences-3-1) → c.in-Ok-codes_at_points.codes.items ≡ target_codes (ToSpatial c.args.order) c.as_slice-points.result.now
 codes_are c =
     let points = c.as_slice-points.result.now in
-    c.deref.ensures.value ∙ c.in-Ok-codes_at_points.ensures ∙ ap (placed_codes points) (c.as_slice.ensures ∙ c.in-Ok.ensures.codes)
+    c.in-Ok-codes_at_points.ensures ∙ ap (placed_codes points) (c.as_slice.ensures ∙ c.in-Ok.ensures.codes)
 
 pub pack_spatially-packed-requires-clause-as_long : goal.pack_spatially-packed-requires-clause-as_long
 pack_spatially-packed-requires-clause-as_long c =

@@ -1,0 +1,91 @@
+//! A column of one value, or of missing points alone, by differences.
+
+ghost use Rattle.std.specs.Prelude.{◌≡◌, ◌⊎◌, ℕ, ◌^◌, ◌-◌, ◌<◌, ◌≤◌, IfSome, replicate, get_or, cond, ◌==◌, nat_abs, pos, false};
+ghost use Rattle.grib_packing.specs.Misfits.{is_outside as is_outside_of};
+ghost use Rattle.grib_spatial.specs.Undoing.{read_with};
+ghost use Rattle.grib_complex.specs.Constant.{DifferencesOf};
+
+use crate::coding::is_outside;
+use crate::differencing::MOST;
+use grib_io::{Code, List};
+use grib_packing::Point;
+use grib_spatial::Differences;
+use std::alloc::Global;
+
+/// What tells a column of which all points are the same: the differences, the code of each point, and the
+/// missing value management.
+#[derive(Debug, Drop)]
+pub struct Constant {
+    pub differences: Differences,
+    pub code: Code,
+    pub management: u8,
+}
+
+impl Constant {
+    /// That of so many of this point, unless its number has no place as a first value.
+    pub fn of(alloc: Global, point: Point, count: u32, order: u8) -> Option<Constant>
+        requires some { 1 ≤ count }
+        requires order { (order ≡ 1) ⊎ (order ≡ 2) }
+        ensures told { IfSome result (λ told. DifferencesOf order (replicate count point)
+            (read_with order told.differences) (replicate count told.code) told.management) }
+        ensures first { IfSome result (λ told. nat_abs told.differences.first < 2 ^ 31) }
+        ensures second { IfSome result (λ told. nat_abs told.differences.second < 2 ^ 31) }
+        ensures minimum { IfSome result (λ told. nat_abs told.differences.minimum < 2 ^ 31) }
+    {
+        match point {
+            Point::Scaled(x) => Constant::of_number(alloc, x, count, order),
+            Point::Missing => Some(Constant {
+                differences: same_differences(alloc, 0, 0),
+                code: Code::Primary,
+                management: 1,
+            }),
+            Point::Missing2 => Some(Constant {
+                differences: same_differences(alloc, 0, 0),
+                code: Code::Secondary,
+                management: 2,
+            }),
+        }
+    }
+
+    /// That of so many points with this number.
+    fn of_number(alloc: Global, x: i64, count: u32, order: u8) -> Option<Constant>
+        requires some { 1 ≤ count }
+        requires order { (order ≡ 1) ⊎ (order ≡ 2) }
+        ensures told { IfSome result (λ told. DifferencesOf order (replicate count (Point.Scaled x))
+            (read_with order told.differences) (replicate count told.code) told.management) }
+        ensures first { IfSome result (λ told. nat_abs told.differences.first < 2 ^ 31) }
+        ensures second { IfSome result (λ told. nat_abs told.differences.second < 2 ^ 31) }
+        ensures minimum { IfSome result (λ told. nat_abs told.differences.minimum < 2 ^ 31) }
+    {
+        if is_outside(x, MOST) {
+            return None;
+        }
+        Some(Constant {
+            differences: same_differences(alloc, x, second_of(x, count, order)),
+            code: Code::Present(0),
+            management: 0,
+        })
+    }
+}
+
+/// The differences of numbers that are the same, with these first values. There are no codes.
+fn same_differences(alloc: Global, first: i64, second: i64) -> Differences
+    ensures first { result.first ≡ first }
+    ensures second { result.second ≡ second }
+    ensures minimum { result.minimum ≡ pos 0 }
+{
+    Differences {
+        first,
+        second,
+        minimum: 0,
+        codes: List::of(Vec::new(alloc)),
+    }
+}
+
+/// The second first value where so many numbers are the same.
+fn second_of(x: i64, count: u32, order: u8) -> i64
+    ensures is { result ≡ cond (order == 1) (pos 0) (get_or (replicate count x) 1 (pos 0)) }
+    ensures small { nat_abs x < 2 ^ 31 → nat_abs result < 2 ^ 31 }
+{
+    if order != 1 && count > 1 { x } else { 0 }
+}
