@@ -1,23 +1,20 @@
 -- The sections that are left of an accepted message, from where a walk over it stands.
-use Rattle.std.proofs.Common.{◌≡◌, ◌≢◌, ℕ, zero, suc, ◌+◌, ◌-◌, ◌*◌, ◌≤◌, ◌<◌, ◌^◌, Bool, true, false, cond, None, List, [], ◌∷◌, ◌++◌, All, length, drop, ◌==◌, inl, inr, refl, sym, ap, ap₂, ◌∙◌, arith, subst, append_assoc, append-nil, length-append}
-use Rattle.std.specs.List.{concat, count_by}
+use Rattle.std.proofs.Common.{◌≡◌, ℕ, ◌+◌, ◌*◌, ◌≤◌, ◌<◌, ◌^◌, Bool, true, false, cond, None, List, [], ◌∷◌, ◌++◌, All, length, drop, ◌==◌, inl, inr, refl, sym, ap, ◌∙◌, arith, subst, append_assoc, append-nil, length-append}
+use Rattle.std.specs.List.{concat}
 use Rattle.std.proofs.lemmas.List.Elements.{All-drop}
 use Rattle.grib_bits.specs.Octets.{StatesItself}
 use Rattle.grib_io.specs.declared.fault.Fault.{Fault}
 use Rattle.grib_io.specs.Rows.{first_fault}
-use Rattle.grib2_sections.specs.Verdict.{Accepted}
-use Rattle.grib2_sections.specs.Head.{total_length, head_rows}
+use Rattle.grib2_sections.specs.Head.{head_rows}
 use Rattle.grib2_sections.specs.Frame.{Placed, placed_at, Position, position_after, section_at, section_number, ends_at, mark_rows, frame_rows, End, Fails, Next, step_from}
 use Rattle.grib_simple.specs.declared.written.Packed.{Packed}
-use Rattle.grib2_message.specs.View.{is_numbered}
 use Rattle.grib2_message.specs.Acceptance.{section_fault, verdict_from}
-use Rattle.grib2_message.specs.Fields.{sections_from, sections_of, field_count}
+use Rattle.grib2_message.specs.Fields.{sections_from, sections_of}
 use Rattle.grib2_message.specs.Message.{IsMessage}
 use Rattle.grib2_message.specs.Assembled.{in_place, replaced, assembled_body, assembled, IsShort}
 use Rattle.grib2_message.proofs.Parted.{message_states, message_least}
 use Rattle.grib2_message.proofs.PutTogether.{assembled_long}
 use Rattle.grib2_message.proofs.Passed.{unless_tells}
-use Rattle.grib2_message.proofs.Sound.{count_same, count_other}
 use Rattle.grib2_message.proofs.Steps.{step_tells}
 use Rattle.grib2_message.proofs.Ways.{OnWay, way_start, way_next, way_fails, given, tells_end, no_sections}
 

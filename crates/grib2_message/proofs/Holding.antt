@@ -1,10 +1,10 @@
 -- What each field of an accepted message holds: its sections pass their rows, and its mask has a bit for each
 -- point.
-use Rattle.std.proofs.Common.{◌≡◌, ◌≢◌, ℕ, zero, suc, ◌+◌, ◌-◌, ◌*◌, ◌≤◌, ◌<◌, Bool, true, false, not, cond, ◌&&◌, Option, None, List, [], ◌∷◌, length, take, drop, replicate, get_or, ◌==◌, unwrap_or, inl, inr, refl, sym, ap, ◌∙◌, arith, subst, eq-eqb, eqb-true, add-one}
+use Rattle.std.proofs.Common.{◌≡◌, ℕ, zero, suc, ◌+◌, ◌-◌, ◌≤◌, ◌<◌, Bool, true, false, not, cond, ◌&&◌, Option, None, List, [], ◌∷◌, length, take, drop, replicate, ◌==◌, unwrap_or, inl, inr, sym, ap, ◌∙◌, arith, subst, eq-eqb, eqb-true}
 use Rattle.std.specs.List.{count_by}
 use Rattle.std.proofs.lemmas.Bool.{not-false, cases_eq}
 use Rattle.grib_bits.specs.Bits.{digit}
-use Rattle.grib_bits.specs.Octets.{num_on, octets, octet_list}
+use Rattle.grib_bits.specs.Octets.{num_on, octets}
 use Rattle.grib_bits.proofs.OctetBits.{AreOctets}
 use Rattle.grib_bits.proofs.OctetNumbers.{AreOctets-drop, AreOctets-octet_list}
 use Rattle.grib_io.specs.Rows.{first_fault, choose}
@@ -12,7 +12,7 @@ use Rattle.grib_bitmap.specs.Mask.{bitmap_indicator, bitmap_rows, mask_of, own_m
 use Rattle.grib_packing.specs.Packing.{value_count}
 use Rattle.grib2_grids.specs.Grid.{grid_points}
 use Rattle.grib2_sections.specs.Frame.{Placed, placed_at, section_at, section_number, ends_at}
-use Rattle.grib2_message.specs.View.{is_numbered, last_number, octets_in_force, points_in_force, earlier_mask, mask_in_force}
+use Rattle.grib2_message.specs.View.{is_numbered, last_number, octets_in_force, points_in_force, earlier_mask}
 use Rattle.grib2_message.specs.Fields.{sections_from, sections_of, sections_up_to_field, field_sections, field_count, field_mask, part_octets}
 use Rattle.grib2_message.specs.Grammar.{AreSections}
 use Rattle.grib2_message.specs.Kept.{AreSound}
@@ -20,7 +20,7 @@ use Rattle.grib2_message.specs.Message.{IsMessage, FieldPasses}
 use Rattle.grib2_message.proofs.InForce.{octets_same, octets_other}
 use Rattle.grib2_message.proofs.Masks.{long_alone}
 use Rattle.grib2_message.proofs.Order.{follows_tells}
-use Rattle.grib2_message.proofs.Parted.{Parted, message_parted}
+use Rattle.grib2_message.proofs.Parted.{message_parted}
 use Rattle.grib2_message.proofs.Passed.{passes_from_none}
 use Rattle.grib2_message.proofs.Placing.{placed_from}
 use Rattle.grib2_message.proofs.Replaced.{left, left_7, left_other}

@@ -1,7 +1,6 @@
 pub mod After
 pub mod Ahead
 pub mod Along
-pub mod PutTogether
 pub mod Bitmaps
 pub mod Checked
 pub mod Fronts
@@ -13,8 +12,9 @@ pub mod Order
 pub mod Parted
 pub mod Parts
 pub mod Passed
-pub mod Replaced
 pub mod Placing
+pub mod PutTogether
+pub mod Replaced
 pub mod Shorter
 pub mod Sound
 pub mod Stays

@@ -1,16 +1,15 @@
 -- An accepted message is Section 0, its sections, each where the grammar lets it stand, and the end mark.
-use Rattle.std.proofs.Common.{◌≡◌, ◌≢◌, ℕ, zero, suc, ◌+◌, ◌-◌, ◌≤◌, ◌<◌, true, false, None, List, [], ◌∷◌, ◌++◌, length, take, inl, inr, refl, sym, ap, ◌∙◌, arith, append_assoc, length-append, take_at}
+use Rattle.std.proofs.Common.{◌≡◌, ◌≢◌, ℕ, zero, suc, ◌+◌, ◌≤◌, false, List, [], ◌∷◌, ◌++◌, length, take, inl, inr, sym, ap, ◌∙◌, arith, append_assoc, length-append, take_at}
 use Rattle.std.proofs.lemmas.List.{take-append-le}
 use Rattle.std.specs.List.{concat}
-use Rattle.grib_bits.specs.Octets.{octets}
 use Rattle.grib_io.specs.Rows.{first_fault}
 use Rattle.grib2_sections.specs.Verdict.{Accepted}
 use Rattle.grib2_sections.specs.Head.{indicator, end_mark, edition, total_length, head_rows}
-use Rattle.grib2_sections.specs.Frame.{Placed, placed_at, section_at, ends_at}
+use Rattle.grib2_sections.specs.Frame.{Placed, section_at, ends_at}
 use Rattle.grib2_message.specs.View.{last_number}
-use Rattle.grib2_message.specs.Acceptance.{verdict_2, verdict_from}
+use Rattle.grib2_message.specs.Acceptance.{verdict_from}
 use Rattle.grib2_message.specs.Grammar.{AreSections, Grammar2}
-use Rattle.grib2_message.specs.Fields.{sections_from, sections_of}
+use Rattle.grib2_message.specs.Fields.{sections_from}
 use Rattle.grib2_message.specs.Message.{IsMessage}
 use Rattle.grib2_message.proofs.Passed.{passes_from_none, unless_tells}
 use Rattle.grib2_message.proofs.Steps.{here, step_tells}

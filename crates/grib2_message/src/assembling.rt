@@ -13,7 +13,8 @@ use grib_simple::Packed;
 use grib2_sections::Frame;
 use std::alloc::{AllocError, Global};
 
-/// The number of octets of this message with other Sections 5, 6 and 7, one part for each field.
+/// The number of octets of this message with the Sections 5, 6 and 7 of these parts, one for each field. It
+/// takes no memory.
 pub(crate) fn assembled_length(octets: &[u8], packed: &[Packed]) -> u64
     requires message { IsMessage octets.now }
     requires short { All IsShort packed.now }
@@ -29,7 +30,7 @@ pub(crate) fn assembled_length(octets: &[u8], packed: &[Packed]) -> u64
     total
 }
 
-/// That message, of `total` octets.
+/// That message, which has `total` octets.
 pub(crate) fn put_together(
     alloc: Global,
     octets: &[u8],

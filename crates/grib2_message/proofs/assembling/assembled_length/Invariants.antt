@@ -1,4 +1,4 @@
-use Rattle.std.proofs.Common.{ℕ, ◌-◌}
+use Rattle.std.proofs.Common.{◌-◌}
 use Rattle.grib2_message.proofs.Ahead.{Counting}
 use Rattle.grib2_message.proofs.assembling.assembled_length.Given as goal
 

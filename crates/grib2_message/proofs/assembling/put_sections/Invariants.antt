@@ -1,4 +1,4 @@
-use Rattle.std.proofs.Common.{ℕ, ◌-◌}
+use Rattle.std.proofs.Common.{◌-◌}
 use Rattle.grib2_message.proofs.Ahead.{Copying}
 use Rattle.grib2_message.proofs.assembling.put_sections.Given as goal
 
