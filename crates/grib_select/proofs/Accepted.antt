@@ -1,115 +1,21 @@
 -- The sections of an accepted message, up to the end of a field.
-use Rattle.std.proofs.Common.{◌≡◌, ◌≢◌, ℕ, zero, suc, ◌+◌, ◌-◌, ◌≤◌, Bool, true, false, cond, ◌&&◌, ◌==◌, ◌⊎◌, Option, Some, None, IsSome, is_some, List, [], ◌∷◌, ◌++◌, length, inl, inr, refl, sym, ap, ap₂, ◌∙◌, arith, subst, add-one, zero-add, eq-eqb, eqb-true, ne_eqb, length-append}
+use Rattle.std.proofs.Common.{◌≡◌, ◌≢◌, ℕ, zero, suc, ◌+◌, ◌-◌, ◌≤◌, Bool, true, false, cond, ◌==◌, ◌⊎◌, Option, Some, None, IsSome, List, [], ◌∷◌, ◌++◌, length, inl, inr, refl, sym, ap, ◌∙◌, arith, subst, zero-add, eq-eqb, eqb-true, ne_eqb, length-append}
 use Rattle.std.specs.List.{concat, count_by}
 use Rattle.std.specs.Option.{option_map_or}
 use Rattle.std.proofs.lemmas.Bool.{cases_eq}
 use Rattle.std.proofs.lemmas.List.Sums.{sum_by-cons}
-use Rattle.grib_bits.specs.Bits.{digit}
-use Rattle.grib_bits.specs.Octets.{octets, StatesItself}
-use Rattle.grib_io.specs.Rows.{first_fault, choose}
-use Rattle.grib2_sections.specs.Verdict.{Accepted}
-use Rattle.grib2_sections.specs.Head.{edition, total_length, head_rows}
-use Rattle.grib2_sections.specs.Frame.{Placed, placed_at, section_at, section_number, ends_at, mark_rows, frame_rows}
+use Rattle.grib_bits.specs.Octets.{StatesItself}
+use Rattle.grib2_sections.specs.Frame.{Placed, placed_at, section_number}
 use Rattle.grib2_message.specs.View.{is_numbered, last_number, section_in_force, octets_in_force}
-use Rattle.grib2_message.specs.Acceptance.{section_fault, verdict_from, verdict_2}
 use Rattle.grib2_message.specs.Grammar.{IsSection, AreSections}
-use Rattle.grib2_message.specs.Fields.{sections_from, sections_of, field_count, sections_up_to_field, field_sections}
+use Rattle.grib2_message.specs.Fields.{field_count, sections_up_to_field, field_sections}
 use Rattle.grib2_message.specs.Message.{IsMessage}
 use Rattle.grib2_message.specs.Kept.{AreSound}
-use Rattle.grib2_message.proofs.Passed.{passes_from_none, unless_tells}
-use Rattle.grib2_message.proofs.Walk.{mark_passes, frame_passes, stands}
-use Rattle.grib2_message.proofs.Steps.{here, step_tells}
-use Rattle.grib2_message.proofs.Whole.{HeadPasses, head_passes}
-use Rattle.grib2_message.proofs.Fronts.{accepted_states}
-use Rattle.grib2_message.proofs.Placing.{placed_from}
 use Rattle.grib2_message.proofs.Order.{follows_tells}
+use Rattle.grib2_message.proofs.Parted.{message_parted, message_states}
+use Rattle.grib2_message.proofs.Placing.{placed_from}
 use Rattle.grib2_message.proofs.Sound.{sound_none, sound_after}
-
--- ---- the sections of a message
-
--- sections that may stand from octet q on are found there, and the end mark comes after them
-pub record Sectioned (turns : ℕ) (m : List ℕ) (before : List Placed) (q total : ℕ) : Type 0 where
-  pub sections : List (List ℕ)
-  pub follow : AreSections before q sections
-  pub found : sections_from turns m q ≡ placed_from q sections
-  pub ends : q + length (concat sections) + 3 ≡ total
-
-no_more : (turns : ℕ) (m : List ℕ) (q : ℕ) → ends_at m q ≡ true → sections_from turns m q ≡ []
-no_more zero m q ends = refl
-no_more (suc turns) m q ends =
-    ap (λ (b : Bool). choose b (λ _. []) (λ _. placed_at q (section_at m q) ∷ sections_from turns m (q + length (section_at m q)))) ends
-
-one_more : (turns : ℕ) (m : List ℕ) (q : ℕ) → ends_at m q ≡ false
-    → sections_from (suc turns) m q ≡ placed_at q (section_at m q) ∷ sections_from turns m (q + length (section_at m q))
-one_more turns m q goes =
-    ap (λ (b : Bool). choose b (λ _. []) (λ _. placed_at q (section_at m q) ∷ sections_from turns m (q + length (section_at m q)))) goes
-
--- the section there, before those that were found after it
-found_more : (turns : ℕ) (m : List ℕ) (before : List Placed) (q total : ℕ) → ends_at m q ≡ false → IsSection before q (section_at m q)
-    → Sectioned turns m (here m q ∷ before) (q + length (section_at m q)) total → Sectioned (suc turns) m before q total
-found_more turns m before q total goes is more = record {
-  sections = section_at m q ∷ more.sections;
-  follow = (is, more.follow);
-  found = one_more turns m q goes ∙ ap (λ xs. placed_at q (section_at m q) ∷ xs) more.found;
-  ends = omega (arith, more.ends, length-append (section_at m q) (concat more.sections));
-}
-
-pub sectioned : (turns : ℕ) (m : List ℕ) (before : List Placed) (q total : ℕ) → 1 ≤ q → q + 3 ≤ total_length m
-    → verdict_from (suc turns) m before q ≡ Accepted total → Sectioned turns m before q total
-sectioned zero m before q total low room e =
-    let told = step_tells zero m before q total e in
-    let mark = mark_passes m (total_length m) (last_number before) q told.0 in
-    elim told.1 [
-      | inl ended ↦ record {
-        sections = [];
-        follow = mark.may_end ended.ends;
-        found = refl;
-        ends = (let last = mark.at_end ended.ends in omega (arith, ended.states));
-      }
-      | inr went ↦ (let refused = went.next in absurd (cc))
-    ]
-sectioned (suc turns) m before q total low room e =
-    let told = step_tells (suc turns) m before q total e in
-    let mark = mark_passes m (total_length m) (last_number before) q told.0 in
-    elim told.1 [
-      | inl ended ↦ record {
-        sections = [];
-        follow = mark.may_end ended.ends;
-        found = no_more (suc turns) m q ended.ends;
-        ends = (let last = mark.at_end ended.ends in omega (arith, ended.states));
-      }
-      | inr went ↦
-          let frame = frame_passes m (total_length m) (last_number before) q went.frame in
-          let s = stands m before q (total_length m) low frame went.contents in
-          found_more turns m before q total went.goes s.is_section
-          (sectioned turns m (here m q ∷ before) (q + length (section_at m q)) total (omega arith)
-          (omega (arith, s.as_long, frame.room, low)) went.next)
-    ]
-
--- what is known of an accepted message
-pub record Whole (m : List ℕ) : Type 0 where
-  pub head : HeadPasses m
-  pub states : total_length m ≡ length m
-  pub sections : List (List ℕ)
-  pub follow : AreSections [] 17 sections
-  pub found : sections_of m ≡ placed_from 17 sections
-  pub ends : 20 + length (concat sections) ≡ length m
-
-pub whole : (m : List ℕ) → IsMessage m → Whole m
-whole m h =
-    let other : edition m ≢ 1 = λ first. absurd (omega (arith, h.edition_stands)) in
-    let told = unless_tells (first_fault (head_rows m)) (λ _. verdict_from (length m + 1) m [] 17) (length m) h.accepted in
-    let head = head_passes m other (passes_from_none (head_rows m) told.0) in
-    let walk : verdict_from (suc (length m)) m [] 17 ≡ Accepted (length m) = ap (λ (t : ℕ). verdict_from t m [] 17) (sym (add-one (length m))) ∙ told.1 in
-    let f = sectioned (length m) m [] 17 (length m) (omega arith) (omega (arith, head.least)) walk in
-    record {
-      head = head;
-      states = accepted_states m (length m) other h.accepted;
-      sections = f.sections;
-      follow = f.follow;
-      found = f.found;
-      ends = omega (arith, f.ends);
-    }
+use Rattle.grib2_message.proofs.Ways.{up_here, up_more, up_other}
 
 -- ---- sections that were accepted, the newest first
 
@@ -129,28 +35,6 @@ sound_of (s ∷ before) h =
     sound_after s before (sound_of before h.1) (follows_tells (last_number before) (section_number s.octets) h.0.follows) h.0.rows_hold
 
 -- ---- up to the end of a field
-
-up_to : (ends one : Bool) (k : ℕ) (p : Placed) (before rest : List Placed) → List Placed
-up_to ends one k p before rest = cond (ends && one) (p ∷ before) (sections_up_to_field k (p ∷ before) rest)
-
-pub up_here : (p : Placed) (before rest : List Placed) → section_number p.octets ≡ 7 → sections_up_to_field 1 before (p ∷ rest) ≡ p ∷ before
-unfolding up_to
-up_here p before rest seven = ap (λ (b : Bool). up_to b true (1 - digit b) p before rest) (eq-eqb (section_number p.octets) 7 seven)
-
-pub up_more : (p : Placed) (before rest : List Placed) (i : ℕ) → section_number p.octets ≡ 7
-    → sections_up_to_field (suc (suc i)) before (p ∷ rest) ≡ sections_up_to_field (suc i) (p ∷ before) rest
-unfolding up_to
-up_more p before rest i seven =
-    ap₂ (λ (b one : Bool). up_to b one (suc (suc i) - digit b) p before rest)
-    (eq-eqb (section_number p.octets) 7 seven) (ne_eqb (suc (suc i)) 1 (λ same. absurd (omega arith)))
-    ∙ ap (λ (k : ℕ). sections_up_to_field k (p ∷ before) rest) (let e : suc (suc i) - 1 ≡ suc i = omega arith in e)
-
-pub up_other : (p : Placed) (before rest : List Placed) (i : ℕ) → section_number p.octets ≢ 7
-    → sections_up_to_field (suc i) before (p ∷ rest) ≡ sections_up_to_field (suc i) (p ∷ before) rest
-unfolding up_to
-up_other p before rest i other =
-    ap (λ (b : Bool). up_to b (suc i == 1) (suc i - digit b) p before rest) (ne_eqb (section_number p.octets) 7 other)
-    ∙ ap (λ (k : ℕ). sections_up_to_field k (p ∷ before) rest) (let e : suc i - 0 ≡ suc i = omega arith in e)
 
 pub count_7 : (p : Placed) (rest : List Placed) → section_number p.octets ≡ 7 → count_by (is_numbered 7) (p ∷ rest) ≡ 1 + count_by (is_numbered 7) rest
 count_7 p rest seven =
@@ -212,11 +96,11 @@ up_to_field (s ∷ sections) (suc i) q before follow accepted some =
 pub field_up_to : (m : List ℕ) (i : ℕ) → IsMessage m → 1 ≤ i → i ≤ field_count m → UpTo (field_sections m i) (length m - 20)
 field_up_to m zero h low high = absurd (omega arith)
 field_up_to m (suc i) h low high =
-    let w = whole m h in
-    let count : suc i ≤ count_by (is_numbered 7) (placed_from 17 w.sections) = subst (λ xs. suc i ≤ count_by (is_numbered 7) xs) w.found high in
-    let up = up_to_field w.sections i 17 [] w.follow tt count in
-    subst (λ xs. UpTo (sections_up_to_field (suc i) [] xs) (length m - 20)) (sym w.found)
-    (record { accepted = up.accepted; ends = up.ends; short = omega (arith, up.short, w.ends) })
+    let p = message_parted m h in
+    let count : suc i ≤ count_by (is_numbered 7) (placed_from 17 p.sections) = subst (λ xs. suc i ≤ count_by (is_numbered 7) xs) p.found high in
+    let up = up_to_field p.sections i 17 [] p.follow tt count in
+    subst (λ xs. UpTo (sections_up_to_field (suc i) [] xs) (length m - 20)) (sym p.found)
+    (record { accepted = up.accepted; ends = up.ends; short = omega (arith, up.short, p.ends, message_states m h) })
 
 -- ---- a section in force
 

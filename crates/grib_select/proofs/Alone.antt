@@ -19,8 +19,11 @@ use Rattle.grib2_message.proofs.InForce.{octets_same, octets_other, own_alone, o
 use Rattle.grib2_message.proofs.Sound.{bitmap_own, bitmap_kept, bitmap_not_own, count_other}
 use Rattle.grib2_message.proofs.Whole.{sections_alone}
 use Rattle.grib_select.specs.Single.{first_parts, single_of}
-use Rattle.grib_select.proofs.Accepted.{AreAccepted, octets_of_all, sound_of, UpTo, field_up_to, Whole, whole, part_itself, local_itself, up_other, count_none}
-use Rattle.grib_select.proofs.Composed.{IsHead, joined_message, in_grammar, message_in_grammar, renewed}
+use Rattle.grib_select.proofs.Accepted.{AreAccepted, octets_of_all, sound_of, UpTo, field_up_to, part_itself, local_itself, count_none}
+use Rattle.grib2_message.proofs.Ways.{up_other}
+use Rattle.grib2_message.proofs.Parted.{IsHead, joined_grammar, message_least}
+use Rattle.grib2_message.proofs.PutTogether.{head_of}
+use Rattle.grib_select.proofs.Composed.{message_in_grammar, message_most}
 use Rattle.grib_select.proofs.Cut.{StandsAlone, stands_alone, stands_here, Parts, all_parts, five_all, seven_all, mask_all, parts_follow, up_to_end, one_end}
 
 -- ---- how long the sections of a field are together
@@ -211,10 +214,10 @@ module _ (m : List ℕ) (i : ℕ) (h : IsMessage m) (low : 1 ≤ i) (high : i �
   ]
 
   -- how long it is
-  short : 20 + length (first_parts m i 7) ≤ length m
+  short : 16 + length (first_parts m i 7) + 4 ≤ length m
   short =
       let xs = field_sections m i in
-      let w = whole m h in
+      let least = message_least m h in
       let p1 = part_octets m i 1 in
       let p2 = part_octets m i 2 in
       let p3 = part_octets m i 3 in
@@ -231,20 +234,19 @@ module _ (m : List ℕ) (i : ℕ) (h : IsMessage m) (low : 1 ≤ i) (high : i �
       let e1 = length-append p1 (p2 ++ (p3 ++ (p4 ++ (p5 ++ (p6 ++ (p7 ++ [])))))) in
       let own = short_own xs in
       let all = up.short in
-      omega (arith, w.ends)
+      omega arith
 
   grammar : (c : SomeCut) → Grammar2 (single_of m i) c.sections
   grammar c =
-      let w = whole m h in
-      let n = 20 + length (first_parts m i 7) in
-      let same : n ≡ 20 + length (concat c.sections) = ap (λ (xs : List ℕ). 20 + length xs) c.cut.body in
+      let n = 16 + length (first_parts m i 7) + 4 in
+      let same : n ≡ 16 + length (concat c.sections) + 4 = ap (λ (xs : List ℕ). 16 + length xs + 4) c.cut.body in
+      let few : n ≤ 268435456 = omega (arith, short, message_most m h) in
       let head_octets : List ℕ = take 8 m ++ octets_of 8 n in
-      let head = renewed m n h.indicated h.edition_stands (omega (arith, w.head.there)) (omega (arith, short, w.states, w.head.most)) in
-      let is : single_of m i ≡ joined_message head_octets c.sections =
+      let is : single_of m i ≡ head_octets ++ (concat c.sections ++ end_mark) =
       sym (append_assoc (take 8 m) (octets_of 8 n) (first_parts m i 7 ++ end_mark))
       ∙ ap (λ (xs : List ℕ). head_octets ++ (xs ++ end_mark)) c.cut.body in
       subst (λ (x : List ℕ). Grammar2 x c.sections) (sym is)
-      (in_grammar head_octets c.sections (subst (λ (x : ℕ). IsHead head_octets x) same head) c.cut.follow (omega (arith, short, same, w.states, w.head.most)))
+      (joined_grammar head_octets c.sections (subst (λ (x : ℕ). IsHead head_octets x) same (head_of m n h few)) (omega (arith, few, same)) c.cut.follow)
 
   pub single_accepted : IsMessage (single_of m i)
   single_accepted = message_in_grammar (single_of m i) some_cut.sections (grammar some_cut)

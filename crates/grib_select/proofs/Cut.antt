@@ -20,7 +20,8 @@ use Rattle.grib2_message.proofs.InForce.{octets_same, octets_other, own_alone, o
 use Rattle.grib2_message.proofs.Bitmaps.{mask_alone, rows_alone, mask_from_own, own_tells}
 use Rattle.grib2_message.proofs.Sound.{none_located, fault_of, earlier_kept, earlier_not_own, bitmap_own, bitmap_kept, bitmap_not_own, mask_here, mask_kept, points_kept, count_other}
 use Rattle.grib2_message.proofs.Placing.{placed_from}
-use Rattle.grib_select.proofs.Accepted.{AreAccepted, sound_of, part_itself, up_here, up_other, count_7, count_none}
+use Rattle.grib2_message.proofs.Ways.{up_here, up_other}
+use Rattle.grib_select.proofs.Accepted.{AreAccepted, sound_of, part_itself, count_7, count_none}
 
 -- ---- the bitmap with the bits of a field
 

@@ -80,12 +80,12 @@ product_11 key = refl
 
 -- ---- the templates of the profile
 
-or_parts_true : (a b : Bool) → (a || b) ≡ true → (a ≡ true) ⊎ (b ≡ true)
+pub or_parts_true : (a b : Bool) → (a || b) ≡ true → (a ≡ true) ⊎ (b ≡ true)
 or_parts_true true b e = inl refl
 or_parts_true false b e = inr e
 
 -- where what holds of the first template and of each later one is asked
-by_template : (P : ℕ → Type 0) (n t : ℕ) (rest : Bool) → ((n == t) || rest) ≡ true → P n → (rest ≡ true → P t) → P t
+pub by_template : (P : ℕ → Type 0) (n t : ℕ) (rest : Bool) → ((n == t) || rest) ≡ true → P n → (rest ≡ true → P t) → P t
 by_template P n t rest e here later =
     elim (or_parts_true (n == t) rest e) [ inl same ↦ subst P (eqb-true n t same) here | inr other ↦ later other ]
 
@@ -115,11 +115,11 @@ pub record IsWithin (l : ℕ) (place : Octets) : Type 0 where
   pub some : place.first ≤ place.last
   pub few : place.last + 1 ≤ place.first + 4
 
-and_first : (a b : Bool) → (a && b) ≡ true → a ≡ true
+pub and_first : (a b : Bool) → (a && b) ≡ true → a ≡ true
 and_first true b e = refl
 and_first false b e = cc
 
-and_second : (a b : Bool) → (a && b) ≡ true → b ≡ true
+pub and_second : (a b : Bool) → (a && b) ≡ true → b ≡ true
 and_second true b e = e
 and_second false b e = cc
 

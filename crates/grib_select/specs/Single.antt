@@ -20,4 +20,4 @@ first_parts message i n = concat (map (field_part message i) (range_with_len 1 n
 abbrev pub single_of : List ℕ → ℕ → List ℕ
 single_of message i =
     let body = first_parts message i 7 in
-    take 8 message ++ (octets_of 8 (20 + length body) ++ (body ++ end_mark))
+    take 8 message ++ (octets_of 8 (16 + length body + 4) ++ (body ++ end_mark))

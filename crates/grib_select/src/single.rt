@@ -38,7 +38,7 @@ pub fn single(alloc: Global, message: &Message<'_>, field: u32) -> Result<Vec<u8
 fn single_length(message: &Message<'_>, field: u32) -> u64
     requires first { 1 ≤ field }
     requires last { field ≤ field_count message.now }
-    ensures { result ≡ 20 + length (first_parts message.now field 7) }
+    ensures { result ≡ 16 + length (first_parts message.now field 7) + 4 }
 {
     let mut total = 20;
     for number in 1..8 {
