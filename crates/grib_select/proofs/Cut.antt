@@ -121,7 +121,7 @@ module _ (before : List Placed) (h : AreAccepted before) (ends : last_number bef
 
 -- ---- Sections 3 to 7 of a field after Section 1 or 2
 
-stands_here : (before : List Placed) (q n : ℕ) (s : List ℕ) → StatesItself n s → IsTrue (may_follow (last_number before) n)
+pub stands_here : (before : List Placed) (q n : ℕ) (s : List ℕ) → StatesItself n s → IsTrue (may_follow (last_number before) n)
     → get_or contents_faults n no_rows before (placed_at q s) ≡ None → IsSection before q s
 stands_here before q n s itself follows rows = record {
   length_stands = itself.length_stands;
@@ -143,6 +143,12 @@ pub record Parts (p3 p4 p5 p6 p7 : List ℕ) : Type 0 where
   pub alone : bitmap_indicator p6 ≢ 254
   pub bitmap : first_fault (bitmap_rows p6 (grid_points p3) (value_count p5) None) ≡ None
   pub values : data_fault p5 p7 ≡ None
+
+-- what is in force at the end of the field
+abbrev pub all_parts : List Placed → ℕ → List ℕ → List ℕ → List ℕ → List ℕ → List ℕ → List Placed
+all_parts head q p3 p4 p5 p6 p7 =
+    placed_at (q + length p3 + length p4 + length p5 + length p6) p7 ∷ placed_at (q + length p3 + length p4 + length p5) p6
+    ∷ placed_at (q + length p3 + length p4) p5 ∷ placed_at (q + length p3) p4 ∷ placed_at q p3 ∷ head
 
 module _ (head : List Placed) (q : ℕ) (p3 p4 p5 p6 p7 : List ℕ) (h : Parts p3 p4 p5 p6 p7) where
   -- the places
@@ -173,10 +179,6 @@ module _ (head : List Placed) (q : ℕ) (p3 p4 p5 p6 p7 : List ℕ) (h : Parts p
   abbrev s7 : Placed
   s7 = placed_at q7 p7
 
-  -- what is in force at the end of the field
-  abbrev pub all_parts : List Placed
-  all_parts = s7 ∷ s6 ∷ s5 ∷ s4 ∷ s3 ∷ head
-
   is_not : (n k : ℕ) (s : List ℕ) → StatesItself n s → n ≢ k → section_number s ≢ k
   is_not n k s itself other same = other (sym itself.number_stands ∙ same)
 
@@ -192,13 +194,13 @@ module _ (head : List Placed) (q : ℕ) (p3 p4 p5 p6 p7 : List ℕ) (h : Parts p
   five_6 : octets_in_force 5 (s6 ∷ s5 ∷ s4 ∷ s3 ∷ head) ≡ p5
   five_6 = octets_other s6 (s5 ∷ s4 ∷ s3 ∷ head) 5 (is_not 6 5 p6 h.itself_6 (λ e. absurd (omega arith))) ∙ five_5
 
-  pub five_all : octets_in_force 5 all_parts ≡ p5
+  pub five_all : octets_in_force 5 (all_parts head q p3 p4 p5 p6 p7) ≡ p5
   five_all = octets_other s7 (s6 ∷ s5 ∷ s4 ∷ s3 ∷ head) 5 (is_not 7 5 p7 h.itself_7 (λ e. absurd (omega arith))) ∙ five_6
 
-  pub seven_all : octets_in_force 7 all_parts ≡ p7
+  pub seven_all : octets_in_force 7 (all_parts head q p3 p4 p5 p6 p7) ≡ p7
   seven_all = octets_same s7 (s6 ∷ s5 ∷ s4 ∷ s3 ∷ head) 7 h.itself_7.number_stands
 
-  pub mask_all : mask_in_force all_parts ≡ mask_of p6 (grid_points p3) None
+  pub mask_all : mask_in_force (all_parts head q p3 p4 p5 p6 p7) ≡ mask_of p6 (grid_points p3) None
   mask_all =
       mask_kept s7 (s6 ∷ s5 ∷ s4 ∷ s3 ∷ head) (is_not 7 6 p7 h.itself_7 (λ e. absurd (omega arith)))
       ∙ mask_here s6 (s5 ∷ s4 ∷ s3 ∷ head) h.itself_6.number_stands
@@ -238,7 +240,7 @@ module _ (head : List Placed) (q : ℕ) (p3 p4 p5 p6 p7 : List ℕ) (h : Parts p
   abbrev found : List Placed
   found = placed_from q (p3 ∷ p4 ∷ p5 ∷ p6 ∷ p7 ∷ [])
 
-  pub up_to_end : sections_up_to_field 1 head found ≡ all_parts
+  pub up_to_end : sections_up_to_field 1 head found ≡ all_parts head q p3 p4 p5 p6 p7
   up_to_end =
       up_other s3 head (s4 ∷ s5 ∷ s6 ∷ s7 ∷ []) 0 (is_not 3 7 p3 h.itself_3 (λ e. absurd (omega arith)))
       ∙ up_other s4 (s3 ∷ head) (s5 ∷ s6 ∷ s7 ∷ []) 0 (is_not 4 7 p4 h.itself_4 (λ e. absurd (omega arith)))

@@ -3,6 +3,7 @@ pub mod Alone
 pub mod Changes
 pub mod Composed
 pub mod Cut
+pub mod Numbers
 pub mod Puts
 pub mod Stand
 pub mod Within

@@ -1,12 +1,14 @@
 -- Each key that the template of a section has stands within the section, by the rows of the profile.
-use Rattle.std.proofs.Common.{◌≡◌, ◌≢◌, ℕ, ◌+◌, ◌<◌, ◌≤◌, Bool, true, false, not, ◌||◌, ◌&&◌, ◌==◌, Option, Some, None, List, [], ◌∷◌, length, take, nat_lt, ◌⊎◌, inl, inr, refl, sym, ap, ◌∙◌, arith, subst, ltb-false, eqb-true, ltb-true, eq-eqb}
+use Rattle.std.proofs.Common.{◌≡◌, ◌≢◌, ℕ, ◌+◌, ◌-◌, ◌<◌, ◌≤◌, Bool, true, false, not, ◌||◌, ◌&&◌, ◌==◌, Option, Some, None, List, [], ◌∷◌, length, take, nat_lt, ◌⊎◌, inl, inr, refl, sym, ap, ◌∙◌, arith, subst, ltb-false, eqb-true, ltb-true, eq-eqb}
 use Rattle.std.specs.Option.{option_map_or}
-use Rattle.std.proofs.lemmas.Bool.{not-false}
+use Rattle.std.proofs.lemmas.Bool.{not-false, cases_eq}
 use Rattle.grib_bits.specs.Octets.{octets}
 use Rattle.grib_io.specs.Rows.{Row, first_fault, or_then, choose}
 use Rattle.grib2_sections.specs.Template.{template, is_template, least_length}
 use Rattle.grib2_sections.specs.Identification.{identification_rows}
-use Rattle.grib2_grids.specs.Grid.{grid_rows, grid_template, grid_templates}
+use Rattle.grib2_grids.specs.Grid.{grid_rows, grid_points, grid_template, grid_templates}
+use Rattle.grib2_message.specs.Message.{FieldPasses}
+use Rattle.grib2_message.specs.Fields.{part_octets}
 use Rattle.grib2_products.specs.Product.{product_rows, product_template, product_templates}
 use Rattle.grib_packing.specs.Packing.{packing_template, packing_templates, packing_rows}
 use Rattle.grib_packing.specs.Complex.{complex_rows}
@@ -197,3 +199,24 @@ packing_within s points none key p section place =
     let known : is_template packing_templates t ≡ true = not-false (is_template packing_templates t) rows.1.0 in
     let least : least_length packing_templates t ≤ length s = ltb-false (length s) (least_length packing_templates t) rows.1.1.0 in
     longer 21 (length s) p (at_least_21 t (length s) known least) (within_tells 5 t 21 key p (packing_keys t key) section place)
+
+-- ---- the sections in force for a field
+
+pub has_keys : (number : ℕ) (s : List ℕ) → KeysWithin number s → HasKeys number s
+has_keys number s h key place section at = (h key place section at).high
+
+pub part_keys : (m : List ℕ) (i number : ℕ) → FieldPasses m i → number ≤ 5 → number ≢ 2 → number ≢ 0 → HasKeys number (part_octets m i number)
+part_keys m i number h few not_2 not_0 =
+    let P : ℕ → Type 0 = λ n. HasKeys n (part_octets m i n) in
+    elim (cases_eq number 1) [
+      | inl e ↦ subst P (sym e) (has_keys 1 (part_octets m i 1) (identification_within (part_octets m i 1) h.identification))
+      | inr not_1 ↦ elim (cases_eq number 3) [
+        | inl e ↦ subst P (sym e) (has_keys 3 (part_octets m i 3) (grid_within (part_octets m i 3) h.grid))
+        | inr not_3 ↦ elim (cases_eq number 4) [
+          | inl e ↦ subst P (sym e) (has_keys 4 (part_octets m i 4) (product_within (part_octets m i 4) h.product))
+          | inr not_4 ↦
+              let e : number ≡ 5 = omega arith in
+              subst P (sym e) (has_keys 5 (part_octets m i 5) (packing_within (part_octets m i 5) (grid_points (part_octets m i 3)) h.packing))
+        ]
+      ]
+    ]

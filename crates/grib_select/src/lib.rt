@@ -3,17 +3,17 @@
 #![tactic(auto)]
 
 mod changing;
+mod cutting;
 pub mod laws;
 mod matching;
 mod number;
 mod place;
-mod single;
 #[cfg(test)]
 mod tests;
 mod value;
 
 pub use changing::{SetFault, set_keys};
+pub use cutting::single;
 pub use grib_keys::{Condition, Key, Value};
 pub use matching::matches;
-pub use single::single;
 pub use value::key_value;

@@ -84,8 +84,9 @@ fn number_of(x: i64, is_signed: bool, octets: u32) -> Option<u64>
     if is_signed {
         return raw_of(x, width);
     }
-    if x < 0 || x >= 1 << width {
+    let magnitude = x.unsigned_abs();
+    if x < 0 || magnitude >= 1 << width {
         return None;
     }
-    Some(x as u64)
+    Some(magnitude)
 }
