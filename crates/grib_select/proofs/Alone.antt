@@ -1,9 +1,9 @@
 -- A field cut out of an accepted message.
-use Rattle.std.proofs.Common.{◌≡◌, ◌≢◌, ℕ, ◌+◌, ◌-◌, ◌≤◌, ◌<◌, ◌^◌, ◌⊎◌, IsTrue, List, [], ◌∷◌, ◌++◌, length, take, inl, inr, refl, sym, ap, ap₂, ◌∙◌, arith, subst, append_assoc, append-nil, length-append}
+use Rattle.std.proofs.Common.{◌≡◌, ◌≢◌, ℕ, ◌+◌, ◌-◌, ◌≤◌, ◌<◌, ◌^◌, ◌⊎◌, IsTrue, List, [], ◌∷◌, ◌++◌, length, take, inl, inr, refl, sym, ap, ap₂, ◌∙◌, arith, subst, Bool, eq-eqb, ne_eqb, append_assoc, append-nil, length-append}
 use Rattle.std.specs.List.{concat, count_by}
 use Rattle.std.proofs.lemmas.Bool.{cases_eq}
 use Rattle.grib_bits.specs.Octets.{StatesItself}
-use Rattle.grib_io.specs.Rows.{first_fault, located}
+use Rattle.grib_io.specs.Rows.{first_fault, located, choose}
 use Rattle.grib_packing.specs.Entries.{column_from}
 use Rattle.grib_bitmap.specs.Mask.{bitmap_indicator, mask_of}
 use Rattle.grib2_sections.specs.Encoding.{octets_of}
@@ -18,7 +18,7 @@ use Rattle.grib2_message.proofs.Placing.{placed_from}
 use Rattle.grib2_message.proofs.InForce.{octets_same, octets_other, own_alone, own_repeated}
 use Rattle.grib2_message.proofs.Sound.{bitmap_own, bitmap_kept, bitmap_not_own, count_other}
 use Rattle.grib2_message.proofs.Whole.{sections_alone}
-use Rattle.grib_select.specs.Single.{first_parts, single_of}
+use Rattle.grib_select.specs.Single.{field_part, first_parts, single_of}
 use Rattle.grib_select.proofs.Accepted.{AreAccepted, octets_of_all, sound_of, UpTo, field_up_to, part_itself, local_itself, count_none}
 use Rattle.grib2_message.proofs.Ways.{up_other}
 use Rattle.grib2_message.proofs.Parted.{IsHead, joined_grammar, message_least}
@@ -94,6 +94,30 @@ short_own before = elim (cases_eq (bitmap_indicator (octets_in_force 6 before)) 
   | inl repeats ↦ subst (λ (b : List ℕ). together before (length b) ≤ octets_of_all before) (sym (own_repeated before repeats)) (short_earlier before)
   | inr other ↦ subst (λ (b : List ℕ). together before (length b) ≤ octets_of_all before) (sym (own_alone before other)) (short_in_force before)
 ]
+
+-- each of them
+size_short : (k : ℕ) (before : List Placed) → size_in_force k before ≤ octets_of_all before
+size_short k [] = omega arith
+size_short k (s ∷ before) =
+    let g = in_force_grows k s before in
+    let rest = size_short k before in
+    elim (cases_eq (section_number s.octets) k) [
+      | inl same ↦ (let e = g.0 same in omega arith)
+      | inr other ↦ (let e = g.1 other in omega arith)
+    ]
+
+-- and what stands in a message of one field
+pub part_short : (m : List ℕ) (i k : ℕ) → IsMessage m → 1 ≤ i → i ≤ field_count m → length (field_part m i k) ≤ 268435456
+part_short m i k h low high =
+    let xs = field_sections m i in
+    let up = field_up_to m i h low high in
+    let most = message_most m h in
+    let part = size_short k xs in
+    let own = short_own xs in
+    elim (cases_eq k 6) [
+      | inl six ↦ (let e : length (field_part m i k) ≡ length (own_bitmap xs) = ap length (ap (λ (b : Bool). choose b (λ _. own_bitmap xs) (λ _. part_octets m i k)) (eq-eqb k 6 six)) in omega (arith, up.short))
+      | inr other ↦ (let e : length (field_part m i k) ≡ length (part_octets m i k) = ap length (ap (λ (b : Bool). choose b (λ _. own_bitmap xs) (λ _. part_octets m i k)) (ne_eqb k 6 other)) in omega (arith, up.short))
+    ]
 
 -- ---- the sections of the new message
 

@@ -1,24 +1,20 @@
 -- A section with changes is like the section outside the keys that can be set.
 use Rattle.std.proofs.Common.{◌≡◌, ◌≢◌, ℕ, ◌+◌, ◌-◌, ◌≤◌, ◌<◌, Bool, true, false, not, cond, IsTrue, ◌&&◌, ◌||◌, ◌==◌, ◌⊎◌, nat_lt, Option, Some, None, unwrap_or, List, [], ◌∷◌, ◌++◌, length, inl, inr, refl, sym, ap, ap₂, ◌∙◌, arith, subst, ltb-false, ltb-true, eq-eqb, ne_eqb, eqb-true}
 use Rattle.std.specs.Option.{option_map_or}
-use Rattle.std.proofs.lemmas.Bool.{cases_eq, not-false}
-use Rattle.grib_io.specs.Rows.{first_fault, choose}
+use Rattle.std.proofs.lemmas.Bool.{cases_eq}
+use Rattle.grib_bits.specs.Octets.{octets}
+use Rattle.grib_io.specs.Rows.{choose}
 use Rattle.grib2_sections.specs.Encoding.{octets_of}
-use Rattle.grib2_sections.specs.Template.{is_template}
 use Rattle.grib2_sections.proofs.Octets.{length-octets_of}
-use Rattle.grib2_sections.specs.Identification.{identification_rows}
-use Rattle.grib2_grids.specs.Grid.{grid_rows, grid_template, grid_templates}
-use Rattle.grib2_products.specs.Product.{product_rows, product_template, product_templates}
-use Rattle.grib2_message.proofs.Passed.{passes_from_none}
 use Rattle.grib_keys.specs.declared.key.Key.{Key}
-use Rattle.grib_keys.specs.declared.key.Key.TheVariants.{Discipline}
+use Rattle.grib_keys.specs.declared.key.Key.TheVariants.{Discipline, Scanning, La1, Lo1, EnsembleNumber}
 use Rattle.grib_keys.specs.declared.condition.Condition.{Condition}
-use Rattle.grib_keys.specs.Keys.{Octets, row_of, can_set}
-use Rattle.grib_select.specs.Values.{template_of, octet_count}
-use Rattle.grib_select.specs.Changed.{new_number, put, put_number, with_key, with_changes}
+use Rattle.grib_keys.specs.Keys.{Octets, row_of, can_set, at, is_of, is_by_angles}
+use Rattle.grib_select.specs.Values.{template_of, octet_count, HasKeys}
+use Rattle.grib_select.specs.Changed.{key_octets, new_number, put, put_number, with_key, with_changes}
 use Rattle.grib_select.proofs.Puts.{length-put, put-before, put-behind}
 use Rattle.grib_select.proofs.Stand.{outside, is_fixed, AreAlike, alike_self, alike_then, alike_octets}
-use Rattle.grib_select.proofs.Within.{IsWithin, KeysWithin, by_template, or_parts_true, and_first, and_second, head_within, identification_within, grid_within, product_within}
+use Rattle.grib_select.proofs.Within.{IsWithin, KeysWithin, or_parts_true, and_first, and_second}
 
 -- ---- the keys that can be set stand where nothing else is read
 
@@ -33,75 +29,67 @@ lies_free number p =
     (cond (number == 3) (lies_in 15 30 p || lies_in 39 72 p)
     (cond (number == 4) (lies_in 10 36 p) false)))
 
-abbrev pub stands_free : ℕ → ℕ → Key → Bool
-stands_free number t key =
-    not ((row_of key).section == number) || (not (can_set key) || option_map_or (lies_free number) ((row_of key).place t) true)
+-- A key has as many octets in each template that has it, 1 to 4; one that can be set stands free.
+abbrev pub shape : Key → Option Octets → Bool
+shape key o =
+    option_map_or
+    (λ p. nat_lt 0 p.first && (nat_lt p.first (p.last + 1) && (nat_lt p.last (p.first + 4) && ((octet_count p == key_octets key) && (not (can_set key) || lies_free (row_of key).section p)))))
+    o true
 
-head_free : (t : ℕ) (key : Key) → stands_free 0 t key ≡ true
-head_free t Discipline = refl
-head_free t key = refl
+scanning_shape : (a b c : Bool) → shape Scanning (cond a (at 72 72 0) (cond b (at 60 60 0) (cond c (at 65 65 0) None))) ≡ true
+scanning_shape true b c = refl
+scanning_shape false true c = refl
+scanning_shape false false true = refl
+scanning_shape false false false = refl
 
-identification_free : (t : ℕ) (key : Key) → stands_free 1 t key ≡ true
-identification_free t Discipline = refl
-identification_free t key = refl
+la1_shape : (a : Bool) → shape La1 (cond a (at 47 50 0) (at 39 42 0)) ≡ true
+la1_shape true = refl
+la1_shape false = refl
 
-grid_free_0 : (key : Key) → stands_free 3 0 key ≡ true
-grid_free_0 Discipline = refl
-grid_free_0 key = refl
+lo1_shape : (a : Bool) → shape Lo1 (cond a (at 51 54 0) (at 43 46 0)) ≡ true
+lo1_shape true = refl
+lo1_shape false = refl
 
-grid_free_1 : (key : Key) → stands_free 3 1 key ≡ true
-grid_free_1 Discipline = refl
-grid_free_1 key = refl
+member_shape : (a : Bool) → shape EnsembleNumber (cond a (at 36 36 0) None) ≡ true
+member_shape true = refl
+member_shape false = refl
 
-grid_free_10 : (key : Key) → stands_free 3 10 key ≡ true
-grid_free_10 Discipline = refl
-grid_free_10 key = refl
+pub shaped : (t : ℕ) (key : Key) → shape key ((row_of key).place t) ≡ true
+shaped t Scanning = scanning_shape (is_by_angles t) (is_of (10 ∷ []) t) (is_of (20 ∷ 30 ∷ []) t)
+shaped t La1 = la1_shape (is_by_angles t)
+shaped t Lo1 = lo1_shape (is_by_angles t)
+shaped t EnsembleNumber = member_shape (is_of (1 ∷ 11 ∷ []) t)
+shaped t Discipline = refl
+shaped t key = refl
 
-grid_free_20 : (key : Key) → stands_free 3 20 key ≡ true
-grid_free_20 Discipline = refl
-grid_free_20 key = refl
+-- what it tells of a place
+pub record HasShape (key : Key) (p : Octets) : Type 0 where
+  pub low : 1 ≤ p.first
+  pub some : p.first ≤ p.last
+  pub few : p.last + 1 ≤ p.first + 4
+  pub count : octet_count p ≡ key_octets key
+  pub free : can_set key ≡ true → lies_free (row_of key).section p ≡ true
 
-grid_free_30 : (key : Key) → stands_free 3 30 key ≡ true
-grid_free_30 Discipline = refl
-grid_free_30 key = refl
+free_by : (set free : Bool) → (not set || free) ≡ true → set ≡ true → free ≡ true
+free_by true free e on = e
+free_by false free e on = absurd (cc)
 
-grid_free_40 : (key : Key) → stands_free 3 40 key ≡ true
-grid_free_40 Discipline = refl
-grid_free_40 key = refl
-
-product_free_0 : (key : Key) → stands_free 4 0 key ≡ true
-product_free_0 Discipline = refl
-product_free_0 key = refl
-
-product_free_1 : (key : Key) → stands_free 4 1 key ≡ true
-product_free_1 Discipline = refl
-product_free_1 key = refl
-
-product_free_8 : (key : Key) → stands_free 4 8 key ≡ true
-product_free_8 Discipline = refl
-product_free_8 key = refl
-
-product_free_11 : (key : Key) → stands_free 4 11 key ≡ true
-product_free_11 Discipline = refl
-product_free_11 key = refl
-
-pub grid_keys_free : (t : ℕ) → is_template grid_templates t ≡ true → (key : Key) → stands_free 3 t key ≡ true
-grid_keys_free t e key =
-    let P : ℕ → Type 0 = λ n. stands_free 3 n key ≡ true in
-    by_template P 0 t _ e (grid_free_0 key)
-    (λ e1. by_template P 1 t _ e1 (grid_free_1 key)
-    (λ e2. by_template P 10 t _ e2 (grid_free_10 key)
-    (λ e3. by_template P 20 t _ e3 (grid_free_20 key)
-    (λ e4. by_template P 30 t _ e4 (grid_free_30 key)
-    (λ e5. by_template P 40 t _ e5 (grid_free_40 key) (λ e6. cc))))))
-
-pub product_keys_free : (t : ℕ) → is_template product_templates t ≡ true → (key : Key) → stands_free 4 t key ≡ true
-product_keys_free t e key =
-    let P : ℕ → Type 0 = λ n. stands_free 4 n key ≡ true in
-    by_template P 0 t _ e (product_free_0 key)
-    (λ e1. by_template P 1 t _ e1 (product_free_1 key)
-    (λ e2. by_template P 8 t _ e2 (product_free_8 key)
-    (λ e3. by_template P 11 t _ e3 (product_free_11 key) (λ e4. cc))))
+pub shape_tells : (key : Key) (t : ℕ) (p : Octets) → (row_of key).place t ≡ Some p → HasShape key p
+shape_tells key t p place =
+    let e0 : shape key (Some p) ≡ true = sym (ap (shape key) place) ∙ shaped t key in
+    let e1 = and_second (nat_lt 0 p.first) _ e0 in
+    let e2 = and_second (nat_lt p.first (p.last + 1)) _ e1 in
+    let e3 = and_second (nat_lt p.last (p.first + 4)) _ e2 in
+    let low : 0 < p.first = ltb-true 0 p.first (and_first (nat_lt 0 p.first) _ e0) in
+    let some : p.first < p.last + 1 = ltb-true p.first (p.last + 1) (and_first (nat_lt p.first (p.last + 1)) _ e1) in
+    let few : p.last < p.first + 4 = ltb-true p.last (p.first + 4) (and_first (nat_lt p.last (p.first + 4)) _ e2) in
+    record {
+      low = omega arith;
+      some = omega arith;
+      few = omega arith;
+      count = eqb-true (octet_count p) (key_octets key) (and_first (octet_count p == key_octets key) _ e3);
+      free = free_by (can_set key) (lies_free (row_of key).section p) (and_second (octet_count p == key_octets key) _ e3);
+    }
 
 -- ---- a free place has no fixed octets
 
@@ -110,8 +98,8 @@ not_true true e = sym e
 not_true false e = refl
 
 -- two intervals that do not meet
-apart : (first last : ℕ) (p : Octets) (a b : ℕ) → outside first last a b ≡ true → lies_in first last p ≡ true → (b < p.first) ⊎ (p.last < a)
-apart first last p a b out lies =
+apart : (first last : ℕ) (p : Octets) → lies_in first last p ≡ true → (a b : ℕ) → outside first last a b ≡ true → (b < p.first) ⊎ (p.last < a)
+apart first last p lies a b out =
     let low : first ≤ p.first = ltb-false p.first first (not_true (nat_lt p.first first) (and_first (not (nat_lt p.first first)) (not (nat_lt last p.last)) lies)) in
     let high : p.last ≤ last = ltb-false last p.last (not_true (nat_lt last p.last) (and_second (not (nat_lt p.first first)) (not (nat_lt last p.last)) lies)) in
     elim (or_parts_true (nat_lt b first) (nat_lt last a) out) [
@@ -126,17 +114,28 @@ IsFree number p = (a b : ℕ) → is_fixed number a b ≡ true → (b < p.first)
 free_3 : (p : Octets) → lies_free 3 p ≡ true → IsFree 3 p
 free_3 p lies a b out =
     elim (or_parts_true (lies_in 15 30 p) (lies_in 39 72 p) lies) [
-      | inl first ↦ apart 15 30 p a b (and_first (outside 15 30 a b) (outside 39 72 a b) out) first
-      | inr second ↦ apart 39 72 p a b (and_second (outside 15 30 a b) (outside 39 72 a b) out) second
+      | inl first ↦ apart 15 30 p first a b (and_first (outside 15 30 a b) (outside 39 72 a b) out)
+      | inr second ↦ apart 39 72 p second a b (and_second (outside 15 30 a b) (outside 39 72 a b) out)
     ]
 
--- what the test of a key tells of its place
-lies_tells : (number t : ℕ) (key : Key) (p : Octets) → stands_free number t key ≡ true → (row_of key).section ≡ number → can_set key ≡ true → (row_of key).place t ≡ Some p
-    → lies_free number p ≡ true
-lies_tells number t key p e section settable place =
-    sym (ap (λ (o : Option Octets). option_map_or (lies_free number) o true) place)
-    ∙ sym (ap₂ (λ (b c : Bool). not b || (not c || option_map_or (lies_free number) ((row_of key).place t) true)) (eq-eqb (row_of key).section number section) settable)
-    ∙ e
+free_any : (number : ℕ) (p : Octets) → lies_free number p ≡ true → IsFree number p
+free_any number p lies = elim (cases_eq number 0) [
+  | inl e ↦ subst (λ (n : ℕ). IsFree n p) (sym e) (apart 7 7 p (subst (λ (n : ℕ). lies_free n p ≡ true) e lies))
+  | inr not_0 ↦ elim (cases_eq number 1) [
+    | inl e ↦ subst (λ (n : ℕ). IsFree n p) (sym e) (apart 6 21 p (subst (λ (n : ℕ). lies_free n p ≡ true) e lies))
+    | inr not_1 ↦ elim (cases_eq number 3) [
+      | inl e ↦ subst (λ (n : ℕ). IsFree n p) (sym e) (free_3 p (subst (λ (n : ℕ). lies_free n p ≡ true) e lies))
+      | inr not_3 ↦ elim (cases_eq number 4) [
+        | inl e ↦ subst (λ (n : ℕ). IsFree n p) (sym e) (apart 10 36 p (subst (λ (n : ℕ). lies_free n p ≡ true) e lies))
+        | inr not_4 ↦
+            let none : false ≡ true =
+            sym (λ i. cond (ne_eqb number 0 not_0 i) (lies_in 7 7 p) (cond (ne_eqb number 1 not_1 i) (lies_in 6 21 p)
+            (cond (ne_eqb number 3 not_3 i) (lies_in 15 30 p || lies_in 39 72 p) (cond (ne_eqb number 4 not_4 i) (lies_in 10 36 p) false)))) ∙ lies in
+            absurd (cc)
+      ]
+    ]
+  ]
+]
 
 -- ---- a section in which changes can be made
 
@@ -145,6 +144,34 @@ pub record IsReady (number : ℕ) (s : List ℕ) : Type 0 where
   pub within : KeysWithin number s
   pub free : (key : Key) (p : Octets) → (row_of key).section ≡ number → can_set key ≡ true → (row_of key).place (template_of number s) ≡ Some p → IsFree number p
   pub template : (t : List ℕ) → AreAlike number s t → template_of number t ≡ template_of number s
+
+template_stays : (number : ℕ) (s t : List ℕ) → AreAlike number s t → template_of number t ≡ template_of number s
+template_stays number s t h = elim (cases_eq number 3) [
+  | inl e ↦ subst (λ (n : ℕ). AreAlike n s t → template_of n t ≡ template_of n s) (sym e) (λ k. alike_octets 3 13 14 s t k (omega arith) (omega arith) refl) h
+  | inr not_3 ↦ elim (cases_eq number 4) [
+    | inl e ↦ subst (λ (n : ℕ). AreAlike n s t → template_of n t ≡ template_of n s) (sym e) (λ k. alike_octets 4 8 9 s t k (omega arith) (omega arith) refl) h
+    | inr not_4 ↦ elim (cases_eq number 5) [
+      | inl e ↦ subst (λ (n : ℕ). AreAlike n s t → template_of n t ≡ template_of n s) (sym e) (λ k. alike_octets 5 10 11 s t k (omega arith) (omega arith) refl) h
+      | inr not_5 ↦
+          let other : (u : List ℕ) → template_of number u ≡ 0 =
+          λ u. λ i. cond (ne_eqb number 3 not_3 i) (octets u 13 14) (cond (ne_eqb number 4 not_4 i) (octets u 8 9) (cond (ne_eqb number 5 not_5 i) (octets u 10 11) 0)) in
+          other t ∙ sym (other s)
+    ]
+  ]
+]
+
+pub ready : (number : ℕ) (s : List ℕ) → HasKeys number s → IsReady number s
+ready number s h = record {
+  within = λ key p section place.
+      let shape = shape_tells key (template_of number s) p place in
+      record { low = shape.low; high = h key p section place; some = shape.some; few = shape.few };
+  free = λ key p section settable place.
+      subst (λ (n : ℕ). IsFree n p) section (free_any (row_of key).section p ((shape_tells key (template_of number s) p place).free settable));
+  template = λ t k. template_stays number s t k;
+}
+
+pub ready_keys : (number : ℕ) (s : List ℕ) → IsReady number s → HasKeys number s
+ready_keys number s r key p section place = (r.within key p section place).high
 
 pub ready_stays : (number : ℕ) (s t : List ℕ) → AreAlike number s t → IsReady number s → IsReady number t
 ready_stays number s t h r =
@@ -254,40 +281,3 @@ unchanged changes number s settable one =
       ]
     ])
 
--- ---- sections that are ready
-
-pub head_ready : (s : List ℕ) → 16 ≤ length s → IsReady 0 s
-head_ready s long = record {
-  within = head_within s long;
-  free = λ key p section settable place a b out. apart 7 7 p a b out (lies_tells 0 0 key p (head_free 0 key) section settable place);
-  template = λ t h. refl;
-}
-
-pub identification_ready : (s : List ℕ) → first_fault (identification_rows s) ≡ None → IsReady 1 s
-identification_ready s none = record {
-  within = identification_within s none;
-  free = λ key p section settable place a b out. apart 6 21 p a b out (lies_tells 1 0 key p (identification_free 0 key) section settable place);
-  template = λ t h. refl;
-}
-
-pub grid_ready : (s : List ℕ) → first_fault (grid_rows s) ≡ None → IsReady 3 s
-grid_ready s none =
-    let rows = passes_from_none (grid_rows s) none in
-    let t = grid_template s in
-    let known : is_template grid_templates t ≡ true = not-false (is_template grid_templates t) rows.1.1.0 in
-    record {
-      within = grid_within s none;
-      free = λ key p section settable place. free_3 p (lies_tells 3 t key p (grid_keys_free t known key) section settable place);
-      template = λ u h. alike_octets 3 13 14 s u h (omega arith) (omega arith) refl;
-    }
-
-pub product_ready : (s : List ℕ) → first_fault (product_rows s 1) ≡ None → IsReady 4 s
-product_ready s none =
-    let rows = passes_from_none (product_rows s 1) none in
-    let t = product_template s in
-    let known : is_template product_templates t ≡ true = not-false (is_template product_templates t) rows.1.1.0 in
-    record {
-      within = product_within s none;
-      free = λ key p section settable place a b out. apart 10 36 p a b out (lies_tells 4 t key p (product_keys_free t known key) section settable place);
-      template = λ u h. alike_octets 4 8 9 s u h (omega arith) (omega arith) refl;
-    }

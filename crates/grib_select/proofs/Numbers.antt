@@ -1,5 +1,6 @@
 -- Numbers with a sign as octets, and back.
-use Rattle.std.proofs.Common.{◌≡◌, ◌≢◌, ℕ, zero, suc, ◌+◌, ◌-◌, ◌*◌, ◌^◌, ◌<◌, ◌≤◌, ◌⊎◌, inl, inr, Bool, true, false, cond, nat_lt, Option, Some, None, IsNone, IfSome, ℤ, pos, negsuc, neg_ℤ, refl, sym, ap, ◌∙◌, arith, subst, lt-ltb, le-ltb, pow_mono, pow-suc, add-one}
+use Rattle.std.proofs.Common.{◌≡◌, ◌≢◌, ℕ, zero, suc, ◌+◌, ◌-◌, ◌*◌, ◌^◌, ◌<◌, ◌≤◌, ◌⊎◌, inl, inr, Bool, true, false, cond, nat_lt, Option, Some, None, IsNone, IfSome, ℤ, pos, negsuc, neg_ℤ, refl, sym, ap, ◌∙◌, arith, subst, lt-ltb, le-ltb, pow_mono, pow-suc, add-one, ltb-true, nat_abs}
+use lib.Signed.{lt_z}
 use Rattle.std.specs.Prelude.{unsigned_abs, ◌↔◌}
 use Rattle.std.proofs.lemmas.Bool.{cases_lt}
 use Rattle.grib_bits.specs.Bits.{bits_of, signed}
@@ -84,3 +85,17 @@ some_octets n =
     let less : 0 ≤ 8 * n = omega arith in
     let power : 2 ^ 0 ≤ 2 ^ (8 * n) = pow_mono less in
     omega (arith, pow_256 n)
+
+-- ---- numbers without sign
+
+pub below_zero : (n : ℕ) (x : ℤ) → lt_z x (pos 0) ≡ true → None ≡ unsigned_number n x
+below_zero n (pos m) e = (let lt : m < 0 = ltb-true m 0 e in absurd (omega arith))
+below_zero n (negsuc m) e = refl
+
+pub too_great : (n : ℕ) (x : ℤ) → lt_z x (pos 0) ≡ false → 256 ^ n ≤ nat_abs x → None ≡ unsigned_number n x
+too_great n (pos m) e high = sym (ap (λ (b : Bool). cond b (Some m) None) (le-ltb m (256 ^ n) high))
+too_great n (negsuc m) e high = absurd (cc)
+
+pub unsigned_is : (n : ℕ) (x : ℤ) → lt_z x (pos 0) ≡ false → nat_abs x < 256 ^ n → Some (nat_abs x) ≡ unsigned_number n x
+unsigned_is n (pos m) e low = sym (ap (λ (b : Bool). cond b (Some m) None) (lt-ltb m (256 ^ n) low))
+unsigned_is n (negsuc m) e low = absurd (cc)

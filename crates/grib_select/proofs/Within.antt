@@ -171,9 +171,9 @@ grid_within s none key p section place =
     longer (least_length grid_templates t) (length s) p (ltb-false (length s) (least_length grid_templates t) rows.1.1.1.0)
     (within_tells 3 t (least_length grid_templates t) key p (grid_keys_within t known key) section place)
 
-pub product_within : (s : List ℕ) → first_fault (product_rows s 1) ≡ None → KeysWithin 4 s
-product_within s none key p section place =
-    let rows = passes_from_none (product_rows s 1) none in
+pub product_within : (s : List ℕ) (n : ℕ) → first_fault (product_rows s n) ≡ None → KeysWithin 4 s
+product_within s n none key p section place =
+    let rows = passes_from_none (product_rows s n) none in
     let t = product_template s in
     let known : is_template product_templates t ≡ true = not-false (is_template product_templates t) rows.1.1.0 in
     longer (least_length product_templates t) (length s) p (ltb-false (length s) (least_length product_templates t) rows.1.1.1.0)
@@ -213,7 +213,7 @@ part_keys m i number h few not_2 not_0 =
       | inr not_1 ↦ elim (cases_eq number 3) [
         | inl e ↦ subst P (sym e) (has_keys 3 (part_octets m i 3) (grid_within (part_octets m i 3) h.grid))
         | inr not_3 ↦ elim (cases_eq number 4) [
-          | inl e ↦ subst P (sym e) (has_keys 4 (part_octets m i 4) (product_within (part_octets m i 4) h.product))
+          | inl e ↦ subst P (sym e) (has_keys 4 (part_octets m i 4) (product_within (part_octets m i 4) 1 h.product))
           | inr not_4 ↦
               let e : number ≡ 5 = omega arith in
               subst P (sym e) (has_keys 5 (part_octets m i 5) (packing_within (part_octets m i 5) (grid_points (part_octets m i 3)) h.packing))

@@ -7,8 +7,8 @@ ghost use Rattle.grib_select.specs.Values.{HasKeys};
 ghost use Rattle.grib_select.specs.Changed.{with_key, with_changes, with_keys, change_fault, set_fault, IsSetFault};
 
 use crate::number::new_number;
-use crate::place::{place_of, section_of};
-use crate::value::{key_value, template_of};
+use crate::place::section_of;
+use crate::value::{key_value, place_in};
 use byteorder::{BigEndian, ByteOrder};
 use grib_keys::{Condition, Key};
 use grib2_message::Message;
@@ -148,7 +148,7 @@ fn change_key(section: &mut [u8], number: u8, change: &Condition)
     if section_of(change.key) != number {
         return;
     }
-    let Some(place) = place_of(change.key, template_of(number, section)) else {
+    let Some(place) = place_in(section, change.key) else {
         return;
     };
     let raw = new_number(change).unwrap_or(0);

@@ -1,7 +1,8 @@
 //! A field as a message of its own.
 
-ghost use Rattle.std.specs.Prelude.{◌≡◌, ◌+◌, ◌^◌, ◌<◌, ◌≤◌, length, IfOk};
+ghost use Rattle.std.specs.Prelude.{◌≡◌, ◌+◌, ◌≤◌, length, IfOk};
 ghost use Rattle.grib2_message.specs.Fields.{field_count};
+ghost use Rattle.grib2_message.specs.Message.{IsMessage};
 ghost use Rattle.grib_select.specs.Single as definitions;
 ghost use Rattle.grib_select.specs.Single.{first_parts, single_of};
 
@@ -23,9 +24,10 @@ pub fn single(alloc: Global, message: &Message<'_>, field: u32) -> Result<Vec<u8
     requires last { field ≤ field_count message.now }
     ensures { IfOk result (λ octets. octets.items ≡ single_of message.now field) }
 {
+    let octets = message.octets();
     let total = single_length(message, field);
     let mut out = Vec::with_capacity(alloc, total as usize)?;
-    out.extend_from_slice(&message.octets()[..8])?;
+    out.extend_from_slice(&octets[..8])?;
     out.extend_from_slice(&total.to_be_bytes())?;
     for number in 1..8 {
         out.extend_from_slice(field_part(message, field, number))?;
@@ -36,6 +38,7 @@ pub fn single(alloc: Global, message: &Message<'_>, field: u32) -> Result<Vec<u8
 
 /// The number of octets of that message.
 fn single_length(message: &Message<'_>, field: u32) -> u64
+    requires message { IsMessage message.now }
     requires first { 1 ≤ field }
     requires last { field ≤ field_count message.now }
     ensures { result ≡ 16 + length (first_parts message.now field 7) + 4 }
@@ -49,12 +52,13 @@ fn single_length(message: &Message<'_>, field: u32) -> u64
 
 /// What stands in it for the section with this number, nothing where Section 2 is absent.
 fn field_part<'a>(message: &Message<'a>, field: u32, number: u8) -> &'a [u8]
+    requires message { IsMessage message.now }
     requires first { 1 ≤ field }
     requires last { field ≤ field_count message.now }
     requires low { 1 ≤ number }
     requires high { number ≤ 7 }
     ensures octets { result.now ≡ definitions.field_part message.now field number }
-    ensures short { length result.now < 2 ^ 32 }
+    ensures short { length result.now ≤ 268435456 }
 {
     if number == BITMAP {
         return message.bitmap(field).octets;

@@ -1,9 +1,10 @@
 //! The values of keys.
 
-ghost use Rattle.std.specs.Prelude.{◌≡◌, ◌≢◌, ◌+◌, ◌≤◌, length};
+ghost use Rattle.std.specs.Prelude.{◌≡◌, ◌≢◌, ◌+◌, ◌≤◌, length, option_map, IfSome};
 ghost use Rattle.grib_keys.specs.Keys.{row_of};
 ghost use Rattle.grib2_message.specs.Fields.{field_count};
 ghost use Rattle.grib_select.specs.Places.{octets_of_place};
+ghost use Rattle.grib_select.specs.Changed.{key_octets};
 ghost use Rattle.grib_select.specs.Values as definitions;
 ghost use Rattle.grib_select.specs.Values.{key_value_of, HasKeys, value_at as value_at_place};
 
@@ -21,9 +22,8 @@ pub fn key_value(message: &Message<'_>, field: u32, key: Key) -> Option<Value>
     requires last { field ≤ field_count message.now }
     ensures { result ≡ key_value_of message.now field key }
 {
-    let number = section_of(key);
-    let section = key_section(message, field, number);
-    let place = place_of(key, template_of(number, section))?;
+    let section = key_section(message, field, section_of(key));
+    let place = place_in(section, key)?;
     Some(value_at(key, section, &place))
 }
 
@@ -46,7 +46,7 @@ fn key_section<'a>(message: &Message<'a>, field: u32, number: u8) -> &'a [u8]
 }
 
 /// The number of the template of a section with this number, 0 for Sections 0 and 1, which have none.
-pub(crate) fn template_of(number: u8, section: &[u8]) -> u16
+fn template_of(number: u8, section: &[u8]) -> u16
     requires { HasKeys number section.now }
     ensures { result ≡ definitions.template_of number section.now }
 {
@@ -56,6 +56,18 @@ pub(crate) fn template_of(number: u8, section: &[u8]) -> u16
         5 => u16_at(section, 10),
         _ => 0,
     }
+}
+
+/// Where the key stands in a section with its number, `None` where the template of the section lacks it.
+pub(crate) fn place_in(section: &[u8], key: Key) -> Option<Place>
+    requires { HasKeys (row_of key).section section.now }
+    ensures place { option_map octets_of_place result
+        ≡ (row_of key).place (definitions.template_of (row_of key).section section.now) }
+    ensures within { IfSome result (λ p. (1 ≤ p.first) × (1 ≤ p.size) × (p.size ≤ 4)
+        × (p.first + p.size ≤ length section.now + 1)) }
+    ensures size { IfSome result (λ p. p.size ≡ key_octets key) }
+{
+    place_of(key, template_of(section_of(key), section))
 }
 
 /// The value of the key at this place of its section.
