@@ -280,4 +280,3 @@ unchanged changes number s settable one =
         ]
       ]
     ])
-

@@ -4,6 +4,7 @@ pub mod Asked
 pub mod Changes
 pub mod Composed
 pub mod Cut
+pub mod Kept
 pub mod Numbers
 pub mod Puts
 pub mod Sections

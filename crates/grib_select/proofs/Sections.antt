@@ -92,7 +92,7 @@ put_is change number s p ys section place low some within is =
     let long : length xs ≡ n = length-octets_of n raw in
     let rest : drop n (take k (drop a s)) ≡ drop (a + length xs) s =
     ap (drop n) (take_rest s a) ∙ drop-drop n a s ∙ ap (λ (j : ℕ). drop j s) (let e : a + n ≡ a + length xs = omega arith in e) in
-    let none : post_of a k s ≡ [] = drop_all (a + k) s (omega arith) in
+    let none : post_of a k s ≡ [] = drop_all k (drop a s) (omega (arith, length-drop a s)) in
     let count : n ≡ octet_count (octets_of_place p) = omega arith in
     let there : (row_of change.key).place (template_of number s) ≡ Some (octets_of_place p) =
     ap (λ (j : ℕ). (row_of change.key).place (template_of j s)) (sym section) ∙ sym place in

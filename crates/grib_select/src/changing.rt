@@ -1,6 +1,9 @@
 //! Messages with other values of some keys.
 
-ghost use Rattle.std.specs.Prelude.{◌≡◌, ◌≢◌, ◌++◌, None, Some, All, AllPairs, IsTrue, IfOk, OnOk, MatchResult};
+ghost use Rattle.std.specs.Prelude.{◌≡◌, ◌≢◌, ◌++◌, None, Some, All, AllPairs, IsTrue, IfOk, OnOk, MatchOption, MatchResult};
+ghost use Rattle.grib_bits.specs.Octets.{StatesItself};
+ghost use Rattle.grib_io.specs.declared.fault.Fault.{Fault};
+ghost use Rattle.grib2_sections.specs.Frame.{End, Fails, Next, step_from, position_after};
 ghost use Rattle.grib_keys.specs.Keys.{can_set};
 ghost use Rattle.grib_select.specs.declared.changing.SetFault.TheVariants.{Memory};
 ghost use Rattle.grib_select.specs.Values.{HasKeys};
@@ -10,6 +13,7 @@ use crate::number::new_number;
 use crate::place::section_of;
 use crate::value::{key_value, place_in};
 use byteorder::{BigEndian, ByteOrder};
+use grib_io::Section;
 use grib_keys::{Condition, Key};
 use grib2_message::Message;
 use grib2_sections::Frame;
@@ -103,11 +107,26 @@ fn write_changed(
     let mut out = Vec::with_capacity(alloc, octets.len())?;
     append_changed(&octets[..16], 0, changes, &mut out)?;
     let mut frame = Frame::new(message.length());
-    while let Ok(Some(section)) = frame.next(octets) {
+    while let Some(section) = next_section(&mut frame, octets) {
         append_changed(section.octets, section.number, changes, &mut out)?;
     }
     out.extend_from_slice(b"7777")?;
     Ok(out)
+}
+
+/// The next section of a message of which no row refuses a section, or nothing at its end mark.
+fn next_section<'a>(frame: &mut Frame, octets: &'a [u8]) -> Option<Section<'a>>
+    requires { (fault : Fault) → step_from octets.now frame.old ≢ Fails fault }
+    ensures { MatchOption result (step_from octets.now frame.old ≡ End)
+        (λ section. (step_from octets.now frame.old ≡ Next section.octets.now)
+        × StatesItself section.number section.octets.now
+        × (section.start ≡ frame.old.place)
+        × (frame.new ≡ position_after frame.old section.octets.now)) }
+{
+    let Ok(section) = frame.next(octets) else {
+        unreachable!();
+    };
+    section
 }
 
 /// Appends a section with this number with these changes.

@@ -7,7 +7,6 @@ use Rattle.grib_select.proofs.Numbers.{signed_is, below_zero, too_great, unsigne
 use Rattle.grib_select.proofs.number.number_of.Goals as goal
 use Rattle.grib_select.proofs.number.number_of.Goals.{then-x-lt0-via-then-x-lt0, then-x-lt0-via-else-x-lt0+then-magnitude-width}
 
-
 pub returns-then-is_signed-clause-number : goal.returns-then-is_signed-clause-number
 returns-then-is_signed-clause-number c =
     let n = c.args.octets in
