@@ -1,6 +1,6 @@
 //! Messages with other values of some keys.
 
-ghost use Rattle.std.specs.Prelude.{◌≡◌, ◌≢◌, ◌++◌, None, Some, All, AllPairs, IsTrue, IfOk, OnOk, MatchOption, MatchResult};
+ghost use Rattle.std.specs.Prelude.{◌≡◌, ◌≢◌, ◌++◌, None, Some, All, IsTrue, IfOk, OnOk, MatchOption, MatchResult};
 ghost use Rattle.grib_bits.specs.Octets.{StatesItself};
 ghost use Rattle.grib_io.specs.declared.fault.Fault.{Fault};
 ghost use Rattle.grib2_sections.specs.Frame.{End, Fails, Next, step_from, position_after};
@@ -43,7 +43,7 @@ impl From<AllocError> for SetFault {
 }
 
 /// The message with other values of some keys. All octets are copied but those of the keys, which change
-/// in Sections 0 and 1 and in every Section 3 and 4.
+/// in Sections 0 and 1 and in every Section 3 and 4. Where a key stands twice, its last value stays.
 ///
 /// # Errors
 ///
@@ -54,8 +54,7 @@ pub fn set_keys(
     message: &Message<'_>,
     changes: &[Condition],
 ) -> Result<Vec<u8>, SetFault>
-    requires settable { All (λ c. IsTrue (can_set c.key)) changes.now }
-    requires once { AllPairs (λ a b. a.key ≢ b.key) changes.now }
+    requires { All (λ c. IsTrue (can_set c.key)) changes.now }
     ensures { MatchResult result
         (λ octets. (set_fault message.now changes.now ≡ None)
         × (octets.items ≡ with_keys message.now changes.now))
