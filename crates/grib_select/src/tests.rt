@@ -1,7 +1,8 @@
 //! Keys of whole messages. The octets and what they hold are worked by hand from the tables of the manual.
 
 use crate::{Condition, Key, SetFault, Value, key_value, matches, set_keys, single};
-use grib2_message::{Message, read_message};
+use grib2_message::{Message, ReadFault, read_message};
+use grib2_sections::u8_at;
 use std::alloc::{AllocError, Global};
 use std::test::Fail;
 
@@ -89,16 +90,19 @@ fn two_fields(alloc: Global) -> Result<Vec<u8>, AllocError> {
     octets_of(alloc, 252, &sections)
 }
 
-/// The message of these octets, where they are one that is accepted.
-fn read<'a>(alloc: Global, octets: &'a [u8]) -> Option<Message<'a>> {
-    if octets.len() < 8 || octets[..4] != *b"GRIB" || octets[7] != 2 {
-        return None;
+/// The message of these octets.
+fn read(alloc: Global, octets: &[u8]) -> Result<Message<'_>, ReadFault> {
+    if octets.len() < 8 || !octets.starts_with(b"GRIB") || u8_at(octets, 8) != 2 {
+        return Err(ReadFault::Memory);
     }
-    read_message(alloc, octets).ok()
+    read_message(alloc, octets)
 }
 
 /// The value of a key of the first field.
 fn value_of(message: &Message<'_>, key: Key) -> Option<Value> {
+    if message.fields() == 0 {
+        return None;
+    }
     key_value(message, 1, key)
 }
 
@@ -122,7 +126,7 @@ fn changed(
 #[test]
 fn keys_are_read(rt: HostRuntime) -> Result<(), Fail> {
     let octets = plain(rt.alloc())?;
-    let Some(message) = read(rt.alloc(), octets.as_slice()) else {
+    let Ok(message) = read(rt.alloc(), octets.as_slice()) else {
         return Err(Fail::from("refused"));
     };
     assert_eq!(rt; message.fields(), 1);
@@ -151,7 +155,7 @@ fn a_sign_and_all_ones_are_told(rt: HostRuntime) -> Result<(), Fail> {
     octets[127] = 0x80;
     octets[131] = 0xff;
     octets[132] = 0x81;
-    let Some(message) = read(rt.alloc(), octets.as_slice()) else {
+    let Ok(message) = read(rt.alloc(), octets.as_slice()) else {
         return Err(Fail::from("refused"));
     };
     assert_eq!(rt; message.fields(), 1);
@@ -164,7 +168,7 @@ fn a_sign_and_all_ones_are_told(rt: HostRuntime) -> Result<(), Fail> {
 #[test]
 fn all_conditions_are_asked(rt: HostRuntime) -> Result<(), Fail> {
     let octets = plain(rt.alloc())?;
-    let Some(message) = read(rt.alloc(), octets.as_slice()) else {
+    let Ok(message) = read(rt.alloc(), octets.as_slice()) else {
         return Err(Fail::from("refused"));
     };
     assert_eq!(rt; message.fields(), 1);
@@ -194,7 +198,7 @@ fn all_conditions_are_asked(rt: HostRuntime) -> Result<(), Fail> {
 #[test]
 fn a_field_is_given_its_bitmap(rt: HostRuntime) -> Result<(), Fail> {
     let octets = two_fields(rt.alloc())?;
-    let Some(message) = read(rt.alloc(), octets.as_slice()) else {
+    let Ok(message) = read(rt.alloc(), octets.as_slice()) else {
         return Err(Fail::from("refused"));
     };
     assert_eq!(rt; message.fields(), 2);
@@ -235,7 +239,7 @@ fn a_field_keeps_its_local_section_and_surplus(rt: HostRuntime) -> Result<(), Fa
         FOUR_VALUES,
     ];
     let octets = octets_of(rt.alloc(), 191, &sections)?;
-    let Some(message) = read(rt.alloc(), octets.as_slice()) else {
+    let Ok(message) = read(rt.alloc(), octets.as_slice()) else {
         return Err(Fail::from("refused"));
     };
     assert_eq!(rt; message.fields(), 1);
@@ -247,7 +251,7 @@ fn a_field_keeps_its_local_section_and_surplus(rt: HostRuntime) -> Result<(), Fa
 #[test]
 fn the_octets_of_a_key_change_alone(rt: HostRuntime) -> Result<(), Fail> {
     let mut octets = plain(rt.alloc())?;
-    let Some(message) = read(rt.alloc(), octets.as_slice()) else {
+    let Ok(message) = read(rt.alloc(), octets.as_slice()) else {
         return Err(Fail::from("refused"));
     };
     let Ok(later) = changed(rt.alloc(), &message, Key::Year, Value::Number(2025)) else {
@@ -285,7 +289,7 @@ fn the_octets_of_a_key_change_alone(rt: HostRuntime) -> Result<(), Fail> {
 #[test]
 fn every_product_is_changed(rt: HostRuntime) -> Result<(), Fail> {
     let mut octets = two_fields(rt.alloc())?;
-    let Some(message) = read(rt.alloc(), octets.as_slice()) else {
+    let Ok(message) = read(rt.alloc(), octets.as_slice()) else {
         return Err(Fail::from("refused"));
     };
     let changes = [
@@ -322,7 +326,7 @@ fn a_member_gets_its_number(rt: HostRuntime) -> Result<(), Fail> {
         FOUR_VALUES,
     ];
     let mut octets = octets_of(rt.alloc(), 210, &sections)?;
-    let Some(message) = read(rt.alloc(), octets.as_slice()) else {
+    let Ok(message) = read(rt.alloc(), octets.as_slice()) else {
         return Err(Fail::from("refused"));
     };
     assert_eq!(rt; message.fields(), 1);
@@ -346,7 +350,7 @@ fn fault_of(alloc: Global, message: &Message<'_>, key: Key, value: Value) -> Opt
 #[test]
 fn the_first_change_at_fault_is_told(rt: HostRuntime) -> Result<(), Fail> {
     let octets = plain(rt.alloc())?;
-    let Some(message) = read(rt.alloc(), octets.as_slice()) else {
+    let Ok(message) = read(rt.alloc(), octets.as_slice()) else {
         return Err(Fail::from("refused"));
     };
     let month = SetFault::KeyRange { key: Key::Month };
