@@ -7,14 +7,14 @@ use Rattle.grib_io.specs.Rows.{first_fault}
 use Rattle.grib2_sections.specs.Frame.{Placed, placed_at, section_at, section_number}
 use Rattle.grib_bitmap.specs.Mask.{bitmap_indicator, bitmap_rows, own_mask}
 use Rattle.grib_packing.specs.Packing.{value_count}
-use Rattle.grib2_message.specs.View.{last_number, octets_in_force, points_in_force, earlier_mask}
+use Rattle.grib2_message.specs.View.{last_number, octets_in_force, points_in_force, earlier_bitmap, first_octets, earlier_mask}
 use Rattle.grib2_message.specs.Acceptance.{section_fault}
-use Rattle.grib2_message.specs.Kept.{StandsAt, ArePlaced, start_in_force, KeepsBitmap, HasPlaces, Comes}
+use Rattle.grib2_message.specs.Kept.{StandsAt, ArePlaced, start_in_force, KeepsBitmap, IsEarlier, HasPlaces, Comes}
 use Rattle.grib2_message.specs.declared.places.Bitmap.{Bitmap}
 use Rattle.grib2_message.specs.declared.places.Places.{Places}
 use Rattle.grib2_message.proofs.InForce.{in_force_same, in_force_other}
 use Rattle.grib2_message.proofs.Order.{Follows, follows_tells, in_range, one_below}
-use Rattle.grib2_message.proofs.Sound.{none_located, fault_of, earlier_own, earlier_kept, earlier_not_own, sound_after}
+use Rattle.grib2_message.proofs.Sound.{none_located, fault_of, earlier_own, earlier_kept, earlier_not_own, bitmap_own as own_list, bitmap_kept as kept_list, bitmap_not_own as not_own_list, sound_after}
 use Rattle.grib2_message.proofs.Bitmaps.{rows_alone}
 
 module _ (m : List ℕ) (before : List Placed) (number start : ℕ) (s : List ℕ) (comes : Comes m before number start s) where
@@ -51,16 +51,37 @@ module _ (m : List ℕ) (before : List Placed) (number start : ℕ) (s : List �
 
   pub places_after : (places after : Places) → HasPlaces m before places → section_fault before (placed_at start s) ≡ None
       → after.starts ≡ set places.starts number start → KeepsBitmap m after.bitmap (earlier_mask (placed_at start s ∷ before))
-      → HasPlaces m (placed_at start s ∷ before) after
-  places_after places after h accepted is bitmap = record {
+      → IsEarlier m after.bitmap (placed_at start s ∷ before) → HasPlaces m (placed_at start s ∷ before) after
+  places_after places after h accepted is bitmap earlier = record {
     eight = ap length is ∙ length-set places.starts number start ∙ h.eight;
     starts = λ k low. ap (λ (xs : List ℕ). get_or xs k 0) is ∙ starts_after places.starts h.eight h.starts k low;
     placed = comes_placed h.placed;
     bitmap = bitmap;
+    earlier = earlier;
     sound = sound_after (placed_at start s) before h.sound comes_follows accepted;
   }
 
   -- ---- the earlier bitmap
+
+  -- it is the same where this one has no bits of its own
+  earlier_stays : (bitmap : Option Bitmap) (later : List Placed) → earlier_bitmap later ≡ earlier_bitmap before → IsEarlier m bitmap before → IsEarlier m bitmap later
+  earlier_stays None later e h = tt
+  earlier_stays (Some bitmap) later e h = h ∙ sym (ap first_octets e)
+
+  pub earlier_kept_at : (places : Places) → HasPlaces m before places → number ≢ 6 → IsEarlier m places.bitmap (placed_at start s ∷ before)
+  earlier_kept_at places h other =
+      earlier_stays places.bitmap (placed_at start s ∷ before)
+      (kept_list (placed_at start s) before (λ e. other (sym comes.itself.number_stands ∙ e))) h.earlier
+
+  pub earlier_not_own_at : (places : Places) → HasPlaces m before places → number ≡ 6 → bitmap_indicator s ≢ 0 → IsEarlier m places.bitmap (placed_at start s ∷ before)
+  earlier_not_own_at places h six other =
+      earlier_stays places.bitmap (placed_at start s ∷ before)
+      (not_own_list (placed_at start s) before (comes.itself.number_stands ∙ six) other) h.earlier
+
+  pub earlier_own_at : (bitmap : Bitmap) → number ≡ 6 → bitmap_indicator s ≡ 0 → bitmap.start ≡ start → IsEarlier m (Some bitmap) (placed_at start s ∷ before)
+  earlier_own_at bitmap six own is_start =
+      ap (section_at m) is_start ∙ sym comes.octets_are
+      ∙ sym (ap first_octets (own_list (placed_at start s) before (comes.itself.number_stands ∙ six) own))
 
   pub bitmap_kept : (places : Places) → HasPlaces m before places → number ≢ 6 → KeepsBitmap m places.bitmap (earlier_mask (placed_at start s ∷ before))
   bitmap_kept places h other =

@@ -46,7 +46,7 @@ pub record First (m : List ℕ) (next_at : Position) (start : ℕ) (s : List ℕ
   pub shorter : length s ≤ 268435456
 
 -- no row refuses what comes
-contents_pass : (m : List ℕ) (at : Position) (left : List Placed) (s : List ℕ) (h : Ahead m at left) → step_from m at ≡ Next s
+pub contents_pass : (m : List ℕ) (at : Position) (left : List Placed) (s : List ℕ) (h : Ahead m at left) → step_from m at ≡ Next s
     → section_fault h.before (placed_at at.place s) ≡ None
 contents_pass m at left s h e =
     let g = given m at.total at.last at.place s e in

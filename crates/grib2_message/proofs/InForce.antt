@@ -4,7 +4,9 @@ use Rattle.std.specs.Option.{option_map_or}
 use Rattle.grib_bits.specs.Octets.{octets, StatesItself}
 use Rattle.grib2_sections.specs.Frame.{Placed, placed_at, section_at, section_number}
 use Rattle.grib2_sections.proofs.Frames.{states_itself}
-use Rattle.grib2_message.specs.View.{section_in_force, octets_in_force}
+use Rattle.grib_io.specs.Rows.{choose}
+use Rattle.grib_bitmap.specs.Mask.{bitmap_indicator}
+use Rattle.grib2_message.specs.View.{section_in_force, octets_in_force, earlier_bitmap, first_octets, own_bitmap}
 use Rattle.grib2_message.specs.Kept.{StandsAt, ArePlaced, HasPlaces}
 use Rattle.grib2_message.specs.declared.places.Places.{Places}
 
@@ -97,6 +99,17 @@ octets_same s before k e = ap (λ (o : Option Placed). option_map_or (λ t. t.oc
 
 pub octets_other : (s : Placed) (before : List Placed) (k : ℕ) → section_number s.octets ≢ k → octets_in_force k (s ∷ before) ≡ octets_in_force k before
 octets_other s before k ne = ap (λ (o : Option Placed). option_map_or (λ t. t.octets) o []) (in_force_other s before k ne)
+
+-- the Section 6 with the bits in force
+pub own_alone : (before : List Placed) → bitmap_indicator (octets_in_force 6 before) ≢ 254 → own_bitmap before ≡ octets_in_force 6 before
+own_alone before other =
+    let s = octets_in_force 6 before in
+    ap (λ (b : Bool). choose b (λ _. first_octets (earlier_bitmap before)) (λ _. s)) (ne_eqb (bitmap_indicator s) 254 other)
+
+pub own_repeated : (before : List Placed) → bitmap_indicator (octets_in_force 6 before) ≡ 254 → own_bitmap before ≡ first_octets (earlier_bitmap before)
+own_repeated before repeats =
+    let s = octets_in_force 6 before in
+    ap (λ (b : Bool). choose b (λ _. first_octets (earlier_bitmap before)) (λ _. s)) (eq-eqb (bitmap_indicator s) 254 repeats)
 
 -- the section in force by its start and its octets
 placed_by_start : (start : ℕ) (o : Option Placed) → start ≡ option_map_or (λ s. s.start) o 0 → 1 ≤ start

@@ -23,6 +23,7 @@ pub record Parted (m : List ℕ) (before : List Placed) (q turns : ℕ) : Type 0
   pub sections : List (List ℕ)
   pub follow : AreSections before q sections
   pub found : sections_from turns m q ≡ placed_from q sections
+  pub ends : q + length (concat sections) + 3 ≡ total_length m
 
 -- a section before those that were found
 parted_more : (m : List ℕ) (before : List Placed) (q turns : ℕ) → ends_at m q ≡ false → (f : Parted m (here m q ∷ before) (q + length (section_at m q)) turns)
@@ -31,6 +32,7 @@ parted_more m before q turns goes f follow = record {
   sections = section_at m q ∷ f.sections;
   follow = follow;
   found = some_found (ends_at m q) (λ _. here m q ∷ sections_from turns m (q + length (section_at m q))) goes ∙ ap (λ xs. here m q ∷ xs) f.found;
+  ends = omega (arith, f.ends, length-append (section_at m q) (concat f.sections));
 }
 
 -- the walk that accepts finds them
@@ -46,6 +48,7 @@ parted (suc turns) (suc more) m before q total e low room enough =
         sections = [];
         follow = mark.may_end ended.ends;
         found = none_found (ends_at m q) (λ _. here m q ∷ sections_from more m (q + length (section_at m q))) ended.ends;
+        ends = (let last = mark.at_end ended.ends in omega arith);
       }
       | inr went ↦
           let frame = frame_passes m (total_length m) (last_number before) q went.frame in

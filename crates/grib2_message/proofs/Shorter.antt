@@ -15,7 +15,7 @@ use Rattle.grib2_message.specs.View.{is_numbered}
 use Rattle.grib2_message.specs.Acceptance.{verdict_2}
 use Rattle.grib2_message.specs.Fields.{sections_of, field_count, field_sections, sections_up_to_field}
 use Rattle.grib2_message.specs.Message.{FieldPasses}
-use Rattle.grib2_message.specs.Kept.{StandsAt, ArePlaced, IsBitmap, KeepsBitmap, HasPlaces, IsField, KeepsFields, Keeps}
+use Rattle.grib2_message.specs.Kept.{StandsAt, ArePlaced, IsBitmap, KeepsBitmap, IsEarlier, HasPlaces, IsField, KeepsFields, Keeps}
 use Rattle.grib2_message.specs.declared.places.Bitmap.{Bitmap}
 use Rattle.grib2_message.specs.declared.places.Places.{Places}
 use Rattle.grib2_message.proofs.Fronts.{accepted_states, accepted_least, accepted_alone}
@@ -84,12 +84,19 @@ module _ (u m : List ℕ) (total : ℕ) (front : IsFront u m) (long : length u �
   keeps_alone (Some bitmap) None h = absurd h
   keeps_alone (Some bitmap) (Some mask) h = bitmap_alone bitmap mask h
 
+  -- and is the earlier bitmap
+  earlier_alone : (bitmap : Option Bitmap) (mask : Option (List Bool)) (before : List Placed) → KeepsBitmap m bitmap mask → IsEarlier m bitmap before → IsEarlier u bitmap before
+  earlier_alone None mask before h e = tt
+  earlier_alone (Some bitmap) None before h e = absurd h
+  earlier_alone (Some bitmap) (Some mask) before h e = sym (section_alone bitmap.start 6 h.stands) ∙ e
+
   places_alone : (before : List Placed) (places : Places) → HasPlaces m before places → HasPlaces u before places
   places_alone before places h = record {
     eight = h.eight;
     starts = h.starts;
     placed = placed_alone before h.placed;
     bitmap = keeps_alone places.bitmap _ h.bitmap;
+    earlier = earlier_alone places.bitmap _ before h.bitmap h.earlier;
     sound = h.sound;
   }
 

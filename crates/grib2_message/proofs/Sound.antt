@@ -44,6 +44,21 @@ module _ (s : Placed) (before : List Placed) where
       ap₂ (λ (a b : Bool). bitmap_mask (choose (a && b) (λ _. s ∷ before) (λ _. earlier_bitmap before)))
       (eq-eqb (section_number s.octets) 6 six) (ne_eqb (bitmap_indicator s.octets) 0 other)
 
+  pub bitmap_own : section_number s.octets ≡ 6 → bitmap_indicator s.octets ≡ 0 → earlier_bitmap (s ∷ before) ≡ s ∷ before
+  bitmap_own six own =
+      ap₂ (λ (a b : Bool). choose (a && b) (λ _. s ∷ before) (λ _. earlier_bitmap before))
+      (eq-eqb (section_number s.octets) 6 six) (eq-eqb (bitmap_indicator s.octets) 0 own)
+
+  pub bitmap_kept : section_number s.octets ≢ 6 → earlier_bitmap (s ∷ before) ≡ earlier_bitmap before
+  bitmap_kept other =
+      ap (λ (a : Bool). choose (a && (bitmap_indicator s.octets == 0)) (λ _. s ∷ before) (λ _. earlier_bitmap before))
+      (ne_eqb (section_number s.octets) 6 other)
+
+  pub bitmap_not_own : section_number s.octets ≡ 6 → bitmap_indicator s.octets ≢ 0 → earlier_bitmap (s ∷ before) ≡ earlier_bitmap before
+  bitmap_not_own six other =
+      ap₂ (λ (a b : Bool). choose (a && b) (λ _. s ∷ before) (λ _. earlier_bitmap before))
+      (eq-eqb (section_number s.octets) 6 six) (ne_eqb (bitmap_indicator s.octets) 0 other)
+
   pub mask_here : section_number s.octets ≡ 6 → mask_in_force (s ∷ before) ≡ mask_of s.octets (points_in_force before) (earlier_mask before)
   mask_here six =
       ap (λ (a : Bool). choose a (λ _. mask_of s.octets (points_in_force before) (earlier_mask before)) (λ _. mask_in_force before))

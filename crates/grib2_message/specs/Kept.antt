@@ -14,7 +14,7 @@ use Rattle.grib2_products.specs.Product.{product_rows}
 use Rattle.grib_bitmap.specs.Mask.{bitmap_indicator, bitmap_rows, mask_of, own_mask, present_count}
 use Rattle.grib_packing.specs.Packing.{value_count}
 use Rattle.grib_packing.specs.Entries.{packing_fault, data_fault}
-use Rattle.grib2_message.specs.View.{last_number, section_in_force, octets_in_force, points_in_force, earlier_mask, mask_in_force, section_count}
+use Rattle.grib2_message.specs.View.{last_number, section_in_force, octets_in_force, points_in_force, earlier_bitmap, first_octets, earlier_mask, mask_in_force, section_count}
 use Rattle.grib2_message.specs.Fields.{field_sections, field_count}
 use Rattle.grib2_message.specs.Message.{IsMessage}
 use Rattle.grib2_message.specs.declared.places.Bitmap.{Bitmap}
@@ -52,6 +52,11 @@ KeepsBitmap message None None = Unit {0}
 KeepsBitmap message None (Some mask) = ⊥
 KeepsBitmap message (Some bitmap) None = ⊥
 KeepsBitmap message (Some bitmap) (Some mask) = IsBitmap message bitmap mask
+
+-- it is the earlier bitmap, where one is kept
+abbrev pub IsEarlier : List ℕ → Option Bitmap → List Placed → Type 0
+IsEarlier message None before = Unit {0}
+IsEarlier message (Some bitmap) before = section_at message bitmap.start ≡ first_octets (earlier_bitmap before)
 
 -- what the row on bitmaps asks of an earlier one
 abbrev pub TellsBitmap : Option Bitmap → Option (List Bool) → Type 0
@@ -95,6 +100,7 @@ pub record HasPlaces (message : List ℕ) (before : List Placed) (places : Place
   pub starts : (k : ℕ) → k < 8 → get_or places.starts k 0 ≡ start_in_force k before
   pub placed : ArePlaced message before
   pub bitmap : KeepsBitmap message places.bitmap (earlier_mask before)
+  pub earlier : IsEarlier message places.bitmap before
   pub sound : AreSound before
 
 -- a section that stands after these, as the frame gives it

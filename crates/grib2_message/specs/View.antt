@@ -33,6 +33,18 @@ earlier_bitmap [] = []
 earlier_bitmap (s ∷ before) =
     choose (is_numbered 6 s && (bitmap_indicator s.octets == 0)) (λ _. s ∷ before) (λ _. earlier_bitmap before)
 
+-- the octets of the first of some sections, none where there is none
+abbrev pub first_octets : List Placed → List ℕ
+first_octets [] = []
+first_octets (s ∷ before) = s.octets
+
+-- the Section 6 with the bits in force: the last one, or, where that repeats an earlier bitmap (indicator
+-- 254), the last one before it with the indicator 0
+abbrev pub own_bitmap : List Placed → List ℕ
+own_bitmap before =
+    let s = octets_in_force 6 before in
+    choose (bitmap_indicator s == 254) (λ _. first_octets (earlier_bitmap before)) (λ _. s)
+
 -- the mask of the first of these sections, in view of the others
 abbrev pub bitmap_mask : List Placed → Option (List Bool)
 bitmap_mask [] = None

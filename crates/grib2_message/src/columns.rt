@@ -8,6 +8,7 @@ ghost use Rattle.grib_packing.specs.Entries.{packing_fault, column_from};
 ghost use Rattle.grib_packing.specs.Packing.{value_count};
 ghost use Rattle.grib_simple.specs.Unpacked.{IsUnpacked};
 ghost use Rattle.grib2_sections.specs.Frame.{Placed};
+ghost use Rattle.grib2_message.specs.View as definitions;
 ghost use Rattle.grib2_message.specs.View.{octets_in_force, points_in_force, mask_in_force};
 ghost use Rattle.grib2_message.specs.Kept.{IsField};
 
@@ -88,6 +89,23 @@ fn mask_at(alloc: Global, octets: &[u8], places: &Places) -> Result<Mask, AllocE
     };
     let earlier = section_from(octets, bitmap.start, 6);
     accepted_mask(alloc, &earlier, bitmap.points, bitmap.present)
+}
+
+/// The Section 6 with the bits of that field.
+pub(crate) fn own_bitmap<'a>(octets: &'a [u8], places: &Places) -> Section<'a>
+    requires { (before : List Placed) × IsField octets.now before places.now }
+    ensures octets { (before : List Placed) → IsField octets.now before places.now
+        → result.octets.now ≡ definitions.own_bitmap before }
+    ensures itself { StatesItself 6 result.octets.now }
+{
+    let section = places.section(octets, 6);
+    if u8_at(section.octets, 6) != REPEATS {
+        return section;
+    }
+    let Some(bitmap) = places.bitmap else {
+        unreachable!();
+    };
+    section_from(octets, bitmap.start, 6)
 }
 
 /// The mask of a Section 6 that no row refuses where there is no earlier bitmap.

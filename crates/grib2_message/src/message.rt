@@ -4,14 +4,14 @@ ghost use Rattle.std.specs.Prelude.{◌≡◌, ◌≢◌, ◌≤◌, length, Non
 ghost use Rattle.grib_bits.specs.Octets.{StatesItself};
 ghost use Rattle.grib2_sections.specs.Frame.{placed_at};
 ghost use Rattle.grib2_message.specs.Fields as definitions;
-ghost use Rattle.grib2_message.specs.Fields.{field_count, part_octets, column_of};
+ghost use Rattle.grib2_message.specs.Fields.{field_count, part_octets, field_bitmap, column_of};
 ghost use Rattle.grib2_message.specs.Message.{IsMessage, FieldPasses};
 ghost use Rattle.grib2_message.specs.Assembled.{assembled, IsShort, IsAssembleFault};
 ghost use Rattle.grib2_message.specs.Kept.{Keeps};
 
 use crate::AssembleFault;
 use crate::assembling::{assembled_length, put_together};
-use crate::columns::column_at;
+use crate::columns::{column_at, own_bitmap};
 use crate::places::Places;
 use grib_io::Section;
 use grib_packing::Column;
@@ -95,6 +95,18 @@ impl<'a> Message<'a> {
             return None;
         }
         Some(places.section(self.octets, section))
+    }
+
+    /// The Section 6 with the bits of a field, counted from 1: that in force for it, or, where that repeats
+    /// an earlier bitmap (indicator 254 of code table 6.0), the last one before it with bits of its own.
+    pub fn bitmap(&self, field: u32) -> Section<'a>
+        requires first { 1 ≤ field }
+        requires last { field ≤ field_count self.now }
+        ensures octets { result.octets.now ≡ field_bitmap self.now field }
+        ensures itself { StatesItself 6 result.octets.now }
+    {
+        let places = &self.fields[field as usize - 1];
+        own_bitmap(self.octets, places)
     }
 
     /// What a field holds, one entry for each grid point. Fields count from 1.

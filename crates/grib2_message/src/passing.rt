@@ -5,7 +5,7 @@ ghost use Rattle.grib_bits.specs.Octets.{StatesItself};
 ghost use Rattle.grib2_sections.specs.Frame.{Placed, placed_at};
 ghost use Rattle.grib2_message.specs.View.{earlier_mask, section_count};
 ghost use Rattle.grib2_message.specs.Acceptance.{section_fault};
-ghost use Rattle.grib2_message.specs.Kept.{HasPlaces, KeepsBitmap, Comes};
+ghost use Rattle.grib2_message.specs.Kept.{HasPlaces, KeepsBitmap, IsEarlier, Comes};
 ghost use Rattle.grib2_message.specs.ReadFaults.{AreTried};
 
 use crate::ReadFault;
@@ -84,11 +84,15 @@ fn last_bitmap(octets: &[u8], places: &Places, section: &Section<'_>) -> Option<
     requires comes { (before : List Placed) × HasPlaces octets.now before places.now
         × Comes octets.now before section.now.number section.now.start section.now.octets.now
         × (section_fault before (placed_at section.now.start section.now.octets.now) ≡ None) }
-    ensures { (before : List Placed) → HasPlaces octets.now before places.now
+    ensures mask { (before : List Placed) → HasPlaces octets.now before places.now
         → Comes octets.now before section.now.number section.now.start section.now.octets.now
         → section_fault before (placed_at section.now.start section.now.octets.now) ≡ None
         → KeepsBitmap octets.now result
         (earlier_mask (placed_at section.now.start section.now.octets.now ∷ before)) }
+    ensures earlier { (before : List Placed) → HasPlaces octets.now before places.now
+        → Comes octets.now before section.now.number section.now.start section.now.octets.now
+        → IsEarlier octets.now result
+        (placed_at section.now.start section.now.octets.now ∷ before) }
 {
     if section.number != 6 || u8_at(section.octets, 6) != OWN_BITS {
         return places.bitmap;

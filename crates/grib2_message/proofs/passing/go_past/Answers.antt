@@ -12,4 +12,4 @@ pub returns : goal.returns
 returns c = λ before h comes accepted.
     let section = c.args.section.now in
     places_after c.args.octets.now before section.number section.start section.octets.now comes c.args.places.now _ h accepted refl
-    (c.last_bitmap-bitmap.ensures before h comes accepted)
+    (c.last_bitmap-bitmap.ensures.mask before h comes accepted) (c.last_bitmap-bitmap.ensures.earlier before h comes)

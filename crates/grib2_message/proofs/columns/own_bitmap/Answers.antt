@@ -1,0 +1,37 @@
+use Rattle.std.proofs.Common.{◌≡◌, ℕ, List, sym, ap, ◌∙◌, arith, subst, Option}
+use Rattle.grib_bitmap.specs.Mask.{bitmap_indicator}
+use Rattle.grib2_message.specs.View.{octets_in_force}
+use Rattle.grib2_message.specs.Kept.{IsEarlier}
+use Rattle.grib2_message.specs.declared.places.Bitmap.{Bitmap}
+use Rattle.grib2_message.proofs.Checked.{stands_below}
+use Rattle.grib2_message.proofs.InForce.{own_alone, own_repeated}
+use Rattle.grib2_message.proofs.Masks.{bitmap_there, repeated}
+use Rattle.grib2_message.proofs.columns.own_bitmap.Goals as goal
+
+pub section-section-requires-clause-stands : goal.section-section-requires-clause-stands
+section-section-requires-clause-stands c =
+    stands_below c.args.octets.now c.requires.0 c.args.places.now 6 c.requires.1.stand (omega arith) (omega arith) (omega (arith, c.requires.1.ends))
+
+pub returns-then-u8_at-clause-octets : goal.returns-then-u8_at-clause-octets
+returns-then-u8_at-clause-octets c = λ before h.
+    let section = c.section-section.ensures.octets before h.stand in
+    let indicator : bitmap_indicator (octets_in_force 6 before) ≡ c.u8_at.result = ap bitmap_indicator (sym section) ∙ sym c.u8_at.ensures in
+    section ∙ sym (own_alone before (λ e. c.if-u8_at.true (sym indicator ∙ e)))
+
+pub unreachable-requires : goal.unreachable-requires
+unreachable-requires c =
+    let section = c.section-section.ensures.octets c.requires.0 c.requires.1.stand in
+    bitmap_there c.args.octets.now c.requires.0 c.args.places.now c.requires.1
+    (ap bitmap_indicator (sym section) ∙ sym c.u8_at.ensures ∙ c.if-u8_at.false) c.in_default.is
+
+pub section_from-requires : goal.section_from-requires
+section_from-requires c =
+    (repeated c.args.octets.now c.requires.0 c.args.places.now c.requires.1 c.in-Some.bitmap c.in-Some.is).bits.stands
+
+pub returns-clause-octets : goal.returns-clause-octets
+returns-clause-octets c = λ before h.
+    let section = c.section-section.ensures.octets before h.stand in
+    let indicator : bitmap_indicator (octets_in_force 6 before) ≡ 254 = ap bitmap_indicator (sym section) ∙ sym c.u8_at.ensures ∙ c.if-u8_at.false in
+    c.section_from.ensures.octets
+    ∙ subst (λ (b : Option Bitmap). IsEarlier c.args.octets.now b before) c.in-Some.is h.stand.earlier
+    ∙ sym (own_repeated before indicator)

@@ -1,0 +1,13 @@
+pub mod Accepted
+pub mod Alone
+pub mod Asked
+pub mod Changes
+pub mod Composed
+pub mod Cut
+pub mod Kept
+pub mod Numbers
+pub mod Puts
+pub mod Sections
+pub mod Stand
+pub mod Steps
+pub mod Within

@@ -1,0 +1,153 @@
+-- Octets of a section that no change touches, and what they decide.
+use Rattle.std.proofs.Common.{◌≡◌, ◌≢◌, ℕ, zero, suc, ◌+◌, ◌-◌, ◌*◌, ◌/◌, ◌≤◌, ◌<◌, Bool, true, false, not, cond, ◌&&◌, ◌||◌, ◌==◌, ◌⊎◌, min, nat_lt, List, [], ◌∷◌, ◌++◌, length, map, inl, inr, refl, sym, ap, ap₂, ◌∙◌, arith, subst, lt-ltb, ltb-true, eqb-true}
+use Rattle.std.specs.Prelude.{sum}
+use Rattle.std.specs.List.{range_with_len}
+use Rattle.grib_bits.specs.Octets.{octets, octet_list, num_on, StatesItself}
+use Rattle.grib_io.specs.declared.fault.Reason.TheVariants.{SectionLength, GridSource, GridTemplate, PointCount, ListShape, FieldCount, ProductTemplate}
+use Rattle.grib_io.specs.Rows.{Row, row}
+use Rattle.grib2_sections.specs.Template.{is_template, least_length}
+use Rattle.grib2_sections.specs.Identification.{identification_rows}
+use Rattle.grib2_grids.specs.Grid.{grid_rows, grid_points, grid_template, grid_templates, list_octets, list_meaning, list_start, row_list, ni, nj, may_have_list, grid_source}
+use Rattle.grib2_products.specs.Product.{product_rows, product_template, product_templates, product_length, coordinate_count}
+
+-- whether octets a to b are outside the octets first to last
+abbrev pub outside : ℕ → ℕ → ℕ → ℕ → Bool
+outside first last a b = nat_lt b first || nat_lt last a
+
+-- whether octets a to b of a section with this number are none of a key that can be set
+abbrev pub is_fixed : ℕ → ℕ → ℕ → Bool
+is_fixed number a b =
+    cond (number == 0) (outside 7 7 a b)
+    (cond (number == 1) (outside 6 21 a b)
+    (cond (number == 3) (outside 15 30 a b && outside 39 72 a b)
+    (cond (number == 4) (outside 10 36 a b) true)))
+
+-- two sections with this number that are the same there
+pub record AreAlike (number : ℕ) (s t : List ℕ) : Type 0 where
+  pub long : length t ≡ length s
+  pub fixed : (a b : ℕ) → 1 ≤ a → a ≤ b → is_fixed number a b ≡ true → octet_list t a b ≡ octet_list s a b
+
+pub alike_self : (number : ℕ) (s : List ℕ) → AreAlike number s s
+alike_self number s = record { long = refl; fixed = λ a b low order e. refl }
+
+pub alike_then : (number : ℕ) (s t u : List ℕ) → AreAlike number s t → AreAlike number t u → AreAlike number s u
+alike_then number s t u h k = record { long = k.long ∙ h.long; fixed = λ a b low order e. k.fixed a b low order e ∙ h.fixed a b low order e }
+
+-- the number of such octets
+pub alike_octets : (number a b : ℕ) (s t : List ℕ) → AreAlike number s t → 1 ≤ a → a ≤ b → is_fixed number a b ≡ true → octets t a b ≡ octets s a b
+alike_octets number a b s t h low order e = ap (num_on 0) (h.fixed a b low order e)
+
+-- it states the same length and the same number
+pub alike_itself : (number n : ℕ) (s t : List ℕ) → AreAlike number s t → is_fixed number 1 4 ≡ true → is_fixed number 5 5 ≡ true → StatesItself n s → StatesItself n t
+alike_itself number n s t h four five is = record {
+  length_stands = alike_octets number 1 4 s t h (omega arith) (omega arith) four ∙ is.length_stands ∙ sym h.long;
+  least = omega (arith, is.least, h.long);
+  number_stands = alike_octets number 5 5 s t h (omega arith) (omega arith) five ∙ is.number_stands;
+}
+
+pub alike_identification : (s t : List ℕ) → AreAlike 1 s t → identification_rows t ≡ identification_rows s
+alike_identification s t h = ap (λ (l : ℕ). row (nat_lt l 21) 1 SectionLength l ∷ []) h.long
+
+-- ---- Section 3
+
+pub or_right : (a b : Bool) → b ≡ true → (a || b) ≡ true
+or_right true b e = refl
+or_right false b e = e
+
+and_both : (a b : Bool) → a ≡ true → b ≡ true → (a && b) ≡ true
+and_both true b e f = f
+and_both false b e f = cc
+
+-- the list of rows stands behind all keys
+fixed_behind : (a b : ℕ) → 73 ≤ a → is_fixed 3 a b ≡ true
+fixed_behind a b high =
+    and_both (outside 15 30 a b) (outside 39 72 a b) (or_right (nat_lt b 15) (nat_lt 30 a) (lt-ltb 30 a (omega arith))) (or_right (nat_lt b 39) (nat_lt 72 a) (lt-ltb 72 a (omega arith)))
+
+start_low : (b : Bool) → 73 ≤ cond b 85 73
+start_low true = omega arith
+start_low false = omega arith
+
+list_with : List ℕ → ℕ → ℕ → ℕ → List ℕ
+list_with s size f count = map (λ j. octets s (f + j * size) (f + j * size + size - 1)) (range_with_len 0 count)
+
+list_same : (s t : List ℕ) (size f count : ℕ) → AreAlike 3 s t → 1 ≤ size → 73 ≤ f → list_with t size f count ≡ list_with s size f count
+unfolding list_with
+list_same s t size f count h some high =
+    let each : (j : ℕ) → octets t (f + j * size) (f + j * size + size - 1) ≡ octets s (f + j * size) (f + j * size + size - 1) =
+    λ j. alike_octets 3 (f + j * size) (f + j * size + size - 1) s t h (omega arith) (omega arith) (fixed_behind (f + j * size) (f + j * size + size - 1) (omega arith)) in
+    λ i. map (λ j. each j i) (range_with_len 0 count)
+
+list_count : ℕ → ℕ → ℕ → ℕ → ℕ
+list_count size n l f = cond (size == 0) 0 (min n ((l + 1 - f) / size))
+
+list_sized : (s t : List ℕ) (size f count : ℕ) → AreAlike 3 s t → 73 ≤ f → list_with t size f (cond (size == 0) 0 count) ≡ list_with s size f (cond (size == 0) 0 count)
+unfolding list_with
+list_sized s t zero f count h high = refl
+list_sized s t (suc size) f count h high = list_same s t (suc size) f (cond (suc size == 0) 0 count) h (omega arith) high
+
+module _ (s t : List ℕ) (h : AreAlike 3 s t) where
+  template_3 : grid_template t ≡ grid_template s
+  template_3 = alike_octets 3 13 14 s t h (omega arith) (omega arith) refl
+
+  pub points_3 : grid_points t ≡ grid_points s
+  points_3 = alike_octets 3 7 10 s t h (omega arith) (omega arith) refl
+
+  size_3 : list_octets t ≡ list_octets s
+  size_3 = alike_octets 3 11 11 s t h (omega arith) (omega arith) refl
+
+  nj_3 : nj t ≡ nj s
+  nj_3 = alike_octets 3 35 38 s t h (omega arith) (omega arith) refl
+
+  ni_3 : ni t ≡ ni s
+  ni_3 = alike_octets 3 31 34 s t h (omega arith) (omega arith) refl
+
+  list_3 : row_list t ≡ row_list s
+  unfolding list_with list_count
+  list_3 =
+      (λ i. list_with t (size_3 i) (cond (template_3 i == 1) 85 73) (list_count (size_3 i) (nj_3 i) (h.long i) (cond (template_3 i == 1) 85 73)))
+      ∙ list_sized s t (list_octets s) (list_start s) (min (nj s) ((length s + 1 - list_start s) / list_octets s)) h (start_low (grid_template s == 1))
+
+-- the rows of a grid by the numbers that they test
+grid_by : ℕ → ℕ → ℕ → ℕ → ℕ → ℕ → ℕ → ℕ → List ℕ → List Row
+grid_by l source t points size meaning n_i n_j list =
+    let listed = not (size == 0) in
+    let f = cond (t == 1) 85 73 in
+    row (nat_lt l 14) 1 SectionLength l
+    ∷ row (not (source == 0)) 6 GridSource source
+    ∷ row (not (is_template grid_templates t)) 13 GridTemplate t
+    ∷ row (nat_lt l (least_length grid_templates t)) 1 SectionLength l
+    ∷ row (points == 0 || nat_lt 33554432 points) 7 PointCount points
+    ∷ row (listed && not (meaning == 1) && not (meaning == 2)) 12 ListShape meaning
+    ∷ row (nat_lt 4 size || (listed && not (may_have_list t))) 11 ListShape size
+    ∷ row (listed && (n_j == 0 || n_j == 4294967295)) 35 ListShape n_j
+    ∷ row (listed && nat_lt l (f - 1 + size * n_j)) f ListShape n_j
+    ∷ row (listed && not (sum list == points)) 7 PointCount (sum list)
+    ∷ row (not listed && not (n_i * n_j == points)) 7 PointCount (n_i * n_j)
+    ∷ []
+
+pub alike_grid : (s t : List ℕ) → AreAlike 3 s t → grid_rows t ≡ grid_rows s
+unfolding grid_by
+alike_grid s t h =
+    let source = alike_octets 3 6 6 s t h (omega arith) (omega arith) refl in
+    let meaning = alike_octets 3 12 12 s t h (omega arith) (omega arith) refl in
+    λ i. grid_by (h.long i) (source i) (template_3 s t h i) (points_3 s t h i) (size_3 s t h i) (meaning i) (ni_3 s t h i) (nj_3 s t h i) (list_3 s t h i)
+
+-- ---- Section 4
+
+product_by : ℕ → ℕ → ℕ → ℕ → ℕ → ℕ → List Row
+product_by l t n coordinates ranges_8 ranges_11 =
+    row (nat_lt l 9) 1 SectionLength l
+    ∷ row (n == 4097) 1 FieldCount 4097
+    ∷ row (not (is_template product_templates t)) 8 ProductTemplate t
+    ∷ row (nat_lt l (least_length product_templates t)) 1 SectionLength l
+    ∷ row (nat_lt l (least_length product_templates t + 12 * cond (t == 8) ranges_8 (cond (t == 11) ranges_11 0) + 4 * coordinates)) 1 SectionLength l
+    ∷ []
+
+pub alike_product : (s t : List ℕ) (n : ℕ) → AreAlike 4 s t → product_rows t n ≡ product_rows s n
+unfolding product_by
+alike_product s t n h =
+    let template = alike_octets 4 8 9 s t h (omega arith) (omega arith) refl in
+    let coordinates = alike_octets 4 6 7 s t h (omega arith) (omega arith) refl in
+    let ranges_8 = alike_octets 4 42 42 s t h (omega arith) (omega arith) refl in
+    let ranges_11 = alike_octets 4 45 45 s t h (omega arith) (omega arith) refl in
+    λ i. product_by (h.long i) (template i) n (coordinates i) (ranges_8 i) (ranges_11 i)

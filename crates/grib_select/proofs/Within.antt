@@ -1,0 +1,222 @@
+-- Each key that the template of a section has stands within the section, by the rows of the profile.
+use Rattle.std.proofs.Common.{◌≡◌, ◌≢◌, ℕ, ◌+◌, ◌-◌, ◌<◌, ◌≤◌, Bool, true, false, not, ◌||◌, ◌&&◌, ◌==◌, Option, Some, None, List, [], ◌∷◌, length, take, nat_lt, ◌⊎◌, inl, inr, refl, sym, ap, ◌∙◌, arith, subst, ltb-false, eqb-true, ltb-true, eq-eqb}
+use Rattle.std.specs.Option.{option_map_or}
+use Rattle.std.proofs.lemmas.Bool.{not-false, cases_eq}
+use Rattle.grib_bits.specs.Octets.{octets}
+use Rattle.grib_io.specs.Rows.{Row, first_fault, or_then, choose}
+use Rattle.grib2_sections.specs.Template.{template, is_template, least_length}
+use Rattle.grib2_sections.specs.Identification.{identification_rows}
+use Rattle.grib2_grids.specs.Grid.{grid_rows, grid_points, grid_template, grid_templates}
+use Rattle.grib2_message.specs.Message.{FieldPasses}
+use Rattle.grib2_message.specs.Fields.{part_octets}
+use Rattle.grib2_products.specs.Product.{product_rows, product_template, product_templates}
+use Rattle.grib_packing.specs.Packing.{packing_template, packing_templates, packing_rows}
+use Rattle.grib_packing.specs.Complex.{complex_rows}
+use Rattle.grib_packing.specs.Entries.{packing_fault}
+use Rattle.grib_io.specs.declared.fault.Fault.{Fault}
+use Rattle.grib_keys.specs.declared.key.Key.{Key}
+use Rattle.grib_keys.specs.declared.key.Key.TheVariants.{Discipline}
+use Rattle.grib_keys.specs.Keys.{Octets, row_of}
+use Rattle.grib2_message.proofs.Passed.{AllPass, passes_from_none}
+use Rattle.grib_select.specs.Values.{template_of, octet_count, HasKeys}
+
+-- ---- the places of the keys, template by template
+
+-- whether the key, if it stands in a section with this number and template, has 1 to 4 octets and ends
+-- within the first l
+abbrev pub ends_within : ℕ → ℕ → ℕ → Key → Bool
+ends_within number t l key =
+    not ((row_of key).section == number) || option_map_or (λ p. nat_lt 0 p.first && (nat_lt p.last (l + 1) && (nat_lt 0 (octet_count p) && nat_lt (octet_count p) 5))) ((row_of key).place t) true
+
+head_keys : (t : ℕ) (key : Key) → ends_within 0 t 16 key ≡ true
+head_keys t Discipline = refl
+head_keys t key = refl
+
+identification_keys : (t : ℕ) (key : Key) → ends_within 1 t 21 key ≡ true
+identification_keys t Discipline = refl
+identification_keys t key = refl
+
+packing_keys : (t : ℕ) (key : Key) → ends_within 5 t 21 key ≡ true
+packing_keys t Discipline = refl
+packing_keys t key = refl
+
+grid_0 : (key : Key) → ends_within 3 0 72 key ≡ true
+grid_0 Discipline = refl
+grid_0 key = refl
+
+grid_1 : (key : Key) → ends_within 3 1 84 key ≡ true
+grid_1 Discipline = refl
+grid_1 key = refl
+
+grid_10 : (key : Key) → ends_within 3 10 72 key ≡ true
+grid_10 Discipline = refl
+grid_10 key = refl
+
+grid_20 : (key : Key) → ends_within 3 20 65 key ≡ true
+grid_20 Discipline = refl
+grid_20 key = refl
+
+grid_30 : (key : Key) → ends_within 3 30 81 key ≡ true
+grid_30 Discipline = refl
+grid_30 key = refl
+
+grid_40 : (key : Key) → ends_within 3 40 72 key ≡ true
+grid_40 Discipline = refl
+grid_40 key = refl
+
+product_0 : (key : Key) → ends_within 4 0 34 key ≡ true
+product_0 Discipline = refl
+product_0 key = refl
+
+product_1 : (key : Key) → ends_within 4 1 37 key ≡ true
+product_1 Discipline = refl
+product_1 key = refl
+
+product_8 : (key : Key) → ends_within 4 8 46 key ≡ true
+product_8 Discipline = refl
+product_8 key = refl
+
+product_11 : (key : Key) → ends_within 4 11 49 key ≡ true
+product_11 Discipline = refl
+product_11 key = refl
+
+-- ---- the templates of the profile
+
+pub or_parts_true : (a b : Bool) → (a || b) ≡ true → (a ≡ true) ⊎ (b ≡ true)
+or_parts_true true b e = inl refl
+or_parts_true false b e = inr e
+
+-- where what holds of the first template and of each later one is asked
+pub by_template : (P : ℕ → Type 0) (n t : ℕ) (rest : Bool) → ((n == t) || rest) ≡ true → P n → (rest ≡ true → P t) → P t
+by_template P n t rest e here later =
+    elim (or_parts_true (n == t) rest e) [ inl same ↦ subst P (eqb-true n t same) here | inr other ↦ later other ]
+
+pub grid_keys_within : (t : ℕ) → is_template grid_templates t ≡ true → (key : Key) → ends_within 3 t (least_length grid_templates t) key ≡ true
+grid_keys_within t e key =
+    let P : ℕ → Type 0 = λ n. ends_within 3 n (least_length grid_templates n) key ≡ true in
+    by_template P 0 t _ e (grid_0 key)
+    (λ e1. by_template P 1 t _ e1 (grid_1 key)
+    (λ e2. by_template P 10 t _ e2 (grid_10 key)
+    (λ e3. by_template P 20 t _ e3 (grid_20 key)
+    (λ e4. by_template P 30 t _ e4 (grid_30 key)
+    (λ e5. by_template P 40 t _ e5 (grid_40 key) (λ e6. cc))))))
+
+pub product_keys_within : (t : ℕ) → is_template product_templates t ≡ true → (key : Key) → ends_within 4 t (least_length product_templates t) key ≡ true
+product_keys_within t e key =
+    let P : ℕ → Type 0 = λ n. ends_within 4 n (least_length product_templates n) key ≡ true in
+    by_template P 0 t _ e (product_0 key)
+    (λ e1. by_template P 1 t _ e1 (product_1 key)
+    (λ e2. by_template P 8 t _ e2 (product_8 key)
+    (λ e3. by_template P 11 t _ e3 (product_11 key) (λ e4. cc))))
+
+-- ---- what the test tells of a place
+
+pub record IsWithin (l : ℕ) (place : Octets) : Type 0 where
+  pub low : 1 ≤ place.first
+  pub high : place.last ≤ l
+  pub some : place.first ≤ place.last
+  pub few : place.last + 1 ≤ place.first + 4
+
+pub and_first : (a b : Bool) → (a && b) ≡ true → a ≡ true
+and_first true b e = refl
+and_first false b e = cc
+
+pub and_second : (a b : Bool) → (a && b) ≡ true → b ≡ true
+and_second true b e = e
+and_second false b e = cc
+
+lt_true : (a b : ℕ) → nat_lt a b ≡ true → a < b
+lt_true a b e = ltb-true a b e
+
+place_tells : (l : ℕ) (p : Octets) → (nat_lt 0 p.first && (nat_lt p.last (l + 1) && (nat_lt 0 (octet_count p) && nat_lt (octet_count p) 5))) ≡ true → IsWithin l p
+place_tells l p e =
+    let rest = and_second (nat_lt 0 p.first) _ e in
+    let count = and_second (nat_lt p.last (l + 1)) _ rest in
+    let low : 0 < p.first = lt_true 0 p.first (and_first (nat_lt 0 p.first) _ e) in
+    let high : p.last < l + 1 = lt_true p.last (l + 1) (and_first (nat_lt p.last (l + 1)) _ rest) in
+    let some : 0 < p.last + 1 - p.first = lt_true 0 (octet_count p) (and_first (nat_lt 0 (octet_count p)) _ count) in
+    let few : p.last + 1 - p.first < 5 = lt_true (octet_count p) 5 (and_second (nat_lt 0 (octet_count p)) _ count) in
+    record { low = omega arith; high = omega arith; some = omega arith; few = omega arith }
+
+pub within_tells : (number t l : ℕ) (key : Key) (p : Octets) → ends_within number t l key ≡ true → (row_of key).section ≡ number → (row_of key).place t ≡ Some p → IsWithin l p
+within_tells number t l key p e section place =
+    place_tells l p (
+    sym (ap (λ (o : Option Octets). option_map_or (λ p. nat_lt 0 p.first && (nat_lt p.last (l + 1) && (nat_lt 0 (octet_count p) && nat_lt (octet_count p) 5))) o true) place)
+    ∙ sym (ap (λ (b : Bool). not b || option_map_or (λ p. nat_lt 0 p.first && (nat_lt p.last (l + 1) && (nat_lt 0 (octet_count p) && nat_lt (octet_count p) 5))) ((row_of key).place t) true) (eq-eqb (row_of key).section number section))
+    ∙ e)
+
+-- ---- sections that no row refuses
+
+-- each key of a section with this number and these octets stands within it, in 1 to 4 octets
+abbrev pub KeysWithin : ℕ → List ℕ → Type 0
+KeysWithin number s =
+    (key : Key) (p : Octets) → (row_of key).section ≡ number → (row_of key).place (template_of number s) ≡ Some p → IsWithin (length s) p
+
+longer : (l n : ℕ) (p : Octets) → l ≤ n → IsWithin l p → IsWithin n p
+longer l n p more h = record { low = h.low; high = omega (arith, h.high); some = h.some; few = h.few }
+
+pub head_within : (s : List ℕ) → 16 ≤ length s → KeysWithin 0 s
+head_within s long key p section place = longer 16 (length s) p long (within_tells 0 0 16 key p (head_keys 0 key) section place)
+
+pub identification_within : (s : List ℕ) → first_fault (identification_rows s) ≡ None → KeysWithin 1 s
+identification_within s none key p section place =
+    let rows = passes_from_none (identification_rows s) none in
+    longer 21 (length s) p (ltb-false (length s) 21 rows.0) (within_tells 1 0 21 key p (identification_keys 0 key) section place)
+
+pub grid_within : (s : List ℕ) → first_fault (grid_rows s) ≡ None → KeysWithin 3 s
+grid_within s none key p section place =
+    let rows = passes_from_none (grid_rows s) none in
+    let t = grid_template s in
+    let known : is_template grid_templates t ≡ true = not-false (is_template grid_templates t) rows.1.1.0 in
+    longer (least_length grid_templates t) (length s) p (ltb-false (length s) (least_length grid_templates t) rows.1.1.1.0)
+    (within_tells 3 t (least_length grid_templates t) key p (grid_keys_within t known key) section place)
+
+pub product_within : (s : List ℕ) (n : ℕ) → first_fault (product_rows s n) ≡ None → KeysWithin 4 s
+product_within s n none key p section place =
+    let rows = passes_from_none (product_rows s n) none in
+    let t = product_template s in
+    let known : is_template product_templates t ≡ true = not-false (is_template product_templates t) rows.1.1.0 in
+    longer (least_length product_templates t) (length s) p (ltb-false (length s) (least_length product_templates t) rows.1.1.1.0)
+    (within_tells 4 t (least_length product_templates t) key p (product_keys_within t known key) section place)
+
+-- the least lengths of Section 5 are 21 and more
+at_least_21 : (t l : ℕ) → is_template packing_templates t ≡ true → least_length packing_templates t ≤ l → 21 ≤ l
+at_least_21 t l e least =
+    let P : ℕ → Type 0 = λ n. least_length packing_templates n ≤ l → 21 ≤ l in
+    by_template P 0 t _ e (λ h. omega arith)
+    (λ e1. by_template P 2 t _ e1 (λ h. omega arith)
+    (λ e2. by_template P 3 t _ e2 (λ h. omega arith) (λ e3. cc))) least
+
+first_none : (first : Option Fault) (later : Unit {0} → List Row) → or_then first later ≡ None → first ≡ None
+first_none (Some fault) later e = e
+first_none None later e = refl
+
+pub packing_within : (s : List ℕ) (points : ℕ) → packing_fault s points ≡ None → KeysWithin 5 s
+packing_within s points none key p section place =
+    let shared = first_none (first_fault (packing_rows s points)) (λ _. choose (packing_template s == 0) (λ _. []) (λ _. complex_rows s)) none in
+    let rows = passes_from_none (packing_rows s points) shared in
+    let t = packing_template s in
+    let known : is_template packing_templates t ≡ true = not-false (is_template packing_templates t) rows.1.0 in
+    let least : least_length packing_templates t ≤ length s = ltb-false (length s) (least_length packing_templates t) rows.1.1.0 in
+    longer 21 (length s) p (at_least_21 t (length s) known least) (within_tells 5 t 21 key p (packing_keys t key) section place)
+
+-- ---- the sections in force for a field
+
+pub has_keys : (number : ℕ) (s : List ℕ) → KeysWithin number s → HasKeys number s
+has_keys number s h key place section at = (h key place section at).high
+
+pub part_keys : (m : List ℕ) (i number : ℕ) → FieldPasses m i → number ≤ 5 → number ≢ 2 → number ≢ 0 → HasKeys number (part_octets m i number)
+part_keys m i number h few not_2 not_0 =
+    let P : ℕ → Type 0 = λ n. HasKeys n (part_octets m i n) in
+    elim (cases_eq number 1) [
+      | inl e ↦ subst P (sym e) (has_keys 1 (part_octets m i 1) (identification_within (part_octets m i 1) h.identification))
+      | inr not_1 ↦ elim (cases_eq number 3) [
+        | inl e ↦ subst P (sym e) (has_keys 3 (part_octets m i 3) (grid_within (part_octets m i 3) h.grid))
+        | inr not_3 ↦ elim (cases_eq number 4) [
+          | inl e ↦ subst P (sym e) (has_keys 4 (part_octets m i 4) (product_within (part_octets m i 4) 1 h.product))
+          | inr not_4 ↦
+              let e : number ≡ 5 = omega arith in
+              subst P (sym e) (has_keys 5 (part_octets m i 5) (packing_within (part_octets m i 5) (grid_points (part_octets m i 3)) h.packing))
+        ]
+      ]
+    ]

@@ -1,0 +1,9 @@
+use Rattle.grib_select.proofs.Kept.{can_be_set, changed_accepted, changed_fields, changed_column}
+use Rattle.grib_select.proofs.laws.what_is_set_keeps_each_column.Goals as goal
+
+pub returns : goal.returns
+returns c = record {
+  accepted = λ m changes h set. changed_accepted m changes h (can_be_set changes set);
+  fields = λ m changes h set. changed_fields m changes h (can_be_set changes set);
+  columns = λ m changes i h set. changed_column m changes h (can_be_set changes set) i;
+}

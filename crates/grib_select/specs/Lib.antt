@@ -1,0 +1,5 @@
+pub mod Places
+pub mod Values
+pub mod Single
+pub mod Changed
+pub use Rattle.grib_keys.specs.Keys

@@ -1,0 +1,74 @@
+-- The values of the keys of a field (WMO-No. 306, Volume I.2, FM 92 GRIB edition 2): numbers in the sections
+-- that are in force for it, at the places that the table of keys gives.
+use Rattle.std.specs.Prelude.{◌≡◌, ℕ, ◌+◌, ◌-◌, ◌^◌, ◌≤◌, cond, ◌&&◌, ◌==◌, Bool, true, false, Option, Some, None, option_map, List, take, length, pos}
+use Rattle.std.specs.List.{list_all}
+use Rattle.std.specs.Ordering.{int_eq}
+use Rattle.grib_bits.specs.Octets.{octets, signed_octets}
+use Rattle.grib_io.specs.Rows.{choose}
+use Rattle.grib_keys.specs.declared.key.Key.{Key}
+use Rattle.grib_keys.specs.declared.condition.Value.{Value}
+use Rattle.grib_keys.specs.declared.condition.Value.TheVariants.{Number, Missing}
+use Rattle.grib_keys.specs.declared.condition.Condition.{Condition}
+use Rattle.grib_keys.specs.Keys.{Octets, Kind, row_of}
+use Rattle.grib2_message.specs.Fields.{part_octets}
+
+-- the section with this number that is in force for field i; Section 0 is the same for all fields
+abbrev pub key_section : List ℕ → ℕ → ℕ → List ℕ
+key_section message i number = choose (number == 0) (λ _. take 16 message) (λ _. part_octets message i number)
+
+-- the number of the template of a section with this number: octets 13-14 of Section 3, 8-9 of Section 4,
+-- 10-11 of Section 5; the sections before have none, and here 0
+abbrev pub template_of : ℕ → List ℕ → ℕ
+template_of number s =
+    cond (number == 3) (octets s 13 14) (cond (number == 4) (octets s 8 9) (cond (number == 5) (octets s 10 11) 0))
+
+-- how many octets a number has
+abbrev pub octet_count : Octets → ℕ
+octet_count place = place.last + 1 - place.first
+
+-- whether all bits of a number of n octets are 1
+abbrev pub is_all_ones : ℕ → ℕ → Bool
+is_all_ones n number = number + 1 == 256 ^ n
+
+-- the value that stands at a place of a section
+abbrev pub value_at : Kind → List ℕ → Octets → Value
+value_at kind s place =
+    let number = octets s place.first place.last in
+    cond (kind.may_be_missing && is_all_ones (octet_count place) number) Missing
+    (Number (cond kind.is_signed (signed_octets s place.first place.last) (pos number)))
+
+-- the value of a key in its section, none where the template of the section lacks the key
+abbrev pub value_in : Key → List ℕ → Option Value
+value_in key s =
+    let row = row_of key in
+    option_map (value_at row.kind s) (row.place (template_of row.section s))
+
+-- the value of a key of field i
+abbrev pub key_value_of : List ℕ → ℕ → Key → Option Value
+key_value_of message i key = value_in key (key_section message i (row_of key).section)
+
+-- whether two values are the same
+abbrev pub same_value : Value → Value → Bool
+same_value (Number x) (Number y) = int_eq x y
+same_value (Number x) Missing = false
+same_value Missing (Number y) = false
+same_value Missing Missing = true
+
+-- whether there is a value, and it is this one
+abbrev pub is_value : Option Value → Value → Bool
+is_value None asked = false
+is_value (Some value) asked = same_value value asked
+
+-- whether field i has the key with this value
+abbrev pub fulfils : List ℕ → ℕ → Condition → Bool
+fulfils message i condition = is_value (key_value_of message i condition.key) condition.value
+
+-- whether field i has every key with its value
+abbrev pub fulfils_all : List ℕ → ℕ → List Condition → Bool
+fulfils_all message i conditions = list_all (fulfils message i) conditions
+
+-- each key that the template of a section with this number has stands within the section
+abbrev pub HasKeys : ℕ → List ℕ → Type 0
+HasKeys number s =
+    (key : Key) (place : Octets) → (row_of key).section ≡ number → (row_of key).place (template_of number s) ≡ Some place
+    → place.last ≤ length s

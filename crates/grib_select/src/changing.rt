@@ -1,0 +1,174 @@
+//! Messages with other values of some keys.
+
+ghost use Rattle.std.specs.Prelude.{◌≡◌, ◌≢◌, ◌++◌, None, Some, All, IsTrue, IfOk, OnOk, MatchOption, MatchResult};
+ghost use Rattle.grib_bits.specs.Octets.{StatesItself};
+ghost use Rattle.grib_io.specs.declared.fault.Fault.{Fault};
+ghost use Rattle.grib2_sections.specs.Frame.{End, Fails, Next, step_from, position_after};
+ghost use Rattle.grib_keys.specs.Keys.{can_set};
+ghost use Rattle.grib_select.specs.declared.changing.SetFault.TheVariants.{Memory};
+ghost use Rattle.grib_select.specs.Values.{HasKeys};
+ghost use Rattle.grib_select.specs.Changed.{with_key, with_changes, with_keys, change_fault, set_fault, IsSetFault};
+
+use crate::number::new_number;
+use crate::place::section_of;
+use crate::value::{key_value, place_in};
+use byteorder::{BigEndian, ByteOrder};
+use grib_io::Section;
+use grib_keys::{Condition, Key};
+use grib2_message::Message;
+use grib2_sections::Frame;
+use std::alloc::{AllocError, Global};
+use thiserror::Error;
+
+/// Why no value of a key was changed. Fields count from 1.
+#[derive(Clone, Copy, Debug, PartialEq, Eq, Error)]
+pub enum SetFault {
+    /// The value does not fit the octets of the key.
+    #[error("the value of {key} does not fit")]
+    KeyRange { key: Key },
+    /// The template of this field lacks the key; it is the first such field.
+    #[error("field {field} has no {key}")]
+    KeyAbsent { field: u32, key: Key },
+    /// Want of memory.
+    #[error("out of memory")]
+    Memory,
+}
+
+impl From<AllocError> for SetFault {
+    ghost from_gives = { λ _ fault. fault ≡ Memory };
+
+    fn from(_error: AllocError) -> SetFault {
+        SetFault::Memory
+    }
+}
+
+/// The message with other values of some keys. All octets are copied but those of the keys, which change
+/// in Sections 0 and 1 and in every Section 3 and 4. Where a key stands twice, its last value stays.
+///
+/// # Errors
+///
+/// The first change at fault: its value does not fit the octets of the key, or else the first field whose
+/// template lacks the key. Or there is no memory.
+pub fn set_keys(
+    alloc: Global,
+    message: &Message<'_>,
+    changes: &[Condition],
+) -> Result<Vec<u8>, SetFault>
+    requires { All (λ c. IsTrue (can_set c.key)) changes.now }
+    ensures { MatchResult result
+        (λ octets. (set_fault message.now changes.now ≡ None)
+        × (octets.items ≡ with_keys message.now changes.now))
+        (IsSetFault (set_fault message.now changes.now)) }
+{
+    check_changes(message, changes)?;
+    Ok(write_changed(alloc, message, changes)?)
+}
+
+/// Refuses the first change at fault.
+fn check_changes(message: &Message<'_>, changes: &[Condition]) -> Result<(), SetFault>
+    ensures { MatchResult result (λ _. set_fault message.now changes.now ≡ None)
+        (λ fault. set_fault message.now changes.now ≡ Some fault) }
+{
+    for change in changes {
+        check_change(message, change)?;
+    }
+    Ok(())
+}
+
+/// Refuses a change whose value does not fit, or whose key the template of a field lacks.
+fn check_change(message: &Message<'_>, change: &Condition) -> Result<(), SetFault>
+    ensures { MatchResult result (λ _. change_fault message.now change.now ≡ None)
+        (λ fault. change_fault message.now change.now ≡ Some fault) }
+{
+    let key = change.key;
+    if new_number(change).is_none() {
+        return Err(SetFault::KeyRange { key });
+    }
+    for field in 1..message.fields() + 1 {
+        if key_value(message, field, key).is_none() {
+            return Err(SetFault::KeyAbsent { field, key });
+        }
+    }
+    Ok(())
+}
+
+/// The octets of the message with these changes, which can be made.
+fn write_changed(
+    alloc: Global,
+    message: &Message<'_>,
+    changes: &[Condition],
+) -> Result<Vec<u8>, AllocError>
+    requires settable { All (λ c. IsTrue (can_set c.key)) changes.now }
+    requires fit { set_fault message.now changes.now ≡ None }
+    ensures { IfOk result (λ octets. octets.items ≡ with_keys message.now changes.now) }
+{
+    let octets = message.octets();
+    let mut out = Vec::with_capacity(alloc, octets.len())?;
+    append_changed(&octets[..16], 0, changes, &mut out)?;
+    let mut frame = Frame::new(message.length());
+    while let Some(section) = next_section(&mut frame, octets) {
+        append_changed(section.octets, section.number, changes, &mut out)?;
+    }
+    out.extend_from_slice(b"7777")?;
+    Ok(out)
+}
+
+/// The next section of a message of which no row refuses a section, or nothing at its end mark.
+fn next_section<'a>(frame: &mut Frame, octets: &'a [u8]) -> Option<Section<'a>>
+    requires { (fault : Fault) → step_from octets.now frame.old ≢ Fails fault }
+    ensures { MatchOption result (step_from octets.now frame.old ≡ End)
+        (λ section. (step_from octets.now frame.old ≡ Next section.octets.now)
+        × StatesItself section.number section.octets.now
+        × (section.start ≡ frame.old.place)
+        × (frame.new ≡ position_after frame.old section.octets.now)) }
+{
+    let Ok(section) = frame.next(octets) else {
+        unreachable!();
+    };
+    section
+}
+
+/// Appends a section with this number with these changes.
+fn append_changed(
+    section: &[u8],
+    number: u8,
+    changes: &[Condition],
+    out: &mut Vec<u8>,
+) -> Result<(), AllocError>
+    requires settable { All (λ c. IsTrue (can_set c.key)) changes.now }
+    requires keys { HasKeys number section.now }
+    ensures { OnOk result (out.new.items ≡ out.old.items ++ with_changes changes.now number section.now) }
+{
+    let start = out.len();
+    out.extend_from_slice(section)?;
+    change_section(&mut out[start..], number, changes);
+    Ok(())
+}
+
+/// Makes these changes in a section with this number.
+fn change_section(section: &mut [u8], number: u8, changes: &[Condition])
+    requires settable { All (λ c. IsTrue (can_set c.key)) changes.now }
+    requires keys { HasKeys number section.old }
+    ensures { section.new ≡ with_changes changes.now number section.old }
+{
+    for change in changes {
+        change_key(section, number, change);
+    }
+}
+
+/// Makes a change in a section with this number, if the key stands in it.
+fn change_key(section: &mut [u8], number: u8, change: &Condition)
+    requires settable { IsTrue (can_set change.now.key) }
+    requires keys { HasKeys number section.old }
+    ensures changed { section.new ≡ with_key change.now number section.old }
+    ensures keys { HasKeys number section.new }
+{
+    if section_of(change.key) != number {
+        return;
+    }
+    let Some(place) = place_in(section, change.key) else {
+        return;
+    };
+    let raw = new_number(change).unwrap_or(0);
+    BigEndian::write_uint(&mut section[place.first - 1..], raw, place.size);
+}

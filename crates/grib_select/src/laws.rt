@@ -1,0 +1,32 @@
+//! Laws over the definitions.
+
+ghost use Rattle.std.specs.Prelude.{◌≡◌, ℕ, ◌≤◌, List, All, IsTrue};
+ghost use Rattle.grib2_message.specs.Fields.{field_count, column_of};
+ghost use Rattle.grib2_message.specs.Message.{IsMessage};
+ghost use Rattle.grib_keys.specs.declared.condition.Condition.{Condition};
+ghost use Rattle.grib_keys.specs.Keys.{can_set};
+ghost use Rattle.grib_select.specs.Single.{single_of};
+ghost use Rattle.grib_select.specs.Changed.{with_keys};
+
+/// A field of an accepted message that is cut out is an accepted message of one field, with the same column.
+pub fn what_is_cut_out_keeps_its_column()
+    ensures accepted { (message : List ℕ) (i : ℕ) → IsMessage message → 1 ≤ i → i ≤ field_count message
+        → IsMessage (single_of message i) }
+    ensures one { (message : List ℕ) (i : ℕ) → IsMessage message → 1 ≤ i → i ≤ field_count message
+        → field_count (single_of message i) ≡ 1 }
+    ensures column { (message : List ℕ) (i : ℕ) → IsMessage message → 1 ≤ i → i ≤ field_count message
+        → column_of (single_of message i) 1 ≡ column_of message i }
+{}
+
+/// An accepted message in which keys that can be set got other values is an accepted message with as many
+/// fields, each with the same column.
+pub fn what_is_set_keeps_each_column()
+    ensures accepted { (message : List ℕ) (changes : List Condition) → IsMessage message
+        → All (λ c. IsTrue (can_set c.key)) changes → IsMessage (with_keys message changes) }
+    ensures fields { (message : List ℕ) (changes : List Condition) → IsMessage message
+        → All (λ c. IsTrue (can_set c.key)) changes
+        → field_count (with_keys message changes) ≡ field_count message }
+    ensures columns { (message : List ℕ) (changes : List Condition) (i : ℕ) → IsMessage message
+        → All (λ c. IsTrue (can_set c.key)) changes
+        → column_of (with_keys message changes) i ≡ column_of message i }
+{}

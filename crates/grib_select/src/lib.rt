@@ -1,0 +1,19 @@
+//! The keys of the fields of a message of edition 2: what they are, and messages with other values of
+//! them or with one field alone.
+#![tactic(auto)]
+
+mod changing;
+mod cutting;
+pub mod laws;
+mod matching;
+mod number;
+mod place;
+#[cfg(test)]
+mod tests;
+mod value;
+
+pub use changing::{SetFault, set_keys};
+pub use cutting::single;
+pub use grib_keys::{Condition, Key, Value};
+pub use matching::matches;
+pub use value::key_value;

@@ -1,0 +1,384 @@
+//! Keys of whole messages. The octets and what they hold are worked by hand from the tables of the manual.
+
+use crate::{Condition, Key, SetFault, Value, key_value, matches, set_keys, single};
+use grib2_message::{Message, ReadFault, read_message};
+use grib2_sections::u8_at;
+use std::alloc::{AllocError, Global};
+use std::test::Fail;
+
+const IDENTIFICATION: &[u8] = b"\0\0\0\x15\x01\0\x62\0\0\x02\0\x01\x07\xe8\x01\x0f\x0c\0\0\0\x01";
+
+/// A Section 2 of one octet.
+const LOCAL: &[u8] = b"\0\0\0\x06\x02\x2a";
+
+/// A grid of 2 by 2 points of latitude and longitude.
+const GRID: &[u8] = b"\0\0\0\x48\x03\0\0\0\0\x04\0\0\0\0\x06\
+\xff\xff\xff\xff\xff\xff\xff\xff\xff\xff\xff\xff\xff\xff\xff\0\0\0\x02\0\0\0\x02\
+\0\0\0\0\xff\xff\xff\xff\x02\xfa\xf0\x80\0\x98\x96\x80\x30\x02\xeb\xae\x40\0\xa7\xd8\xc0\
+\0\x0f\x42\x40\0\x0f\x42\x40\0";
+
+const PRODUCT: &[u8] = b"\0\0\0\x22\x04\0\0\0\0\0\0\x02\xff\x01\0\0\0\x01\0\0\0\x06\x67\0\0\0\0\x02\
+\xff\xff\xff\xff\xff\xff";
+
+/// The same with two octets more than its template has.
+const LONG_PRODUCT: &[u8] =
+    b"\0\0\0\x24\x04\0\0\0\0\0\0\x02\xff\x01\0\0\0\x01\0\0\0\x06\x67\0\0\0\0\x02\
+\xff\xff\xff\xff\xff\xff\xab\xcd";
+
+/// A member of an ensemble over an interval.
+const INTERVAL: &[u8] =
+    b"\0\0\0\x3d\x04\0\0\0\x0b\0\0\x02\xff\x01\0\0\0\x01\0\0\0\x06\x67\0\0\0\0\x02\
+\xff\xff\xff\xff\xff\xff\x01\x03\x0a\x07\xe8\x01\x0f\x12\0\0\x01\0\0\0\0\x01\x02\x01\0\0\0\x06\x01\0\0\0\0";
+
+/// Four numbers of eight bits each.
+const FOUR_NUMBERS: &[u8] = b"\0\0\0\x15\x05\0\0\0\x04\0\0\xc2\xed\x40\0\x80\x03\0\x01\x08\0";
+
+const THREE_NUMBERS: &[u8] = b"\0\0\0\x15\x05\0\0\0\x03\0\0\xc2\xed\x40\0\x80\x03\0\x01\x08\0";
+
+/// All points are present.
+const NO_BITMAP: &[u8] = b"\0\0\0\x06\x06\xff";
+
+/// The second of four points is left out.
+const OWN_BITMAP: &[u8] = b"\0\0\0\x07\x06\0\xb0";
+
+const SAME_BITMAP: &[u8] = b"\0\0\0\x06\x06\xfe";
+
+const FOUR_VALUES: &[u8] = b"\0\0\0\x09\x07\0\x01\x02\xff";
+
+const FIRST_VALUES: &[u8] = b"\0\0\0\x08\x07\0\x01\x02";
+
+const SECOND_VALUES: &[u8] = b"\0\0\0\x08\x07\x03\x04\x05";
+
+/// The octets of a message with this total length and these sections.
+fn octets_of(alloc: Global, total: u64, sections: &[&[u8]]) -> Result<Vec<u8>, AllocError> {
+    let mut octets = b"GRIB\0\0\0\x02".to_vec(alloc)?;
+    octets.extend_from_slice(&total.to_be_bytes())?;
+    for section in sections {
+        octets.extend_from_slice(section)?;
+    }
+    octets.extend_from_slice(b"7777")?;
+    Ok(octets)
+}
+
+/// A message of one field.
+fn plain(alloc: Global) -> Result<Vec<u8>, AllocError> {
+    let sections = [
+        IDENTIFICATION,
+        GRID,
+        PRODUCT,
+        FOUR_NUMBERS,
+        NO_BITMAP,
+        FOUR_VALUES,
+    ];
+    octets_of(alloc, 183, &sections)
+}
+
+/// A message of two fields, the second with the bitmap of the first.
+fn two_fields(alloc: Global) -> Result<Vec<u8>, AllocError> {
+    let sections = [
+        IDENTIFICATION,
+        GRID,
+        PRODUCT,
+        THREE_NUMBERS,
+        OWN_BITMAP,
+        FIRST_VALUES,
+        PRODUCT,
+        THREE_NUMBERS,
+        SAME_BITMAP,
+        SECOND_VALUES,
+    ];
+    octets_of(alloc, 252, &sections)
+}
+
+/// The message of these octets.
+fn read(alloc: Global, octets: &[u8]) -> Result<Message<'_>, ReadFault> {
+    if octets.len() < 8 || !octets.starts_with(b"GRIB") || u8_at(octets, 8) != 2 {
+        return Err(ReadFault::Memory);
+    }
+    read_message(alloc, octets)
+}
+
+/// The value of a key of the first field.
+fn value_of(message: &Message<'_>, key: Key) -> Option<Value> {
+    if message.fields() == 0 {
+        return None;
+    }
+    key_value(message, 1, key)
+}
+
+fn number(x: i64) -> Option<Value> {
+    Some(Value::Number(x))
+}
+
+/// A message with one change, or why there is none.
+fn changed(
+    alloc: Global,
+    message: &Message<'_>,
+    key: Key,
+    value: Value,
+) -> Result<Vec<u8>, SetFault> {
+    if !key.can_set() {
+        return Err(SetFault::Memory);
+    }
+    set_keys(alloc, message, &[Condition { key, value }])
+}
+
+#[test]
+fn keys_are_read(rt: HostRuntime) -> Result<(), Fail> {
+    let octets = plain(rt.alloc())?;
+    let Ok(message) = read(rt.alloc(), octets.as_slice()) else {
+        return Err(Fail::from("refused"));
+    };
+    assert_eq!(rt; message.fields(), 1);
+    assert_eq!(rt; value_of(&message, Key::Discipline), number(0));
+    assert_eq!(rt; value_of(&message, Key::Centre), number(98));
+    assert_eq!(rt; value_of(&message, Key::Year), number(2024));
+    assert_eq!(rt; value_of(&message, Key::DataType), number(1));
+    assert_eq!(rt; value_of(&message, Key::Points), number(4));
+    assert_eq!(rt; value_of(&message, Key::Ni), number(2));
+    assert_eq!(rt; value_of(&message, Key::La1), number(50_000_000));
+    assert_eq!(rt; value_of(&message, Key::Scanning), number(0));
+    assert_eq!(rt; value_of(&message, Key::ForecastTime), number(6));
+    assert_eq!(rt; value_of(&message, Key::Surface1), number(103));
+    assert_eq!(rt; value_of(&message, Key::Surface1Value), number(2));
+    assert_eq!(rt; value_of(&message, Key::EnsembleNumber), None);
+    assert_eq!(rt; value_of(&message, Key::Bits), number(8));
+    Ok(())
+}
+
+#[test]
+fn a_sign_and_all_ones_are_told(rt: HostRuntime) -> Result<(), Fail> {
+    let mut octets = plain(rt.alloc())?;
+    if octets.len() != 183 {
+        return Err(Fail::from("length"));
+    }
+    octets[127] = 0x80;
+    octets[131] = 0xff;
+    octets[132] = 0x81;
+    let Ok(message) = read(rt.alloc(), octets.as_slice()) else {
+        return Err(Fail::from("refused"));
+    };
+    assert_eq!(rt; message.fields(), 1);
+    assert_eq!(rt; value_of(&message, Key::ForecastTime), number(-6));
+    assert_eq!(rt; value_of(&message, Key::Surface1), Some(Value::Missing));
+    assert_eq!(rt; value_of(&message, Key::Surface1Scale), number(-1));
+    Ok(())
+}
+
+#[test]
+fn all_conditions_are_asked(rt: HostRuntime) -> Result<(), Fail> {
+    let octets = plain(rt.alloc())?;
+    let Ok(message) = read(rt.alloc(), octets.as_slice()) else {
+        return Err(Fail::from("refused"));
+    };
+    assert_eq!(rt; message.fields(), 1);
+    let ahead = Condition {
+        key: Key::ForecastTime,
+        value: Value::Number(6),
+    };
+    let late = Condition {
+        key: Key::ForecastTime,
+        value: Value::Number(9),
+    };
+    let centre = Condition {
+        key: Key::Centre,
+        value: Value::Number(98),
+    };
+    let member = Condition {
+        key: Key::EnsembleNumber,
+        value: Value::Missing,
+    };
+    assert!(rt; matches(&message, 1, &[ahead, centre]));
+    assert!(rt; !matches(&message, 1, &[centre, late]));
+    assert!(rt; !matches(&message, 1, &[member]));
+    assert!(rt; matches(&message, 1, &[]));
+    Ok(())
+}
+
+#[test]
+fn a_field_is_given_its_bitmap(rt: HostRuntime) -> Result<(), Fail> {
+    let octets = two_fields(rt.alloc())?;
+    let Ok(message) = read(rt.alloc(), octets.as_slice()) else {
+        return Err(Fail::from("refused"));
+    };
+    assert_eq!(rt; message.fields(), 2);
+    let first = [
+        IDENTIFICATION,
+        GRID,
+        PRODUCT,
+        THREE_NUMBERS,
+        OWN_BITMAP,
+        FIRST_VALUES,
+    ];
+    let second = [
+        IDENTIFICATION,
+        GRID,
+        PRODUCT,
+        THREE_NUMBERS,
+        OWN_BITMAP,
+        SECOND_VALUES,
+    ];
+    let alone = single(rt.alloc(), &message, 1)?;
+    let expected = octets_of(rt.alloc(), 183, &first)?;
+    assert!(rt; alone.as_slice() == expected.as_slice());
+    let alone = single(rt.alloc(), &message, 2)?;
+    let expected = octets_of(rt.alloc(), 183, &second)?;
+    assert!(rt; alone.as_slice() == expected.as_slice());
+    Ok(())
+}
+
+#[test]
+fn a_field_keeps_its_local_section_and_surplus(rt: HostRuntime) -> Result<(), Fail> {
+    let sections = [
+        IDENTIFICATION,
+        LOCAL,
+        GRID,
+        LONG_PRODUCT,
+        FOUR_NUMBERS,
+        NO_BITMAP,
+        FOUR_VALUES,
+    ];
+    let octets = octets_of(rt.alloc(), 191, &sections)?;
+    let Ok(message) = read(rt.alloc(), octets.as_slice()) else {
+        return Err(Fail::from("refused"));
+    };
+    assert_eq!(rt; message.fields(), 1);
+    let alone = single(rt.alloc(), &message, 1)?;
+    assert!(rt; alone.as_slice() == octets.as_slice());
+    Ok(())
+}
+
+#[test]
+fn the_octets_of_a_key_change_alone(rt: HostRuntime) -> Result<(), Fail> {
+    let mut octets = plain(rt.alloc())?;
+    let Ok(message) = read(rt.alloc(), octets.as_slice()) else {
+        return Err(Fail::from("refused"));
+    };
+    let Ok(later) = changed(rt.alloc(), &message, Key::Year, Value::Number(2025)) else {
+        return Err(Fail::from("not changed"));
+    };
+    let Ok(sea) = changed(rt.alloc(), &message, Key::Discipline, Value::Number(10)) else {
+        return Err(Fail::from("not changed"));
+    };
+    let Ok(before) = changed(rt.alloc(), &message, Key::ForecastTime, Value::Number(-6)) else {
+        return Err(Fail::from("not changed"));
+    };
+    let Ok(nowhere) = changed(rt.alloc(), &message, Key::Surface1Value, Value::Missing) else {
+        return Err(Fail::from("not changed"));
+    };
+    if octets.len() != 183 {
+        return Err(Fail::from("length"));
+    }
+    octets[28] = 0x07;
+    octets[29] = 0xe9;
+    assert!(rt; later.as_slice() == octets.as_slice());
+    octets[29] = 0xe8;
+    octets[6] = 10;
+    assert!(rt; sea.as_slice() == octets.as_slice());
+    octets[6] = 0;
+    octets[127] = 0x80;
+    assert!(rt; before.as_slice() == octets.as_slice());
+    octets[127] = 0;
+    for place in 133..137 {
+        octets[place] = 0xff;
+    }
+    assert!(rt; nowhere.as_slice() == octets.as_slice());
+    Ok(())
+}
+
+#[test]
+fn every_product_is_changed(rt: HostRuntime) -> Result<(), Fail> {
+    let mut octets = two_fields(rt.alloc())?;
+    let Ok(message) = read(rt.alloc(), octets.as_slice()) else {
+        return Err(Fail::from("refused"));
+    };
+    let changes = [
+        Condition {
+            key: Key::Generator,
+            value: Value::Number(7),
+        },
+        Condition {
+            key: Key::Scanning,
+            value: Value::Number(0x40),
+        },
+    ];
+    let Ok(changed) = set_keys(rt.alloc(), &message, &changes) else {
+        return Err(Fail::from("not changed"));
+    };
+    if octets.len() != 252 {
+        return Err(Fail::from("length"));
+    }
+    octets[108] = 0x40;
+    octets[122] = 7;
+    octets[192] = 7;
+    assert!(rt; changed.as_slice() == octets.as_slice());
+    Ok(())
+}
+
+#[test]
+fn a_member_gets_its_number(rt: HostRuntime) -> Result<(), Fail> {
+    let sections = [
+        IDENTIFICATION,
+        GRID,
+        INTERVAL,
+        FOUR_NUMBERS,
+        NO_BITMAP,
+        FOUR_VALUES,
+    ];
+    let mut octets = octets_of(rt.alloc(), 210, &sections)?;
+    let Ok(message) = read(rt.alloc(), octets.as_slice()) else {
+        return Err(Fail::from("refused"));
+    };
+    assert_eq!(rt; message.fields(), 1);
+    assert_eq!(rt; value_of(&message, Key::EnsembleNumber), number(3));
+    let Ok(changed) = changed(rt.alloc(), &message, Key::EnsembleNumber, Value::Number(5)) else {
+        return Err(Fail::from("not changed"));
+    };
+    if octets.len() != 210 {
+        return Err(Fail::from("length"));
+    }
+    octets[144] = 5;
+    assert!(rt; changed.as_slice() == octets.as_slice());
+    Ok(())
+}
+
+/// Why a change of one key is refused.
+fn fault_of(alloc: Global, message: &Message<'_>, key: Key, value: Value) -> Option<SetFault> {
+    changed(alloc, message, key, value).err()
+}
+
+#[test]
+fn the_first_change_at_fault_is_told(rt: HostRuntime) -> Result<(), Fail> {
+    let octets = plain(rt.alloc())?;
+    let Ok(message) = read(rt.alloc(), octets.as_slice()) else {
+        return Err(Fail::from("refused"));
+    };
+    let month = SetFault::KeyRange { key: Key::Month };
+    let ahead = SetFault::KeyRange {
+        key: Key::ForecastTime,
+    };
+    let scale = SetFault::KeyRange {
+        key: Key::Surface1Scale,
+    };
+    let range = SetFault::KeyRange {
+        key: Key::EnsembleNumber,
+    };
+    let member = SetFault::KeyAbsent {
+        field: 1,
+        key: Key::EnsembleNumber,
+    };
+    let faults = [
+        (Key::Month, Value::Number(256), month),
+        (Key::Month, Value::Number(-1), month),
+        (Key::Month, Value::Missing, month),
+        (Key::ForecastTime, Value::Number(2_147_483_648), ahead),
+        (Key::ForecastTime, Value::Number(-2_147_483_648), ahead),
+        (Key::Surface1Scale, Value::Number(-127), scale),
+        (Key::EnsembleNumber, Value::Number(256), range),
+        (Key::EnsembleNumber, Value::Number(1), member),
+    ];
+    for (key, value, fault) in faults {
+        assert!(rt; fault_of(rt.alloc(), &message, key, value) == Some(fault));
+    }
+    Ok(())
+}

@@ -1,0 +1,90 @@
+//! The values of keys.
+
+ghost use Rattle.std.specs.Prelude.{◌≡◌, ◌≢◌, ◌+◌, ◌≤◌, length, option_map, IfSome};
+ghost use Rattle.grib_keys.specs.Keys.{row_of};
+ghost use Rattle.grib2_message.specs.Fields.{field_count};
+ghost use Rattle.grib_select.specs.Places.{octets_of_place};
+ghost use Rattle.grib_select.specs.Changed.{key_octets};
+ghost use Rattle.grib_select.specs.Values as definitions;
+ghost use Rattle.grib_select.specs.Values.{key_value_of, HasKeys, value_at as value_at_place};
+
+use crate::number::is_all_ones;
+use crate::place::{Place, is_signed, may_be_missing, place_of, section_of};
+use grib_bits::signed_of;
+use grib_keys::{Key, Value};
+use grib2_message::Message;
+use grib2_sections::{u16_at, uint_at};
+
+/// The value that a key has in a field, counted from 1: the number at its place in the section that is in
+/// force for the field, or missing; `None` exactly where the template of the section has no such key.
+pub fn key_value(message: &Message<'_>, field: u32, key: Key) -> Option<Value>
+    requires first { 1 ≤ field }
+    requires last { field ≤ field_count message.now }
+    ensures { result ≡ key_value_of message.now field key }
+{
+    let section = key_section(message, field, section_of(key));
+    let place = place_in(section, key)?;
+    Some(value_at(key, section, &place))
+}
+
+/// The section with this number, 0, 1, 3, 4 or 5, that is in force for a field.
+fn key_section<'a>(message: &Message<'a>, field: u32, number: u8) -> &'a [u8]
+    requires first { 1 ≤ field }
+    requires last { field ≤ field_count message.now }
+    requires high { number ≤ 5 }
+    requires present { number ≢ 2 }
+    ensures section { result.now ≡ definitions.key_section message.now field number }
+    ensures keys { HasKeys number result.now }
+{
+    if number == 0 {
+        return &message.octets()[..16];
+    }
+    let Some(section) = message.part(field, number) else {
+        unreachable!();
+    };
+    section.octets
+}
+
+/// The number of the template of a section with this number, 0 for Sections 0 and 1, which have none.
+fn template_of(number: u8, section: &[u8]) -> u16
+    requires { HasKeys number section.now }
+    ensures { result ≡ definitions.template_of number section.now }
+{
+    match number {
+        3 => u16_at(section, 13),
+        4 => u16_at(section, 8),
+        5 => u16_at(section, 10),
+        _ => 0,
+    }
+}
+
+/// Where the key stands in a section with its number, `None` where the template of the section lacks it.
+pub(crate) fn place_in(section: &[u8], key: Key) -> Option<Place>
+    requires { HasKeys (row_of key).section section.now }
+    ensures place { option_map octets_of_place result
+        ≡ (row_of key).place (definitions.template_of (row_of key).section section.now) }
+    ensures within { IfSome result (λ p. (1 ≤ p.first) × (1 ≤ p.size) × (p.size ≤ 4)
+        × (p.first + p.size ≤ length section.now + 1)) }
+    ensures size { IfSome result (λ p. p.size ≡ key_octets key) }
+{
+    place_of(key, template_of(section_of(key), section))
+}
+
+/// The value of the key at this place of its section.
+fn value_at(key: Key, section: &[u8], place: &Place) -> Value
+    requires first { 1 ≤ place.now.first }
+    requires some { 1 ≤ place.now.size }
+    requires word { place.now.size ≤ 4 }
+    requires within { place.now.first + place.now.size ≤ length section.now + 1 }
+    ensures { result ≡ value_at_place (row_of key).kind section.now (octets_of_place place.now) }
+{
+    let raw = uint_at(section, place.first, place.size);
+    let size = place.size as u32;
+    if may_be_missing(key) && is_all_ones(u64::from(raw), size) {
+        return Value::Missing;
+    }
+    if is_signed(key) {
+        return Value::Number(signed_of(u64::from(raw), 8 * size));
+    }
+    Value::Number(i64::from(raw))
+}
