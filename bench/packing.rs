@@ -51,6 +51,7 @@ fn main() {
     let arguments: Vec<String> = env::args().collect();
     let number = |index: usize| -> u32 { arguments[index].parse().unwrap() };
     let (size, which) = (number(2), number(3));
+    let what = if arguments.len() > 4 { number(4) } else { 0 };
     match arguments[1].as_str() {
         "columns" => columns(size, which),
         "pack" => {
@@ -61,9 +62,9 @@ fn main() {
                 32 => Way::Spatial(2),
                 _ => panic!("no such packing"),
             };
-            println!("{}", packed_sum(&field(size), way));
+            println!("{}", packed_sum(&field(what, size), way));
         }
-        "make" => println!("{}", point_sum(&field(size).points)),
+        "make" => println!("{}", point_sum(&field(what, size).points)),
         _ => panic!("no such work"),
     }
 }
@@ -151,7 +152,7 @@ fn random_column(random: &mut Random) -> Column {
     }
 }
 
-fn field(side: u32) -> Column {
+fn field(what: u32, side: u32) -> Column {
     let mut points = Vec::with_capacity(side as usize * side as usize);
     let mut state = 1u32;
     for j in 0..side {
@@ -159,10 +160,10 @@ fn field(side: u32) -> Column {
             state = state.wrapping_mul(1103515245).wrapping_add(12345) % (1 << 31);
             let random = state >> 16;
             let turn = (i + j) % 512;
-            points.push(if random % 101 == 0 {
-                Point::Missing
-            } else {
-                Point::Scaled(i64::from(64 * turn.min(511 - turn) + random % 64))
+            points.push(match what {
+                0 if random % 101 != 0 => Point::Scaled(i64::from(64 * turn.min(511 - turn) + random % 64)),
+                1 => Point::Scaled(1000),
+                _ => Point::Missing,
             });
         }
     }

@@ -15,8 +15,9 @@ most=${1:-4000}
 columns=${2:-10000}
 build grib_packing_bench packing.rs columns 60 1
 
-ours() { "$top/crates/grib_packing_bench/out/grib_packing_bench" "$task" "$size" "$which"; }
-theirs() { "$work/plain" "$task" "$size" "$which"; }
+field=0
+ours() { "$top/crates/grib_packing_bench/out/grib_packing_bench" "$task" "$size" "$which" "$field"; }
+theirs() { "$work/plain" "$task" "$size" "$which" "$field"; }
 
 # Prints the least of some times.
 least() { # FILE
@@ -49,18 +50,37 @@ which=1
 agree "$columns random columns"
 ours
 
-for which in 0 2 31 32; do
-  case $which in
-    0) what="simply" ;;
-    2) what="in groups" ;;
-    31) what="by differences of order 1" ;;
-    32) what="by differences of order 2" ;;
+for field in 0 1 2; do
+  case $field in
+    0) of="a wave" ;;
+    1) of="one value" ;;
+    2) of="missing points" ;;
   esac
-  # Both are seen to agree, also on fewer points than a group may have.
-  for size in 1 3 8 100 "$most"; do
-    for task in make pack; do
-      agree "$what, $size times $size points"
+  for which in 0 2 31 32; do
+    case $which in
+      0) what="simply" ;;
+      2) what="in groups" ;;
+      31) what="by differences of order 1" ;;
+      32) what="by differences of order 2" ;;
+    esac
+    # Both are seen to agree, also on fewer points than a group may have.
+    for size in 1 3 8 100 "$most"; do
+      for task in make pack; do
+        agree "$of $what, $size times $size points"
+      done
     done
+    packing_ratio "$of $what, $most times $most points" 5
   done
-  packing_ratio "$what, $most times $most points" 5
+done
+
+# How much memory is taken beside the column: the most that is resident, less that where the field is made alone.
+resident() { # TASK
+  local TIMEFORMAT= octets
+  octets=$( { command time -f %M "$top/crates/grib_packing_bench/out/grib_packing_bench" "$1" "$most" "$which" "$field" >/dev/null; } 2>&1) && echo "$octets"
+}
+need time
+field=0
+for which in 0 2 31 32; do
+  awk -v which="$which" -v pack="$(resident pack)" -v make="$(resident make)" -v side="$most" \
+    'BEGIN { printf "template %s: %.1f octets a point beside the column\n", which, (pack - make) * 1024 / (side * side) }'
 done

@@ -1,4 +1,5 @@
-//! A field that is smooth, with some noise and a few missing points.
+//! Large fields: one that is smooth, with some noise and a few missing points, one of one value, and one
+//! that is wholly missing.
 
 ghost use Rattle.std.specs.Prelude.{IfOk};
 ghost use Rattle.grib_simple.specs.Written.{MayBePacked};
@@ -11,6 +12,38 @@ use std::alloc::Global;
 /// Each so many points one is looked at.
 const STEP: usize = 4096;
 
+/// What a field is like.
+#[derive(Clone, Copy, Debug, PartialEq, Eq)]
+pub enum Field {
+    /// A wave with noise and a few missing points.
+    Wave,
+    /// One value at all points.
+    Value,
+    /// Missing points alone.
+    Missing,
+}
+
+impl Field {
+    /// The field with this number.
+    pub fn of(number: u32) -> Option<Field> {
+        match number {
+            0 => Some(Field::Wave),
+            1 => Some(Field::Value),
+            2 => Some(Field::Missing),
+            _ => None,
+        }
+    }
+
+    /// The point at a place.
+    fn point(self, i: u32, j: u32, random: u32) -> Point {
+        match self {
+            Field::Wave => point_at(i, j, random),
+            Field::Value => Point::Scaled(1000),
+            Field::Missing => Point::Missing,
+        }
+    }
+}
+
 /// The point at a place: a wave of 512 points in both directions with noise of 6 bits, and one of 101
 /// points is missing.
 fn point_at(i: u32, j: u32, random: u32) -> Point {
@@ -22,7 +55,7 @@ fn point_at(i: u32, j: u32, random: u32) -> Point {
 }
 
 /// The column of a field of side times side points.
-pub fn field_column(alloc: Global, side: u32) -> Result<Column>
+pub fn field_column(alloc: Global, field: Field, side: u32) -> Result<Column>
     ensures { IfOk result (λ column. MayBePacked column) }
 {
     ensure!(side <= 5792, "a side of at most 5,792 points");
@@ -31,7 +64,7 @@ pub fn field_column(alloc: Global, side: u32) -> Result<Column>
     for j in 0..side {
         for i in 0..side {
             state = state.wrapping_mul(1103515245).wrapping_add(12345) % (1 << 31);
-            points.push(point_at(i, j, state >> 16))?;
+            points.push(field.point(i, j, state >> 16))?;
         }
     }
     column_of(points, 0, 0)

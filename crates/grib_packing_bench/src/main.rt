@@ -6,7 +6,8 @@
 //!   packed by each packing, how many were not and why, a checksum of all octets, and how many bits the groups
 //!   of the shortest columns take.
 //! - `pack`, a side and a packing (0 for template 5.0, 2 for 5.2, 31 and 32 for 5.3 with differences of order
-//!   1 and 2). It prints a checksum of the octets of a field of side times side points.
+//!   1 and 2), and a field (0 where none is given: a wave with some missing points; 1 for one value, 2 for
+//!   missing points alone). It prints a checksum of the octets of a field of side times side points.
 //! - `make`, and the same. It makes the field alone, and prints a checksum of its points.
 #![tactic(auto)]
 
@@ -20,7 +21,7 @@ mod packings;
 mod random;
 mod tally;
 
-use field::{field_column, point_sum};
+use field::{Field, field_column, point_sum};
 use packings::{Way, packed_sum};
 use tally::tally_of;
 
@@ -36,6 +37,10 @@ fn main(rt: HostRuntime) -> Result<()> {
         .next()
         .context("a first number or a packing")?
         .parse()?;
+    let field = match arguments.next() {
+        Some(word) => Field::of(word.parse()?).context("no such field")?,
+        None => Field::Wave,
+    };
     match work.as_str() {
         "columns" => {
             let tally = tally_of(rt.alloc(), size, which)?;
@@ -61,11 +66,11 @@ fn main(rt: HostRuntime) -> Result<()> {
         }
         "pack" => {
             let way = Way::of(which).context("no such packing")?;
-            let column = field_column(rt.alloc(), size)?;
+            let column = field_column(rt.alloc(), field, size)?;
             println!(rt; "{}", packed_sum(rt.alloc(), way, &column)?)?;
         }
         "make" => {
-            let column = field_column(rt.alloc(), size)?;
+            let column = field_column(rt.alloc(), field, size)?;
             println!(rt; "{}", point_sum(column.points.as_slice()))?;
         }
         other => bail!("`{other}` is neither `columns`, `pack` nor `make`"),

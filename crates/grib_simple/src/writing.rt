@@ -129,8 +129,21 @@ pub fn values_section(points: &[Point], bits: u32, octets: u32, mut room: BitWri
     octets_written(room)
 }
 
-/// Writes the scaled numbers, in so many bits each.
+/// Writes the scaled numbers, in so many bits each: nothing, where these are none.
 fn put_numbers(points: &[Point], bits: u32, out: &mut BitWriter)
+    requires width { bits ≤ 48 }
+    requires fits { All (λ number. number < 2 ^ bits) (simple_numbers points.now) }
+    requires room { length (fields bits (simple_numbers points.now)) ≤ out.old.spare }
+    ensures bits { out.new.bits ≡ out.old.bits ++ fields bits (simple_numbers points.now) }
+    ensures spare { out.new.spare + length (fields bits (simple_numbers points.now)) ≡ out.old.spare }
+{
+    if bits > 0 {
+        put_each(points, bits, out);
+    }
+}
+
+/// Writes the scaled numbers one after another.
+fn put_each(points: &[Point], bits: u32, out: &mut BitWriter)
     requires width { bits ≤ 48 }
     requires fits { All (λ number. number < 2 ^ bits) (simple_numbers points.now) }
     requires room { length (fields bits (simple_numbers points.now)) ≤ out.old.spare }
