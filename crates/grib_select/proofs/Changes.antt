@@ -93,7 +93,7 @@ shape_tells key t p place =
 
 -- ---- a free place has no fixed octets
 
-not_true : (x : Bool) → not x ≡ true → x ≡ false
+pub not_true : (x : Bool) → not x ≡ true → x ≡ false
 not_true true e = sym e
 not_true false e = refl
 

@@ -218,6 +218,20 @@ changed_placed : (changes : List Condition) (q : ℕ) (sections : List (List ℕ
 changed_placed changes q [] = refl
 changed_placed changes q (s ∷ sections) = ap (λ xs. changed changes s ∷ xs) (changed_placed changes (q + length s) sections)
 
+-- a section with its changes
+pub record IsChanged (changes : List Condition) (s t : Placed) : Type 0 where
+  pub numbered : section_number t.octets ≡ section_number s.octets
+  pub is : t.octets ≡ changed changes s.octets
+
+pub changed_number : (changes : List Condition) (s t : Placed) → IsChanged changes s t → section_number t.octets ≡ section_number s.octets
+changed_number changes s t h = h.numbered
+
+changed_each : (changes : List Condition) (q p : ℕ) (sections : List (List ℕ)) → Along Fits (placed_from q sections) (placed_from p (map (changed changes) sections))
+    → Along (IsChanged changes) (placed_from q sections) (placed_from p (map (changed changes) sections))
+changed_each changes q p [] h = tt
+changed_each changes q p (s ∷ sections) h =
+    (record { numbered = h.0.numbered; is = refl }, changed_each changes (q + length s) (p + length (changed changes s)) sections h.1)
+
 -- ---- the message
 
 module _ (m : List ℕ) (changes : List Condition) (h : IsMessage m) (set : CanBeSet changes) where
@@ -278,3 +292,13 @@ module _ (m : List ℕ) (changes : List Condition) (h : IsMessage m) (set : CanB
       let seven = octets_same 7 (inr (inr (inr refl))) (field_sections m i) (field_sections (with_keys m changes) i) along in
       let masks = masks_same (field_sections m i) (field_sections (with_keys m changes) i) along in
       λ j. column_from (five j) (masks.mask j) (seven j)
+
+  -- each section is the one with its changes
+  pub changed_along : (i : ℕ) → Along (IsChanged changes) (field_sections m i) (field_sections (with_keys m changes) i)
+  changed_along i =
+      let p = old in
+      let both = changed_each changes 17 17 p.sections (again p).along in
+      up_to_along (IsChanged changes) (changed_number changes) i [] [] (sections_of m) (sections_of (with_keys m changes)) tt
+      (subst (λ (xs : List Placed). Along (IsChanged changes) xs (sections_of (with_keys m changes))) (sym p.found)
+      (subst (λ (xs : List Placed). Along (IsChanged changes) (placed_from 17 p.sections) xs)
+      (sym (sections_alone (with_keys m changes) (map (changed changes) p.sections) (grammar p))) both))
