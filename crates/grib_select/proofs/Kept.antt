@@ -1,20 +1,18 @@
 -- A message with changes is accepted, and each field keeps its column.
-use Rattle.std.proofs.Common.{◌≡◌, ◌≢◌, ℕ, zero, suc, ◌+◌, ◌-◌, ◌≤◌, Bool, true, false, cond, ◌==◌, ◌⊎◌, IsTrue, Option, Some, None, List, [], ◌∷◌, ◌++◌, length, take, map, get_or, inl, inr, refl, sym, ap, ap₂, ◌∙◌, arith, subst, ne_eqb, length-append, length-take-le, take-take}
+use Rattle.std.proofs.Common.{◌≡◌, ◌≢◌, ℕ, ◌+◌, ◌≤◌, Bool, true, false, cond, ◌==◌, ◌⊎◌, IsTrue, Some, None, List, [], ◌∷◌, ◌++◌, length, take, map, get_or, inl, inr, refl, sym, ap, ap₂, ◌∙◌, arith, subst, length-append, length-take-le, take-take}
 use Rattle.std.specs.Prelude.{All}
-use Rattle.std.specs.List.{concat, count_by}
+use Rattle.std.specs.List.{concat}
 use Rattle.std.proofs.lemmas.Bool.{cases_eq}
 use Rattle.std.proofs.lemmas.List.Elements.{All-tail}
-use Rattle.grib_bits.specs.Octets.{octets, num_on, StatesItself}
 use Rattle.grib_io.specs.Rows.{first_fault, located}
 use Rattle.grib_bitmap.specs.Mask.{bitmap_indicator, bitmap_rows, mask_of, own_mask}
 use Rattle.grib_packing.specs.Packing.{value_count}
 use Rattle.grib_packing.specs.Entries.{packing_fault, data_fault, column_from}
-use Rattle.grib2_sections.specs.Frame.{Placed, placed_at, section_number, section_length, may_end}
-use Rattle.grib2_sections.specs.Head.{indicator, end_mark, edition, total_length}
-use Rattle.grib2_sections.specs.Identification.{identification_rows}
-use Rattle.grib2_grids.specs.Grid.{grid_rows, grid_points}
+use Rattle.grib2_sections.specs.Frame.{Placed, placed_at, section_number, may_end}
+use Rattle.grib2_sections.specs.Head.{end_mark}
+use Rattle.grib2_grids.specs.Grid.{grid_points}
 use Rattle.grib2_products.specs.Product.{product_rows}
-use Rattle.grib2_message.specs.View.{is_numbered, last_number, octets_in_force, points_in_force, earlier_mask, mask_in_force, section_count}
+use Rattle.grib2_message.specs.View.{last_number, octets_in_force, points_in_force, earlier_mask, mask_in_force, section_count}
 use Rattle.grib2_message.specs.Acceptance.{section_fault, contents_faults, no_rows}
 use Rattle.grib2_message.specs.Grammar.{IsSection, AreSections, Grammar2}
 use Rattle.grib2_message.specs.Fields.{sections_of, field_count, field_sections, column_of}
@@ -31,7 +29,7 @@ use Rattle.grib_select.specs.Changed.{with_changes, changed, with_keys}
 use Rattle.grib_select.proofs.Composed.{message_in_grammar, message_most}
 use Rattle.grib_select.proofs.Changes.{CanBeSet, changes_alike, unchanged, ready}
 use Rattle.grib_select.proofs.Sections.{section_keys}
-use Rattle.grib_select.proofs.Stand.{is_fixed, outside, AreAlike, alike_octets, alike_identification, alike_grid, alike_product, points_3}
+use Rattle.grib_select.proofs.Stand.{is_fixed, AreAlike, alike_octets, alike_identification, alike_grid, alike_product, points_3}
 use Rattle.grib_select.proofs.Within.{has_keys, head_within}
 
 -- the changes can be made

@@ -1,5 +1,5 @@
 -- The keys that were set have their new values.
-use Rattle.std.proofs.Common.{◌≡◌, ◌≢◌, ℕ, zero, suc, ◌+◌, ◌-◌, ◌*◌, ◌^◌, ◌≤◌, ◌<◌, Bool, true, false, not, cond, ◌&&◌, ◌==◌, ◌⊎◌, nat_lt, Option, Some, None, unwrap_or, is_none, List, [], ◌∷◌, ◌++◌, length, take, drop, map, inl, inr, refl, sym, ap, ap₂, ◌∙◌, arith, subst, ℤ, pos, negsuc, neg_ℤ, add-one, eq-eqb, ltb-true, mod-eq_of_lt, pow_mono, pow-suc}
+use Rattle.std.proofs.Common.{◌≡◌, ◌≢◌, ℕ, suc, ◌+◌, ◌-◌, ◌*◌, ◌^◌, ◌≤◌, ◌<◌, Bool, true, false, cond, ◌&&◌, nat_lt, Option, Some, None, unwrap_or, List, [], ◌∷◌, length, inl, inr, refl, sym, ap, ap₂, ◌∙◌, arith, ℤ, pos, negsuc, neg_ℤ, add-one, eq-eqb, ltb-true, pow-suc}
 use Rattle.std.proofs.lemmas.Bool.{cases_eq}
 use Rattle.grib_bits.specs.Bits.{bits, bits_of, signed}
 use Rattle.grib_bits.specs.Octets.{octets, octet_list, num_on, signed_octets}

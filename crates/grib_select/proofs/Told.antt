@@ -1,12 +1,9 @@
 -- Each field of a message with changes has the keys with their new values.
-use Rattle.std.proofs.Common.{◌≡◌, ◌≢◌, ℕ, zero, suc, ◌+◌, ◌-◌, ◌≤◌, ◌<◌, Bool, true, false, not, cond, ◌&&◌, ◌==◌, ◌⊎◌, IsTrue, Option, Some, None, is_none, nat_lt, List, [], ◌∷◌, ◌++◌, length, take, get_or, inl, inr, refl, sym, ap, ◌∙◌, arith, subst, eq-eqb, ne_eqb, eqb-true, ltb-true, take_at, length-take-le}
+use Rattle.std.proofs.Common.{◌≡◌, ◌≢◌, ℕ, zero, suc, ◌+◌, ◌≤◌, ◌<◌, Bool, true, false, not, cond, ◌&&◌, ◌==◌, ◌⊎◌, Option, Some, None, is_none, nat_lt, List, [], ◌∷◌, length, take, get_or, inl, inr, refl, sym, ap, ◌∙◌, arith, subst, ne_eqb, ltb-true, take_at, length-take-le}
 use Rattle.std.specs.Prelude.{All, AllPairs, option_map}
 use Rattle.std.specs.List.{range_with_len}
 use Rattle.std.proofs.lemmas.Bool.{cases_eq, eqb-false}
 use Rattle.grib_io.specs.Rows.{choose}
-use Rattle.grib2_sections.specs.Frame.{Placed}
-use Rattle.grib2_sections.specs.Head.{end_mark}
-use Rattle.grib2_message.specs.View.{octets_in_force}
 use Rattle.grib2_message.specs.Fields.{field_count, field_sections, part_octets}
 use Rattle.grib2_message.specs.Message.{IsMessage, FieldPasses}
 use Rattle.grib2_message.proofs.Along.{octets_along}
@@ -15,10 +12,10 @@ use Rattle.grib_keys.specs.declared.key.Key.{Key}
 use Rattle.grib_keys.specs.declared.key.Key.TheVariants.{Discipline}
 use Rattle.grib_keys.specs.declared.condition.Condition.{Condition}
 use Rattle.grib_keys.specs.declared.condition.Value.{Value}
-use Rattle.grib_keys.specs.Keys.{Octets, row_of, can_set}
+use Rattle.grib_keys.specs.Keys.{Octets, row_of}
 use Rattle.grib_select.specs.declared.changing.SetFault.{SetFault}
 use Rattle.grib_select.specs.declared.changing.SetFault.TheVariants.{KeyRange, KeyAbsent}
-use Rattle.grib_select.specs.Values.{key_section, template_of, value_at, value_in, key_value_of, HasKeys}
+use Rattle.grib_select.specs.Values.{key_section, template_of, value_at, value_in, key_value_of}
 use Rattle.grib_select.specs.Changed.{new_number, with_changes, with_keys, first_without, change_fault, or_later, set_fault}
 use Rattle.grib_select.proofs.Accepted.{field_up_to, sound_of, part_itself}
 use Rattle.grib_select.proofs.Changes.{CanBeSet, IsReady, ready, changes_alike, shape_tells}
