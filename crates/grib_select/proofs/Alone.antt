@@ -1,25 +1,24 @@
 -- A field cut out of an accepted message.
-use Rattle.std.proofs.Common.{◌≡◌, ◌≢◌, ℕ, ◌+◌, ◌-◌, ◌≤◌, ◌<◌, ◌^◌, ◌⊎◌, IsTrue, List, [], ◌∷◌, ◌++◌, length, take, inl, inr, refl, sym, ap, ap₂, ◌∙◌, arith, subst, Bool, eq-eqb, ne_eqb, append_assoc, append-nil, length-append}
+use Rattle.std.proofs.Common.{◌≡◌, ◌≢◌, ℕ, ◌+◌, ◌-◌, ◌≤◌, ◌⊎◌, List, [], ◌∷◌, ◌++◌, length, take, inl, inr, refl, sym, ap, ◌∙◌, arith, subst, Bool, eq-eqb, ne_eqb, append_assoc, length-append}
 use Rattle.std.specs.List.{concat, count_by}
 use Rattle.std.proofs.lemmas.Bool.{cases_eq}
 use Rattle.grib_bits.specs.Octets.{StatesItself}
-use Rattle.grib_io.specs.Rows.{first_fault, located, choose}
+use Rattle.grib_io.specs.Rows.{located, choose}
 use Rattle.grib_packing.specs.Entries.{column_from}
-use Rattle.grib_bitmap.specs.Mask.{bitmap_indicator, mask_of}
+use Rattle.grib_bitmap.specs.Mask.{bitmap_indicator}
 use Rattle.grib2_sections.specs.Encoding.{octets_of}
 use Rattle.grib2_sections.specs.Head.{end_mark}
 use Rattle.grib2_sections.specs.Frame.{Placed, placed_at, section_number, may_follow}
-use Rattle.grib2_grids.specs.Grid.{grid_points}
-use Rattle.grib2_message.specs.View.{is_numbered, last_number, octets_in_force, points_in_force, earlier_bitmap, first_octets, own_bitmap, mask_in_force, section_count}
+use Rattle.grib2_message.specs.View.{is_numbered, octets_in_force, earlier_bitmap, first_octets, own_bitmap, mask_in_force}
 use Rattle.grib2_message.specs.Grammar.{Grammar2, IsSection, AreSections}
-use Rattle.grib2_message.specs.Fields.{sections_of, field_count, field_sections, sections_up_to_field, part_octets, column_of}
+use Rattle.grib2_message.specs.Fields.{field_count, field_sections, sections_up_to_field, part_octets, column_of}
 use Rattle.grib2_message.specs.Message.{IsMessage}
 use Rattle.grib2_message.proofs.Placing.{placed_from}
 use Rattle.grib2_message.proofs.InForce.{octets_same, octets_other, own_alone, own_repeated}
 use Rattle.grib2_message.proofs.Sound.{bitmap_own, bitmap_kept, bitmap_not_own, count_other}
 use Rattle.grib2_message.proofs.Whole.{sections_alone}
 use Rattle.grib_select.specs.Single.{field_part, first_parts, single_of}
-use Rattle.grib_select.proofs.Accepted.{AreAccepted, octets_of_all, sound_of, UpTo, field_up_to, part_itself, local_itself, count_none}
+use Rattle.grib_select.proofs.Accepted.{octets_of_all, sound_of, UpTo, field_up_to, part_itself, local_itself, count_none}
 use Rattle.grib2_message.proofs.Ways.{up_other}
 use Rattle.grib2_message.proofs.Parted.{IsHead, joined_grammar, message_least}
 use Rattle.grib2_message.proofs.PutTogether.{head_of}

@@ -1,5 +1,5 @@
 -- Whether a field has keys with given values, by each of them.
-use Rattle.std.proofs.Common.{◌≡◌, ℕ, Bool, true, false, Option, Some, None, List, refl, sym, ap, ◌∙◌}
+use Rattle.std.proofs.Common.{◌≡◌, ℕ, Option, Some, None, List, refl, ap}
 use Rattle.std.specs.Prelude.{All}
 use Rattle.std.specs.Bool.{Decides}
 use Rattle.std.specs.List.{list_all}

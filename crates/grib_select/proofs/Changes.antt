@@ -1,5 +1,5 @@
 -- A section with changes is like the section outside the keys that can be set.
-use Rattle.std.proofs.Common.{◌≡◌, ◌≢◌, ℕ, ◌+◌, ◌-◌, ◌≤◌, ◌<◌, Bool, true, false, not, cond, IsTrue, ◌&&◌, ◌||◌, ◌==◌, ◌⊎◌, nat_lt, Option, Some, None, unwrap_or, List, [], ◌∷◌, ◌++◌, length, inl, inr, refl, sym, ap, ap₂, ◌∙◌, arith, subst, ltb-false, ltb-true, eq-eqb, ne_eqb, eqb-true}
+use Rattle.std.proofs.Common.{◌≡◌, ◌≢◌, ℕ, ◌+◌, ◌-◌, ◌≤◌, ◌<◌, Bool, true, false, not, cond, ◌&&◌, ◌||◌, ◌==◌, ◌⊎◌, nat_lt, Option, Some, None, unwrap_or, List, [], ◌∷◌, length, inl, inr, refl, sym, ap, ap₂, ◌∙◌, arith, subst, ltb-false, ltb-true, eq-eqb, ne_eqb, eqb-true}
 use Rattle.std.specs.Option.{option_map_or}
 use Rattle.std.proofs.lemmas.Bool.{cases_eq}
 use Rattle.grib_bits.specs.Octets.{octets}
@@ -93,7 +93,7 @@ shape_tells key t p place =
 
 -- ---- a free place has no fixed octets
 
-not_true : (x : Bool) → not x ≡ true → x ≡ false
+pub not_true : (x : Bool) → not x ≡ true → x ≡ false
 not_true true e = sym e
 not_true false e = refl
 

@@ -1,8 +1,8 @@
 -- The sections of a field, one after another, as a message of their own.
-use Rattle.std.proofs.Common.{◌≡◌, ◌≢◌, ℕ, zero, suc, ◌+◌, ◌-◌, ◌*◌, ◌≤◌, ◌<◌, Bool, true, false, not, cond, IsTrue, ◌&&◌, ◌==◌, ◌⊎◌, Option, Some, None, is_none, unwrap_or, List, [], ◌∷◌, ◌++◌, length, take, drop, get_or, replicate, inl, inr, refl, sym, ap, ap₂, ◌∙◌, arith, subst, eq-eqb, eqb-true, append_assoc, append-nil, length-append, length-take-le, take_at, take-append-drop}
-use Rattle.std.specs.List.{concat, count_by}
+use Rattle.std.proofs.Common.{◌≡◌, ◌≢◌, ℕ, ◌+◌, Bool, true, false, not, cond, IsTrue, ◌==◌, Option, Some, None, is_none, unwrap_or, List, [], ◌∷◌, length, get_or, replicate, inl, inr, refl, sym, ap, ◌∙◌, arith, subst, eq-eqb, eqb-true}
+use Rattle.std.specs.List.{count_by}
 use Rattle.std.proofs.lemmas.Bool.{cases_eq, not-false}
-use Rattle.grib_bits.specs.Octets.{octets, num_on, StatesItself}
+use Rattle.grib_bits.specs.Octets.{StatesItself}
 use Rattle.grib_io.specs.Rows.{first_fault, located}
 use Rattle.grib_bitmap.specs.Mask.{bitmap_indicator, bitmap_rows, mask_of, own_mask, present_count}
 use Rattle.grib_packing.specs.Packing.{value_count}

@@ -1,20 +1,18 @@
 -- A message with changes is accepted, and each field keeps its column.
-use Rattle.std.proofs.Common.{◌≡◌, ◌≢◌, ℕ, zero, suc, ◌+◌, ◌-◌, ◌≤◌, Bool, true, false, cond, ◌==◌, ◌⊎◌, IsTrue, Option, Some, None, List, [], ◌∷◌, ◌++◌, length, take, map, get_or, inl, inr, refl, sym, ap, ap₂, ◌∙◌, arith, subst, ne_eqb, length-append, length-take-le, take-take}
+use Rattle.std.proofs.Common.{◌≡◌, ◌≢◌, ℕ, ◌+◌, ◌≤◌, Bool, true, false, cond, ◌==◌, ◌⊎◌, IsTrue, Some, None, List, [], ◌∷◌, ◌++◌, length, take, map, get_or, inl, inr, refl, sym, ap, ap₂, ◌∙◌, arith, subst, length-append, length-take-le, take-take}
 use Rattle.std.specs.Prelude.{All}
-use Rattle.std.specs.List.{concat, count_by}
+use Rattle.std.specs.List.{concat}
 use Rattle.std.proofs.lemmas.Bool.{cases_eq}
 use Rattle.std.proofs.lemmas.List.Elements.{All-tail}
-use Rattle.grib_bits.specs.Octets.{octets, num_on, StatesItself}
 use Rattle.grib_io.specs.Rows.{first_fault, located}
 use Rattle.grib_bitmap.specs.Mask.{bitmap_indicator, bitmap_rows, mask_of, own_mask}
 use Rattle.grib_packing.specs.Packing.{value_count}
 use Rattle.grib_packing.specs.Entries.{packing_fault, data_fault, column_from}
-use Rattle.grib2_sections.specs.Frame.{Placed, placed_at, section_number, section_length, may_end}
-use Rattle.grib2_sections.specs.Head.{indicator, end_mark, edition, total_length}
-use Rattle.grib2_sections.specs.Identification.{identification_rows}
-use Rattle.grib2_grids.specs.Grid.{grid_rows, grid_points}
+use Rattle.grib2_sections.specs.Frame.{Placed, placed_at, section_number, may_end}
+use Rattle.grib2_sections.specs.Head.{end_mark}
+use Rattle.grib2_grids.specs.Grid.{grid_points}
 use Rattle.grib2_products.specs.Product.{product_rows}
-use Rattle.grib2_message.specs.View.{is_numbered, last_number, octets_in_force, points_in_force, earlier_mask, mask_in_force, section_count}
+use Rattle.grib2_message.specs.View.{last_number, octets_in_force, points_in_force, earlier_mask, mask_in_force, section_count}
 use Rattle.grib2_message.specs.Acceptance.{section_fault, contents_faults, no_rows}
 use Rattle.grib2_message.specs.Grammar.{IsSection, AreSections, Grammar2}
 use Rattle.grib2_message.specs.Fields.{sections_of, field_count, field_sections, column_of}
@@ -31,7 +29,7 @@ use Rattle.grib_select.specs.Changed.{with_changes, changed, with_keys}
 use Rattle.grib_select.proofs.Composed.{message_in_grammar, message_most}
 use Rattle.grib_select.proofs.Changes.{CanBeSet, changes_alike, unchanged, ready}
 use Rattle.grib_select.proofs.Sections.{section_keys}
-use Rattle.grib_select.proofs.Stand.{is_fixed, outside, AreAlike, alike_octets, alike_identification, alike_grid, alike_product, points_3}
+use Rattle.grib_select.proofs.Stand.{is_fixed, AreAlike, alike_octets, alike_identification, alike_grid, alike_product, points_3}
 use Rattle.grib_select.proofs.Within.{has_keys, head_within}
 
 -- the changes can be made
@@ -218,6 +216,20 @@ changed_placed : (changes : List Condition) (q : ℕ) (sections : List (List ℕ
 changed_placed changes q [] = refl
 changed_placed changes q (s ∷ sections) = ap (λ xs. changed changes s ∷ xs) (changed_placed changes (q + length s) sections)
 
+-- a section with its changes
+pub record IsChanged (changes : List Condition) (s t : Placed) : Type 0 where
+  pub numbered : section_number t.octets ≡ section_number s.octets
+  pub is : t.octets ≡ changed changes s.octets
+
+pub changed_number : (changes : List Condition) (s t : Placed) → IsChanged changes s t → section_number t.octets ≡ section_number s.octets
+changed_number changes s t h = h.numbered
+
+changed_each : (changes : List Condition) (q p : ℕ) (sections : List (List ℕ)) → Along Fits (placed_from q sections) (placed_from p (map (changed changes) sections))
+    → Along (IsChanged changes) (placed_from q sections) (placed_from p (map (changed changes) sections))
+changed_each changes q p [] h = tt
+changed_each changes q p (s ∷ sections) h =
+    (record { numbered = h.0.numbered; is = refl }, changed_each changes (q + length s) (p + length (changed changes s)) sections h.1)
+
 -- ---- the message
 
 module _ (m : List ℕ) (changes : List Condition) (h : IsMessage m) (set : CanBeSet changes) where
@@ -278,3 +290,13 @@ module _ (m : List ℕ) (changes : List Condition) (h : IsMessage m) (set : CanB
       let seven = octets_same 7 (inr (inr (inr refl))) (field_sections m i) (field_sections (with_keys m changes) i) along in
       let masks = masks_same (field_sections m i) (field_sections (with_keys m changes) i) along in
       λ j. column_from (five j) (masks.mask j) (seven j)
+
+  -- each section is the one with its changes
+  pub changed_along : (i : ℕ) → Along (IsChanged changes) (field_sections m i) (field_sections (with_keys m changes) i)
+  changed_along i =
+      let p = old in
+      let both = changed_each changes 17 17 p.sections (again p).along in
+      up_to_along (IsChanged changes) (changed_number changes) i [] [] (sections_of m) (sections_of (with_keys m changes)) tt
+      (subst (λ (xs : List Placed). Along (IsChanged changes) xs (sections_of (with_keys m changes))) (sym p.found)
+      (subst (λ (xs : List Placed). Along (IsChanged changes) (placed_from 17 p.sections) xs)
+      (sym (sections_alone (with_keys m changes) (map (changed changes) p.sections) (grammar p))) both))

@@ -11,3 +11,6 @@ pub mod Sections
 pub mod Stand
 pub mod Steps
 pub mod Within
+pub mod Lanes
+pub mod NewValues
+pub mod Told

@@ -1,5 +1,5 @@
 -- Numbers with a sign as octets, and back.
-use Rattle.std.proofs.Common.{◌≡◌, ◌≢◌, ℕ, zero, suc, ◌+◌, ◌-◌, ◌*◌, ◌^◌, ◌<◌, ◌≤◌, ◌⊎◌, inl, inr, Bool, true, false, cond, nat_lt, Option, Some, None, IsNone, IfSome, ℤ, pos, negsuc, neg_ℤ, refl, sym, ap, ◌∙◌, arith, subst, lt-ltb, le-ltb, pow_mono, pow-suc, add-one, ltb-true, nat_abs}
+use Rattle.std.proofs.Common.{◌≡◌, ℕ, zero, suc, ◌+◌, ◌-◌, ◌*◌, ◌^◌, ◌<◌, ◌≤◌, inl, inr, Bool, true, false, cond, Option, Some, None, IsNone, IfSome, ℤ, pos, negsuc, neg_ℤ, refl, sym, ap, ◌∙◌, arith, subst, lt-ltb, le-ltb, pow_mono, pow-suc, add-one, ltb-true, nat_abs}
 use lib.Signed.{lt_z}
 use Rattle.std.specs.Prelude.{unsigned_abs, ◌↔◌}
 use Rattle.std.proofs.lemmas.Bool.{cases_lt}

@@ -1,6 +1,6 @@
 -- A section with other octets at some place.
-use Rattle.std.proofs.Common.{◌≡◌, ◌≢◌, ℕ, ◌+◌, ◌-◌, ◌≤◌, ◌<◌, ◌⊎◌, List, [], ◌∷◌, ◌++◌, length, take, drop, inl, inr, refl, sym, ap, ap₂, ◌∙◌, arith, subst, append_assoc, length-append, length-take-le, length-drop, take-append-drop, drop-drop, take_at, drop_at}
-use Rattle.grib_bits.specs.Octets.{octets, octet_list, num_on}
+use Rattle.std.proofs.Common.{◌≡◌, ℕ, ◌+◌, ◌-◌, ◌≤◌, ◌<◌, List, ◌++◌, length, take, drop, refl, sym, ap, ◌∙◌, arith, append_assoc, length-append, length-take-le, length-drop, drop-drop, take_at, drop_at}
+use Rattle.grib_bits.specs.Octets.{octet_list}
 use Rattle.grib2_message.proofs.Stays.{front_of_more, front_of}
 use Rattle.grib_select.specs.Changed.{put}
 

@@ -1,10 +1,9 @@
 -- Sections of an accepted message as changes are made in them.
-use Rattle.std.proofs.Common.{◌≡◌, ◌≢◌, ℕ, ◌+◌, ◌-◌, ◌≤◌, Bool, true, false, not, ◌==◌, ◌⊎◌, Option, Some, None, unwrap_or, List, [], ◌∷◌, ◌++◌, length, take, drop, map, inl, inr, refl, sym, ap, ap₂, ◌∙◌, arith, subst, eq-eqb, append_assoc, append-nil, drop-drop, length-drop}
+use Rattle.std.proofs.Common.{◌≡◌, ℕ, ◌+◌, ◌-◌, ◌≤◌, true, false, not, ◌==◌, Some, None, unwrap_or, List, [], ◌∷◌, ◌++◌, length, take, drop, map, inl, inr, refl, sym, ap, ap₂, ◌∙◌, arith, subst, eq-eqb, append_assoc, append-nil, drop-drop, length-drop}
 use Rattle.std.specs.List.{concat}
 use Rattle.std.proofs.lemmas.Bool.{cases_eq}
 use Rattle.std.proofs.lemmas.List.{take_rest, drop_all}
 use borrow.Rule.Slice.PartMut.{put_mid, post_of}
-use Rattle.grib_bits.specs.Octets.{octets}
 use Rattle.grib_io.specs.Rows.{first_fault}
 use Rattle.grib_packing.specs.Entries.{packing_fault}
 use Rattle.grib2_sections.specs.Encoding.{octets_of}
@@ -19,7 +18,7 @@ use Rattle.grib2_message.proofs.Sound.{none_located, fault_of}
 use Rattle.grib_keys.specs.declared.key.Key.{Key}
 use Rattle.grib_keys.specs.declared.key.Key.TheVariants.{Discipline}
 use Rattle.grib_keys.specs.declared.condition.Condition.{Condition}
-use Rattle.grib_keys.specs.Keys.{Octets, row_of}
+use Rattle.grib_keys.specs.Keys.{row_of}
 use Rattle.grib_select.specs.declared.place.Place.{Place}
 use Rattle.grib_select.specs.Places.{octets_of_place}
 use Rattle.grib_select.specs.Values.{template_of, octet_count, HasKeys}

@@ -1,5 +1,5 @@
 -- Octets of a section that no change touches, and what they decide.
-use Rattle.std.proofs.Common.{◌≡◌, ◌≢◌, ℕ, zero, suc, ◌+◌, ◌-◌, ◌*◌, ◌/◌, ◌≤◌, ◌<◌, Bool, true, false, not, cond, ◌&&◌, ◌||◌, ◌==◌, ◌⊎◌, min, nat_lt, List, [], ◌∷◌, ◌++◌, length, map, inl, inr, refl, sym, ap, ap₂, ◌∙◌, arith, subst, lt-ltb, ltb-true, eqb-true}
+use Rattle.std.proofs.Common.{◌≡◌, ℕ, zero, suc, ◌+◌, ◌-◌, ◌*◌, ◌/◌, ◌≤◌, Bool, true, false, not, cond, ◌&&◌, ◌||◌, ◌==◌, min, nat_lt, List, [], ◌∷◌, length, map, refl, sym, ap, ◌∙◌, arith, lt-ltb}
 use Rattle.std.specs.Prelude.{sum}
 use Rattle.std.specs.List.{range_with_len}
 use Rattle.grib_bits.specs.Octets.{octets, octet_list, num_on, StatesItself}
@@ -7,8 +7,8 @@ use Rattle.grib_io.specs.declared.fault.Reason.TheVariants.{SectionLength, GridS
 use Rattle.grib_io.specs.Rows.{Row, row}
 use Rattle.grib2_sections.specs.Template.{is_template, least_length}
 use Rattle.grib2_sections.specs.Identification.{identification_rows}
-use Rattle.grib2_grids.specs.Grid.{grid_rows, grid_points, grid_template, grid_templates, list_octets, list_meaning, list_start, row_list, ni, nj, may_have_list, grid_source}
-use Rattle.grib2_products.specs.Product.{product_rows, product_template, product_templates, product_length, coordinate_count}
+use Rattle.grib2_grids.specs.Grid.{grid_rows, grid_points, grid_template, grid_templates, list_octets, list_start, row_list, ni, nj, may_have_list}
+use Rattle.grib2_products.specs.Product.{product_rows, product_templates}
 
 -- whether octets a to b are outside the octets first to last
 abbrev pub outside : ℕ → ℕ → ℕ → ℕ → Bool

@@ -1,10 +1,9 @@
 -- Each key that the template of a section has stands within the section, by the rows of the profile.
-use Rattle.std.proofs.Common.{◌≡◌, ◌≢◌, ℕ, ◌+◌, ◌-◌, ◌<◌, ◌≤◌, Bool, true, false, not, ◌||◌, ◌&&◌, ◌==◌, Option, Some, None, List, [], ◌∷◌, length, take, nat_lt, ◌⊎◌, inl, inr, refl, sym, ap, ◌∙◌, arith, subst, ltb-false, eqb-true, ltb-true, eq-eqb}
+use Rattle.std.proofs.Common.{◌≡◌, ◌≢◌, ℕ, ◌+◌, ◌-◌, ◌<◌, ◌≤◌, Bool, true, false, not, ◌||◌, ◌&&◌, ◌==◌, Option, Some, None, List, [], length, nat_lt, ◌⊎◌, inl, inr, refl, sym, ap, ◌∙◌, arith, subst, ltb-false, eqb-true, ltb-true, eq-eqb}
 use Rattle.std.specs.Option.{option_map_or}
 use Rattle.std.proofs.lemmas.Bool.{not-false, cases_eq}
-use Rattle.grib_bits.specs.Octets.{octets}
 use Rattle.grib_io.specs.Rows.{Row, first_fault, or_then, choose}
-use Rattle.grib2_sections.specs.Template.{template, is_template, least_length}
+use Rattle.grib2_sections.specs.Template.{is_template, least_length}
 use Rattle.grib2_sections.specs.Identification.{identification_rows}
 use Rattle.grib2_grids.specs.Grid.{grid_rows, grid_points, grid_template, grid_templates}
 use Rattle.grib2_message.specs.Message.{FieldPasses}
@@ -17,7 +16,7 @@ use Rattle.grib_io.specs.declared.fault.Fault.{Fault}
 use Rattle.grib_keys.specs.declared.key.Key.{Key}
 use Rattle.grib_keys.specs.declared.key.Key.TheVariants.{Discipline}
 use Rattle.grib_keys.specs.Keys.{Octets, row_of}
-use Rattle.grib2_message.proofs.Passed.{AllPass, passes_from_none}
+use Rattle.grib2_message.proofs.Passed.{passes_from_none}
 use Rattle.grib_select.specs.Values.{template_of, octet_count, HasKeys}
 
 -- ---- the places of the keys, template by template

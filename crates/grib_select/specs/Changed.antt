@@ -1,6 +1,6 @@
 -- A message with other values of some keys: their octets change in Section 0, in Section 1 and in every
 -- Section 3 and 4, and no others.
-use Rattle.std.specs.Prelude.{◌≡◌, ℕ, ◌+◌, ◌-◌, ◌*◌, ◌^◌, Bool, cond, ◌&&◌, ◌==◌, nat_lt, is_none, Option, Some, None, unwrap_or, List, [], ◌∷◌, ◌++◌, length, take, drop, map, find, ℤ, pos, negsuc}
+use Rattle.std.specs.Prelude.{◌≡◌, ℕ, ◌+◌, ◌-◌, ◌*◌, ◌^◌, Bool, cond, ◌&&◌, ◌==◌, nat_lt, is_none, Option, Some, None, unwrap_or, List, [], ◌∷◌, ◌++◌, length, take, drop, map, ℤ, pos, negsuc}
 use Rattle.std.specs.List.{concat, range_with_len}
 use Rattle.std.specs.Option.{option_map_or}
 use Rattle.grib_io.specs.Rows.{choose}

@@ -1,12 +1,13 @@
 //! Laws over the definitions.
 
-ghost use Rattle.std.specs.Prelude.{◌≡◌, ℕ, ◌≤◌, List, All, IsTrue};
+ghost use Rattle.std.specs.Prelude.{◌≡◌, ◌≢◌, ℕ, ◌≤◌, List, None, Some, All, AllPairs, IsTrue};
 ghost use Rattle.grib2_message.specs.Fields.{field_count, column_of};
 ghost use Rattle.grib2_message.specs.Message.{IsMessage};
 ghost use Rattle.grib_keys.specs.declared.condition.Condition.{Condition};
 ghost use Rattle.grib_keys.specs.Keys.{can_set};
 ghost use Rattle.grib_select.specs.Single.{single_of};
-ghost use Rattle.grib_select.specs.Changed.{with_keys};
+ghost use Rattle.grib_select.specs.Changed.{with_keys, set_fault};
+ghost use Rattle.grib_select.specs.Values.{key_value_of};
 
 /// A field of an accepted message that is cut out is an accepted message of one field, with the same column.
 pub fn what_is_cut_out_keeps_its_column()
@@ -19,7 +20,8 @@ pub fn what_is_cut_out_keeps_its_column()
 {}
 
 /// An accepted message in which keys that can be set got other values is an accepted message with as many
-/// fields, each with the same column.
+/// fields, each with the same column. Where no change is at fault and no key stands twice, each field has the
+/// keys with their new values.
 pub fn what_is_set_keeps_each_column()
     ensures accepted { (message : List ℕ) (changes : List Condition) → IsMessage message
         → All (λ c. IsTrue (can_set c.key)) changes → IsMessage (with_keys message changes) }
@@ -29,4 +31,8 @@ pub fn what_is_set_keeps_each_column()
     ensures columns { (message : List ℕ) (changes : List Condition) (i : ℕ) → IsMessage message
         → All (λ c. IsTrue (can_set c.key)) changes
         → column_of (with_keys message changes) i ≡ column_of message i }
+    ensures values { (message : List ℕ) (changes : List Condition) (i : ℕ) → IsMessage message
+        → All (λ c. IsTrue (can_set c.key)) changes → AllPairs (λ a b. a.key ≢ b.key) changes
+        → set_fault message changes ≡ None → 1 ≤ i → i ≤ field_count message
+        → All (λ c. key_value_of (with_keys message changes) i c.key ≡ Some c.value) changes }
 {}

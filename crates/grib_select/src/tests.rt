@@ -98,6 +98,17 @@ fn read(alloc: Global, octets: &[u8]) -> Result<Message<'_>, ReadFault> {
     read_message(alloc, octets)
 }
 
+/// These octets with others at some places, counted from 1.
+fn edited(alloc: Global, octets: &[u8], edits: &[(usize, u8)]) -> Result<Vec<u8>, AllocError> {
+    let mut copy = octets.to_vec(alloc)?;
+    for (place, octet) in edits {
+        if *place >= 1 && *place <= copy.len() {
+            copy[*place - 1] = *octet;
+        }
+    }
+    Ok(copy)
+}
+
 /// The value of a key of the first field.
 fn value_of(message: &Message<'_>, key: Key) -> Option<Value> {
     if message.fields() == 0 {
@@ -148,17 +159,12 @@ fn keys_are_read(rt: HostRuntime) -> Result<(), Fail> {
 
 #[test]
 fn a_sign_and_all_ones_are_told(rt: HostRuntime) -> Result<(), Fail> {
-    let mut octets = plain(rt.alloc())?;
-    if octets.len() != 183 {
-        return Err(Fail::from("length"));
-    }
-    octets[127] = 0x80;
-    octets[131] = 0xff;
-    octets[132] = 0x81;
+    let whole = plain(rt.alloc())?;
+    let edits = [(128, 0x80), (132, 0xff), (133, 0x81)];
+    let octets = edited(rt.alloc(), whole.as_slice(), &edits)?;
     let Ok(message) = read(rt.alloc(), octets.as_slice()) else {
         return Err(Fail::from("refused"));
     };
-    assert_eq!(rt; message.fields(), 1);
     assert_eq!(rt; value_of(&message, Key::ForecastTime), number(-6));
     assert_eq!(rt; value_of(&message, Key::Surface1), Some(Value::Missing));
     assert_eq!(rt; value_of(&message, Key::Surface1Scale), number(-1));
@@ -248,47 +254,64 @@ fn a_field_keeps_its_local_section_and_surplus(rt: HostRuntime) -> Result<(), Fa
     Ok(())
 }
 
+/// Whether one change makes of the message just these octets.
+fn gives(
+    alloc: Global,
+    message: &Message<'_>,
+    key: Key,
+    value: Value,
+    edits: &[(usize, u8)],
+) -> Result<bool, AllocError> {
+    let expected = edited(alloc, message.octets(), edits)?;
+    match changed(alloc, message, key, value) {
+        Ok(octets) => Ok(octets.as_slice() == expected.as_slice()),
+        Err(_) => Ok(false),
+    }
+}
+
 #[test]
 fn the_octets_of_a_key_change_alone(rt: HostRuntime) -> Result<(), Fail> {
-    let mut octets = plain(rt.alloc())?;
+    let octets = plain(rt.alloc())?;
     let Ok(message) = read(rt.alloc(), octets.as_slice()) else {
         return Err(Fail::from("refused"));
     };
-    let Ok(later) = changed(rt.alloc(), &message, Key::Year, Value::Number(2025)) else {
-        return Err(Fail::from("not changed"));
-    };
-    let Ok(sea) = changed(rt.alloc(), &message, Key::Discipline, Value::Number(10)) else {
-        return Err(Fail::from("not changed"));
-    };
-    let Ok(before) = changed(rt.alloc(), &message, Key::ForecastTime, Value::Number(-6)) else {
-        return Err(Fail::from("not changed"));
-    };
-    let Ok(nowhere) = changed(rt.alloc(), &message, Key::Surface1Value, Value::Missing) else {
-        return Err(Fail::from("not changed"));
-    };
-    if octets.len() != 183 {
-        return Err(Fail::from("length"));
-    }
-    octets[28] = 0x07;
-    octets[29] = 0xe9;
-    assert!(rt; later.as_slice() == octets.as_slice());
-    octets[29] = 0xe8;
-    octets[6] = 10;
-    assert!(rt; sea.as_slice() == octets.as_slice());
-    octets[6] = 0;
-    octets[127] = 0x80;
-    assert!(rt; before.as_slice() == octets.as_slice());
-    octets[127] = 0;
-    for place in 133..137 {
-        octets[place] = 0xff;
-    }
-    assert!(rt; nowhere.as_slice() == octets.as_slice());
+    let later = [(29, 0x07), (30, 0xe9)];
+    assert!(rt; gives(rt.alloc(), &message, Key::Year, Value::Number(2025), &later)?);
+    assert!(rt;
+        gives(
+            rt.alloc(),
+            &message,
+            Key::Discipline,
+            Value::Number(10),
+            &[(7, 10)]
+        )?
+    );
+    let before = [(128, 0x80)];
+    assert!(rt;
+        gives(
+            rt.alloc(),
+            &message,
+            Key::ForecastTime,
+            Value::Number(-6),
+            &before
+        )?
+    );
+    let nowhere = [(134, 0xff), (135, 0xff), (136, 0xff), (137, 0xff)];
+    assert!(rt;
+        gives(
+            rt.alloc(),
+            &message,
+            Key::Surface1Value,
+            Value::Missing,
+            &nowhere
+        )?
+    );
     Ok(())
 }
 
 #[test]
 fn every_product_is_changed(rt: HostRuntime) -> Result<(), Fail> {
-    let mut octets = two_fields(rt.alloc())?;
+    let octets = two_fields(rt.alloc())?;
     let Ok(message) = read(rt.alloc(), octets.as_slice()) else {
         return Err(Fail::from("refused"));
     };
@@ -305,13 +328,9 @@ fn every_product_is_changed(rt: HostRuntime) -> Result<(), Fail> {
     let Ok(changed) = set_keys(rt.alloc(), &message, &changes) else {
         return Err(Fail::from("not changed"));
     };
-    if octets.len() != 252 {
-        return Err(Fail::from("length"));
-    }
-    octets[108] = 0x40;
-    octets[122] = 7;
-    octets[192] = 7;
-    assert!(rt; changed.as_slice() == octets.as_slice());
+    let edits = [(109, 0x40), (123, 7), (193, 7)];
+    let expected = edited(rt.alloc(), octets.as_slice(), &edits)?;
+    assert!(rt; changed.as_slice() == expected.as_slice());
     Ok(())
 }
 
@@ -325,20 +344,20 @@ fn a_member_gets_its_number(rt: HostRuntime) -> Result<(), Fail> {
         NO_BITMAP,
         FOUR_VALUES,
     ];
-    let mut octets = octets_of(rt.alloc(), 210, &sections)?;
+    let octets = octets_of(rt.alloc(), 210, &sections)?;
     let Ok(message) = read(rt.alloc(), octets.as_slice()) else {
         return Err(Fail::from("refused"));
     };
-    assert_eq!(rt; message.fields(), 1);
     assert_eq!(rt; value_of(&message, Key::EnsembleNumber), number(3));
-    let Ok(changed) = changed(rt.alloc(), &message, Key::EnsembleNumber, Value::Number(5)) else {
-        return Err(Fail::from("not changed"));
-    };
-    if octets.len() != 210 {
-        return Err(Fail::from("length"));
-    }
-    octets[144] = 5;
-    assert!(rt; changed.as_slice() == octets.as_slice());
+    assert!(rt;
+        gives(
+            rt.alloc(),
+            &message,
+            Key::EnsembleNumber,
+            Value::Number(5),
+            &[(145, 5)]
+        )?
+    );
     Ok(())
 }
 

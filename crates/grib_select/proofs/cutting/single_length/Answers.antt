@@ -1,4 +1,4 @@
-use Rattle.std.proofs.Common.{◌≡◌, ℕ, ◌+◌, ◌-◌, ◌*◌, ◌≤◌, ◌++◌, length, sym, ap, ◌∙◌, arith, length-append}
+use Rattle.std.proofs.Common.{◌≡◌, ℕ, ◌+◌, ◌-◌, length, ap, ◌∙◌, arith, length-append}
 use Rattle.grib_select.specs.Single.{field_part, first_parts}
 use Rattle.grib_select.proofs.Steps.{parts_more}
 use Rattle.grib_select.proofs.cutting.single_length.Goals as goal

@@ -1,4 +1,5 @@
 use Rattle.grib_select.proofs.Kept.{can_be_set, changed_accepted, changed_fields, changed_column}
+use Rattle.grib_select.proofs.Told.{stand_once, all_told}
 use Rattle.grib_select.proofs.laws.what_is_set_keeps_each_column.Goals as goal
 
 pub returns : goal.returns
@@ -6,4 +7,5 @@ returns c = record {
   accepted = λ m changes h set. changed_accepted m changes h (can_be_set changes set);
   fields = λ m changes h set. changed_fields m changes h (can_be_set changes set);
   columns = λ m changes i h set. changed_column m changes h (can_be_set changes set) i;
+  values = λ m changes i h set once none low high. all_told m changes h (can_be_set changes set) i low high none (stand_once changes once);
 }

@@ -1,4 +1,4 @@
-use Rattle.std.proofs.Common.{◌≡◌, refl, ap, ◌∙◌, arith, drop, []}
+use Rattle.std.proofs.Common.{◌≡◌, refl, ap, ◌∙◌, drop, []}
 use Rattle.std.proofs.lemmas.List.{drop_all}
 use Rattle.grib_select.specs.Values.{fulfils_all}
 use Rattle.grib_select.proofs.Asked.{asked_decides}

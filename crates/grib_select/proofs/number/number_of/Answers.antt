@@ -1,4 +1,4 @@
-use Rattle.std.proofs.Common.{◌≡◌, ℕ, ◌+◌, ◌*◌, ◌%◌, ◌^◌, ◌≤◌, ◌<◌, Bool, cond, Some, None, Option, ℤ, nat_abs, sym, ap, ◌∙◌, arith, subst, w64, to_z, of_z, to_z-of_z}
+use Rattle.std.proofs.Common.{◌≡◌, ℕ, ◌*◌, ◌<◌, Bool, cond, Some, sym, ap, ◌∙◌, arith, subst, w64, to_z, of_z, to_z-of_z}
 use Rattle.std.specs.Prelude.{IfSome}
 use Rattle.std.proofs.lemmas.Nat.{one_shl}
 use Rattle.grib2_sections.proofs.Octets.{pow_256}

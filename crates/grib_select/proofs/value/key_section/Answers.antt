@@ -1,4 +1,4 @@
-use Rattle.std.proofs.Common.{◌≡◌, ℕ, List, sym, subst}
+use Rattle.std.proofs.Common.{ℕ, List, sym, subst}
 use Rattle.grib_select.specs.Values.{HasKeys}
 use Rattle.grib_select.proofs.Within.{part_keys}
 use Rattle.grib_select.proofs.value.key_section.Goals as goal

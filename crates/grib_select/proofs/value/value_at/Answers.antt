@@ -1,4 +1,4 @@
-use Rattle.std.proofs.Common.{◌≡◌, ℕ, ◌+◌, ◌-◌, ◌*◌, ◌^◌, ◌<◌, Bool, true, false, cond, ◌&&◌, ℤ, pos, refl, sym, ap, ap₂, ◌∙◌, arith, w64, SFits, to_z-of_z}
+use Rattle.std.proofs.Common.{◌≡◌, ℕ, ◌+◌, ◌-◌, ◌*◌, Bool, false, cond, ◌&&◌, pos, refl, sym, ap, ap₂, ◌∙◌, arith, w64, SFits, to_z-of_z}
 use Rattle.std.proofs.lemmas.Bool.{and_left, and_right}
 use Rattle.grib_bits.specs.Octets.{octets, signed_octets}
 use Rattle.grib_bits.specs.Bits.{bits_of, signed}
