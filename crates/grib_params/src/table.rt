@@ -54,7 +54,12 @@ impl Table {
             number += 1;
             let record = match record {
                 Ok(record) => record,
-                Err(_) => return Err(TableFault::Memory),
+                Err(error) => {
+                    // Octets in memory are read, and a record may have any length: what is left is memory.
+                    let is_uneven = matches!(error.kind(), ErrorKind::UnequalLengths { .. });
+                    prove!(!is_uneven);
+                    return Err(TableFault::Memory);
+                }
             };
             let Some((key, target)) = row_of(&record) else {
                 return Err(TableFault::Row(number));
