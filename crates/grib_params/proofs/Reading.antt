@@ -34,14 +34,14 @@ start_field-ends : (c : ℕ) → Ends (start_field default_config c)
 start_field-ends c = either (c == 34) _ _ (λ e. cc e) (in_field-ends c)
 
 step-ends : (s : State) (c : ℕ) → Ends (step default_config s c)
-step-ends st.StartRecord c = either ((c == 13) || (c == 10)) _ _ (λ e. cc e) (start_field-ends c)
+step-ends st.StartRecord c = either ((c == 13) || (c == 10)) _ _ (λ e. refl) (start_field-ends c)
 step-ends st.StartField c = start_field-ends c
 step-ends st.InField c = in_field-ends c
 step-ends st.InQuoted c = either (c == 34) _ _ (λ e. cc e) (λ e. cc e)
 step-ends st.InEscape c = λ e. cc e
 step-ends st.AfterQuote c = either (c == 34) _ _ (λ e. cc e) (in_field-ends c)
-step-ends st.InComment c = either (c == 10) _ _ (λ e. cc e) (λ e. cc e)
-step-ends st.AfterCr c = either (c == 10) _ _ (λ e. cc e) (either ((c == 13) || (c == 10)) _ _ (λ e. cc e) (start_field-ends c))
+step-ends st.InComment c = either (c == 10) _ _ (λ e. refl) (λ e. cc e)
+step-ends st.AfterCr c = either (c == 10) _ _ (λ e. refl) (either ((c == 13) || (c == 10)) _ _ (λ e. refl) (start_field-ends c))
 
 -- a record leaves no more octets than there were, and the reader between two records
 leaves : (s : State) (fields : List (List ℕ)) (field xs : List ℕ) (p : Read) → next_record default_config s fields field xs ≡ Some p
