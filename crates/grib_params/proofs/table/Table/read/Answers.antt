@@ -38,7 +38,7 @@ returns-in-Ok-Some c =
     let at = stepped (λ (s : Bor (List ℕ)). Some s.now) c.loop-record.record-iterator.rdr c.next.new.self.rdr c.args.text.now c.loop-record.number c.loop-record.targets.entries (fields_of c.in-Ok.record) inv.stands s.0 in
     not_too_large c.args.text.now (omega arith)
     ∙ repeats (λ (s : Bor (List ℕ)). Some s.now) c.next.new.self.rdr c.args.text.now c.loop-record.number c.loop-record.targets.entries (fields_of c.in-Ok.record) at
-      (c.in-Some-row_of.key, c.in-Some-row_of.target) c.in-Ok-Some.field-0-0 c.in-Some-row_of.ensures (sym c.in-Ok-Some.field-0-is ∙ c.in-Ok-Some.ensures.old)
+    (c.in-Some-row_of.key, c.in-Some-row_of.target) c.in-Ok-Some.field-0-0 c.in-Some-row_of.ensures (sym c.in-Ok-Some.field-0-is ∙ c.in-Ok-Some.ensures.old)
 
 pub loop-record-preserved : goal.loop-record-preserved
 loop-record-preserved c =
@@ -52,7 +52,7 @@ loop-record-preserved c =
       flexible = any ∙ inv.flexible;
       left = s.2;
       stands = rw c.in-Ok-None.ensures.entries (joins (λ (s : Bor (List ℕ)). Some s.now) c.next.new.self.rdr c.args.text.now c.loop-record.number c.loop-record.targets.entries (fields_of c.in-Ok.record) at
-        (c.in-Some-row_of.key, c.in-Some-row_of.target) c.in-Some-row_of.ensures (sym c.in-Ok-None.field-0-is ∙ c.in-Ok-None.ensures.old));
+          (c.in-Some-row_of.key, c.in-Some-row_of.target) c.in-Some-row_of.ensures (sym c.in-Ok-None.field-0-is ∙ c.in-Ok-None.ensures.old));
     }
 
 pub returns : goal.returns
