@@ -1,6 +1,6 @@
 -- The records of a parameter table, and what a record says.
 use Rattle.std.specs.Prelude.{ℕ, Bool, not, ◌==◌, ◌&&◌, ◌||◌, ◌+◌, ◌-◌, ◌*◌, if◌then◌else◌, nat_lt, Option, Some, None, List, [], ◌∷◌, length, slice_index, fold, codes}
-use Rattle.std.specs.List.{list_all}
+use Rattle.std.specs.List.{filter_map, list_all}
 use Rattle.std.specs.Str.{bytes_eq}
 use Rattle.std.specs.Char.{is_ascii_digit}
 use Rattle.std.specs.Option.{option_map}
@@ -54,3 +54,7 @@ abbrev pub row_in : Fields → Option (Key × Target)
 row_in (centre ∷ version ∷ parameter ∷ discipline ∷ category ∷ number ∷ master ∷ local ∷ []) =
     row_from (centre_in centre) (number_in version) (number_in parameter) (number_in discipline) (number_in category) (number_in number) (number_in master) (number_in local)
 row_in _ = None
+
+-- the rows of a text, in their order
+abbrev pub rows_of : List ℕ → List (Key × Target)
+rows_of text = filter_map row_in (records_of text)

@@ -1,7 +1,16 @@
 //! What the definitions say of texts that are written out.
 
-ghost use Rattle.std.specs.Prelude.{◌≡◌, ◌∷◌, ◌++◌, [], Some, None, codes};
-ghost use Rattle.grib_params.specs.Table.{Duplicate, Good, Row, Verdict, lookup_in, table_verdict};
+ghost use Rattle.std.specs.Prelude.{◌≡◌, ℕ, List, ◌∷◌, ◌++◌, [], Some, None, codes};
+ghost use Rattle.grib_params.specs.Fields.{rows_of};
+ghost use Rattle.grib_params.specs.Table.{Duplicate, Entries, Good, Row, Verdict, lookup_in, table_verdict};
+
+/// Where a text is a table, a look-up in the table finds what it finds in the rows of the text, one record
+/// after another.
+pub fn a_table_has_the_rows_of_its_text()
+    ensures { (text : List ℕ) (table : Entries) → table_verdict text ≡ Good table
+        → (centre version parameter : ℕ)
+        → lookup_in table centre version parameter ≡ lookup_in (rows_of text) centre version parameter }
+{}
 
 /// Texts that are tables. Numbers are read from their octets; a byte order mark, quotes round a field,
 /// empty lines, and which end of line a record has, if any, make no difference. A text with no record is
