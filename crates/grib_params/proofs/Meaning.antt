@@ -34,6 +34,7 @@ put (entry ∷ rest) k q target absent = by (key_cmp k entry.0) refl (put rest k
     passed Equal Greater e f g more = refl
     passed Less p e f g more = more
     passed Greater p e f g more = more
+
     by : (o : Ordering) → key_cmp k entry.0 ≡ o
         → (target_at rest k ≡ None → target_at (insert_entry key_cmp rest k target) q ≡ (if is_eq (key_cmp q k) then Some target else target_at rest q))
         → target_at (match_ordering o ((k, target) ∷ entry ∷ rest) ((entry.0, target) ∷ rest) (entry ∷ insert_entry key_cmp rest k target)) q
@@ -75,6 +76,7 @@ from_records count table made (fields ∷ rest) q e = by (row_in fields) e (λ (
         later (insert_entry key_cmp table key target) e
         ∙ ap (λ (o : Option Target). option_or o (target_at (filter_map row_in rest) q)) (put table key q target there)
         ∙ joined table key q target (target_at (filter_map row_in rest) q) there
+
     by : (row : Option (Key × Target)) → with_row row (count + 1) table (λ more. verdict_from (count + 1) more rest) ≡ Good made
         → ((more : Entries) → verdict_from (count + 1) more rest ≡ Good made → target_at made q ≡ option_or (target_at more q) (target_at (filter_map row_in rest) q))
         → target_at made q ≡ option_or (target_at table q) (target_at (cons_option row (filter_map row_in rest)) q)
