@@ -1,17 +1,17 @@
 -- What a table has under a key is what its records say.
-use Rattle.std.proofs.Common.{◌≡◌, ◌+◌, ◌∙◌, ℕ, Bool, true, false, List, [], ◌∷◌, Option, None, Some, refl, sym, ap}
+use Rattle.std.proofs.Common.{◌≡◌, ◌+◌, ◌∙◌, ℕ, Bool, true, false, List, [], ◌∷◌, Option, None, Some, refl, ap}
 use Rattle.std.specs.Prelude.{if◌then◌else◌, nat_lt, length}
 use Rattle.std.specs.List.{cons_option, filter_map}
 use Rattle.std.specs.Option.{option_or}
 use Rattle.std.specs.declared.cmp.Ordering.{Ordering}
 use Rattle.std.specs.declared.cmp.Ordering.TheVariants.{Less, Equal, Greater}
-use Rattle.std.specs.Ordering.{is_eq, match_ordering, nat_cmp}
+use Rattle.std.specs.Ordering.{is_eq, match_ordering}
 use Rattle.std.specs.Cmp.{IsTotalOrder, nat_cmp_total, on_total, then_total}
 use Rattle.std.specs.Cmp.Lexicographic.{options_total}
 use Rattle.std.specs.BTreeMap.{insert_entry}
 use Rattle.grib_params.specs.declared.row.Target.{Target}
 use Rattle.grib_params.specs.Fields.{Fields, Key, records_of, row_in, rows_of}
-use Rattle.grib_params.specs.Table.{Duplicate, Entries, Good, Row, Verdict, key_cmp, table_verdict, target_at, TooLarge, unless_there, verdict_from, with_row}
+use Rattle.grib_params.specs.Table.{Entries, Good, key_cmp, table_verdict, target_at, TooLarge, unless_there, verdict_from, with_row}
 
 key_total : IsTotalOrder key_cmp
 key_total = then_total (then_total (on_total (λ (k : Key). k.0) (options_total nat_cmp_total)) (on_total (λ (k : Key). k.1) nat_cmp_total)) (on_total (λ (k : Key). k.2) nat_cmp_total)

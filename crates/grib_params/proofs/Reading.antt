@@ -1,11 +1,10 @@
 -- A text, read record by record.
-use Rattle.std.proofs.Common.{◌≡◌, ◌+◌, ◌<◌, ◌≤◌, ◌⊎◌, ◌∙◌, ℕ, Bool, true, false, List, [], ◌∷◌, ◌++◌, Option, None, Some, length, suc, zero, refl, arith, ap, sym, inl, inr}
-use Rattle.std.specs.Prelude.{nat_lt, ◌==◌, ◌||◌, ◌&&◌, if◌then◌else◌}
+use Rattle.std.proofs.Common.{◌≡◌, ◌+◌, ◌<◌, ◌≤◌, ◌∙◌, ℕ, Bool, true, false, List, [], ◌∷◌, ◌++◌, Option, None, Some, length, suc, zero, refl, arith}
+use Rattle.std.specs.Prelude.{◌==◌, ◌||◌, ◌&&◌, if◌then◌else◌}
 use Rattle.std.proofs.lemmas.Bool.{le-ltb}
 use Rattle.csv.specs.Machine.{Read, start_field, ends_at_end, field_after, fields_after, in_field, is_end, next_record, step}
 use Rattle.csv.specs.Reading.{ReadRecord, Reached, default_config, records_from, source_of, strip_bom}
 use Rattle.csv.specs.declared.parser.Action.{Action}
-use Rattle.csv.specs.declared.parser.Action.TheVariants as act
 use Rattle.csv.specs.declared.parser.State.{State}
 use Rattle.csv.specs.declared.parser.State.TheVariants as st
 use Rattle.csv.specs.declared.reader.Reader.{Reader}
@@ -13,7 +12,7 @@ use Rattle.csv.proofs.ReadFacts.{rows-end, rows-more}
 use Rattle.std.specs.BTreeMap.{insert_entry}
 use Rattle.grib_params.specs.declared.row.Target.{Target}
 use Rattle.grib_params.specs.Fields.{Fields, Key, records_of, row_in}
-use Rattle.grib_params.specs.Table.{Duplicate, Entries, Good, Row, Verdict, key_cmp, target_at, table_verdict, verdict_from, with_row}
+use Rattle.grib_params.specs.Table.{Duplicate, Entries, Good, Row, key_cmp, target_at, table_verdict, verdict_from, with_row}
 
 -- where an octet ends a record, the end of the text would end none
 abbrev pub Ends : State × Action → Type 0

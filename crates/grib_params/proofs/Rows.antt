@@ -1,5 +1,5 @@
 -- A record, field by field.
-use Rattle.std.proofs.Common.{◌≡◌, ℕ, Bool, true, false, List, [], ◌∷◌, Option, None, Some, length, refl, arith}
+use Rattle.std.proofs.Common.{◌≡◌, ℕ, [], ◌∷◌, Option, None, length, refl, arith}
 use Rattle.std.specs.Option.{option_and_then}
 use Rattle.csv.specs.Records.{field_at}
 use Rattle.grib_params.specs.Fields.{Fields, centre_in, number_in, row_from, row_in}

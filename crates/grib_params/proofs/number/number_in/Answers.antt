@@ -1,5 +1,4 @@
-use Rattle.std.proofs.Common.{◌≡◌, ◌∙◌, ◌≤◌, get_or, arith, sym}
-use Rattle.grib_params.specs.Fields.{with_digit}
+use Rattle.std.proofs.Common.{◌∙◌, arith, sym}
 use Rattle.grib_params.proofs.Numbers.{refused, spelled_out}
 use Rattle.grib_params.proofs.number.number_in.Goals as goal
 
