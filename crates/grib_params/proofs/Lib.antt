@@ -1,0 +1,5 @@
+pub mod Numbers
+pub mod Lookups
+pub mod Meaning
+pub mod Rows
+pub mod Reading

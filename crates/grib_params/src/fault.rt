@@ -1,0 +1,20 @@
+//! Why a text is no table.
+
+use thiserror::Error;
+
+/// Why a text is no table. Records count from 1.
+#[derive(Clone, Copy, Debug, Drop, PartialEq, Eq, Error)]
+pub enum TableFault {
+    /// The text has more than 1,048,576 octets.
+    #[error("the table has more than 1048576 octets")]
+    TooLarge,
+    /// This record does not have eight fields, the first a centre or `*` and each other a number.
+    #[error("record {0} of the table is no row")]
+    Row(u64),
+    /// An earlier record has the centre, version and parameter of this one.
+    #[error("record {0} of the table repeats an earlier one")]
+    Duplicate(u64),
+    /// There is no memory.
+    #[error("no memory for the table")]
+    Memory,
+}
