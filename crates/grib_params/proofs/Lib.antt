@@ -3,3 +3,4 @@ pub mod Lookups
 pub mod Meaning
 pub mod Rows
 pub mod Reading
+pub mod Spelling

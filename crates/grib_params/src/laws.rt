@@ -1,7 +1,7 @@
 //! What the definitions say of texts that are written out.
 
 ghost use Rattle.std.specs.Prelude.{◌≡◌, ℕ, List, ◌∷◌, ◌++◌, [], Some, None, codes};
-ghost use Rattle.grib_params.specs.Fields.{rows_of};
+ghost use Rattle.grib_params.specs.Fields.{Field, number_in, rows_of};
 ghost use Rattle.grib_params.specs.Table.{Duplicate, Entries, Good, Row, Verdict, lookup_in, table_verdict};
 
 /// Where a text is a table, a look-up in the table finds what it finds in the rows of the text, one record
@@ -10,6 +10,13 @@ pub fn a_table_has_the_rows_of_its_text()
     ensures { (text : List ℕ) (table : Entries) → table_verdict text ≡ Good table
         → (centre version parameter : ℕ)
         → lookup_in table centre version parameter ≡ lookup_in (rows_of text) centre version parameter }
+{}
+
+/// A number has one spelling, so two records have the same first three fields exactly where they are kept
+/// under the same key.
+pub fn a_number_has_one_spelling()
+    ensures { (first second : Field) (number : ℕ) → number_in first ≡ Some number → number_in second ≡ Some number
+        → first ≡ second }
 {}
 
 /// Texts that are tables. Numbers are read from their octets; a byte order mark, quotes round a field,
