@@ -61,10 +61,11 @@ pub fn run<S: Source, T: Sink, N: Sink, H: Shelf>(
     ensures unasked_output { IfErr (asked.job_of (map string_bytes words.now)) (λ fault.
         Keeps (T.contents output.old) (T.contents output.new)) }
 {
-    let outcome = match job_of(words) {
+    let outcome = match job_of(alloc, words) {
         Ok(job) => return serve(alloc, &job, input, output, notes, shelf),
         Err(JobFault::Usage(word)) => Outcome::Usage(word),
         Err(JobFault::NotBuilt) => Outcome::NotBuilt,
+        Err(JobFault::Memory) => Outcome::Memory,
     };
     close_with_note(alloc, outcome, output, notes)
 }

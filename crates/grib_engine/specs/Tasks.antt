@@ -16,7 +16,7 @@ use Rattle.grib2_message.specs.Acceptance.{verdict_2}
 use Rattle.grib2_message.specs.Fields.{field_count, column_of}
 use Rattle.grib_text.specs.Lines.{check_line, total_line, list_line, reference_line, point_lines}
 use Rattle.grib_engine.specs.declared.job.Job.{Job}
-use Rattle.grib_engine.specs.declared.job.Job.TheVariants.{Check, List as Listing, Dump}
+use Rattle.grib_engine.specs.declared.job.Job.TheVariants.{Check, List as Listing, Dump, Repack, Make}
 use Rattle.grib_engine.specs.Outcomes.{note_of}
 
 abbrev pub judged : Verdict → Judgement
@@ -47,18 +47,24 @@ abbrev pub field_text : Job → List ℕ → ℕ → ℕ → List ℕ
 field_text Check message m i = []
 field_text Listing message m i = list_line message m i
 field_text Dump message m i = dump_text message m i
+field_text (Repack target) message m i = []
+field_text (Make seed ni nj target) message m i = []
 
 -- what is printed of a message: a line, or the texts of its fields
 abbrev pub message_text : Job → Place → List ℕ → List ℕ
 message_text Check place message = check_line place.message place.before 2 (length message) (field_count message)
 message_text Listing place message = texts_from (field_text Listing message place.message) (field_count message) 1
 message_text Dump place message = texts_from (field_text Dump message place.message) (field_count message) 1
+message_text (Repack target) place message = texts_from (field_text (Repack target) message place.message) (field_count message) 1
+message_text (Make seed ni nj target) place message = texts_from (field_text (Make seed ni nj target) message place.message) (field_count message) 1
 
 -- what is printed at the end of the input
 abbrev pub ending_text : Job → Totals → List ℕ
 ending_text Check totals = total_line totals.messages totals.fields totals.skipped
 ending_text Listing totals = []
 ending_text Dump totals = []
+ending_text (Repack target) totals = []
+ending_text (Make seed ni nj target) totals = []
 
 abbrev pub task : Job → Task
 task job = record {

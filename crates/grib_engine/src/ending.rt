@@ -31,7 +31,7 @@ pub(crate) fn write_ending<T: Sink>(
             let line = total_line(alloc, totals.messages, totals.fields, totals.skipped)?;
             write_whole(output, line.as_slice())
         }
-        Job::List | Job::Dump => write_whole(output, b""),
+        Job::List | Job::Dump | Job::Repack(_) | Job::Make { .. } => write_whole(output, b""),
     }
 }
 

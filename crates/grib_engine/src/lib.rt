@@ -17,6 +17,6 @@ mod writing;
 pub use answering::{Answered, answer_message};
 pub use closing::{close, close_with_note};
 pub use grib_stream::{Outcome, Place, Totals};
-pub use job::Job;
+pub use job::{Job, RepackTarget};
 pub use reading::Held;
 pub use serving::serve;
