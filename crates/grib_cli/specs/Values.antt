@@ -3,8 +3,8 @@ use Rattle.std.specs.Prelude.{ℕ, Bool, cond, ◌&&◌, ◌||◌, ◌==◌, nat
 use Rattle.std.specs.Int.{is_in_range}
 use Rattle.std.specs.Option.{option_or}
 use Rattle.std.specs.Str.{bytes_eq, all_ascii_digits}
-use Rattle.grib_select.specs.declared.condition.Value.{Value}
-use Rattle.grib_select.specs.declared.condition.Value.TheVariants.{Number, Missing}
+use Rattle.grib_keys.specs.declared.condition.Value.{Value}
+use Rattle.grib_keys.specs.declared.condition.Value.TheVariants.{Number, Missing}
 
 abbrev pub is_not_empty : List ℕ → Bool
 is_not_empty text = nat_lt 0 (length text)

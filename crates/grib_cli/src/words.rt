@@ -7,7 +7,7 @@ ghost use Rattle.grib_cli.specs.Reading.{entries, size_entries, target_entries, 
 ghost use Rattle.grib_cli.specs.Words.{IsAsked};
 
 use grib_engine::Job;
-use grib_select::Key;
+use grib_keys::Key;
 use std::alloc::Global;
 
 mod asking;

@@ -1,6 +1,6 @@
 -- What is answered to a task, by the input alone: the results of its messages in order, up to the first
 -- that ends the run, and the ending where the input is read to its end.
-use Rattle.std.specs.Prelude.{ℕ, ◌+◌, cond, List, [], ◌∷◌, ◌++◌, length, take, nat_lt}
+use Rattle.std.specs.Prelude.{◌≡◌, ◌≢◌, ℕ, ◌+◌, cond, List, [], ◌∷◌, ◌++◌, length, take, nat_lt}
 use Rattle.grib_io.specs.Rows.{choose}
 use Rattle.grib_io.specs.declared.fault.Fault.{Fault}
 use Rattle.grib_io.specs.declared.fault.Refusal.{Refusal}
@@ -30,8 +30,8 @@ done task totals = record { acts = []; ending = (task.ending totals).acts; note 
 abbrev pub after : List Act → Answer → Answer
 after acts answer = record answer { acts = acts ++ answer.acts }
 
-abbrev pub totals_of : ℕ → ℕ → ℕ → Totals
-totals_of messages fields skipped = record { messages = messages; fields = fields; skipped = skipped }
+abbrev pub totals_of : ℕ → ℕ → ℕ → ℕ → Totals
+totals_of messages fields skipped written = record { messages = messages; fields = fields; skipped = skipped; written = written }
 
 -- the place of the message after so many messages, octets and fields
 abbrev pub place_of : ℕ → ℕ → ℕ → Place
@@ -40,40 +40,45 @@ place_of messages before fields = record { message = messages + 1; before = befo
 abbrev pub refusal_after : ℕ → Fault → Refusal
 refusal_after messages fault = record { message = messages + 1; fault = fault }
 
--- after so many messages with so many fields
-abbrev pub on_end : Task → ℕ → ℕ → End → Answer
-on_end task messages fields (Over skipped) = done task (totals_of messages fields skipped)
-on_end task messages fields (Refusing fault) = silent task (Refused (refusal_after messages fault))
-on_end task messages fields NotRead = silent task NotBuilt
+-- after so many messages with so many fields, for which so many octets were written
+abbrev pub on_end : Task → ℕ → ℕ → ℕ → End → Answer
+on_end task messages fields written (Over skipped) = done task (totals_of messages fields skipped written)
+on_end task messages fields written (Refusing fault) = silent task (Refused (refusal_after messages fault))
+on_end task messages fields written NotRead = silent task NotBuilt
 
-abbrev pub on_given : Task → Given → (List Act → Answer) → Answer
-on_given task (Gives acts) next = next acts
+abbrev pub on_given : Task → Given → (List Act → ℕ → Answer) → Answer
+on_given task (Gives acts written) next = next acts written
 on_given task (Ends outcome) next = silent task outcome
 
--- the results of the messages, after so many messages with so many fields
-abbrev pub answers : Task → ℕ → ℕ → List Found → End → Answer
-answers task messages fields [] end = on_end task messages fields end
-answers task messages fields (found ∷ later) end =
+-- the results of the messages, after so many messages with so many fields, for which so many octets were
+-- written
+abbrev pub answers : Task → ℕ → ℕ → ℕ → List Found → End → Answer
+answers task messages fields written [] end = on_end task messages fields written end
+answers task messages fields written (found ∷ later) end =
     on_given task (task.result (place_of messages found.before fields) found.octets)
-    (λ acts. after acts (answers task (messages + 1) (fields + task.fields found.octets) later end))
+    (λ acts more. after acts (answers task (messages + 1) (fields + task.fields found.octets) (written + more) later end))
 
-abbrev pub answer_to : Task → ℕ → ℕ → Stream → Answer
-answer_to task messages fields found = answers task messages fields found.messages found.end
+abbrev pub answer_to : Task → ℕ → ℕ → ℕ → Stream → Answer
+answer_to task messages fields written found = answers task messages fields written found.messages found.end
 
 -- the answer to what is left of an input, after what was counted so far, at a place
 abbrev pub answer_at : Task → Totals → ℕ → List ℕ → Answer
 answer_at task totals place left =
-    answer_to task totals.messages totals.fields (stream_from task.judge 0 place totals.skipped left)
+    answer_to task totals.messages totals.fields totals.written (stream_from task.judge 0 place totals.skipped left)
 
 -- the answer to an input, however long it is
 abbrev pub answer_of : Task → List ℕ → Answer
-answer_of task input = answer_at task (totals_of 0 0 0) 0 input
+answer_of task input = answer_at task (totals_of 0 0 0 0) 0 input
 
 -- the answer to the first octets of an input that goes on
 abbrev pub at_limit : Task → Answer → Answer
 at_limit task answer =
     cond (is_open answer.outcome)
     (record { acts = answer.acts; ending = []; note = task.note InputTooLong; outcome = InputTooLong }) answer
+
+-- what is noted of an outcome other than of the end of the input is the task's note of it
+abbrev pub NotesOutcome : Task → Answer → Type 0
+NotesOutcome task answer = answer.outcome ≢ Done → answer.note ≡ task.note answer.outcome
 
 -- the answer to an input, of which so many octets are answered at most
 abbrev pub answer_within : ℕ → Task → List ℕ → Answer

@@ -44,9 +44,18 @@ pub record IsOver (task : Task) (limit : ℕ) (totals : Totals) (left left_now :
   pub did : Did before now acts
   pub whole : answer_of task taken ≡ after acts (done task totals)
 
+-- how a run ends that answers what was counted of an input that it read to its end, or else the outcome
+abbrev pub outcome_of : Result Totals Outcome → Outcome
+outcome_of (Ok totals) = Done
+outcome_of (Err outcome) = outcome
+
+-- what is noted at the end of the input, by what was counted
+abbrev pub Notes : Task → ℕ → Totals → Option (List ℕ) → Type 0
+Notes task limit totals left = IfSome left (λ input. (answer_within limit task input).note ≡ (task.ending totals).note)
+
 -- what a run reaches before its ending: the end of the input, or an outcome
 abbrev pub Reaches : Task → ℕ → Result Totals Outcome → Option (List ℕ) → Option (List ℕ) → World → World → Faults → Faults → Type 0
 Reaches task limit (Ok totals) left left_now before now counts counts_now =
     IsOver task limit totals left left_now before now × CountsOne Done counts counts_now
 Reaches task limit (Err outcome) left left_now before now counts counts_now =
-    Runs task limit outcome left left_now before now × CountsOne outcome counts counts_now
+    Runs task limit outcome left left_now before now × (CountsOne outcome counts counts_now × (outcome ≢ Done))

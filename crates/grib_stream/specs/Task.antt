@@ -1,5 +1,5 @@
 -- What is to be done with the messages of an input, as far as a run over them has to know it.
-use Rattle.std.specs.Prelude.{◌≡◌, ℕ, ◌≤◌, true, false, List, [], ◌++◌, length, take}
+use Rattle.std.specs.Prelude.{◌≡◌, ℕ, ◌*◌, ◌≤◌, true, false, List, [], ◌++◌, length, take}
 use Rattle.grib_io.specs.declared.fault.Fault.{Fault}
 use Rattle.grib_stream.specs.declared.outcome.Outcome.{Outcome}
 use Rattle.grib_stream.specs.declared.outcome.Outcome.TheVariants.{NotBuilt}
@@ -9,9 +9,10 @@ use Rattle.grib_stream.specs.Stream.{Judgement, Message, Faulty, Unbuilt}
 use Rattle.grib_stream.specs.Acts.{Act}
 use Rattle.grib_stream.specs.Outcomes.{is_truncated, is_of_message}
 
--- the result of a message: what is done for it, or the outcome with which the run ends before it
+-- the result of a message: what is done for it and how many octets of it are counted as written, or the
+-- outcome with which the run ends before it
 pub data Given : Type 0 where
-  Gives : List Act → Given
+  Gives : List Act → ℕ → Given
   Ends : Outcome → Given
 
 -- what is done at the end of the input, and what is noted of it
@@ -33,7 +34,8 @@ pub record Task : Type 0 where
 
 -- What is said of octets stays said whatever follows them, but for the refusal of octets that end too
 -- early. An accepted length is at least 4, its octets are there, and the acceptance rests on them alone. An
--- outcome with which a run ends at a message is one of a message.
+-- outcome with which a run ends at a message is one of a message. A message has 20 octets at least and its
+-- result 268435456 at most, or as many for each 20 octets of it, so that what is written can be counted.
 pub record IsLawful (task : Task) : Type 0 where
   pub message_stays : (octets more : List ℕ) (total : ℕ) → task.judge octets ≡ Message total → task.judge (octets ++ more) ≡ Message total
   pub refusal_stays : (octets more : List ℕ) (fault : Fault) → task.judge octets ≡ Faulty fault → is_truncated fault.reason ≡ false
@@ -43,17 +45,19 @@ pub record IsLawful (task : Task) : Type 0 where
   pub there : (octets : List ℕ) (total : ℕ) → task.judge octets ≡ Message total → total ≤ length octets
   pub alone : (octets : List ℕ) (total : ℕ) → task.judge octets ≡ Message total → task.judge (take total octets) ≡ Message total
   pub few_fields : (octets : List ℕ) (total : ℕ) → task.judge octets ≡ Message total → task.fields (take total octets) ≤ total
+  pub few_written : (place : Place) (octets : List ℕ) (total : ℕ) (acts : List Act) (written : ℕ) → task.judge octets ≡ Message total
+      → task.result place (take total octets) ≡ Gives acts written → 20 * written ≤ 268435456 * total
   pub ends_at_message : (place : Place) (message : List ℕ) (outcome : Outcome) → task.result place message ≡ Ends outcome → is_of_message outcome ≡ true
 
 -- what comes next of the octets from a `GRIB` on: a message of this length with so many fields, for which
--- this is done; a refusal; or an end with this outcome
+-- so many octets are counted as written and this is done; a refusal; or an end with this outcome
 pub data Next : Type 0 where
-  Whole : ℕ → ℕ → List Act → Next
+  Whole : ℕ → ℕ → ℕ → List Act → Next
   Refuses : Fault → Next
   Stops : Outcome → Next
 
 abbrev pub next_given : Given → ℕ → ℕ → Next
-next_given (Gives acts) total fields = Whole total fields acts
+next_given (Gives acts written) total fields = Whole total fields written acts
 next_given (Ends outcome) total fields = Stops outcome
 
 abbrev pub next_judged : Judgement → (ℕ → Next) → Next
@@ -68,6 +72,6 @@ next_of task place octets =
 
 -- what is done for it
 abbrev pub acts_of : Next → List Act
-acts_of (Whole total fields acts) = acts
+acts_of (Whole total fields written acts) = acts
 acts_of (Refuses fault) = []
 acts_of (Stops outcome) = []

@@ -13,7 +13,7 @@ use Rattle.grib_stream.specs.declared.deciding.Turn.{Turn}
 use Rattle.grib_stream.specs.declared.deciding.Turn.TheVariants.{Message as Answered, Wait, Ends}
 use Rattle.grib_stream.specs.Stream.{begins, Message}
 use Rattle.grib_stream.specs.Acts.{Act, World, Did, DidFront}
-use Rattle.grib_stream.specs.Outcomes.{is_cut_short, is_truncated}
+use Rattle.grib_stream.specs.Outcomes.{is_cut_within, is_truncated}
 use Rattle.grib_stream.specs.Task.{Task, Next, Whole, Refuses, Stops, next_of, acts_of}
 
 -- octets from a `GRIB` on that are refused for their end alone, of a message that has so many at least
@@ -37,12 +37,12 @@ StopsOrRefuses next place outcome =
     (next ≡ Stops outcome) ⊎ ((fault : Fault) × (next ≡ Refuses fault) × (is_truncated fault.reason ≡ false) × (outcome ≡ Refused (refusal_at place fault)))
 
 pub record EndsTurn (next : Next) (place : Place) (outcome : Outcome) (before now : World) : Type 0 where
-  pub stopped : is_cut_short outcome ≡ false → StopsOrRefuses next place outcome × Did before now []
-  pub cut : is_cut_short outcome ≡ true → DidFront before now (acts_of next)
+  pub stopped : is_cut_within outcome ≡ false → StopsOrRefuses next place outcome × Did before now []
+  pub cut : is_cut_within outcome ≡ true → DidFront before now (acts_of next)
 
 abbrev pub Turns : Task → Place → List ℕ → Turn → World → World → Type 0
 Turns task place octets (Answered message) before now =
-    (begins octets ≡ true) × ((acts : List Act) × (next_of task place octets ≡ Whole message.octets message.fields acts) × Did before now acts)
+    (begins octets ≡ true) × ((acts : List Act) × (next_of task place octets ≡ Whole message.octets message.fields message.written acts) × Did before now acts)
 Turns task place octets (Wait wait) before now = Awaits task place octets wait.fault wait.wanted × (length octets < wait.wanted) × Did before now []
 Turns task place octets (Ends outcome) before now = (begins octets ≡ true) × EndsTurn (next_of task place octets) place outcome before now
 

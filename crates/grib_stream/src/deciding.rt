@@ -6,7 +6,7 @@ ghost use Rattle.grib_stream.specs.Stream.{begins};
 ghost use Rattle.grib_stream.specs.Acts.{world};
 ghost use Rattle.grib_stream.specs.Turning.{Turns};
 ghost use Rattle.grib_stream.specs.Outcomes as outcomes;
-ghost use Rattle.grib_stream.specs.declared.outcome.Outcome.TheVariants.{WriteFault};
+ghost use Rattle.grib_stream.specs.declared.outcome.Outcome.TheVariants.{WriteFault, ShelfFault};
 
 use crate::outcome::Outcome;
 use crate::performer::{Performed, Performer, Whole};
@@ -53,8 +53,11 @@ pub(crate) fn decide<K: Performer, T: Sink, H: Shelf>(
     ensures write_fault { result ≡ Turn.Ends WriteFault
         → Counted (T.faults output.old) (T.faults output.new) }
     ensures write_calm { result ≢ Turn.Ends WriteFault → T.faults output.new ≡ T.faults output.old }
-    ensures shelf_calm { H.faults shelf.new ≡ H.faults shelf.old }
+    ensures shelf_fault { result ≡ Turn.Ends ShelfFault
+        → Counted (H.faults shelf.old) (H.faults shelf.new) }
+    ensures shelf_calm { result ≢ Turn.Ends ShelfFault → H.faults shelf.new ≡ H.faults shelf.old }
     ensures shelf { K.uses_shelf performer.now ≡ false → shelf.new ≡ shelf.old }
+    ensures unshelved { K.uses_shelf performer.now ≡ false → result ≢ Turn.Ends ShelfFault }
 {
     if octets.len() < 4 {
         return Turn::Wait(Wait {

@@ -14,6 +14,6 @@ mod searching;
 mod window;
 
 pub use answering::{LIMIT, answer_within};
-pub use outcome::Outcome;
+pub use outcome::{Cause, Kept, Outcome};
 pub use performer::{Performed, Performer, Whole};
 pub use place::{Place, Totals};

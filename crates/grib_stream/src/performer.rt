@@ -8,18 +8,20 @@ ghost use Rattle.grib_stream.specs.Task.{Task, IsLawful, next_of};
 ghost use Rattle.grib_stream.specs.Outcomes.{is_cut_short};
 ghost use Rattle.grib_stream.specs.Performed.{Performs};
 ghost use Rattle.grib_stream.specs.declared.performer.Performed.TheVariants.{Ends};
-ghost use Rattle.grib_stream.specs.declared.outcome.Outcome.TheVariants.{WriteFault};
+ghost use Rattle.grib_stream.specs.declared.outcome.Outcome.TheVariants.{WriteFault, ShelfFault};
 
 use crate::outcome::Outcome;
 use crate::place::{Place, Totals};
 use grib_io::{Fault, Shelf, Sink};
 use std::alloc::Global;
 
-/// A message that was answered: its octets and its fields.
+/// A message that was answered: its octets, its fields, and the octets of its result as far as they are
+/// counted.
 #[derive(Clone, Copy, Debug, PartialEq, Eq)]
 pub struct Whole {
     pub octets: u64,
     pub fields: u64,
+    pub written: u64,
 }
 
 /// What came of the octets from a `GRIB` on.
@@ -41,7 +43,7 @@ pub trait Performer {
     /// What is to be done.
     ghost task: { Self → Task };
 
-    /// Whether the shelf is used. Else it stays as it is.
+    /// Whether the shelf is used. Else it stays as it is, and the run does not end with its fault.
     ghost uses_shelf: { Self → Bool };
 
     /// How many octets a message has at least that begins with these, which begin with `GRIB`.
@@ -69,8 +71,11 @@ pub trait Performer {
         ensures write_fault { result ≡ Ends WriteFault
             → Counted (T.faults output.old) (T.faults output.new) }
         ensures write_calm { result ≢ Ends WriteFault → T.faults output.new ≡ T.faults output.old }
-        ensures shelf_calm { H.faults shelf.new ≡ H.faults shelf.old }
-        ensures shelf { uses_shelf self.now ≡ false → shelf.new ≡ shelf.old };
+        ensures shelf_fault { result ≡ Ends ShelfFault
+            → Counted (H.faults shelf.old) (H.faults shelf.new) }
+        ensures shelf_calm { result ≢ Ends ShelfFault → H.faults shelf.new ≡ H.faults shelf.old }
+        ensures shelf { uses_shelf self.now ≡ false → shelf.new ≡ shelf.old }
+        ensures unshelved { uses_shelf self.now ≡ false → result ≢ Ends ShelfFault };
 
     /// Does what is to be done at the end of the input.
     fn finish<T: Sink, H: Shelf>(

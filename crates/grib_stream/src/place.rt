@@ -20,4 +20,6 @@ pub struct Totals {
     pub fields: u64,
     /// The octets that belong to no message.
     pub skipped: u64,
+    /// The octets of the messages' results, as far as they are counted.
+    pub written: u64,
 }

@@ -6,9 +6,9 @@ ghost use Rattle.grib_stream.specs.Acts.{world};
 ghost use Rattle.grib_stream.specs.Reading.{Gathers, Probes};
 ghost use Rattle.grib_stream.specs.Turning.{conclusion};
 ghost use Rattle.grib_stream.specs.Rest.{Stands};
-ghost use Rattle.grib_stream.specs.Run.{Reaches};
+ghost use Rattle.grib_stream.specs.Run.{Reaches, outcome_of};
 ghost use Rattle.grib_stream.specs.Faults.{faults};
-ghost use Rattle.grib_stream.specs.declared.outcome.Outcome.TheVariants.{ReadFault, Memory};
+ghost use Rattle.grib_stream.specs.declared.outcome.Outcome.TheVariants.{ReadFault, ShelfFault, Memory};
 
 use crate::deciding::{Turn, Wait, decide};
 use crate::gathering::{Rest, gather};
@@ -38,12 +38,14 @@ pub(crate) fn answer_messages<K: Performer, S: Source, T: Sink, H: Shelf>(
         (faults (S.faults input.old) (T.faults output.old) 0 (H.faults shelf.old))
         (faults (S.faults input.new) (T.faults output.new) 0 (H.faults shelf.new)) }
     ensures shelf { K.uses_shelf performer.now ≡ false → shelf.new ≡ shelf.old }
+    ensures unshelved { K.uses_shelf performer.now ≡ false → outcome_of result ≢ ShelfFault }
 {
     let mut window = Window::new(alloc);
     let mut totals = Totals {
         messages: 0,
         fields: 0,
         skipped: 0,
+        written: 0,
     };
     let mut place = 0u64;
     let mut left = limit;
@@ -64,6 +66,7 @@ pub(crate) fn answer_messages<K: Performer, S: Source, T: Sink, H: Shelf>(
                 place += message.octets;
                 totals.messages += 1;
                 totals.fields += message.fields;
+                totals.written += message.written;
                 continue 'messages;
             }
             Turn::Wait(wait) => wait,
@@ -129,6 +132,7 @@ fn conclude(wait: &Wait, here: &Place, totals: &Totals, len: usize) -> Result<To
             messages: totals.messages,
             fields: totals.fields,
             skipped: totals.skipped + len as u64,
+            written: totals.written,
         }),
         Some(fault) => Err(Outcome::Refused(Refusal {
             message: here.message,

@@ -3,7 +3,7 @@
 ghost use Rattle.std.specs.Prelude.{◌≡◌, ◌<◌, ◌^◌, ◌&&◌, ◌==◌, get_or, drop, nat_lt, cond, Some, None};
 ghost use Rattle.grib_cli.specs.Values.{begins_from_one, is_number, number, is_between, from_zero, below_zero, key_value};
 
-use grib_select::Value;
+use grib_keys::Value;
 
 /// Whether a text begins with a digit 1 to 9.
 fn begins_from_one(text: &[u8]) -> bool

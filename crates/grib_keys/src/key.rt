@@ -1,7 +1,7 @@
 //! The keys of a field: their names, and which of them can be set.
 
 ghost use Rattle.std.specs.Prelude.{◌≡◌, Some};
-ghost use Rattle.grib_select.specs.Keys.{name_of, can_set, key_named};
+ghost use Rattle.grib_keys.specs.Keys.{name_of, can_set, key_named};
 
 use std::fmt;
 

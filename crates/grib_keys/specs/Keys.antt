@@ -3,8 +3,8 @@
 use Rattle.std.specs.Prelude.{ℕ, Bool, true, false, cond, ◌==◌, ◌+◌, Option, Some, None, List, [], ◌∷◌, codes}
 use Rattle.std.specs.List.{find, list_any}
 use Rattle.std.specs.Str.{bytes_eq}
-use Rattle.grib_select.specs.declared.key.Key.{Key}
-use Rattle.grib_select.specs.declared.key.Key.TheVariants.{Discipline, Centre, SubCentre, MasterTables, LocalTables, Significance, Year, Month, Day, Hour, Minute, Second, Status, DataType, EarthShape, Points, GridTemplate, Ni, Nj, Scanning, La1, Lo1, ProductTemplate, Category, Number, Process, Generator, TimeUnit, ForecastTime, Surface1, Surface1Scale, Surface1Value, EnsembleNumber, Packing, Bits}
+use Rattle.grib_keys.specs.declared.key.Key.{Key}
+use Rattle.grib_keys.specs.declared.key.Key.TheVariants.{Discipline, Centre, SubCentre, MasterTables, LocalTables, Significance, Year, Month, Day, Hour, Minute, Second, Status, DataType, EarthShape, Points, GridTemplate, Ni, Nj, Scanning, La1, Lo1, ProductTemplate, Category, Number, Process, Generator, TimeUnit, ForecastTime, Surface1, Surface1Scale, Surface1Value, EnsembleNumber, Packing, Bits}
 
 -- the first and the last octet of a number
 pub record Octets : Type 0 where
