@@ -5,5 +5,6 @@ pub mod Fields
 pub mod Message
 pub mod ReadFaults
 pub mod Kept
+pub mod Assembled
 pub use Rattle.grib2_grids.specs.Grid
 pub use Rattle.grib2_products.specs.Product

@@ -1,4 +1,4 @@
-//! Why a message was not read.
+//! Why a message was not read, or not put together.
 
 ghost use Rattle.std.specs.Prelude.{◌≡◌, Option};
 ghost use Rattle.grib_io.specs.declared.fault.Fault.{Fault as fault_of_rows};
@@ -6,6 +6,7 @@ ghost use Rattle.grib2_grids.specs.Refused as grids;
 ghost use Rattle.grib2_products.specs.Refused as products;
 ghost use Rattle.grib_bitmap.specs.Fault.{IsMaskFault};
 ghost use Rattle.grib_simple.specs.Unpacked.{IsUnpackFault};
+ghost use Rattle.grib2_message.specs.declared.fault.AssembleFault.TheVariants.{Memory as MemoryToAssemble};
 ghost use Rattle.grib2_message.specs.declared.fault.ReadFault.TheVariants.{Refused, Memory};
 ghost use Rattle.grib2_message.specs.ReadFaults.{IsReadFault};
 
@@ -14,6 +15,7 @@ use grib_io::{Fault, UnpackFault};
 use grib2_grids::GridFault;
 use grib2_products::ProductFault;
 use std::alloc::AllocError;
+use thiserror::Error;
 
 /// Why a message was not read.
 #[derive(Clone, Copy, Debug, PartialEq, Eq)]
@@ -85,5 +87,24 @@ impl From<UnpackFault> for ReadFault {
             UnpackFault::Refused(fault) => ReadFault::Refused(fault),
             UnpackFault::Memory => ReadFault::Memory,
         }
+    }
+}
+
+/// Why a message was not put together.
+#[derive(Clone, Copy, Debug, PartialEq, Eq, Error)]
+pub enum AssembleFault {
+    /// It would have this many octets, more than 268,435,456.
+    #[error("a message of {0} octets is too long")]
+    TooLong(u64),
+    /// Want of memory.
+    #[error("out of memory")]
+    Memory,
+}
+
+impl From<AllocError> for AssembleFault {
+    ghost from_gives = { λ _ fault. fault ≡ MemoryToAssemble };
+
+    fn from(_: AllocError) -> AssembleFault {
+        AssembleFault::Memory
     }
 }

@@ -1,13 +1,19 @@
 //! Laws over the definitions.
 
-ghost use Rattle.std.specs.Prelude.{◌≡◌, ◌≢◌, ℕ, ◌<◌, ◌≤◌, List, ◌++◌, length, take, map, All};
+ghost use Rattle.std.specs.Prelude.{◌≡◌, ◌≢◌, ℕ, ◌+◌, ◌<◌, ◌≤◌, List, ◌++◌, Some, None, length, take, map, slice_get, All};
 ghost use Rattle.grib_io.specs.declared.fault.Fault.{Fault};
 ghost use Rattle.grib_io.specs.declared.fault.Reason.TheVariants.{Truncated};
 ghost use Rattle.grib2_sections.specs.Head.{indicator, edition, total_length};
 ghost use Rattle.grib2_sections.specs.Verdict.{Accepted, Refused};
 ghost use Rattle.grib2_message.specs.Acceptance.{verdict_2};
 ghost use Rattle.grib2_message.specs.Grammar.{Grammar2};
-ghost use Rattle.grib2_message.specs.Fields.{sections_of};
+ghost use Rattle.grib2_message.specs.Fields.{sections_of, field_count, part_octets, column_of};
+ghost use Rattle.grib2_message.specs.Message.{IsMessage};
+ghost use Rattle.grib2_message.specs.Assembled.{assembled, MayBeAssembled};
+ghost use Rattle.grib2_grids.specs.Grid.{grid_points};
+ghost use Rattle.grib_bitmap.specs.Mask.{mask_of};
+ghost use Rattle.grib_packing.specs.Entries.{column_from};
+ghost use Rattle.grib_simple.specs.declared.written.Packed.{Packed};
 
 /// What is accepted is exactly what is in the grammar, with its total length, whatever comes after it.
 /// A message in the grammar has one list of sections, and it is the one that is found in it.
@@ -44,4 +50,22 @@ pub fn accepted_length()
         → verdict_2 octets ≡ Accepted total → total ≤ length octets }
     ensures alone { (octets : List ℕ) (total : ℕ) → edition octets ≢ 1
         → verdict_2 octets ≡ Accepted total → verdict_2 (take total octets) ≡ Accepted total }
+{}
+
+/// An accepted message with other Sections 5, 6 and 7 that pass their rows is accepted, where it is not too
+/// long. It has as many fields. Each field has the column of its part, and its Sections 1 to 4 as they were.
+pub fn what_is_assembled_is_accepted()
+    ensures accepted { (message : List ℕ) (parts : List Packed) → MayBeAssembled message parts
+        → IsMessage (assembled message parts) }
+    ensures fields { (message : List ℕ) (parts : List Packed) → MayBeAssembled message parts
+        → field_count (assembled message parts) ≡ field_count message }
+    ensures columns { (message : List ℕ) (parts : List Packed) → MayBeAssembled message parts
+        → (i : ℕ) (part : Packed) → slice_get parts i ≡ Some part
+        → column_of (assembled message parts) (i + 1)
+        ≡ column_from part.section5
+        (mask_of part.section6 (grid_points (part_octets message (i + 1) 3)) None)
+        part.section7 }
+    ensures kept { (message : List ℕ) (parts : List Packed) → MayBeAssembled message parts
+        → (i k : ℕ) → 1 ≤ i → i ≤ field_count message → 1 ≤ k → k ≤ 4
+        → part_octets (assembled message parts) i k ≡ part_octets message i k }
 {}

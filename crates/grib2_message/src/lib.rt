@@ -1,6 +1,7 @@
-//! Messages of edition 2: acceptance, fields, columns.
+//! Messages of edition 2: acceptance, fields, columns, and putting together again.
 #![tactic(auto)]
 
+mod assembling;
 mod checking;
 mod columns;
 mod fault;
@@ -12,6 +13,6 @@ mod reading;
 #[cfg(test)]
 mod tests;
 
-pub use fault::ReadFault;
+pub use fault::{AssembleFault, ReadFault};
 pub use message::Message;
 pub use reading::read_message;

@@ -1,17 +1,21 @@
 //! A message that was read.
 
-ghost use Rattle.std.specs.Prelude.{◌≡◌, ◌≢◌, ◌≤◌, length, None, Some, MatchOption, IfOk};
+ghost use Rattle.std.specs.Prelude.{◌≡◌, ◌≢◌, ◌≤◌, length, None, Some, MatchOption, MatchResult, IfOk, All};
 ghost use Rattle.grib_bits.specs.Octets.{StatesItself};
 ghost use Rattle.grib2_sections.specs.Frame.{placed_at};
 ghost use Rattle.grib2_message.specs.Fields as definitions;
 ghost use Rattle.grib2_message.specs.Fields.{field_count, part_octets, column_of};
 ghost use Rattle.grib2_message.specs.Message.{IsMessage, FieldPasses};
+ghost use Rattle.grib2_message.specs.Assembled.{assembled, IsShort, IsAssembleFault};
 ghost use Rattle.grib2_message.specs.Kept.{Keeps};
 
+use crate::AssembleFault;
+use crate::assembling::{assembled_length, put_together};
 use crate::columns::column_at;
 use crate::places::Places;
 use grib_io::Section;
 use grib_packing::Column;
+use grib_simple::Packed;
 use std::alloc::{AllocError, Global};
 use std::marker::Model;
 
@@ -107,5 +111,28 @@ impl<'a> Message<'a> {
     {
         let places = &self.fields[field as usize - 1];
         column_at(alloc, self.octets, places)
+    }
+
+    /// The message with other Sections 5, 6 and 7, one part for each field in their order. All other
+    /// sections are copied octet for octet, and the total length is renewed. The parts are put in as they
+    /// are: where each states its length and its number and passes its rows, the message is accepted.
+    /// The length is known before any memory is taken.
+    ///
+    /// # Errors
+    ///
+    /// The message would have more than 268,435,456 octets, or there is no memory.
+    pub fn assemble(&self, alloc: Global, packed: &[Packed]) -> Result<Vec<u8>, AssembleFault>
+        requires one_each { length packed.now ≡ field_count self.now }
+        requires short { All IsShort packed.now }
+        ensures { MatchResult result
+            (λ octets. (octets.items ≡ assembled self.now packed.now)
+            × (length (assembled self.now packed.now) ≤ 268435456))
+            (IsAssembleFault (length (assembled self.now packed.now))) }
+    {
+        let total = assembled_length(self.octets, packed);
+        if total > 268_435_456 {
+            return Err(AssembleFault::TooLong(total));
+        }
+        Ok(put_together(alloc, self.octets, packed, total)?)
     }
 }
