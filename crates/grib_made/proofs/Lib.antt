@@ -1,0 +1,4 @@
+pub mod Fitting
+pub mod Making
+pub mod Small
+pub mod Summing

@@ -1,0 +1,3 @@
+pub mod Points
+pub mod Maker
+pub mod Summary
