@@ -8,13 +8,13 @@ use Rattle.std.proofs.KnownBytes.{Consumes-whole}
 use Rattle.grib_io.specs.Rows.{choose}
 use Rattle.grib_io.specs.declared.fault.Refusal.{Refusal}
 use Rattle.grib_stream.specs.declared.outcome.Outcome.{Outcome}
-use Rattle.grib_stream.specs.declared.outcome.Outcome.TheVariants.{Done, Usage, Refused, ReadFault, WriteFault, Memory, InputTooLong, NotBuilt}
+use Rattle.grib_stream.specs.declared.outcome.Outcome.TheVariants.{Done, Usage, Refused, Kept, ReadFault, WriteFault, ShelfFault, Memory, InputTooLong, NotBuilt}
 use Rattle.grib_stream.specs.declared.place.Totals.{Totals}
 use Rattle.grib_stream.specs.Acts.{Act, World, Did, DidFront}
-use Rattle.grib_stream.specs.Outcomes.{KeepsOrCuts, is_broken, is_cut_short, is_open, is_truncated, is_of_message}
+use Rattle.grib_stream.specs.Outcomes.{KeepsOrCuts, is_broken, is_cut_short, is_cut_within, is_open, is_truncated, is_of_message}
 use Rattle.grib_stream.specs.Task.{Task}
 use Rattle.grib_stream.specs.Answer.{Answer, silent, done, after, answer_of, answer_within, at_limit}
-use Rattle.grib_stream.specs.Run.{Gives, Runs, IsOver}
+use Rattle.grib_stream.specs.Run.{Gives, Runs, IsOver, Notes}
 use Rattle.grib_stream.proofs.Worlds.{did_then, did_still, front_whole, front_more, front_after, front_still}
 use Rattle.grib_stream.proofs.Nexts.{not_true}
 
@@ -26,11 +26,11 @@ front_taken limit taken left short =
     let e : limit ≡ length taken + (limit - length taken) = omega arith in
     ap (λ n. take n (taken ++ left)) e ∙ take-append-add taken left (limit - length taken)
 
-within_short : (task : Task) (limit : ℕ) (input : List ℕ) → length input ≤ limit → answer_within limit task input ≡ answer_of task input
+pub within_short : (task : Task) (limit : ℕ) (input : List ℕ) → length input ≤ limit → answer_within limit task input ≡ answer_of task input
 within_short task limit input short =
     ap (λ b. choose b (λ _. at_limit task (answer_of task (take limit input))) (λ _. answer_of task input)) (le-ltb limit (length input) short)
 
-within_long : (task : Task) (limit : ℕ) (input : List ℕ) → limit < length input → answer_within limit task input ≡ at_limit task (answer_of task (take limit input))
+pub within_long : (task : Task) (limit : ℕ) (input : List ℕ) → limit < length input → answer_within limit task input ≡ at_limit task (answer_of task (take limit input))
 within_long task limit input long =
     ap (λ b. choose b (λ _. at_limit task (answer_of task (take limit input))) (λ _. answer_of task input)) (lt-ltb limit (length input) long)
 
@@ -45,11 +45,11 @@ within_by task limit taken left P short whole cut =
     (cut (take (limit - length taken) left)))
     (λ few. subst P (sym (within_short task limit (taken ++ left) few)) (whole left)) (cases_lt limit (length (taken ++ left)))
 
-closed_at_limit : (task : Task) (answer : Answer) → is_open answer.outcome ≡ false → at_limit task answer ≡ answer
+pub closed_at_limit : (task : Task) (answer : Answer) → is_open answer.outcome ≡ false → at_limit task answer ≡ answer
 closed_at_limit task answer closed =
     cond-false _ (record { acts = answer.acts; ending = []; note = task.note InputTooLong; outcome = InputTooLong }) answer closed
 
-open_at_limit : (task : Task) (answer : Answer) → is_open answer.outcome ≡ true
+pub open_at_limit : (task : Task) (answer : Answer) → is_open answer.outcome ≡ true
     → at_limit task answer ≡ record { acts = answer.acts; ending = []; note = task.note InputTooLong; outcome = InputTooLong }
 open_at_limit task answer unclosed =
     cond-true _ (record { acts = answer.acts; ending = []; note = task.note InputTooLong; outcome = InputTooLong }) answer unclosed
@@ -76,11 +76,13 @@ of_message (Refused refusal) is = record {
   not_long = λ e. cc;
   not_read = λ e. cc;
 }
+of_message (Kept kept) is = record { closed = refl; not_done = λ e. cc; not_long = λ e. cc; not_read = λ e. cc }
 of_message NotBuilt is = record { closed = refl; not_done = λ e. cc; not_long = λ e. cc; not_read = λ e. cc }
 of_message Done is = absurd (false≢true is)
 of_message (Usage word) is = absurd (false≢true is)
 of_message ReadFault is = absurd (false≢true is)
 of_message WriteFault is = absurd (false≢true is)
+of_message ShelfFault is = absurd (false≢true is)
 of_message Memory is = absurd (false≢true is)
 of_message InputTooLong is = absurd (false≢true is)
 
@@ -123,8 +125,28 @@ cut_broken ReadFault cut = absurd (false≢true cut)
 cut_broken Done cut = absurd (false≢true cut)
 cut_broken (Usage word) cut = absurd (false≢true cut)
 cut_broken (Refused refusal) cut = absurd (false≢true cut)
+cut_broken (Kept kept) cut = absurd (false≢true cut)
+cut_broken ShelfFault cut = absurd (false≢true cut)
 cut_broken InputTooLong cut = absurd (false≢true cut)
 cut_broken NotBuilt cut = absurd (false≢true cut)
+
+-- an outcome with which a run may end within a message
+pub record CutWithin (outcome : Outcome) : Type 0 where
+  pub broken : is_broken outcome ≡ true
+  pub not_done : outcome ≢ Done
+  pub not_read : outcome ≢ ReadFault
+
+pub cut_within : (outcome : Outcome) → is_cut_within outcome ≡ true → CutWithin outcome
+cut_within WriteFault cut = record { broken = refl; not_done = λ e. cc; not_read = λ e. cc }
+cut_within ShelfFault cut = record { broken = refl; not_done = λ e. cc; not_read = λ e. cc }
+cut_within Memory cut = record { broken = refl; not_done = λ e. cc; not_read = λ e. cc }
+cut_within ReadFault cut = absurd (false≢true cut)
+cut_within Done cut = absurd (false≢true cut)
+cut_within (Usage word) cut = absurd (false≢true cut)
+cut_within (Refused refusal) cut = absurd (false≢true cut)
+cut_within (Kept kept) cut = absurd (false≢true cut)
+cut_within InputTooLong cut = absurd (false≢true cut)
+cut_within NotBuilt cut = absurd (false≢true cut)
 
 -- a front of the acts of an answer, also where it is cut off at the limit
 cut_front : (task : Task) (answer : Answer) (before now : World) → DidFront before now answer.acts
@@ -316,3 +338,10 @@ pub over_undone : {task : Task} {limit : ℕ} {totals : Totals} {a b : Option (L
     → is_cut_short outcome ≡ true → IsOver task limit totals a b before mid → DidFront mid now (task.ending totals).acts → Runs task limit outcome a b before now
 over_undone {task} {limit} {totals} {a} {b} {before} {mid} now outcome cut over ending =
     runs_undone task limit totals outcome a b before mid now over.taken over.acts cut over.consumed over.end over.short over.did ending over.whole
+
+-- what is noted at the end of the input
+pub over_notes : {task : Task} {limit : ℕ} {totals : Totals} {a b : Option (List ℕ)} {before mid : World} → IsOver task limit totals a b before mid
+    → Notes task limit totals a
+over_notes {task} {limit} {totals} {a} {b} {before} {mid} over =
+    Consumes-whole a b over.taken (λ input. (answer_within limit task input).note ≡ (task.ending totals).note) over.consumed over.end
+    (ap (λ x. x.note) (within_short task limit over.taken over.short ∙ over.whole))

@@ -1,5 +1,5 @@
 -- A run that goes on, and where it stops.
-use Rattle.std.proofs.Common.{◌≡◌, ℕ, ◌+◌, ◌<◌, true, List, [], ◌∷◌, ◌++◌, length, drop, refl, sym, ap, ◌∙◌, subst, arith, append-nil, length-append}
+use Rattle.std.proofs.Common.{◌≡◌, ℕ, ◌+◌, ◌^◌, ◌<◌, ◌≤◌, true, List, [], ◌∷◌, ◌++◌, length, drop, refl, sym, ap, ◌∙◌, subst, arith, append-nil, length-append}
 use Rattle.std.specs.declared.option.Option.{Option}
 use Rattle.std.specs.Io.KnownBytes.{Consumes}
 use Rattle.std.proofs.KnownBytes.{Consumes-nil, Consumes-trans}
@@ -60,8 +60,8 @@ refused_wait task lawful totals place pending fault begun is truncated =
 unfinished_by : (task : Task) → IsLawful task → (totals : Totals) (place : ℕ) (pending : List ℕ) (n : Next) → begins pending ≡ true
     → ((total : ℕ) → task.judge pending ≡ Message total → length pending < total) → next_here task totals place pending ≡ n
     → (answer_at task totals place pending).acts ≡ []
-unfinished_by task lawful totals place pending (Whole total fields acts) begun fewer is =
-    let message = message_next task _ pending total fields acts is in
+unfinished_by task lawful totals place pending (Whole total fields written acts) begun fewer is =
+    let message = message_next task _ pending total fields written acts is in
     absurd (omega (arith, fewer total message.accepted, lawful.there pending total message.accepted))
 unfinished_by task lawful totals place pending (Refuses fault) begun fewer is =
     ap (λ x. x.acts) (answer_next task lawful totals place pending begun ∙ ap (answer_by task totals place pending) is)
@@ -88,9 +88,9 @@ front_of_nothing a b xs (x ∷ front, rest, is, did) = absurd (cc is)
 broken_by : (task : Task) → IsLawful task → (taken : List ℕ) (acts : List Act) (totals : Totals) (place : ℕ) (pending : List ℕ) (before mid now : World) (n : Next)
     → begins pending ≡ true → SoFar task taken acts totals place pending → Did before mid acts → next_here task totals place pending ≡ n
     → DidFront mid now (acts_of n) → (more : List ℕ) → DidFront before now (answer_of task (taken ++ more)).acts
-broken_by task lawful taken acts totals place pending before mid now (Whole total fields given) begun so did is front more =
+broken_by task lawful taken acts totals place pending before mid now (Whole total fields written given) begun so did is front more =
     so_far_front task taken (acts ++ given) _ _ _ before now
-    (so_far_message task lawful taken acts given totals place total fields pending begun is so) (front_after before mid now acts given did front) more
+    (so_far_message task lawful taken acts given totals place total fields written pending begun is so) (front_after before mid now acts given did front) more
 broken_by task lawful taken acts totals place pending before mid now (Refuses fault) begun so did is front more =
     so_far_front task taken acts totals place pending before now so
     (subst (DidFront before now) (append-nil acts) (front_after before mid now acts [] did front)) more
@@ -98,7 +98,7 @@ broken_by task lawful taken acts totals place pending before mid now (Stops outc
     so_far_front task taken acts totals place pending before now so
     (subst (DidFront before now) (append-nil acts) (front_after before mid now acts [] did front)) more
 
--- writing broke within what was to be done
+-- the output, the shelf or memory broke within what was to be done
 pub broken_front : (task : Task) → IsLawful task → (taken : List ℕ) (acts : List Act) (totals : Totals) (place : ℕ) (pending : List ℕ) (before mid now : World)
     → begins pending ≡ true → SoFar task taken acts totals place pending → Did before mid acts
     → DidFront mid now (acts_of (next_here task totals place pending)) → (more : List ℕ) → DidFront before now (answer_of task (taken ++ more)).acts
@@ -125,7 +125,7 @@ pub record Going (task : Task) (limit left : ℕ) (a b : Option (List ℕ)) (bef
   pub did : Did before now acts
   pub so : SoFar task taken acts totals place pending
 
-pub going_nowhere : (task : Task) (limit : ℕ) (a : Option (List ℕ)) (before : World) → Going task limit limit a a before before (totals_of 0 0 0) 0 []
+pub going_nowhere : (task : Task) (limit : ℕ) (a : Option (List ℕ)) (before : World) → Going task limit limit a a before before (totals_of 0 0 0 0) 0 []
 going_nowhere task limit a before =
     record { taken = []; acts = []; consumed = Consumes-nil a; counted = omega arith; did = did_none before; so = nothing_so_far task }
 
@@ -147,17 +147,17 @@ going_shown {task} {limit} {left} {a} {b} {before} {mid} {totals} {place} {pendi
 
 -- a message was answered and passed over
 pub going_on : {task : Task} {limit left : ℕ} {a b : Option (List ℕ)} {before mid : World} {totals : Totals} {place : ℕ} {shown : List ℕ} (lawful : IsLawful task)
-    (now : World) (total fields : ℕ) (done : List Act) (window : List ℕ) → Going task limit left a b before mid totals place shown → begins shown ≡ true
-    → next_here task totals place shown ≡ Whole total fields done → Did mid now done → window ≡ drop total shown
-    → Going task limit left a b before now (counted totals fields) (place + total) window
-going_on {task} {limit} {left} {a} {b} {before} {mid} {totals} {place} {shown} lawful now total fields done window going begun is did passed = record {
+    (now : World) (total fields written : ℕ) (done : List Act) (window : List ℕ) → Going task limit left a b before mid totals place shown → begins shown ≡ true
+    → next_here task totals place shown ≡ Whole total fields written done → Did mid now done → window ≡ drop total shown
+    → Going task limit left a b before now (counted totals fields written) (place + total) window
+going_on {task} {limit} {left} {a} {b} {before} {mid} {totals} {place} {shown} lawful now total fields written done window going begun is did passed = record {
   taken = going.taken;
   acts = going.acts ++ done;
   consumed = going.consumed;
   counted = going.counted;
   did = did_then before mid now going.acts done going.did did;
-  so = subst (SoFar task going.taken (going.acts ++ done) (counted totals fields) (place + total)) (sym passed)
-      (so_far_message task lawful going.taken going.acts done totals place total fields shown begun is going.so);
+  so = subst (SoFar task going.taken (going.acts ++ done) (counted totals fields written) (place + total)) (sym passed)
+      (so_far_message task lawful going.taken going.acts done totals place total fields written shown begun is going.so);
 }
 
 -- more was read, and nothing was done
@@ -177,6 +177,18 @@ going_read {task} {limit} {left} {left_now} {a} {b} {c} {before} {mid} {totals} 
     }
 
 pub going_start : (task : Task) (limit : ℕ) (a : Option (List ℕ)) (before : World) (window : List ℕ) → window ≡ []
-    → Going task limit limit a a before before (totals_of 0 0 0) 0 window
+    → Going task limit limit a a before before (totals_of 0 0 0 0) 0 window
 going_start task limit a before window is =
-    subst (Going task limit limit a a before before (totals_of 0 0 0) 0) (sym is) (going_nowhere task limit a before)
+    subst (Going task limit limit a a before before (totals_of 0 0 0 0) 0) (sym is) (going_nowhere task limit a before)
+
+-- the numbers of an input that is not too long can be counted
+pub record Few (totals : Totals) : Type 0 where
+  pub fields : totals.fields < 2 ^ 64
+  pub written : totals.written < 2 ^ 64
+
+pub few_counted : {task : Task} {limit left : ℕ} {a b : Option (List ℕ)} {before mid : World} {totals : Totals} {place : ℕ} {pending : List ℕ}
+    → Going task limit left a b before mid totals place pending → limit ≤ 2 ^ 40 → Few totals
+few_counted {task} {limit} {left} {a} {b} {before} {mid} {totals} {place} {pending} going most = record {
+  fields = omega (arith, going.so.fields, going.so.size, going.counted, most);
+  written = omega (arith, going.so.written, going.so.size, going.counted, most);
+}

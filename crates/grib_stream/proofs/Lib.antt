@@ -7,3 +7,4 @@ pub mod Exits
 pub mod Going
 pub mod Stopping
 pub mod Within
+pub mod Notes

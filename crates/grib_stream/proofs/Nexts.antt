@@ -23,7 +23,7 @@ judged task place octets j is = ap (λ k. next_judged k (next_whole task place o
 
 -- whether it stays, whatever follows
 abbrev pub is_final : Next → Bool
-is_final (Whole total fields acts) = true
+is_final (Whole total fields written acts) = true
 is_final (Refuses fault) = not (is_truncated fault.reason)
 is_final (Stops outcome) = true
 
@@ -51,36 +51,40 @@ next_stays task lawful place octets more n is final = next_stays_by task lawful 
 
 -- ---- a message that comes next
 
-pub record IsMessage (task : Task) (octets : List ℕ) (total fields : ℕ) : Type 0 where
+pub record IsMessage (task : Task) (place : Place) (octets : List ℕ) (total fields written : ℕ) (acts : List Act) : Type 0 where
   pub accepted : task.judge octets ≡ Message total
   pub counted : task.fields (take total octets) ≡ fields
+  pub given : task.result place (take total octets) ≡ Gives acts written
 
-message_given : (task : Task) (octets : List ℕ) (g : Given) (t total fields : ℕ) (acts : List Act) → task.judge octets ≡ Message t
-    → next_given g t (task.fields (take t octets)) ≡ Whole total fields acts → IsMessage task octets total fields
-message_given task octets (Gives done) t total fields acts so is =
+message_given : (task : Task) (place : Place) (octets : List ℕ) (g : Given) (t total fields written : ℕ) (acts : List Act) → task.judge octets ≡ Message t
+    → task.result place (take t octets) ≡ g → next_given g t (task.fields (take t octets)) ≡ Whole total fields written acts
+    → IsMessage task place octets total fields written acts
+message_given task place octets (Gives done count) t total fields written acts so gives is =
     let same : t ≡ total = cc in
-    let count : task.fields (take t octets) ≡ fields = cc in
+    let counts : task.fields (take t octets) ≡ fields = cc in
+    let result : Gives done count ≡ Gives acts written = cc in
     record {
       accepted = so ∙ ap Message same;
-      counted = ap (λ n. task.fields (take n octets)) (sym same) ∙ count;
+      counted = ap (λ n. task.fields (take n octets)) (sym same) ∙ counts;
+      given = ap (λ n. task.result place (take n octets)) (sym same) ∙ (gives ∙ result);
     }
-message_given task octets (Ends outcome) t total fields acts so is = let no : ⊥ = cc in absurd no
+message_given task place octets (Ends outcome) t total fields written acts so gives is = let no : ⊥ = cc in absurd no
 
-message_by : (task : Task) (place : Place) (octets : List ℕ) (total fields : ℕ) (acts : List Act) (j : Judgement) → task.judge octets ≡ j
-    → next_of task place octets ≡ Whole total fields acts → IsMessage task octets total fields
-message_by task place octets total fields acts (Message t) so is =
-    message_given task octets (task.result place (take t octets)) t total fields acts so (sym (judged task place octets (Message t) so) ∙ is)
-message_by task place octets total fields acts (Faulty fault) so is =
-    let e : Refuses fault ≡ Whole total fields acts = sym (judged task place octets (Faulty fault) so) ∙ is in let no : ⊥ = cc in absurd no
-message_by task place octets total fields acts Unbuilt so is =
-    let e : Stops NotBuilt ≡ Whole total fields acts = sym (judged task place octets Unbuilt so) ∙ is in let no : ⊥ = cc in absurd no
+message_by : (task : Task) (place : Place) (octets : List ℕ) (total fields written : ℕ) (acts : List Act) (j : Judgement) → task.judge octets ≡ j
+    → next_of task place octets ≡ Whole total fields written acts → IsMessage task place octets total fields written acts
+message_by task place octets total fields written acts (Message t) so is =
+    message_given task place octets (task.result place (take t octets)) t total fields written acts so refl (sym (judged task place octets (Message t) so) ∙ is)
+message_by task place octets total fields written acts (Faulty fault) so is =
+    let e : Refuses fault ≡ Whole total fields written acts = sym (judged task place octets (Faulty fault) so) ∙ is in let no : ⊥ = cc in absurd no
+message_by task place octets total fields written acts Unbuilt so is =
+    let e : Stops NotBuilt ≡ Whole total fields written acts = sym (judged task place octets Unbuilt so) ∙ is in let no : ⊥ = cc in absurd no
 
-pub message_next : (task : Task) (place : Place) (octets : List ℕ) (total fields : ℕ) (acts : List Act) → next_of task place octets ≡ Whole total fields acts
-    → IsMessage task octets total fields
-message_next task place octets total fields acts is = message_by task place octets total fields acts (task.judge octets) refl is
+pub message_next : (task : Task) (place : Place) (octets : List ℕ) (total fields written : ℕ) (acts : List Act)
+    → next_of task place octets ≡ Whole total fields written acts → IsMessage task place octets total fields written acts
+message_next task place octets total fields written acts is = message_by task place octets total fields written acts (task.judge octets) refl is
 
 refuses_not_given : (g : Given) (total fields : ℕ) (fault : Fault) → next_given g total fields ≡ Refuses fault → ⊥
-refuses_not_given (Gives acts) total fields fault is = cc
+refuses_not_given (Gives acts written) total fields fault is = cc
 refuses_not_given (Ends outcome) total fields fault is = cc
 
 -- octets that are refused are fewer than their message has
@@ -101,22 +105,22 @@ longer task lawful place octets more fault total is later =
 abbrev pub next_here : Task → Totals → ℕ → List ℕ → Next
 next_here task totals place octets = next_of task (place_of totals.messages place totals.fields) octets
 
--- what was counted after a message with so many fields
-abbrev pub counted : Totals → ℕ → Totals
-counted totals fields = totals_of (totals.messages + 1) (totals.fields + fields) totals.skipped
+-- what was counted after a message with so many fields, for which so many octets were written
+abbrev pub counted : Totals → ℕ → ℕ → Totals
+counted totals fields written = totals_of (totals.messages + 1) (totals.fields + fields) totals.skipped (totals.written + written)
 
 abbrev pub skipping : Totals → ℕ → Totals
-skipping totals n = totals_of totals.messages totals.fields (totals.skipped + n)
+skipping totals n = totals_of totals.messages totals.fields (totals.skipped + n) totals.written
 
 abbrev pub answer_by : Task → Totals → ℕ → List ℕ → Next → Answer
-answer_by task totals place octets (Whole total fields acts) = after acts (answer_at task (counted totals fields) (place + total) (drop total octets))
+answer_by task totals place octets (Whole total fields written acts) = after acts (answer_at task (counted totals fields written) (place + total) (drop total octets))
 answer_by task totals place octets (Refuses fault) = silent task (Refused (refusal_after totals.messages fault))
 answer_by task totals place octets (Stops outcome) = silent task outcome
 
 by_given : (task : Task) (totals : Totals) (place : ℕ) (octets : List ℕ) (total fields : ℕ) (g : Given)
-    → on_given task g (λ acts. after acts (answer_at task (counted totals fields) (place + total) (drop total octets)))
+    → on_given task g (λ acts written. after acts (answer_at task (counted totals fields written) (place + total) (drop total octets)))
     ≡ answer_by task totals place octets (next_given g total fields)
-by_given task totals place octets total fields (Gives acts) = refl
+by_given task totals place octets total fields (Gives acts written) = refl
 by_given task totals place octets total fields (Ends outcome) = refl
 
 by_message : (task : Task) (totals : Totals) (place : ℕ) (octets : List ℕ) (total : ℕ) → 1 ≤ total → begins octets ≡ true → task.judge octets ≡ Message total
@@ -125,7 +129,7 @@ by_message task totals place octets zero some begun so = absurd (omega (arith, s
 by_message task totals place octets (suc k) some begun so =
     let here : Place = place_of totals.messages place totals.fields in
     let message : List ℕ = take (suc k) octets in
-    ap (answer_to task totals.messages totals.fields) (stream_message task.judge place totals.skipped k octets begun so)
+    ap (answer_to task totals.messages totals.fields totals.written) (stream_message task.judge place totals.skipped k octets begun so)
     ∙ (by_given task totals place octets (suc k) (task.fields message) (task.result here message)
     ∙ ap (answer_by task totals place octets) (sym (judged task here octets (Message (suc k)) so)))
 
@@ -135,12 +139,12 @@ by_judgement task lawful totals place octets begun (Message total) so =
     let least : 4 ≤ total = lawful.least octets total so in by_message task totals place octets total (omega arith) begun so
 by_judgement task lawful totals place octets begun (Faulty fault) so =
     let here : Place = place_of totals.messages place totals.fields in
-    ap (answer_to task totals.messages totals.fields)
+    ap (answer_to task totals.messages totals.fields totals.written)
     (stream_refused task.judge place totals.skipped octets (Faulty fault) (stream_of [] (Refusing fault)) begun so (λ next. refl))
     ∙ ap (answer_by task totals place octets) (sym (judged task here octets (Faulty fault) so))
 by_judgement task lawful totals place octets begun Unbuilt so =
     let here : Place = place_of totals.messages place totals.fields in
-    ap (answer_to task totals.messages totals.fields)
+    ap (answer_to task totals.messages totals.fields totals.written)
     (stream_refused task.judge place totals.skipped octets Unbuilt (stream_of [] NotRead) begun so (λ next. refl))
     ∙ ap (answer_by task totals place octets) (sym (judged task here octets Unbuilt so))
 
@@ -152,7 +156,7 @@ answer_next task lawful totals place octets begun = by_judgement task lawful tot
 pub answer_passed : (task : Task) (totals : Totals) (place n : ℕ) (octets : List ℕ) → n ≤ length octets → Markless n octets
     → answer_at task totals place octets ≡ answer_at task (skipping totals n) (place + n) (drop n octets)
 answer_passed task totals place n octets within markless =
-    ap (answer_to task totals.messages totals.fields) (stream_passed task.judge place totals.skipped n octets within markless)
+    ap (answer_to task totals.messages totals.fields totals.written) (stream_passed task.judge place totals.skipped n octets within markless)
 
 -- so few that no message begins in them
 pub answer_few : (task : Task) (totals : Totals) (place : ℕ) (octets : List ℕ) → length octets < 4

@@ -1,5 +1,5 @@
 -- What was answered so far, whatever follows.
-use Rattle.std.proofs.Common.{◌≡◌, ℕ, ◌+◌, ◌≤◌, true, List, [], ◌++◌, length, drop, refl, sym, ap, ◌∙◌, subst, arith, append_assoc, length-append, length-drop}
+use Rattle.std.proofs.Common.{◌≡◌, ℕ, ◌+◌, ◌*◌, ◌≤◌, true, List, [], ◌++◌, length, drop, refl, sym, ap, ◌∙◌, subst, arith, append_assoc, length-append, length-drop}
 use lib.Seq.{drop-append-le}
 use Rattle.grib_stream.specs.declared.place.Totals.{Totals}
 use Rattle.grib_stream.specs.Stream.{begins}
@@ -18,9 +18,10 @@ pub record SoFar (task : Task) (taken : List ℕ) (acts : List Act) (totals : To
   pub messages : totals.messages ≤ place
   pub fields : totals.fields ≤ place
   pub skipped : totals.skipped ≤ place
+  pub written : 20 * totals.written ≤ 268435456 * place
 
-pub nothing_so_far : (task : Task) → SoFar task [] [] (totals_of 0 0 0) 0 []
-nothing_so_far task = record { whole = λ more. refl; size = refl; messages = omega arith; fields = omega arith; skipped = omega arith }
+pub nothing_so_far : (task : Task) → SoFar task [] [] (totals_of 0 0 0 0) 0 []
+nothing_so_far task = record { whole = λ more. refl; size = refl; messages = omega arith; fields = omega arith; skipped = omega arith; written = omega arith }
 
 pub after_after : (xs ys : List Act) (answer : Answer) → after xs (after ys answer) ≡ after (xs ++ ys) answer
 after_after xs ys answer = ap (λ acts. record answer { acts = acts }) (sym (append_assoc xs ys answer.acts))
@@ -36,6 +37,7 @@ so_far_read task taken acts totals place pending piece so = record {
   messages = so.messages;
   fields = so.fields;
   skipped = so.skipped;
+  written = so.written;
 }
 
 -- octets that begin no message were passed over
@@ -53,6 +55,7 @@ so_far_passed task taken acts totals place n pending unmarked so =
       messages = omega (arith, so.messages);
       fields = omega (arith, so.fields);
       skipped = omega (arith, so.skipped);
+      written = omega (arith, so.written);
     }
 
 pub begun_stays : (octets more : List ℕ) → begins octets ≡ true → begins (octets ++ more) ≡ true
@@ -65,23 +68,25 @@ answer_stays task lawful totals place octets more n begun is =
     answer_next task lawful totals place (octets ++ more) (begun_stays octets more begun) ∙ ap (answer_by task totals place (octets ++ more)) is
 
 -- a message was answered
-pub so_far_message : (task : Task) → IsLawful task → (taken : List ℕ) (acts done : List Act) (totals : Totals) (place total fields : ℕ) (pending : List ℕ) → begins pending ≡ true
-    → next_here task totals place pending ≡ Whole total fields done → SoFar task taken acts totals place pending
-    → SoFar task taken (acts ++ done) (counted totals fields) (place + total) (drop total pending)
-so_far_message task lawful taken acts done totals place total fields pending begun is so =
-    let message = message_next task _ pending total fields done is in
+pub so_far_message : (task : Task) → IsLawful task → (taken : List ℕ) (acts done : List Act) (totals : Totals) (place total fields written : ℕ) (pending : List ℕ)
+    → begins pending ≡ true → next_here task totals place pending ≡ Whole total fields written done → SoFar task taken acts totals place pending
+    → SoFar task taken (acts ++ done) (counted totals fields written) (place + total) (drop total pending)
+so_far_message task lawful taken acts done totals place total fields written pending begun is so =
+    let message = message_next task _ pending total fields written done is in
     let within : total ≤ length pending = lawful.there pending total message.accepted in
     let least : 4 ≤ total = lawful.least pending total message.accepted in
+    let little : 20 * written ≤ 268435456 * total = lawful.few_written _ pending total done written message.accepted message.given in
     let few : fields ≤ total = subst (λ n. n ≤ total) message.counted (lawful.few_fields pending total message.accepted) in
     record {
       whole = λ more.
           so.whole more
           ∙ (ap (after acts)
-          (answer_stays task lawful totals place pending more (Whole total fields done) begun (next_stays task lawful _ pending more (Whole total fields done) is refl)
-          ∙ ap (λ xs. after done (answer_at task (counted totals fields) (place + total) xs)) (drop-append-le total pending more within))
+          (answer_stays task lawful totals place pending more (Whole total fields written done) begun (next_stays task lawful _ pending more (Whole total fields written done) is refl)
+          ∙ ap (λ xs. after done (answer_at task (counted totals fields written) (place + total) xs)) (drop-append-le total pending more within))
           ∙ after_after acts done _);
       size = omega (arith, so.size, length-drop total pending);
       messages = omega (arith, so.messages);
       fields = omega (arith, so.fields);
       skipped = omega (arith, so.skipped);
+      written = omega (arith, so.written, little);
     }
