@@ -1,15 +1,6 @@
 //! What is to be done with an input.
 
-/// What fields are packed to anew.
-#[derive(Clone, Copy, Debug, PartialEq, Eq)]
-pub enum RepackTarget {
-    /// Simple packing, template 5.0.
-    Simple,
-    /// Groups of scaled numbers, template 5.2.
-    Complex,
-    /// Groups of spatial differences of order 1 or 2, template 5.3.
-    Spatial(u8),
-}
+use grib_repack::RepackTarget;
 
 /// What is to be done with the messages of an input, or without one.
 #[derive(Debug, PartialEq, Eq, Drop)]
@@ -22,7 +13,8 @@ pub enum Job {
     Dump,
     /// Each message with its fields packed anew.
     Repack(RepackTarget),
-    /// No input is read: a message of `ni` by `nj` points, made from the number `seed` and packed anew.
+    /// A message of `nj` rows of `ni` points, made from the number `seed`, with its field packed anew. No
+    /// input is read.
     Make {
         seed: u32,
         ni: u32,
