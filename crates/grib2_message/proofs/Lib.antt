@@ -1,4 +1,7 @@
 pub mod After
+pub mod Ahead
+pub mod Along
+pub mod PutTogether
 pub mod Bitmaps
 pub mod Checked
 pub mod Fronts
@@ -6,8 +9,10 @@ pub mod InForce
 pub mod Joined
 pub mod Masks
 pub mod Order
+pub mod Parted
 pub mod Parts
 pub mod Passed
+pub mod Replaced
 pub mod Placing
 pub mod Shorter
 pub mod Sound

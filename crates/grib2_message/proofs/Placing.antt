@@ -18,11 +18,11 @@ octets_placed q [] = refl
 octets_placed q (s ∷ sections) = ap (λ xs. s ∷ xs) (octets_placed (q + length s) sections)
 
 -- no section is found where the end mark stands
-none_found : (ends : Bool) (later : Unit {0} → List Placed) → ends ≡ true → choose ends (λ _. []) later ≡ []
+pub none_found : (ends : Bool) (later : Unit {0} → List Placed) → ends ≡ true → choose ends (λ _. []) later ≡ []
 none_found ends later e = rw e
 
 -- and one where it does not
-some_found : (ends : Bool) (later : Unit {0} → List Placed) → ends ≡ false → choose ends (λ _. []) later ≡ later tt
+pub some_found : (ends : Bool) (later : Unit {0} → List Placed) → ends ≡ false → choose ends (λ _. []) later ≡ later tt
 some_found ends later e = rw e
 
 -- a section at q, and those found after it

@@ -33,7 +33,7 @@ tells_next None true frame x s e = cc
 tells_next None false (Some fault) x s e = cc
 tells_next None false None x s e = (refl, refl, refl, cc)
 
-tells_end : (mark : Option Fault) (ends : Bool) (frame : Option Fault) (x : List ℕ)
+pub tells_end : (mark : Option Fault) (ends : Bool) (frame : Option Fault) (x : List ℕ)
     → unless_fails mark (λ _. choose ends (λ _. End) (λ _. unless_fails frame (λ _. Next x))) ≡ End
     → (mark ≡ None) × (ends ≡ true)
 tells_end (Some fault) ends frame x e = cc
@@ -47,7 +47,7 @@ pub record Given (m : List ℕ) (total last q : ℕ) (s : List ℕ) : Type 0 whe
   pub frame : FramePasses m total last q
   pub octets_are : s ≡ section_at m q
 
-given : (m : List ℕ) (total last q : ℕ) (s : List ℕ) → step m total last q ≡ Next s → Given m total last q s
+pub given : (m : List ℕ) (total last q : ℕ) (s : List ℕ) → step m total last q ≡ Next s → Given m total last q s
 given m total last q s e =
     let told = tells_next (first_fault (mark_rows m total last q)) (ends_at m q) (first_fault (frame_rows m total last q)) (section_at m q) s e in
     record {
@@ -62,19 +62,19 @@ up_to : (ends one : Bool) (k : ℕ) (p : Placed) (before rest : List Placed) →
 up_to ends one k p before rest = cond (ends && one) (p ∷ before) (sections_up_to_field k (p ∷ before) rest)
 
 module _ (p : Placed) (before rest : List Placed) where
-  up_here : section_number p.octets ≡ 7 → sections_up_to_field 1 before (p ∷ rest) ≡ p ∷ before
+  pub up_here : section_number p.octets ≡ 7 → sections_up_to_field 1 before (p ∷ rest) ≡ p ∷ before
   unfolding up_to
   up_here seven =
       ap (λ (b : Bool). up_to b true (1 - digit b) p before rest) (eq-eqb (section_number p.octets) 7 seven)
 
-  up_more : (i : ℕ) → section_number p.octets ≡ 7 → sections_up_to_field (suc (suc i)) before (p ∷ rest) ≡ sections_up_to_field (suc i) (p ∷ before) rest
+  pub up_more : (i : ℕ) → section_number p.octets ≡ 7 → sections_up_to_field (suc (suc i)) before (p ∷ rest) ≡ sections_up_to_field (suc i) (p ∷ before) rest
   unfolding up_to
   up_more i seven =
       ap₂ (λ (b one : Bool). up_to b one (suc (suc i) - digit b) p before rest)
       (eq-eqb (section_number p.octets) 7 seven) (ne_eqb (suc (suc i)) 1 (λ same. absurd (omega arith)))
       ∙ ap (λ (k : ℕ). sections_up_to_field k (p ∷ before) rest) (let e : suc (suc i) - 1 ≡ suc i = omega arith in e)
 
-  up_other : (i : ℕ) → section_number p.octets ≢ 7 → sections_up_to_field (suc i) before (p ∷ rest) ≡ sections_up_to_field (suc i) (p ∷ before) rest
+  pub up_other : (i : ℕ) → section_number p.octets ≢ 7 → sections_up_to_field (suc i) before (p ∷ rest) ≡ sections_up_to_field (suc i) (p ∷ before) rest
   unfolding up_to
   up_other i other =
       ap (λ (b : Bool). up_to b (suc i == 1) (suc i - digit b) p before rest) (ne_eqb (section_number p.octets) 7 other)
@@ -133,7 +133,7 @@ way_refused m turns before at s fault w e refused =
     ∙ ap (λ (o : Option Fault). unless_refused o (λ _. verdict_from turns m (placed_at at.place s ∷ before) (at.place + length s))) refused
 
 -- at the end mark
-no_sections : (turns : ℕ) (m : List ℕ) (q : ℕ) → ends_at m q ≡ true → sections_from turns m q ≡ []
+pub no_sections : (turns : ℕ) (m : List ℕ) (q : ℕ) → ends_at m q ≡ true → sections_from turns m q ≡ []
 no_sections zero m q ends = refl
 no_sections (suc turns) m q ends =
     ap (λ (b : Bool). choose b (λ _. []) (λ _. placed_at q (section_at m q) ∷ sections_from turns m (q + length (section_at m q)))) ends
@@ -242,6 +242,7 @@ pub record GoesOn (m : List ℕ) (before : List Placed) (at : Position) (turns :
   pub turns_left : ℕ
   pub way : OnWay m turns_left (placed_at at.place s ∷ before) (position_after at s)
   pub ends_field : section_number s ≡ 7 → field_sections m (section_count 7 before + 1) ≡ placed_at at.place s ∷ before
+  pub found : sections_from turns m at.place ≡ placed_at at.place s ∷ sections_from turns_left m (at.place + length s)
 
 pub way_next : (turns : ℕ) (m : List ℕ) (before : List Placed) (at : Position) (s : List ℕ) → OnWay m turns before at → step_from m at ≡ Next s
     → section_fault before (placed_at at.place s) ≡ None → GoesOn m before at turns s
@@ -260,6 +261,7 @@ way_next (suc t) m before at s w e none =
       turns_left = t;
       way = after m before at s e t w none;
       ends_field = λ seven. w.fields 0 ∙ ap (λ x. sections_up_to_field 1 before x) more ∙ up_here p before rest seven;
+      found = more;
     }
 
 -- ---- the same, with the octet and the position as the code has them

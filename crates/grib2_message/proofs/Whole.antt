@@ -16,7 +16,7 @@ use Rattle.grib2_message.proofs.Joined.{Stand, rejoined}
 use Rattle.grib2_message.proofs.Placing.{placed_from, found_from}
 
 -- the number of some octets within the front of a message is that in the whole
-octets_of_front : (m : List ℕ) (n first last : ℕ) → 1 ≤ first → first ≤ last → last ≤ n → octets (take n m) first last ≡ octets m first last
+pub octets_of_front : (m : List ℕ) (n first last : ℕ) → 1 ≤ first → first ≤ last → last ≤ n → octets (take n m) first last ≡ octets m first last
 octets_of_front m n first last low order within =
     let split : n ≡ (first - 1) + (n - (first - 1)) = omega arith in
     let fits : last + 1 - first ≤ n - (first - 1) = omega arith in
@@ -25,7 +25,7 @@ octets_of_front m n first last low order within =
     ∙ ap (num_on 0) (take-take (last + 1 - first) (n - (first - 1)) (drop (first - 1) m) fits))
 
 -- and that before whatever comes after
-octets_before : (message after : List ℕ) (first last : ℕ) → 1 ≤ first → first ≤ last → last ≤ length message
+pub octets_before : (message after : List ℕ) (first last : ℕ) → 1 ≤ first → first ≤ last → last ≤ length message
     → octets (message ++ after) first last ≡ octets message first last
 octets_before message after first last low order within =
     sym (octets_of_front (message ++ after) (length message) first last low order within)

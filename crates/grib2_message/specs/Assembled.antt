@@ -1,6 +1,6 @@
 -- A message put together again, with other Sections 5, 6 and 7 (WMO-No. 306, Volume I.2, FM 92 GRIB
 -- edition 2: Section 0 with the total length in octets 9-16, the other sections, `7777`).
-use Rattle.std.specs.Prelude.{◌≡◌, ◌⊎◌, ℕ, ◌+◌, ◌≤◌, ◌<◌, ◌^◌, Bool, cond, Option, Some, None, List, [], ◌∷◌, ◌++◌, length, take, slice_get, ◌==◌}
+use Rattle.std.specs.Prelude.{◌≡◌, ◌⊎◌, ℕ, ◌+◌, ◌≤◌, ◌<◌, ◌^◌, Bool, cond, Option, Some, None, List, [], ◌∷◌, ◌++◌, length, take, drop, slice_get, ◌==◌}
 use Rattle.std.specs.List.{concat}
 use Rattle.grib_bits.specs.Octets.{StatesItself}
 use Rattle.grib_io.specs.Rows.{first_fault}
@@ -18,19 +18,19 @@ use Rattle.grib2_message.specs.Message.{IsMessage}
 use Rattle.grib2_message.specs.declared.fault.AssembleFault.{AssembleFault}
 use Rattle.grib2_message.specs.declared.fault.AssembleFault.TheVariants.{TooLong, Memory}
 
--- what stands in place of a section of a field: of Sections 5, 6 and 7 those of its part
-abbrev pub in_place : Packed → List ℕ → List ℕ
-in_place part s =
+-- What stands in place of a section, where the first of these parts is that of its field: of Sections 5, 6
+-- and 7 those of the part. Where no part is left, the section stays.
+abbrev pub in_place : List Packed → List ℕ → List ℕ
+in_place [] s = s
+in_place (part ∷ parts) s =
     let number = section_number s in
     cond (number == 5) part.section5 (cond (number == 6) part.section6 (cond (number == 7) part.section7 s))
 
--- All sections in their order, those of each field with the next part, which ends with Section 7. Where no
--- part is left they stay.
+-- all sections in their order; a Section 7 ends its field, and the next part is that of the next field
 abbrev pub replaced : List Placed → List Packed → List (List ℕ)
 replaced [] parts = []
-replaced (s ∷ sections) [] = s.octets ∷ replaced sections []
-replaced (s ∷ sections) (part ∷ parts) =
-    in_place part s.octets ∷ replaced sections (cond (is_numbered 7 s) parts (part ∷ parts))
+replaced (s ∷ sections) parts =
+    in_place parts s.octets ∷ replaced sections (cond (is_numbered 7 s) (drop 1 parts) parts)
 
 -- the octets of all sections after Section 0
 abbrev pub assembled_body : List ℕ → List Packed → List ℕ

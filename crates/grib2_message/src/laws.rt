@@ -53,7 +53,8 @@ pub fn accepted_length()
 {}
 
 /// An accepted message with other Sections 5, 6 and 7 that pass their rows is accepted, where it is not too
-/// long. It has as many fields. Each field has the column of its part, and its Sections 1 to 4 as they were.
+/// long. It has as many fields. Each field has the Sections 5, 6 and 7 of its part, hence their column, and
+/// its Sections 1 to 4 as they were.
 pub fn what_is_assembled_is_accepted()
     ensures accepted { (message : List ℕ) (parts : List Packed) → MayBeAssembled message parts
         → IsMessage (assembled message parts) }
@@ -65,7 +66,11 @@ pub fn what_is_assembled_is_accepted()
         ≡ column_from part.section5
         (mask_of part.section6 (grid_points (part_octets message (i + 1) 3)) None)
         part.section7 }
+    ensures parts { (message : List ℕ) (parts : List Packed) → MayBeAssembled message parts
+        → (i : ℕ) (part : Packed) → slice_get parts i ≡ Some part
+        → (part_octets (assembled message parts) (i + 1) 5 ≡ part.section5)
+        × (part_octets (assembled message parts) (i + 1) 6 ≡ part.section6)
+        × (part_octets (assembled message parts) (i + 1) 7 ≡ part.section7) }
     ensures kept { (message : List ℕ) (parts : List Packed) → MayBeAssembled message parts
-        → (i k : ℕ) → 1 ≤ i → i ≤ field_count message → 1 ≤ k → k ≤ 4
-        → part_octets (assembled message parts) i k ≡ part_octets message i k }
+        → (i k : ℕ) → k ≤ 4 → part_octets (assembled message parts) i k ≡ part_octets message i k }
 {}
