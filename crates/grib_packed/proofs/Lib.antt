@@ -1,0 +1,6 @@
+pub mod Choosing
+pub mod Octets
+pub mod Numbers
+pub mod Groups
+pub mod Written
+pub mod Unique
