@@ -1,0 +1,39 @@
+//! Laws over the definitions.
+
+ghost use Rattle.std.specs.Prelude.{◌≡◌, ℕ, ◌≤◌, List};
+ghost use Rattle.grib_packing.specs.Misfits.{Target};
+ghost use Rattle.grib2_message.specs.Fields.{field_count, part_octets, column_of, meaning_of};
+ghost use Rattle.grib2_message.specs.Message.{IsMessage};
+ghost use Rattle.grib_repack.specs.Repacked.{repacked, MayBeRepacked};
+
+use grib_complex::laws::{
+    what_is_packed_by_differences_reads_back, what_is_packed_in_groups_reads_back,
+};
+use grib_packed::laws::a_packing_is_written;
+use grib_simple::laws::what_is_packed_simply_reads_back;
+use grib2_message::laws::what_is_assembled_is_accepted;
+
+/// What is repacked keeps each value: where nothing of an accepted message fails to fit, the repacked message
+/// is accepted and has as many fields. Each field has the same column, so that each of its points means the
+/// same, and its Sections 1 to 4 as they were.
+pub fn what_is_repacked_keeps_each_value()
+    ensures accepted { (target : Target) (message : List ℕ) → MayBeRepacked target message
+        → IsMessage (repacked target message) }
+    ensures fields { (target : Target) (message : List ℕ) → MayBeRepacked target message
+        → field_count (repacked target message) ≡ field_count message }
+    ensures columns { (target : Target) (message : List ℕ) → MayBeRepacked target message
+        → (i : ℕ) → 1 ≤ i → i ≤ field_count message
+        → column_of (repacked target message) i ≡ column_of message i }
+    ensures meanings { (target : Target) (message : List ℕ) → MayBeRepacked target message
+        → (i : ℕ) → 1 ≤ i → i ≤ field_count message
+        → meaning_of (repacked target message) i ≡ meaning_of message i }
+    ensures kept { (target : Target) (message : List ℕ) → MayBeRepacked target message
+        → (i k : ℕ) → 1 ≤ i → i ≤ field_count message → 1 ≤ k → k ≤ 4
+        → part_octets (repacked target message) i k ≡ part_octets message i k }
+{
+    a_packing_is_written();
+    what_is_packed_simply_reads_back();
+    what_is_packed_in_groups_reads_back();
+    what_is_packed_by_differences_reads_back();
+    what_is_assembled_is_accepted();
+}
