@@ -1,3 +1,4 @@
 mod Numbers
 mod Parts
 mod Counts
+mod Asked

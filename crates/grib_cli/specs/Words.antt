@@ -5,8 +5,8 @@ use Rattle.std.specs.List.{find}
 use Rattle.std.specs.Option.{option_map_or}
 use Rattle.grib_stream.specs.declared.outcome.Outcome.{Outcome}
 use Rattle.grib_stream.specs.declared.outcome.Outcome.TheVariants as outcomes
-use Rattle.grib_engine.specs.declared.job.RepackTarget.{RepackTarget}
-use Rattle.grib_engine.specs.declared.job.RepackTarget.TheVariants.{Simple, Complex, Spatial}
+use Rattle.grib_repack.specs.declared.target.RepackTarget.{RepackTarget}
+use Rattle.grib_repack.specs.declared.target.RepackTarget.TheVariants.{Simple, Complex, Spatial}
 use Rattle.grib_engine.specs.declared.job.Job.{Job}
 use Rattle.grib_engine.specs.declared.job.Job.TheVariants as jobs
 use Rattle.grib_cli.specs.declared.words.JobFault.{JobFault}
