@@ -2,5 +2,6 @@ pub mod Outside
 pub mod Pending
 pub mod Noted
 pub mod Served
+pub mod Answers
 pub mod Wanted
 pub mod Finite

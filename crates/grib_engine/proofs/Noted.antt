@@ -25,6 +25,13 @@ keeps_or_cuts outcome result (inl same) = inl same
 keeps_or_cuts outcome result (inr (inl fault)) = inr (ap is_cut_short fault)
 keeps_or_cuts outcome result (inr (inr memory)) = inr (ap is_cut_short memory)
 
+-- the note that was appended is that of the outcome with which the run ends
+pub noted_with : (a b : Option (List ℕ)) (note done : List ℕ) (outcome result : Outcome) → OneOf outcome result → note ≡ note_with done outcome
+    → (is_cut_short result ≡ false → Appends a b note) → is_cut_short result ≡ false → Appends a b (note_with done result)
+noted_with a b note done outcome result (inl same) is told calm = subst (Appends a b) (is ∙ ap (note_with done) (sym same)) (told calm)
+noted_with a b note done outcome result (inr (inl fault)) is told calm = let no : ⊥ = cc (ap is_cut_short fault) in absurd no
+noted_with a b note done outcome result (inr (inr memory)) is told calm = let no : ⊥ = cc (ap is_cut_short memory) in absurd no
+
 -- ---- the whole note
 
 whole_input : (a b : Option (List ℕ)) (left : Option (List ℕ)) (limit : ℕ) (job : Job) (totals : Totals) → Notes (task job) limit totals left
@@ -73,9 +80,9 @@ front_input a b (Some input) limit job totals faults faults_now shelf shelf_now 
 front_input a b (Some input) limit job totals faults faults_now shelf shelf_now notes (inr memory) = record { front = inr (inr (inr memory)) }
 
 -- where the input was read to its end
-pub front_done : {a b : Option (List ℕ)} {left : Option (List ℕ)} {limit : ℕ} {job : Job} {totals : Totals} (faults faults_now shelf shelf_now : ℕ)
+pub front_done : (a b left : Option (List ℕ)) (limit : ℕ) (job : Job) (totals : Totals) (faults faults_now shelf shelf_now : ℕ)
     → Notes (task job) limit totals left → NotesFront a b (ending_note job totals) Done → NotesRun (task job) limit left faults faults_now shelf shelf_now a b
-front_done {a} {b} {left} {limit} {job} {totals} faults faults_now shelf shelf_now notes noted =
+front_done a b left limit job totals faults faults_now shelf shelf_now notes noted =
     front_input a b left limit job totals faults faults_now shelf shelf_now notes noted
 
 own_note : (a b : Option (List ℕ)) (job : Job) (answer : Answer) (outcome : Outcome) → NotesOutcome (task job) answer → outcome ≢ Done → outcome ≡ answer.outcome
@@ -108,9 +115,9 @@ front_told job limit outcome (Some input) a b done before now f f_now s s_now gi
     front_other a b job (answer_within limit (task job) input) outcome done f f_now s s_now (notes_within (task job) limit input) other gives.ends read shelf noted
 
 -- where it ended before
-pub front_ended : {job : Job} {limit : ℕ} {outcome : Outcome} {left left_now a b : Option (List ℕ)} {done : List ℕ} {before now : World} (faults faults_now shelf shelf_now : ℕ)
+pub front_ended : (a b left left_now : Option (List ℕ)) (limit : ℕ) (job : Job) (outcome : Outcome) (done : List ℕ) (before now : World) (faults faults_now shelf shelf_now : ℕ)
     → Runs (task job) limit outcome left left_now before now → outcome ≢ Done
     → (outcome ≡ ReadFault → Counted faults faults_now) → (outcome ≡ ShelfFault → Counted shelf shelf_now)
     → NotesFront a b done outcome → NotesRun (task job) limit left faults faults_now shelf shelf_now a b
-front_ended {job} {limit} {outcome} {left} {left_now} {a} {b} {done} {before} {now} f f_now s s_now runs other read shelf noted =
+front_ended a b left left_now limit job outcome done before now f f_now s s_now runs other read shelf noted =
     front_told job limit outcome left a b done before now f f_now s s_now runs.gives other read shelf noted

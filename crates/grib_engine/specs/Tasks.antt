@@ -83,10 +83,11 @@ abbrev pub given_unless : Option RepackMisfit → ℕ → List ℕ → Given
 given_unless None m octets = Gives (writes octets) (length octets)
 given_unless (Some misfit) m octets = Ends (kept_at m (cause_of misfit))
 
--- what a message gives: its printed text, which no note counts, or the changed message
+-- what a message gives: its printed text, which no note counts, or the changed message; nothing to `make`
 abbrev pub given : Job → Place → List ℕ → Given
 given (Repack target) place message =
     given_unless (repack_misfit (target_of target) message) place.message (repacked (target_of target) message)
+given (Make seed ni nj target) place message = Gives [] 0
 given job place message = Gives (writes (message_text job place message)) 0
 
 -- what is printed at the end of the input

@@ -21,34 +21,67 @@ pub(crate) fn usage_note(alloc: Global, word: u64) -> Result<Vec<u8>, AllocError
 pub(crate) fn kept_note(alloc: Global, kept: &Kept) -> Result<Vec<u8>, AllocError>
     ensures { IfOk result (λ note. note.items ≡ notes.kept_note kept.now.message kept.now.cause) }
 {
-    let message = kept.message;
-    let cause = cause_text(alloc, &kept.cause)?;
-    let note = format!(in alloc; "kept message {message} {cause}\n")?;
-    Ok(note.into_bytes())
+    let text = kept_text(alloc, kept.message, &kept.cause)?;
+    Ok(text.into_bytes())
 }
 
-/// What a message is kept by.
-fn cause_text(alloc: Global, cause: &Cause) -> Result<String, AllocError>
-    ensures { IfOk result (λ text. string_bytes text ≡ notes.cause_text cause.now) }
+/// The text of that note.
+fn kept_text(alloc: Global, message: u64, cause: &Cause) -> Result<String, AllocError>
+    ensures { IfOk result (λ text. string_bytes text ≡ notes.kept_note message cause.now) }
 {
     match *cause {
         Cause::SecondaryMissing { field, point } => {
-            format!(in alloc; "SecondaryMissing field {field} point {point}")
+            text_at_point(alloc, message, "SecondaryMissing", field, point)
         }
         Cause::OutOfRange { field, point } => {
-            format!(in alloc; "OutOfRange field {field} point {point}")
+            text_at_point(alloc, message, "OutOfRange", field, point)
         }
-        Cause::DifferenceRange { field } => format!(in alloc; "DifferenceRange field {field}"),
-        Cause::OutputTooLong(length) => format!(in alloc; "OutputTooLong {length}"),
-        Cause::KeyRange { key } => {
-            let name = key.name();
-            format!(in alloc; "KeyRange {name}")
+        Cause::DifferenceRange { field } => {
+            format!(in alloc; "kept message {message} DifferenceRange field {field}\n")
         }
+        Cause::OutputTooLong(length) => {
+            format!(in alloc; "kept message {message} OutputTooLong {length}\n")
+        }
+        Cause::KeyRange { key } => text_at_key(alloc, message, key.name()),
         Cause::KeyAbsent { field, key } => {
-            let name = key.name();
-            format!(in alloc; "KeyAbsent {name} field {field}")
+            text_without_key(alloc, message, key.name(), field)
         }
     }
+}
+
+/// The text of that note, by a cause of this name at a point of a field.
+fn text_at_point(
+    alloc: Global,
+    message: u64,
+    name: &str,
+    field: u32,
+    point: u32,
+) -> Result<String, AllocError>
+    ensures { IfOk result (λ text. string_bytes text ≡ notes.note_at_point message name.now field point) }
+{
+    let text = format!(in alloc; "kept message {message} {name} field {field} point {point}\n")?;
+    Ok(text)
+}
+
+/// The text of that note, where the value of this key does not fit.
+fn text_at_key(alloc: Global, message: u64, key: &str) -> Result<String, AllocError>
+    ensures { IfOk result (λ text. string_bytes text ≡ notes.note_at_key message key.now) }
+{
+    let text = format!(in alloc; "kept message {message} KeyRange {key}\n")?;
+    Ok(text)
+}
+
+/// The text of that note, where a field has not this key.
+fn text_without_key(
+    alloc: Global,
+    message: u64,
+    key: &str,
+    field: u32,
+) -> Result<String, AllocError>
+    ensures { IfOk result (λ text. string_bytes text ≡ notes.note_without_key message key.now field) }
+{
+    let text = format!(in alloc; "kept message {message} KeyAbsent {key} field {field}\n")?;
+    Ok(text)
 }
 
 /// The note on an input that was read to its end, with all of its messages changed.

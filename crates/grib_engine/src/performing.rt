@@ -1,6 +1,6 @@
 //! A job as what answers the messages of an input.
 
-ghost use Rattle.std.specs.Prelude.{◌≡◌, true};
+ghost use Rattle.std.specs.Prelude.{◌≡◌, true, false};
 ghost use Rattle.grib_stream.specs.Stream.{begins};
 ghost use Rattle.grib_engine.specs.Jobs.{has_target};
 
