@@ -1,21 +1,20 @@
 -- The sections that are left of an accepted message, from where a walk over it stands.
-use Rattle.std.proofs.Common.{◌≡◌, ◌≢◌, ℕ, zero, suc, ◌+◌, ◌-◌, ◌*◌, ◌≤◌, ◌<◌, ◌^◌, Bool, true, false, cond, None, List, [], ◌∷◌, ◌++◌, All, length, drop, ◌==◌, inl, inr, refl, sym, ap, ap₂, ◌∙◌, arith, subst, append_assoc, length-append, eq-eqb, ne_eqb}
-use Rattle.std.specs.List.{concat, count_by}
+use Rattle.std.proofs.Common.{◌≡◌, ℕ, ◌+◌, ◌*◌, ◌≤◌, ◌<◌, ◌^◌, Bool, true, false, cond, None, List, [], ◌∷◌, ◌++◌, All, length, drop, ◌==◌, inl, inr, refl, sym, ap, ◌∙◌, arith, subst, append_assoc, append-nil, length-append}
+use Rattle.std.specs.List.{concat}
 use Rattle.std.proofs.lemmas.List.Elements.{All-drop}
+use Rattle.grib_bits.specs.Octets.{StatesItself}
 use Rattle.grib_io.specs.declared.fault.Fault.{Fault}
 use Rattle.grib_io.specs.Rows.{first_fault}
-use Rattle.grib2_sections.specs.Verdict.{Accepted}
-use Rattle.grib2_sections.specs.Head.{total_length, head_rows}
+use Rattle.grib2_sections.specs.Head.{head_rows}
 use Rattle.grib2_sections.specs.Frame.{Placed, placed_at, Position, position_after, section_at, section_number, ends_at, mark_rows, frame_rows, End, Fails, Next, step_from}
 use Rattle.grib_simple.specs.declared.written.Packed.{Packed}
-use Rattle.grib2_message.specs.View.{is_numbered}
 use Rattle.grib2_message.specs.Acceptance.{section_fault, verdict_from}
-use Rattle.grib2_message.specs.Fields.{sections_from, sections_of, field_count}
+use Rattle.grib2_message.specs.Fields.{sections_from, sections_of}
 use Rattle.grib2_message.specs.Message.{IsMessage}
-use Rattle.grib2_message.specs.Assembled.{in_place, replaced, IsShort}
-use Rattle.grib2_message.proofs.Parted.{second_edition, message_states}
+use Rattle.grib2_message.specs.Assembled.{in_place, replaced, assembled_body, assembled, IsShort}
+use Rattle.grib2_message.proofs.Parted.{message_states, message_least}
+use Rattle.grib2_message.proofs.PutTogether.{assembled_long}
 use Rattle.grib2_message.proofs.Passed.{unless_tells}
-use Rattle.grib2_message.proofs.Sound.{count_same, count_other}
 use Rattle.grib2_message.proofs.Steps.{step_tells}
 use Rattle.grib2_message.proofs.Ways.{OnWay, way_start, way_next, way_fails, given, tells_end, no_sections}
 
@@ -44,7 +43,6 @@ pub record First (m : List ℕ) (next_at : Position) (start : ℕ) (s : List ℕ
   pub rest : List Placed
   pub are : left ≡ placed_at start s ∷ rest
   pub ahead : Ahead m next_at rest
-  pub longer : 5 ≤ length s
   pub shorter : length s ≤ 268435456
 
 -- no row refuses what comes
@@ -68,7 +66,6 @@ ahead_next m at next_at start s left h e is next_is =
       rest = sections_from o.turns_left m (at.place + length s);
       are = h.are ∙ o.found ∙ ap (λ (q : ℕ). placed_at q s ∷ sections_from o.turns_left m (at.place + length s)) (sym is);
       ahead = record { turns = o.turns_left; before = placed_at at.place s ∷ h.before; way = o.way; are = refl; accepted = h.accepted };
-      longer = omega (arith, o.way.room, h.way.room);
       shorter = omega (arith, o.way.within, o.way.longest);
     })
 
@@ -83,3 +80,102 @@ pub ahead_passes : (m : List ℕ) (at : Position) (left : List Placed) (fault : 
 ahead_passes m at left fault h e =
     let clash = sym (way_fails m h.turns h.before at fault h.way e) ∙ h.accepted.accepted in
     absurd (cc)
+
+-- ---- the parts that are left
+
+-- the lengths so far are those of the sections that are passed
+pub record Counting (m : List ℕ) (packed : List Packed) (at : Position) (parts : List Packed) (total : ℕ) : Type 0 where
+  pub left : List Placed
+  pub ahead : Ahead m at left
+  pub short : All IsShort parts
+  pub sum : total + length (concat (replaced left parts)) ≡ 20 + length (assembled_body m packed)
+  pub bound : total ≤ 4294967296 * at.place
+
+-- the octets so far are those of the sections that are passed
+pub record Copying (m : List ℕ) (packed : List Packed) (at : Position) (parts : List Packed) (before out : List ℕ) : Type 0 where
+  pub left : List Placed
+  pub ahead : Ahead m at left
+  pub same : out ++ concat (replaced left parts) ≡ before ++ assembled_body m packed
+
+pub counting_start : (m : List ℕ) (packed : List Packed) (at : Position) → IsMessage m → at ≡ record { total = length m; place = 17; last = 0 } → All IsShort packed
+    → Counting m packed at packed 20
+counting_start m packed at h is short = record {
+  left = sections_of m;
+  ahead = ahead_start m at h is;
+  short = short;
+  sum = refl;
+  bound = omega (arith, ap (λ (x : Position). x.place) is);
+}
+
+pub copying_start : (m : List ℕ) (packed : List Packed) (at : Position) (before : List ℕ) → IsMessage m → at ≡ record { total = length m; place = 17; last = 0 }
+    → Copying m packed at packed before before
+copying_start m packed at before h is = record { left = sections_of m; ahead = ahead_start m at h is; same = refl }
+
+short_choice : (b : Bool) (xs ys : List ℕ) → length xs < 2 ^ 32 → length ys < 2 ^ 32 → length (cond b xs ys) < 2 ^ 32
+short_choice true xs ys h k = h
+short_choice false xs ys h k = k
+
+all_choice : (b : Bool) (parts : List Packed) → All IsShort parts → All IsShort (cond b (drop 1 parts) parts)
+all_choice true parts short = All-drop IsShort 1 parts short
+all_choice false parts short = short
+
+-- what stands in place of a section is no longer than its length can say
+in_place_short : (parts : List Packed) (s : List ℕ) → All IsShort parts → length s < 2 ^ 32 → length (in_place parts s) < 2 ^ 32
+in_place_short [] s short low = low
+in_place_short (part ∷ parts) s short low =
+    let is : IsShort part = short 0 part (omega arith) in
+    short_choice (section_number s == 5) part.section5 (cond (section_number s == 6) part.section6 (cond (section_number s == 7) part.section7 s)) is.short_5
+    (short_choice (section_number s == 6) part.section6 (cond (section_number s == 7) part.section7 s) is.short_6
+    (short_choice (section_number s == 7) part.section7 s is.short_7 low))
+
+-- the first section that is left, and the others
+first_replaced : (left rest : List Placed) (start number : ℕ) (s : List ℕ) (parts : List Packed) → left ≡ placed_at start s ∷ rest → section_number s ≡ number
+    → concat (replaced left parts) ≡ in_place parts s ++ concat (replaced rest (cond (number == 7) (drop 1 parts) parts))
+first_replaced left rest start number s parts are numbered =
+    ap (λ (xs : List Placed). concat (replaced xs parts)) are
+    ∙ ap (λ (n : ℕ). in_place parts s ++ concat (replaced rest (cond (n == 7) (drop 1 parts) parts))) numbered
+
+module _ (m : List ℕ) (packed : List Packed) (at next_at : Position) (start number : ℕ) (s : List ℕ) (parts parts_next : List Packed)
+    (e : step_from m at ≡ Next s) (itself : StatesItself number s) (is : start ≡ at.place) (next_is : next_at ≡ position_after at s)
+    (parts_are : parts_next ≡ cond (number == 7) (drop 1 parts) parts) where
+  pub counting_next : (total : ℕ) (put : List ℕ) → Counting m packed at parts total → put ≡ in_place parts s
+      → Counting m packed next_at parts_next (total + length put)
+  counting_next total put h put_is =
+      let f = ahead_next m at next_at start s h.left h.ahead e is next_is in
+      let first = first_replaced h.left f.rest start number s parts f.are itself.number_stands in
+      let small : length (in_place parts s) < 2 ^ 32 = in_place_short parts s h.short (omega (arith, f.shorter)) in
+      let size : length (concat (replaced h.left parts)) ≡ length (in_place parts s) + length (concat (replaced f.rest (cond (number == 7) (drop 1 parts) parts))) =
+      ap length first ∙ length-append (in_place parts s) (concat (replaced f.rest (cond (number == 7) (drop 1 parts) parts))) in
+      subst (λ (xs : List Packed). Counting m packed next_at xs (total + length put)) (sym parts_are)
+      (record {
+        left = f.rest;
+        ahead = f.ahead;
+        short = all_choice (number == 7) parts h.short;
+        sum = omega (arith, h.sum, size, ap length put_is);
+        bound = omega (arith, h.bound, small, ap length put_is, itself.least, ap (λ (x : Position). x.place) next_is);
+      })
+
+  pub copying_next : (before out put : List ℕ) → Copying m packed at parts before out → put ≡ in_place parts s
+      → Copying m packed next_at parts_next before (out ++ put)
+  copying_next before out put h put_is =
+      let f = ahead_next m at next_at start s h.left h.ahead e is next_is in
+      let first = first_replaced h.left f.rest start number s parts f.are itself.number_stands in
+      let others = concat (replaced f.rest (cond (number == 7) (drop 1 parts) parts)) in
+      subst (λ (xs : List Packed). Copying m packed next_at xs before (out ++ put)) (sym parts_are)
+      (record {
+        left = f.rest;
+        ahead = f.ahead;
+        same = append_assoc out put others ∙ ap (λ (xs : List ℕ). out ++ (xs ++ others)) put_is ∙ ap (λ (xs : List ℕ). out ++ xs) (sym first) ∙ h.same;
+      })
+
+-- at the end mark
+pub counting_end : (m : List ℕ) (packed : List Packed) (at : Position) (parts : List Packed) (total : ℕ) → Counting m packed at parts total → step_from m at ≡ End
+    → total ≡ length (assembled m packed)
+counting_end m packed at parts total h e =
+    let none : length (concat (replaced h.left parts)) ≡ 0 = ap (λ (xs : List Placed). length (concat (replaced xs parts))) (ahead_end m at h.left h.ahead e) in
+    omega (arith, h.sum, none, assembled_long m packed (omega (arith, message_least m h.ahead.accepted)))
+
+pub copying_end : (m : List ℕ) (packed : List Packed) (at : Position) (parts : List Packed) (before out : List ℕ) → Copying m packed at parts before out → step_from m at ≡ End
+    → out ≡ before ++ assembled_body m packed
+copying_end m packed at parts before out h e =
+    sym (append-nil out) ∙ ap (λ (xs : List Placed). out ++ concat (replaced xs parts)) (sym (ahead_end m at h.left h.ahead e)) ∙ h.same

@@ -1,10 +1,10 @@
 pub mod After
 pub mod Ahead
 pub mod Along
-pub mod PutTogether
 pub mod Bitmaps
 pub mod Checked
 pub mod Fronts
+pub mod Holding
 pub mod InForce
 pub mod Joined
 pub mod Masks
@@ -12,8 +12,9 @@ pub mod Order
 pub mod Parted
 pub mod Parts
 pub mod Passed
-pub mod Replaced
 pub mod Placing
+pub mod PutTogether
+pub mod Replaced
 pub mod Shorter
 pub mod Sound
 pub mod Stays

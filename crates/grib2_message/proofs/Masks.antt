@@ -32,7 +32,7 @@ long_own s points room =
     let long : length (bits (drop 6 s)) ≡ 8 * length (drop 6 s) = length-bits (drop 6 s) in
     length-take-le points (bits (drop 6 s)) (omega (arith, long, length-drop 6 s))
 
-long_alone : (s : List ℕ) (points values : ℕ) (earlier : Option (List Bool)) → bitmap_indicator s < 256 → bitmap_indicator s ≢ 254 → first_fault (bitmap_rows s points values earlier) ≡ None
+pub long_alone : (s : List ℕ) (points values : ℕ) (earlier : Option (List Bool)) → bitmap_indicator s < 256 → bitmap_indicator s ≢ 254 → first_fault (bitmap_rows s points values earlier) ≡ None
     → length (mask_of s points earlier) ≡ points
 long_alone s points values earlier small other none =
     let p = passes_from_none (bitmap_rows s points values earlier) none in

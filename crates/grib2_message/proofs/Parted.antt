@@ -1,16 +1,15 @@
 -- An accepted message is Section 0, its sections, each where the grammar lets it stand, and the end mark.
-use Rattle.std.proofs.Common.{◌≡◌, ◌≢◌, ℕ, zero, suc, ◌+◌, ◌-◌, ◌≤◌, ◌<◌, true, false, None, List, [], ◌∷◌, ◌++◌, length, take, inl, inr, refl, sym, ap, ◌∙◌, arith, append_assoc, length-append, take_at}
+use Rattle.std.proofs.Common.{◌≡◌, ◌≢◌, ℕ, zero, suc, ◌+◌, ◌≤◌, false, List, [], ◌∷◌, ◌++◌, length, take, inl, inr, sym, ap, ◌∙◌, arith, append_assoc, length-append, take_at}
 use Rattle.std.proofs.lemmas.List.{take-append-le}
 use Rattle.std.specs.List.{concat}
-use Rattle.grib_bits.specs.Octets.{octets}
 use Rattle.grib_io.specs.Rows.{first_fault}
 use Rattle.grib2_sections.specs.Verdict.{Accepted}
 use Rattle.grib2_sections.specs.Head.{indicator, end_mark, edition, total_length, head_rows}
-use Rattle.grib2_sections.specs.Frame.{Placed, placed_at, section_at, ends_at}
+use Rattle.grib2_sections.specs.Frame.{Placed, section_at, ends_at}
 use Rattle.grib2_message.specs.View.{last_number}
-use Rattle.grib2_message.specs.Acceptance.{verdict_2, verdict_from}
+use Rattle.grib2_message.specs.Acceptance.{verdict_from}
 use Rattle.grib2_message.specs.Grammar.{AreSections, Grammar2}
-use Rattle.grib2_message.specs.Fields.{sections_from, sections_of}
+use Rattle.grib2_message.specs.Fields.{sections_from}
 use Rattle.grib2_message.specs.Message.{IsMessage}
 use Rattle.grib2_message.proofs.Passed.{passes_from_none, unless_tells}
 use Rattle.grib2_message.proofs.Steps.{here, step_tells}
@@ -102,3 +101,10 @@ joined_grammar head sections h most follow =
       most = omega arith;
       sections_follow = follow;
     }
+
+-- and 268,435,456 at most
+pub message_most : (m : List ℕ) → IsMessage m → length m ≤ 268435456
+message_most m h =
+    let told = unless_tells (first_fault (head_rows m)) (λ _. verdict_from (length m + 1) m [] 17) (length m) h.accepted in
+    let p = head_passes m (second_edition m h) (passes_from_none (head_rows m) told.0) in
+    omega (arith, p.most, message_states m h)

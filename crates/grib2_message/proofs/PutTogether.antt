@@ -1,10 +1,8 @@
 -- What is assembled is in the grammar, and what its fields are.
-use Rattle.std.proofs.Common.{◌≡◌, ◌≢◌, ℕ, zero, suc, ◌+◌, ◌-◌, ◌≤◌, ◌<◌, ◌^◌, Some, None, List, [], ◌∷◌, ◌++◌, length, take, slice_get, refl, sym, ap, ap₂, ◌∙◌, arith, subst, add-one, append_assoc, append-nil, length-append, length-take-le, take_at, take-take}
+use Rattle.std.proofs.Common.{◌≡◌, ℕ, suc, ◌+◌, ◌≤◌, Some, None, List, [], ◌++◌, length, take, slice_get, sym, ap, ◌∙◌, arith, subst, add-one, append_assoc, append-nil, length-append, length-take-le, take-take}
 use Rattle.std.specs.List.{concat, count_by}
 use Rattle.std.proofs.lemmas.List.{take-append-le}
-use Rattle.grib_bits.specs.Octets.{octets, num_on}
-use Rattle.grib2_sections.specs.Verdict.{Accepted}
-use Rattle.grib2_sections.specs.Head.{indicator, end_mark, edition, total_length}
+use Rattle.grib2_sections.specs.Head.{end_mark, total_length}
 use Rattle.grib2_sections.specs.Encoding.{octets_of}
 use Rattle.grib2_sections.specs.Frame.{Placed}
 use Rattle.grib2_sections.proofs.Octets.{length-octets_of, num_on-octets_of, octets-within}
@@ -12,16 +10,16 @@ use Rattle.grib2_grids.specs.Grid.{grid_points}
 use Rattle.grib_bitmap.specs.Mask.{mask_of}
 use Rattle.grib_packing.specs.Entries.{column_from}
 use Rattle.grib_simple.specs.declared.written.Packed.{Packed}
-use Rattle.grib2_message.specs.View.{is_numbered, octets_in_force, points_in_force}
+use Rattle.grib2_message.specs.View.{is_numbered, points_in_force}
 use Rattle.grib2_message.specs.Acceptance.{verdict_2}
-use Rattle.grib2_message.specs.Grammar.{AreSections, Grammar2}
+use Rattle.grib2_message.specs.Grammar.{Grammar2}
 use Rattle.grib2_message.specs.Fields.{sections_of, field_count, field_sections, sections_up_to_field, part_octets, column_of}
 use Rattle.grib2_message.specs.Message.{IsMessage}
 use Rattle.grib2_message.specs.Assembled.{assembled, assembled_body, replaced, PartsPass, MayBeAssembled}
 use Rattle.grib2_message.proofs.Along.{Along, count_along, up_to_along}
 use Rattle.grib2_message.proofs.Parted.{Parted, message_parted, message_least, IsHead, joined_grammar}
 use Rattle.grib2_message.proofs.Placing.{placed_from}
-use Rattle.grib2_message.proofs.Replaced.{Fits, fits_number, octets_kept, points_same, HasPart, InParts, Rebuilt, rebuilt, outside}
+use Rattle.grib2_message.proofs.Replaced.{Fits, fits_number, octets_kept, points_same, HasPart, Rebuilt, rebuilt, outside}
 use Rattle.grib2_message.proofs.Whole.{octets_before, octets_of_front, grammar_accepted, sections_alone}
 
 -- how long a message is that is put together

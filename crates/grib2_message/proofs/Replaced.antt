@@ -1,13 +1,12 @@
 -- The sections of a message with other Sections 5, 6 and 7 may follow one another, and each field has its part.
-use Rattle.std.proofs.Common.{◌≡◌, ◌≢◌, ℕ, zero, suc, ◌+◌, ◌-◌, ◌≤◌, ◌<◌, Bool, true, false, cond, IsTrue, Option, Some, None, List, [], ◌∷◌, length, get_or, slice_get, ◌==◌, ◌⊎◌, inl, inr, refl, sym, ap, ap₂, ◌∙◌, arith, subst, eq-eqb, ne_eqb, eqb-true}
+use Rattle.std.proofs.Common.{◌≡◌, ◌≢◌, ℕ, zero, suc, ◌+◌, ◌≤◌, Bool, cond, Option, Some, None, List, [], ◌∷◌, length, get_or, slice_get, ◌==◌, inl, inr, refl, sym, ap, ap₂, ◌∙◌, arith, subst, eq-eqb, ne_eqb, eqb-true}
 use Rattle.std.specs.List.{count_by}
 use Rattle.std.proofs.lemmas.Bool.{cases_eq}
 use Rattle.std.proofs.lemmas.Option.{same_Some, slice_get_within}
-use Rattle.std.proofs.lemmas.List.Sums.{sum_by-cons}
 use Rattle.grib_bits.specs.Octets.{StatesItself}
 use Rattle.grib_io.specs.declared.fault.Fault.{Fault}
 use Rattle.grib_io.specs.Rows.{first_fault, located}
-use Rattle.grib2_sections.specs.Frame.{Placed, placed_at, section_number, section_length, may_end}
+use Rattle.grib2_sections.specs.Frame.{Placed, placed_at, section_number, may_end}
 use Rattle.grib2_sections.specs.Identification.{identification_rows}
 use Rattle.grib2_grids.specs.Grid.{grid_rows, grid_points}
 use Rattle.grib2_products.specs.Product.{product_rows}
@@ -314,10 +313,10 @@ grid_ahead (s ∷ sections) before q follow low high =
 abbrev pub left : ℕ → List (List ℕ) → ℕ
 left q sections = count_by (is_numbered 7) (placed_from q sections)
 
-left_7 : (q : ℕ) (s : List ℕ) (sections : List (List ℕ)) → section_number s ≡ 7 → left q (s ∷ sections) ≡ 1 + left (q + length s) sections
+pub left_7 : (q : ℕ) (s : List ℕ) (sections : List (List ℕ)) → section_number s ≡ 7 → left q (s ∷ sections) ≡ 1 + left (q + length s) sections
 left_7 q s sections e = count_same (placed_at q s) (placed_from (q + length s) sections) 7 e
 
-left_other : (q : ℕ) (s : List ℕ) (sections : List (List ℕ)) → section_number s ≢ 7 → left q (s ∷ sections) ≡ left (q + length s) sections
+pub left_other : (q : ℕ) (s : List ℕ) (sections : List (List ℕ)) → section_number s ≢ 7 → left q (s ∷ sections) ≡ left (q + length s) sections
 left_other q s sections ne = count_other (placed_at q s) (placed_from (q + length s) sections) 7 ne
 
 -- where a section is left, so is a field

@@ -29,6 +29,8 @@ pub(crate) fn column_at(alloc: Global, octets: &[u8], places: &Places) -> Result
     ensures column { (before : List Placed) → IsField octets.now before places.now → IfOk result
         (λ column. column ≡ column_from (octets_in_force 5 before) (mask_in_force before)
         (octets_in_force 7 before)) }
+    ensures some { (before : List Placed) → IsField octets.now before places.now → IfOk result
+        (λ column. 1 ≤ length column.points) }
     ensures few { (before : List Placed) → IsField octets.now before places.now → IfOk result
         (λ column. length column.points ≤ 33554432) }
 {

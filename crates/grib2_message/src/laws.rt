@@ -7,8 +7,8 @@ ghost use Rattle.grib2_sections.specs.Head.{indicator, edition, total_length};
 ghost use Rattle.grib2_sections.specs.Verdict.{Accepted, Refused};
 ghost use Rattle.grib2_message.specs.Acceptance.{verdict_2};
 ghost use Rattle.grib2_message.specs.Grammar.{Grammar2};
-ghost use Rattle.grib2_message.specs.Fields.{sections_of, field_count, part_octets, column_of};
-ghost use Rattle.grib2_message.specs.Message.{IsMessage};
+ghost use Rattle.grib2_message.specs.Fields.{sections_of, field_count, field_mask, part_octets, column_of};
+ghost use Rattle.grib2_message.specs.Message.{IsMessage, FieldPasses};
 ghost use Rattle.grib2_message.specs.Assembled.{assembled, MayBeAssembled};
 ghost use Rattle.grib2_grids.specs.Grid.{grid_points};
 ghost use Rattle.grib_bitmap.specs.Mask.{mask_of};
@@ -50,6 +50,16 @@ pub fn accepted_length()
         → verdict_2 octets ≡ Accepted total → total ≤ length octets }
     ensures alone { (octets : List ℕ) (total : ℕ) → edition octets ≢ 1
         → verdict_2 octets ≡ Accepted total → verdict_2 (take total octets) ≡ Accepted total }
+{}
+
+/// The sections in force for each field of an accepted message pass their rows, and the mask of the field has
+/// one bit for each grid point.
+pub fn field_holds()
+    ensures passes { (message : List ℕ) (i : ℕ) → IsMessage message
+        → 1 ≤ i → i ≤ field_count message → FieldPasses message i }
+    ensures mask { (message : List ℕ) (i : ℕ) → IsMessage message
+        → All (λ octet. octet < 256) message → 1 ≤ i → i ≤ field_count message
+        → length (field_mask message i) ≡ grid_points (part_octets message i 3) }
 {}
 
 /// An accepted message with other Sections 5, 6 and 7 that pass their rows is accepted, where it is not too

@@ -2,6 +2,8 @@
 #![tactic(auto)]
 
 mod assembling;
+#[cfg(test)]
+mod assembling_tests;
 mod checking;
 mod columns;
 mod fault;

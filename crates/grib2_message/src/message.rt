@@ -106,6 +106,7 @@ impl<'a> Message<'a> {
         requires first { 1 ≤ field }
         requires last { field ≤ field_count self.now }
         ensures column { IfOk result (λ column. column ≡ column_of self.now field) }
+        ensures some { IfOk result (λ column. 1 ≤ length column.points) }
         ensures few { IfOk result (λ column. length column.points ≤ 33554432) }
         ensures passes { FieldPasses self.now field }
     {

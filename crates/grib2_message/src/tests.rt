@@ -7,10 +7,11 @@ use grib2_sections::u8_at;
 use std::alloc::{AllocError, Global};
 use std::test::Fail;
 
-const IDENTIFICATION: &[u8] = b"\0\0\0\x15\x01\0\x62\0\0\x02\0\x01\x07\xe8\x01\x0f\x0c\0\0\0\x01";
+pub(crate) const IDENTIFICATION: &[u8] =
+    b"\0\0\0\x15\x01\0\x62\0\0\x02\0\x01\x07\xe8\x01\x0f\x0c\0\0\0\x01";
 
 /// A grid of 2 by 2 points of latitude and longitude, up to octet 72.
-const GRID: &[u8] = b"\0\0\0\x48\x03\0\0\0\0\x04\0\0\0\0\x06\
+pub(crate) const GRID: &[u8] = b"\0\0\0\x48\x03\0\0\0\0\x04\0\0\0\0\x06\
 \xff\xff\xff\xff\xff\xff\xff\xff\xff\xff\xff\xff\xff\xff\xff\0\0\0\x02\0\0\0\x02\
 \0\0\0\0\xff\xff\xff\xff\x02\xfa\xf0\x80\0\x98\x96\x80\x30\x02\xeb\xae\x40\0\xa7\xd8\xc0\
 \0\x0f\x42\x40\0\x0f\x42\x40\0";
@@ -21,24 +22,31 @@ const REDUCED_GRID: &[u8] = b"\0\0\0\x4c\x03\0\0\0\0\x04\x02\x01\0\x28\x06\
 \0\0\0\0\xff\xff\xff\xff\x02\xfa\xf0\x80\0\x98\x96\x80\x30\x02\xeb\xae\x40\0\xa7\xd8\xc0\
 \0\x0f\x42\x40\0\0\0\x02\0\0\x01";
 
-const PRODUCT: &[u8] = b"\0\0\0\x22\x04\0\0\0\0\0\0\x02\xff\x01\0\0\0\x01\0\0\0\x06\x67\0\0\0\0\x02\
+pub(crate) const PRODUCT: &[u8] =
+    b"\0\0\0\x22\x04\0\0\0\0\0\0\x02\xff\x01\0\0\0\x01\0\0\0\x06\x67\0\0\0\0\x02\
 \xff\xff\xff\xff\xff\xff";
 
 /// Four numbers of eight bits each.
-const FOUR_NUMBERS: &[u8] = b"\0\0\0\x15\x05\0\0\0\x04\0\0\xc2\xed\x40\0\x80\x03\0\x01\x08\0";
+pub(crate) const FOUR_NUMBERS: &[u8] =
+    b"\0\0\0\x15\x05\0\0\0\x04\0\0\xc2\xed\x40\0\x80\x03\0\x01\x08\0";
 
-const THREE_NUMBERS: &[u8] = b"\0\0\0\x15\x05\0\0\0\x03\0\0\xc2\xed\x40\0\x80\x03\0\x01\x08\0";
+pub(crate) const THREE_NUMBERS: &[u8] =
+    b"\0\0\0\x15\x05\0\0\0\x03\0\0\xc2\xed\x40\0\x80\x03\0\x01\x08\0";
 
 /// All points are present.
-const NO_BITMAP: &[u8] = b"\0\0\0\x06\x06\xff";
+pub(crate) const NO_BITMAP: &[u8] = b"\0\0\0\x06\x06\xff";
 
 /// The second of four points is left out.
-const OWN_BITMAP: &[u8] = b"\0\0\0\x07\x06\0\xb0";
+pub(crate) const OWN_BITMAP: &[u8] = b"\0\0\0\x07\x06\0\xb0";
 
-const SAME_BITMAP: &[u8] = b"\0\0\0\x06\x06\xfe";
+pub(crate) const SAME_BITMAP: &[u8] = b"\0\0\0\x06\x06\xfe";
 
 /// The octets of a message with this total length and these sections.
-fn message(alloc: Global, total: u64, sections: &[&[u8]]) -> Result<Vec<u8>, AllocError> {
+pub(crate) fn message(
+    alloc: Global,
+    total: u64,
+    sections: &[&[u8]],
+) -> Result<Vec<u8>, AllocError> {
     let mut octets = b"GRIB\0\0\0\x02".to_vec(alloc)?;
     octets.extend_from_slice(&total.to_be_bytes())?;
     for section in sections {
@@ -49,7 +57,7 @@ fn message(alloc: Global, total: u64, sections: &[&[u8]]) -> Result<Vec<u8>, All
 }
 
 /// A message of one field, whose numbers are 0, 1, 2 and 255.
-fn plain(alloc: Global) -> Result<Vec<u8>, AllocError> {
+pub(crate) fn plain(alloc: Global) -> Result<Vec<u8>, AllocError> {
     let values = b"\0\0\0\x09\x07\0\x01\x02\xff";
     let sections = [
         IDENTIFICATION,
@@ -63,7 +71,7 @@ fn plain(alloc: Global) -> Result<Vec<u8>, AllocError> {
 }
 
 /// Reads a message; want of memory stands for octets that do not begin one of edition 2.
-fn read(alloc: Global, octets: &[u8]) -> Result<Message<'_>, ReadFault> {
+pub(crate) fn read(alloc: Global, octets: &[u8]) -> Result<Message<'_>, ReadFault> {
     if octets.len() < 8 || !octets.starts_with(b"GRIB") || u8_at(octets, 8) != 2 {
         return Err(ReadFault::Memory);
     }
@@ -90,7 +98,7 @@ fn start(message: &Message<'_>, field: u32, section: u8) -> u64 {
 }
 
 /// Whether a field that is there holds these points.
-fn holds(
+pub(crate) fn holds(
     alloc: Global,
     message: &Message<'_>,
     field: u32,

@@ -60,3 +60,10 @@ returns-in-Ok-clause-few c = λ before h.
     let bounds = points_bounds (octets_in_force 3 before) (h.stand.sound.grid (omega (arith, h.ends))) in
     let size : length c.in-Ok.column.points ≡ length c.in_ok-mask.mask = ap (λ column. length column.points) c.in-Ok.ensures.1 ∙ points_of_mask c.in_ok-mask.mask _ in
     omega (arith, size, told.1, bounds.1)
+
+pub returns-in-Ok-clause-some : goal.returns-in-Ok-clause-some
+returns-in-Ok-clause-some c = λ before h.
+    let told = c.in_ok-mask.ensures before h in
+    let bounds = points_bounds (octets_in_force 3 before) (h.stand.sound.grid (omega (arith, h.ends))) in
+    let size : length c.in-Ok.column.points ≡ length c.in_ok-mask.mask = ap (λ column. length column.points) c.in-Ok.ensures.1 ∙ points_of_mask c.in_ok-mask.mask _ in
+    omega (arith, size, told.1, bounds.0)

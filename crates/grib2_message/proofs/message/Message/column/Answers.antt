@@ -25,6 +25,13 @@ returns-clause-few c =
     c.column_at.ensures.few (field_sections m c.args.field)
     (field_kept m c.self.inside.fields.items c.self.invariant c.args.field c.requires.first last _ c.index-places.ensures)
 
+pub returns-clause-some : goal.returns-clause-some
+returns-clause-some c =
+    let m = c.self.inside.octets.now in
+    let last = subst (λ (x : List ℕ). c.args.field ≤ field_count x) (sym c.self.view_is) c.requires.last in
+    c.column_at.ensures.some (field_sections m c.args.field)
+    (field_kept m c.self.inside.fields.items c.self.invariant c.args.field c.requires.first last _ c.index-places.ensures)
+
 pub returns-clause-passes : goal.returns-clause-passes
 returns-clause-passes c =
     let m = c.self.inside.octets.now in
