@@ -4,3 +4,4 @@ pub mod Numbers
 pub mod Groups
 pub mod Written
 pub mod Unique
+pub mod Short

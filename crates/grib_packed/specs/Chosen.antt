@@ -1,6 +1,6 @@
--- The chosen grouping of some codes, as a function. `Chosen` says what it is: of all groupings one that costs
--- least, and the first of several. Here it is found group by group; the law `lengths_are_chosen` says that
--- what is found is that grouping.
+-- The chosen grouping of some codes, as a function. `Chosen` of grib_packing says what it is: of all groupings
+-- one that costs least, and the first of several. Here it is found group by group; a law says that what is
+-- found is that grouping.
 use Rattle.std.specs.Prelude.{ℕ, zero, suc, ◌-◌, min, cond, List, [], ◌∷◌, length, drop, map, nat_lt}
 use Rattle.std.specs.List.{range_with_len}
 use Rattle.grib_io.specs.declared.code.Code.{Code}

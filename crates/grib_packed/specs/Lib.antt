@@ -1,3 +1,4 @@
 pub mod Chosen
 pub mod Section
 pub mod Written
+pub mod Worked

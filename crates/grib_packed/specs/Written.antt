@@ -1,6 +1,6 @@
 -- What packing writes, as a function: Sections 5, 6 and 7 of a column (WMO-No. 306, Volume I.2, FM 92 GRIB
--- edition 2, templates 5.0, 5.2, 5.3, 7.0, 7.2 and 7.3). `HasPacked`, the relation `Packed` of
--- `grib_packing`, says what these sections have to be: they are, and no others are.
+-- edition 2, templates 5.0, 5.2, 5.3, 7.0, 7.2 and 7.3). The relation `Packed` of grib_packing says what
+-- these sections have to be; laws say that they are it, and that no others are.
 use Rattle.std.specs.Prelude.{ℕ, ◌-◌, ◌^◌, ◌<◌, Bool, cond, List, ◌++◌, length, get_or}
 use Rattle.std.specs.List.{list_any}
 use Rattle.grib_bits.specs.Bits.{bits_of}
@@ -43,7 +43,7 @@ group_lengths target points =
     let codes = target_codes target points in
     chosen (header_bits k codes) (width_of k) codes
 
--- what Section 5 says of groups of these lengths,
+-- what octets 20 and 22 to 47 of Section 5 say of groups of these lengths,
 abbrev pub layout_with : ℕ → List Code → List ℕ → Layout
 layout_with k codes lengths = record {
   groups = length lengths;
@@ -57,7 +57,7 @@ layout_with k codes lengths = record {
   management = k;
 }
 
--- its octets 6 to 47, where all grid points are values,
+-- octets 6 to 47, where all grid points are values,
 abbrev pub group_octets : Target → ℕ → Column → ℕ → List ℕ
 group_octets target template column kind =
     let points = column.points in

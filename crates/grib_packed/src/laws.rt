@@ -1,6 +1,6 @@
 //! Laws over the definitions.
 
-ghost use Rattle.std.specs.Prelude.{◌≡◌, ℕ, ◌<◌, None, List};
+ghost use Rattle.std.specs.Prelude.{◌≡◌, ℕ, ◌+◌, ◌*◌, ◌<◌, ◌≤◌, None, List, length};
 ghost use Rattle.grib_io.specs.declared.code.Code as code_io;
 ghost use Rattle.grib_packing.specs.declared.column.Column as column_packing;
 ghost use Rattle.grib_packing.specs.Groupings.{Chosen};
@@ -30,4 +30,12 @@ pub fn one_packing_is_written()
         → HasPacked target column kind s5 s6 s7
         → let p = packed target column kind in
         (s5 ≡ p.section5) × (s6 ≡ p.section6) × (s7 ≡ p.section7) }
+{}
+
+/// Where nothing of a column fails to fit, the three sections have at most 11 octets a point, and 200 more.
+pub fn few_octets_are_written()
+    ensures { (target : Target) (column : column_packing.Column) (kind : ℕ)
+        → MayBePacked column → IsTarget target → first_misfit target column.points ≡ None
+        → let p = packed target column kind in
+        length p.section5 + length p.section6 + length p.section7 ≤ 11 * length column.points + 200 }
 {}
