@@ -1,17 +1,23 @@
 -- Small points fit every packing.
-use Rattle.std.proofs.Common.{◌≡◌, ℕ, zero, suc, ◌+◌, ◌-◌, ◌*◌, ◌^◌, ◌<◌, ◌≤◌, ◌||◌, ◌==◌, Bool, true, false, cond, Option, Some, None, List, [], ◌∷◌, length, All, ℤ, pos, negsuc, nat_abs, nat_lt, int_lt, ◌+ℤ◌, ◌-ℤ◌, ◌*ℤ◌, map, get_or, ap, ap₂, ◌∙◌, sym, refl, arith, le-ltb, inl, inr}
+use Rattle.std.proofs.Common.{◌≡◌, ℕ, ◌+◌, ◌-◌, ◌*◌, ◌^◌, ◌≤◌, ◌||◌, ◌==◌, Bool, true, false, cond, None, List, [], ◌∷◌, length, All, ℤ, pos, negsuc, nat_abs, nat_lt, int_lt, ◌+ℤ◌, ◌-ℤ◌, ◌*ℤ◌, get_or, ap₂, refl, arith, le-ltb, inl, inr}
 use Rattle.std.specs.List.{list_any, range_with_len}
 use Rattle.std.proofs.lemmas.Bool.{cases_lt}
 use Rattle.std.proofs.lemmas.Int.{ints}
 use Rattle.std.proofs.lemmas.List.{get_or_past}
 use Rattle.std.proofs.lemmas.List.Elements.{All-nil, All-cons, All-head, All-tail, All-map, All-weaker}
 use Rattle.std.proofs.lemmas.List.Folds.{list_any_none}
+use Rattle.std.proofs.lemmas.List.FromFn.{length-map-range_with_len}
+use Rattle.std.proofs.lemmas.Nat.{mul-le}
 use Rattle.grib_packing.specs.declared.column.Point.{Point}
 use Rattle.grib_packing.specs.declared.column.Point.TheVariants.{Scaled, Missing, Missing2}
-use Rattle.grib_packing.specs.Differences.{lesser, least, least_of, difference_at, differences, descriptors_of, code_at, difference_codes}
+use Rattle.grib_packing.specs.Differences.{lesser, least, least_of, difference_at, differences, code_at, difference_codes}
 use Rattle.grib_packing.specs.Entries.{is_out_of_range}
-use Rattle.grib_packing.specs.Misfits.{Misfit, SecondaryMissing, OutOfRange, DifferenceRange, Target, ToSimple, ToComplex, ToSpatial, misfit_at, first_misfit, is_missing, is_missing2, is_outside, is_scaled_outside, scaled_numbers, management_of, greatest_code, are_differences_out}
-use Rattle.grib_made.proofs.Small.{IsSmall, inside_from}
+use Rattle.grib_packing.specs.Misfits.{Misfit, SecondaryMissing, OutOfRange, Target, ToSimple, ToComplex, ToSpatial, misfit_at, first_misfit, is_missing, is_missing2, is_outside, is_scaled_outside, scaled_numbers, management_of, greatest_code, are_differences_out}
+use Rattle.grib_simple.specs.Written.{MayBePacked}
+use Rattle.grib_made.specs.Points.{made_point, made_points, made_column}
+use Rattle.grib_made.specs.Made.{MayBeMade}
+use Rattle.grib_made.proofs.OneByOne.{few_points}
+use Rattle.grib_made.proofs.Small.{IsSmall, inside_from, small_points}
 
 -- ---- wherever the end of the range is
 
@@ -169,3 +175,22 @@ in_range Missing2 small = refl
 pub small_within : (points : List Point) → All IsSmall points → list_any is_out_of_range points ≡ false
 small_within points small =
     list_any_none is_out_of_range points (All-weaker IsSmall (λ point. is_out_of_range point ≡ false) in_range points small)
+
+-- ---- what is made
+
+pub made_fits : (target : Target) (seed ni nj : ℕ) → first_misfit target (made_points seed ni nj) ≡ None
+made_fits target seed ni nj = small_fits target (made_points seed ni nj) (small_points seed ni nj)
+
+pub length-made_points : (seed ni nj : ℕ) → length (made_points seed ni nj) ≡ ni * nj
+length-made_points seed ni nj = length-map-range_with_len (made_point seed ni) 1 (ni * nj)
+
+pub made_may_be_packed : (seed ni nj : ℕ) → MayBeMade seed ni nj → MayBePacked (made_column seed ni nj)
+made_may_be_packed seed ni nj may =
+    let long = length-made_points seed ni nj in
+    let some : 1 * 1 ≤ ni * nj = mul-le 1 1 ni nj may.some_columns may.some_rows in
+    record {
+      some = omega (arith, long, some);
+      few = omega (arith, long, few_points ni nj may.few_columns may.few_rows);
+      within = small_within (made_points seed ni nj) (small_points seed ni nj);
+      finite = refl;
+    }

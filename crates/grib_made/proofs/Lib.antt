@@ -1,4 +1,9 @@
+pub mod Accepted
 pub mod Fitting
-pub mod Making
+pub mod Grid
+pub mod Joined
+pub mod OneByOne
+pub mod Parts
+pub mod Repacked
 pub mod Small
 pub mod Summing

@@ -1,9 +1,9 @@
 -- The numbers of a made field are small.
-use Rattle.std.proofs.Common.{◌≡◌, ℕ, ◌+◌, ◌-◌, ◌*◌, ◌/◌, ◌%◌, ◌<◌, ◌≤◌, ◌||◌, ◌==◌, min, Bool, true, false, cond, List, length, All, ℤ, pos, negsuc, nat_abs, nat_lt, map, get_or, ap₂, subst, refl, arith, le-ltb, ltb-false}
+use Rattle.std.proofs.Common.{◌≡◌, ℕ, ◌+◌, ◌-◌, ◌*◌, ◌/◌, ◌%◌, ◌<◌, ◌≤◌, ◌||◌, ◌==◌, Bool, true, false, cond, All, pos, get_or, ap₂, refl, arith, le-ltb}
 use Rattle.std.specs.List.{range_with_len}
 use Rattle.std.proofs.lemmas.List.Elements.{All-map}
 use Rattle.grib_packing.specs.declared.column.Point.{Point}
-use Rattle.grib_packing.specs.declared.column.Point.TheVariants.{Scaled, Missing, Missing2}
+use Rattle.grib_packing.specs.declared.column.Point.TheVariants.{Scaled, Missing}
 use Rattle.grib_packing.specs.Misfits.{is_missing2, is_outside, is_scaled_outside}
 use Rattle.grib_made.specs.Points.{random, slope, point_with, made_point, made_points}
 

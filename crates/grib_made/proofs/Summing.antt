@@ -1,5 +1,5 @@
 -- Lemmas on what is summed up of points.
-use Rattle.std.proofs.Common.{◌≡◌, ℕ, ◌+◌, ◌≤◌, ◌||◌, Bool, true, false, List, [], ◌∷◌, ◌++◌, length, map, sum, ℤ, pos, negsuc, nat_abs, nat_lt, ap, ◌∙◌, sym, refl, arith, ltb-false, subst, ◌⊎◌, inl, inr}
+use Rattle.std.proofs.Common.{◌≡◌, ℕ, ◌+◌, ◌≤◌, ◌||◌, Bool, true, false, List, [], ◌∷◌, ◌++◌, length, map, sum, ℤ, pos, negsuc, nat_abs, nat_lt, ap, ◌∙◌, arith, ltb-false, subst, ◌⊎◌, inl, inr}
 use Rattle.std.proofs.lemmas.List.{length-append, map-append}
 use Rattle.std.proofs.lemmas.List.Sums.{sum_by-append}
 use Rattle.std.proofs.lemmas.List.Elements.{filter_map-append}

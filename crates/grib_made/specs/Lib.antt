@@ -1,3 +1,4 @@
 pub mod Points
 pub mod Maker
 pub mod Summary
+pub mod Made

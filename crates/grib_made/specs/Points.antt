@@ -6,7 +6,7 @@ use Rattle.grib_packing.specs.declared.column.Point.{Point}
 use Rattle.grib_packing.specs.declared.column.Point.TheVariants.{Scaled, Missing}
 use Rattle.grib_packing.specs.declared.column.Column.{Column}
 
--- s(n), where s(0) is the seed
+-- the n-th random number; the seed is the one before the first
 abbrev pub random : ℕ → ℕ → ℕ
 random seed zero = seed
 random seed (suc n) = (1103515245 * random seed n + 12345) % 2 ^ 31

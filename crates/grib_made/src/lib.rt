@@ -2,7 +2,11 @@
 #![tactic(auto)]
 
 pub mod laws;
+mod making;
 mod points;
 mod summary;
+#[cfg(test)]
+mod tests;
 
+pub use making::made_message;
 pub use summary::{Summary, made_summary};

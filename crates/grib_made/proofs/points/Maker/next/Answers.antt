@@ -1,4 +1,4 @@
-use Rattle.grib_made.proofs.Making.{point-next}
+use Rattle.grib_made.proofs.OneByOne.{point-next}
 use Rattle.std.proofs.Common.{◌∙◌}
 use Rattle.grib_made.proofs.points.Maker.next.Goals as goal
 

@@ -1,8 +1,6 @@
-use Rattle.std.proofs.Common.{◌≡◌, ℕ, ◌+◌, ◌∙◌, [], ◌∷◌, nat_abs, ap, sym, refl, arith, rules, w64, SFits, to_z-of_z}
-use Rattle.grib_packing.specs.declared.column.Point.{Point}
+use Rattle.std.proofs.Common.{◌+◌, nat_abs, ap, arith, rules, w64, SFits, to_z-of_z}
 use Rattle.grib_made.specs.declared.summary.Summary.{Summary}
-use Rattle.grib_made.specs.Summary.{present_count, present_sum}
-use Rattle.grib_made.proofs.Summing.{sums-more, number_most, one_number, no_number}
+use Rattle.grib_made.proofs.Summing.{sums-more, one_number, no_number}
 use Rattle.grib_made.proofs.summary.Summary.with.Goals as goal
 
 pub returns-in-Scaled-clause-sums : goal.returns-in-Scaled-clause-sums
