@@ -11,7 +11,7 @@ use grib_complex::laws::{
 };
 use grib_packed::laws::a_packing_is_written;
 use grib_simple::laws::what_is_packed_simply_reads_back;
-use grib2_message::laws::what_is_assembled_is_accepted;
+use grib2_message::laws::{field_holds, what_is_assembled_is_accepted};
 
 /// What is repacked keeps each value: where nothing of an accepted message fails to fit, the repacked message
 /// is accepted and has as many fields. Each field has the same column, so that each of its points means the
@@ -28,12 +28,13 @@ pub fn what_is_repacked_keeps_each_value()
         → (i : ℕ) → 1 ≤ i → i ≤ field_count message
         → meaning_of (repacked target message) i ≡ meaning_of message i }
     ensures kept { (target : Target) (message : List ℕ) → MayBeRepacked target message
-        → (i k : ℕ) → 1 ≤ i → i ≤ field_count message → 1 ≤ k → k ≤ 4
+        → (i k : ℕ) → k ≤ 4
         → part_octets (repacked target message) i k ≡ part_octets message i k }
 {
     a_packing_is_written();
     what_is_packed_simply_reads_back();
     what_is_packed_in_groups_reads_back();
     what_is_packed_by_differences_reads_back();
+    field_holds();
     what_is_assembled_is_accepted();
 }

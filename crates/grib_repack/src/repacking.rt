@@ -10,7 +10,6 @@ ghost use Rattle.grib_repack.specs.Faults.{target_of, IsRepackFault};
 
 use crate::{RepackFault, RepackTarget};
 use grib_complex::{ComplexPacking, SpatialPacking};
-use grib_io::push_within;
 use grib_packed::laws::one_packing_is_written;
 use grib_simple::{Packed, Packing, SimplePacking};
 use grib2_message::Message;
@@ -75,10 +74,10 @@ fn pack_fields<P: Packing>(
     let fields = message.fields();
     let mut packed = Vec::with_capacity(alloc, fields as usize)?;
     for before in 0..fields {
-        push_within(
-            &mut packed,
-            pack_field(alloc, message, before + 1, packing)?,
-        );
+        let field = pack_field(alloc, message, before + 1, packing)?;
+        let Ok(()) = packed.push(field) else {
+            return Err(RepackFault::Memory);
+        };
     }
     Ok(packed)
 }

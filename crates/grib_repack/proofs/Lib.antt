@@ -1,0 +1,7 @@
+mod Fields
+mod Sections
+mod Ranges
+mod Octets
+mod Columns
+mod Packing
+mod Kept

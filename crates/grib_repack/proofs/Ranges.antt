@@ -1,0 +1,260 @@
+-- The numbers of a field that is accepted are within the range of the columns that are packed.
+use Rattle.std.proofs.Common.{◌≡◌, ℕ, zero, suc, ◌+◌, ◌*◌, ◌^◌, ◌<◌, ◌≤◌, ◌⊎◌, Bool, true, false, cond, not, ◌&&◌, ◌||◌, ◌==◌, nat_lt, find, Option, Some, None, List, [], ◌∷◌, ◌++◌, length, drop, map, replicate, pos, inl, inr, refl, sym, ap, ap₂, ◌∙◌, arith, subst, le-ltb, ltb-false, pow_mono}
+use Rattle.std.specs.List.{list_any, filter_map, range_with_len}
+use Rattle.std.specs.Option.{option_map_or}
+use Rattle.std.proofs.lemmas.Bool.{not-false}
+use Rattle.grib_bits.specs.Bits.{bits}
+use Rattle.grib_bits.specs.Binary32.{ieee_exponent}
+use Rattle.grib_bits.specs.Plain.{plain, plain_at}
+use Rattle.grib_bits.proofs.WordNumbers.{number-lt}
+use Rattle.grib_io.specs.declared.code.Code.{Code}
+use Rattle.grib_io.specs.declared.code.Code.TheVariants.{Present, Primary, Secondary}
+use Rattle.grib_io.specs.declared.fault.Fault.{Fault}
+use Rattle.grib_io.specs.Rows.{Row, first_fault, first_place, or_then, choose}
+use Rattle.grib_io.proofs.Places.{NoneOf}
+use Rattle.grib_packing.specs.declared.column.Point.{Point}
+use Rattle.grib_packing.specs.declared.column.Point.TheVariants.{Scaled}
+use Rattle.grib_packing.specs.declared.group.Group.{Group}
+use Rattle.grib_packing.specs.declared.layout.Layout.{Layout}
+use Rattle.grib_packing.specs.Column.{points_with_mask}
+use Rattle.grib_packing.specs.Complex.{layout_of, descriptor_octets, complex_rows}
+use Rattle.grib_packing.specs.Differences.{undone}
+use Rattle.grib_packing.specs.Entries.{data_fault, packing_fault, complex_data_fault, complex_entries, group_data_fault, group_data_rows, group_entries, range_rows, entries_of, codes_of, descriptors, refilled, present_code, has_no_groups, is_out_of_range}
+use Rattle.grib_packing.specs.Groups.{code_of, codes_from, marked, groups_from, groups, references, widths, lengths, list_octets, list_rows}
+use Rattle.grib2_sections.specs.Template.{Template, is_template, least_length}
+use Rattle.grib_packing.specs.Packing.{packing_template, packing_templates, packing_rows, bit_width, most_bits, reference_word, value_count}
+use Rattle.grib_packing.specs.Simple.{simple_entries, simple_rows}
+use Rattle.grib_simple.proofs.Seen.{first_place-any}
+use Rattle.grib2_message.proofs.Passed.{passes_from_none}
+
+-- ---- lists of points
+
+-- none of some, none of those that a mask takes
+pub none_with_mask : (mask : List Bool) (entries : List Point) → NoneOf is_out_of_range entries → NoneOf is_out_of_range (points_with_mask mask entries)
+none_with_mask [] entries none = tt
+none_with_mask (false ∷ mask) entries none = (refl, none_with_mask mask entries none)
+none_with_mask (true ∷ mask) [] none = (refl, none_with_mask mask [] none)
+none_with_mask (true ∷ mask) (entry ∷ entries) none = (none.0, none_with_mask mask entries none.1)
+
+pub any_of_none : {A : Type 0} (test : A → Bool) (xs : List A) → NoneOf test xs → list_any test xs ≡ false
+any_of_none test [] none = refl
+any_of_none test (x ∷ xs) none = ap₂ (λ (a b : Bool). a || b) none.0 (any_of_none test xs none.1)
+
+parts_false : (a b : Bool) → (a || b) ≡ false → (a ≡ false) × (b ≡ false)
+parts_false true b e = absurd (cc)
+parts_false false b e = (refl, e)
+
+none_of_any : {A : Type 0} (test : A → Bool) (xs : List A) → list_any test xs ≡ false → NoneOf test xs
+none_of_any test [] e = tt
+none_of_any test (x ∷ xs) e =
+    let both = parts_false (test x) (list_any test xs) e in
+    (both.0, none_of_any test xs both.1)
+
+-- where no element has the first place, none passes
+none_by_place : {A : Type 0} (test : A → Bool) (xs : List A) → nat_lt 0 (first_place test xs) ≡ false → NoneOf test xs
+none_by_place test xs e = none_of_any test xs (first_place-any test xs ∙ e)
+
+-- ---- numbers of some bits
+
+scaled_within : (n : ℕ) → n ≤ 2 ^ 60 → is_out_of_range (Scaled (pos n)) ≡ false
+scaled_within n small = le-ltb (2 ^ 60) n small
+
+plain_small : (xs : List Bool) (w k : ℕ) → plain_at xs w k < 2 ^ w
+plain_small xs w k = number-lt w (drop (k * w) xs)
+
+plain_within : (xs : List Bool) (w : ℕ) (places : List ℕ) → w ≤ 48 → NoneOf is_out_of_range (map (λ x. Scaled (pos x)) (map (plain_at xs w) places))
+plain_within xs w [] few = tt
+plain_within xs w (k ∷ places) few =
+    let power : 2 ^ w ≤ 2 ^ 48 = pow_mono few in
+    let small = plain_small xs w k in
+    (scaled_within (plain_at xs w k) (omega arith), plain_within xs w places few)
+
+zeros_within : (n : ℕ) → NoneOf is_out_of_range (replicate n (Scaled (pos 0)))
+zeros_within zero = tt
+zeros_within (suc n) = (refl, zeros_within n)
+
+-- ---- codes of groups
+
+abbrev IsLow : Code → Type 0
+IsLow (Present n) = n < 2 ^ 33
+IsLow Primary = Unit {0}
+IsLow Secondary = Unit {0}
+
+abbrev AreLow : List Code → Type 0
+AreLow [] = Unit {0}
+AreLow (code ∷ codes) = IsLow code × AreLow codes
+
+low-append : (codes more : List Code) → AreLow codes → AreLow more → AreLow (codes ++ more)
+low-append [] more a b = b
+low-append (code ∷ codes) more a b = (a.0, low-append codes more a.1 b)
+
+low-cond : (b : Bool) (x y : Code) → IsLow x → IsLow y → IsLow (cond b x y)
+low-cond true x y low_x low_y = low_x
+low-cond false x y low_x low_y = low_y
+
+low-marked : (management field top : ℕ) (code : Code) → IsLow code → IsLow (marked management field top code)
+low-marked management field top code low =
+    low-cond (not (management == 0) && (field + 1 == top)) Primary _ tt
+    (low-cond (management == 2 && (field + 2 == top)) Secondary code tt low)
+
+-- a group with a reference and a width of the profile
+abbrev IsNarrow : Group → Type 0
+IsNarrow group = (group.reference < 2 ^ 32) × (group.width ≤ 32)
+
+abbrev AreNarrow : List Group → Type 0
+AreNarrow [] = Unit {0}
+AreNarrow (group ∷ groups) = IsNarrow group × AreNarrow groups
+
+code_low : (layout : Layout) (group : Group) (n : ℕ) → IsNarrow group → n < 2 ^ group.width → IsLow (code_of layout group n)
+code_low layout group n narrow small =
+    let power : 2 ^ group.width ≤ 2 ^ 32 = pow_mono narrow.1 in
+    let reference : group.reference < 2 ^ 33 = omega (arith, narrow.0) in
+    let sum : group.reference + n < 2 ^ 33 = omega (arith, narrow.0) in
+    low-cond (group.width == 0) _ _
+    (low-marked layout.management group.reference (2 ^ layout.reference_bits) (Present group.reference) reference)
+    (low-marked layout.management n (2 ^ group.width) (Present (group.reference + n)) sum)
+
+run_low : (layout : Layout) (group : Group) (xs : List Bool) (places : List ℕ) → IsNarrow group → AreLow (map (code_of layout group) (map (plain_at xs group.width) places))
+run_low layout group xs [] narrow = tt
+run_low layout group xs (k ∷ places) narrow =
+    (code_low layout group (plain_at xs group.width k) narrow (plain_small xs group.width k), run_low layout group xs places narrow)
+
+codes_low : (layout : Layout) (groups : List Group) (xs : List Bool) → AreNarrow groups → AreLow (codes_from layout groups xs)
+codes_low layout [] xs narrow = tt
+codes_low layout (group ∷ groups) xs narrow =
+    low-append (map (code_of layout group) (plain xs group.width group.count)) (codes_from layout groups (drop (group.width * group.count) xs))
+    (run_low layout group xs (range_with_len 0 group.count) narrow.0) (codes_low layout groups (drop (group.width * group.count) xs) narrow.1)
+
+abbrev AreBelow : List ℕ → Type 0
+AreBelow [] = Unit {0}
+AreBelow (n ∷ ns) = (n < 2 ^ 32) × AreBelow ns
+
+plain_below : (xs : List Bool) (w : ℕ) (places : List ℕ) → w ≤ 32 → AreBelow (map (plain_at xs w) places)
+plain_below xs w [] few = tt
+plain_below xs w (k ∷ places) few =
+    let power : 2 ^ w ≤ 2 ^ 32 = pow_mono few in
+    let small = plain_small xs w k in
+    (omega arith, plain_below xs w places few)
+
+groups_narrow : (rs ws ns : List ℕ) → AreBelow rs → NoneOf (λ w. nat_lt 32 w) ws → AreNarrow (groups_from rs ws ns)
+groups_narrow [] ws ns below none = tt
+groups_narrow (r ∷ rs) [] ns below none = tt
+groups_narrow (r ∷ rs) (w ∷ ws) [] below none = tt
+groups_narrow (r ∷ rs) (w ∷ ws) (n ∷ ns) below none =
+    ((below.0, ltb-false 32 w none.0), groups_narrow rs ws ns below.1 none.1)
+
+refilled_within : (codes : List Code) → AreLow codes → NoneOf is_out_of_range (refilled codes (map pos (filter_map present_code codes)))
+refilled_within [] low = tt
+refilled_within (Primary ∷ codes) low = (refl, refilled_within codes low.1)
+refilled_within (Secondary ∷ codes) low = (refl, refilled_within codes low.1)
+refilled_within (Present n ∷ codes) low =
+    let here : n < 2 ^ 33 = low.0 in
+    (scaled_within n (omega arith), refilled_within codes low.1)
+
+-- ---- rows that pass
+
+or_tells : (fault : Option Fault) (later : Unit {0} → List Row) → or_then fault later ≡ None → (fault ≡ None) × (first_fault (later tt) ≡ None)
+or_tells (Some fault) later none = absurd (cc)
+or_tells None later none = (refl, none)
+
+-- what the rows of Section 5 say of the reference value and the bits
+pub record PackingPasses (s5 : List ℕ) : Type 0 where
+  pub long : 21 ≤ length s5
+  pub finite : (ieee_exponent (reference_word s5) == 255) ≡ false
+  pub narrow : bit_width s5 ≤ most_bits (packing_template s5)
+
+true_or_false : (b : Bool) → (b ≡ true) ⊎ (b ≡ false)
+true_or_false true = inl refl
+true_or_false false = inr refl
+
+-- each template has at least so many octets
+abbrev AreAtLeast : ℕ → List Template → Type 0
+AreAtLeast bound [] = Unit {0}
+AreAtLeast bound (t ∷ templates) = (bound ≤ t.least) × AreAtLeast bound templates
+
+at_least : (templates : List Template) (number bound : ℕ) → AreAtLeast bound templates → is_template templates number ≡ true → bound ≤ least_length templates number
+at_least [] number bound h e = cc
+at_least (t ∷ templates) number bound h e = first_or (t.number == number) refl e (at_least templates number bound h.1) where
+  first_or : (b : Bool) → (t.number == number) ≡ b → ((t.number == number) || is_template templates number) ≡ true
+      → (is_template templates number ≡ true → bound ≤ least_length templates number) → bound ≤ least_length (t ∷ templates) number
+  first_or true here e' rest =
+      subst (λ (n : ℕ). bound ≤ n)
+      (sym (ap (λ (b : Bool). option_map_or (λ x. x.least) (cond b (Some t) (find (λ x. x.number == number) templates)) 0) here)) h.0
+  first_or false there e' rest =
+      subst (λ (n : ℕ). bound ≤ n)
+      (sym (ap (λ (b : Bool). option_map_or (λ x. x.least) (cond b (Some t) (find (λ x. x.number == number) templates)) 0) there))
+      (rest (sym (ap (λ (b : Bool). b || is_template templates number) there) ∙ e'))
+
+pub packing_passes : (s5 : List ℕ) (points : ℕ) → packing_fault s5 points ≡ None → PackingPasses s5
+packing_passes s5 points none =
+    let shared = or_tells (first_fault (packing_rows s5 points)) (λ _. choose (packing_template s5 == 0) (λ _. []) (λ _. complex_rows s5)) none in
+    let rows = passes_from_none (packing_rows s5 points) shared.0 in
+    let known = not-false (is_template packing_templates (packing_template s5)) rows.1.0 in
+    let least = at_least packing_templates (packing_template s5) 21 (omega arith, (omega arith, (omega arith, tt))) known in
+    record {
+      long = omega (arith, ltb-false (length s5) (least_length packing_templates (packing_template s5)) rows.1.1.0, least);
+      finite = rows.1.1.1.1.0;
+      narrow = ltb-false (most_bits (packing_template s5)) (bit_width s5) rows.1.1.1.1.1.0;
+    }
+
+second_true : (a b : Bool) → (a && b) ≡ false → a ≡ true → b ≡ false
+second_true true b e on = e
+second_true false b e on = absurd (cc)
+
+module _ (s5 s7 : List ℕ) (narrow : bit_width s5 ≤ most_bits (packing_template s5)) (values : data_fault s5 s7 ≡ None) where
+  simple_within : (packing_template s5 == 0) ≡ true → NoneOf is_out_of_range (entries_of s5 s7)
+  simple_within simple =
+      let few : bit_width s5 ≤ 48 = subst (λ (b : Bool). bit_width s5 ≤ cond b 48 32) simple narrow in
+      subst (λ (b : Bool). NoneOf is_out_of_range (choose b (λ _. simple_entries s5 s7) (λ _. complex_entries s5 s7))) (sym simple)
+      (plain_within (bits (drop 5 s7)) (bit_width s5) (range_with_len 0 (value_count s5)) few)
+
+  -- with groups
+  module _ (grouped : (packing_template s5 == 0) ≡ false) where
+    few_bits : bit_width s5 ≤ 32
+    few_bits = subst (λ (b : Bool). bit_width s5 ≤ cond b 48 32) grouped narrow
+
+    complex_passes : complex_data_fault s5 s7 ≡ None
+    complex_passes =
+        subst (λ (b : Bool). choose b (λ _. first_fault (simple_rows s5 (length s7))) (λ _. complex_data_fault s5 s7) ≡ None) grouped values
+
+    groups_within : has_no_groups s5 ≡ false → NoneOf is_out_of_range (group_entries s5 s7)
+    groups_within some =
+        let layout = layout_of s5 in
+        let octets = drop (5 + descriptor_octets s5) s7 in
+        let passes : group_data_fault s5 s7 ≡ None = subst (λ (b : Bool). choose b (λ _. None) (λ _. group_data_fault s5 s7) ≡ None) some complex_passes in
+        let all = or_tells (or_then (first_fault (list_rows layout (length s7) (descriptor_octets s5))) (λ _. group_data_rows s5 s7)) (λ _. range_rows s5 s7) passes in
+        let lists = or_tells (first_fault (list_rows layout (length s7) (descriptor_octets s5))) (λ _. group_data_rows s5 s7) all.0 in
+        let rows = passes_from_none (group_data_rows s5 s7) lists.1 in
+        let range = passes_from_none (range_rows s5 s7) all.1 in
+        let wide : NoneOf (λ w. nat_lt 32 w) (widths layout octets) = none_by_place (λ w. nat_lt 32 w) (widths layout octets) rows.1.1.0 in
+        let low : AreLow (codes_of s5 s7) =
+        codes_low layout (groups layout octets) (bits (drop (list_octets layout) octets))
+        (groups_narrow (references layout octets) (widths layout octets) (lengths layout octets)
+        (plain_below (bits octets) layout.reference_bits (range_with_len 0 layout.groups) few_bits) wide) in
+        let present = filter_map present_code (codes_of s5 s7) in
+        elim (true_or_false (packing_template s5 == 3)) [
+          | inl spatial ↦
+              none_by_place is_out_of_range (group_entries s5 s7)
+              (second_true (packing_template s5 == 3) (nat_lt 0 (first_place is_out_of_range (group_entries s5 s7))) range.0 spatial)
+          | inr plain ↦
+              subst (λ (b : Bool). NoneOf is_out_of_range (refilled (codes_of s5 s7) (cond b (undone (descriptors s5 s7) present) (map pos present)))) (sym plain)
+              (refilled_within (codes_of s5 s7) low)
+        ]
+
+    complex_within : NoneOf is_out_of_range (complex_entries s5 s7)
+    complex_within = elim (true_or_false (has_no_groups s5)) [
+      | inl none ↦
+          subst (λ (b : Bool). NoneOf is_out_of_range (choose b (λ _. replicate (value_count s5) (Scaled (pos 0))) (λ _. group_entries s5 s7))) (sym none)
+          (zeros_within (value_count s5))
+      | inr some ↦
+          subst (λ (b : Bool). NoneOf is_out_of_range (choose b (λ _. replicate (value_count s5) (Scaled (pos 0))) (λ _. group_entries s5 s7))) (sym some)
+          (groups_within some)
+    ]
+
+  pub entries_within : NoneOf is_out_of_range (entries_of s5 s7)
+  entries_within = elim (true_or_false (packing_template s5 == 0)) [
+    | inl simple ↦ simple_within simple
+    | inr grouped ↦
+        subst (λ (b : Bool). NoneOf is_out_of_range (choose b (λ _. simple_entries s5 s7) (λ _. complex_entries s5 s7))) (sym grouped)
+        (complex_within grouped)
+  ]
