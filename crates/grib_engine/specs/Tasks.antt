@@ -109,18 +109,19 @@ task job = record {
   note = note_of;
 }
 
+-- the answer that writes these octets and has this note
+abbrev pub writing : List ℕ → List ℕ → Answer
+writing octets note = record { acts = writes octets; ending = []; note = note; outcome = Done }
+
+-- the note on the message that `make` makes, and on what is written of it
+abbrev pub note_of_made : ℕ → ℕ → ℕ → RepackTarget → List ℕ
+note_of_made seed ni nj target =
+    let points = made_points seed ni nj in
+    made_note (length (made seed ni nj)) (length (repacked (target_of target) (made seed ni nj))) (present_count points) (present_sum points)
+
 -- the answer to `make`: the message that is made, with its field packed anew
 abbrev pub made_answer : ℕ → ℕ → ℕ → RepackTarget → Answer
-made_answer seed ni nj target =
-    let message = made seed ni nj in
-    let octets = repacked (target_of target) message in
-    let points = made_points seed ni nj in
-    record {
-      acts = writes octets;
-      ending = [];
-      note = made_note (length message) (length octets) (present_count points) (present_sum points);
-      outcome = Done;
-    }
+made_answer seed ni nj target = writing (repacked (target_of target) (made seed ni nj)) (note_of_made seed ni nj target)
 
 -- the answer to a job, by the input; `make` reads none
 abbrev pub answer : Job → List ℕ → Answer

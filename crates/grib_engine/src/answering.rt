@@ -111,8 +111,9 @@ fn write_repacked<T: Sink, H: Shelf>(
         Ok(octets) => octets,
         Err(fault) => return kept_by(fault),
     };
-    match write_whole(output, octets.as_slice()) {
-        Ok(()) => Answered::Whole(octets.len() as u64),
+    let packed = octets.as_slice();
+    match write_whole(output, packed) {
+        Ok(()) => Answered::Whole(packed.len() as u64),
         Err(Stop::Failed) => Answered::WriteFault,
         Err(Stop::Memory) => Answered::Memory,
     }
