@@ -2,3 +2,4 @@ mod Numbers
 mod Parts
 mod Counts
 mod Asked
+mod Runs
