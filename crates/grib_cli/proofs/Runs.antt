@@ -24,25 +24,28 @@ use Rattle.grib_cli.specs.Words.{outcome_of, IsAsked, job_of}
 abbrev pub OneOf : Outcome → Outcome → Type 0
 OneOf outcome result = (result ≡ outcome) ⊎ ((result ≡ WriteFault) ⊎ (result ≡ Memory))
 
+abbrev unread : JobFault → Result Job JobFault
+unread fault = Err fault
+
 -- words that ask for a job
 pub asks : (job : Job) (words : List (List ℕ)) → IsAsked (Ok job) words → Ok job ≡ job_of words
 asks job words (inl same) = same
 asks job words (inr memory) = let no : ⊥ = cc in absurd no
 
 -- words for which there is no memory may ask for any job
-pub if_asked : (asked : Result Job JobFault) (fault : JobFault) (P : Job → Type 0) → (Err fault ≡ asked) ⊎ (Err fault ≡ Err faults.Memory)
+pub if_asked : (asked : Result Job JobFault) (fault : JobFault) (P : Job → Type 0) → (unread fault ≡ asked) ⊎ (unread fault ≡ unread faults.Memory)
     → (fault ≡ faults.Memory → (job : Job) → P job) → IfOk asked P
 if_asked asked fault P (inl same) any = subst (λ r. IfOk r P) same tt
 if_asked (Ok job) fault P (inr memory) any = let same : fault ≡ faults.Memory = cc in any same job
 if_asked (Err other) fault P (inr memory) any = tt
 
-pub if_unasked : (asked : Result Job JobFault) (fault : JobFault) (Q : JobFault → Type 0) → (Err fault ≡ asked) ⊎ (Err fault ≡ Err faults.Memory)
+pub if_unasked : (asked : Result Job JobFault) (fault : JobFault) (Q : JobFault → Type 0) → (unread fault ≡ asked) ⊎ (unread fault ≡ unread faults.Memory)
     → Q fault → (fault ≡ faults.Memory → (other : JobFault) → Q other) → IfErr asked Q
 if_unasked asked fault Q (inl same) own any = subst (λ r. IfErr r Q) same own
 if_unasked (Ok job) fault Q (inr memory) own any = tt
 if_unasked (Err other) fault Q (inr memory) own any = let same : fault ≡ faults.Memory = cc in any same other
 
-pub by_asked : (asked : Result Job JobFault) (fault : JobFault) (P : Job → Type 0) (Q : JobFault → Type 0) → (Err fault ≡ asked) ⊎ (Err fault ≡ Err faults.Memory)
+pub by_asked : (asked : Result Job JobFault) (fault : JobFault) (P : Job → Type 0) (Q : JobFault → Type 0) → (unread fault ≡ asked) ⊎ (unread fault ≡ unread faults.Memory)
     → Q fault → (fault ≡ faults.Memory → (job : Job) → P job) → (fault ≡ faults.Memory → (other : JobFault) → Q other) → MatchResult asked P Q
 by_asked asked fault P Q (inl same) own any other = subst (λ r. MatchResult r P Q) same own
 by_asked (Ok job) fault P Q (inr memory) own any other = let same : fault ≡ faults.Memory = cc in any same job
@@ -105,3 +108,6 @@ fronts_memory (Repack target) (Some input) f f_now s s_now a b front = record { 
 pub memory_front : (fault : JobFault) (a b : Option (List ℕ)) → fault ≡ faults.Memory → NotesFront a b [] (outcome_of fault) → AppendsFront a b (note_of Memory)
 memory_front fault a b memory (inl own) = subst (λ f. AppendsFront a b (note_of (outcome_of f))) memory own
 memory_front fault a b memory (inr front) = front
+
+pub other_front : (fault : JobFault) (a b : Option (List ℕ)) → AppendsFront a b (note_of Memory) → NotesFront a b [] (outcome_of fault)
+other_front fault a b front = inr front
