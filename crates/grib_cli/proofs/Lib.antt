@@ -1,3 +1,5 @@
 mod Numbers
 mod Parts
 mod Counts
+mod Asked
+mod Runs

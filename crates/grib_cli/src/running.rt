@@ -1,15 +1,15 @@
 //! The top call: from the words and the input to the output, the notes and the outcome.
 
-ghost use Rattle.std.specs.Prelude.{◌≡◌, ◌<◌, ◌⊎◌, ◌^◌, true, false, map, string_bytes, IfOk, IfErr, MatchResult};
+ghost use Rattle.std.specs.Prelude.{◌≡◌, ◌<◌, ◌⊎◌, true, false, map, string_bytes, [], IfOk, IfErr, MatchResult};
 ghost use Rattle.std.specs.Io.KnownBytes.{Appends, Keeps};
 ghost use Rattle.grib_stream.specs.Acts.{world};
 ghost use Rattle.grib_stream.specs.Faults.{faults, CountsRun};
 ghost use Rattle.grib_stream.specs.Outcomes.{is_cut_short};
-ghost use Rattle.grib_stream.specs.Run.{Runs};
 ghost use Rattle.grib_stream.specs.declared.outcome.Outcome.TheVariants.{WriteFault, Memory};
 ghost use Rattle.grib_engine.specs.Closing.{Unfinished};
-ghost use Rattle.grib_engine.specs.Outcomes.{note_of, NotesFront, NotesRun};
-ghost use Rattle.grib_engine.specs.Tasks.{task};
+ghost use Rattle.grib_engine.specs.Jobs.{makes};
+ghost use Rattle.grib_engine.specs.Outcomes.{note_of, NotesFront};
+ghost use Rattle.grib_engine.specs.Serving.{RunsJob, NotesJob, NotesJobFront};
 ghost use Rattle.grib_cli.specs.Words as asked;
 
 use crate::words::{JobFault, job_of};
@@ -17,9 +17,9 @@ use grib_engine::{Outcome, close_with_note, serve};
 use grib_io::{Shelf, Sink, Source};
 use std::alloc::Global;
 
-/// Does what the words ask for with the messages of `input`: writes the answer to `output` and notes how
-/// the run ended. The answer is a function of the words and the input alone; it does not depend on how
-/// the input comes in pieces. The shelf is not used so far.
+/// Does what the words ask for with the messages of `input`, or without it: writes the answer to `output`
+/// and notes how the run ended. The answer is a function of the words and the input alone; it does not
+/// depend on how the input comes in pieces. The shelf is not used so far.
 pub fn run<S: Source, T: Sink, N: Sink, H: Shelf>(
     alloc: Global,
     words: &[String],
@@ -31,17 +31,21 @@ pub fn run<S: Source, T: Sink, N: Sink, H: Shelf>(
     // The outcome and what was done, by the answer to the job and to what was left of the input, and how
     // much of it was taken.
     ensures runs { IfOk (asked.job_of (map string_bytes words.now)) (λ job.
-        Runs (task job) (2 ^ 40) result (S.left input.old) (S.left input.new)
+        RunsJob job result (S.left input.old) (S.left input.new)
         (world (T.contents output.old) (H.contents shelf.old))
         (world (T.contents output.new) (H.contents shelf.new))) }
+    ensures made_input { IfOk (asked.job_of (map string_bytes words.now)) (λ job.
+        makes job ≡ true → input.new ≡ input.old) }
 
     // The notes, and the end of the run.
-    ensures noted { is_cut_short result ≡ false
-        → Appends (N.contents notes.old) (N.contents notes.new) (note_of result) }
+    ensures noted { is_cut_short result ≡ false → MatchResult (asked.job_of (map string_bytes words.now))
+        (λ job. NotesJob job (S.left input.old) result (N.contents notes.old) (N.contents notes.new))
+        (λ fault. Appends (N.contents notes.old) (N.contents notes.new) (note_of result)) }
     ensures noted_front { MatchResult (asked.job_of (map string_bytes words.now))
-        (λ job. NotesRun (task job) (2 ^ 40) (S.left input.old)
-        (S.faults input.old) (S.faults input.new) (N.contents notes.old) (N.contents notes.new))
-        (λ fault. NotesFront (N.contents notes.old) (N.contents notes.new) (asked.outcome_of fault)) }
+        (λ job. NotesJobFront job (S.left input.old)
+        (S.faults input.old) (S.faults input.new) (H.faults shelf.old) (H.faults shelf.new)
+        (N.contents notes.old) (N.contents notes.new))
+        (λ fault. NotesFront (N.contents notes.old) (N.contents notes.new) [] (asked.outcome_of fault)) }
     ensures settled { is_cut_short result ≡ false
         → (T.settled output.new ≡ true) × (N.settled notes.new ≡ true) }
     ensures unfinished { T.faults output.old < T.faults output.new
@@ -61,10 +65,19 @@ pub fn run<S: Source, T: Sink, N: Sink, H: Shelf>(
     ensures unasked_output { IfErr (asked.job_of (map string_bytes words.now)) (λ fault.
         Keeps (T.contents output.old) (T.contents output.new)) }
 {
-    let outcome = match job_of(words) {
-        Ok(job) => return serve(alloc, &job, input, output, notes, shelf),
-        Err(JobFault::Usage(word)) => Outcome::Usage(word),
-        Err(JobFault::NotBuilt) => Outcome::NotBuilt,
-    };
-    close_with_note(alloc, outcome, output, notes)
+    match job_of(alloc, words) {
+        Ok(job) => serve(alloc, &job, input, output, notes, shelf),
+        Err(fault) => close_with_note(alloc, outcome_of(fault), b"", output, notes),
+    }
+}
+
+/// How a run ends whose words ask for no job.
+fn outcome_of(fault: JobFault) -> Outcome
+    ensures { result ≡ asked.outcome_of fault }
+{
+    match fault {
+        JobFault::Usage(word) => Outcome::Usage(word),
+        JobFault::NotBuilt => Outcome::NotBuilt,
+        JobFault::Memory => Outcome::Memory,
+    }
 }

@@ -1,19 +1,23 @@
 //! The words of the command line.
 
-ghost use Rattle.std.specs.Prelude.{◌≡◌, ◌≤◌, [], length, map, string_bytes};
+ghost use Rattle.std.specs.Prelude.{◌≡◌, ◌≤◌, [], length, map, string_bytes, IfOk};
+ghost use Rattle.grib_engine.specs.Jobs.{IsJob};
 ghost use Rattle.grib_cli.specs.Reading as grammar;
 ghost use Rattle.grib_cli.specs.Reading.{entries, size_entries, target_entries, reading};
-ghost use Rattle.grib_cli.specs.Words as asked;
+ghost use Rattle.grib_cli.specs.Words.{IsAsked};
 
 use grib_engine::Job;
 use grib_keys::Key;
+use std::alloc::Global;
 
+mod asking;
 mod command;
 pub mod laws;
 #[cfg(test)]
 mod tests;
 mod values;
 
+use asking::job_of_command;
 pub use command::Command;
 use values::{is_between, key_value};
 
@@ -25,27 +29,18 @@ pub enum JobFault {
     Usage(u64),
     /// They ask for a command that is not built so far.
     NotBuilt,
+    /// Want of memory.
+    Memory,
 }
 
-/// The job that the words ask for.
-pub fn job_of(words: &[String]) -> Result<Job, JobFault>
-    ensures { result ≡ asked.job_of (map string_bytes words.now) }
+/// The job that the words ask for. It is one that there is.
+pub fn job_of(_alloc: Global, words: &[String]) -> Result<Job, JobFault>
+    ensures asked { IsAsked result (map string_bytes words.now) }
+    ensures is_job { IfOk result IsJob }
 {
     match read_words(words) {
-        Ok(command) => job_of_command(command),
+        Ok(command) => job_of_command(command, &words[1..]),
         Err(word) => Err(JobFault::Usage(word)),
-    }
-}
-
-/// The job of a command.
-fn job_of_command(command: Command) -> Result<Job, JobFault>
-    ensures { result ≡ asked.job_of_command command }
-{
-    match command {
-        Command::Check => Ok(Job::Check),
-        Command::List => Ok(Job::List),
-        Command::Dump => Ok(Job::Dump),
-        _ => Err(JobFault::NotBuilt),
     }
 }
 

@@ -1,49 +1,123 @@
 -- The note of a run, by the outcome before the end and by the answer.
-use Rattle.std.proofs.Common.{◌≡◌, ◌⊎◌, ℕ, false, List, None, Some, IfSome, refl, ap, subst, inl, inr}
+use Rattle.std.proofs.Common.{◌≡◌, ◌≢◌, ◌⊎◌, ℕ, ◌^◌, false, List, None, Some, IfSome, refl, sym, ap, ◌∙◌, subst, inl, inr}
 use Rattle.std.specs.declared.option.Option.{Option}
+use Rattle.std.specs.Io.KnownBytes.{Appends}
 use Rattle.grib_io.specs.Outside.{AppendsFront, Counted, Rose}
 use Rattle.grib_stream.specs.declared.outcome.Outcome.{Outcome}
-use Rattle.grib_stream.specs.declared.outcome.Outcome.TheVariants.{Done, Usage, Refused, ReadFault, WriteFault, Memory, InputTooLong, NotBuilt}
+use Rattle.grib_stream.specs.declared.outcome.Outcome.TheVariants.{Done, Usage, Refused, Kept, ReadFault, WriteFault, ShelfFault, Memory, InputTooLong, NotBuilt}
+use Rattle.grib_stream.specs.declared.place.Totals.{Totals}
 use Rattle.grib_stream.specs.Acts.{World}
 use Rattle.grib_stream.specs.Outcomes.{KeepsOrCuts, is_broken, is_cut_short}
-use Rattle.grib_stream.specs.Task.{Task}
-use Rattle.grib_stream.specs.Answer.{answer_within}
-use Rattle.grib_stream.specs.Run.{Gives, Runs}
-use Rattle.grib_engine.specs.Outcomes.{note_of, NotesFront, NotesRun}
+use Rattle.grib_stream.specs.Answer.{Answer, NotesOutcome, answer_within}
+use Rattle.grib_stream.specs.Run.{Gives, Runs, Notes}
+use Rattle.grib_stream.proofs.Notes.{notes_within}
+use Rattle.grib_engine.specs.declared.job.Job.{Job}
+use Rattle.grib_engine.specs.Outcomes.{note_of, note_with, NotesFront, NotesEnd, Noted, NotesRun}
+use Rattle.grib_engine.specs.Tasks.{task, ending_note}
 use Rattle.grib_engine.proofs.Outside.{front_of_nothing}
 
-pub keeps_or_cuts : (outcome result : Outcome) → (result ≡ outcome) ⊎ ((result ≡ WriteFault) ⊎ (result ≡ Memory)) → KeepsOrCuts outcome result
+-- the end of a run answers the outcome, or a fault of writing or want of memory
+abbrev pub OneOf : Outcome → Outcome → Type 0
+OneOf outcome result = (result ≡ outcome) ⊎ ((result ≡ WriteFault) ⊎ (result ≡ Memory))
+
+pub keeps_or_cuts : (outcome result : Outcome) → OneOf outcome result → KeepsOrCuts outcome result
 keeps_or_cuts outcome result (inl same) = inl same
 keeps_or_cuts outcome result (inr (inl fault)) = inr (ap is_cut_short fault)
 keeps_or_cuts outcome result (inr (inr memory)) = inr (ap is_cut_short memory)
 
--- a front of the note of the answer, or of what came in its place
-abbrev IsNoted : Option (List ℕ) → Option (List ℕ) → ℕ → ℕ → Outcome → Type 0
-IsNoted a b faults faults_now answered =
-    AppendsFront a b (note_of answered)
-    ⊎ ((AppendsFront a b (note_of ReadFault) × Rose faults faults_now) ⊎ AppendsFront a b (note_of Memory))
+-- the note that was appended is that of the outcome with which the run ends
+pub noted_with : (a b : Option (List ℕ)) (note done : List ℕ) (outcome result : Outcome) → OneOf outcome result → note ≡ note_with done outcome
+    → (is_cut_short result ≡ false → Appends a b note) → is_cut_short result ≡ false → Appends a b (note_with done result)
+noted_with a b note done outcome result (inl same) is told calm = subst (Appends a b) (is ∙ ap (note_with done) (sym same)) (told calm)
+noted_with a b note done outcome result (inr (inl fault)) is told calm = let no : ⊥ = cc (ap is_cut_short fault) in absurd no
+noted_with a b note done outcome result (inr (inr memory)) is told calm = let no : ⊥ = cc (ap is_cut_short memory) in absurd no
 
-noted_answer : (a b : Option (List ℕ)) (faults faults_now : ℕ) (outcome answered : Outcome) → (is_broken outcome ≡ false → outcome ≡ answered)
-    → (outcome ≡ ReadFault → Counted faults faults_now) → NotesFront a b outcome → IsNoted a b faults faults_now answered
-noted_answer a b faults faults_now outcome answered same counted (inr memory) = inr (inr memory)
-noted_answer a b faults faults_now Done answered same counted (inl own) = inl (subst (λ o. AppendsFront a b (note_of o)) (same refl) own)
-noted_answer a b faults faults_now (Usage word) answered same counted (inl own) = inl (subst (λ o. AppendsFront a b (note_of o)) (same refl) own)
-noted_answer a b faults faults_now (Refused refusal) answered same counted (inl own) = inl (subst (λ o. AppendsFront a b (note_of o)) (same refl) own)
-noted_answer a b faults faults_now InputTooLong answered same counted (inl own) = inl (subst (λ o. AppendsFront a b (note_of o)) (same refl) own)
-noted_answer a b faults faults_now NotBuilt answered same counted (inl own) = inl (subst (λ o. AppendsFront a b (note_of o)) (same refl) own)
-noted_answer a b faults faults_now ReadFault answered same counted (inl own) = inr (inl (own, (counted refl).1))
-noted_answer a b faults faults_now Memory answered same counted (inl own) = inr (inr own)
-noted_answer a b faults faults_now WriteFault answered same counted (inl own) = inl (front_of_nothing a b (note_of answered) own)
+-- ---- the whole note
 
-noted_input : (task : Task) (limit : ℕ) (outcome : Outcome) (left a b : Option (List ℕ)) (before now : World) (faults faults_now : ℕ)
-    → IfSome left (λ input. Gives (answer_within limit task input) outcome before now) → (outcome ≡ ReadFault → Counted faults faults_now)
-    → NotesFront a b outcome → NotesRun task limit left faults faults_now a b
-noted_input task limit outcome None a b before now faults faults_now gives counted noted = tt
-noted_input task limit outcome (Some input) a b before now faults faults_now gives counted noted =
-    noted_answer a b faults faults_now outcome (answer_within limit task input).outcome gives.ends counted noted
+whole_input : (a b : Option (List ℕ)) (left : Option (List ℕ)) (limit : ℕ) (job : Job) (totals : Totals) → Notes (task job) limit totals left
+    → Appends a b (ending_note job totals) → NotesEnd (task job) limit left Done a b
+whole_input a b None limit job totals notes told = tt
+whole_input a b (Some input) limit job totals notes told = subst (Appends a b) (sym notes) told
 
-pub noted_run : {task : Task} {limit : ℕ} {outcome : Outcome} {left left_now : Option (List ℕ)} {before now : World} (a b : Option (List ℕ)) (faults faults_now : ℕ)
-    → Runs task limit outcome left left_now before now → (outcome ≡ ReadFault → Counted faults faults_now) → NotesFront a b outcome
-    → NotesRun task limit left faults faults_now a b
-noted_run {task} {limit} {outcome} {left} {left_now} {before} {now} a b faults faults_now runs counted noted =
-    noted_input task limit outcome left a b before now faults faults_now runs.gives counted noted
+-- where the input was read to its end
+pub whole_done : (a b : Option (List ℕ)) (left : Option (List ℕ)) (limit : ℕ) (job : Job) (totals : Totals) (result : Outcome) → Notes (task job) limit totals left
+    → OneOf Done result → (is_cut_short result ≡ false → Appends a b (note_with (ending_note job totals) result)) → is_cut_short result ≡ false
+    → NotesEnd (task job) limit left result a b
+whole_done a b left limit job totals result notes (inl same) told calm =
+    subst (λ o. NotesEnd (task job) limit left o a b) (sym same)
+    (whole_input a b left limit job totals notes (subst (λ o. Appends a b (note_with (ending_note job totals) o)) same (told calm)))
+whole_done a b left limit job totals result notes (inr (inl fault)) told calm = let no : ⊥ = cc (ap is_cut_short fault) in absurd no
+whole_done a b left limit job totals result notes (inr (inr memory)) told calm = let no : ⊥ = cc (ap is_cut_short memory) in absurd no
+
+whole_other : (a b : Option (List ℕ)) (left : Option (List ℕ)) (limit : ℕ) (job : Job) (outcome : Outcome) (done : List ℕ) → outcome ≢ Done
+    → Appends a b (note_with done outcome) → NotesEnd (task job) limit left outcome a b
+whole_other a b left limit job Done done other told = absurd (other refl)
+whole_other a b left limit job (Usage word) done other told = told
+whole_other a b left limit job (Refused refusal) done other told = told
+whole_other a b left limit job (Kept kept) done other told = told
+whole_other a b left limit job ReadFault done other told = told
+whole_other a b left limit job WriteFault done other told = told
+whole_other a b left limit job ShelfFault done other told = told
+whole_other a b left limit job Memory done other told = told
+whole_other a b left limit job InputTooLong done other told = told
+whole_other a b left limit job NotBuilt done other told = told
+
+-- where it ended before
+pub whole_ended : (a b : Option (List ℕ)) (left : Option (List ℕ)) (limit : ℕ) (job : Job) (outcome result : Outcome) (done : List ℕ) → outcome ≢ Done
+    → OneOf outcome result → (is_cut_short result ≡ false → Appends a b (note_with done result)) → is_cut_short result ≡ false
+    → NotesEnd (task job) limit left result a b
+whole_ended a b left limit job outcome result done other (inl same) told calm =
+    whole_other a b left limit job result done (λ is. other (sym same ∙ is)) (told calm)
+whole_ended a b left limit job outcome result done other (inr (inl fault)) told calm = let no : ⊥ = cc (ap is_cut_short fault) in absurd no
+whole_ended a b left limit job outcome result done other (inr (inr memory)) told calm = let no : ⊥ = cc (ap is_cut_short memory) in absurd no
+
+-- ---- a front of a note
+
+front_input : (a b : Option (List ℕ)) (left : Option (List ℕ)) (limit : ℕ) (job : Job) (totals : Totals) (faults faults_now shelf shelf_now : ℕ)
+    → Notes (task job) limit totals left → NotesFront a b (ending_note job totals) Done → NotesRun (task job) limit left faults faults_now shelf shelf_now a b
+front_input a b None limit job totals faults faults_now shelf shelf_now notes noted = tt
+front_input a b (Some input) limit job totals faults faults_now shelf shelf_now notes (inl own) = record { front = inl (subst (AppendsFront a b) (sym notes) own) }
+front_input a b (Some input) limit job totals faults faults_now shelf shelf_now notes (inr memory) = record { front = inr (inr (inr memory)) }
+
+-- where the input was read to its end
+pub front_done : (a b left : Option (List ℕ)) (limit : ℕ) (job : Job) (totals : Totals) (faults faults_now shelf shelf_now : ℕ)
+    → Notes (task job) limit totals left → NotesFront a b (ending_note job totals) Done → NotesRun (task job) limit left faults faults_now shelf shelf_now a b
+front_done a b left limit job totals faults faults_now shelf shelf_now notes noted =
+    front_input a b left limit job totals faults faults_now shelf shelf_now notes noted
+
+own_note : (a b : Option (List ℕ)) (job : Job) (answer : Answer) (outcome : Outcome) → NotesOutcome (task job) answer → outcome ≢ Done → outcome ≡ answer.outcome
+    → AppendsFront a b (note_of outcome) → AppendsFront a b answer.note
+own_note a b job answer outcome notes other same own =
+    subst (AppendsFront a b) (ap note_of same ∙ sym (notes (λ is. other (same ∙ is)))) own
+
+front_other : (a b : Option (List ℕ)) (job : Job) (answer : Answer) (outcome : Outcome) (done : List ℕ) (faults faults_now shelf shelf_now : ℕ)
+    → NotesOutcome (task job) answer → outcome ≢ Done → (is_broken outcome ≡ false → outcome ≡ answer.outcome)
+    → (outcome ≡ ReadFault → Counted faults faults_now) → (outcome ≡ ShelfFault → Counted shelf shelf_now)
+    → NotesFront a b done outcome → Noted a b answer.note faults faults_now shelf shelf_now
+front_other a b job answer outcome done f f_now s s_now notes other same read shelf (inr memory) = record { front = inr (inr (inr memory)) }
+front_other a b job answer Done done f f_now s s_now notes other same read shelf (inl own) = absurd (other refl)
+front_other a b job answer (Usage word) done f f_now s s_now notes other same read shelf (inl own) = record { front = inl (own_note a b job answer (Usage word) notes other (same refl) own) }
+front_other a b job answer (Refused refusal) done f f_now s s_now notes other same read shelf (inl own) = record { front = inl (own_note a b job answer (Refused refusal) notes other (same refl) own) }
+front_other a b job answer (Kept kept) done f f_now s s_now notes other same read shelf (inl own) = record { front = inl (own_note a b job answer (Kept kept) notes other (same refl) own) }
+front_other a b job answer InputTooLong done f f_now s s_now notes other same read shelf (inl own) = record { front = inl (own_note a b job answer InputTooLong notes other (same refl) own) }
+front_other a b job answer NotBuilt done f f_now s s_now notes other same read shelf (inl own) = record { front = inl (own_note a b job answer NotBuilt notes other (same refl) own) }
+front_other a b job answer ReadFault done f f_now s s_now notes other same read shelf (inl own) = record { front = inr (inl (own, (read refl).1)) }
+front_other a b job answer ShelfFault done f f_now s s_now notes other same read shelf (inl own) = record { front = inr (inr (inl (own, (shelf refl).1))) }
+front_other a b job answer Memory done f f_now s s_now notes other same read shelf (inl own) = record { front = inr (inr (inr own)) }
+front_other a b job answer WriteFault done f f_now s s_now notes other same read shelf (inl own) = record { front = inl (front_of_nothing a b answer.note own) }
+
+front_told : (job : Job) (limit : ℕ) (outcome : Outcome) (left a b : Option (List ℕ)) (done : List ℕ) (before now : World) (faults faults_now shelf shelf_now : ℕ)
+    → IfSome left (λ input. Gives (answer_within limit (task job) input) outcome before now) → outcome ≢ Done
+    → (outcome ≡ ReadFault → Counted faults faults_now) → (outcome ≡ ShelfFault → Counted shelf shelf_now)
+    → NotesFront a b done outcome → NotesRun (task job) limit left faults faults_now shelf shelf_now a b
+front_told job limit outcome None a b done before now f f_now s s_now gives other read shelf noted = tt
+front_told job limit outcome (Some input) a b done before now f f_now s s_now gives other read shelf noted =
+    front_other a b job (answer_within limit (task job) input) outcome done f f_now s s_now (notes_within (task job) limit input) other gives.ends read shelf noted
+
+-- where it ended before
+pub front_ended : (a b left left_now : Option (List ℕ)) (limit : ℕ) (job : Job) (outcome : Outcome) (done : List ℕ) (before now : World) (faults faults_now shelf shelf_now : ℕ)
+    → Runs (task job) limit outcome left left_now before now → outcome ≢ Done
+    → (outcome ≡ ReadFault → Counted faults faults_now) → (outcome ≡ ShelfFault → Counted shelf shelf_now)
+    → NotesFront a b done outcome → NotesRun (task job) limit left faults faults_now shelf shelf_now a b
+front_ended a b left left_now limit job outcome done before now f f_now s s_now runs other read shelf noted =
+    front_told job limit outcome left a b done before now f f_now s s_now runs.gives other read shelf noted

@@ -1,5 +1,5 @@
 -- What is said of octets stays said, whatever follows them.
-use Rattle.std.proofs.Common.{◌≡◌, ◌≢◌, ℕ, zero, suc, ◌+◌, ◌<◌, ◌≤◌, true, false, List, [], ◌∷◌, ◌++◌, length, take, drop, nat_lt, ◌==◌, refl, sym, ap, ◌∙◌, arith, ⊎_elim, lt-ltb, eqb-true, eq-eqb, length-take-le, length-drop, take-append-drop}
+use Rattle.std.proofs.Common.{◌≡◌, ◌≢◌, ℕ, zero, suc, ◌+◌, ◌<◌, ◌≤◌, true, false, cond, Option, Some, None, List, [], ◌∷◌, ◌++◌, length, take, drop, nat_lt, ◌==◌, refl, sym, ap, ◌∙◌, arith, ⊎_elim, lt-ltb, ltb-false, eqb-true, eq-eqb, length-take-le, length-drop, take-append-drop}
 use Rattle.std.proofs.lemmas.Bool.{cases_Bool, false≢true, cases_lt}
 use Rattle.std.proofs.lemmas.List.{drop_all, take-append-le}
 use Rattle.std.proofs.lemmas.List.Sums.{count_by-le-length}
@@ -18,10 +18,18 @@ use Rattle.grib2_message.specs.Fields.{sections_from, sections_of, field_count}
 use Rattle.grib2_message.proofs.Stays.{accepted_stays, refused_stays}
 use Rattle.grib2_message.proofs.Fronts.{accepted_least, accepted_there, accepted_alone}
 use Rattle.grib_stream.specs.Stream.{Message, Faulty, Unbuilt}
-use Rattle.grib_stream.specs.Outcomes.{is_truncated}
-use Rattle.grib_stream.specs.Task.{IsLawful}
+use Rattle.grib_stream.specs.Outcomes.{is_truncated, is_of_message}
+use Rattle.grib_stream.specs.Task.{Gives, Ends, IsLawful}
+use Rattle.std.specs.List.{range_with_len}
+use Rattle.grib_stream.specs.Acts.{Act, writes}
+use Rattle.grib_stream.specs.declared.place.Place.{Place}
+use Rattle.grib_stream.specs.declared.outcome.Outcome.{Outcome}
+use Rattle.grib_packing.specs.Misfits.{Target}
+use Rattle.grib_repack.specs.Faults.{target_of}
+use Rattle.grib_repack.specs.Repacked.{RepackMisfit, OutputTooLong, repacked, misfit_among, or_later, length_misfit, repack_misfit}
 use Rattle.grib_engine.specs.declared.job.Job.{Job}
-use Rattle.grib_engine.specs.Tasks.{judged, judge, task}
+use Rattle.grib_engine.specs.declared.job.Job.TheVariants.{Check, List as Listing, Dump, Repack, Make}
+use Rattle.grib_engine.specs.Tasks.{judged, judge, message_text, cause_of, kept_at, given_unless, given, task}
 
 -- ---- the judgement, by the edition
 
@@ -157,17 +165,71 @@ few_sections (suc turns) message q =
 few_fields : (message : List ℕ) → field_count message ≤ length message
 few_fields message = omega (arith, count_by-le-length (is_numbered 7) (sections_of message), few_sections (length message) message 17)
 
+-- of what is written for a message 268435456 octets are counted at most
+few_unless : (misfits : Option RepackMisfit) (m : ℕ) (octets : List ℕ) (acts : List Act) (written : ℕ) → (misfits ≡ None → length octets ≤ 268435456)
+    → given_unless misfits m octets ≡ Gives acts written → written ≤ 268435456
+few_unless None m octets acts written few is = let same : length octets ≡ written = cc in let fits : length octets ≤ 268435456 = few refl in omega arith
+few_unless (Some misfit) m octets acts written few is = let no : ⊥ = cc in absurd no
+
+fits_length : (l : ℕ) → length_misfit l ≡ None → l ≤ 268435456
+fits_length l none =
+    ⊎_elim
+    (λ (long : nat_lt 268435456 l ≡ true).
+    let some : length_misfit l ≡ Some (OutputTooLong l) = ap (λ b. cond b (Some (OutputTooLong l)) None) long in
+    let no : ⊥ = cc in absurd no)
+    (λ (short : nat_lt 268435456 l ≡ false). ltb-false 268435456 l short)
+    (cases_Bool (nat_lt 268435456 l))
+
+later_none : (first : Option RepackMisfit) (later : Unit {0} → Option RepackMisfit) → or_later first later ≡ None → later tt ≡ None
+later_none None later none = none
+later_none (Some misfit) later none = let no : ⊥ = cc in absurd no
+
+pub few_repacked : (target : Target) (message : List ℕ) → repack_misfit target message ≡ None → length (repacked target message) ≤ 268435456
+few_repacked target message none =
+    fits_length (length (repacked target message))
+    (later_none (misfit_among target message (range_with_len 1 (field_count message))) (λ _. length_misfit (length (repacked target message))) none)
+
+none_counted : (acts given : List Act) (written : ℕ) → Gives given 0 ≡ Gives acts written → written ≤ 268435456
+none_counted acts given written is = let none : 0 ≡ written = cc in omega arith
+
+few_given : (job : Job) (place : Place) (message : List ℕ) (acts : List Act) (written : ℕ) → given job place message ≡ Gives acts written → written ≤ 268435456
+few_given (Repack target) place message acts written is =
+    few_unless (repack_misfit (target_of target) message) place.message (repacked (target_of target) message) acts written (few_repacked (target_of target) message) is
+few_given Check place message acts written is = none_counted acts (writes (message_text Check place message)) written is
+few_given Listing place message acts written is = none_counted acts (writes (message_text Listing place message)) written is
+few_given Dump place message acts written is = none_counted acts (writes (message_text Dump place message)) written is
+few_given (Make seed ni nj target) place message acts written is = none_counted acts [] written is
+
+-- a run ends at a message that is kept
+ends_unless : (misfits : Option RepackMisfit) (m : ℕ) (octets : List ℕ) (outcome : Outcome) → given_unless misfits m octets ≡ Ends outcome
+    → is_of_message outcome ≡ true
+ends_unless None m octets outcome is = let no : ⊥ = cc in absurd no
+ends_unless (Some misfit) m octets outcome is = let same : kept_at m (cause_of misfit) ≡ outcome = cc in sym (ap is_of_message same)
+
+ends_given : (job : Job) (place : Place) (message : List ℕ) (outcome : Outcome) → given job place message ≡ Ends outcome → is_of_message outcome ≡ true
+ends_given (Repack target) place message outcome is =
+    ends_unless (repack_misfit (target_of target) message) place.message (repacked (target_of target) message) outcome is
+ends_given Check place message outcome is = let no : ⊥ = cc in absurd no
+ends_given Listing place message outcome is = let no : ⊥ = cc in absurd no
+ends_given Dump place message outcome is = let no : ⊥ = cc in absurd no
+ends_given (Make seed ni nj target) place message outcome is = let no : ⊥ = cc in absurd no
+
+least_message : (octets : List ℕ) (total : ℕ) → judge octets ≡ Message total → 20 ≤ total
+least_message octets total is = let m = message_judged octets total is in accepted_least octets total (not_first octets m.other_edition) m.verdict_is
+
 pub lawful : (job : Job) → IsLawful (task job)
 lawful job = record {
   message_stays = message_stays;
   refusal_stays = refusal_stays;
   unbuilt_stays = unbuilt_stays;
-  least = λ octets total is. let m = message_judged octets total is in omega (arith, accepted_least octets total (not_first octets m.other_edition) m.verdict_is);
+  least = λ octets total is. omega (arith, least_message octets total is);
   there = λ octets total is. let m = message_judged octets total is in accepted_there octets total (not_first octets m.other_edition) m.verdict_is;
   alone = alone;
   few_fields = λ octets total is.
       let m = message_judged octets total is in
       let there = accepted_there octets total (not_first octets m.other_edition) m.verdict_is in
       omega (arith, few_fields (take total octets), length-take-le total octets there);
-  ends_at_message = λ place message outcome is. let no : ⊥ = cc in absurd no;
+  few_written = λ place octets total acts written is gives.
+      omega (arith, least_message octets total is, few_given job place (take total octets) acts written gives);
+  ends_at_message = λ place message outcome is. ends_given job place message outcome is;
 }

@@ -1,6 +1,9 @@
+pub mod Jobs
+pub mod Notes
 pub mod Outcomes
 pub mod Tasks
 pub mod Lawful
+pub mod Serving
 pub mod Reading
 pub mod Answering
 pub mod Counts

@@ -1,5 +1,5 @@
 -- What the commands do with the messages of an input.
-use Rattle.std.specs.Prelude.{ℕ, zero, suc, ◌+◌, ◌^◌, List, [], ◌++◌, length, ◌==◌}
+use Rattle.std.specs.Prelude.{ℕ, zero, suc, ◌+◌, ◌^◌, Option, Some, None, List, [], ◌++◌, length, ◌==◌}
 use Rattle.grib_bits.specs.Bits.{bits_of, signed}
 use Rattle.grib_dyadic.specs.Reference.{ieee, reduced}
 use Rattle.grib_io.specs.Rows.{choose}
@@ -10,13 +10,25 @@ use Rattle.grib_stream.specs.declared.place.Place.{Place}
 use Rattle.grib_stream.specs.declared.place.Totals.{Totals}
 use Rattle.grib_stream.specs.Stream.{Judgement, Message, Faulty, Unbuilt}
 use Rattle.grib_stream.specs.Acts.{writes}
-use Rattle.grib_stream.specs.Task.{Task, Gives}
+use Rattle.grib_stream.specs.Task.{Task, Given, Gives, Ends}
 use Rattle.grib_stream.specs.Answer.{Answer, answer_within}
 use Rattle.grib2_message.specs.Acceptance.{verdict_2}
 use Rattle.grib2_message.specs.Fields.{field_count, column_of}
 use Rattle.grib_text.specs.Lines.{check_line, total_line, list_line, reference_line, point_lines}
+use Rattle.grib_stream.specs.declared.outcome.Outcome.{Outcome}
+use Rattle.grib_stream.specs.declared.outcome.Outcome.TheVariants.{Done, Kept}
+use Rattle.grib_stream.specs.declared.outcome.Cause.{Cause}
+use Rattle.grib_stream.specs.declared.outcome.Cause.TheVariants.{SecondaryMissing, OutOfRange, DifferenceRange, OutputTooLong}
+use Rattle.grib_repack.specs.declared.target.RepackTarget.{RepackTarget}
+use Rattle.grib_repack.specs.Faults.{target_of}
+use Rattle.grib_repack.specs.Repacked as misfits
+use Rattle.grib_repack.specs.Repacked.{RepackMisfit, repacked, repack_misfit}
+use Rattle.grib_made.specs.Points.{made_points}
+use Rattle.grib_made.specs.Summary.{present_count, present_sum}
+use Rattle.grib_made.specs.Made.{made}
 use Rattle.grib_engine.specs.declared.job.Job.{Job}
-use Rattle.grib_engine.specs.declared.job.Job.TheVariants.{Check, List as Listing, Dump}
+use Rattle.grib_engine.specs.declared.job.Job.TheVariants.{Check, List as Listing, Dump, Repack, Make}
+use Rattle.grib_engine.specs.Notes.{written_note, made_note}
 use Rattle.grib_engine.specs.Outcomes.{note_of}
 
 abbrev pub judged : Verdict → Judgement
@@ -42,33 +54,76 @@ abbrev pub texts_from : (ℕ → List ℕ) → ℕ → ℕ → List ℕ
 texts_from text zero i = []
 texts_from text (suc n) i = text i ++ texts_from text n (i + 1)
 
--- what is printed of each field of a message
+-- what is printed of each field of a message; changed messages are written, and nothing of them is printed
 abbrev pub field_text : Job → List ℕ → ℕ → ℕ → List ℕ
 field_text Check message m i = []
 field_text Listing message m i = list_line message m i
 field_text Dump message m i = dump_text message m i
+field_text (Repack target) message m i = []
+field_text (Make seed ni nj target) message m i = []
 
 -- what is printed of a message: a line, or the texts of its fields
 abbrev pub message_text : Job → Place → List ℕ → List ℕ
 message_text Check place message = check_line place.message place.before 2 (length message) (field_count message)
-message_text Listing place message = texts_from (field_text Listing message place.message) (field_count message) 1
-message_text Dump place message = texts_from (field_text Dump message place.message) (field_count message) 1
+message_text job place message = texts_from (field_text job message place.message) (field_count message) 1
+
+-- the misfit of a message as the cause that it is kept by
+abbrev pub cause_of : RepackMisfit → Cause
+cause_of (misfits.SecondaryMissing field point) = SecondaryMissing field point
+cause_of (misfits.OutOfRange field point) = OutOfRange field point
+cause_of (misfits.DifferenceRange field) = DifferenceRange field
+cause_of (misfits.OutputTooLong length) = OutputTooLong length
+
+-- message m is kept
+abbrev pub kept_at : ℕ → Cause → Outcome
+kept_at m cause = Kept (record { message = m; cause = cause })
+
+-- these octets are written, or message m is kept by its misfit
+abbrev pub given_unless : Option RepackMisfit → ℕ → List ℕ → Given
+given_unless None m octets = Gives (writes octets) (length octets)
+given_unless (Some misfit) m octets = Ends (kept_at m (cause_of misfit))
+
+-- what a message gives: its printed text, which no note counts, or the changed message; nothing to `make`
+abbrev pub given : Job → Place → List ℕ → Given
+given (Repack target) place message =
+    given_unless (repack_misfit (target_of target) message) place.message (repacked (target_of target) message)
+given (Make seed ni nj target) place message = Gives [] 0
+given job place message = Gives (writes (message_text job place message)) 0
 
 -- what is printed at the end of the input
 abbrev pub ending_text : Job → Totals → List ℕ
 ending_text Check totals = total_line totals.messages totals.fields totals.skipped
-ending_text Listing totals = []
-ending_text Dump totals = []
+ending_text job totals = []
+
+-- what is noted at the end of the input, by what was counted
+abbrev pub ending_note : Job → Totals → List ℕ
+ending_note (Repack target) totals = written_note totals
+ending_note job totals = []
 
 abbrev pub task : Job → Task
 task job = record {
   judge = judge;
   fields = field_count;
-  result = λ place message. Gives (writes (message_text job place message));
-  ending = λ totals. record { acts = writes (ending_text job totals); note = [] };
+  result = given job;
+  ending = λ totals. record { acts = writes (ending_text job totals); note = ending_note job totals };
   note = note_of;
 }
 
--- the answer to a job, by the input
+-- the answer that writes these octets and has this note
+abbrev pub writing : List ℕ → List ℕ → Answer
+writing octets note = record { acts = writes octets; ending = []; note = note; outcome = Done }
+
+-- the note on the message that `make` makes, and on what is written of it
+abbrev pub note_of_made : ℕ → ℕ → ℕ → RepackTarget → List ℕ
+note_of_made seed ni nj target =
+    let points = made_points seed ni nj in
+    made_note (length (made seed ni nj)) (length (repacked (target_of target) (made seed ni nj))) (present_count points) (present_sum points)
+
+-- the answer to `make`: the message that is made, with its field packed anew
+abbrev pub made_answer : ℕ → ℕ → ℕ → RepackTarget → Answer
+made_answer seed ni nj target = writing (repacked (target_of target) (made seed ni nj)) (note_of_made seed ni nj target)
+
+-- the answer to a job, by the input; `make` reads none
 abbrev pub answer : Job → List ℕ → Answer
+answer (Make seed ni nj target) input = made_answer seed ni nj target
 answer job input = answer_within (2 ^ 40) (task job) input

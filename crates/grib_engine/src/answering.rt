@@ -1,34 +1,43 @@
 //! What a job does with the messages of an input.
 
-ghost use Rattle.std.specs.Prelude.{◌≡◌, ◌≢◌, false};
-ghost use Rattle.grib_io.specs.Outside.{Counted, CountsStops};
+ghost use Rattle.std.specs.Prelude.{◌≡◌, ◌≢◌, true};
+ghost use Rattle.grib_io.specs.Outside.{Counted};
+ghost use Rattle.grib_repack.specs.Repacked.{repacked, repack_misfit};
+ghost use Rattle.grib_repack.specs.Faults.{target_of};
 ghost use Rattle.grib_stream.specs.Acts.{world, writes};
-ghost use Rattle.grib_engine.specs.Pending.{Writes};
-ghost use Rattle.grib_engine.specs.Answering.{DoesActs};
+ghost use Rattle.grib_stream.specs.Task.{Gives};
+ghost use Rattle.grib_engine.specs.Answering.{Answers, answered_by};
+ghost use Rattle.grib_engine.specs.Jobs.{is_target, has_target};
 ghost use Rattle.grib_engine.specs.Reading.{held_octets};
-ghost use Rattle.grib_engine.specs.Tasks.{message_text};
+ghost use Rattle.grib_engine.specs.Tasks.{message_text, given, given_unless};
 ghost use Rattle.grib_engine.specs.declared.answering.Answered.TheVariants.{WriteFault};
 
 use crate::job::Job;
 use crate::printing::write_message;
 use crate::reading::Held;
+use crate::writing::write_whole;
 use grib_io::{Shelf, Sink, Stop};
-use grib_stream::Place;
+use grib_repack::{RepackFault, RepackTarget, repack};
+use grib_stream::{Cause, Place};
+use grib2_message::Message;
 use std::alloc::Global;
 
 /// What came of a message.
 #[derive(Clone, Copy, Debug, PartialEq, Eq)]
 pub enum Answered {
-    /// Its result was appended to the output.
-    Whole,
+    /// Its result was appended to the output. So many octets of it are counted; of what is printed none is.
+    Whole(u64),
+    /// It cannot be changed as asked. Nothing was written.
+    Kept(Cause),
     /// The output failed.
     WriteFault,
     /// Want of memory.
     Memory,
 }
 
-/// Does what the job says of a message at this place. After a fault or want of memory some first octets
-/// of its result may have been appended. The shelf is not used by these jobs.
+/// Does what the job says of a message at this place; `make` says nothing of messages. After a fault or
+/// want of memory some first octets of its result may have been appended. The shelf is not used by these
+/// jobs.
 pub fn answer_message<T: Sink, H: Shelf>(
     alloc: Global,
     job: &Job,
@@ -37,34 +46,94 @@ pub fn answer_message<T: Sink, H: Shelf>(
     output: &mut T,
     shelf: &mut H,
 ) -> Answered
-    ensures does { DoesActs result
+    requires { has_target job.now ≡ true }
+    ensures answers { Answers result place.now.message (given job.now place.now (held_octets held.now))
         (world (T.contents output.old) (H.contents shelf.old))
-        (world (T.contents output.new) (H.contents shelf.new))
-        (writes (message_text job.now place.now (held_octets held.now))) }
+        (world (T.contents output.new) (H.contents shelf.new)) }
     ensures write_fault { result ≡ WriteFault → Counted (T.faults output.old) (T.faults output.new) }
     ensures write_calm { result ≢ WriteFault → T.faults output.new ≡ T.faults output.old }
     ensures shelf { shelf.new ≡ shelf.old }
 {
-    match write_held(alloc, job, place, held, output) {
-        Ok(()) => Answered::Whole,
+    let Held::Two(message) = held;
+    match job {
+        Job::Check => print(alloc, job, place, message, output, shelf),
+        Job::List => print(alloc, job, place, message, output, shelf),
+        Job::Dump => print(alloc, job, place, message, output, shelf),
+        Job::Repack(target) => write_repacked(alloc, *target, place, message, output, shelf),
+        Job::Make { .. } => Answered::Whole(0),
+    }
+}
+
+/// Writes what the job prints of a message.
+fn print<T: Sink, H: Shelf>(
+    alloc: Global,
+    job: &Job,
+    place: &Place,
+    message: &Message<'_>,
+    output: &mut T,
+    shelf: &mut H,
+) -> Answered
+    ensures answers { Answers result place.now.message
+        (Gives (writes (message_text job.now place.now message.now)) 0)
+        (world (T.contents output.old) (H.contents shelf.old))
+        (world (T.contents output.new) (H.contents shelf.new)) }
+    ensures write_fault { result ≡ WriteFault → Counted (T.faults output.old) (T.faults output.new) }
+    ensures write_calm { result ≢ WriteFault → T.faults output.new ≡ T.faults output.old }
+    ensures shelf { shelf.new ≡ shelf.old }
+{
+    match write_message(alloc, job, place, message, output) {
+        Ok(()) => Answered::Whole(0),
         Err(Stop::Failed) => Answered::WriteFault,
         Err(Stop::Memory) => Answered::Memory,
     }
 }
 
-/// Writes what the job prints of a message.
-fn write_held<T: Sink>(
+/// Writes a message with its fields packed anew, where nothing of it is lost.
+fn write_repacked<T: Sink, H: Shelf>(
     alloc: Global,
-    job: &Job,
+    target: RepackTarget,
     place: &Place,
-    held: &Held<'_>,
+    message: &Message<'_>,
     output: &mut T,
-) -> Result<(), Stop>
-    ensures octets { Writes result (T.contents output.old) (T.contents output.new)
-        (message_text job.now place.now (held_octets held.now)) }
-    ensures counted { CountsStops result (T.faults output.old) (T.faults output.new) }
+    shelf: &mut H,
+) -> Answered
+    requires { is_target target ≡ true }
+    ensures answers { Answers result place.now.message
+        (given_unless (repack_misfit (target_of target) message.now) place.now.message
+        (repacked (target_of target) message.now))
+        (world (T.contents output.old) (H.contents shelf.old))
+        (world (T.contents output.new) (H.contents shelf.new)) }
+    ensures write_fault { result ≡ WriteFault → Counted (T.faults output.old) (T.faults output.new) }
+    ensures write_calm { result ≢ WriteFault → T.faults output.new ≡ T.faults output.old }
+    ensures shelf { shelf.new ≡ shelf.old }
 {
-    match held {
-        Held::Two(message) => write_message(alloc, job, place, message, output),
+    let octets = match repack(alloc, message, target) {
+        Ok(octets) => octets,
+        Err(fault) => return kept_by(fault),
+    };
+    let packed = octets.as_slice();
+    match write_whole(output, packed) {
+        Ok(()) => Answered::Whole(packed.len() as u64),
+        Err(Stop::Failed) => Answered::WriteFault,
+        Err(Stop::Memory) => Answered::Memory,
+    }
+}
+
+/// What comes of a message that is not repacked.
+fn kept_by(fault: RepackFault) -> Answered
+    ensures { result ≡ answered_by fault }
+{
+    match fault {
+        RepackFault::SecondaryMissing { field, point } => {
+            Answered::Kept(Cause::SecondaryMissing { field, point })
+        }
+        RepackFault::OutOfRange { field, point } => {
+            Answered::Kept(Cause::OutOfRange { field, point })
+        }
+        RepackFault::DifferenceRange { field } => {
+            Answered::Kept(Cause::DifferenceRange { field })
+        }
+        RepackFault::OutputTooLong(length) => Answered::Kept(Cause::OutputTooLong(length)),
+        RepackFault::Memory => Answered::Memory,
     }
 }

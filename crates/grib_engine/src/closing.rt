@@ -1,21 +1,22 @@
 //! The end of a run: its note, and what a lower layer holds back.
 
-ghost use Rattle.std.specs.Prelude.{◌≡◌, ◌≢◌, ◌<◌, ◌⊎◌, true, false, IfOk, OnOk, MatchResult};
+ghost use Rattle.std.specs.Prelude.{◌≡◌, ◌≢◌, ◌<◌, ◌⊎◌, true, false, OnOk, MatchResult};
 ghost use Rattle.std.specs.Io.KnownBytes.{Appends, Keeps};
 ghost use Rattle.grib_io.specs.Outside.{AppendsFront};
 ghost use Rattle.grib_engine.specs.Closing.{settled_after, Unfinished};
 ghost use Rattle.grib_stream.specs.Outcomes.{is_cut_short};
 ghost use Rattle.grib_stream.specs.Faults.{OneCounted};
 ghost use Rattle.grib_engine.specs.Counts.{Calm, CountsEither};
-ghost use Rattle.grib_engine.specs.Outcomes.{note_of, NotesFront};
+ghost use Rattle.grib_engine.specs.Outcomes.{note_with, NotesFront};
 ghost use Rattle.grib_engine.specs.Pending.{Writes};
-ghost use Rattle.grib_stream.specs.declared.outcome.Outcome.TheVariants.{Usage, WriteFault, Memory};
+ghost use Rattle.grib_stream.specs.declared.outcome.Outcome.TheVariants.{WriteFault, Memory};
 
+use crate::notes::{kept_note, usage_note};
 use crate::writing::write_whole;
 use grib_io::{Sink, Stop};
 use grib_stream::Outcome;
 use grib_text::refusal_note;
-use std::alloc::{AllocError, Global};
+use std::alloc::Global;
 
 /// Ends a run with this outcome: appends the note to `notes`, finishes the output, and then the notes.
 /// After a write fault it does nothing. It answers the outcome, or WriteFault or Memory where the end
@@ -64,11 +65,12 @@ pub fn close<T: Sink, N: Sink>(
     }
 }
 
-/// Ends a run with the note of its outcome. Where there is no memory for the note, the outcome is want
-/// of memory.
+/// Ends a run with the note of its outcome, which is `done` where the outcome is Done. Where there is no
+/// memory for the note, the outcome is want of memory.
 pub fn close_with_note<T: Sink, N: Sink>(
     alloc: Global,
     outcome: Outcome,
+    done: &[u8],
     output: &mut T,
     notes: &mut N,
 ) -> Outcome
@@ -82,8 +84,8 @@ pub fn close_with_note<T: Sink, N: Sink>(
         → Calm (T.faults output.old) (T.faults output.new)
         (N.faults notes.old) (N.faults notes.new) }
     ensures noted { is_cut_short result ≡ false
-        → Appends (N.contents notes.old) (N.contents notes.new) (note_of result) }
-    ensures noted_front { NotesFront (N.contents notes.old) (N.contents notes.new) outcome }
+        → Appends (N.contents notes.old) (N.contents notes.new) (note_with done.now result) }
+    ensures noted_front { NotesFront (N.contents notes.old) (N.contents notes.new) done.now outcome }
     ensures settled { is_cut_short result ≡ false
         → (T.settled output.new ≡ true) × (N.settled notes.new ≡ true) }
     ensures output_kept { Keeps (T.contents output.old) (T.contents output.new) }
@@ -101,20 +103,18 @@ pub fn close_with_note<T: Sink, N: Sink>(
             Ok(note) => close(outcome, note.as_slice(), output, notes),
             Err(_) => close(Outcome::Memory, b"memory\n", output, notes),
         },
-        Outcome::Done | Outcome::WriteFault => close(outcome, b"", output, notes),
+        Outcome::Kept(kept) => match kept_note(alloc, &kept) {
+            Ok(note) => close(outcome, note.as_slice(), output, notes),
+            Err(_) => close(Outcome::Memory, b"memory\n", output, notes),
+        },
+        Outcome::Done => close(outcome, done, output, notes),
+        Outcome::WriteFault => close(outcome, b"", output, notes),
         Outcome::ReadFault => close(outcome, b"read fault\n", output, notes),
+        Outcome::ShelfFault => close(outcome, b"shelf fault\n", output, notes),
         Outcome::Memory => close(outcome, b"memory\n", output, notes),
         Outcome::InputTooLong => close(outcome, b"input too long\n", output, notes),
         Outcome::NotBuilt => close(outcome, b"not built\n", output, notes),
     }
-}
-
-/// The note on words that have no reading, by the first that is not read.
-fn usage_note(alloc: Global, word: u64) -> Result<Vec<u8>, AllocError>
-    ensures { IfOk result (λ note. note.items ≡ note_of (Usage word)) }
-{
-    let note = format!(in alloc; "usage word {word}\n")?;
-    Ok(note.into_bytes())
 }
 
 /// Appends the note, and finishes both sinks.

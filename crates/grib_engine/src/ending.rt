@@ -1,19 +1,20 @@
 //! The end of an input, and what is counted of a message.
 
-ghost use Rattle.std.specs.Prelude.{◌≡◌, length};
+ghost use Rattle.std.specs.Prelude.{◌≡◌, length, IfOk};
 ghost use Rattle.grib_io.specs.Outside.{CountsStops};
 ghost use Rattle.grib2_message.specs.Fields.{field_count};
 ghost use Rattle.grib_engine.specs.Pending.{Writes};
 ghost use Rattle.grib_engine.specs.Reading.{held_octets};
-ghost use Rattle.grib_engine.specs.Tasks.{ending_text};
+ghost use Rattle.grib_engine.specs.Tasks as tasks;
 
 use crate::job::Job;
+use crate::notes::written_note;
 use crate::reading::Held;
 use crate::writing::write_whole;
 use grib_io::{Sink, Stop};
 use grib_stream::{Totals, Whole};
 use grib_text::total_line;
-use std::alloc::Global;
+use std::alloc::{AllocError, Global};
 
 /// Writes what the job prints at the end of the input.
 pub(crate) fn write_ending<T: Sink>(
@@ -23,7 +24,7 @@ pub(crate) fn write_ending<T: Sink>(
     output: &mut T,
 ) -> Result<(), Stop>
     ensures octets { Writes result (T.contents output.old) (T.contents output.new)
-        (ending_text job.now totals.now) }
+        (tasks.ending_text job.now totals.now) }
     ensures counted { CountsStops result (T.faults output.old) (T.faults output.new) }
 {
     match job {
@@ -31,19 +32,35 @@ pub(crate) fn write_ending<T: Sink>(
             let line = total_line(alloc, totals.messages, totals.fields, totals.skipped)?;
             write_whole(output, line.as_slice())
         }
-        Job::List | Job::Dump => write_whole(output, b""),
+        Job::List | Job::Dump | Job::Repack(_) | Job::Make { .. } => write_whole(output, b""),
     }
 }
 
-/// The octets and the fields of a message.
-pub(crate) fn counted(held: &Held<'_>) -> Whole
+/// What the job notes at the end of the input.
+pub(crate) fn ending_note(
+    alloc: Global,
+    job: &Job,
+    totals: &Totals,
+) -> Result<Vec<u8>, AllocError>
+    ensures { IfOk result (λ note. note.items ≡ tasks.ending_note job.now totals.now) }
+{
+    match job {
+        Job::Repack(_) => written_note(alloc, totals),
+        Job::Check | Job::List | Job::Dump | Job::Make { .. } => Ok(Vec::new(alloc)),
+    }
+}
+
+/// The octets and the fields of a message, of whose result so many octets are counted.
+pub(crate) fn counted(held: &Held<'_>, written: u64) -> Whole
     ensures octets { result.octets ≡ length (held_octets held.now) }
     ensures fields { result.fields ≡ field_count (held_octets held.now) }
+    ensures written { result.written ≡ written }
 {
     match held {
         Held::Two(message) => Whole {
             octets: message.length(),
             fields: u64::from(message.fields()),
+            written,
         },
     }
 }

@@ -5,6 +5,8 @@ mod answering;
 mod closing;
 mod ending;
 mod job;
+mod making;
+mod notes;
 mod performing;
 mod points;
 mod printing;
@@ -16,7 +18,8 @@ mod writing;
 
 pub use answering::{Answered, answer_message};
 pub use closing::{close, close_with_note};
-pub use grib_stream::{Outcome, Place, Totals};
+pub use grib_repack::RepackTarget;
+pub use grib_stream::{Cause, Kept, Outcome, Place, Totals};
 pub use job::Job;
 pub use reading::Held;
 pub use serving::serve;

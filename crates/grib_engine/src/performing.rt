@@ -1,29 +1,37 @@
-//! Each job as what answers the messages of an input.
+//! A job as what answers the messages of an input.
 
-ghost use Rattle.std.specs.Prelude.{◌≡◌, ◌≤◌, false, true};
+ghost use Rattle.std.specs.Prelude.{◌≡◌, true, false};
 ghost use Rattle.grib_stream.specs.Stream.{begins};
+ghost use Rattle.grib_engine.specs.Jobs.{has_target};
 
 use crate::answering::{Answered, answer_message};
 use crate::ending::{counted, write_ending};
 use crate::job::Job;
 use crate::reading::{Unread, read_held};
 use grib_io::{Shelf, Sink, Stop};
-use grib_stream::{Outcome, Performed, Performer, Place, Totals};
+use grib_stream::{Kept, Outcome, Performed, Performer, Place, Totals};
 use grib2_sections::read_head;
 use std::alloc::Global;
 
 /// The least octets of a message of edition 2.
 const LEAST: u64 = 20;
 
-impl Performer for Job {
-    ghost use Rattle.grib_engine.specs.Tasks.{task};
-    ghost use Rattle.grib_engine.specs.Lawful.{lawful};
+/// A job that is to answer the messages of an input.
+#[derive(Debug, Drop)]
+pub(crate) struct Answering<'a> {
+    pub job: &'a Job,
+    pub ghost target_stands: { has_target job.now ≡ true },
+}
 
-    ghost task = { task };
+impl Performer for Answering<'_> {
+    ghost use Rattle.grib_engine.specs.Tasks as tasks;
+    ghost use Rattle.grib_engine.specs.Lawful as laws;
+
+    ghost task = { λ answering. tasks.task answering.job.now };
 
     ghost uses_shelf = { λ _. false };
 
-    ghost lawful = { lawful };
+    ghost lawful = { λ answering. laws.lawful answering.job.now };
 
     /// The stated total length, where it stands.
     fn wanted(&self, octets: &[u8]) -> u64 {
@@ -47,8 +55,12 @@ impl Performer for Job {
             Err(Unread::NotBuilt) => return Performed::Ends(Outcome::NotBuilt),
             Err(Unread::Memory) => return Performed::Ends(Outcome::Memory),
         };
-        match answer_message(alloc, self, place, &held, output, shelf) {
-            Answered::Whole => Performed::Whole(counted(&held)),
+        match answer_message(alloc, self.job, place, &held, output, shelf) {
+            Answered::Whole(written) => Performed::Whole(counted(&held, written)),
+            Answered::Kept(cause) => Performed::Ends(Outcome::Kept(Kept {
+                message: place.message,
+                cause,
+            })),
             Answered::WriteFault => Performed::Ends(Outcome::WriteFault),
             Answered::Memory => Performed::Ends(Outcome::Memory),
         }
@@ -61,7 +73,7 @@ impl Performer for Job {
         output: &mut T,
         _shelf: &mut H,
     ) -> Result<(), Outcome> {
-        match write_ending(alloc, self, totals, output) {
+        match write_ending(alloc, self.job, totals, output) {
             Ok(()) => Ok(()),
             Err(Stop::Failed) => Err(Outcome::WriteFault),
             Err(Stop::Memory) => Err(Outcome::Memory),

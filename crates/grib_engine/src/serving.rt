@@ -1,57 +1,29 @@
-//! A whole run: the messages of the input are answered, and the run is closed.
+//! A whole run: the messages of the input are answered, or one is made, and the run is closed.
 
-ghost use Rattle.std.specs.Prelude.{◌≡◌, ◌<◌, ◌^◌, true, false};
-ghost use Rattle.std.specs.Io.KnownBytes.{Appends};
+ghost use Rattle.std.specs.Prelude.{◌≡◌, ◌≢◌, ◌⊎◌, ◌<◌, true, false};
+ghost use Rattle.std.specs.Io.KnownBytes.{Appends, Keeps};
 ghost use Rattle.grib_stream.specs.Acts.{world};
 ghost use Rattle.grib_stream.specs.Outcomes.{is_cut_short};
-ghost use Rattle.grib_stream.specs.Faults.{faults, CountsRun};
-ghost use Rattle.grib_stream.specs.Run.{Runs};
-ghost use Rattle.grib_engine.specs.Tasks.{task};
+ghost use Rattle.grib_stream.specs.Faults.{faults, CountsRun, OneCounted};
+ghost use Rattle.grib_stream.specs.declared.outcome.Outcome.TheVariants.{Done, WriteFault, Memory};
 ghost use Rattle.grib_engine.specs.Closing.{Unfinished};
-ghost use Rattle.grib_engine.specs.Outcomes.{note_of, NotesRun};
+ghost use Rattle.grib_engine.specs.Counts.{Calm};
+ghost use Rattle.grib_engine.specs.Jobs.{IsJob, has_target, makes};
+ghost use Rattle.grib_engine.specs.Outcomes.{note_with, NotesFront};
+ghost use Rattle.grib_engine.specs.Serving.{RunsJob, NotesJob, NotesJobFront};
+ghost use Rattle.grib_engine.specs.Tasks as tasks;
 
 use crate::closing::close_with_note;
+use crate::ending::ending_note;
 use crate::job::Job;
+use crate::making::serve_made;
+use crate::performing::Answering;
 use grib_io::{Shelf, Sink, Source};
-use grib_stream::{LIMIT, Outcome, Performer, answer_within};
+use grib_stream::{LIMIT, Outcome, Totals, answer_within};
 use std::alloc::Global;
 
-/// Answers the messages of the input and notes how the run ended.
-pub(crate) fn serve_by<K: Performer, S: Source, T: Sink, N: Sink, H: Shelf>(
-    performer: &K,
-    alloc: Global,
-    input: &mut S,
-    output: &mut T,
-    notes: &mut N,
-    shelf: &mut H,
-) -> Outcome
-    // The outcome and what was done, by the answer to what was left of the input, and how much of it was taken.
-    ensures runs { Runs (K.task performer.now) (2 ^ 40) result
-        (S.left input.old) (S.left input.new)
-        (world (T.contents output.old) (H.contents shelf.old))
-        (world (T.contents output.new) (H.contents shelf.new)) }
-
-    // The notes, and the end of the run.
-    ensures noted { is_cut_short result ≡ false
-        → Appends (N.contents notes.old) (N.contents notes.new) (note_of result) }
-    ensures noted_front { NotesRun (K.task performer.now) (2 ^ 40) (S.left input.old)
-        (S.faults input.old) (S.faults input.new) (N.contents notes.old) (N.contents notes.new) }
-    ensures settled { is_cut_short result ≡ false
-        → (T.settled output.new ≡ true) × (N.settled notes.new ≡ true) }
-    ensures unfinished { T.faults output.old < T.faults output.new
-        → Unfinished (N.settled notes.old) (N.settled notes.new) }
-
-    ensures counts { CountsRun result
-        (faults (S.faults input.old) (T.faults output.old) (N.faults notes.old) (H.faults shelf.old))
-        (faults (S.faults input.new) (T.faults output.new) (N.faults notes.new) (H.faults shelf.new)) }
-    ensures shelf { K.uses_shelf performer.now ≡ false → shelf.new ≡ shelf.old }
-{
-    let outcome = answer_within(performer, alloc, LIMIT, input, output, shelf);
-    close_with_note(alloc, outcome, output, notes)
-}
-
-/// Takes the octets of the input, writes the answer to the job to `output`, and notes how the run ended.
-/// The answer is a function of the input alone; it does not depend on how the input comes in pieces.
+/// Writes the answer to the job to `output`, and notes how the run ended. The answer is a function of the
+/// job and the input alone; it does not depend on how the input comes in pieces. `make` reads no input.
 /// These jobs do not use the shelf.
 pub fn serve<S: Source, T: Sink, N: Sink, H: Shelf>(
     alloc: Global,
@@ -61,17 +33,19 @@ pub fn serve<S: Source, T: Sink, N: Sink, H: Shelf>(
     notes: &mut N,
     shelf: &mut H,
 ) -> Outcome
+    requires { IsJob job.now }
+
     // The outcome and the output, by the answer to what was left of the input, and how much of it was taken.
-    ensures runs { Runs (task job.now) (2 ^ 40) result
-        (S.left input.old) (S.left input.new)
+    ensures runs { RunsJob job.now result (S.left input.old) (S.left input.new)
         (world (T.contents output.old) (H.contents shelf.old))
         (world (T.contents output.new) (H.contents shelf.new)) }
 
     // The notes, and the end of the run.
     ensures noted { is_cut_short result ≡ false
-        → Appends (N.contents notes.old) (N.contents notes.new) (note_of result) }
-    ensures noted_front { NotesRun (task job.now) (2 ^ 40) (S.left input.old)
-        (S.faults input.old) (S.faults input.new) (N.contents notes.old) (N.contents notes.new) }
+        → NotesJob job.now (S.left input.old) result (N.contents notes.old) (N.contents notes.new) }
+    ensures noted_front { NotesJobFront job.now (S.left input.old)
+        (S.faults input.old) (S.faults input.new) (H.faults shelf.old) (H.faults shelf.new)
+        (N.contents notes.old) (N.contents notes.new) }
     ensures settled { is_cut_short result ≡ false
         → (T.settled output.new ≡ true) × (N.settled notes.new ≡ true) }
     ensures unfinished { T.faults output.old < T.faults output.new
@@ -80,7 +54,82 @@ pub fn serve<S: Source, T: Sink, N: Sink, H: Shelf>(
     ensures counts { CountsRun result
         (faults (S.faults input.old) (T.faults output.old) (N.faults notes.old) (H.faults shelf.old))
         (faults (S.faults input.new) (T.faults output.new) (N.faults notes.new) (H.faults shelf.new)) }
+    ensures made_input { makes job.now ≡ true → input.new ≡ input.old }
     ensures shelf { shelf.new ≡ shelf.old }
 {
-    serve_by(job, alloc, input, output, notes, shelf)
+    match job {
+        Job::Make {
+            seed,
+            ni,
+            nj,
+            target,
+        } => serve_made(alloc, *seed, *ni, *nj, *target, output, notes),
+        Job::Check | Job::List | Job::Dump | Job::Repack(_) => {
+            serve_messages(alloc, job, input, output, notes, shelf)
+        }
+    }
+}
+
+/// Answers the messages of the input and notes how the run ended.
+fn serve_messages<S: Source, T: Sink, N: Sink, H: Shelf>(
+    alloc: Global,
+    job: &Job,
+    input: &mut S,
+    output: &mut T,
+    notes: &mut N,
+    shelf: &mut H,
+) -> Outcome
+    requires target { has_target job.now ≡ true }
+    requires reads { makes job.now ≡ false }
+    ensures runs { RunsJob job.now result (S.left input.old) (S.left input.new)
+        (world (T.contents output.old) (H.contents shelf.old))
+        (world (T.contents output.new) (H.contents shelf.new)) }
+    ensures noted { is_cut_short result ≡ false
+        → NotesJob job.now (S.left input.old) result (N.contents notes.old) (N.contents notes.new) }
+    ensures noted_front { NotesJobFront job.now (S.left input.old)
+        (S.faults input.old) (S.faults input.new) (H.faults shelf.old) (H.faults shelf.new)
+        (N.contents notes.old) (N.contents notes.new) }
+    ensures settled { is_cut_short result ≡ false
+        → (T.settled output.new ≡ true) × (N.settled notes.new ≡ true) }
+    ensures unfinished { T.faults output.old < T.faults output.new
+        → Unfinished (N.settled notes.old) (N.settled notes.new) }
+    ensures counts { CountsRun result
+        (faults (S.faults input.old) (T.faults output.old) (N.faults notes.old) (H.faults shelf.old))
+        (faults (S.faults input.new) (T.faults output.new) (N.faults notes.new) (H.faults shelf.new)) }
+    ensures shelf { shelf.new ≡ shelf.old }
+{
+    let answering = Answering { job };
+    match answer_within(&answering, alloc, LIMIT, input, output, shelf) {
+        Ok(totals) => close_whole(alloc, job, &totals, output, notes),
+        Err(outcome) => close_with_note(alloc, outcome, b"", output, notes),
+    }
+}
+
+/// Ends a run in which the input was read to its end and all was done.
+fn close_whole<T: Sink, N: Sink>(
+    alloc: Global,
+    job: &Job,
+    totals: &Totals,
+    output: &mut T,
+    notes: &mut N,
+) -> Outcome
+    ensures one_of { (result ≡ Done) ⊎ ((result ≡ WriteFault) ⊎ (result ≡ Memory)) }
+    ensures noted { is_cut_short result ≡ false → Appends (N.contents notes.old) (N.contents notes.new)
+        (note_with (tasks.ending_note job.now totals.now) result) }
+    ensures noted_front { NotesFront (N.contents notes.old) (N.contents notes.new)
+        (tasks.ending_note job.now totals.now) Done }
+    ensures fault { result ≡ WriteFault → OneCounted (T.faults output.old) (T.faults output.new)
+        (N.faults notes.old) (N.faults notes.new) }
+    ensures calm { result ≢ WriteFault → Calm (T.faults output.old) (T.faults output.new)
+        (N.faults notes.old) (N.faults notes.new) }
+    ensures settled { is_cut_short result ≡ false
+        → (T.settled output.new ≡ true) × (N.settled notes.new ≡ true) }
+    ensures output_kept { Keeps (T.contents output.old) (T.contents output.new) }
+    ensures unfinished { T.faults output.old < T.faults output.new
+        → Unfinished (N.settled notes.old) (N.settled notes.new) }
+{
+    match ending_note(alloc, job, totals) {
+        Ok(note) => close_with_note(alloc, Outcome::Done, note.as_slice(), output, notes),
+        Err(_) => close_with_note(alloc, Outcome::Memory, b"", output, notes),
+    }
 }

@@ -9,7 +9,7 @@ use Rattle.grib_stream.specs.Stream.{Judgement, Message, Faulty, Unbuilt}
 use Rattle.grib_stream.specs.Acts.{Act}
 use Rattle.grib_stream.specs.Outcomes.{is_truncated, is_of_message}
 
--- the result of a message: what is done for it and how many octets of it are counted as written, or the
+-- the result of a message: what is done for it, and how many octets of that are counted as written, or the
 -- outcome with which the run ends before it
 pub data Given : Type 0 where
   Gives : List Act → ℕ → Given
@@ -34,8 +34,9 @@ pub record Task : Type 0 where
 
 -- What is said of octets stays said whatever follows them, but for the refusal of octets that end too
 -- early. An accepted length is at least 4, its octets are there, and the acceptance rests on them alone. An
--- outcome with which a run ends at a message is one of a message. A message has 20 octets at least and its
--- result 268435456 at most, or as many for each 20 octets of it, so that what is written can be counted.
+-- outcome with which a run ends at a message is one of a message. For each 20 octets of a message, the
+-- fewest that one has, at most 268435456 octets are counted as written, the most that one has: so the sum
+-- over an input of 2 ^ 40 octets fits 64 bits.
 pub record IsLawful (task : Task) : Type 0 where
   pub message_stays : (octets more : List ℕ) (total : ℕ) → task.judge octets ≡ Message total → task.judge (octets ++ more) ≡ Message total
   pub refusal_stays : (octets more : List ℕ) (fault : Fault) → task.judge octets ≡ Faulty fault → is_truncated fault.reason ≡ false

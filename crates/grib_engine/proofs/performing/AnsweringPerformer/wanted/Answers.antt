@@ -1,5 +1,5 @@
 use Rattle.grib_engine.proofs.Wanted.{wanted_stated, wanted_least}
-use Rattle.grib_engine.proofs.performing.JobPerformer.wanted.Goals as goal
+use Rattle.grib_engine.proofs.performing.AnsweringPerformer.wanted.Goals as goal
 
 pub returns-in-Ok : goal.returns-in-Ok
 returns-in-Ok c = λ more total is. wanted_stated c.args.octets.now more c.in-Ok.head total c.in-Ok.ensures.0 c.in-Ok.ensures.1 is

@@ -1,5 +1,5 @@
 use Rattle.grib_stream.proofs.Worlds.{did_write, did_write_front}
-use Rattle.grib_engine.proofs.performing.JobPerformer.finish.Goals as goal
+use Rattle.grib_engine.proofs.performing.AnsweringPerformer.finish.Goals as goal
 
 pub returns-in-Ok-clause-done : goal.returns-in-Ok-clause-done
 returns-in-Ok-clause-done g c = did_write _ _ _ _ c.in-Ok.ensures.octets.whole

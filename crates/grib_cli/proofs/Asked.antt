@@ -1,0 +1,302 @@
+-- The values of words that are read.
+use Rattle.std.proofs.Common.{◌≡◌, ◌⊎◌, ℕ, suc, ◌+◌, ◌-◌, ◌^◌, ◌<◌, ◌≤◌, Bool, true, false, cond, not, ◌&&◌, ◌||◌, ◌==◌, nat_le, Option, Some, None, option_map, Result, Ok, Err, IfOk, List, [], ◌∷◌, ◌++◌, length, map, get_or, take, drop, codes, refl, sym, ap, ◌∙◌, subst, rules, arith, tests, ⊎_elim, inl, inr, eqb-true}
+use Rattle.std.specs.List.{list_any, list_all, find, position_or_len, before_first, after_first}
+use Rattle.std.specs.Option.{option_map_or}
+use Rattle.std.specs.Str.{bytes_eq}
+use Rattle.std.proofs.lemmas.Bool.{cases_Bool, false≢true}
+use Rattle.std.proofs.lemmas.List.{length-append, take_rest}
+use Rattle.std.proofs.lemmas.List.Sums.{split_at_first, passes_at_first}
+use Rattle.std.proofs.lemmas.Slice.Eq.{bytes_eq-Decides}
+use Rattle.grib_made.specs.Made.{MayBeMade}
+use Rattle.grib_repack.specs.declared.target.RepackTarget.{RepackTarget}
+use Rattle.grib_repack.specs.declared.target.RepackTarget.TheVariants.{Simple, Complex, Spatial}
+use Rattle.grib_engine.specs.declared.job.Job.{Job}
+use Rattle.grib_engine.specs.Jobs.{IsJob, is_target}
+use Rattle.grib_cli.specs.declared.words.JobFault.{JobFault}
+use Rattle.grib_cli.specs.declared.words.command.Command.{Command}
+use Rattle.grib_cli.specs.declared.words.command.Command.TheVariants as the
+use Rattle.grib_cli.specs.declared.words.command.Command.TheVariants.{Filter, Split, Set, Repack, Migrate, Make}
+use Rattle.grib_cli.specs.Values.{number, is_number, is_between}
+use Rattle.grib_cli.specs.Reading.{is, is_equals, has_equals, name_in, value_in, entries, takes, is_named, has_name, has_word, is_read, read_count, has_target, is_complete, command_named, reading_of, reading}
+use Rattle.grib_cli.specs.Words.{value_of, number_of, target_of, job_of_command}
+
+-- ---- tests
+
+both : (a b : Bool) → (a && b) ≡ true → (a ≡ true) × (b ≡ true)
+both true b h = (refl, h)
+both false b h = cc
+
+either : (a b : Bool) → (a || b) ≡ true → (a ≡ true) ⊎ (b ≡ true)
+either true b h = inl refl
+either false b h = inr h
+
+or_right : (a b : Bool) → b ≡ true → (a || b) ≡ true
+or_right true b h = refl
+or_right false b h = h
+
+or_left : (a b : Bool) → a ≡ true → (a || b) ≡ true
+or_left true b h = refl
+or_left false b h = absurd (false≢true h)
+
+same_text : (xs ys : List ℕ) → bytes_eq xs ys ≡ true → xs ≡ ys
+same_text xs ys e = (bytes_eq-Decides xs ys).0 e
+
+is_itself : (xs : List ℕ) → bytes_eq xs xs ≡ true
+is_itself xs = (bytes_eq-Decides xs xs).1 refl
+
+-- ---- a word is its name, a `=`, and its value
+
+place_step : (b : Bool) (n len : ℕ) (later : Bool) → (b || later) ≡ true → (later ≡ true → n < len) → cond (not b) (1 + n) 0 < 1 + len
+place_step true n len later h next = omega arith
+place_step false n len later h next = let there : n < len = next h in omega arith
+
+has_place : (p : ℕ → Bool) (xs : List ℕ) → list_any p xs ≡ true → position_or_len p xs < length xs
+has_place p [] h = absurd (false≢true h)
+has_place p (x ∷ xs) h = let step = place_step (p x) (position_or_len p xs) (length xs) (list_any p xs) h (has_place p xs) in omega arith
+
+word_split : (word : List ℕ) → has_equals word ≡ true → word ≡ name_in word ++ (61 ∷ value_in word)
+word_split word h =
+    let there = has_place is_equals word h in
+    let at : get_or word (position_or_len is_equals word) 0 ≡ 61 = eqb-true (get_or word (position_or_len is_equals word) 0) 61 (passes_at_first is_equals word 0 there) in
+    split_at_first is_equals word 0 there ∙ ap (λ octet. name_in word ++ (octet ∷ value_in word)) at
+
+-- ---- all words are read
+
+abbrev taken : Command → List ℕ → Bool
+taken command word = takes (entries command) (name_in word) (value_in word)
+
+first_read : (b : Bool) (n m l : ℕ) → cond b n l ≡ l + suc m → (b ≡ true) × (n ≡ l + suc m)
+first_read true n m l e = (refl, e)
+first_read false n m l e = absurd (omega arith)
+
+taken_when_read : (command : Command) (earlier : List (List ℕ)) (word : List ℕ) → is_read command earlier word ≡ true → taken command word ≡ true
+taken_when_read command earlier word read =
+    (both (taken command word) (not (has_name (name_in word) earlier)) (both (has_equals word) (taken command word && not (has_name (name_in word) earlier)) read).1).0
+
+all_taken : (command : Command) (earlier words : List (List ℕ)) → read_count command earlier words ≡ length earlier + length words → list_all (taken command) words ≡ true
+all_taken command earlier [] e = refl
+all_taken command earlier (word ∷ later) e =
+    let step = first_read (is_read command earlier word) (read_count command (earlier ++ word ∷ []) later) (length later) (length earlier) e in
+    let grown : length (earlier ++ word ∷ []) ≡ length earlier + 1 = length-append earlier (word ∷ []) in
+    let next : read_count command (earlier ++ word ∷ []) later ≡ length (earlier ++ word ∷ []) + length later = omega (arith, step.1) in
+    rw (taken_when_read command earlier word step.0) (all_taken command (earlier ++ word ∷ []) later next)
+
+-- the word of a name that is there has a value by the rule of the name
+value_step : (command : Command) (name word : List ℕ) → is_named name word ≡ true → taken command word ≡ true → takes (entries command) name (value_in word) ≡ true
+value_step command name word named those =
+    subst (λ n. takes (entries command) n (value_in word) ≡ true) (same_text (name_in word) name (both (has_equals word) (is name (name_in word)) named).1) those
+
+value_taken : (command : Command) (name : List ℕ) (words : List (List ℕ)) → list_all (taken command) words ≡ true → has_name name words ≡ true
+    → takes (entries command) name (value_of name words) ≡ true
+value_taken command name [] all has = absurd (false≢true has)
+value_taken command name (word ∷ later) all has =
+    let parts = both (taken command word) (list_all (taken command) later) all in
+    ⊎_elim (λ (named : is_named name word ≡ true). rw named (value_step command name word named parts.0))
+    (λ (other : is_named name word ≡ false). rw other (value_taken command name later parts.1 (rw other at has)))
+    (cases_Bool (is_named name word))
+
+-- a word that has this name and this value is there
+word_there : (name value : List ℕ) (words : List (List ℕ)) → has_name name words ≡ true → value_of name words ≡ value → has_word (name ++ (61 ∷ value)) words ≡ true
+word_there name value [] has is_value = absurd (false≢true has)
+word_there name value (word ∷ later) has is_value =
+    ⊎_elim
+    (λ (named : is_named name word ≡ true).
+    let parts = both (has_equals word) (is name (name_in word)) named in
+    let value_is : value_in word ≡ value = rw named at is_value in
+    let whole : word ≡ name ++ (61 ∷ value) =
+    word_split word parts.0 ∙ (ap (λ n. n ++ (61 ∷ value_in word)) (same_text (name_in word) name parts.1) ∙ ap (λ v. name ++ (61 ∷ v)) value_is) in
+    or_left (is (name ++ (61 ∷ value)) word) (has_word (name ++ (61 ∷ value)) later)
+    (subst (λ w. bytes_eq word w ≡ true) whole (is_itself word)))
+    (λ (other : is_named name word ≡ false).
+    or_right (is (name ++ (61 ∷ value)) word) (has_word (name ++ (61 ∷ value)) later)
+    (word_there name value later (rw other at has) (rw other at is_value)))
+    (cases_Bool (is_named name word))
+
+-- ---- a command that is read
+
+pub record HasRead (command : Command) (words : List (List ℕ)) : Type 0 where
+  pub all : list_all (taken command) words ≡ true
+  pub complete : is_complete command words ≡ true
+
+ok_only : (b : Bool) (command : Command) (word : ℕ) → cond b (Ok command) (Err word) ≡ Ok command → b ≡ true
+ok_only true command word e = refl
+ok_only false command word e = let no : ⊥ = cc in absurd no
+
+pub has_read : (command : Command) (words : List (List ℕ)) → reading_of (Some command) words ≡ Ok command → HasRead command words
+has_read command words e =
+    let count = read_count command [] words in
+    let parts = both (count == length words) (is_complete command words) (ok_only ((count == length words) && is_complete command words) command (count + 1) e) in
+    let whole : count ≡ length words = eqb-true count (length words) parts.0 in
+    record { all = all_taken command [] words (omega (arith, whole)); complete = parts.1 }
+
+-- the words behind the command
+ok_same : (b : Bool) (other command : Command) (word : ℕ) → cond b (Ok other) (Err word) ≡ Ok command → other ≡ command
+ok_same true other command word e = cc
+ok_same false other command word e = let no : ⊥ = cc in absurd no
+
+read_named : (named : Option Command) (later : List (List ℕ)) (command : Command) → reading_of named later ≡ Ok command → reading_of (Some command) later ≡ Ok command
+read_named None later command e = let no : ⊥ = cc in absurd no
+read_named (Some other) later command e =
+    let count = read_count other [] later in
+    let same : other ≡ command = ok_same ((count == length later) && is_complete other later) other command (count + 1) e in
+    subst (λ c. reading_of (Some c) later ≡ Ok command) same e
+
+pub read_behind : (words : List (List ℕ)) (command : Command) → reading words ≡ Ok command → reading_of (Some command) (drop 1 words) ≡ Ok command
+read_behind [] command e = let no : ⊥ = cc in absurd no
+read_behind (first ∷ later) command e = read_named (command_named first) later command e
+
+drop_one : {X : Type 0} (f : X → List ℕ) (words : List X) → map f (drop 1 words) ≡ drop 1 (map f words)
+drop_one f [] = refl
+drop_one f (word ∷ later) = refl
+
+pub behind : {X : Type 0} (f : X → List ℕ) (words : List X) → map f (take (length words - 1) (drop 1 words)) ≡ drop 1 (map f words)
+behind f words = ap (map f) (take_rest words 1) ∙ drop_one f words
+
+-- ---- targets
+
+to_is : (value : List ℕ) → ((is (codes "0") value || is (codes "2") value || is (codes "3") value) || false) ≡ true
+    → is (codes "0") value ≡ false → is (codes "2") value ≡ false → value ≡ codes "3"
+to_is value h zero two =
+    let three : is (codes "3") value ≡ true =
+    ⊎_elim (λ own. rw (zero, two) at own) (λ no. absurd (false≢true no)) (either (is (codes "0") value || is (codes "2") value || is (codes "3") value) false h) in
+    same_text value (codes "3") three
+
+order_is : (value : List ℕ) → ((is (codes "1") value || is (codes "2") value) || false) ≡ true → is_between 1 2 value ≡ true
+order_is value h =
+    ⊎_elim
+    (λ own.
+    ⊎_elim (λ one. subst (λ v. is_between 1 2 v ≡ true) (sym (same_text value (codes "1") one)) refl)
+    (λ two. subst (λ v. is_between 1 2 v ≡ true) (sym (same_text value (codes "2") two)) refl)
+    (either (is (codes "1") value) (is (codes "2") value) own))
+    (λ no. absurd (false≢true no)) (either (is (codes "1") value || is (codes "2") value) false h)
+
+-- `order` stands, and is 1 or 2, beside a `to` that is neither 0 nor 2
+pub record TargetStands (words : List (List ℕ)) : Type 0 where
+  pub order : is (codes "0") (value_of (codes "to") words) ≡ false → is (codes "2") (value_of (codes "to") words) ≡ false
+      → is_between 1 2 (value_of (codes "order") words) ≡ true
+
+order_there : (words : List (List ℕ)) (b c d : Bool) → cond b c d ≡ true → b ≡ true → c ≡ true
+order_there words true c d h e = h
+order_there words false c d h e = absurd (false≢true e)
+
+target_in : (words : List (List ℕ)) → has_target words ≡ true
+    → (has_name (codes "to") words ≡ true → ((is (codes "0") (value_of (codes "to") words) || is (codes "2") (value_of (codes "to") words) || is (codes "3") (value_of (codes "to") words)) || false) ≡ true)
+    → (has_name (codes "order") words ≡ true → ((is (codes "1") (value_of (codes "order") words) || is (codes "2") (value_of (codes "order") words)) || false) ≡ true)
+    → TargetStands words
+target_in words complete to order =
+    let parts = both (has_name (codes "to") words) (cond (has_word (codes "to=3") words) (has_name (codes "order") words) (not (has_name (codes "order") words))) complete in
+    record {
+      order = λ zero two.
+          let three = to_is (value_of (codes "to") words) (to parts.0) zero two in
+          let there : has_word (codes "to=3") words ≡ true = word_there (codes "to") (codes "3") words parts.0 three in
+          order_is (value_of (codes "order") words) (order (order_there words (has_word (codes "to=3") words) (has_name (codes "order") words) (not (has_name (codes "order") words)) parts.1 there));
+    }
+
+pub repack_stands : (words : List (List ℕ)) → HasRead Repack words → TargetStands words
+repack_stands words read =
+    target_in words read.complete (λ has. value_taken Repack (codes "to") words read.all has) (λ has. value_taken Repack (codes "order") words read.all has)
+
+-- ---- numbers
+
+pub record Between (least most : ℕ) (text : List ℕ) : Type 0 where
+  pub is_one : is_number text ≡ true
+  pub low : least ≤ number text
+  pub high : number text ≤ most
+
+between : (least most : ℕ) (text : List ℕ) → is_between least most text ≡ true → Between least most text
+between least most text h =
+    let parts = both (is_number text) (nat_le least (number text) && nat_le (number text) most) h in
+    let sides = both (nat_le least (number text)) (nat_le (number text) most) parts.1 in
+    record { is_one = parts.0; low = search (rules, tests, sides.0); high = search (rules, tests, sides.1) }
+
+pub wider : (least most more : ℕ) (text : List ℕ) → is_between least most text ≡ true → most ≤ more → is_between 0 more text ≡ true
+wider least most more text h room =
+    let b = between least most text h in
+    let low : nat_le 0 (number text) ≡ true = search (rules, tests) in
+    let high : nat_le (number text) more ≡ true = let below : number text ≤ more = omega arith in search (rules, tests) in
+    rw (b.is_one, low, high) refl
+
+pub record SizeStands (words : List (List ℕ)) : Type 0 where
+  pub seed : is_between 0 2147483647 (value_of (codes "seed") words) ≡ true
+  pub ni : is_between 1 4096 (value_of (codes "ni") words) ≡ true
+  pub nj : is_between 1 4096 (value_of (codes "nj") words) ≡ true
+  pub target : has_target words ≡ true
+
+only_first : (b : Bool) → (b || false) ≡ true → b ≡ true
+only_first true h = refl
+only_first false h = h
+
+make_seed : (value : List ℕ) → takes (entries Make) (codes "seed") value ≡ true → is_between 0 2147483647 value ≡ true
+make_seed value h = only_first (is_between 0 2147483647 value) h
+
+make_ni : (value : List ℕ) → takes (entries Make) (codes "ni") value ≡ true → is_between 1 4096 value ≡ true
+make_ni value h = only_first (is_between 1 4096 value) h
+
+make_nj : (value : List ℕ) → takes (entries Make) (codes "nj") value ≡ true → is_between 1 4096 value ≡ true
+make_nj value h = only_first (is_between 1 4096 value) h
+
+pub make_sized : (words : List (List ℕ)) → HasRead Make words → SizeStands words
+make_sized words read =
+    let first = both (has_name (codes "seed") words) (has_name (codes "ni") words && (has_name (codes "nj") words && has_target words)) read.complete in
+    let second = both (has_name (codes "ni") words) (has_name (codes "nj") words && has_target words) first.1 in
+    let third = both (has_name (codes "nj") words) (has_target words) second.1 in
+    record {
+      seed = make_seed (value_of (codes "seed") words) (value_taken Make (codes "seed") words read.all first.0);
+      ni = make_ni (value_of (codes "ni") words) (value_taken Make (codes "ni") words read.all second.0);
+      nj = make_nj (value_of (codes "nj") words) (value_taken Make (codes "nj") words read.all third.0);
+      target = third.1;
+    }
+
+pub make_stands : (words : List (List ℕ)) → HasRead Make words → TargetStands words
+make_stands words read =
+    target_in words (make_sized words read).target (λ has. value_taken Make (codes "to") words read.all has) (λ has. value_taken Make (codes "order") words read.all has)
+
+-- ---- the job
+
+one_or_two : (n : ℕ) → 1 ≤ n → n ≤ 2 → ((n == 1) || (n == 2)) ≡ true
+one_or_two n low high = grind (arith, tests)
+
+target_by : (zero two : Bool) (n : ℕ) → (zero ≡ false → two ≡ false → (1 ≤ n) × (n ≤ 2)) → is_target (cond zero Simple (cond two Complex (Spatial n))) ≡ true
+target_by true two n h = refl
+target_by false true n h = refl
+target_by false false n h = let bounds = h refl refl in one_or_two n bounds.0 bounds.1
+
+target_is : (words : List (List ℕ)) → TargetStands words → is_target (target_of words) ≡ true
+target_is words stands =
+    target_by (is (codes "0") (value_of (codes "to") words)) (is (codes "2") (value_of (codes "to") words)) (number_of (codes "order") words)
+    (λ zero two. let b = between 1 2 (value_of (codes "order") words) (stands.order zero two) in (b.low, b.high))
+
+size_is : (words : List (List ℕ)) → SizeStands words → MayBeMade (number_of (codes "seed") words) (number_of (codes "ni") words) (number_of (codes "nj") words)
+size_is words stands =
+    let seed = between 0 2147483647 (value_of (codes "seed") words) stands.seed in
+    let ni = between 1 4096 (value_of (codes "ni") words) stands.ni in
+    let nj = between 1 4096 (value_of (codes "nj") words) stands.nj in
+    record { seed_fits = omega arith; some_columns = ni.low; few_columns = ni.high; some_rows = nj.low; few_rows = nj.high }
+
+pub is_job : (command : Command) (words : List (List ℕ)) → HasRead command words → IfOk (job_of_command command words) IsJob
+is_job the.Check words read = record { target_stands = refl; size_stands = tt }
+is_job the.List words read = record { target_stands = refl; size_stands = tt }
+is_job the.Dump words read = record { target_stands = refl; size_stands = tt }
+is_job Repack words read = record { target_stands = target_is words (repack_stands words read); size_stands = tt }
+is_job Make words read = record { target_stands = target_is words (make_stands words read); size_stands = size_is words (make_sized words read) }
+is_job Filter words read = tt
+is_job Split words read = tt
+is_job Set words read = tt
+is_job Migrate words read = tt
+
+-- ---- the word of a name
+
+find-map : {X Y : Type 0} (p : Y → Bool) (f : X → Y) (xs : List X) → find p (map f xs) ≡ option_map f (find (λ x. p (f x)) xs)
+find-map p f [] = refl
+find-map p f (x ∷ xs) =
+    ⊎_elim (λ (here : p (f x) ≡ true). rw here refl) (λ (other : p (f x) ≡ false). rw other (find-map p f xs)) (cases_Bool (p (f x)))
+
+mapped : {X : Type 0} (f : X → List ℕ) (found : Option X) → option_map_or value_in (option_map f found) [] ≡ option_map_or (λ x. value_in (f x)) found []
+mapped f None = refl
+mapped f (Some x) = refl
+
+pub value_found : {X : Type 0} (f : X → List ℕ) (name : List ℕ) (words : List X) (found : Option X) → found ≡ find (λ x. is_named name (f x)) words
+    → option_map_or (λ x. value_in (f x)) found [] ≡ value_of name (map f words)
+value_found f name words found is_found =
+    ap (λ o. option_map_or (λ x. value_in (f x)) o []) is_found
+    ∙ (sym (mapped f (find (λ x. is_named name (f x)) words)) ∙ ap (λ o. option_map_or value_in o []) (sym (find-map (is_named name) f words)))

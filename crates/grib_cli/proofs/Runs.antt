@@ -1,0 +1,113 @@
+-- A run by what its words ask for.
+use Rattle.std.proofs.Common.{◌≡◌, ◌⊎◌, ℕ, ◌^◌, true, false, Result, Ok, Err, IfOk, IfErr, MatchResult, Option, Some, None, List, [], ◌++◌, refl, sym, ap, ◌∙◌, subst, arith, inl, inr}
+use Rattle.std.proofs.KnownBytes.{Consumes-nil}
+use Rattle.std.proofs.lemmas.Bool.{false≢true}
+use Rattle.grib_io.specs.Outside.{AppendsFront}
+use Rattle.grib_stream.specs.Acts.{World, Act, Did, DidFront}
+use Rattle.grib_stream.specs.Outcomes.{is_broken, is_cut_short}
+use Rattle.grib_stream.specs.Run.{Gives, Runs}
+use Rattle.grib_stream.specs.Answer.{Answer}
+use Rattle.grib_stream.specs.declared.outcome.Outcome.{Outcome}
+use Rattle.grib_stream.specs.declared.outcome.Outcome.TheVariants.{ReadFault, WriteFault, Memory}
+use Rattle.grib_engine.specs.declared.job.Job.{Job}
+use Rattle.grib_engine.specs.declared.job.Job.TheVariants.{Check, List as Listing, Dump, Repack, Make}
+use Rattle.grib_engine.specs.Outcomes.{note_of, NotesFront}
+use Rattle.grib_engine.specs.Serving.{RunsJob, NotesJobFront}
+use Rattle.grib_stream.specs.Task.{Task}
+use Rattle.grib_stream.proofs.Exits.{runs_broken, cut_broken}
+use Rattle.grib_engine.specs.Tasks.{task, made_answer}
+use Rattle.grib_cli.specs.declared.words.JobFault.{JobFault}
+use Rattle.grib_cli.specs.declared.words.JobFault.TheVariants as faults
+use Rattle.grib_cli.specs.Words.{outcome_of, IsAsked, job_of}
+
+-- the end of a run answers the outcome, or a fault of writing or want of memory
+abbrev pub OneOf : Outcome → Outcome → Type 0
+OneOf outcome result = (result ≡ outcome) ⊎ ((result ≡ WriteFault) ⊎ (result ≡ Memory))
+
+abbrev unread : JobFault → Result Job JobFault
+unread fault = Err fault
+
+-- words that ask for a job
+pub asks : (job : Job) (words : List (List ℕ)) → IsAsked (Ok job) words → Ok job ≡ job_of words
+asks job words (inl same) = same
+asks job words (inr memory) = let no : ⊥ = cc in absurd no
+
+-- words for which there is no memory may ask for any job
+pub if_asked : (asked : Result Job JobFault) (fault : JobFault) (P : Job → Type 0) → (unread fault ≡ asked) ⊎ (unread fault ≡ unread faults.Memory)
+    → (fault ≡ faults.Memory → (job : Job) → P job) → IfOk asked P
+if_asked asked fault P (inl same) any = subst (λ r. IfOk r P) same tt
+if_asked (Ok job) fault P (inr memory) any = let same : fault ≡ faults.Memory = cc in any same job
+if_asked (Err other) fault P (inr memory) any = tt
+
+pub if_unasked : (asked : Result Job JobFault) (fault : JobFault) (Q : JobFault → Type 0) → (unread fault ≡ asked) ⊎ (unread fault ≡ unread faults.Memory)
+    → Q fault → (fault ≡ faults.Memory → (other : JobFault) → Q other) → IfErr asked Q
+if_unasked asked fault Q (inl same) own any = subst (λ r. IfErr r Q) same own
+if_unasked (Ok job) fault Q (inr memory) own any = tt
+if_unasked (Err other) fault Q (inr memory) own any = let same : fault ≡ faults.Memory = cc in any same other
+
+pub by_asked : (asked : Result Job JobFault) (fault : JobFault) (P : Job → Type 0) (Q : JobFault → Type 0) → (unread fault ≡ asked) ⊎ (unread fault ≡ unread faults.Memory)
+    → Q fault → (fault ≡ faults.Memory → (job : Job) → P job) → (fault ≡ faults.Memory → (other : JobFault) → Q other) → MatchResult asked P Q
+by_asked asked fault P Q (inl same) own any other = subst (λ r. MatchResult r P Q) same own
+by_asked (Ok job) fault P Q (inr memory) own any other = let same : fault ≡ faults.Memory = cc in any same job
+by_asked (Err f) fault P Q (inr memory) own any other = let same : fault ≡ faults.Memory = cc in other same f
+
+-- ---- want of memory
+
+pub cut_memory : (fault : JobFault) (result : Outcome) → fault ≡ faults.Memory → OneOf (outcome_of fault) result → is_cut_short result ≡ true
+cut_memory fault result memory (inl same) = ap is_cut_short (same ∙ ap outcome_of memory)
+cut_memory fault result memory (inr (inl write)) = ap is_cut_short write
+cut_memory fault result memory (inr (inr want)) = ap is_cut_short want
+
+pub one_at_memory : (fault : JobFault) (result outcome : Outcome) → fault ≡ faults.Memory → OneOf (outcome_of fault) result → OneOf outcome result
+one_at_memory fault result outcome memory (inl same) = inr (inr (same ∙ ap outcome_of memory))
+one_at_memory fault result outcome memory (inr later) = inr later
+
+-- nothing was taken, and nothing done
+no_read : (result : Outcome) → is_cut_short result ≡ true → result ≡ ReadFault → ⊥
+no_read result cut read = false≢true (sym (ap is_cut_short read) ∙ cut)
+
+front_none : (before now : World) (acts : List Act) → Did before now [] → DidFront before now acts
+front_none before now acts did = ([], acts, refl, did)
+
+runs_task : (task : Task) (result : Outcome) (left : Option (List ℕ)) (before now : World) → is_cut_short result ≡ true → Did before now []
+    → Runs task (2 ^ 40) result left left before now
+runs_task task result left before now cut did =
+    runs_broken task (2 ^ 40) result left left before now [] (cut_broken result cut) (Consumes-nil left) (omega arith) (λ more. front_none before now _ did)
+    (λ read. absurd (no_read result cut read))
+
+gives_nothing : (answer : Answer) (result : Outcome) (before now : World) → is_cut_short result ≡ true → Did before now [] → Gives answer result before now
+gives_nothing answer result before now cut did =
+    let never = λ (unbroken : is_broken result ≡ false). false≢true (sym unbroken ∙ cut_broken result cut) in
+    record {
+      ends = λ unbroken. absurd (never unbroken);
+      whole = λ unbroken. absurd (never unbroken);
+      front = front_none before now (answer.acts ++ answer.ending) did;
+    }
+
+pub runs_nothing : (job : Job) (result : Outcome) (left : Option (List ℕ)) (before now : World) → is_cut_short result ≡ true → Did before now []
+    → RunsJob job result left left before now
+runs_nothing (Make seed ni nj target) result left before now cut did = gives_nothing (made_answer seed ni nj target) result before now cut did
+runs_nothing Check result left before now cut did = runs_task (task Check) result left before now cut did
+runs_nothing Listing result left before now cut did = runs_task (task Listing) result left before now cut did
+runs_nothing Dump result left before now cut did = runs_task (task Dump) result left before now cut did
+runs_nothing (Repack target) result left before now cut did = runs_task (task (Repack target)) result left before now cut did
+
+-- a front of the note of want of memory
+pub fronts_memory : (job : Job) (left : Option (List ℕ)) (f f_now s s_now : ℕ) (a b : Option (List ℕ)) → AppendsFront a b (note_of Memory)
+    → NotesJobFront job left f f_now s s_now a b
+fronts_memory (Make seed ni nj target) left f f_now s s_now a b front = inr front
+fronts_memory Check None f f_now s s_now a b front = tt
+fronts_memory Check (Some input) f f_now s s_now a b front = record { front = inr (inr (inr front)) }
+fronts_memory Listing None f f_now s s_now a b front = tt
+fronts_memory Listing (Some input) f f_now s s_now a b front = record { front = inr (inr (inr front)) }
+fronts_memory Dump None f f_now s s_now a b front = tt
+fronts_memory Dump (Some input) f f_now s s_now a b front = record { front = inr (inr (inr front)) }
+fronts_memory (Repack target) None f f_now s s_now a b front = tt
+fronts_memory (Repack target) (Some input) f f_now s s_now a b front = record { front = inr (inr (inr front)) }
+
+pub memory_front : (fault : JobFault) (a b : Option (List ℕ)) → fault ≡ faults.Memory → NotesFront a b [] (outcome_of fault) → AppendsFront a b (note_of Memory)
+memory_front fault a b memory (inl own) = subst (λ f. AppendsFront a b (note_of (outcome_of f))) memory own
+memory_front fault a b memory (inr front) = front
+
+pub other_front : (fault : JobFault) (a b : Option (List ℕ)) → AppendsFront a b (note_of Memory) → NotesFront a b [] (outcome_of fault)
+other_front fault a b front = inr front

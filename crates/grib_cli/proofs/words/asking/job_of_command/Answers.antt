@@ -1,0 +1,20 @@
+use Rattle.std.proofs.Common.{map, string_bytes, codes, arith}
+use Rattle.grib_cli.specs.Words.{value_of}
+use Rattle.grib_cli.specs.declared.words.command.Command.TheVariants.{Repack, Make}
+use Rattle.grib_cli.proofs.Asked.{has_read, repack_stands, make_stands, make_sized, wider}
+use Rattle.grib_cli.proofs.words.asking.job_of_command.Goals as goal
+
+pub target_of-requires : goal.target_of-requires
+target_of-requires c = (repack_stands (map string_bytes c.args.words.now) (has_read Repack (map string_bytes c.args.words.now) (rw c.in-Repack.is at c.requires))).order
+
+pub number_by-requires : goal.number_by-requires
+number_by-requires c = wider 0 2147483647 4294967295 (value_of (codes "seed") (map string_bytes c.args.words.now)) (make_sized (map string_bytes c.args.words.now) (has_read Make (map string_bytes c.args.words.now) (rw c.in-Make.is at c.requires))).seed (omega arith)
+
+pub number_by-requires-in-Make : goal.number_by-requires-in-Make
+number_by-requires-in-Make c = wider 1 4096 4294967295 (value_of (codes "ni") (map string_bytes c.args.words.now)) (make_sized (map string_bytes c.args.words.now) (has_read Make (map string_bytes c.args.words.now) (rw c.in-Make.is at c.requires))).ni (omega arith)
+
+pub number_by-requires-in-Make-2 : goal.number_by-requires-in-Make-2
+number_by-requires-in-Make-2 c = wider 1 4096 4294967295 (value_of (codes "nj") (map string_bytes c.args.words.now)) (make_sized (map string_bytes c.args.words.now) (has_read Make (map string_bytes c.args.words.now) (rw c.in-Make.is at c.requires))).nj (omega arith)
+
+pub target_of-requires-in-Make : goal.target_of-requires-in-Make
+target_of-requires-in-Make c = (make_stands (map string_bytes c.args.words.now) (has_read Make (map string_bytes c.args.words.now) (rw c.in-Make.is at c.requires))).order

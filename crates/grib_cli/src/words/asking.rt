@@ -1,0 +1,80 @@
+//! The job of a command, by the values of its words.
+
+ghost use Rattle.std.specs.Prelude.{◌≡◌, ◌-◌, ◌^◌, true, false, codes, map, string_bytes, Ok};
+ghost use Rattle.grib_cli.specs.Reading as grammar;
+ghost use Rattle.grib_cli.specs.Reading.{is, is_named, reading_of};
+ghost use Rattle.grib_cli.specs.Values.{is_between};
+ghost use Rattle.grib_cli.specs.Words as asked;
+ghost use Rattle.std.specs.declared.option.Option.TheVariants.{Some};
+
+use super::command::Command;
+use super::values::number_of;
+use super::{JobFault, is_named};
+use grib_engine::{Job, RepackTarget};
+
+/// The job of a command with these words behind it, which it reads.
+pub(super) fn job_of_command(command: Command, words: &[String]) -> Result<Job, JobFault>
+    requires { reading_of (Some command) (map string_bytes words.now) ≡ Ok command }
+    ensures { result ≡ asked.job_of_command command (map string_bytes words.now) }
+{
+    match command {
+        Command::Check => Ok(Job::Check),
+        Command::List => Ok(Job::List),
+        Command::Dump => Ok(Job::Dump),
+        Command::Repack => Ok(Job::Repack(target_of(words))),
+        Command::Make => Ok(Job::Make {
+            seed: number_by(words, "seed"),
+            ni: number_by(words, "ni"),
+            nj: number_by(words, "nj"),
+            target: target_of(words),
+        }),
+        Command::Filter | Command::Split | Command::Set | Command::Migrate => {
+            Err(JobFault::NotBuilt)
+        }
+    }
+}
+
+/// What the words ask fields to be packed to.
+fn target_of(words: &[String]) -> RepackTarget
+    requires { is (codes "0") (asked.value_of (codes "to") (map string_bytes words.now)) ≡ false
+        → is (codes "2") (asked.value_of (codes "to") (map string_bytes words.now)) ≡ false
+        → is_between 1 2 (asked.value_of (codes "order") (map string_bytes words.now)) ≡ true }
+    ensures { result ≡ asked.target_of (map string_bytes words.now) }
+{
+    match value_of(words, "to") {
+        "0" => RepackTarget::Simple,
+        "2" => RepackTarget::Complex,
+        _ => RepackTarget::Spatial(number_by(words, "order") as u8),
+    }
+}
+
+/// The number of the word that has this name.
+fn number_by(words: &[String], name: &str) -> u32
+    requires { is_between 0 (2 ^ 32 - 1) (asked.value_of name.now (map string_bytes words.now)) ≡ true }
+    ensures { result ≡ asked.number_of name.now (map string_bytes words.now) }
+{
+    match number_of(value_of(words, name)) {
+        Some(number) => number as u32,
+        None => unreachable!(),
+    }
+}
+
+/// The value of the word that has this name, empty where none has it.
+fn value_of<'a>(words: &'a [String], name: &str) -> &'a str
+    ensures { result.now ≡ asked.value_of name.now (map string_bytes words.now) }
+{
+    match words.iter().find(|word| is_named(word.as_str(), name)) {
+        Some(word) => value_in(word.as_str()),
+        None => "",
+    }
+}
+
+/// What stands behind the first `=` of a word.
+fn value_in(word: &str) -> &str
+    ensures { result.now ≡ grammar.value_in word.now }
+{
+    match word.split_once('=') {
+        Some((_, value)) => value,
+        None => "",
+    }
+}

@@ -1,0 +1,14 @@
+use Rattle.std.proofs.Common.{append_assoc}
+use Rattle.grib_engine.proofs.notes.kept_text.Goals as goal
+
+pub returns-in-DifferenceRange : goal.returns-in-DifferenceRange
+returns-in-DifferenceRange c = rw c.in-DifferenceRange.is (simp append_assoc c.format.ensures.ok)
+
+pub returns-in-OutputTooLong : goal.returns-in-OutputTooLong
+returns-in-OutputTooLong c = rw c.in-OutputTooLong.is (simp append_assoc c.format-in-OutputTooLong.ensures.ok)
+
+pub returns-in-KeyRange : goal.returns-in-KeyRange
+returns-in-KeyRange c = rw (c.in-KeyRange.is, ← c.name.ensures) c.text_at_key.ensures
+
+pub returns-in-KeyAbsent : goal.returns-in-KeyAbsent
+returns-in-KeyAbsent c = rw (c.in-KeyAbsent.is, ← c.name-in-KeyAbsent.ensures) c.text_without_key.ensures

@@ -1,0 +1,42 @@
+-- The lines that are noted of what was changed, kept or made, each with its newline (10).
+use Rattle.std.specs.Prelude.{ℕ, List, [], ◌∷◌, ◌++◌, codes}
+use Rattle.std.specs.Fmt.{decimal}
+use Rattle.grib_keys.specs.Keys.{name_of}
+use Rattle.grib_stream.specs.declared.place.Totals.{Totals}
+use Rattle.grib_stream.specs.declared.outcome.Cause.{Cause}
+use Rattle.grib_stream.specs.declared.outcome.Cause.TheVariants.{SecondaryMissing, OutOfRange, DifferenceRange, OutputTooLong, KeyRange, KeyAbsent}
+
+-- message m is kept by a cause of this name at a point of a field
+abbrev pub note_at_point : ℕ → List ℕ → ℕ → ℕ → List ℕ
+note_at_point m name field point =
+    codes "kept message " ++ decimal m ++ codes " " ++ name ++ codes " field " ++ decimal field ++ codes " point " ++ decimal point ++ 10 ∷ []
+
+-- message m is kept by the key of this name, whose value does not fit, or which a field has not
+abbrev pub note_at_key : ℕ → List ℕ → List ℕ
+note_at_key m name = codes "kept message " ++ decimal m ++ codes " KeyRange " ++ name ++ 10 ∷ []
+
+abbrev pub note_without_key : ℕ → List ℕ → ℕ → List ℕ
+note_without_key m name field =
+    codes "kept message " ++ decimal m ++ codes " KeyAbsent " ++ name ++ codes " field " ++ decimal field ++ 10 ∷ []
+
+-- message m is kept, and by what
+abbrev pub kept_note : ℕ → Cause → List ℕ
+kept_note m (SecondaryMissing field point) = note_at_point m (codes "SecondaryMissing") field point
+kept_note m (OutOfRange field point) = note_at_point m (codes "OutOfRange") field point
+kept_note m (DifferenceRange field) = codes "kept message " ++ decimal m ++ codes " DifferenceRange field " ++ decimal field ++ 10 ∷ []
+kept_note m (OutputTooLong length) = codes "kept message " ++ decimal m ++ codes " OutputTooLong " ++ decimal length ++ 10 ∷ []
+kept_note m (KeyRange key) = note_at_key m (name_of key)
+kept_note m (KeyAbsent field key) = note_without_key m (name_of key) field
+
+-- the messages and fields of an input that was read to its end, and the octets of their results
+abbrev pub written_note : Totals → List ℕ
+written_note totals =
+    codes "messages " ++ decimal totals.messages ++ codes " fields " ++ decimal totals.fields
+    ++ codes " written " ++ decimal totals.written ++ 10 ∷ []
+
+-- the octets of the message that was made, those that were written, the present points and the sum of their
+-- scaled numbers
+abbrev pub made_note : ℕ → ℕ → ℕ → ℕ → List ℕ
+made_note made written present sum =
+    codes "made " ++ decimal made ++ codes " written " ++ decimal written ++ codes " present " ++ decimal present
+    ++ codes " sum " ++ decimal sum ++ 10 ∷ []

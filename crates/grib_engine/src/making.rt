@@ -1,0 +1,164 @@
+//! The message that `make` writes.
+
+ghost use Rattle.std.specs.Prelude.{◌≡◌, ◌≢◌, ◌⊎◌, ◌<◌, true, false, None, Option, IfOk};
+ghost use Rattle.std.specs.Io.KnownBytes.{Appends};
+ghost use Rattle.grib_io.specs.Shelves.{Held as Names};
+ghost use Rattle.grib2_message.specs.Message.{IsMessage};
+ghost use Rattle.grib_made.specs.Made.{made, MayBeMade};
+ghost use Rattle.grib_repack.specs.Faults.{target_of};
+ghost use Rattle.grib_repack.specs.Repacked.{repacked, repack_misfit};
+ghost use Rattle.grib_stream.specs.Acts.{world};
+ghost use Rattle.grib_stream.specs.Faults.{OneCounted};
+ghost use Rattle.grib_stream.specs.Outcomes.{is_cut_short};
+ghost use Rattle.grib_stream.specs.Run.{Gives};
+ghost use Rattle.grib_stream.specs.declared.outcome.Outcome.TheVariants.{Done, WriteFault, Memory};
+ghost use Rattle.grib_engine.specs.Closing.{Unfinished};
+ghost use Rattle.grib_engine.specs.Counts.{Calm};
+ghost use Rattle.grib_engine.specs.Jobs.{is_target};
+ghost use Rattle.grib_engine.specs.Outcomes.{note_with, NotesFront};
+ghost use Rattle.grib_engine.specs.Tasks as tasks;
+ghost use Rattle.grib_engine.specs.Tasks.{writing, made_answer};
+
+use crate::closing::close_with_note;
+use crate::notes::made_note;
+use crate::writing::write_whole;
+use grib_io::{Sink, Stop};
+use grib_made::laws::{
+    what_is_made_fits, what_is_made_is_accepted, what_is_made_stays_short,
+};
+use grib_made::{made_message, made_summary};
+use grib_repack::{RepackFault, RepackTarget, repack};
+use grib_stream::Outcome;
+use grib2_message::{ReadFault, read_message};
+use std::alloc::{AllocError, Global};
+
+/// A message that was made and packed anew, and the note on it.
+#[derive(Debug, Drop)]
+struct Made {
+    octets: Vec<u8>,
+    note: Vec<u8>,
+}
+
+/// Makes a message from the number `seed`, writes it packed anew, and notes what was made.
+pub(crate) fn serve_made<T: Sink, N: Sink>(
+    alloc: Global,
+    seed: u32,
+    ni: u32,
+    nj: u32,
+    target: RepackTarget,
+    output: &mut T,
+    notes: &mut N,
+) -> Outcome
+    requires made { MayBeMade seed ni nj }
+    requires target { is_target target ≡ true }
+    ensures runs { (names : Option Names) → Gives (made_answer seed ni nj target) result
+        (world (T.contents output.old) names) (world (T.contents output.new) names) }
+    ensures noted { is_cut_short result ≡ false
+        → Appends (N.contents notes.old) (N.contents notes.new)
+        (note_with (tasks.note_of_made seed ni nj target) result) }
+    ensures noted_front { NotesFront (N.contents notes.old) (N.contents notes.new)
+        (tasks.note_of_made seed ni nj target) Done }
+    ensures settled { is_cut_short result ≡ false
+        → (T.settled output.new ≡ true) × (N.settled notes.new ≡ true) }
+    ensures unfinished { T.faults output.old < T.faults output.new
+        → Unfinished (N.settled notes.old) (N.settled notes.new) }
+    ensures one_of { (result ≡ Done) ⊎ ((result ≡ WriteFault) ⊎ (result ≡ Memory)) }
+    ensures fault { result ≡ WriteFault → OneCounted (T.faults output.old) (T.faults output.new)
+        (N.faults notes.old) (N.faults notes.new) }
+    ensures calm { result ≢ WriteFault → Calm (T.faults output.old) (T.faults output.new)
+        (N.faults notes.old) (N.faults notes.new) }
+{
+    match make(alloc, seed, ni, nj, target) {
+        Ok(made) => write_noted(
+            alloc,
+            made.octets.as_slice(),
+            made.note.as_slice(),
+            output,
+            notes,
+        ),
+        Err(_) => close_with_note(alloc, Outcome::Memory, b"", output, notes),
+    }
+}
+
+/// Writes these octets, and ends a run with this note.
+fn write_noted<T: Sink, N: Sink>(
+    alloc: Global,
+    octets: &[u8],
+    note: &[u8],
+    output: &mut T,
+    notes: &mut N,
+) -> Outcome
+    ensures runs { (names : Option Names) → Gives (writing octets.now note.now) result
+        (world (T.contents output.old) names) (world (T.contents output.new) names) }
+    ensures noted { is_cut_short result ≡ false
+        → Appends (N.contents notes.old) (N.contents notes.new) (note_with note.now result) }
+    ensures noted_front { NotesFront (N.contents notes.old) (N.contents notes.new) note.now Done }
+    ensures settled { is_cut_short result ≡ false
+        → (T.settled output.new ≡ true) × (N.settled notes.new ≡ true) }
+    ensures unfinished { T.faults output.old < T.faults output.new
+        → Unfinished (N.settled notes.old) (N.settled notes.new) }
+    ensures one_of { (result ≡ Done) ⊎ ((result ≡ WriteFault) ⊎ (result ≡ Memory)) }
+    ensures fault { result ≡ WriteFault → OneCounted (T.faults output.old) (T.faults output.new)
+        (N.faults notes.old) (N.faults notes.new) }
+    ensures calm { result ≢ WriteFault → Calm (T.faults output.old) (T.faults output.new)
+        (N.faults notes.old) (N.faults notes.new) }
+{
+    match write_whole(output, octets) {
+        Ok(()) => close_with_note(alloc, Outcome::Done, note, output, notes),
+        Err(Stop::Failed) => close_with_note(alloc, Outcome::WriteFault, note, output, notes),
+        Err(Stop::Memory) => close_with_note(alloc, Outcome::Memory, note, output, notes),
+    }
+}
+
+/// Makes a message and packs it anew. Nothing of it is lost, and it is not too long.
+fn make(
+    alloc: Global,
+    seed: u32,
+    ni: u32,
+    nj: u32,
+    target: RepackTarget,
+) -> Result<Made, AllocError>
+    requires made { MayBeMade seed ni nj }
+    requires target { is_target target ≡ true }
+    ensures octets { IfOk result (λ m. m.octets.items ≡ repacked (target_of target) (made seed ni nj)) }
+    ensures note { IfOk result (λ m. m.note.items ≡ tasks.note_of_made seed ni nj target) }
+{
+    what_is_made_is_accepted();
+    what_is_made_fits();
+    what_is_made_stays_short();
+    let message = made_message(alloc, seed, ni, nj)?;
+    let octets = repack_whole(alloc, message.as_slice(), target)?;
+    let summary = made_summary(seed, ni, nj);
+    let before = message.as_slice().len() as u64;
+    let after = octets.as_slice().len() as u64;
+    let note = made_note(alloc, before, after, summary.present, summary.sum)?;
+    Ok(Made { octets, note })
+}
+
+/// A message of which nothing is lost, with its fields packed anew.
+fn repack_whole(
+    alloc: Global,
+    octets: &[u8],
+    target: RepackTarget,
+) -> Result<Vec<u8>, AllocError>
+    requires message { IsMessage octets.now }
+    requires target { is_target target ≡ true }
+    requires fits { repack_misfit (target_of target) octets.now ≡ None }
+    ensures { IfOk result (λ packed. packed.items ≡ repacked (target_of target) octets.now) }
+{
+    let message = match read_message(alloc, octets) {
+        Ok(message) => message,
+        Err(ReadFault::Memory) => return Err(AllocError),
+        Err(ReadFault::Refused(_)) => unreachable!(),
+    };
+    match repack(alloc, &message, target) {
+        Ok(packed) => Ok(packed),
+        Err(RepackFault::Memory) => Err(AllocError),
+        Err(
+            RepackFault::SecondaryMissing { .. }
+            | RepackFault::OutOfRange { .. }
+            | RepackFault::DifferenceRange { .. }
+            | RepackFault::OutputTooLong(_),
+        ) => unreachable!(),
+    }
+}
