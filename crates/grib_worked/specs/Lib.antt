@@ -1,5 +1,6 @@
 pub mod Hex
 pub mod Messages
 pub mod Variations
+pub mod Changes
 pub mod Columns
 pub mod Values

@@ -4,6 +4,7 @@
 
 pub mod acceptance;
 pub mod answers;
+pub mod changes;
 pub mod columns;
 pub mod grammar;
 pub mod lines;
