@@ -162,6 +162,8 @@ fn fields_share_a_grid_and_a_bitmap(rt: HostRuntime) -> Result<(), Fail> {
     assert_eq!(rt; start(&message, 1, 4), 116);
     assert_eq!(rt; start(&message, 2, 4), 186);
     assert_eq!(rt; start(&message, 2, 6), 241);
+    assert!(rt; message.bitmap(1).octets == OWN_BITMAP);
+    assert!(rt; message.bitmap(2).octets == OWN_BITMAP);
     let points = [
         Point::Scaled(0),
         Point::Missing,
