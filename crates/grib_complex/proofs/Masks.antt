@@ -11,7 +11,7 @@ use Rattle.grib_simple.proofs.Masked.{with_mask_missing}
 use Rattle.grib_complex.specs.declared.keeping.Points.{Points}
 use Rattle.grib_complex.specs.Kept.{ArePoints}
 
-module _ (mask : List Bool) (seen : List Point) (before after : Points) (are : ArePoints mask seen before) (none : before.left ≡ 0) (n : ℕ) (within : length before.points.items + n ≤ length mask) (same_mask : after.mask ≡ before.mask) where
+module _ (mask : List Bool) (seen : List Point) (before after : Points) (are : ArePoints mask seen before) (none : before.left ≡ 0) (n : ℕ) (within : length before.points.items + n ≤ length mask) (same_mask : after.mask.value ≡ before.mask.value) where
   -- points that the mask leaves out
   pub are_missing : drop (length before.points.items) mask ≡ replicate n false ++ drop (length before.points.items + n) mask → after.left ≡ 0
       → after.points.items ≡ before.points.items ++ replicate n Missing → vec_capacity before.points ≤ vec_capacity after.points → ArePoints mask seen after
@@ -60,7 +60,7 @@ some_ahead mask seen points are more = elim (cases_lt (length points.points.item
 ]
 
 -- one value more
-pub are_kept : (mask : List Bool) (seen : List Point) (before after : Points) (point : Point) → ArePoints mask seen before → 0 < before.left → after.mask ≡ before.mask
+pub are_kept : (mask : List Bool) (seen : List Point) (before after : Points) (point : Point) → ArePoints mask seen before → 0 < before.left → after.mask.value ≡ before.mask.value
     → after.left ≡ before.left - 1 → after.points.items ≡ before.points.items ++ point ∷ [] → vec_capacity before.points ≤ vec_capacity after.points
     → ArePoints mask (seen ++ point ∷ []) after
 are_kept mask seen before after point are some same_mask is_left is_points memory =

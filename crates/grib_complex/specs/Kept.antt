@@ -8,7 +8,7 @@ use Rattle.grib_complex.specs.declared.keeping.Points.{Points}
 -- These values came, of a field with this mask: the points up to here stand, `left` present points follow,
 -- and there is memory for all points.
 pub record ArePoints (mask : List Bool) (seen : List Point) (points : Points) : Type 0 where
-  pub mask_stays : points.mask ≡ mask
+  pub mask_stays : points.mask.value ≡ mask
   pub memory : length mask ≤ vec_capacity points.points
   pub within : length points.points.items + points.left ≤ length mask
   pub agree : (more : List Point) → points_with_mask mask (seen ++ more) ≡ points.points.items ++ points_with_mask (drop (length points.points.items) mask) more

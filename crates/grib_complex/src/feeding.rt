@@ -184,9 +184,9 @@ fn start_state(
     requires low { 1 ≤ start }
     requires high { start ≤ 268435456 }
     requires least { 5 ≤ length }
-    requires points { ArePoints points.mask [] points }
-    requires values { present_count points.mask ≡ value_count section5.now.octets.now }
-    ensures { IfOk result (λ state. StateAgrees section5.now.octets.now points.mask start length [] (Some state)) }
+    requires points { ArePoints points.mask.value [] points }
+    requires values { present_count points.mask.value ≡ value_count section5.now.octets.now }
+    ensures { IfOk result (λ state. StateAgrees section5.now.octets.now points.mask.value start length [] (Some state)) }
 {
     let Ok(simple) = read_simple(section5, count) else {
         unreachable!();
@@ -234,9 +234,9 @@ fn start_grouped(
     requires low { 1 ≤ start }
     requires high { start ≤ 268435456 }
     requires least { 5 ≤ length }
-    requires points { ArePoints points.mask [] points }
-    requires values { present_count points.mask ≡ value_count section5.now.octets.now }
-    ensures { IfOk result (λ state. StateAgrees section5.now.octets.now points.mask start length [] (Some state)) }
+    requires points { ArePoints points.mask.value [] points }
+    requires values { present_count points.mask.value ≡ value_count section5.now.octets.now }
+    ensures { IfOk result (λ state. StateAgrees section5.now.octets.now points.mask.value start length [] (Some state)) }
 {
     let complex = accepted_complex(section5, count);
     let count = complex.simple.values;

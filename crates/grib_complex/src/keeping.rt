@@ -35,7 +35,8 @@ pub trait Keeper {
 /// The points of a column, which take the places of a mask that are present.
 #[derive(Debug, Drop)]
 pub struct Points {
-    mask: Mask,
+    /// Behind a pointer, so that it does not move with the points.
+    mask: Box<Mask>,
     points: Vec<Point>,
     /// How many present points follow for certain.
     left: u32,
@@ -51,6 +52,7 @@ impl Points {
         ensures { IfOk result (ArePoints mask []) }
     {
         let points = Vec::with_capacity(alloc, mask.len() as usize)?;
+        let mask = Box::new(alloc, mask)?;
         Ok(Points {
             mask,
             points,

@@ -243,6 +243,21 @@ fn columns_of_missing_points(rt: HostRuntime) -> Result<(), Fail> {
 }
 
 #[test]
+fn columns_of_one_value(rt: HostRuntime) -> Result<(), Fail> {
+    let Ok(made) = complex(rt.alloc(), &[Point::Scaled(5); 65]) else {
+        panic!(rt; "not packed");
+    };
+    assert!(rt; has_complex(&made, front(47, 65, 2, 3), layout(0, 2, 0, 64)));
+    assert!(rt; has(&made, &[0, 0, 0, 8, 7, 0xb4, 0x03, 0xf0]));
+    let Ok(made) = spatial(rt.alloc(), &[Point::Scaled(7); 3], 2) else {
+        panic!(rt; "not packed");
+    };
+    assert!(rt; has_spatial(&made, front(49, 3, 3, 0), layout(0, 1, 0, 3), [2, 1]));
+    assert!(rt; has(&made, &[0, 0, 0, 9, 7, 7, 7, 0, 0x08]));
+    Ok(())
+}
+
+#[test]
 fn one_point_of_differences(rt: HostRuntime) -> Result<(), Fail> {
     let Ok(made) = spatial(rt.alloc(), &[Point::Scaled(7)], 2) else {
         panic!(rt; "not packed");

@@ -34,6 +34,9 @@ pub fn take_run<T: Taker>(
     }
     let whole = count_in_words(octets.len() as u64, at, width, count);
     let taker = take_from_words(coding, octets, at, width, whole, taker);
+    if whole == count {
+        return taker;
+    }
     let at = at + u64::from(whole) * u64::from(width);
     take_from_end(coding, octets, at, width, count - whole, taker)
 }

@@ -28,6 +28,15 @@ fn of_two_that_cost_the_same_the_first_is_chosen(rt: HostRuntime) -> Result<(), 
 }
 
 #[test]
+fn the_fewest_groups_have_a_short_one_first(rt: HostRuntime) -> Result<(), Fail> {
+    let lengths = fewest_lengths(rt.alloc(), 200)?;
+    assert_eq!(rt; lengths.as_slice(), [8, 64, 64, 64].as_slice());
+    let lengths = fewest_lengths(rt.alloc(), 128)?;
+    assert_eq!(rt; lengths.as_slice(), [64, 64].as_slice());
+    Ok(())
+}
+
+#[test]
 fn codes_that_are_the_same_take_the_fewest_groups(rt: HostRuntime) -> Result<(), Fail> {
     let codes = [Code::Primary; 200];
     let costs = Costs {

@@ -38,7 +38,7 @@ returns-then-complex-eq0 c =
     let none = sym (ap (λ l. l.groups) known.spelled.layout) ∙ c.if-complex-eq0.true in
     let grouped = template_of complex s5 known.spelled known.accepted in
     let nothing : n * 0 ≡ 0 = omega arith in
-    starts_plain s5 c.args.points.mask c.args.start c.args.length 0 n first c.list.result c.list.ensures.feedable c.list.ensures.fed c.start.ensures.running c.start.ensures.nothing c.requires.points
+    starts_plain s5 c.args.points.mask.value c.args.start c.args.length 0 n first c.list.result c.list.ensures.feedable c.list.ensures.fed c.start.ensures.running c.start.ensures.nothing c.requires.points
     known.few (known.spelled.simple.values ∙ sym c.requires.values) (omega (arith, nothing, c.requires.least))
     (zero_entries s5 grouped none n known.spelled.simple.values) (λ s7 long. zero_passes s5 grouped none s7)
 
@@ -61,9 +61,9 @@ read-requires-clause-begun c =
     let known = c.accepted_complex-complex.ensures in
     record {
       s5 = s5;
-      mask = c.args.points.mask;
+      mask = c.args.points.mask.value;
       octets = [];
-      agrees = begins complex s5 c.args.points.mask c.args.length _ c.in_ok-lists.lists c.args.points known.spelled known.accepted (omega arith) known.few (known.spelled.simple.values ∙ sym c.requires.values)
+      agrees = begins complex s5 c.args.points.mask.value c.args.length _ c.in_ok-lists.lists c.args.points known.spelled known.accepted (omega arith) known.few (known.spelled.simple.values ∙ sym c.requires.values)
           (fits_within complex c.args.length c.skip.result c.lists_fit.result c.skip.ensures c.if-not-lists_fit.false c.lists_fit.ensures.0) c.in_ok-lists.ensures.fed c.in_ok-lists.ensures.feedable c.requires.points;
       whole = omega (arith, c.if-from-octets_of_lists-eq0.true, c.octets_of_lists.ensures.octets, c.skip-2.ensures, c.from-2.ensures);
     }
@@ -75,8 +75,8 @@ returns-then-from-octets_of_lists-eq0 c =
     let known = c.accepted_complex-complex.ensures in
     let none : List ℕ = [] in
     let whole : (complex.order + 1) * complex.extra + list_octets complex.layout ≤ length none = omega (arith, c.if-from-octets_of_lists-eq0.true, c.octets_of_lists.ensures.octets, c.skip-2.ensures, c.from-2.ensures) in
-    c.read.ensures s5 c.args.points.mask none
-    (begins complex s5 c.args.points.mask c.args.length _ c.in_ok-lists.lists c.args.points known.spelled known.accepted (omega arith) known.few (known.spelled.simple.values ∙ sym c.requires.values)
+    c.read.ensures s5 c.args.points.mask.value none
+    (begins complex s5 c.args.points.mask.value c.args.length _ c.in_ok-lists.lists c.args.points known.spelled known.accepted (omega arith) known.few (known.spelled.simple.values ∙ sym c.requires.values)
     (fits_within complex c.args.length c.skip.result c.lists_fit.result c.skip.ensures c.if-not-lists_fit.false c.lists_fit.ensures.0) c.in_ok-lists.ensures.fed c.in_ok-lists.ensures.feedable c.requires.points)
     (sym (drop_all ((complex.order + 1) * complex.extra + list_octets complex.layout) none (omega arith))) whole
 
@@ -85,7 +85,7 @@ returns c =
     let s5 = c.args.section5.now.octets.now in
     let complex = c.accepted_complex-complex.result in
     let known = c.accepted_complex-complex.ensures in (
-      begins complex s5 c.args.points.mask c.args.length _ c.in_ok-lists.lists c.args.points known.spelled known.accepted (omega arith) known.few (known.spelled.simple.values ∙ sym c.requires.values)
+      begins complex s5 c.args.points.mask.value c.args.length _ c.in_ok-lists.lists c.args.points known.spelled known.accepted (omega arith) known.few (known.spelled.simple.values ∙ sym c.requires.values)
           (fits_within complex c.args.length c.skip.result c.lists_fit.result c.skip.ensures c.if-not-lists_fit.false c.lists_fit.ensures.0) c.in_ok-lists.ensures.fed c.in_ok-lists.ensures.feedable c.requires.points,
       omega (arith, c.if-from-octets_of_lists-eq0.false, c.octets_of_lists.ensures.octets, c.skip-2.ensures, c.from-2.ensures),
     )

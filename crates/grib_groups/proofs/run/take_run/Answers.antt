@@ -1,4 +1,4 @@
-use Rattle.std.proofs.Common.{◌≡◌, ℕ, ◌+◌, ◌-◌, ◌*◌, List, map, drop, sym, subst, ap₂, ◌∙◌, arith}
+use Rattle.std.proofs.Common.{◌≡◌, ℕ, ◌+◌, ◌-◌, ◌*◌, List, map, drop, sym, subst, ap₂, ◌∙◌, arith, add-mul}
 use Rattle.grib_bits.specs.Bits.{bits}
 use Rattle.grib_bits.specs.Plain.{plain}
 use Rattle.grib_io.specs.declared.code.Code.{Code}
@@ -18,6 +18,30 @@ returns-then-width-eq0 g c =
     let same = map-plain by of xs group.width c.of-coding.ensures.codes c.args.count in
     let first = subst (λ (w : ℕ). took c.args.taker (map by (plain xs w c.args.count)) c.take_same.result) (sym none) (c.take_same.ensures xs) in
     subst (λ (cs : List Code). took c.args.taker cs c.take_same.result) same first
+
+pub returns-then-whole-count : goal.returns-then-whole-count
+returns-then-whole-count g c =
+    let took = g.T.Taker.took in
+    let xs = drop c.args.at (bits c.args.octets.now) in
+    let group = c.args.group in
+    let width = c.from-width.result in
+    let by = code_by c.of-coding.result in
+    let of = code_of c.args.layout.now group in
+    let after = c.take_from_words-taker.result in
+    let same = map-plain by of xs group.width c.of-coding.ensures.codes c.args.count in
+    let first = subst (λ (n : ℕ). took c.args.taker (map by (plain xs width n)) after) c.if-whole-count.true c.take_from_words-taker.ensures in
+    let second = subst (λ (w : ℕ). took c.args.taker (map by (plain xs w c.args.count)) after) c.from-width.ensures first in
+    subst (λ (cs : List Code). took c.args.taker cs after) same second
+
+pub take_from_end-requires-clause-within : goal.take_from_end-requires-clause-within
+take_from_end-requires-clause-within g c =
+    let width = c.from-width.result in
+    let whole = c.count_in_words-whole.result in
+    let count : whole + (c.args.count - whole) ≡ c.args.count = omega arith in
+    let split = add-mul whole (c.args.count - whole) width in
+    let both : (whole + (c.args.count - whole)) * width ≡ c.args.count * c.args.group.width = ap₂ (λ (m n : ℕ). m * n) count c.from-width.ensures in
+    let done : c.from.result * c.from-2.result ≡ whole * width = ap₂ (λ (m n : ℕ). m * n) c.from.ensures c.from-2.ensures in
+    omega (arith, split, both, done, c.requires.within)
 
 pub returns : goal.returns
 returns g c =

@@ -1,4 +1,4 @@
-use Rattle.std.proofs.Common.{◌≡◌, ℕ, ◌+◌, ◌≤◌, ◌++◌, List, Bool, true, false, length, drop, replicate, refl, ap, arith, subst}
+use Rattle.std.proofs.Common.{◌≡◌, ◌∙◌, ℕ, ◌+◌, ◌≤◌, ◌++◌, List, Bool, true, false, length, drop, replicate, refl, ap, arith, subst}
 use Rattle.std.proofs.lemmas.List.{length-append, length-replicate}
 use Rattle.grib_packing.specs.declared.column.Point.{Point}
 use Rattle.grib_packing.specs.declared.column.Point.TheVariants.{Missing}
@@ -21,8 +21,8 @@ loop-place-preserved c = record {
       let known = c.loop-place.invariant.are mask seen are in
       let now = known.0 in
       let place = length before.points.items in
-      let run = run_of mask before.mask place c.loop-place.place n c.run-run.result.present false now.mask_stays known.1 c.if-run.false c.run-run.ensures.same in
-      let within : place + n ≤ length mask = omega (arith, known.1, c.run-run.ensures.within, ap length now.mask_stays) in
+      let run = run_of mask c.deref-in-loop-place.result.now place c.loop-place.place n c.run-run.result.present false (c.deref-in-loop-place.ensures ∙ now.mask_stays) known.1 c.if-run.false c.run-run.ensures.same in
+      let within : place + n ≤ length mask = omega (arith, known.1, c.run-run.ensures.within, ap length (c.deref-in-loop-place.ensures ∙ now.mask_stays)) in
       let points = c.push_missing.ensures.points (omega (arith, within, now.memory, before.points.ok.0)) in (
         are_missing mask seen before (record before { points = c.push_missing.new.points }) now c.loop-place.invariant.none n within refl run c.loop-place.invariant.none points c.push_missing.ensures.capacity,
         omega (arith, known.1, ap length points, length-append before.points.items (replicate n Missing), length-replicate {A = Point} n Missing),
@@ -36,8 +36,8 @@ returns-then-run c = λ mask seen more are.
     let known = c.loop-place.invariant.are mask seen are in
     let now = known.0 in
     let place = length before.points.items in
-    let run = run_of mask before.mask place c.loop-place.place n c.run-run.result.present true now.mask_stays known.1 c.if-run.true c.run-run.ensures.same in
-    let within : place + n ≤ length mask = omega (arith, known.1, c.run-run.ensures.within, ap length now.mask_stays) in (
+    let run = run_of mask c.deref-in-loop-place.result.now place c.loop-place.place n c.run-run.result.present true (c.deref-in-loop-place.ensures ∙ now.mask_stays) known.1 c.if-run.true c.run-run.ensures.same in
+    let within : place + n ≤ length mask = omega (arith, known.1, c.run-run.ensures.within, ap length (c.deref-in-loop-place.ensures ∙ now.mask_stays)) in (
       are_present mask seen before (record before { left = n }) now c.loop-place.invariant.none n within refl run refl refl,
       c.run-run.ensures.some,
     )
@@ -45,4 +45,4 @@ returns-then-run c = λ mask seen more are.
 pub returns : goal.returns
 returns c = λ mask seen more are.
     let known = c.loop-place.invariant.are mask seen are in
-    absurd (omega (arith, known.1, some_ahead mask seen c.loop-place.self known.0 more, c.len.ensures, ap length known.0.mask_stays))
+    absurd (omega (arith, known.1, some_ahead mask seen c.loop-place.self known.0 more, c.len.ensures, ap length (c.deref.ensures ∙ known.0.mask_stays)))

@@ -10,4 +10,4 @@ invariant-loop-place l = record {
 }
 
 abbrev pub decreases-loop-place : goal.decreases-loop-place
-decreases-loop-place l = length l.self.mask - l.place
+decreases-loop-place l = length l.self.mask.value - l.place
