@@ -69,12 +69,7 @@ fn wide(alloc: Global) -> Result<Vec<u8>, AllocError> {
     let section7 = [
         0, 0, 0, 0x19, 7, 0, 0, 0, 0, 0, 0, 0, 0, 0, 1, 0, 0, 0, 0, 2, 1, 0, 0, 0, 0,
     ];
-    message(
-        alloc,
-        199,
-        4,
-        &[&simple(4, 40), &NO_BITMAP, &section7],
-    )
+    message(alloc, 199, 4, &[&simple(4, 40), &NO_BITMAP, &section7])
 }
 
 // A field of missing values, in turn primary and secondary.
@@ -125,7 +120,14 @@ fn fields_are_packed_anew(rt: HostRuntime) -> Result<(), Fail> {
         4,
         &[&spatial(4, 0, 1, 0, 4, 2), &NO_BITMAP, &line_packed],
     )?;
-    assert!(rt; gives(alloc, "repack to=3 order=2", line.as_slice(), line_packed.as_slice())?);
+    assert!(rt;
+        gives(
+            alloc,
+            "repack to=3 order=2",
+            line.as_slice(),
+            line_packed.as_slice()
+        )?
+    );
     let one = [0, 0, 0, 6, 7, 7];
     let one = message(alloc, 180, 1, &[&simple(1, 8), &NO_BITMAP, &one])?;
     let one_packed = [0, 0, 0, 9, 7, 7, 0, 0, 0];
@@ -135,7 +137,14 @@ fn fields_are_packed_anew(rt: HostRuntime) -> Result<(), Fail> {
         1,
         &[&spatial(1, 0, 1, 0, 1, 2), &NO_BITMAP, &one_packed],
     )?;
-    assert!(rt; gives(alloc, "repack to=3 order=2", one.as_slice(), one_packed.as_slice())?);
+    assert!(rt;
+        gives(
+            alloc,
+            "repack to=3 order=2",
+            one.as_slice(),
+            one_packed.as_slice()
+        )?
+    );
     let own = differences(alloc)?;
     assert!(rt; gives(alloc, "repack to=3 order=1", own.as_slice(), own.as_slice())?);
     let own = missing(alloc)?;
@@ -169,7 +178,14 @@ fn points_that_are_left_out_are_packed_anew(rt: HostRuntime) -> Result<(), Fail>
         4,
         &[&complex(4, 4, 1, 1), &NO_BITMAP, &seven_packed],
     )?;
-    assert!(rt; gives(alloc, "repack to=2", seven.as_slice(), seven_packed.as_slice())?);
+    assert!(rt;
+        gives(
+            alloc,
+            "repack to=2",
+            seven.as_slice(),
+            seven_packed.as_slice()
+        )?
+    );
     Ok(())
 }
 
@@ -184,7 +200,14 @@ fn numbers_of_many_bits_are_packed_anew(rt: HostRuntime) -> Result<(), Fail> {
     assert!(rt; gives(alloc, "repack to=0", wide.as_slice(), fewest.as_slice())?);
     let spread = run_over(alloc, "repack to=3 order=1", wide.as_slice(), 300, CALM)?;
     assert!(rt; spread.outcome == Outcome::Done);
-    assert!(rt; gives(alloc, "repack to=0", spread.output.octets(), fewest.as_slice())?);
+    assert!(rt;
+        gives(
+            alloc,
+            "repack to=0",
+            spread.output.octets(),
+            fewest.as_slice()
+        )?
+    );
     Ok(())
 }
 
@@ -280,7 +303,11 @@ fn messages_are_made(rt: HostRuntime) -> Result<(), Fail> {
         let note = "made 183 written 183 present 4 sum 368\n";
         assert!(rt; made.outcome == Outcome::Done);
         assert_eq!(rt; made.output.octets().len(), 183);
-        assert!(rt; made.output.octets().ends_with(b"\0\0\0\x09\x07\x06\x7e\x41\xab7777"));
+        assert!(rt;
+            made.output
+                .octets()
+                .ends_with(b"\0\0\0\x09\x07\x06\x7e\x41\xab7777")
+        );
         assert!(rt; made.notes.octets() == note.as_bytes());
         let made = run_over(alloc, "make to=2 seed=1 nj=2 ni=2", b"", piece, failing)?;
         let note = "made 183 written 212 present 4 sum 368\n";
