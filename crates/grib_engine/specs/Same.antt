@@ -9,9 +9,7 @@ use Rattle.grib_repack.specs.declared.target.RepackTarget.{RepackTarget}
 use Rattle.grib_repack.specs.Faults.{target_of}
 use Rattle.grib_repack.specs.Repacked.{RepackMisfit, repack_misfit}
 use Rattle.grib_stream.specs.Acts.{written}
-use Rattle.grib_stream.specs.Answer.{Answer}
 use Rattle.grib_stream.specs.Stream.{Found, stream}
-use Rattle.grib_stream.specs.declared.outcome.Outcome.TheVariants.{Done}
 use Rattle.grib_engine.specs.declared.job.Job.TheVariants.{Repack}
 use Rattle.grib_engine.specs.Tasks.{judge, answer}
 
