@@ -12,6 +12,8 @@ use std::alloc::{AllocError, Global};
 use std::io::{self, Write};
 use std::test::Fail;
 
+mod packing;
+
 // The message M1 of docs/PROFILE.md, a field of 2 by 2 points.
 const PLAIN: [u8; 183] = [
     0x47, 0x52, 0x49, 0x42, 0x00, 0x00, 0x00, 0x02, 0x00, 0x00, 0x00, 0x00, 0x00, 0x00, 0x00, 0xb7,
@@ -70,6 +72,13 @@ impl Ran {
     fn is(&self, outcome: Outcome, output: &str, notes: &str) -> bool {
         self.outcome == outcome
             && self.output.octets() == output.as_bytes()
+            && self.notes.octets() == notes.as_bytes()
+    }
+
+    // The same, with octets as output.
+    fn gave(&self, outcome: Outcome, output: &[u8], notes: &str) -> bool {
+        self.outcome == outcome
+            && self.output.octets() == output
             && self.notes.octets() == notes.as_bytes()
     }
 }
@@ -333,6 +342,7 @@ fn words_without_a_reading(rt: HostRuntime) -> Result<(), Fail> {
         ("", 0),
         ("--help", 0),
         ("check file", 1),
+        ("repack to=1", 1),
         ("repack to=3", 2),
     ] {
         let note = format!(in rt.alloc(); "usage word {word}\n")?;
@@ -346,8 +356,9 @@ fn words_without_a_reading(rt: HostRuntime) -> Result<(), Fail> {
 fn what_is_to_come_is_not_built(rt: HostRuntime) -> Result<(), Fail> {
     for words in [
         "filter centre=98",
-        "repack to=3 order=2",
-        "make seed=1 ni=2 nj=2 to=0",
+        "split out=p",
+        "set year=2025",
+        "migrate params=t",
     ] {
         let ran = run_over(rt.alloc(), words, &PLAIN, 50, CALM)?;
         assert!(rt; ran.is(Outcome::NotBuilt, "", "not built\n"));

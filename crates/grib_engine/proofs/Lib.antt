@@ -4,5 +4,6 @@ pub mod Noted
 pub mod Served
 pub mod Answers
 pub mod Made
+pub mod Keeping
 pub mod Wanted
 pub mod Finite

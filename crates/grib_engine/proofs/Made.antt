@@ -1,5 +1,5 @@
 -- What is written of a message that is made.
-use Rattle.std.proofs.Common.{◌≡◌, ◌⊎◌, ℕ, ◌≤◌, true, false, cond, Option, Some, None, List, [], ◌∷◌, ◌++◌, length, nat_lt, refl, sym, ap, ◌∙◌, subst, inl, inr, append-nil, arith, ⊎_elim, ltb-true, map}
+use Rattle.std.proofs.Common.{◌≡◌, ℕ, ◌≤◌, true, false, cond, Option, Some, None, List, [], ◌∷◌, length, nat_lt, refl, sym, ap, ◌∙◌, subst, inl, inr, append-nil, arith, ⊎_elim, ltb-true, map}
 use Rattle.std.specs.List.{range_with_len}
 use Rattle.std.specs.Io.KnownBytes.{Appends, Keeps}
 use Rattle.std.proofs.lemmas.Bool.{cases_Bool}
@@ -7,17 +7,16 @@ use Rattle.grib_bits.specs.Octets.{octets}
 use Rattle.grib_io.specs.Outside.{AppendsFront}
 use Rattle.grib_io.specs.Shelves.{Held as Names}
 use Rattle.grib_packing.specs.declared.column.Column.{Column}
-use Rattle.grib_packing.specs.Misfits.{Target, Misfit, first_misfit}
+use Rattle.grib_packing.specs.Misfits.{Target, first_misfit}
 use Rattle.grib_packed.specs.Written.{packed}
-use Rattle.grib2_message.specs.Fields.{field_count, column_of, part_octets}
+use Rattle.grib2_message.specs.Fields.{field_count, column_of}
 use Rattle.grib2_message.specs.Assembled.{assembled}
-use Rattle.grib_made.specs.Points.{made_points, made_column}
-use Rattle.grib_repack.specs.Repacked.{RepackMisfit, OutputTooLong, kind_of, packed_field, packed_fields, repacked, in_field, field_misfit, or_later, misfit_among, length_misfit, repack_misfit}
-use Rattle.grib_stream.specs.Acts.{World, world, writes, Did, DidFront}
+use Rattle.grib_repack.specs.Repacked.{OutputTooLong, kind_of, packed_field, packed_fields, repacked, field_misfit, or_later, misfit_among, length_misfit, repack_misfit}
+use Rattle.grib_stream.specs.Acts.{World, world, writes, Did}
 use Rattle.grib_stream.specs.Outcomes.{is_broken}
 use Rattle.grib_stream.specs.Run.{Gives}
 use Rattle.grib_stream.specs.declared.outcome.Outcome.{Outcome}
-use Rattle.grib_stream.specs.declared.outcome.Outcome.TheVariants.{Done, WriteFault, Memory}
+use Rattle.grib_stream.specs.declared.outcome.Outcome.TheVariants.{Done, WriteFault}
 use Rattle.grib_stream.proofs.Worlds.{did_write, did_write_front, did_keep, did_still, front_whole, front_still, front_more}
 use Rattle.grib_engine.specs.Tasks.{writing}
 use Rattle.grib_engine.specs.Outcomes.{NotesFront}

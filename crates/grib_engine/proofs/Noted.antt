@@ -1,8 +1,8 @@
 -- The note of a run, by the outcome before the end and by the answer.
-use Rattle.std.proofs.Common.{◌≡◌, ◌≢◌, ◌⊎◌, ℕ, ◌^◌, false, List, None, Some, IfSome, refl, sym, ap, ◌∙◌, subst, inl, inr}
+use Rattle.std.proofs.Common.{◌≡◌, ◌≢◌, ◌⊎◌, ℕ, false, List, None, Some, IfSome, refl, sym, ap, ◌∙◌, subst, inl, inr}
 use Rattle.std.specs.declared.option.Option.{Option}
 use Rattle.std.specs.Io.KnownBytes.{Appends}
-use Rattle.grib_io.specs.Outside.{AppendsFront, Counted, Rose}
+use Rattle.grib_io.specs.Outside.{AppendsFront, Counted}
 use Rattle.grib_stream.specs.declared.outcome.Outcome.{Outcome}
 use Rattle.grib_stream.specs.declared.outcome.Outcome.TheVariants.{Done, Usage, Refused, Kept, ReadFault, WriteFault, ShelfFault, Memory, InputTooLong, NotBuilt}
 use Rattle.grib_stream.specs.declared.place.Totals.{Totals}

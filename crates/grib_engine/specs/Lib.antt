@@ -4,6 +4,7 @@ pub mod Outcomes
 pub mod Tasks
 pub mod Lawful
 pub mod Serving
+pub mod Same
 pub mod Reading
 pub mod Answering
 pub mod Counts

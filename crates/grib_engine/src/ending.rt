@@ -37,11 +37,7 @@ pub(crate) fn write_ending<T: Sink>(
 }
 
 /// What the job notes at the end of the input.
-pub(crate) fn ending_note(
-    alloc: Global,
-    job: &Job,
-    totals: &Totals,
-) -> Result<Vec<u8>, AllocError>
+pub(crate) fn ending_note(alloc: Global, job: &Job, totals: &Totals) -> Result<Vec<u8>, AllocError>
     ensures { IfOk result (λ note. note.items ≡ tasks.ending_note job.now totals.now) }
 {
     match job {

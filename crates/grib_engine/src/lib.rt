@@ -5,6 +5,7 @@ mod answering;
 mod closing;
 mod ending;
 mod job;
+pub mod laws;
 mod making;
 mod notes;
 mod performing;

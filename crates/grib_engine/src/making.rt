@@ -23,9 +23,7 @@ use crate::closing::close_with_note;
 use crate::notes::made_note;
 use crate::writing::write_whole;
 use grib_io::{Sink, Stop};
-use grib_made::laws::{
-    what_is_made_fits, what_is_made_is_accepted, what_is_made_stays_short,
-};
+use grib_made::laws::{what_is_made_fits, what_is_made_is_accepted, what_is_made_stays_short};
 use grib_made::{made_message, made_summary};
 use grib_repack::{RepackFault, RepackTarget, repack};
 use grib_stream::Outcome;
@@ -136,11 +134,7 @@ fn make(
 }
 
 /// A message of which nothing is lost, with its fields packed anew.
-fn repack_whole(
-    alloc: Global,
-    octets: &[u8],
-    target: RepackTarget,
-) -> Result<Vec<u8>, AllocError>
+fn repack_whole(alloc: Global, octets: &[u8], target: RepackTarget) -> Result<Vec<u8>, AllocError>
     requires message { IsMessage octets.now }
     requires target { is_target target ≡ true }
     requires fits { repack_misfit (target_of target) octets.now ≡ None }

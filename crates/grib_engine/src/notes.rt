@@ -43,9 +43,7 @@ fn kept_text(alloc: Global, message: u64, cause: &Cause) -> Result<String, Alloc
             format!(in alloc; "kept message {message} OutputTooLong {length}\n")
         }
         Cause::KeyRange { key } => text_at_key(alloc, message, key.name()),
-        Cause::KeyAbsent { field, key } => {
-            text_without_key(alloc, message, key.name(), field)
-        }
+        Cause::KeyAbsent { field, key } => { text_without_key(alloc, message, key.name(), field) }
     }
 }
 

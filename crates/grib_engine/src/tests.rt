@@ -2,10 +2,12 @@
 
 ghost use Rattle.std.specs.Prelude.{◌≤◌, ◌^◌};
 
-use crate::{Job, Outcome, close, serve};
+use crate::performing::Answering;
+use crate::{Cause, Job, Kept, Outcome, Totals, close, close_with_note, serve};
 use grib_io::{
     CalmSink, CalmSource, Fault, MemoryShelf, MemorySink, MemorySource, Reason, Refusal, Sink,
 };
+use grib_keys::Key;
 use grib_stream::answer_within;
 use std::alloc::{AllocError, Global};
 use std::test::Fail;
@@ -120,15 +122,16 @@ fn an_input_past_the_limit_is_answered_to_it(rt: HostRuntime) -> Result<(), Fail
         let mut input = CalmSource::new(stream(rt.alloc())?, 13);
         let mut output = CalmSink::new(rt.alloc(), 100);
         let mut shelf = MemoryShelf::new(rt.alloc(), Vec::new(rt.alloc()));
+        let answering = Answering { job: &Job::Check };
         let outcome = answer_within(
-            &Job::Check,
+            &answering,
             rt.alloc(),
             limit,
             &mut input,
             &mut output,
             &mut shelf,
         );
-        assert!(rt; outcome == Outcome::InputTooLong);
+        assert!(rt; outcome == Err(Outcome::InputTooLong));
         assert!(rt; output.octets() == within(limit));
     }
     Ok(())
@@ -139,15 +142,22 @@ fn an_input_as_long_as_the_limit_is_answered(rt: HostRuntime) -> Result<(), Fail
     let mut input = CalmSource::new(stream(rt.alloc())?, 13);
     let mut output = CalmSink::new(rt.alloc(), 100);
     let mut shelf = MemoryShelf::new(rt.alloc(), Vec::new(rt.alloc()));
+    let answering = Answering { job: &Job::Check };
     let outcome = answer_within(
-        &Job::Check,
+        &answering,
         rt.alloc(),
         445,
         &mut input,
         &mut output,
         &mut shelf,
     );
-    assert!(rt; outcome == Outcome::Done);
+    let totals = Totals {
+        messages: 2,
+        fields: 3,
+        skipped: 10,
+        written: 0,
+    };
+    assert!(rt; outcome == Ok(totals));
     assert!(rt; output.octets() == ALL);
     Ok(())
 }
@@ -278,5 +288,48 @@ fn want_of_memory_is_noted_and_both_sinks_are_finished(rt: HostRuntime) -> Resul
     assert!(rt; outcome == Outcome::Memory);
     assert!(rt; output.octets() == "lines\n".as_bytes());
     assert!(rt; notes.octets() == "memory\n".as_bytes());
+    Ok(())
+}
+
+#[test]
+fn each_cause_has_its_note(rt: HostRuntime) -> Result<(), Fail> {
+    let (field, point) = (1, 2);
+    for (cause, note) in [
+        (
+            Cause::SecondaryMissing { field, point },
+            "kept message 1 SecondaryMissing field 1 point 2\n",
+        ),
+        (
+            Cause::OutOfRange { field, point },
+            "kept message 1 OutOfRange field 1 point 2\n",
+        ),
+        (
+            Cause::DifferenceRange { field },
+            "kept message 1 DifferenceRange field 1\n",
+        ),
+        (
+            Cause::OutputTooLong(268_435_457),
+            "kept message 1 OutputTooLong 268435457\n",
+        ),
+        (
+            Cause::KeyRange { key: Key::Month },
+            "kept message 1 KeyRange month\n",
+        ),
+        (
+            Cause::KeyAbsent {
+                field,
+                key: Key::EnsembleNumber,
+            },
+            "kept message 1 KeyAbsent ensembleNumber field 1\n",
+        ),
+    ] {
+        let mut output = CalmSink::new(rt.alloc(), 9);
+        let mut notes = CalmSink::new(rt.alloc(), 9);
+        let kept = Outcome::Kept(Kept { message: 1, cause });
+        let outcome = close_with_note(rt.alloc(), kept, b"", &mut output, &mut notes);
+        assert!(rt; outcome == kept);
+        assert_eq!(rt; outcome.status(), 3);
+        assert!(rt; notes.octets() == note.as_bytes());
+    }
     Ok(())
 }

@@ -1,5 +1,5 @@
 use Rattle.std.proofs.Common.{refl}
-use Rattle.grib_stream.specs.declared.outcome.Outcome.TheVariants.{Done, WriteFault, Memory}
+use Rattle.grib_stream.specs.declared.outcome.Outcome.TheVariants.{WriteFault, Memory}
 use Rattle.grib_engine.proofs.Made.{gives_whole, gives_broken, broken_either, front_at_fault}
 use Rattle.grib_engine.proofs.making.write_noted.Goals as goal
 

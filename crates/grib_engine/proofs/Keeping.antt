@@ -1,0 +1,153 @@
+-- What is written of an input that is repacked, message for message.
+use Rattle.std.proofs.Common.{◌≡◌, ℕ, zero, suc, ◌+◌, ◌-◌, ◌^◌, ◌<◌, ◌≤◌, true, Option, Some, None, List, [], ◌∷◌, ◌++◌, length, map, take, drop, All, refl, sym, ap, ◌∙◌, subst, arith, ⊎_elim, length-take-le, take-append-drop}
+use Rattle.std.specs.List.{concat}
+use Rattle.std.proofs.lemmas.Bool.{cases_Bool, cases_lt}
+use Rattle.std.proofs.lemmas.List.{take-append-le, take_all}
+use Rattle.std.proofs.lemmas.List.Elements.{All-nil, All-cons, All-head, All-tail, All-take}
+use Rattle.grib_io.specs.Rows.{first_fault}
+use Rattle.grib_io.specs.declared.fault.Fault.{Fault}
+use Rattle.grib_packing.specs.Misfits.{Target}
+use Rattle.grib_simple.specs.Written.{IsTarget}
+use Rattle.grib2_sections.specs.Head.{edition, head_rows}
+use Rattle.grib2_sections.specs.Verdict.{Verdict, Accepted}
+use Rattle.grib2_message.specs.Acceptance.{unless_refused}
+use Rattle.grib2_message.specs.Message.{IsMessage}
+use Rattle.grib2_message.proofs.Passed.{passes_from_none}
+use Rattle.grib2_message.proofs.Whole.{head_passes}
+use Rattle.grib2_message.proofs.Fronts.{accepted_least, accepted_there, accepted_alone}
+use Rattle.grib_repack.specs.declared.target.RepackTarget.{RepackTarget}
+use Rattle.grib_repack.specs.Faults.{target_of}
+use Rattle.grib_repack.specs.Repacked.{RepackMisfit, MayBeRepacked, repacked, repack_misfit}
+use Rattle.grib_stream.specs.Acts.{Act, Writes, Makes, Adds, writes, written}
+use Rattle.grib_stream.specs.Outcomes.{is_open}
+use Rattle.grib_stream.specs.Stream.{begins, Judgement, Message, Faulty, Unbuilt, Found, End, Over, Refusing, NotRead, stream_from, stream, on_judgement, followed_by, message_after}
+use Rattle.grib_stream.specs.Task.{Task}
+use Rattle.grib_stream.specs.Answer.{Answer, after, on_given, answers, on_end, place_of, at_limit, answer_of, answer_within}
+use Rattle.grib_stream.proofs.Exits.{within_short, within_long, closed_at_limit, open_at_limit}
+use Rattle.grib_stream.proofs.Streams.{stream_skip, stream_begun, begins_is}
+use Rattle.grib_engine.specs.declared.job.Job.TheVariants.{Repack}
+use Rattle.grib_engine.specs.Lawful.{message_judged, not_first, same_edition}
+use Rattle.grib_engine.specs.Same.{SameValues, AllSame, kept_then, before_kept}
+use Rattle.grib_engine.specs.Tasks.{judge, given_unless, task}
+
+-- ---- the messages of an input
+
+pub record IsFound (found : Found) : Type 0 where
+  pub accepted : IsMessage found.octets
+  pub are_octets : All (λ octet. octet < 256) found.octets
+
+head_none : (first : Option Fault) (next : Unit {0} → Verdict) (total : ℕ) → unless_refused first next ≡ Accepted total → first ≡ None
+head_none None next total is = refl
+head_none (Some fault) next total is = let no : ⊥ = cc in absurd no
+
+message_alone : (rest : List ℕ) (total : ℕ) → begins rest ≡ true → judge rest ≡ Message total → IsMessage (take total rest)
+message_alone rest total begun is =
+    let m = message_judged rest total is in
+    let other = not_first rest m.other_edition in
+    let least : 20 ≤ total = accepted_least rest total other m.verdict_is in
+    let there : total ≤ length rest = accepted_there rest total other m.verdict_is in
+    let size : length (take total rest) ≡ total = length-take-le total rest there in
+    let head = head_none (first_fault (head_rows rest)) _ total m.verdict_is in
+    let second : edition rest ≡ 2 = (head_passes rest other (passes_from_none (head_rows rest) head)).second_edition in
+    record {
+      indicated = sym (take-append-le 4 (take total rest) (drop total rest) (omega arith)) ∙ (ap (take 4) (take-append-drop total rest) ∙ begins_is rest begun);
+      edition_stands = sym (same_edition (take total rest) (drop total rest) (omega arith)) ∙ (ap edition (take-append-drop total rest) ∙ second);
+      accepted = accepted_alone rest total other m.verdict_is ∙ ap Accepted (sym size);
+    }
+
+found_judged : (place skipped octet : ℕ) (octets : List ℕ) (j : Judgement) → All (λ o. o < 256) (octet ∷ octets) → begins (octet ∷ octets) ≡ true → judge (octet ∷ octets) ≡ j
+    → ((inside : ℕ) → All IsFound (stream_from judge inside (place + 1) skipped octets).messages)
+    → All IsFound (on_judgement j (λ total. followed_by (message_after place (take total (octet ∷ octets))) (stream_from judge (total - 1) (place + 1) skipped octets))).messages
+found_judged place skipped octet octets (Message total) small begun is later =
+    All-cons IsFound (message_after place (take total (octet ∷ octets))) (stream_from judge (total - 1) (place + 1) skipped octets).messages
+    (record { accepted = message_alone (octet ∷ octets) total begun is; are_octets = All-take (λ o. o < 256) total (octet ∷ octets) small }) (later (total - 1))
+found_judged place skipped octet octets (Faulty fault) small begun is later = All-nil IsFound
+found_judged place skipped octet octets Unbuilt small begun is later = All-nil IsFound
+
+found_all : (inside place skipped : ℕ) (octets : List ℕ) → All (λ o. o < 256) octets → All IsFound (stream_from judge inside place skipped octets).messages
+found_all zero place skipped [] small = All-nil IsFound
+found_all (suc inside) place skipped [] small = All-nil IsFound
+found_all (suc inside) place skipped (octet ∷ octets) small = found_all inside (place + 1) skipped octets (All-tail (λ o. o < 256) octet octets small)
+found_all zero place skipped (octet ∷ octets) small =
+    ⊎_elim
+    (λ begun. subst (λ s. All IsFound s.messages) (sym (stream_begun judge place skipped octet octets begun))
+    (found_judged place skipped octet octets (judge (octet ∷ octets)) small begun refl
+    (λ inside. found_all inside (place + 1) skipped octets (All-tail (λ o. o < 256) octet octets small))))
+    (λ none. subst (λ s. All IsFound s.messages) (sym (stream_skip judge place skipped octet octets none))
+    (found_all zero (place + 1) (skipped + 1) octets (All-tail (λ o. o < 256) octet octets small)))
+    (cases_Bool (begins (octet ∷ octets)))
+
+-- ---- what is written
+
+written_join : (xs ys : List Act) → written (xs ++ ys) ≡ written xs ++ written ys
+written_join [] ys = refl
+written_join (Writes octet ∷ xs) ys = ap (λ octets. octet ∷ octets) (written_join xs ys)
+written_join (Makes name ∷ xs) ys = written_join xs ys
+written_join (Adds name octet ∷ xs) ys = written_join xs ys
+
+written_of : (octets : List ℕ) → written (writes octets) ≡ octets
+written_of [] = refl
+written_of (octet ∷ octets) = ap (λ xs. octet ∷ xs) (written_of octets)
+
+step : (target : Target) (misfit : Option RepackMisfit) (m : ℕ) (message : List ℕ) (t : Task) (next : List Act → ℕ → Answer) (rest : List (List ℕ))
+    → ((acts : List Act) (more : ℕ) → written (next acts more).acts ≡ written acts ++ concat (map (repacked target) rest))
+    → written (on_given t (given_unless misfit m (repacked target message)) next).acts ≡ concat (map (repacked target) (kept_then misfit message rest))
+step target None m message t next rest goes =
+    goes (writes (repacked target message)) (length (repacked target message))
+    ∙ ap (λ xs. xs ++ concat (map (repacked target) rest)) (written_of (repacked target message))
+step target (Some misfit) m message t next rest goes = refl
+
+at_end : (target : RepackTarget) (m f w : ℕ) (end : End) → written (on_end (task (Repack target)) m f w end).acts ≡ []
+at_end target m f w (Over skipped) = refl
+at_end target m f w (Refusing fault) = refl
+at_end target m f w NotRead = refl
+
+acts_are : (target : RepackTarget) (m f w : ℕ) (founds : List Found) (end : End)
+    → written (answers (task (Repack target)) m f w founds end).acts ≡ concat (map (repacked (target_of target)) (before_kept (target_of target) founds))
+acts_are target m f w [] end = at_end target m f w end
+acts_are target m f w (found ∷ later) end =
+    let t = task (Repack target) in
+    step (target_of target) (repack_misfit (target_of target) found.octets) (place_of m found.before f).message found.octets t
+    (λ acts more. after acts (answers t (m + 1) (f + t.fields found.octets) (w + more) later end)) (before_kept (target_of target) later)
+    (λ acts more. written_join acts (answers t (m + 1) (f + t.fields found.octets) (w + more) later end).acts
+    ∙ ap (λ xs. written acts ++ xs) (acts_are target (m + 1) (f + t.fields found.octets) (w + more) later end))
+
+limit_acts : (t : Task) (a : Answer) → (at_limit t a).acts ≡ a.acts
+limit_acts t a =
+    ⊎_elim (λ unclosed. ap (λ x. x.acts) (open_at_limit t a unclosed)) (λ closed. ap (λ x. x.acts) (closed_at_limit t a closed)) (cases_Bool (is_open a.outcome))
+
+within_acts : (t : Task) (limit : ℕ) (input : List ℕ) → (answer_within limit t input).acts ≡ (answer_of t (take limit input)).acts
+within_acts t limit input =
+    ⊎_elim (λ (long : limit < length input). ap (λ a. a.acts) (within_long t limit input long) ∙ limit_acts t (answer_of t (take limit input)))
+    (λ (short : length input ≤ limit). ap (λ a. a.acts) (within_short t limit input short ∙ ap (answer_of t) (sym (take_all limit input short))))
+    (cases_lt limit (length input))
+
+pub written_are : (target : RepackTarget) (input : List ℕ)
+    → written (answer_within (2 ^ 40) (task (Repack target)) input).acts
+    ≡ concat (map (repacked (target_of target)) (before_kept (target_of target) (stream judge (take (2 ^ 40) input)).messages))
+written_are target input =
+    let found = stream judge (take (2 ^ 40) input) in
+    ap written (within_acts (task (Repack target)) (2 ^ 40) input) ∙ acts_are target 0 0 0 found.messages found.end
+
+-- ---- the same values
+
+same_then : (target : Target) (misfit : Option RepackMisfit) (message : List ℕ) (rest : List (List ℕ)) → (misfit ≡ None → SameValues message (repacked target message))
+    → AllSame rest (map (repacked target) rest) → AllSame (kept_then misfit message rest) (map (repacked target) (kept_then misfit message rest))
+same_then target None message rest own later = (own refl, later)
+same_then target (Some misfit) message rest own later = tt
+
+same_all : (target : Target) → IsTarget target → ((message : List ℕ) → MayBeRepacked target message → SameValues message (repacked target message))
+    → (founds : List Found) → All IsFound founds → AllSame (before_kept target founds) (map (repacked target) (before_kept target founds))
+same_all target stands law [] all = tt
+same_all target stands law (found ∷ later) all =
+    let first = All-head IsFound found later all in
+    same_then target (repack_misfit target found.octets) found.octets (before_kept target later)
+    (λ none. law found.octets (record { accepted = first.accepted; are_octets = first.are_octets; target_stands = stands; fits = none }))
+    (same_all target stands law later (All-tail IsFound found later all))
+
+pub same_messages : (target : Target) (limit : ℕ) (input : List ℕ) → IsTarget target → All (λ octet. octet < 256) input
+    → ((message : List ℕ) → MayBeRepacked target message → SameValues message (repacked target message))
+    → AllSame (before_kept target (stream judge (take limit input)).messages) (map (repacked target) (before_kept target (stream judge (take limit input)).messages))
+same_messages target limit input stands small law =
+    same_all target stands law (stream judge (take limit input)).messages
+    (found_all 0 0 0 (take limit input) (All-take (λ octet. octet < 256) limit input small))

@@ -1,0 +1,19 @@
+use Rattle.std.proofs.Common.{map, take, ◌^◌}
+use Rattle.grib_repack.specs.Faults.{target_of}
+use Rattle.grib_repack.specs.Repacked.{repacked}
+use Rattle.grib_stream.specs.Stream.{stream}
+use Rattle.grib_engine.specs.Same.{before_kept}
+use Rattle.grib_engine.specs.Tasks.{judge}
+use Rattle.grib_engine.proofs.Answers.{target_stands}
+use Rattle.grib_engine.proofs.Keeping.{written_are, same_messages}
+use Rattle.grib_engine.proofs.laws.what_is_answered_keeps_each_value.Goals as goal
+
+pub returns : goal.returns
+returns c =
+    let law = c.what_is_repacked_keeps_each_value.ensures in
+    λ target input is small. record {
+      outputs = map (repacked (target_of target)) (before_kept (target_of target) (stream judge (take (2 ^ 40) input)).messages);
+      written_stands = written_are target input;
+      same = same_messages (target_of target) (2 ^ 40) input (target_stands target is) small
+          (λ message may. record { accepted = law.accepted _ message may; fields = law.fields _ message may; points = law.meanings _ message may });
+    }
