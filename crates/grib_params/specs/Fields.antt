@@ -21,7 +21,9 @@ records_of text = records default_config (strip_bom text)
 
 -- a number is spelled in digits, one at least, the first of them 0 (48) only where it is the only one
 abbrev pub is_number : Field → Bool
-is_number field = not (length field == 0) && list_all is_ascii_digit field && (not (slice_index field 0 == 48) || (length field == 1))
+is_number field =
+    not (length field == 0) && list_all is_ascii_digit field
+    && (not (slice_index field 0 == 48) || (length field == 1))
 
 -- a number with one more digit behind it
 abbrev pub with_digit : ℕ → ℕ → ℕ
@@ -44,15 +46,27 @@ abbrev pub Key : Type 0
 Key = Option ℕ × ℕ × ℕ
 
 -- a row, from its parts, where each is there
-abbrev pub row_from : Option (Option ℕ) → Option ℕ → Option ℕ → Option ℕ → Option ℕ → Option ℕ → Option ℕ → Option ℕ → Option (Key × Target)
-row_from (Some centre) (Some version) (Some parameter) (Some discipline) (Some category) (Some number) (Some master) (Some local) =
-    Some ((centre, version, parameter), record { discipline = discipline; category = category; number = number; master = master; local = local })
+abbrev pub row_from : Option (Option ℕ) → Option ℕ → Option ℕ
+    → Option ℕ → Option ℕ → Option ℕ → Option ℕ → Option ℕ → Option (Key × Target)
+row_from (Some centre) (Some version) (Some parameter)
+    (Some discipline) (Some category) (Some number) (Some master) (Some local) =
+    Some (
+      (centre, version, parameter),
+      record {
+        discipline = discipline;
+        category = category;
+        number = number;
+        master = master;
+        local = local;
+      },
+    )
 row_from _ _ _ _ _ _ _ _ = None
 
 -- what a record says, none where it does not have eight fields, the first a centre and each other a number
 abbrev pub row_in : Fields → Option (Key × Target)
 row_in (centre ∷ version ∷ parameter ∷ discipline ∷ category ∷ number ∷ master ∷ local ∷ []) =
-    row_from (centre_in centre) (number_in version) (number_in parameter) (number_in discipline) (number_in category) (number_in number) (number_in master) (number_in local)
+    row_from (centre_in centre) (number_in version) (number_in parameter)
+    (number_in discipline) (number_in category) (number_in number) (number_in master) (number_in local)
 row_in _ = None
 
 -- the rows of a text, in their order

@@ -15,8 +15,8 @@ pub fn a_table_has_the_rows_of_its_text()
 /// A number has one spelling, so two records have the same first three fields exactly where they are kept
 /// under the same key.
 pub fn a_number_has_one_spelling()
-    ensures { (first second : Field) (number : ℕ) → number_in first ≡ Some number → number_in second ≡ Some number
-        → first ≡ second }
+    ensures { (first second : Field) (number : ℕ) → number_in first ≡ Some number
+        → number_in second ≡ Some number → first ≡ second }
 {}
 
 /// Texts that are tables. Numbers are read from their octets; a byte order mark, quotes round a field,
@@ -25,11 +25,16 @@ pub fn a_number_has_one_spelling()
 pub fn tables_are_read()
     ensures plain { table_verdict (codes "98,2,11,0,0,1,2,0\n")
         ≡ Good (((Some 98, 2, 11), record { discipline = 0; category = 0; number = 1; master = 2; local = 0 }) ∷ []) }
-    ensures unended { table_verdict (codes "98,2,11,0,0,1,2,0") ≡ table_verdict (codes "98,2,11,0,0,1,2,0\n") }
-    ensures returned { table_verdict (codes "98,2,11,0,0,1,2,0\r\n") ≡ table_verdict (codes "98,2,11,0,0,1,2,0\n") }
-    ensures marked { table_verdict (239 ∷ 187 ∷ 191 ∷ codes "98,2,11,0,0,1,2,0\n") ≡ table_verdict (codes "98,2,11,0,0,1,2,0\n") }
-    ensures quoted { table_verdict (codes "\"98\",2,11,0,0,\"1\",2,0\n") ≡ table_verdict (codes "98,2,11,0,0,1,2,0\n") }
-    ensures spaced { table_verdict (codes "\n\r\n98,2,11,0,0,1,2,0\n\n") ≡ table_verdict (codes "98,2,11,0,0,1,2,0\n") }
+    ensures unended { table_verdict (codes "98,2,11,0,0,1,2,0")
+        ≡ table_verdict (codes "98,2,11,0,0,1,2,0\n") }
+    ensures returned { table_verdict (codes "98,2,11,0,0,1,2,0\r\n")
+        ≡ table_verdict (codes "98,2,11,0,0,1,2,0\n") }
+    ensures marked { table_verdict (239 ∷ 187 ∷ 191 ∷ codes "98,2,11,0,0,1,2,0\n")
+        ≡ table_verdict (codes "98,2,11,0,0,1,2,0\n") }
+    ensures quoted { table_verdict (codes "\"98\",2,11,0,0,\"1\",2,0\n")
+        ≡ table_verdict (codes "98,2,11,0,0,1,2,0\n") }
+    ensures spaced { table_verdict (codes "\n\r\n98,2,11,0,0,1,2,0\n\n")
+        ≡ table_verdict (codes "98,2,11,0,0,1,2,0\n") }
     ensures none { table_verdict [] ≡ Good [] }
 {}
 
