@@ -5,7 +5,7 @@ ghost use Rattle.std.specs.Io.KnownBytes.{Appends, Keeps};
 ghost use Rattle.grib_stream.specs.Acts.{world};
 ghost use Rattle.grib_stream.specs.Faults.{faults, CountsRun};
 ghost use Rattle.grib_stream.specs.Outcomes.{is_cut_short};
-ghost use Rattle.grib_stream.specs.declared.outcome.Outcome.TheVariants.{WriteFault, Memory};
+ghost use Rattle.grib_stream.specs.declared.outcome.Outcome.TheVariants.{Done, WriteFault, Memory};
 ghost use Rattle.grib_engine.specs.Closing.{Unfinished};
 ghost use Rattle.grib_engine.specs.Jobs.{makes};
 ghost use Rattle.grib_engine.specs.Outcomes.{note_of, NotesFront};
@@ -36,6 +36,8 @@ pub fn run<S: Source, T: Sink, N: Sink, H: Shelf>(
         (world (T.contents output.new) (H.contents shelf.new))) }
     ensures made_input { IfOk (asked.job_of (map string_bytes words.now)) (λ job.
         makes job ≡ true → input.new ≡ input.old) }
+    ensures made { IfOk (asked.job_of (map string_bytes words.now)) (λ job. makes job ≡ true
+        → (result ≡ Done) ⊎ ((result ≡ WriteFault) ⊎ (result ≡ Memory))) }
 
     // The notes, and the end of the run.
     ensures noted { is_cut_short result ≡ false → MatchResult (asked.job_of (map string_bytes words.now))

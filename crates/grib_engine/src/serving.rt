@@ -55,6 +55,7 @@ pub fn serve<S: Source, T: Sink, N: Sink, H: Shelf>(
         (faults (S.faults input.old) (T.faults output.old) (N.faults notes.old) (H.faults shelf.old))
         (faults (S.faults input.new) (T.faults output.new) (N.faults notes.new) (H.faults shelf.new)) }
     ensures made_input { makes job.now ≡ true → input.new ≡ input.old }
+    ensures made { makes job.now ≡ true → (result ≡ Done) ⊎ ((result ≡ WriteFault) ⊎ (result ≡ Memory)) }
     ensures shelf { shelf.new ≡ shelf.old }
 {
     match job {
