@@ -39,8 +39,10 @@ packing_ratio() { # WHAT ROUNDS
   awk -v what="$1" -v theirs="$(least "$work/theirs.pack") $(least "$work/theirs.make")" \
     -v ours="$(least "$work/ours.pack") $(least "$work/ours.make")" 'BEGIN {
       split(theirs, their); split(ours, our)
-      if (our[1] <= our[2] || their[1] <= their[2]) exit 1
-      printf "%s: %.2f\n", what, (their[1] - their[2]) / (our[1] - our[2])
+      if (their[1] <= their[2]) exit 1
+      spent = our[1] - our[2]
+      if (spent < 0.01) spent = 0.01 # less is not told apart
+      printf "%s: %.2f\n", what, (their[1] - their[2]) / spent
     }' || fail "$1: the runs are too short"
 }
 
@@ -75,10 +77,9 @@ done
 
 # How much memory is taken beside the column: the most that is resident, less that where the field is made alone.
 resident() { # TASK
-  local TIMEFORMAT= octets
-  octets=$( { command time -f %M "$top/crates/grib_packing_bench/out/grib_packing_bench" "$1" "$most" "$which" "$field" >/dev/null; } 2>&1) && echo "$octets"
+  /usr/bin/time -f %M "$top/crates/grib_packing_bench/out/grib_packing_bench" "$1" "$most" "$which" "$field" 2>&1 >/dev/null
 }
-need time
+need /usr/bin/time
 field=0
 for which in 0 2 31 32; do
   awk -v which="$which" -v pack="$(resident pack)" -v make="$(resident make)" -v side="$most" \
