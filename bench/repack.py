@@ -1,7 +1,7 @@
 #!/usr/bin/env python3
 """Packs files of edition 2 to each template and back, and compares: repack.py PROGRAM FILE..
 
-Wants grib_get_data and grib_set of ecCodes (Debian: libeccodes-tools). Each message is handed over by itself.
+Wants grib_filter and grib_set of ecCodes (Debian: libeccodes-tools). Each message is handed over by itself.
 What PROGRAM writes by `repack` to each target that can hold it has to print the same points and reference values
 by `dump` as the message, before and after it is packed back to the template that it came from; and ecCodes has to
 read the same values from it. Prints for each file what agrees, what cannot be kept by its cause, what differs, and
@@ -9,6 +9,7 @@ how many octets all messages have in each packing, with those that ecCodes itsel
 import collections
 import subprocess
 import sys
+import tempfile
 
 TARGETS = {
     "to=0": "grid_simple",
@@ -48,7 +49,12 @@ def template(program, message):
 
 
 def eccodes(message):
-    return run(["grib_get_data", "-m", "missing", "-F", "%.17g", "-L", "%.6f %.6f", "-"], message).stdout
+    """The values that ecCodes reads, in the order of the data, its own number where missing. `grib_get_data` would
+    lay the bitmap otherwise than the values where rows go to and fro."""
+    with tempfile.NamedTemporaryFile("w") as rules:
+        rules.write('print "[values%.17g!1]";')
+        rules.flush()
+        return run(["grib_filter", rules.name, "-"], message).stdout
 
 
 def main():
