@@ -50,7 +50,7 @@ done
 for words in "simple to=2" "simple to=3 order=2" "spatial to=0"; do
   message=$work/${words%% *}.grib2
   # shellcheck disable=SC2086
-  peak=$({ /usr/bin/time -f %M "$grib" repack ${words#* } <"$message" >/dev/null 2>/dev/null; } 2>&1 | tail -1)
+  peak=$({ /usr/bin/time -f %M "$grib" repack ${words#* } <"$message" >/dev/null; } 2>&1 | tail -1)
   awk -v what="$words" -v peak="$peak" -v size="$(wc -c <"$message")" -v points=$((side * side)) \
     'BEGIN { printf "%s: %.1f MB for a message of %.1f MB with %d points, %.1f octets a point\n", what, peak * 1024 / 1e6, size / 1e6, points, peak * 1024 / points }'
 done
