@@ -53,6 +53,13 @@ ratio() { # WHAT ROUNDS
     fail "$1: the runs are too short"
 }
 
+# Prints the path of the program of these sources.
+our_program() (
+  source "$top/dist/common.sh"
+  find_program
+  echo "$program"
+)
+
 # Makes a message of SIDE times SIDE points of 14 bits by `grib_filter` of ecCodes, from one of its samples: waves
 # in both directions and some noise.
 field_of_14_bits() { # SIDE SAMPLE FILE

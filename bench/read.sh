@@ -14,11 +14,7 @@ source "$(dirname "$0")/common.sh"
 need grib_ls "Debian: libeccodes-tools"
 side=${1:-4096}
 sample=/usr/share/eccodes/samples/regular_ll_pl_grib2.tmpl
-grib=$(
-  source "$top/dist/common.sh"
-  find_program
-  echo "$program"
-)
+grib=$(our_program)
 
 field_of_14_bits "$side" "$sample" "$work/simple.grib2"
 grib_set -r -s packingType=grid_complex "$work/simple.grib2" "$work/complex.grib2"

@@ -11,24 +11,14 @@ import subprocess
 import sys
 import tempfile
 
+from messages import messages
+
 TARGETS = {
     "to=0": "grid_simple",
     "to=2": "grid_complex",
     "to=3 order=1": "grid_complex_spatial_differencing",
     "to=3 order=2": "grid_complex_spatial_differencing",
 }
-
-
-def messages(data):
-    """The messages of edition 2 in the octets, by their stated total length."""
-    at = data.find(b"GRIB")
-    while at >= 0 and at + 16 <= len(data):
-        total = int.from_bytes(data[at + 8 : at + 16], "big")
-        if data[at + 7] == 2 and data[at + total - 4 : at + total] == b"7777":
-            yield data[at : at + total]
-            at = data.find(b"GRIB", at + total)
-        else:
-            at = data.find(b"GRIB", at + 4)
 
 
 def run(words, octets):
