@@ -13,12 +13,8 @@ import tempfile
 
 from messages import messages
 
-TARGETS = {
-    "to=0": "grid_simple",
-    "to=2": "grid_complex",
-    "to=3 order=1": "grid_complex_spatial_differencing",
-    "to=3 order=2": "grid_complex_spatial_differencing",
-}
+TARGETS = ["to=0", "to=2", "to=3 order=1", "to=3 order=2"]
+PACKINGS = ["grid_simple", "grid_complex", "grid_complex_spatial_differencing"]
 
 
 def run(words, octets):
@@ -58,7 +54,10 @@ def main():
             counts["messages"] += 1
             sizes["file"] += len(message)
             before, theirs, home = values(program, message), eccodes(message), template(program, message)
-            for target, packing in TARGETS.items():
+            for packing in PACKINGS:
+                own = run(["grib_set", "-r", "-s", "packingType=" + packing, "-", "/dev/stdout"], message)
+                sizes[packing + " by ecCodes"] += len(own.stdout)
+            for target in TARGETS:
                 packed = run([program, "repack"] + target.split(), message)
                 if packed.returncode != 0:
                     counts[target + " " + packed.stderr.decode().split()[3]] += 1
@@ -69,8 +68,6 @@ def main():
                 counts["DIFFER"] += values(program, packed.stdout) != before
                 counts["DIFFER after the way back"] += values(program, back.stdout) != before
                 counts["ecCodes DIFFERS"] += eccodes(packed.stdout) != theirs
-                own = run(["grib_set", "-r", "-s", "packingType=" + packing, "-", "/dev/stdout"], message)
-                sizes[target + " by ecCodes"] += len(own.stdout)
         failed |= any("DIFFER" in what and number for what, number in counts.items())
         print(path + ": " + ", ".join(f"{number} {what}" for what, number in counts.items() if number))
         print("  octets: " + ", ".join(f"{what} {number}" for what, number in sizes.items()), flush=True)

@@ -17,7 +17,7 @@ grib=$(our_program)
 field_of_14_bits "$side" "$sample" "$work/simple.grib2"
 "$grib" repack to=3 order=2 <"$work/simple.grib2" >"$work/spatial.grib2" 2>/dev/null
 
-# What each writes of a message, by the clock and in octets.
+# How fast each packs a message, and in how many octets.
 compare() { # WHAT FROM PACKING_TYPE WORD..
   local message=$work/$2 type=$3
   local words=("${@:4}")
