@@ -53,6 +53,7 @@ pub fn read_message1<'a>(alloc: Global, octets: &'a [u8]) -> Result<Message1<'a>
 
 /// What Section 3 says, or that there is none: its octets, how many points are present, and the octet of
 /// the message at which what follows begins.
+#[derive(Drop)]
 struct Bitmap<'a> {
     octets: Option<&'a [u8]>,
     present: u32,
