@@ -2,3 +2,5 @@ pub mod Rows
 pub mod Agreeing
 pub mod Places
 pub mod Parts
+pub mod Stays
+pub mod Fronts

@@ -72,6 +72,22 @@ bitmap_none m w = bitmap_none_by m (has_bitmap m) refl w
 
 -- ---- the whole message
 
+-- the refusal from the end mark on, from Section 4, Section 3 and Section 2 on
+abbrev pub from_end : List ℕ → Unit {0} → Option Fault
+from_end m u = first_fault (end_rows m (end_start m))
+
+abbrev pub from_data : List ℕ → Unit {0} → Option Fault
+from_data m u = or_else (section_fault m (data_start m) 11 (data_rows (values_of m))) (from_end m)
+
+abbrev pub from_bitmap : List ℕ → Unit {0} → Option Fault
+from_bitmap m u = or_else (bitmap_fault m) (from_data m)
+
+abbrev pub from_grid : List ℕ → Unit {0} → Option Fault
+from_grid m u = or_else (section_fault m (grid_start m) 6 grid_rows) (from_bitmap m)
+
+abbrev pub from_first : List ℕ → Unit {0} → Option Fault
+from_first m u = sections_fault m
+
 pub record Parts (m : List ℕ) : Type 0 where
   pub long : 8 ≤ length m
   pub least : 12 ≤ total_length_1 m
@@ -108,18 +124,12 @@ head_none m first long least =
 
 pub parts_from_none : (m : List ℕ) → edition m ≡ 1 → message_fault m ≡ None → Parts m
 parts_from_none m first e =
-    let a = or_none (first_fault (head_rows m)) (λ _. sections_fault m) e in
+    let a = or_none (first_fault (head_rows m)) (from_first m) e in
     let h = head_first m first a.0 in
-    let b = or_none (section_fault m 9 28 identification_rows)
-    (λ _. or_else (section_fault m (grid_start m) 6 grid_rows)
-    (λ _. or_else (bitmap_fault m)
-    (λ _. or_else (section_fault m (data_start m) 11 (data_rows (values_of m))) (λ _. first_fault (end_rows m (end_start m)))))) a.1 in
-    let c = or_none (section_fault m (grid_start m) 6 grid_rows)
-    (λ _. or_else (bitmap_fault m)
-    (λ _. or_else (section_fault m (data_start m) 11 (data_rows (values_of m))) (λ _. first_fault (end_rows m (end_start m))))) b.1 in
-    let d = or_none (bitmap_fault m)
-    (λ _. or_else (section_fault m (data_start m) 11 (data_rows (values_of m))) (λ _. first_fault (end_rows m (end_start m)))) c.1 in
-    let f = or_none (section_fault m (data_start m) 11 (data_rows (values_of m))) (λ _. first_fault (end_rows m (end_start m))) d.1 in
+    let b = or_none (section_fault m 9 28 identification_rows) (from_grid m) a.1 in
+    let c = or_none (section_fault m (grid_start m) 6 grid_rows) (from_bitmap m) b.1 in
+    let d = or_none (bitmap_fault m) (from_data m) c.1 in
+    let f = or_none (section_fault m (data_start m) 11 (data_rows (values_of m))) (from_end m) d.1 in
     let p = passes_from_none (end_rows m (end_start m)) f.1 in
     record {
       long = h.0;
@@ -135,20 +145,11 @@ parts_from_none m first e =
 
 pub none_from_parts : (m : List ℕ) → edition m ≡ 1 → Parts m → message_fault m ≡ None
 none_from_parts m first p =
-    none_or (first_fault (head_rows m)) (λ _. sections_fault m) (head_none m first p.long p.least)
-    (none_or (section_fault m 9 28 identification_rows)
-    (λ _. or_else (section_fault m (grid_start m) 6 grid_rows)
-    (λ _. or_else (bitmap_fault m)
-    (λ _. or_else (section_fault m (data_start m) 11 (data_rows (values_of m))) (λ _. first_fault (end_rows m (end_start m))))))
-    (none_from_whole m 9 28 identification_rows p.first)
-    (none_or (section_fault m (grid_start m) 6 grid_rows)
-    (λ _. or_else (bitmap_fault m)
-    (λ _. or_else (section_fault m (data_start m) 11 (data_rows (values_of m))) (λ _. first_fault (end_rows m (end_start m)))))
-    (none_from_whole m (grid_start m) 6 grid_rows p.second)
-    (none_or (bitmap_fault m)
-    (λ _. or_else (section_fault m (data_start m) 11 (data_rows (values_of m))) (λ _. first_fault (end_rows m (end_start m))))
-    (bitmap_none m p.third)
-    (none_or (section_fault m (data_start m) 11 (data_rows (values_of m))) (λ _. first_fault (end_rows m (end_start m)))
+    none_or (first_fault (head_rows m)) (from_first m) (head_none m first p.long p.least)
+    (none_or (section_fault m 9 28 identification_rows) (from_grid m) (none_from_whole m 9 28 identification_rows p.first)
+    (none_or (section_fault m (grid_start m) 6 grid_rows) (from_bitmap m) (none_from_whole m (grid_start m) 6 grid_rows p.second)
+    (none_or (bitmap_fault m) (from_data m) (bitmap_none m p.third)
+    (none_or (section_fault m (data_start m) 11 (data_rows (values_of m))) (from_end m)
     (none_from_whole m (data_start m) 11 (data_rows (values_of m)) p.fourth)
     (none_from_passes (end_rows m (end_start m)) (
     le-ltb (length m) (end_start m + 3) p.there,
