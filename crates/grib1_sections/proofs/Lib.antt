@@ -1,6 +1,8 @@
-pub mod Rows
 pub mod Agreeing
-pub mod Places
-pub mod Parts
-pub mod Stays
+pub mod Answered
 pub mod Fronts
+pub mod Joined
+pub mod Parts
+pub mod Places
+pub mod Rows
+pub mod Stays
