@@ -6,3 +6,4 @@ pub mod Stays
 pub mod Fronts
 pub mod Entries
 pub mod Columns
+pub mod Listed

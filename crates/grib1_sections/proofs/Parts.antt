@@ -45,12 +45,12 @@ pub none_from_whole : (m : List ℕ) (q least : ℕ) (rows : List ℕ → List R
 none_from_whole m q least rows w =
     none_or (first_fault (frame_rows m q least)) (λ _. first_fault_at q (rows (section_at m q)))
     (none_from_passes (frame_rows m q least) (
-    le-ltb (length m) (q + 2) w.begins,
-    (
-      or_from (nat_lt (octets m q (q + 2)) least) (nat_lt (total_length_1 m) (q - 1 + octets m q (q + 2) + 4))
-          (le-ltb (octets m q (q + 2)) least w.least_is) (le-ltb (total_length_1 m) (q - 1 + octets m q (q + 2) + 4) w.room),
-      (le-ltb (length m) (q - 1 + octets m q (q + 2)) w.there, tt),
-    ),
+      le-ltb (length m) (q + 2) w.begins,
+      (
+        or_from (nat_lt (octets m q (q + 2)) least) (nat_lt (total_length_1 m) (q - 1 + octets m q (q + 2) + 4))
+            (le-ltb (octets m q (q + 2)) least w.least_is) (le-ltb (total_length_1 m) (q - 1 + octets m q (q + 2) + 4) w.room),
+        (le-ltb (length m) (q - 1 + octets m q (q + 2)) w.there, tt),
+      ),
     ))
     (located-none q (first_fault (rows (section_at m q))) w.rows_hold)
 
@@ -152,8 +152,8 @@ none_from_parts m first p =
     (none_or (section_fault m (data_start m) 11 (data_rows (values_of m))) (from_end m)
     (none_from_whole m (data_start m) 11 (data_rows (values_of m)) p.fourth)
     (none_from_passes (end_rows m (end_start m)) (
-    le-ltb (length m) (end_start m + 3) p.there,
-    (not_from_true (ends_at m (end_start m)) p.ends, (le-ltb (end_start m + 3) (total_length_1 m) p.last, tt)),
+      le-ltb (length m) (end_start m + 3) p.there,
+      (not_from_true (ends_at m (end_start m)) p.ends, (le-ltb (end_start m + 3) (total_length_1 m) p.last, tt)),
     ))))))
 
 -- ---- where the sections lie

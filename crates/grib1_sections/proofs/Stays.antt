@@ -109,9 +109,9 @@ end_kept n u w q size h low total =
     let there : q + 3 ≤ n = omega (arith, size, ltb-false (length u) (q + 3) pass) in
     let same : octets w q (q + 3) ≡ octets u q (q + 3) = same_octets n u w q (q + 3) h low (omega arith) there in
     let after : ℕ → ℕ → Option Fault = λ mark t. first_fault (
-      row (not (mark == 926365495)) q EndMark mark
-      ∷ row (nat_lt (q + 3) t) (q + 4) LengthDisagrees (t - (q + 3))
-      ∷ []) in (
+    row (not (mark == 926365495)) q EndMark mark
+    ∷ row (nat_lt (q + 3) t) (q + 4) LengthDisagrees (t - (q + 3))
+    ∷ []) in (
       le-ltb (length w) (q + 3) (omega (arith, h.long_w, there)),
       inr (ap (λ mark. after mark (total_length_1 w)) same ∙ ap (after (octets u q (q + 3))) total),
     ))
