@@ -35,6 +35,7 @@ pub record HasBitmap (message : List ℕ) (s : Option (List ℕ)) (present after
   pub section : s ≡ bitmap message
   pub present_are : present ≡ values_of message
   pub place : after ≡ data_start message
+  pub low : 1 ≤ after
   pub there : after ≤ length message + 1
   pub room : after + 3 ≤ total_length_1 message
 
