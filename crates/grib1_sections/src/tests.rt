@@ -1,6 +1,8 @@
 //! Which messages are accepted, and why others are refused. The octets and the refusals are worked by hand
 //! from the tables of the manual and of docs/PROFILE.md.
 
+ghost use Rattle.std.specs.Prelude.{◌≤◌};
+
 use crate::contents_tests::{MASKED, PLAIN, REDUCED};
 use crate::{Message1, ReadFault1, read_message1};
 use grib_io::{Fault, Reason};
@@ -24,13 +26,26 @@ fn refusal(alloc: Global, octets: &[u8]) -> Option<Fault> {
     }
 }
 
+/// The number of octets of a section, 0 for none.
+fn octets_in(message: &Message1<'_>, number: u8) -> usize
+    requires low { 1 ≤ number }
+    requires high { number ≤ 4 }
+{
+    message.section(number).map_or(0, |octets| octets.len())
+}
+
 /// The length, the number of points, of those present, and the octets of Sections 1 to 4, 0 for none; all
 /// 0 where the message is refused.
 fn told(alloc: Global, octets: &[u8]) -> (u64, u32, u32, [usize; 4]) {
     let Ok(message) = read(alloc, octets) else {
         return (0, 0, 0, [0; 4]);
     };
-    let sections = [1, 2, 3, 4].map(|number| message.section(number).map_or(0, |s| s.len()));
+    let sections = [
+        octets_in(&message, 1),
+        octets_in(&message, 2),
+        octets_in(&message, 3),
+        octets_in(&message, 4),
+    ];
     (
         message.length(),
         message.points(),
