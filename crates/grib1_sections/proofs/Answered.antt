@@ -37,7 +37,6 @@ use Rattle.grib1_sections.proofs.Parts.{parts_inside, from_end, from_data, from_
 pub sum_more : (f : ℕ → ℕ) (n : ℕ) → sum (map f (range_with_len 0 (n + 1))) ≡ sum (map f (range_with_len 0 n)) + f n
 sum_more f n = ap sum (map-range_with_len_more f 0 n n (omega arith)) ∙ sum_by_push (λ x. x) (map f (range_with_len 0 n)) (f n)
 
-
 -- ---- rows that are tried in parts
 
 skip_none : (b : Bool) (x : Fault) (rest more last : Option Fault) → cond b (Some x) rest ≡ None → (rest ≡ None → more ≡ last) → cond b (Some x) more ≡ last
@@ -69,8 +68,8 @@ pub two_passed : (s : List ℕ) (t least : ℕ) → t ≡ grid_type s → is_tem
 two_passed s t least e known is long =
     let least_is : least ≡ least_length grid_types (grid_type s) = is ∙ ap (least_length grid_types) e in
     none_from_passes (take 2 (grid_rows s)) (
-    not_from_true (is_template grid_types (grid_type s)) (ap (is_template grid_types) (sym e) ∙ known),
-    (le-ltb (length s) (least_length grid_types (grid_type s)) (omega (arith, least_is, long)), tt),
+      not_from_true (is_template grid_types (grid_type s)) (ap (is_template grid_types) (sym e) ∙ known),
+      (le-ltb (length s) (least_length grid_types (grid_type s)) (omega (arith, least_is, long)), tt),
     )
 
 -- ---- refusals that `?` made
