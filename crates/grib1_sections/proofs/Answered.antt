@@ -1,5 +1,5 @@
 -- What is answered while a message is read.
-use Rattle.std.proofs.Common.{◌≡◌, ℕ, ◌+◌, ◌-◌, ◌*◌, ◌≤◌, true, false, Bool, cond, Option, Some, None, List, [], ◌∷◌, ◌++◌, length, take, map, sum, refl, sym, ap, ap₂, ◌∙◌, arith, subst, le-ltb, eq-eqb}
+use Rattle.std.proofs.Common.{◌≡◌, ℕ, ◌+◌, ◌≤◌, true, false, Bool, cond, Option, Some, None, List, [], ◌∷◌, ◌++◌, length, take, map, sum, refl, sym, ap, ap₂, ◌∙◌, arith, subst, le-ltb, eq-eqb}
 use Rattle.std.specs.Prelude.{Result, Ok, Err, IsErrAnd, MatchResult}
 use Rattle.std.specs.List.{range_with_len}
 use Rattle.std.proofs.lemmas.Bool.{not_from_true}
@@ -15,7 +15,7 @@ use Rattle.grib2_sections.specs.Head.{indicator, edition, discipline, head_rows,
 use Rattle.grib2_sections.specs.Template.{is_template, least_length}
 use Rattle.grib_bitmap.specs.Mask.{present_count}
 use Rattle.grib_bitmap.proofs.Runs.{present_count-replicate}
-use Rattle.grib1_sections.specs.Frame.{end_rows, section_at, after}
+use Rattle.grib1_sections.specs.Frame.{end_rows, section_at}
 use Rattle.grib1_sections.specs.Identification.{identification_rows}
 use Rattle.grib1_sections.specs.Grid.{grid_rows, grid_types, grid_type}
 use Rattle.grib1_sections.specs.Bitmap.{bitmap_rows, mask_of}

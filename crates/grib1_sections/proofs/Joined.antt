@@ -1,5 +1,5 @@
 -- An accepted message is its sections one after another, and sections that are joined are accepted.
-use Rattle.std.proofs.Common.{◌≡◌, ℕ, zero, suc, ◌+◌, ◌-◌, ◌*◌, ◌<◌, ◌≤◌, Bool, true, false, ◌==◌, ◌||◌, Option, Some, None, List, [], ◌∷◌, ◌++◌, length, take, drop, All, nat_lt, refl, sym, ap, ap₂, ◌∙◌, subst, arith, append_assoc, append-nil, length-append, length-drop, length-take-le, take-append-drop, take-take, take_all, drop-drop, take_at, drop_at, ltb-false, eqb-true, eq-eqb}
+use Rattle.std.proofs.Common.{◌≡◌, ℕ, zero, suc, ◌+◌, ◌-◌, ◌*◌, ◌<◌, ◌≤◌, Bool, true, false, ◌==◌, Option, Some, None, List, [], ◌∷◌, ◌++◌, length, take, drop, All, nat_lt, refl, sym, ap, ap₂, ◌∙◌, subst, arith, append_assoc, append-nil, length-append, length-drop, length-take-le, take-append-drop, take-take, take_all, drop-drop, take_at, drop_at, ltb-false, eqb-true, eq-eqb}
 use Rattle.std.proofs.lemmas.Bool.{or_parts}
 use Rattle.std.proofs.lemmas.List.{take-append-le}
 use Rattle.std.proofs.lemmas.List.Elements.{All-drop}
@@ -20,11 +20,10 @@ use Rattle.grib1_sections.specs.Acceptance.{message_fault, verdict_1, has_bitmap
 use Rattle.grib1_sections.specs.Grammar.{Sections, IsSection, IsBitmap, joined_sections, Grammar1}
 use Rattle.grib1_sections.specs.Message.{IsMessage1, SectionsPass}
 use Rattle.grib1_sections.proofs.Rows.{none_accepted, passes_from_none}
-use Rattle.grib1_sections.proofs.Agreeing.{agree_front, same_octets}
 use Rattle.grib1_sections.proofs.Places.{grid_start-is, bitmap_start-is, data_start-flagged, data_start-plain, end_start-is, bitmap-flagged, bitmap-plain}
-use Rattle.grib1_sections.proofs.Parts.{Whole, Parts, PartsInside, parts_inside, none_from_parts}
+use Rattle.grib1_sections.proofs.Parts.{Whole, Parts, parts_inside, none_from_parts}
 use Rattle.grib1_sections.proofs.Stays.{accepted_stays}
-use Rattle.grib1_sections.proofs.Fronts.{accepted_parts, accepted_states, accepted_there, accepted_least, front_parts, front_edition, front_states}
+use Rattle.grib1_sections.proofs.Fronts.{accepted_parts, accepted_there, accepted_least, front_parts, front_edition, front_states}
 
 -- ---- one section
 

@@ -1,5 +1,5 @@
 -- Lemmas on the lists of a Section 2 that is not refused.
-use Rattle.std.proofs.Common.{◌≡◌, ℕ, ◌+◌, ◌-◌, ◌*◌, ◌<◌, ◌≤◌, Bool, true, false, not, cond, ◌&&◌, ◌||◌, None, List, [], ◌∷◌, length, nat_lt, ◌==◌, find, refl, sym, ap, ◌∙◌, arith, subst, ltb-false}
+use Rattle.std.proofs.Common.{◌≡◌, ℕ, ◌+◌, ◌*◌, ◌<◌, ◌≤◌, Bool, true, false, not, cond, ◌&&◌, ◌||◌, None, List, [], ◌∷◌, length, nat_lt, ◌==◌, find, refl, sym, ap, ◌∙◌, arith, subst, ltb-false}
 use Rattle.std.specs.Option.{option_map_or}
 use Rattle.std.proofs.lemmas.Bool.{or_parts, not-false, ltb-true}
 use Rattle.std.specs.declared.option.Option.TheVariants.{Some}

@@ -16,7 +16,7 @@ use Rattle.grib1_sections.specs.Acceptance.{or_else, section_fault, bitmap_fault
 use Rattle.grib1_sections.proofs.Rows.{or_none, passes_from_none, accepted_none, none_accepted, refused_some, some_refused}
 use Rattle.grib1_sections.proofs.Agreeing.{Agree, Inside, agree_more, same_octets, same_section}
 use Rattle.grib1_sections.proofs.Places.{GridInside, BitmapInside, same_flag, same_grid_start, same_bitmap_start, same_points, same_data_start, same_values, same_end_start, grid_start-is, bitmap_start-is, data_start-flagged, data_start-plain, end_start-is}
-use Rattle.grib1_sections.proofs.Parts.{Whole, bitmap_whole, head_first, head_none, from_end, from_data, from_bitmap, from_grid, from_first}
+use Rattle.grib1_sections.proofs.Parts.{bitmap_whole, head_first, from_end, from_data, from_bitmap, from_grid, from_first}
 
 -- ---- a refusal that asks for more, or the same
 

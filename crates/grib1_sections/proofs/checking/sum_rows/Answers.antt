@@ -1,4 +1,4 @@
-use Rattle.std.proofs.Common.{ℕ, ◌+◌, ◌*◌, ap, ap₂, sym, ◌∙◌, arith}
+use Rattle.std.proofs.Common.{ℕ, ◌+◌, ◌*◌, ap₂, sym, ◌∙◌, arith}
 use Rattle.grib_bits.specs.Octets.{octets}
 use Rattle.grib1_sections.proofs.Answered.{sum_more}
 use Rattle.grib1_sections.proofs.checking.sum_rows.Goals as goal

@@ -1,11 +1,11 @@
-use Rattle.std.proofs.Common.{◌≡◌, ℕ, ◌+◌, ◌≤◌, None, length, take, length-take-le, sym, ap, ap₂, ◌∙◌, subst, arith}
+use Rattle.std.proofs.Common.{◌≡◌, ℕ, ◌≤◌, None, length, take, length-take-le, sym, ap, ap₂, ◌∙◌, subst, arith}
 use Rattle.grib_io.specs.Rows.{first_fault}
 use Rattle.grib2_sections.specs.Head.{total_length_1}
 use Rattle.grib2_sections.specs.Verdict.{Accepted}
 use Rattle.grib1_sections.specs.Frame.{end_rows, section_at}
 use Rattle.grib1_sections.specs.Grid.{grid_rows, grid_points}
 use Rattle.grib1_sections.specs.Data.{data_rows}
-use Rattle.grib1_sections.specs.Acceptance.{section_fault, bitmap_fault, message_fault, verdict_1, grid_start, bitmap_start, data_start, end_start, grid as grid_of, points_of, values_of}
+use Rattle.grib1_sections.specs.Acceptance.{section_fault, bitmap_fault, verdict_1, grid_start, data_start, end_start, grid as grid_of, values_of}
 use Rattle.grib1_sections.specs.Message.{IsMessage1}
 use Rattle.grib1_sections.proofs.Fronts.{accepted_there, front_is_message}
 use Rattle.grib1_sections.proofs.Answered.{refused, passed_on, refused_grid, refused_bitmap, refused_data, refused_end, all_passed, grid_place, bitmap_place, end_place, head_total, keeps_front}

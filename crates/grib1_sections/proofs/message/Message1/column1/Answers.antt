@@ -1,8 +1,6 @@
-use Rattle.std.proofs.Common.{ℕ, ◌≤◌, length, arith}
+use Rattle.std.proofs.Common.{◌≤◌, length, arith}
 use Rattle.std.proofs.lemmas.Result.{IfOk-weaker}
 use Rattle.grib_packing.specs.declared.column.Column.{Column}
-use Rattle.grib1_sections.specs.Bitmap.{mask_of}
-use Rattle.grib1_sections.specs.Column.{column_from}
 use Rattle.grib1_sections.proofs.Columns.{length-column}
 use Rattle.grib1_sections.proofs.message.Message1.column1.Goals as goal
 

@@ -1,4 +1,4 @@
-use Rattle.std.proofs.Common.{◌≡◌, ◌∙◌, ap, List, ℕ, subst}
+use Rattle.std.proofs.Common.{◌≡◌, subst}
 use Rattle.grib1_sections.specs.Acceptance.{grid}
 use Rattle.grib1_sections.specs.Held.{HoldsLists}
 use Rattle.grib1_sections.proofs.Listed.{holds_lists}
