@@ -1,16 +1,16 @@
 //! What a job does with the messages of an input.
 
-ghost use Rattle.std.specs.Prelude.{◌≡◌, ◌≢◌, true};
+ghost use Rattle.std.specs.Prelude.{◌≡◌, ◌≢◌, ◌≤◌, ◌^◌, true, false};
 ghost use Rattle.grib_io.specs.Outside.{Counted};
 ghost use Rattle.grib_repack.specs.Repacked.{repacked, repack_misfit};
 ghost use Rattle.grib_repack.specs.Faults.{target_of};
 ghost use Rattle.grib_stream.specs.Acts.{world, writes};
 ghost use Rattle.grib_stream.specs.Task.{Gives};
 ghost use Rattle.grib_engine.specs.Answering.{Answers, answered_by};
-ghost use Rattle.grib_engine.specs.Jobs.{is_target, has_target};
+ghost use Rattle.grib_engine.specs.Jobs.{is_target, has_target, uses_shelf};
 ghost use Rattle.grib_engine.specs.Reading.{held_octets};
 ghost use Rattle.grib_engine.specs.Tasks.{message_text, given, given_unless};
-ghost use Rattle.grib_engine.specs.declared.answering.Answered.TheVariants.{WriteFault};
+ghost use Rattle.grib_engine.specs.declared.answering.Answered.TheVariants.{WriteFault, ShelfFault};
 
 use crate::job::Job;
 use crate::printing::write_message;
@@ -31,13 +31,15 @@ pub enum Answered {
     Kept(Cause),
     /// The output failed.
     WriteFault,
+    /// The shelf failed.
+    ShelfFault,
     /// Want of memory.
     Memory,
 }
 
 /// Does what the job says of a message at this place; `make` says nothing of messages. After a fault or
-/// want of memory some first octets of its result may have been appended. The shelf is not used by these
-/// jobs.
+/// want of memory some front of its result was done. `split` leaves the output as it was, and every other
+/// job the shelf.
 pub fn answer_message<T: Sink, H: Shelf>(
     alloc: Global,
     job: &Job,
@@ -46,13 +48,18 @@ pub fn answer_message<T: Sink, H: Shelf>(
     output: &mut T,
     shelf: &mut H,
 ) -> Answered
-    requires { has_target job.now ≡ true }
+    requires target { has_target job.now ≡ true }
+    requires fields { place.now.fields ≤ 2 ^ 41 }
     ensures answers { Answers result place.now.message (given job.now place.now (held_octets held.now))
         (world (T.contents output.old) (H.contents shelf.old))
         (world (T.contents output.new) (H.contents shelf.new)) }
     ensures write_fault { result ≡ WriteFault → Counted (T.faults output.old) (T.faults output.new) }
     ensures write_calm { result ≢ WriteFault → T.faults output.new ≡ T.faults output.old }
-    ensures shelf { shelf.new ≡ shelf.old }
+    ensures shelf_fault { result ≡ ShelfFault → Counted (H.faults shelf.old) (H.faults shelf.new) }
+    ensures shelf_calm { result ≢ ShelfFault → H.faults shelf.new ≡ H.faults shelf.old }
+    ensures shelf { uses_shelf job.now ≡ false → shelf.new ≡ shelf.old }
+    ensures unshelved { uses_shelf job.now ≡ false → result ≢ ShelfFault }
+    ensures output { uses_shelf job.now ≡ true → output.new ≡ output.old }
 {
     let Held::Two(message) = held;
     match job {
@@ -80,6 +87,7 @@ fn print<T: Sink, H: Shelf>(
     ensures write_fault { result ≡ WriteFault → Counted (T.faults output.old) (T.faults output.new) }
     ensures write_calm { result ≢ WriteFault → T.faults output.new ≡ T.faults output.old }
     ensures shelf { shelf.new ≡ shelf.old }
+    ensures unshelved { result ≢ ShelfFault }
 {
     match write_message(alloc, job, place, message, output) {
         Ok(()) => Answered::Whole(0),
@@ -106,6 +114,7 @@ fn write_repacked<T: Sink, H: Shelf>(
     ensures write_fault { result ≡ WriteFault → Counted (T.faults output.old) (T.faults output.new) }
     ensures write_calm { result ≢ WriteFault → T.faults output.new ≡ T.faults output.old }
     ensures shelf { shelf.new ≡ shelf.old }
+    ensures unshelved { result ≢ ShelfFault }
 {
     let octets = match repack(alloc, message, target) {
         Ok(octets) => octets,
