@@ -5,6 +5,8 @@ use Rattle.grib_stream.specs.Task.{Given, Gives, Ends}
 use Rattle.grib_stream.specs.declared.outcome.Cause.TheVariants as causes
 use Rattle.grib_repack.specs.declared.fault.RepackFault.{RepackFault}
 use Rattle.grib_repack.specs.declared.fault.RepackFault.TheVariants as faults
+use Rattle.grib_select.specs.declared.changing.SetFault.{SetFault}
+use Rattle.grib_select.specs.declared.changing.SetFault.TheVariants as unset
 use Rattle.grib_engine.specs.declared.answering.Answered.{Answered}
 use Rattle.grib_engine.specs.declared.answering.Answered.TheVariants.{Whole, Kept, WriteFault, ShelfFault, Memory}
 use Rattle.grib_engine.specs.Tasks.{kept_at}
@@ -29,3 +31,9 @@ answered_by (faults.OutOfRange field point) = Kept (causes.OutOfRange field poin
 answered_by (faults.DifferenceRange field) = Kept (causes.DifferenceRange field)
 answered_by (faults.OutputTooLong length) = Kept (causes.OutputTooLong length)
 answered_by faults.Memory = Memory
+
+-- what comes of a message in which no key is set
+abbrev pub answered_unset : SetFault → Answered
+answered_unset (unset.KeyRange key) = Kept (causes.KeyRange key)
+answered_unset (unset.KeyAbsent field key) = Kept (causes.KeyAbsent field key)
+answered_unset unset.Memory = Memory

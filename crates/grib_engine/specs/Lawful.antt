@@ -28,7 +28,7 @@ use Rattle.grib_packing.specs.Misfits.{Target}
 use Rattle.grib_repack.specs.Faults.{target_of}
 use Rattle.grib_repack.specs.Repacked.{RepackMisfit, OutputTooLong, repacked, misfit_among, or_later, length_misfit, repack_misfit}
 use Rattle.grib_engine.specs.declared.job.Job.{Job}
-use Rattle.grib_engine.specs.declared.job.Job.TheVariants.{Check, List as Listing, Dump, Repack, Make}
+use Rattle.grib_engine.specs.declared.job.Job.TheVariants.{Check, List as Listing, Dump, Filter, Split, Set, Repack, Make}
 use Rattle.grib_engine.specs.Tasks.{judged, judge, message_text, cause_of, kept_at, given_unless, given, task}
 
 -- ---- the judgement, by the edition
@@ -229,7 +229,7 @@ lawful job = record {
       let m = message_judged octets total is in
       let there = accepted_there octets total (not_first octets m.other_edition) m.verdict_is in
       omega (arith, few_fields (take total octets), length-take-le total octets there);
-  few_written = λ place octets total acts written is gives.
+  few_written = λ place octets total acts written begun is gives.
       omega (arith, least_message octets total is, few_given job place (take total octets) acts written gives);
   ends_at_message = λ place message outcome is. ends_given job place message outcome is;
 }

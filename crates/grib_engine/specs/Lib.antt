@@ -1,5 +1,7 @@
 pub mod Jobs
 pub mod Notes
+pub mod Parts
+pub mod Shelving
 pub mod Outcomes
 pub mod Tasks
 pub mod Lawful

@@ -2,7 +2,7 @@
 
 ghost use Rattle.std.specs.Prelude.{◌≡◌, true, false};
 ghost use Rattle.grib_stream.specs.Stream.{begins};
-ghost use Rattle.grib_engine.specs.Jobs.{has_target};
+ghost use Rattle.grib_engine.specs.Jobs.{CanChange, has_target};
 
 use crate::answering::{Answered, answer_message};
 use crate::ending::{counted, write_ending};
@@ -21,6 +21,7 @@ const LEAST: u64 = 20;
 pub(crate) struct Answering<'a> {
     pub job: &'a Job,
     pub ghost target_stands: { has_target job.now ≡ true },
+    pub ghost changes_stand: { CanChange job.now },
 }
 
 impl Performer for Answering<'_> {
@@ -32,7 +33,7 @@ impl Performer for Answering<'_> {
 
     ghost uses_shelf = { λ answering. jobs.uses_shelf answering.job.now };
 
-    ghost lawful = { λ answering. laws.lawful answering.job.now };
+    ghost lawful = { λ answering. laws.lawful answering.job.now answering.changes_stand };
 
     /// The stated total length, where it stands.
     fn wanted(&self, octets: &[u8]) -> u64 {

@@ -8,7 +8,7 @@ ghost use Rattle.grib_stream.specs.Faults.{faults, CountsRun, OneCounted};
 ghost use Rattle.grib_stream.specs.declared.outcome.Outcome.TheVariants.{Done, WriteFault, ShelfFault, Memory};
 ghost use Rattle.grib_engine.specs.Closing.{Unfinished};
 ghost use Rattle.grib_engine.specs.Counts.{Calm};
-ghost use Rattle.grib_engine.specs.Jobs.{IsJob, has_target, makes, uses_shelf};
+ghost use Rattle.grib_engine.specs.Jobs.{IsJob, CanChange, has_target, makes, uses_shelf};
 ghost use Rattle.grib_engine.specs.Outcomes.{note_with, NotesFront};
 ghost use Rattle.grib_engine.specs.Serving.{RunsJob, NotesJob, NotesJobFront};
 ghost use Rattle.grib_engine.specs.Tasks as tasks;
@@ -66,9 +66,13 @@ pub fn serve<S: Source, T: Sink, N: Sink, H: Shelf>(
             nj,
             target,
         } => serve_made(alloc, *seed, *ni, *nj, *target, output, notes),
-        Job::Check | Job::List | Job::Dump | Job::Repack(_) => {
-            serve_messages(alloc, job, input, output, notes, shelf)
-        }
+        Job::Check
+        | Job::List
+        | Job::Dump
+        | Job::Filter(_)
+        | Job::Split(_)
+        | Job::Set(_)
+        | Job::Repack(_) => { serve_messages(alloc, job, input, output, notes, shelf) }
     }
 }
 
@@ -82,6 +86,7 @@ fn serve_messages<S: Source, T: Sink, N: Sink, H: Shelf>(
     shelf: &mut H,
 ) -> Outcome
     requires target { has_target job.now ≡ true }
+    requires changes { CanChange job.now }
     requires reads { makes job.now ≡ false }
     ensures runs { RunsJob job.now result (S.left input.old) (S.left input.new)
         (world (T.contents output.old) (H.contents shelf.old))
