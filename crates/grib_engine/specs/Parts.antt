@@ -2,7 +2,7 @@
 -- field has in the whole input.
 use Rattle.std.specs.Prelude.{ℕ, ◌+◌, List, [], ◌∷◌, ◌++◌, length, map, codes}
 use Rattle.std.specs.Fmt.{decimal}
-use Rattle.std.specs.List.{concat, range_with_len, sum_by}
+use Rattle.std.specs.List.{flat_map, range_with_len, sum_by}
 use Rattle.grib2_message.specs.Fields.{field_count}
 use Rattle.grib_select.specs.Single.{single_of}
 use Rattle.grib_stream.specs.Acts.{Act, Makes, Adds}
@@ -40,7 +40,7 @@ abbrev pub puts : Part → List Act
 puts part = Makes part.name ∷ adds part.name part.octets
 
 abbrev pub puts_all : List Part → List Act
-puts_all parts = concat (map puts parts)
+puts_all parts = flat_map puts parts
 
 abbrev pub octets_within : List Part → ℕ
 octets_within parts = sum_by (λ part. length part.octets) parts
