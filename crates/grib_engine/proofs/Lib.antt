@@ -7,3 +7,4 @@ pub mod Made
 pub mod Keeping
 pub mod Wanted
 pub mod Finite
+pub mod Shelved
