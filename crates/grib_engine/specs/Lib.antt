@@ -2,6 +2,7 @@ pub mod Jobs
 pub mod Notes
 pub mod Outcomes
 pub mod Tasks
+pub mod FieldOctets
 pub mod Lawful
 pub mod Serving
 pub mod Same
