@@ -4,6 +4,7 @@ pub mod Parts
 pub mod Shelving
 pub mod Outcomes
 pub mod Tasks
+pub mod FieldOctets
 pub mod Lawful
 pub mod Serving
 pub mod Same
