@@ -10,13 +10,12 @@ use Rattle.std.proofs.KnownBytes.{Appends-nil}
 use Rattle.std.proofs.lemmas.Bool.{cases_Bool, false≢true}
 use Rattle.std.proofs.lemmas.List.{map-append}
 use Rattle.std.proofs.lemmas.List.Concat.{flat_map-append}
-use Rattle.std.proofs.lemmas.List.FromFn.{map-range_with_len_more, sum_by-map-range_with_len_more}
+use Rattle.std.proofs.lemmas.List.FromFn.{map-range_with_len_more}
 use Rattle.std.proofs.lemmas.Slice.Eq.{bytes_eq-Decides}
 use Rattle.grib_io.specs.Shelves.{Held, OthersAsBefore, OthersStay, Turns, AddsPiece}
-use Rattle.grib_select.specs.Single.{single_of}
 use Rattle.grib_stream.specs.Acts.{Act, Makes, Adds, written, held_after, world, NamesDid, Did, DidFront}
 use Rattle.grib_stream.proofs.Worlds.{did_none, did_then, did_still, front_whole, front_more, front_after}
-use Rattle.grib_engine.specs.Parts.{Part, part, part_of, first_parts, adds, puts, puts_all, octets_within}
+use Rattle.grib_engine.specs.Parts.{Part, part, part_of, first_parts, adds, puts, puts_all}
 use Rattle.grib_engine.specs.Shelving.{DidOnShelf, DidFrontOnShelf, Shelves}
 use Rattle.grib_engine.proofs.Pending.{on_refused}
 
@@ -178,12 +177,6 @@ module _ (out : List ℕ) (before : ℕ) (message : List ℕ) where
       ap puts_all (map-range_with_len_more (part_of out before message) 1 k i is)
       ∙ (flat_map-append puts (first_parts out before message k) (part_of out before message i ∷ [])
       ∙ ap (λ acts. puts_all (first_parts out before message k) ++ acts) (append-nil (puts (part_of out before message i))))
-
-  pub octets_more : (k i written : ℕ) → 1 + k ≡ i → written ≡ length (single_of message i)
-      → octets_within (first_parts out before message k) + written ≡ octets_within (first_parts out before message (k + 1))
-  octets_more k i written is size =
-      ap (λ n. octets_within (first_parts out before message k) + n) size
-      ∙ sym (sum_by-map-range_with_len_more (λ p. length p.octets) (part_of out before message) 1 k i is)
 
   pub fields_put : (a b c : Option Held) (k i : ℕ) → 1 + k ≡ i → DidOnShelf a b (puts_all (first_parts out before message k))
       → DidOnShelf b c (puts (part_of out before message i)) → DidOnShelf a c (puts_all (first_parts out before message (k + 1)))

@@ -44,6 +44,8 @@ use Rattle.grib_engine.specs.declared.job.Job.{Job}
 use Rattle.grib_engine.specs.declared.job.Job.TheVariants.{Check, List as Listing, Dump, Filter, Split, Set, Repack, Make}
 use Rattle.grib_engine.specs.Jobs.{CanChange}
 use Rattle.grib_engine.specs.FieldOctets.{twenty_each, single_most, texts_most}
+use Rattle.grib_engine.specs.Parts.{parts_of, octets_within}
+use Rattle.grib_engine.specs.PartOctets.{parts_few}
 use Rattle.grib_engine.specs.Tasks.{judged, judge, message_text, cause_of, kept_at, texts_from, given_unless, given_set, all_fulfil, single_if, filtered, given, task}
 
 -- ---- the judgement, by the edition
@@ -263,6 +265,10 @@ few_given (Filter conditions) can place message acts written h is =
     let few = few_filtered conditions message h in
     let same : length (filtered conditions message) ≡ written = cc in
     omega arith
+few_given (Split name) can place message acts written h is =
+    let few = parts_few name place.fields message h in
+    let same : octets_within (parts_of name place.fields message) ≡ written = cc in
+    omega arith
 few_given (Set changes) can place message acts written h is =
     let few = message_most (with_keys message changes) (changed_accepted message changes h (can_be_set changes can)) in
     few_each written message h (few_set (set_fault message changes) place.message (with_keys message changes) acts written few is)
@@ -272,7 +278,6 @@ few_given (Repack target) can place message acts written h is =
 few_given Check can place message acts written h is = none_counted (writes (message_text Check place message)) acts written message is
 few_given Listing can place message acts written h is = none_counted (writes (message_text Listing place message)) acts written message is
 few_given Dump can place message acts written h is = none_counted (writes (message_text Dump place message)) acts written message is
-few_given (Split name) can place message acts written h is = none_counted [] acts written message is
 few_given (Make seed ni nj target) can place message acts written h is = none_counted [] acts written message is
 
 -- a run ends at a message that is kept

@@ -5,6 +5,7 @@ pub mod Shelving
 pub mod Outcomes
 pub mod Tasks
 pub mod FieldOctets
+pub mod PartOctets
 pub mod Lawful
 pub mod Serving
 pub mod Same
