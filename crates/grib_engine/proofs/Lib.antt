@@ -8,3 +8,4 @@ pub mod Keeping
 pub mod Wanted
 pub mod Finite
 pub mod Shelved
+pub mod Standing

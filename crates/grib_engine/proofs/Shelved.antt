@@ -34,7 +34,7 @@ on_shelf a b acts none did = λ output. record { output = subst (Appends output 
 
 -- ---- one name
 
-same_name : (name : List ℕ) → bytes_eq name name ≡ true
+pub same_name : (name : List ℕ) → bytes_eq name name ≡ true
 same_name name = (bytes_eq-Decides name name).1 refl
 
 pub held_adds : (name held octets : List ℕ) → held_after name (Some held) (adds name octets) ≡ Some (held ++ octets)
@@ -155,7 +155,7 @@ field_unbegun result a acts refused = record { whole = on_refused result _ refus
 
 -- ---- field after field
 
-range-append : (a m n : ℕ) → range_with_len a (m + n) ≡ range_with_len a m ++ range_with_len (a + m) n
+pub range-append : (a m n : ℕ) → range_with_len a (m + n) ≡ range_with_len a m ++ range_with_len (a + m) n
 range-append a zero n =
     let e : 0 + n ≡ n = omega arith in
     let f : a ≡ a + 0 = omega arith in

@@ -9,6 +9,7 @@ pub mod PartOctets
 pub mod Lawful
 pub mod Serving
 pub mod Same
+pub mod Standing
 pub mod Reading
 pub mod Answering
 pub mod Counts
