@@ -128,6 +128,10 @@ put_added (Ok x) (Some a) (Some b) (Some c) name octets empty others now others_
 put_added {T} {E} (Err e) (Some a) (Some b) (Some c) name octets empty others now others_then =
     record { whole = tt; front = put_cut {T} {E} e a b c name octets empty others now others_then }
 
+-- what was told whole
+pub whole_told : {T E : Type 0} (x : T) (a b : Option Held) (acts : List Act) → DidOnShelf a b acts → Shelves {T} {E} (Ok x) a b acts
+whole_told x a b acts did = record { whole = did; front = λ output. front_whole (world output a) (world output b) acts (did output) }
+
 -- ---- a field
 
 part_is : (name octets shown_name shown : List ℕ) → shown_name ≡ name → shown ≡ octets → part shown_name shown ≡ part name octets
