@@ -3,6 +3,7 @@ pub mod Pending
 pub mod Noted
 pub mod Served
 pub mod Answers
+pub mod Filtered
 pub mod Made
 pub mod Keeping
 pub mod Wanted
