@@ -10,7 +10,7 @@ use Rattle.grib_stream.specs.Answer.{Answer}
 use Rattle.grib_stream.specs.declared.outcome.Outcome.{Outcome}
 use Rattle.grib_stream.specs.declared.outcome.Outcome.TheVariants.{ReadFault, WriteFault, Memory}
 use Rattle.grib_engine.specs.declared.job.Job.{Job}
-use Rattle.grib_engine.specs.declared.job.Job.TheVariants.{Check, List as Listing, Dump, Repack, Make}
+use Rattle.grib_engine.specs.declared.job.Job.TheVariants.{Check, List as Listing, Dump, Filter, Split, Set, Repack, Make}
 use Rattle.grib_engine.specs.Outcomes.{note_of, NotesFront}
 use Rattle.grib_engine.specs.Serving.{RunsJob, NotesJobFront}
 use Rattle.grib_stream.specs.Task.{Task}
@@ -90,6 +90,9 @@ runs_nothing (Make seed ni nj target) result left before now cut did = gives_not
 runs_nothing Check result left before now cut did = runs_task (task Check) result left before now cut did
 runs_nothing Listing result left before now cut did = runs_task (task Listing) result left before now cut did
 runs_nothing Dump result left before now cut did = runs_task (task Dump) result left before now cut did
+runs_nothing (Filter conditions) result left before now cut did = runs_task (task (Filter conditions)) result left before now cut did
+runs_nothing (Split name) result left before now cut did = runs_task (task (Split name)) result left before now cut did
+runs_nothing (Set changes) result left before now cut did = runs_task (task (Set changes)) result left before now cut did
 runs_nothing (Repack target) result left before now cut did = runs_task (task (Repack target)) result left before now cut did
 
 -- a front of the note of want of memory
@@ -102,6 +105,12 @@ fronts_memory Listing None f f_now s s_now a b front = tt
 fronts_memory Listing (Some input) f f_now s s_now a b front = record { front = inr (inr (inr front)) }
 fronts_memory Dump None f f_now s s_now a b front = tt
 fronts_memory Dump (Some input) f f_now s s_now a b front = record { front = inr (inr (inr front)) }
+fronts_memory (Filter conditions) None f f_now s s_now a b front = tt
+fronts_memory (Filter conditions) (Some input) f f_now s s_now a b front = record { front = inr (inr (inr front)) }
+fronts_memory (Split name) None f f_now s s_now a b front = tt
+fronts_memory (Split name) (Some input) f f_now s s_now a b front = record { front = inr (inr (inr front)) }
+fronts_memory (Set changes) None f f_now s s_now a b front = tt
+fronts_memory (Set changes) (Some input) f f_now s s_now a b front = record { front = inr (inr (inr front)) }
 fronts_memory (Repack target) None f f_now s s_now a b front = tt
 fronts_memory (Repack target) (Some input) f f_now s s_now a b front = record { front = inr (inr (inr front)) }
 

@@ -5,8 +5,10 @@ use Rattle.grib_stream.specs.Task.{Given, Gives, Ends}
 use Rattle.grib_stream.specs.declared.outcome.Cause.TheVariants as causes
 use Rattle.grib_repack.specs.declared.fault.RepackFault.{RepackFault}
 use Rattle.grib_repack.specs.declared.fault.RepackFault.TheVariants as faults
+use Rattle.grib_select.specs.declared.changing.SetFault.{SetFault}
+use Rattle.grib_select.specs.declared.changing.SetFault.TheVariants as unset
 use Rattle.grib_engine.specs.declared.answering.Answered.{Answered}
-use Rattle.grib_engine.specs.declared.answering.Answered.TheVariants.{Whole, Kept, WriteFault, Memory}
+use Rattle.grib_engine.specs.declared.answering.Answered.TheVariants.{Whole, Kept, WriteFault, ShelfFault, Memory}
 use Rattle.grib_engine.specs.Tasks.{kept_at}
 
 -- what is done for a message; nothing, where it is kept
@@ -19,6 +21,7 @@ abbrev pub Answers : Answered → ℕ → Given → World → World → Type 0
 Answers (Whole written) m given before now = (acts : List Act) × (given ≡ Gives acts written) × Did before now acts
 Answers (Kept cause) m given before now = (given ≡ Ends (kept_at m cause)) × Did before now []
 Answers WriteFault m given before now = DidFront before now (acts_given given)
+Answers ShelfFault m given before now = DidFront before now (acts_given given)
 Answers Memory m given before now = DidFront before now (acts_given given)
 
 -- what comes of a message that is not repacked
@@ -28,3 +31,9 @@ answered_by (faults.OutOfRange field point) = Kept (causes.OutOfRange field poin
 answered_by (faults.DifferenceRange field) = Kept (causes.DifferenceRange field)
 answered_by (faults.OutputTooLong length) = Kept (causes.OutputTooLong length)
 answered_by faults.Memory = Memory
+
+-- what comes of a message in which no key is set
+abbrev pub answered_unset : SetFault → Answered
+answered_unset (unset.KeyRange key) = Kept (causes.KeyRange key)
+answered_unset (unset.KeyAbsent field key) = Kept (causes.KeyAbsent field key)
+answered_unset unset.Memory = Memory

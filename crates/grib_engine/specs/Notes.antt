@@ -4,7 +4,7 @@ use Rattle.std.specs.Fmt.{decimal}
 use Rattle.grib_keys.specs.Keys.{name_of}
 use Rattle.grib_stream.specs.declared.place.Totals.{Totals}
 use Rattle.grib_stream.specs.declared.outcome.Cause.{Cause}
-use Rattle.grib_stream.specs.declared.outcome.Cause.TheVariants.{SecondaryMissing, OutOfRange, DifferenceRange, OutputTooLong, KeyRange, KeyAbsent}
+use Rattle.grib_stream.specs.declared.outcome.Cause.TheVariants.{EditionOne, SecondaryMissing, OutOfRange, DifferenceRange, OutputTooLong, KeyRange, KeyAbsent}
 
 -- message m is kept by a cause of this name at a point of a field
 abbrev pub note_at_point : ℕ → List ℕ → ℕ → ℕ → List ℕ
@@ -21,6 +21,7 @@ note_without_key m name field =
 
 -- message m is kept, and by what
 abbrev pub kept_note : ℕ → Cause → List ℕ
+kept_note m EditionOne = codes "kept message " ++ decimal m ++ codes " EditionOne" ++ 10 ∷ []
 kept_note m (SecondaryMissing field point) = note_at_point m (codes "SecondaryMissing") field point
 kept_note m (OutOfRange field point) = note_at_point m (codes "OutOfRange") field point
 kept_note m (DifferenceRange field) = codes "kept message " ++ decimal m ++ codes " DifferenceRange field " ++ decimal field ++ 10 ∷ []

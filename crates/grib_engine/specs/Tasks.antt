@@ -1,5 +1,6 @@
 -- What the commands do with the messages of an input.
-use Rattle.std.specs.Prelude.{ℕ, zero, suc, ◌+◌, ◌^◌, Option, Some, None, List, [], ◌++◌, length, ◌==◌}
+use Rattle.std.specs.Prelude.{ℕ, zero, suc, ◌+◌, ◌^◌, Bool, Option, Some, None, List, [], ◌++◌, length, ◌==◌}
+use Rattle.std.specs.List.{list_all, range_with_len}
 use Rattle.grib_bits.specs.Bits.{bits_of, signed}
 use Rattle.grib_dyadic.specs.Reference.{ieee, reduced}
 use Rattle.grib_io.specs.Rows.{choose}
@@ -18,17 +19,25 @@ use Rattle.grib_text.specs.Lines.{check_line, total_line, list_line, reference_l
 use Rattle.grib_stream.specs.declared.outcome.Outcome.{Outcome}
 use Rattle.grib_stream.specs.declared.outcome.Outcome.TheVariants.{Done, Kept}
 use Rattle.grib_stream.specs.declared.outcome.Cause.{Cause}
+use Rattle.grib_stream.specs.declared.outcome.Cause.TheVariants as causes
 use Rattle.grib_stream.specs.declared.outcome.Cause.TheVariants.{SecondaryMissing, OutOfRange, DifferenceRange, OutputTooLong}
 use Rattle.grib_repack.specs.declared.target.RepackTarget.{RepackTarget}
 use Rattle.grib_repack.specs.Faults.{target_of}
+use Rattle.grib_keys.specs.declared.condition.Condition.{Condition}
+use Rattle.grib_select.specs.Values.{fulfils_all}
+use Rattle.grib_select.specs.Single.{single_of}
+use Rattle.grib_select.specs.Changed.{with_keys, set_fault}
+use Rattle.grib_select.specs.declared.changing.SetFault.{SetFault}
+use Rattle.grib_select.specs.declared.changing.SetFault.TheVariants.{KeyRange, KeyAbsent, Memory}
 use Rattle.grib_repack.specs.Repacked as misfits
 use Rattle.grib_repack.specs.Repacked.{RepackMisfit, repacked, repack_misfit}
 use Rattle.grib_made.specs.Points.{made_points}
 use Rattle.grib_made.specs.Summary.{present_count, present_sum}
 use Rattle.grib_made.specs.Made.{made}
 use Rattle.grib_engine.specs.declared.job.Job.{Job}
-use Rattle.grib_engine.specs.declared.job.Job.TheVariants.{Check, List as Listing, Dump, Repack, Make}
+use Rattle.grib_engine.specs.declared.job.Job.TheVariants.{Check, List as Listing, Dump, Filter, Split, Set, Repack, Make}
 use Rattle.grib_engine.specs.Notes.{written_note, made_note}
+use Rattle.grib_engine.specs.Parts.{parts_of, puts_all, octets_within}
 use Rattle.grib_engine.specs.Outcomes.{note_of}
 
 abbrev pub judged : Verdict → Judgement
@@ -54,11 +63,15 @@ abbrev pub texts_from : (ℕ → List ℕ) → ℕ → ℕ → List ℕ
 texts_from text zero i = []
 texts_from text (suc n) i = text i ++ texts_from text n (i + 1)
 
--- what is printed of each field of a message; changed messages are written, and nothing of them is printed
+-- what is printed of each field of a message; of messages that are written as they are or changed nothing is
+-- printed
 abbrev pub field_text : Job → List ℕ → ℕ → ℕ → List ℕ
 field_text Check message m i = []
 field_text Listing message m i = list_line message m i
 field_text Dump message m i = dump_text message m i
+field_text (Filter conditions) message m i = []
+field_text (Split name) message m i = []
+field_text (Set changes) message m i = []
 field_text (Repack target) message m i = []
 field_text (Make seed ni nj target) message m i = []
 
@@ -78,15 +91,46 @@ cause_of (misfits.OutputTooLong length) = OutputTooLong length
 abbrev pub kept_at : ℕ → Cause → Outcome
 kept_at m cause = Kept (record { message = m; cause = cause })
 
+-- these octets are written, and counted
+abbrev pub given_whole : List ℕ → Given
+given_whole octets = Gives (writes octets) (length octets)
+
 -- these octets are written, or message m is kept by its misfit
 abbrev pub given_unless : Option RepackMisfit → ℕ → List ℕ → Given
-given_unless None m octets = Gives (writes octets) (length octets)
+given_unless None m octets = given_whole octets
 given_unless (Some misfit) m octets = Ends (kept_at m (cause_of misfit))
 
--- what a message gives: its printed text, which no note counts, or the changed message; nothing to `make`
+-- these octets are written, or message m is kept by the fault of a change. No change is at fault for want of memory.
+abbrev pub given_set : Option SetFault → ℕ → List ℕ → Given
+given_set None m octets = given_whole octets
+given_set (Some (KeyRange key)) m octets = Ends (kept_at m (causes.KeyRange key))
+given_set (Some (KeyAbsent field key)) m octets = Ends (kept_at m (causes.KeyAbsent field key))
+given_set (Some Memory) m octets = given_whole octets
+
+-- whether each field of a message has every key with its value
+abbrev pub all_fulfil : List Condition → List ℕ → Bool
+all_fulfil conditions message = list_all (λ i. fulfils_all message i conditions) (range_with_len 1 (field_count message))
+
+-- field i as a message of its own, where it has every key with its value
+abbrev pub single_if : List Condition → List ℕ → ℕ → List ℕ
+single_if conditions message i = choose (fulfils_all message i conditions) (λ _. single_of message i) (λ _. [])
+
+-- the message itself, where each of its fields fulfils the conditions, else those that do, one after another
+abbrev pub filtered : List Condition → List ℕ → List ℕ
+filtered conditions message =
+    choose (all_fulfil conditions message) (λ _. message)
+    (λ _. texts_from (single_if conditions message) (field_count message) 1)
+
+-- what a message gives: its printed text, which no note counts, those of its fields that are asked for, or the
+-- changed message; nothing to `make`
 abbrev pub given : Job → Place → List ℕ → Given
 given (Repack target) place message =
     given_unless (repack_misfit (target_of target) message) place.message (repacked (target_of target) message)
+given (Filter conditions) place message = given_whole (filtered conditions message)
+given (Split name) place message =
+    let parts = parts_of name place.fields message in
+    Gives (puts_all parts) (octets_within parts)
+given (Set changes) place message = given_set (set_fault message changes) place.message (with_keys message changes)
 given (Make seed ni nj target) place message = Gives [] 0
 given job place message = Gives (writes (message_text job place message)) 0
 
@@ -97,6 +141,9 @@ ending_text job totals = []
 
 -- what is noted at the end of the input, by what was counted
 abbrev pub ending_note : Job → Totals → List ℕ
+ending_note (Filter conditions) totals = written_note totals
+ending_note (Split name) totals = written_note totals
+ending_note (Set changes) totals = written_note totals
 ending_note (Repack target) totals = written_note totals
 ending_note job totals = []
 

@@ -32,7 +32,13 @@ pub(crate) fn write_ending<T: Sink>(
             let line = total_line(alloc, totals.messages, totals.fields, totals.skipped)?;
             write_whole(output, line.as_slice())
         }
-        Job::List | Job::Dump | Job::Repack(_) | Job::Make { .. } => write_whole(output, b""),
+        Job::List
+        | Job::Dump
+        | Job::Filter(_)
+        | Job::Split(_)
+        | Job::Set(_)
+        | Job::Repack(_)
+        | Job::Make { .. } => write_whole(output, b""),
     }
 }
 
@@ -41,7 +47,9 @@ pub(crate) fn ending_note(alloc: Global, job: &Job, totals: &Totals) -> Result<V
     ensures { IfOk result (λ note. note.items ≡ tasks.ending_note job.now totals.now) }
 {
     match job {
-        Job::Repack(_) => written_note(alloc, totals),
+        Job::Filter(_) | Job::Split(_) | Job::Set(_) | Job::Repack(_) => written_note(
+            alloc, totals,
+        ),
         Job::Check | Job::List | Job::Dump | Job::Make { .. } => Ok(Vec::new(alloc)),
     }
 }

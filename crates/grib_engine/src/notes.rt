@@ -30,6 +30,7 @@ fn kept_text(alloc: Global, message: u64, cause: &Cause) -> Result<String, Alloc
     ensures { IfOk result (λ text. string_bytes text ≡ notes.kept_note message cause.now) }
 {
     match *cause {
+        Cause::EditionOne => format!(in alloc; "kept message {message} EditionOne\n"),
         Cause::SecondaryMissing { field, point } => {
             text_at_point(alloc, message, "SecondaryMissing", field, point)
         }

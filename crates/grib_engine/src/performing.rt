@@ -2,7 +2,7 @@
 
 ghost use Rattle.std.specs.Prelude.{◌≡◌, true, false};
 ghost use Rattle.grib_stream.specs.Stream.{begins};
-ghost use Rattle.grib_engine.specs.Jobs.{has_target};
+ghost use Rattle.grib_engine.specs.Jobs.{CanChange, has_target};
 
 use crate::answering::{Answered, answer_message};
 use crate::ending::{counted, write_ending};
@@ -21,17 +21,19 @@ const LEAST: u64 = 20;
 pub(crate) struct Answering<'a> {
     pub job: &'a Job,
     pub ghost target_stands: { has_target job.now ≡ true },
+    pub ghost changes_stand: { CanChange job.now },
 }
 
 impl Performer for Answering<'_> {
     ghost use Rattle.grib_engine.specs.Tasks as tasks;
+    ghost use Rattle.grib_engine.specs.Jobs as jobs;
     ghost use Rattle.grib_engine.specs.Lawful as laws;
 
     ghost task = { λ answering. tasks.task answering.job.now };
 
-    ghost uses_shelf = { λ _. false };
+    ghost uses_shelf = { λ answering. jobs.uses_shelf answering.job.now };
 
-    ghost lawful = { λ answering. laws.lawful answering.job.now };
+    ghost lawful = { λ answering. laws.lawful answering.job.now answering.changes_stand };
 
     /// The stated total length, where it stands.
     fn wanted(&self, octets: &[u8]) -> u64 {
@@ -62,6 +64,7 @@ impl Performer for Answering<'_> {
                 cause,
             })),
             Answered::WriteFault => Performed::Ends(Outcome::WriteFault),
+            Answered::ShelfFault => Performed::Ends(Outcome::ShelfFault),
             Answered::Memory => Performed::Ends(Outcome::Memory),
         }
     }

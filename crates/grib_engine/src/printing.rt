@@ -37,9 +37,13 @@ pub(crate) fn write_message<T: Sink>(
 {
     match job {
         Job::Check => write_check(alloc, place, message, output),
-        Job::List | Job::Dump | Job::Repack(_) | Job::Make { .. } => {
-            write_fields(alloc, job, place.message, message, output)
-        }
+        Job::List
+        | Job::Dump
+        | Job::Filter(_)
+        | Job::Split(_)
+        | Job::Set(_)
+        | Job::Repack(_)
+        | Job::Make { .. } => { write_fields(alloc, job, place.message, message, output) }
     }
 }
 
@@ -120,9 +124,14 @@ fn append_field<T: Sink>(
     ensures counted { CountsStops result (T.faults output.old) (T.faults output.new) }
 {
     match job {
-        Job::Check | Job::Repack(_) | Job::Make { .. } => append_text(lines, b"", output),
         Job::List => append_listed(alloc, number, message, field, lines, output),
         Job::Dump => append_dumped(alloc, number, message, field, lines, output),
+        Job::Check
+        | Job::Filter(_)
+        | Job::Split(_)
+        | Job::Set(_)
+        | Job::Repack(_)
+        | Job::Make { .. } => append_text(lines, b"", output),
     }
 }
 

@@ -75,7 +75,7 @@ so_far_message task lawful taken acts done totals place total fields written pen
     let message = message_next task _ pending total fields written done is in
     let within : total ≤ length pending = lawful.there pending total message.accepted in
     let least : 4 ≤ total = lawful.least pending total message.accepted in
-    let little : 20 * written ≤ 268435456 * total = lawful.few_written _ pending total done written message.accepted message.given in
+    let little : 20 * written ≤ 268435456 * total = lawful.few_written _ pending total done written begun message.accepted message.given in
     let few : fields ≤ total = subst (λ n. n ≤ total) message.counted (lawful.few_fields pending total message.accepted) in
     record {
       whole = λ more.

@@ -5,7 +5,7 @@ use Rattle.grib_stream.specs.declared.outcome.Outcome.{Outcome}
 use Rattle.grib_stream.specs.declared.outcome.Outcome.TheVariants.{NotBuilt}
 use Rattle.grib_stream.specs.declared.place.Place.{Place}
 use Rattle.grib_stream.specs.declared.place.Totals.{Totals}
-use Rattle.grib_stream.specs.Stream.{Judgement, Message, Faulty, Unbuilt}
+use Rattle.grib_stream.specs.Stream.{Judgement, Message, Faulty, Unbuilt, begins}
 use Rattle.grib_stream.specs.Acts.{Act}
 use Rattle.grib_stream.specs.Outcomes.{is_truncated, is_of_message}
 
@@ -34,9 +34,9 @@ pub record Task : Type 0 where
 
 -- What is said of octets stays said whatever follows them, but for the refusal of octets that end too
 -- early. An accepted length is at least 4, its octets are there, and the acceptance rests on them alone. An
--- outcome with which a run ends at a message is one of a message. For each 20 octets of a message, the
--- fewest that one has, at most 268435456 octets are counted as written, the most that one has: so the sum
--- over an input of 2 ^ 40 octets fits 64 bits.
+-- outcome with which a run ends at a message is one of a message. For each 20 octets of a message that begins
+-- with `GRIB`, the fewest that a field has, at most 268435456 octets are counted as written, the most that a
+-- message has: so the sum over an input of 2 ^ 40 octets fits 64 bits.
 pub record IsLawful (task : Task) : Type 0 where
   pub message_stays : (octets more : List ℕ) (total : ℕ) → task.judge octets ≡ Message total → task.judge (octets ++ more) ≡ Message total
   pub refusal_stays : (octets more : List ℕ) (fault : Fault) → task.judge octets ≡ Faulty fault → is_truncated fault.reason ≡ false
@@ -46,7 +46,7 @@ pub record IsLawful (task : Task) : Type 0 where
   pub there : (octets : List ℕ) (total : ℕ) → task.judge octets ≡ Message total → total ≤ length octets
   pub alone : (octets : List ℕ) (total : ℕ) → task.judge octets ≡ Message total → task.judge (take total octets) ≡ Message total
   pub few_fields : (octets : List ℕ) (total : ℕ) → task.judge octets ≡ Message total → task.fields (take total octets) ≤ total
-  pub few_written : (place : Place) (octets : List ℕ) (total : ℕ) (acts : List Act) (written : ℕ) → task.judge octets ≡ Message total
+  pub few_written : (place : Place) (octets : List ℕ) (total : ℕ) (acts : List Act) (written : ℕ) → begins octets ≡ true → task.judge octets ≡ Message total
       → task.result place (take total octets) ≡ Gives acts written → 20 * written ≤ 268435456 * total
   pub ends_at_message : (place : Place) (message : List ℕ) (outcome : Outcome) → task.result place message ≡ Ends outcome → is_of_message outcome ≡ true
 

@@ -10,6 +10,8 @@ use grib_keys::Key;
 /// counted from 1 in their message, and grid points from 1 in their field.
 #[derive(Clone, Copy, Debug, PartialEq, Eq)]
 pub enum Cause {
+    /// It is of edition 1, whose messages are only read.
+    EditionOne,
     /// The packing has no code for a secondary missing value.
     SecondaryMissing { field: u32, point: u32 },
     /// The packing has no room for a scaled number.
