@@ -6,6 +6,7 @@ pub mod Outcomes
 pub mod Dumped
 pub mod EditionOne
 pub mod Tasks
+pub mod FieldOctets
 pub mod Lawful
 pub mod Serving
 pub mod Same
