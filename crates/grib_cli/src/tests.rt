@@ -12,6 +12,7 @@ use std::alloc::{AllocError, Global};
 use std::io::{self, Write};
 use std::test::Fail;
 
+mod editions;
 mod packing;
 
 // The message M1 of docs/PROFILE.md, a field of 2 by 2 points.
@@ -363,10 +364,6 @@ fn what_is_to_come_is_not_built(rt: HostRuntime) -> Result<(), Fail> {
         let ran = run_over(rt.alloc(), words, &PLAIN, 50, CALM)?;
         assert!(rt; ran.is(Outcome::NotBuilt, "", "not built\n"));
     }
-    let mut octets = PLAIN;
-    octets[7] = 1;
-    let ran = run_over(rt.alloc(), "check", &octets, 50, CALM)?;
-    assert!(rt; ran.is(Outcome::NotBuilt, "", "not built\n"));
     Ok(())
 }
 
