@@ -8,3 +8,7 @@ pub mod Grammar
 pub mod Message
 pub mod ReadFaults
 pub mod Kept
+pub mod Keys
+pub mod Coordinates
+pub mod Column
+pub mod Held
