@@ -3,7 +3,8 @@
 use Rattle.std.specs.Prelude.{ℕ, List, [], length}
 use Rattle.grib_dyadic.specs.Reference.{ibm, reduced}
 use Rattle.grib1_sections.specs.Column.{column1_of}
-use Rattle.grib_text.specs.Lines.{check_line, list_line1}
+use Rattle.grib_text.specs.Lines.{check_line}
+use Rattle.grib_text.specs.Lines1.{list_line1}
 use Rattle.grib_stream.specs.declared.place.Place.{Place}
 use Rattle.grib_stream.specs.declared.outcome.Outcome.TheVariants.{Kept}
 use Rattle.grib_stream.specs.declared.outcome.Cause.TheVariants.{EditionOne}
