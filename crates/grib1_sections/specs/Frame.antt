@@ -1,7 +1,6 @@
 -- The frame of the sections after Section 0 (WMO-No. 306, Volume I.2, FM 92 GRIB edition 1): octets 1-3
 -- of a section are its length, and `7777` ends the message.
-use Rattle.std.specs.Prelude.{ℕ, ◌+◌, ◌-◌, Bool, false, not, ◌||◌, List, [], ◌∷◌, length, get_or, nat_lt}
-use Rattle.grib_bits.specs.Bits.{bits_of}
+use Rattle.std.specs.Prelude.{ℕ, ◌+◌, ◌-◌, ◌/◌, ◌%◌, ◌^◌, Bool, not, ◌||◌, List, [], ◌∷◌, length, nat_lt, ◌==◌}
 use Rattle.grib_bits.specs.Octets.{octets, octet_list}
 use Rattle.grib_io.specs.declared.fault.Reason.TheVariants.{Truncated, SectionLength, EndMark, LengthDisagrees}
 use Rattle.grib_io.specs.Rows.{Row, row}
@@ -13,7 +12,7 @@ section_length section = octets section 1 3
 
 -- bit n of an octet, bit 1 being the most significant
 abbrev pub bit : ℕ → ℕ → Bool
-bit n octet = get_or (bits_of 8 octet) (n - 1) false
+bit n octet = octet / 2 ^ (8 - n) % 2 == 1
 
 -- rows B1 to B3, of a section at octet q whose kind has this least length
 abbrev pub frame_rows : List ℕ → ℕ → ℕ → List Row

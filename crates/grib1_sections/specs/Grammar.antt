@@ -21,7 +21,7 @@ pub record Sections : Type 0 where
 -- the octets begin with their length, are at least so many, and pass these rows
 pub record IsSection (least : ℕ) (rows : List ℕ → List Row) (s : List ℕ) : Type 0 where
   pub length_stands : section_length s ≡ length s
-  pub least : least ≤ length s
+  pub long : least ≤ length s
   pub rows_hold : first_fault (rows s) ≡ None
 
 abbrev pub IsBitmap : ℕ → Option (List ℕ) → Type 0

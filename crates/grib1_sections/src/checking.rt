@@ -14,7 +14,7 @@ ghost use Rattle.grib1_sections.specs.Data.{data_rows};
 ghost use Rattle.grib1_sections.specs.Kept.{IsReadFault, HasRows};
 
 use crate::ReadFault1;
-use crate::frame::Placed;
+use crate::frame::{Placed, has_bit};
 use grib_bitmap::{Mask, ones};
 use grib_io::{Fault, Reason};
 use grib2_sections::{u8_at, u16_at};
@@ -30,7 +30,7 @@ pub(crate) fn check_identification(section: &Placed<'_>) -> Result<(), Fault>
         ≡ Some fault) }
 {
     let flags = u8_at(section.octets, 8);
-    if flags & 0x80 == 0 {
+    if !has_bit(flags, 1) {
         return Err(section.refusal(8, Reason::NoGridSection, u64::from(flags)));
     }
     Ok(())
@@ -123,7 +123,8 @@ fn lists_rows(octets: &[u8]) -> bool
 /// How many numbers of points the list of rows has.
 fn row_count(octets: &[u8]) -> usize
     requires { 32 ≤ length octets.now }
-    ensures { result ≡ grid.row_count octets.now }
+    ensures count { result ≡ grid.row_count octets.now }
+    ensures few { result < 2 ^ 16 }
 {
     if lists_rows(octets) {
         u16_at(octets, 9) as usize
@@ -207,13 +208,13 @@ pub(crate) fn check_data(section: &Placed<'_>, present: u32) -> Result<(), Fault
 {
     let octets = section.octets;
     let flags = u8_at(octets, 4);
-    if flags & 0x80 != 0 {
+    if has_bit(flags, 1) {
         return Err(section.refusal(4, Reason::Harmonics, u64::from(flags)));
     }
-    if flags & 0x40 != 0 {
+    if has_bit(flags, 2) {
         return Err(section.refusal(4, Reason::SecondOrder, u64::from(flags)));
     }
-    if flags & 0x10 != 0 {
+    if has_bit(flags, 4) {
         return Err(section.refusal(4, Reason::ExtraFlags, u64::from(flags)));
     }
     let bits = u8_at(octets, 11);

@@ -27,10 +27,10 @@ pub(crate) fn read_column(
     points: u32,
 ) -> Result<Column, AllocError>
     requires identification { 28 ≤ length section1.now }
-    requires bitmap { HoldsBits (option_copied section3.entry) points }
+    requires bitmap { HoldsBits (option_copied section3) points }
     requires width { bit_width section4.now ≤ 48 }
     requires header { 11 ≤ length section4.now }
-    requires numbers { present_count (mask_of (option_copied section3.entry) points)
+    requires numbers { present_count (mask_of (option_copied section3) points)
         * bit_width section4.now + 88 ≤ 8 * length section4.now }
     ensures { IfOk result (λ column. column
         ≡ column_from section1.now (mask_of (option_copied section3.entry) points) section4.now) }
@@ -54,9 +54,9 @@ fn read_points(
     bits: u32,
     points: u32,
 ) -> Result<Vec<Point>, AllocError>
-    requires bitmap { HoldsBits (option_copied section3.entry) points }
+    requires bitmap { HoldsBits (option_copied section3) points }
     requires width { bits ≤ 48 }
-    requires numbers { bits * present_count (mask_of (option_copied section3.entry) points)
+    requires numbers { bits * present_count (mask_of (option_copied section3) points)
         ≤ 8 * length octets.now }
     ensures { let presence = mask_of (option_copied section3.entry) points in
         IfOk result (λ entries. entries.items ≡ points_with_mask presence

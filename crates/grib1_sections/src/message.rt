@@ -45,7 +45,7 @@ impl<'a> Message1<'a> {
         points: u32,
         values: u32,
     ) -> Message1<'a>
-        requires { Keeps octets.now identification.now grid.now (option_copied bitmap.entry)
+        requires { Keeps octets.now identification.now grid.now (option_copied bitmap)
             «data».now points values }
         ensures { result ≡ octets.now }
     {

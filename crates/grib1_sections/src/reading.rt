@@ -13,7 +13,7 @@ ghost use Rattle.grib1_sections.specs.ReadFaults.{IsVerdict};
 ghost use Rattle.grib1_sections.specs.Kept.{IsReadFault, Stands, HasBitmap};
 
 use crate::checking::{check_bitmap, check_data, check_grid, check_identification};
-use crate::frame::{Placed, check_end, section_from};
+use crate::frame::{Placed, check_end, has_bit, section_from};
 use crate::{Message1, ReadFault1};
 use grib_io::Fault;
 use grib2_sections::{read_head, u8_at};
@@ -53,6 +53,7 @@ pub fn read_message1<'a>(alloc: Global, octets: &'a [u8]) -> Result<Message1<'a>
 
 /// What Section 3 says, or that there is none: its octets, how many points are present, and the octet of
 /// the message at which what follows begins.
+#[derive(Drop)]
 struct Bitmap<'a> {
     octets: Option<&'a [u8]>,
     present: u32,
@@ -95,7 +96,7 @@ fn flags_bitmap(identification: &[u8]) -> bool
     requires { 28 ≤ length identification.now }
     ensures { result ≡ is_flagged identification.now }
 {
-    u8_at(identification, 8) & 0x40 != 0
+    has_bit(u8_at(identification, 8), 2)
 }
 
 /// Reads Section 3, where it is flagged, of a message of `total` octets. It begins at octet `start`, and
