@@ -113,7 +113,7 @@ limit_acts : (t : Task) (a : Answer) → (at_limit t a).acts ≡ a.acts
 limit_acts t a =
     ⊎_elim (λ unclosed. ap (λ x. x.acts) (open_at_limit t a unclosed)) (λ closed. ap (λ x. x.acts) (closed_at_limit t a closed)) (cases_Bool (is_open a.outcome))
 
-within_acts : (t : Task) (limit : ℕ) (input : List ℕ) → (answer_within limit t input).acts ≡ (answer_of t (take limit input)).acts
+pub within_acts : (t : Task) (limit : ℕ) (input : List ℕ) → (answer_within limit t input).acts ≡ (answer_of t (take limit input)).acts
 within_acts t limit input =
     ⊎_elim (λ (long : limit < length input). ap (λ a. a.acts) (within_long t limit input long) ∙ limit_acts t (answer_of t (take limit input)))
     (λ (short : length input ≤ limit). ap (λ a. a.acts) (within_short t limit input short ∙ ap (answer_of t) (sym (take_all limit input short))))

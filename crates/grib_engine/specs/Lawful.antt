@@ -45,6 +45,8 @@ use Rattle.grib_engine.specs.declared.job.Job.TheVariants.{Check, List as Listin
 use Rattle.grib_engine.specs.Jobs.{CanChange}
 use Rattle.grib_engine.specs.EditionOne.{message_text_1, kept_first, given_1}
 use Rattle.grib_engine.specs.FieldOctets.{twenty_each, single_most, texts_most}
+use Rattle.grib_engine.specs.Parts.{parts_of, octets_within}
+use Rattle.grib_engine.specs.PartOctets.{parts_few}
 use Rattle.grib_engine.specs.Tasks.{judged, judge, fields_of, message_text_2, cause_of, kept_at, texts_from, given_unless, given_set, all_fulfil, single_if, filtered, given_2, given, task}
 
 -- ---- the judgement, by the edition
@@ -311,6 +313,10 @@ few_2 (Filter conditions) can place message acts written h is =
     let few = few_filtered conditions message h in
     let same : length (filtered conditions message) ≡ written = cc in
     omega arith
+few_2 (Split name) can place message acts written h is =
+    let few = parts_few name place.fields message h in
+    let same : octets_within (parts_of name place.fields message) ≡ written = cc in
+    omega arith
 few_2 (Set changes) can place message acts written h is =
     let few = message_most (with_keys message changes) (changed_accepted message changes h (can_be_set changes can)) in
     few_each written message h (few_set (set_fault message changes) place.message (with_keys message changes) acts written few is)
@@ -320,7 +326,6 @@ few_2 (Repack target) can place message acts written h is =
 few_2 Check can place message acts written h is = none_counted (writes (message_text_2 Check place message)) acts written message is
 few_2 Listing can place message acts written h is = none_counted (writes (message_text_2 Listing place message)) acts written message is
 few_2 Dump can place message acts written h is = none_counted (writes (message_text_2 Dump place message)) acts written message is
-few_2 (Split name) can place message acts written h is = none_counted [] acts written message is
 few_2 (Make seed ni nj target) can place message acts written h is = none_counted [] acts written message is
 
 -- nothing of a message of edition 1 is counted

@@ -7,9 +7,11 @@ pub mod Dumped
 pub mod EditionOne
 pub mod Tasks
 pub mod FieldOctets
+pub mod PartOctets
 pub mod Lawful
 pub mod Serving
 pub mod Same
+pub mod Standing
 pub mod Reading
 pub mod Answering
 pub mod Counts
