@@ -34,7 +34,7 @@ pub record IsFound (found : Found) : Type 0 where
   pub accepted : (edition found.octets == 1) ≡ false → IsMessage found.octets
   pub are_octets : All (λ octet. octet < 256) found.octets
 
-alone_other : (rest : List ℕ) (total : ℕ) → begins rest ≡ true → judge rest ≡ Message total → (edition (take total rest) == 1) ≡ false → IsMessage (take total rest)
+pub alone_other : (rest : List ℕ) (total : ℕ) → begins rest ≡ true → judge rest ≡ Message total → (edition (take total rest) == 1) ≡ false → IsMessage (take total rest)
 alone_other rest total begun is not_one =
     let least = least_message rest total is in
     let same = ap (λ n. n == 1) (edition_alone rest total (omega arith) (there_message rest total is)) in

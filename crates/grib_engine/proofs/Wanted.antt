@@ -14,14 +14,14 @@ use Rattle.grib_stream.specs.Stream.{Message}
 use Rattle.grib_engine.specs.Tasks.{judge}
 use Rattle.grib_engine.specs.Lawful.{IsFirst, IsOther, message_judged, least_message, not_first, same_edition}
 
-pub wanted_least : (octets more : List ℕ) (total : ℕ) → judge (octets ++ more) ≡ Message total → 20 ≤ total
+pub wanted_least : (octets more : List ℕ) (total : ℕ) → judge (octets ++ more) ≡ Message total → 12 ≤ total
 wanted_least octets more total is = least_message (octets ++ more) total is
 
 -- the total length of a message of edition 1 stands in the octets that tell its edition
 states_first : (octets more : List ℕ) (total : ℕ) → 8 ≤ length octets → IsFirst (octets ++ more) (Accepted total) → total_length_1 octets ≡ total
 states_first octets more total eight m =
     sym (same_octets octets (octets ++ more) 5 7 (front_of_more octets more) (omega arith) (omega arith) (omega arith))
-    ∙ first_states (octets ++ more) total m.edition_is m.verdict_is
+    ∙ first_states (octets ++ more) total m.verdict_is
 
 -- that of one of edition 2 in its first sixteen octets
 states_other : (octets more : List ℕ) (total : ℕ) → first_fault (head_rows octets) ≡ None → IsOther (octets ++ more) (Accepted total) → total_length octets ≡ total

@@ -127,11 +127,11 @@ edition_alone octets total least there =
 
 -- ---- the laws
 
-pub least_message : (octets : List ℕ) (total : ℕ) → judge octets ≡ Message total → 20 ≤ total
+pub least_message : (octets : List ℕ) (total : ℕ) → judge octets ≡ Message total → 12 ≤ total
 least_message octets total is =
     ⊎_elim
     (λ (m : IsFirst octets (Accepted total)). first_least octets total m.edition_is m.verdict_is)
-    (λ (m : IsOther octets (Accepted total)). accepted_least octets total (not_first octets m.other_edition) m.verdict_is)
+    (λ (m : IsOther octets (Accepted total)). omega (arith, accepted_least octets total (not_first octets m.other_edition) m.verdict_is))
     (message_judged octets total is)
 
 pub there_message : (octets : List ℕ) (total : ℕ) → judge octets ≡ Message total → total ≤ length octets
@@ -215,13 +215,19 @@ few_sections (suc turns) message q =
     omega arith)
     (cases_Bool (ends_at message q))
 
+fields_first : (message : List ℕ) → (edition message == 1) ≡ true → fields_of message ≡ 1
+fields_first message one = ap (λ b. choose b (λ _. 1) (λ _. field_count message)) one
+
+pub fields_other : (message : List ℕ) → (edition message == 1) ≡ false → fields_of message ≡ field_count message
+fields_other message not_one = ap (λ b. choose b (λ _. 1) (λ _. field_count message)) not_one
+
 few_fields : (message : List ℕ) → 1 ≤ length message → fields_of message ≤ length message
 few_fields message some =
     let few : field_count message ≤ length message =
     omega (arith, count_by-le-length (is_numbered 7) (sections_of message), few_sections (length message) message 17) in
     ⊎_elim
-    (λ one. (let is : fields_of message ≡ 1 = ap (λ b. choose b (λ _. 1) (λ _. field_count message)) one in omega arith))
-    (λ not_one. (let is : fields_of message ≡ field_count message = ap (λ b. choose b (λ _. 1) (λ _. field_count message)) not_one in omega arith))
+    (λ one. omega (arith, fields_first message one))
+    (λ not_one. omega (arith, fields_other message not_one))
     (cases_Bool (edition message == 1))
 
 -- an accepted message alone

@@ -13,8 +13,8 @@ use grib_stream::{Kept, Outcome, Performed, Performer, Place, Totals};
 use grib2_sections::read_head;
 use std::alloc::Global;
 
-/// The least octets of a message.
-const LEAST: u64 = 20;
+/// The least total length that a message may state, one of edition 1.
+const LEAST: u64 = 12;
 
 /// A job that is to answer the messages of an input.
 #[derive(Debug, Drop)]
