@@ -4,6 +4,7 @@ ghost use Rattle.std.specs.Prelude.{◌≡◌, ◌≢◌, ◌+◌, ◌*◌, ◌�
 ghost use Rattle.std.specs.declared.option.Option.{Option};
 ghost use Rattle.grib_io.specs.Outside.{Counted, CountsStops};
 ghost use Rattle.grib2_message.specs.Fields.{field_count};
+ghost use Rattle.grib2_message.specs.Message.{IsMessage};
 ghost use Rattle.grib_select.specs.Single.{single_of};
 ghost use Rattle.grib_stream.specs.Acts.{world};
 ghost use Rattle.grib_stream.specs.Task.{Gives};
@@ -61,6 +62,8 @@ fn put_fields<H: Shelf>(
         ≡ octets_within (parts_of name.now before message.now)) }
     ensures counted { CountsStops result (H.faults shelf.old) (H.faults shelf.new) }
 {
+    // That the message is accepted bounds the octets of each field.
+    let _accepted = message.octets();
     let mut written = 0;
     let count = message.fields();
     for index in 0..count {
@@ -78,6 +81,7 @@ fn put_field<H: Shelf>(
     field: u32,
     shelf: &mut H,
 ) -> Result<u64, Stop>
+    requires message { IsMessage message.now }
     requires before { before ≤ 2 ^ 41 }
     requires first { 1 ≤ field }
     requires last { field ≤ field_count message.now }
