@@ -47,7 +47,11 @@ impl Mask {
     }
 
     /// The first bits of these octets, one for each point.
-    pub(crate) fn of_octets(alloc: Global, octets: &[u8], points: u32) -> Result<Mask, AllocError>
+    ///
+    /// # Errors
+    ///
+    /// There is no memory for the mask.
+    pub fn of_octets(alloc: Global, octets: &[u8], points: u32) -> Result<Mask, AllocError>
         requires { points ≤ 8 * length octets.now }
         ensures { IfOk result (λ mask. mask ≡ first points (bits octets.now)) }
     {

@@ -18,7 +18,7 @@ mod writing;
 mod written;
 
 pub use grib_packing::{Column, Point};
-pub use numbers::{unpack_numbers, unpack_points};
+pub use numbers::{masked_points, unpack_numbers, unpack_points};
 pub use packing::Packing;
 pub use representation::{Simple, read_simple};
 pub use sections::{octets_written, room_for, write_head, write_numbers};
