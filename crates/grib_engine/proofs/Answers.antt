@@ -10,10 +10,13 @@ use Rattle.grib_repack.specs.declared.fault.RepackFault.{RepackFault}
 use Rattle.grib_repack.specs.declared.fault.RepackFault.TheVariants.{SecondaryMissing, OutOfRange, DifferenceRange, OutputTooLong, Memory}
 use Rattle.grib_repack.specs.Faults.{target_of, IsRepackFault}
 use Rattle.grib_repack.specs.Repacked.{RepackMisfit}
+use Rattle.grib_select.specs.Changed.{IsSetFault}
+use Rattle.grib_select.specs.declared.changing.SetFault.{SetFault}
+use Rattle.grib_select.specs.declared.changing.SetFault.TheVariants as unset
 use Rattle.grib_engine.specs.declared.answering.Answered.{Answered}
-use Rattle.grib_engine.specs.Answering.{Answers, acts_given, answered_by}
+use Rattle.grib_engine.specs.Answering.{Answers, acts_given, answered_by, answered_unset}
 use Rattle.grib_engine.specs.Jobs.{is_target}
-use Rattle.grib_engine.specs.Tasks.{cause_of, kept_at, given_unless}
+use Rattle.grib_engine.specs.Tasks.{cause_of, kept_at, given_unless, given_set}
 
 one_or_two : (a b : Bool) (order : ℕ) → (order == 1) ≡ a → (order == 2) ≡ b → (a || b) ≡ true → (order ≡ 1) ⊎ (order ≡ 2)
 one_or_two true b order one two h = inl (eqb-true order 1 one)
@@ -59,3 +62,26 @@ pub fits_front : (misfits : Option RepackMisfit) (m : ℕ) (octets shown : List 
     → DidFront a b (acts_given (given_unless misfits m octets))
 fits_front misfits m octets shown a b none is front =
     subst (λ given. DidFront a b (acts_given given)) (sym (fits_shown misfits m octets shown (length shown) none is refl)) front
+
+-- ---- new values of keys
+
+-- a message in which no key is set
+pub not_set : (faults : Option SetFault) (fault : SetFault) (result : Answered) (m : ℕ) (octets : List ℕ) (a : World) → IsSetFault faults fault
+    → result ≡ answered_unset fault → Answers result m (given_set faults m octets) a a
+not_set faults (unset.KeyRange key) result m octets a is same =
+    subst (λ r. Answers r m (given_set faults m octets) a a) (sym same) (ap (λ o. given_set o m octets) is, did_none a)
+not_set faults (unset.KeyAbsent field key) result m octets a is same =
+    subst (λ r. Answers r m (given_set faults m octets) a a) (sym same) (ap (λ o. given_set o m octets) is, did_none a)
+not_set faults unset.Memory result m octets a is same =
+    subst (λ r. Answers r m (given_set faults m octets) a a) (sym same) (front_nothing a (acts_given (given_set faults m octets)))
+
+-- a message with its new values, as it was written
+pub set_shown : (faults : Option SetFault) (m : ℕ) (octets shown : List ℕ) (written : ℕ) → faults ≡ None → shown ≡ octets → written ≡ length shown
+    → given_set faults m octets ≡ Gives (writes shown) written
+set_shown faults m octets shown written none is long =
+    ap (λ o. given_set o m octets) none ∙ (ap (λ xs. Gives (writes xs) (length xs)) (sym is) ∙ ap (Gives (writes shown)) (sym long))
+
+pub set_front : (faults : Option SetFault) (m : ℕ) (octets shown : List ℕ) (a b : World) → faults ≡ None → shown ≡ octets → DidFront a b (writes shown)
+    → DidFront a b (acts_given (given_set faults m octets))
+set_front faults m octets shown a b none is front =
+    subst (λ given. DidFront a b (acts_given given)) (sym (set_shown faults m octets shown (length shown) none is refl)) front

@@ -26,7 +26,7 @@ use Rattle.grib_stream.specs.Answer.{Answer, after, on_given, answers, on_end, p
 use Rattle.grib_stream.proofs.Exits.{within_short, within_long, closed_at_limit, open_at_limit}
 use Rattle.grib_stream.proofs.Streams.{stream_skip, stream_begun, begins_is}
 use Rattle.grib_engine.specs.declared.job.Job.TheVariants.{Repack}
-use Rattle.grib_engine.specs.Lawful.{message_judged, not_first, same_edition}
+use Rattle.grib_engine.specs.Lawful.{message_alone}
 use Rattle.grib_engine.specs.Same.{SameValues, AllSame, kept_then, before_kept}
 use Rattle.grib_engine.specs.Tasks.{judge, given_unless, task}
 
@@ -35,25 +35,6 @@ use Rattle.grib_engine.specs.Tasks.{judge, given_unless, task}
 pub record IsFound (found : Found) : Type 0 where
   pub accepted : IsMessage found.octets
   pub are_octets : All (λ octet. octet < 256) found.octets
-
-head_none : (first : Option Fault) (next : Unit {0} → Verdict) (total : ℕ) → unless_refused first next ≡ Accepted total → first ≡ None
-head_none None next total is = refl
-head_none (Some fault) next total is = let no : ⊥ = cc in absurd no
-
-message_alone : (rest : List ℕ) (total : ℕ) → begins rest ≡ true → judge rest ≡ Message total → IsMessage (take total rest)
-message_alone rest total begun is =
-    let m = message_judged rest total is in
-    let other = not_first rest m.other_edition in
-    let least : 20 ≤ total = accepted_least rest total other m.verdict_is in
-    let there : total ≤ length rest = accepted_there rest total other m.verdict_is in
-    let size : length (take total rest) ≡ total = length-take-le total rest there in
-    let head = head_none (first_fault (head_rows rest)) _ total m.verdict_is in
-    let second : edition rest ≡ 2 = (head_passes rest other (passes_from_none (head_rows rest) head)).second_edition in
-    record {
-      indicated = sym (take-append-le 4 (take total rest) (drop total rest) (omega arith)) ∙ (ap (take 4) (take-append-drop total rest) ∙ begins_is rest begun);
-      edition_stands = sym (same_edition (take total rest) (drop total rest) (omega arith)) ∙ (ap edition (take-append-drop total rest) ∙ second);
-      accepted = accepted_alone rest total other m.verdict_is ∙ ap Accepted (sym size);
-    }
 
 found_judged : (place skipped octet : ℕ) (octets : List ℕ) (j : Judgement) → All (λ o. o < 256) (octet ∷ octets) → begins (octet ∷ octets) ≡ true → judge (octet ∷ octets) ≡ j
     → ((inside : ℕ) → All IsFound (stream_from judge inside (place + 1) skipped octets).messages)
@@ -116,7 +97,7 @@ limit_acts : (t : Task) (a : Answer) → (at_limit t a).acts ≡ a.acts
 limit_acts t a =
     ⊎_elim (λ unclosed. ap (λ x. x.acts) (open_at_limit t a unclosed)) (λ closed. ap (λ x. x.acts) (closed_at_limit t a closed)) (cases_Bool (is_open a.outcome))
 
-within_acts : (t : Task) (limit : ℕ) (input : List ℕ) → (answer_within limit t input).acts ≡ (answer_of t (take limit input)).acts
+pub within_acts : (t : Task) (limit : ℕ) (input : List ℕ) → (answer_within limit t input).acts ≡ (answer_of t (take limit input)).acts
 within_acts t limit input =
     ⊎_elim (λ (long : limit < length input). ap (λ a. a.acts) (within_long t limit input long) ∙ limit_acts t (answer_of t (take limit input)))
     (λ (short : length input ≤ limit). ap (λ a. a.acts) (within_short t limit input short ∙ ap (answer_of t) (sym (take_all limit input short))))

@@ -3,7 +3,10 @@ pub mod Pending
 pub mod Noted
 pub mod Served
 pub mod Answers
+pub mod Filtered
 pub mod Made
 pub mod Keeping
 pub mod Wanted
 pub mod Finite
+pub mod Shelved
+pub mod Standing

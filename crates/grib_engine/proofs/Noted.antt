@@ -25,6 +25,12 @@ keeps_or_cuts outcome result (inl same) = inl same
 keeps_or_cuts outcome result (inr (inl fault)) = inr (ap is_cut_short fault)
 keeps_or_cuts outcome result (inr (inr memory)) = inr (ap is_cut_short memory)
 
+-- a run that did not end by a fault of the shelf does not end by it later
+pub no_shelf_fault : (outcome result : Outcome) → OneOf outcome result → outcome ≢ ShelfFault → result ≢ ShelfFault
+no_shelf_fault outcome result (inl same) other is = other (sym same ∙ is)
+no_shelf_fault outcome result (inr (inl fault)) other is = let no : WriteFault ≡ ShelfFault = sym fault ∙ is in cc
+no_shelf_fault outcome result (inr (inr memory)) other is = let no : Memory ≡ ShelfFault = sym memory ∙ is in cc
+
 -- the note that was appended is that of the outcome with which the run ends
 pub noted_with : (a b : Option (List ℕ)) (note done : List ℕ) (outcome result : Outcome) → OneOf outcome result → note ≡ note_with done outcome
     → (is_cut_short result ≡ false → Appends a b note) → is_cut_short result ≡ false → Appends a b (note_with done result)

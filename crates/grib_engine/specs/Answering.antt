@@ -8,7 +8,7 @@ use Rattle.grib_repack.specs.declared.fault.RepackFault.TheVariants as faults
 use Rattle.grib_select.specs.declared.changing.SetFault.{SetFault}
 use Rattle.grib_select.specs.declared.changing.SetFault.TheVariants as unset
 use Rattle.grib_engine.specs.declared.answering.Answered.{Answered}
-use Rattle.grib_engine.specs.declared.answering.Answered.TheVariants.{Whole, Kept, WriteFault, Memory}
+use Rattle.grib_engine.specs.declared.answering.Answered.TheVariants.{Whole, Kept, WriteFault, ShelfFault, Memory}
 use Rattle.grib_engine.specs.Tasks.{kept_at}
 
 -- what is done for a message; nothing, where it is kept
@@ -21,6 +21,7 @@ abbrev pub Answers : Answered → ℕ → Given → World → World → Type 0
 Answers (Whole written) m given before now = (acts : List Act) × (given ≡ Gives acts written) × Did before now acts
 Answers (Kept cause) m given before now = (given ≡ Ends (kept_at m cause)) × Did before now []
 Answers WriteFault m given before now = DidFront before now (acts_given given)
+Answers ShelfFault m given before now = DidFront before now (acts_given given)
 Answers Memory m given before now = DidFront before now (acts_given given)
 
 -- what comes of a message that is not repacked

@@ -61,3 +61,14 @@ makes (Split name) = false
 makes (Set changes) = false
 makes (Repack target) = false
 makes (Make seed ni nj target) = true
+
+-- whether a job puts what it makes on the shelf, and writes nothing of it to the output
+abbrev pub uses_shelf : Job → Bool
+uses_shelf Check = false
+uses_shelf Listing = false
+uses_shelf Dump = false
+uses_shelf (Filter conditions) = false
+uses_shelf (Split name) = true
+uses_shelf (Set changes) = false
+uses_shelf (Repack target) = false
+uses_shelf (Make seed ni nj target) = false

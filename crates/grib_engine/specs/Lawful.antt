@@ -1,5 +1,5 @@
 -- What is said of octets stays said, whatever follows them.
-use Rattle.std.proofs.Common.{◌≡◌, ◌≢◌, ℕ, zero, suc, ◌+◌, ◌<◌, ◌≤◌, true, false, cond, Option, Some, None, List, [], ◌∷◌, ◌++◌, length, take, drop, nat_lt, ◌==◌, refl, sym, ap, ◌∙◌, arith, ⊎_elim, lt-ltb, ltb-false, eqb-true, eq-eqb, length-take-le, length-drop, take-append-drop}
+use Rattle.std.proofs.Common.{◌≡◌, ◌≢◌, ℕ, zero, suc, ◌+◌, ◌*◌, ◌<◌, ◌≤◌, true, false, cond, Option, Some, None, List, [], ◌∷◌, ◌++◌, length, take, drop, nat_lt, ◌==◌, refl, sym, ap, ◌∙◌, arith, ⊎_elim, lt-ltb, ltb-false, eqb-true, eq-eqb, length-take-le, length-drop, take-append-drop}
 use Rattle.std.proofs.lemmas.Bool.{cases_Bool, false≢true, cases_lt}
 use Rattle.std.proofs.lemmas.List.{drop_all, take-append-le}
 use Rattle.std.proofs.lemmas.List.Sums.{count_by-le-length}
@@ -8,28 +8,45 @@ use Rattle.grib_bits.specs.Octets.{num_on, octets}
 use Rattle.grib_io.specs.declared.fault.Fault.{Fault}
 use Rattle.grib_io.specs.declared.fault.Reason.{Reason}
 use Rattle.grib_io.specs.declared.fault.Reason.TheVariants.{Truncated}
-use Rattle.grib_io.specs.Rows.{choose}
+use Rattle.grib_io.specs.Rows.{choose, first_fault}
 use Rattle.grib2_sections.specs.Verdict.{Verdict, Accepted, Refused}
-use Rattle.grib2_sections.specs.Head.{edition}
+use Rattle.grib2_sections.specs.Head.{edition, head_rows}
 use Rattle.grib2_sections.specs.Frame.{ends_at, section_at, placed_at}
 use Rattle.grib2_message.specs.View.{is_numbered}
-use Rattle.grib2_message.specs.Acceptance.{verdict_2}
+use Rattle.grib2_message.specs.Acceptance.{unless_refused, verdict_2}
 use Rattle.grib2_message.specs.Fields.{sections_from, sections_of, field_count}
+use Rattle.grib2_message.specs.Message.{IsMessage}
+use Rattle.grib2_message.proofs.Passed.{passes_from_none}
+use Rattle.grib2_message.proofs.Whole.{head_passes}
+use Rattle.grib2_message.proofs.Parted.{message_least, message_most}
 use Rattle.grib2_message.proofs.Stays.{accepted_stays, refused_stays}
 use Rattle.grib2_message.proofs.Fronts.{accepted_least, accepted_there, accepted_alone}
-use Rattle.grib_stream.specs.Stream.{Message, Faulty, Unbuilt}
+use Rattle.grib_stream.specs.Stream.{Message, Faulty, Unbuilt, begins}
+use Rattle.grib_stream.proofs.Streams.{begins_is}
 use Rattle.grib_stream.specs.Outcomes.{is_truncated, is_of_message}
 use Rattle.grib_stream.specs.Task.{Gives, Ends, IsLawful}
 use Rattle.std.specs.List.{range_with_len}
 use Rattle.grib_stream.specs.Acts.{Act, writes}
 use Rattle.grib_stream.specs.declared.place.Place.{Place}
 use Rattle.grib_stream.specs.declared.outcome.Outcome.{Outcome}
+use Rattle.grib_stream.specs.declared.outcome.Cause.TheVariants as causes
 use Rattle.grib_packing.specs.Misfits.{Target}
 use Rattle.grib_repack.specs.Faults.{target_of}
 use Rattle.grib_repack.specs.Repacked.{RepackMisfit, OutputTooLong, repacked, misfit_among, or_later, length_misfit, repack_misfit}
+use Rattle.grib_keys.specs.declared.condition.Condition.{Condition}
+use Rattle.grib_select.specs.Values.{fulfils_all}
+use Rattle.grib_select.specs.Single.{single_of}
+use Rattle.grib_select.specs.Changed.{with_keys, set_fault}
+use Rattle.grib_select.specs.declared.changing.SetFault.{SetFault}
+use Rattle.grib_select.specs.declared.changing.SetFault.TheVariants.{KeyRange, KeyAbsent, Memory}
+use Rattle.grib_select.proofs.Kept.{can_be_set, changed_accepted}
 use Rattle.grib_engine.specs.declared.job.Job.{Job}
 use Rattle.grib_engine.specs.declared.job.Job.TheVariants.{Check, List as Listing, Dump, Filter, Split, Set, Repack, Make}
-use Rattle.grib_engine.specs.Tasks.{judged, judge, message_text, cause_of, kept_at, given_unless, given, task}
+use Rattle.grib_engine.specs.Jobs.{CanChange}
+use Rattle.grib_engine.specs.FieldOctets.{twenty_each, single_most, texts_most}
+use Rattle.grib_engine.specs.Parts.{parts_of, octets_within}
+use Rattle.grib_engine.specs.PartOctets.{parts_few}
+use Rattle.grib_engine.specs.Tasks.{judged, judge, message_text, cause_of, kept_at, texts_from, given_unless, given_set, all_fulfil, single_if, filtered, given, task}
 
 -- ---- the judgement, by the edition
 
@@ -165,11 +182,38 @@ few_sections (suc turns) message q =
 few_fields : (message : List ℕ) → field_count message ≤ length message
 few_fields message = omega (arith, count_by-le-length (is_numbered 7) (sections_of message), few_sections (length message) message 17)
 
--- of what is written for a message 268435456 octets are counted at most
+-- an accepted message alone
+head_none : (first : Option Fault) (next : Unit {0} → Verdict) (total : ℕ) → unless_refused first next ≡ Accepted total → first ≡ None
+head_none None next total is = refl
+head_none (Some fault) next total is = let no : ⊥ = cc in absurd no
+
+pub message_alone : (rest : List ℕ) (total : ℕ) → begins rest ≡ true → judge rest ≡ Message total → IsMessage (take total rest)
+message_alone rest total begun is =
+    let m = message_judged rest total is in
+    let other = not_first rest m.other_edition in
+    let least : 20 ≤ total = accepted_least rest total other m.verdict_is in
+    let there : total ≤ length rest = accepted_there rest total other m.verdict_is in
+    let size : length (take total rest) ≡ total = length-take-le total rest there in
+    let head = head_none (first_fault (head_rows rest)) _ total m.verdict_is in
+    let second : edition rest ≡ 2 = (head_passes rest other (passes_from_none (head_rows rest) head)).second_edition in
+    record {
+      indicated = sym (take-append-le 4 (take total rest) (drop total rest) (omega arith)) ∙ (ap (take 4) (take-append-drop total rest) ∙ begins_is rest begun);
+      edition_stands = sym (same_edition (take total rest) (drop total rest) (omega arith)) ∙ (ap edition (take-append-drop total rest) ∙ second);
+      accepted = accepted_alone rest total other m.verdict_is ∙ ap Accepted (sym size);
+    }
+
+-- of what is written for a message, repacked or with other values of keys, 268435456 octets are counted at most
 few_unless : (misfits : Option RepackMisfit) (m : ℕ) (octets : List ℕ) (acts : List Act) (written : ℕ) → (misfits ≡ None → length octets ≤ 268435456)
     → given_unless misfits m octets ≡ Gives acts written → written ≤ 268435456
 few_unless None m octets acts written few is = let same : length octets ≡ written = cc in let fits : length octets ≤ 268435456 = few refl in omega arith
 few_unless (Some misfit) m octets acts written few is = let no : ⊥ = cc in absurd no
+
+few_set : (fault : Option SetFault) (m : ℕ) (octets : List ℕ) (acts : List Act) (written : ℕ) → length octets ≤ 268435456
+    → given_set fault m octets ≡ Gives acts written → written ≤ 268435456
+few_set None m octets acts written few is = let same : length octets ≡ written = cc in omega arith
+few_set (Some (KeyRange key)) m octets acts written few is = let no : ⊥ = cc in absurd no
+few_set (Some (KeyAbsent field key)) m octets acts written few is = let no : ⊥ = cc in absurd no
+few_set (Some Memory) m octets acts written few is = let same : length octets ≡ written = cc in omega arith
 
 fits_length : (l : ℕ) → length_misfit l ≡ None → l ≤ 268435456
 fits_length l none =
@@ -189,16 +233,52 @@ few_repacked target message none =
     fits_length (length (repacked target message))
     (later_none (misfit_among target message (range_with_len 1 (field_count message))) (λ _. length_misfit (length (repacked target message))) none)
 
-none_counted : (acts given : List Act) (written : ℕ) → Gives given 0 ≡ Gives acts written → written ≤ 268435456
-none_counted acts given written is = let none : 0 ≡ written = cc in omega arith
+-- and for each field that is filtered as many
+few_if : (conditions : List Condition) (message : List ℕ) (i : ℕ) → IsMessage message → 1 ≤ i → i ≤ field_count message
+    → length (single_if conditions message i) ≤ 268435456
+few_if conditions message i h low high =
+    ⊎_elim
+    (λ yes. (let is : length (single_if conditions message i) ≡ length (single_of message i) =
+    ap (λ b. length (choose b (λ _. single_of message i) (λ _. []))) yes in omega (arith, single_most message i h low high)))
+    (λ not. (let is : length (single_if conditions message i) ≡ 0 = ap (λ b. length (choose b (λ _. single_of message i) (λ _. []))) not in omega arith))
+    (cases_Bool (fulfils_all message i conditions))
 
-few_given : (job : Job) (place : Place) (message : List ℕ) (acts : List Act) (written : ℕ) → given job place message ≡ Gives acts written → written ≤ 268435456
-few_given (Repack target) place message acts written is =
-    few_unless (repack_misfit (target_of target) message) place.message (repacked (target_of target) message) acts written (few_repacked (target_of target) message) is
-few_given Check place message acts written is = none_counted acts (writes (message_text Check place message)) written is
-few_given Listing place message acts written is = none_counted acts (writes (message_text Listing place message)) written is
-few_given Dump place message acts written is = none_counted acts (writes (message_text Dump place message)) written is
-few_given (Make seed ni nj target) place message acts written is = none_counted acts [] written is
+few_filtered : (conditions : List Condition) (message : List ℕ) → IsMessage message → 20 * length (filtered conditions message) ≤ 268435456 * length message
+few_filtered conditions message h =
+    let some : List ℕ = texts_from (single_if conditions message) (field_count message) 1 in
+    ⊎_elim
+    (λ yes. (let is : length (filtered conditions message) ≡ length message = ap (λ b. length (choose b (λ _. message) (λ _. some))) yes in omega arith))
+    (λ not. (let is : length (filtered conditions message) ≡ length some = ap (λ b. length (choose b (λ _. message) (λ _. some))) not in
+    let few = texts_most (single_if conditions message) (field_count message) 1 (λ i low high. few_if conditions message i h low (omega arith)) in
+    omega (arith, twenty_each message h)))
+    (cases_Bool (all_fulfil conditions message))
+
+few_each : (written : ℕ) (message : List ℕ) → IsMessage message → written ≤ 268435456 → 20 * written ≤ 268435456 * length message
+few_each written message h few = omega (arith, message_least message h)
+
+none_counted : (given acts : List Act) (written : ℕ) (message : List ℕ) → Gives given 0 ≡ Gives acts written → 20 * written ≤ 268435456 * length message
+none_counted given acts written message is = let none : 0 ≡ written = cc in omega arith
+
+few_given : (job : Job) → CanChange job → (place : Place) (message : List ℕ) (acts : List Act) (written : ℕ) → IsMessage message
+    → given job place message ≡ Gives acts written → 20 * written ≤ 268435456 * length message
+few_given (Filter conditions) can place message acts written h is =
+    let few = few_filtered conditions message h in
+    let same : length (filtered conditions message) ≡ written = cc in
+    omega arith
+few_given (Split name) can place message acts written h is =
+    let few = parts_few name place.fields message h in
+    let same : octets_within (parts_of name place.fields message) ≡ written = cc in
+    omega arith
+few_given (Set changes) can place message acts written h is =
+    let few = message_most (with_keys message changes) (changed_accepted message changes h (can_be_set changes can)) in
+    few_each written message h (few_set (set_fault message changes) place.message (with_keys message changes) acts written few is)
+few_given (Repack target) can place message acts written h is =
+    few_each written message h
+    (few_unless (repack_misfit (target_of target) message) place.message (repacked (target_of target) message) acts written (few_repacked (target_of target) message) is)
+few_given Check can place message acts written h is = none_counted (writes (message_text Check place message)) acts written message is
+few_given Listing can place message acts written h is = none_counted (writes (message_text Listing place message)) acts written message is
+few_given Dump can place message acts written h is = none_counted (writes (message_text Dump place message)) acts written message is
+few_given (Make seed ni nj target) can place message acts written h is = none_counted [] acts written message is
 
 -- a run ends at a message that is kept
 ends_unless : (misfits : Option RepackMisfit) (m : ℕ) (octets : List ℕ) (outcome : Outcome) → given_unless misfits m octets ≡ Ends outcome
@@ -206,19 +286,28 @@ ends_unless : (misfits : Option RepackMisfit) (m : ℕ) (octets : List ℕ) (out
 ends_unless None m octets outcome is = let no : ⊥ = cc in absurd no
 ends_unless (Some misfit) m octets outcome is = let same : kept_at m (cause_of misfit) ≡ outcome = cc in sym (ap is_of_message same)
 
+ends_set : (fault : Option SetFault) (m : ℕ) (octets : List ℕ) (outcome : Outcome) → given_set fault m octets ≡ Ends outcome → is_of_message outcome ≡ true
+ends_set None m octets outcome is = let no : ⊥ = cc in absurd no
+ends_set (Some (KeyRange key)) m octets outcome is = let same : kept_at m (causes.KeyRange key) ≡ outcome = cc in sym (ap is_of_message same)
+ends_set (Some (KeyAbsent field key)) m octets outcome is = let same : kept_at m (causes.KeyAbsent field key) ≡ outcome = cc in sym (ap is_of_message same)
+ends_set (Some Memory) m octets outcome is = let no : ⊥ = cc in absurd no
+
 ends_given : (job : Job) (place : Place) (message : List ℕ) (outcome : Outcome) → given job place message ≡ Ends outcome → is_of_message outcome ≡ true
 ends_given (Repack target) place message outcome is =
     ends_unless (repack_misfit (target_of target) message) place.message (repacked (target_of target) message) outcome is
 ends_given Check place message outcome is = let no : ⊥ = cc in absurd no
 ends_given Listing place message outcome is = let no : ⊥ = cc in absurd no
 ends_given Dump place message outcome is = let no : ⊥ = cc in absurd no
+ends_given (Filter conditions) place message outcome is = let no : ⊥ = cc in absurd no
+ends_given (Split name) place message outcome is = let no : ⊥ = cc in absurd no
+ends_given (Set changes) place message outcome is = ends_set (set_fault message changes) place.message (with_keys message changes) outcome is
 ends_given (Make seed ni nj target) place message outcome is = let no : ⊥ = cc in absurd no
 
 least_message : (octets : List ℕ) (total : ℕ) → judge octets ≡ Message total → 20 ≤ total
 least_message octets total is = let m = message_judged octets total is in accepted_least octets total (not_first octets m.other_edition) m.verdict_is
 
-pub lawful : (job : Job) → IsLawful (task job)
-lawful job = record {
+pub lawful : (job : Job) → CanChange job → IsLawful (task job)
+lawful job can = record {
   message_stays = message_stays;
   refusal_stays = refusal_stays;
   unbuilt_stays = unbuilt_stays;
@@ -230,6 +319,8 @@ lawful job = record {
       let there = accepted_there octets total (not_first octets m.other_edition) m.verdict_is in
       omega (arith, few_fields (take total octets), length-take-le total octets there);
   few_written = λ place octets total acts written begun is gives.
-      omega (arith, least_message octets total is, few_given job place (take total octets) acts written gives);
+      let m = message_judged octets total is in
+      let there = accepted_there octets total (not_first octets m.other_edition) m.verdict_is in
+      omega (arith, few_given job can place (take total octets) acts written (message_alone octets total begun is) gives, length-take-le total octets there);
   ends_at_message = λ place message outcome is. ends_given job place message outcome is;
 }

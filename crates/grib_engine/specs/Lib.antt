@@ -1,10 +1,15 @@
 pub mod Jobs
 pub mod Notes
+pub mod Parts
+pub mod Shelving
 pub mod Outcomes
 pub mod Tasks
+pub mod FieldOctets
+pub mod PartOctets
 pub mod Lawful
 pub mod Serving
 pub mod Same
+pub mod Standing
 pub mod Reading
 pub mod Answering
 pub mod Counts

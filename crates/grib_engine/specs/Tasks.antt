@@ -37,6 +37,7 @@ use Rattle.grib_made.specs.Made.{made}
 use Rattle.grib_engine.specs.declared.job.Job.{Job}
 use Rattle.grib_engine.specs.declared.job.Job.TheVariants.{Check, List as Listing, Dump, Filter, Split, Set, Repack, Make}
 use Rattle.grib_engine.specs.Notes.{written_note, made_note}
+use Rattle.grib_engine.specs.Parts.{parts_of, puts_all, octets_within}
 use Rattle.grib_engine.specs.Outcomes.{note_of}
 
 abbrev pub judged : Verdict → Judgement
@@ -126,7 +127,9 @@ abbrev pub given : Job → Place → List ℕ → Given
 given (Repack target) place message =
     given_unless (repack_misfit (target_of target) message) place.message (repacked (target_of target) message)
 given (Filter conditions) place message = given_whole (filtered conditions message)
-given (Split name) place message = Gives [] 0
+given (Split name) place message =
+    let parts = parts_of name place.fields message in
+    Gives (puts_all parts) (octets_within parts)
 given (Set changes) place message = given_set (set_fault message changes) place.message (with_keys message changes)
 given (Make seed ni nj target) place message = Gives [] 0
 given job place message = Gives (writes (message_text job place message)) 0

@@ -1,6 +1,6 @@
 //! What a job does with the messages of an input.
 
-ghost use Rattle.std.specs.Prelude.{◌≡◌, ◌≢◌, true, length, All, IsTrue};
+ghost use Rattle.std.specs.Prelude.{◌≡◌, ◌≢◌, ◌≤◌, ◌^◌, true, false, length, All, IsTrue};
 ghost use Rattle.grib_io.specs.Outside.{Counted};
 ghost use Rattle.grib_repack.specs.Repacked.{repacked, repack_misfit};
 ghost use Rattle.grib_repack.specs.Faults.{target_of};
@@ -9,15 +9,16 @@ ghost use Rattle.grib_select.specs.Changed.{with_keys, set_fault};
 ghost use Rattle.grib_stream.specs.Acts.{world, writes};
 ghost use Rattle.grib_stream.specs.Task.{Gives};
 ghost use Rattle.grib_engine.specs.Answering.{Answers, answered_by, answered_unset};
-ghost use Rattle.grib_engine.specs.Jobs.{CanChange, is_target, has_target};
+ghost use Rattle.grib_engine.specs.Jobs.{CanChange, is_target, has_target, uses_shelf};
 ghost use Rattle.grib_engine.specs.Reading.{held_octets};
 ghost use Rattle.grib_engine.specs.Tasks.{message_text, filtered, given, given_unless, given_set};
-ghost use Rattle.grib_engine.specs.declared.answering.Answered.TheVariants.{WriteFault};
+ghost use Rattle.grib_engine.specs.declared.answering.Answered.TheVariants.{WriteFault, ShelfFault};
 
 use crate::filtering::write_filtered;
 use crate::job::Job;
 use crate::printing::write_message;
 use crate::reading::Held;
+use crate::splitting::split;
 use crate::writing::write_whole;
 use grib_io::{Shelf, Sink, Stop};
 use grib_repack::{RepackFault, RepackTarget, repack};
@@ -29,19 +30,22 @@ use std::alloc::Global;
 /// What came of a message.
 #[derive(Clone, Copy, Debug, PartialEq, Eq)]
 pub enum Answered {
-    /// Its result was appended to the output. So many octets of it are counted; of what is printed none is.
+    /// Its result was appended to the output, or put on the shelf. So many octets of it are counted; of what
+    /// is printed none is.
     Whole(u64),
     /// It cannot be changed as asked. Nothing was written.
     Kept(Cause),
     /// The output failed.
     WriteFault,
+    /// The shelf failed.
+    ShelfFault,
     /// Want of memory.
     Memory,
 }
 
 /// Does what the job says of a message at this place; `make` says nothing of messages. After a fault or
-/// want of memory some first octets of its result may have been appended. The shelf is not used by these
-/// jobs.
+/// want of memory some front of its result was done. `split` leaves the output as it was, and every other
+/// job the shelf.
 pub fn answer_message<T: Sink, H: Shelf>(
     alloc: Global,
     job: &Job,
@@ -52,12 +56,17 @@ pub fn answer_message<T: Sink, H: Shelf>(
 ) -> Answered
     requires target { has_target job.now ≡ true }
     requires changes { CanChange job.now }
+    requires fields { place.now.fields ≤ 2 ^ 41 }
     ensures answers { Answers result place.now.message (given job.now place.now (held_octets held.now))
         (world (T.contents output.old) (H.contents shelf.old))
         (world (T.contents output.new) (H.contents shelf.new)) }
     ensures write_fault { result ≡ WriteFault → Counted (T.faults output.old) (T.faults output.new) }
     ensures write_calm { result ≢ WriteFault → T.faults output.new ≡ T.faults output.old }
-    ensures shelf { shelf.new ≡ shelf.old }
+    ensures shelf_fault { result ≡ ShelfFault → Counted (H.faults shelf.old) (H.faults shelf.new) }
+    ensures shelf_calm { result ≢ ShelfFault → H.faults shelf.new ≡ H.faults shelf.old }
+    ensures shelf { uses_shelf job.now ≡ false → shelf.new ≡ shelf.old }
+    ensures unshelved { uses_shelf job.now ≡ false → result ≢ ShelfFault }
+    ensures output { uses_shelf job.now ≡ true → output.new ≡ output.old }
 {
     let Held::Two(message) = held;
     match job {
@@ -74,7 +83,8 @@ pub fn answer_message<T: Sink, H: Shelf>(
             shelf,
         ),
         Job::Set(changes) => write_set(alloc, changes.as_slice(), place, message, output, shelf),
-        Job::Split(_) | Job::Make { .. } => Answered::Whole(0),
+        Job::Split(name) => split(alloc, name, place, message, shelf),
+        Job::Make { .. } => Answered::Whole(0),
     }
 }
 
@@ -94,6 +104,7 @@ fn print<T: Sink, H: Shelf>(
     ensures write_fault { result ≡ WriteFault → Counted (T.faults output.old) (T.faults output.new) }
     ensures write_calm { result ≢ WriteFault → T.faults output.new ≡ T.faults output.old }
     ensures shelf { shelf.new ≡ shelf.old }
+    ensures unshelved { result ≢ ShelfFault }
 {
     match write_message(alloc, job, place, message, output) {
         Ok(()) => Answered::Whole(0),
@@ -118,6 +129,7 @@ fn filter<T: Sink, H: Shelf>(
     ensures write_fault { result ≡ WriteFault → Counted (T.faults output.old) (T.faults output.new) }
     ensures write_calm { result ≢ WriteFault → T.faults output.new ≡ T.faults output.old }
     ensures shelf { shelf.new ≡ shelf.old }
+    ensures unshelved { result ≢ ShelfFault }
 {
     match write_filtered(alloc, conditions, message, output) {
         Ok(written) => Answered::Whole(written),
@@ -143,6 +155,7 @@ fn write_set<T: Sink, H: Shelf>(
     ensures write_fault { result ≡ WriteFault → Counted (T.faults output.old) (T.faults output.new) }
     ensures write_calm { result ≢ WriteFault → T.faults output.new ≡ T.faults output.old }
     ensures shelf { shelf.new ≡ shelf.old }
+    ensures unshelved { result ≢ ShelfFault }
 {
     let octets = match set_keys(alloc, message, changes) {
         Ok(octets) => octets,
@@ -185,6 +198,7 @@ fn write_repacked<T: Sink, H: Shelf>(
     ensures write_fault { result ≡ WriteFault → Counted (T.faults output.old) (T.faults output.new) }
     ensures write_calm { result ≢ WriteFault → T.faults output.new ≡ T.faults output.old }
     ensures shelf { shelf.new ≡ shelf.old }
+    ensures unshelved { result ≢ ShelfFault }
 {
     let octets = match repack(alloc, message, target) {
         Ok(octets) => octets,

@@ -3,6 +3,7 @@
 ghost use Rattle.std.specs.Prelude.{◌≡◌, ◌≤◌, length, IfOk};
 ghost use Rattle.grib_io.specs.Outside.{CountsStops};
 ghost use Rattle.grib2_message.specs.Fields.{field_count};
+ghost use Rattle.grib2_message.specs.Message.{IsMessage};
 ghost use Rattle.grib_engine.specs.Pending.{Writes};
 ghost use Rattle.grib_engine.specs.Tasks.{texts_from, all_fulfil, single_if, filtered};
 
@@ -25,10 +26,11 @@ pub(crate) fn write_filtered<T: Sink>(
     ensures count { IfOk result (λ written. written ≡ length (filtered conditions.now message.now)) }
     ensures counted { CountsStops result (T.faults output.old) (T.faults output.new) }
 {
+    let octets = message.octets();
     if !all_match(message, conditions) {
         return write_matching(alloc, conditions, message, output);
     }
-    write_whole(output, message.octets())?;
+    write_whole(output, octets)?;
     Ok(message.length())
 }
 
@@ -51,6 +53,7 @@ fn write_matching<T: Sink>(
     message: &Message<'_>,
     output: &mut T,
 ) -> Result<u64, Stop>
+    requires { IsMessage message.now }
     ensures octets { Writes result (T.contents output.old) (T.contents output.new)
         (texts_from (single_if conditions.now message.now) (field_count message.now) 1) }
     ensures count { IfOk result (λ written. written
@@ -73,11 +76,13 @@ fn write_if_matching<T: Sink>(
     field: u32,
     output: &mut T,
 ) -> Result<u64, Stop>
+    requires message { IsMessage message.now }
     requires first { 1 ≤ field }
     requires last { field ≤ field_count message.now }
     ensures octets { Writes result (T.contents output.old) (T.contents output.new)
         (single_if conditions.now message.now field) }
     ensures count { IfOk result (λ written. written ≡ length (single_if conditions.now message.now field)) }
+    ensures few { IfOk result (λ written. written ≤ 268435456) }
     ensures counted { CountsStops result (T.faults output.old) (T.faults output.new) }
 {
     if !matches(message, field, conditions) {

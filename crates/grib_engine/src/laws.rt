@@ -1,9 +1,19 @@
 //! Laws over the definitions.
 
-ghost use Rattle.std.specs.Prelude.{◌≡◌, ℕ, ◌<◌, true, List, All};
+ghost use Rattle.std.specs.Prelude.{◌≡◌, ℕ, ◌+◌, ◌^◌, ◌<◌, ◌≤◌, true, false, Some, List, length, take, All};
+ghost use Rattle.std.specs.declared.option.Option.{Option};
+ghost use Rattle.grib_io.specs.Shelves.{Held};
 ghost use Rattle.grib_repack.specs.declared.target.RepackTarget.{RepackTarget};
+ghost use Rattle.grib_stream.specs.declared.outcome.Outcome.{Outcome};
+ghost use Rattle.grib_stream.specs.Acts.{world, Did};
+ghost use Rattle.grib_stream.specs.Answer.{answer_of};
+ghost use Rattle.grib_stream.specs.Outcomes.{is_broken};
+ghost use Rattle.grib_stream.specs.Run.{Gives};
+ghost use Rattle.grib_engine.specs.declared.job.Job.TheVariants.{Split};
 ghost use Rattle.grib_engine.specs.Jobs.{is_target};
 ghost use Rattle.grib_engine.specs.Same.{KeepsValues};
+ghost use Rattle.grib_engine.specs.Standing.{all_parts, StandFirst, StandAll};
+ghost use Rattle.grib_engine.specs.Tasks.{answer, task};
 
 use grib_repack::laws::what_is_repacked_keeps_each_value;
 
@@ -15,3 +25,19 @@ pub fn what_is_answered_keeps_each_value()
 {
     what_is_repacked_keeps_each_value();
 }
+
+/// Wherever a run of `split` ends, the first so many fields of the input stand whole under their names, the
+/// name of the next is as it was or has some first octets of that field, and each other name has what it had.
+/// All fields stand so where neither a device nor memory ended the run, and those of the octets that were
+/// taken where a read failed. The fields are those of the messages of the input, as far as it is answered.
+pub fn what_is_split_stands_whole()
+    ensures first { (out input : List ℕ) (before now : Held) (output output_now : Option (List ℕ)) (outcome : Outcome)
+        → Gives (answer (Split out) input) outcome (world output (Some before)) (world output_now (Some now))
+        → ((count : ℕ) × StandFirst (all_parts out (take (2 ^ 40) input)) before now count) }
+    ensures whole { (out input : List ℕ) (before now : Held) (output output_now : Option (List ℕ)) (outcome : Outcome)
+        → Gives (answer (Split out) input) outcome (world output (Some before)) (world output_now (Some now))
+        → is_broken outcome ≡ false → StandAll (all_parts out (take (2 ^ 40) input)) before now }
+    ensures read { (out taken : List ℕ) (before now : Held) (output output_now : Option (List ℕ)) → length taken ≤ 2 ^ 40 + 1
+        → Did (world output (Some before)) (world output_now (Some now)) (answer_of (task (Split out)) taken).acts
+        → StandAll (all_parts out taken) before now }
+{}

@@ -15,6 +15,7 @@ mod points;
 mod printing;
 mod reading;
 mod serving;
+mod splitting;
 #[cfg(test)]
 mod tests;
 mod writing;

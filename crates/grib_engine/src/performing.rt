@@ -26,11 +26,12 @@ pub(crate) struct Answering<'a> {
 
 impl Performer for Answering<'_> {
     ghost use Rattle.grib_engine.specs.Tasks as tasks;
+    ghost use Rattle.grib_engine.specs.Jobs as jobs;
     ghost use Rattle.grib_engine.specs.Lawful as laws;
 
     ghost task = { λ answering. tasks.task answering.job.now };
 
-    ghost uses_shelf = { λ _. false };
+    ghost uses_shelf = { λ answering. jobs.uses_shelf answering.job.now };
 
     ghost lawful = { λ answering. laws.lawful answering.job.now answering.changes_stand };
 
@@ -63,6 +64,7 @@ impl Performer for Answering<'_> {
                 cause,
             })),
             Answered::WriteFault => Performed::Ends(Outcome::WriteFault),
+            Answered::ShelfFault => Performed::Ends(Outcome::ShelfFault),
             Answered::Memory => Performed::Ends(Outcome::Memory),
         }
     }

@@ -5,10 +5,10 @@ ghost use Rattle.std.specs.Io.KnownBytes.{Appends, Keeps};
 ghost use Rattle.grib_stream.specs.Acts.{world};
 ghost use Rattle.grib_stream.specs.Outcomes.{is_cut_short};
 ghost use Rattle.grib_stream.specs.Faults.{faults, CountsRun, OneCounted};
-ghost use Rattle.grib_stream.specs.declared.outcome.Outcome.TheVariants.{Done, WriteFault, Memory};
+ghost use Rattle.grib_stream.specs.declared.outcome.Outcome.TheVariants.{Done, WriteFault, ShelfFault, Memory};
 ghost use Rattle.grib_engine.specs.Closing.{Unfinished};
 ghost use Rattle.grib_engine.specs.Counts.{Calm};
-ghost use Rattle.grib_engine.specs.Jobs.{IsJob, CanChange, has_target, makes};
+ghost use Rattle.grib_engine.specs.Jobs.{IsJob, CanChange, has_target, makes, uses_shelf};
 ghost use Rattle.grib_engine.specs.Outcomes.{note_with, NotesFront};
 ghost use Rattle.grib_engine.specs.Serving.{RunsJob, NotesJob, NotesJobFront};
 ghost use Rattle.grib_engine.specs.Tasks as tasks;
@@ -24,7 +24,7 @@ use std::alloc::Global;
 
 /// Writes the answer to the job to `output`, and notes how the run ended. The answer is a function of the
 /// job and the input alone; it does not depend on how the input comes in pieces. `make` reads no input.
-/// These jobs do not use the shelf.
+/// `split` alone uses the shelf.
 pub fn serve<S: Source, T: Sink, N: Sink, H: Shelf>(
     alloc: Global,
     job: &Job,
@@ -56,7 +56,8 @@ pub fn serve<S: Source, T: Sink, N: Sink, H: Shelf>(
         (faults (S.faults input.new) (T.faults output.new) (N.faults notes.new) (H.faults shelf.new)) }
     ensures made_input { makes job.now ≡ true → input.new ≡ input.old }
     ensures made { makes job.now ≡ true → (result ≡ Done) ⊎ ((result ≡ WriteFault) ⊎ (result ≡ Memory)) }
-    ensures shelf { shelf.new ≡ shelf.old }
+    ensures shelf { uses_shelf job.now ≡ false → shelf.new ≡ shelf.old }
+    ensures unshelved { uses_shelf job.now ≡ false → result ≢ ShelfFault }
 {
     match job {
         Job::Make {
@@ -102,7 +103,8 @@ fn serve_messages<S: Source, T: Sink, N: Sink, H: Shelf>(
     ensures counts { CountsRun result
         (faults (S.faults input.old) (T.faults output.old) (N.faults notes.old) (H.faults shelf.old))
         (faults (S.faults input.new) (T.faults output.new) (N.faults notes.new) (H.faults shelf.new)) }
-    ensures shelf { shelf.new ≡ shelf.old }
+    ensures shelf { uses_shelf job.now ≡ false → shelf.new ≡ shelf.old }
+    ensures unshelved { uses_shelf job.now ≡ false → result ≢ ShelfFault }
 {
     let answering = Answering { job };
     match answer_within(&answering, alloc, LIMIT, input, output, shelf) {

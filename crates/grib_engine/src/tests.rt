@@ -12,6 +12,9 @@ use grib_stream::answer_within;
 use std::alloc::{AllocError, Global};
 use std::test::Fail;
 
+mod keys;
+mod splitting;
+
 /// A message of one field, 183 octets.
 const PLAIN: [u8; 183] = [
     0x47, 0x52, 0x49, 0x42, 0x00, 0x00, 0x00, 0x02, 0x00, 0x00, 0x00, 0x00, 0x00, 0x00, 0x00, 0xB7,
@@ -295,6 +298,7 @@ fn want_of_memory_is_noted_and_both_sinks_are_finished(rt: HostRuntime) -> Resul
 fn each_cause_has_its_note(rt: HostRuntime) -> Result<(), Fail> {
     let (field, point) = (1, 2);
     for (cause, note) in [
+        (Cause::EditionOne, "kept message 1 EditionOne\n"),
         (
             Cause::SecondaryMissing { field, point },
             "kept message 1 SecondaryMissing field 1 point 2\n",

@@ -14,7 +14,7 @@ written-append (Writes octet ∷ xs) ys = ap (λ octets. octet ∷ octets) (writ
 written-append (Makes name ∷ xs) ys = written-append xs ys
 written-append (Adds name octet ∷ xs) ys = written-append xs ys
 
-held-append : (name : List ℕ) (held : Option (List ℕ)) (xs ys : List Act) → held_after name held (xs ++ ys) ≡ held_after name (held_after name held xs) ys
+pub held-append : (name : List ℕ) (held : Option (List ℕ)) (xs ys : List Act) → held_after name held (xs ++ ys) ≡ held_after name (held_after name held xs) ys
 held-append name held [] ys = refl
 held-append name held (Writes octet ∷ xs) ys = held-append name held xs ys
 held-append name held (Makes other ∷ xs) ys = held-append name (cond (bytes_eq other name) (Some []) held) xs ys

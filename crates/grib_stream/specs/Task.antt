@@ -34,9 +34,9 @@ pub record Task : Type 0 where
 
 -- What is said of octets stays said whatever follows them, but for the refusal of octets that end too
 -- early. An accepted length is at least 4, its octets are there, and the acceptance rests on them alone. An
--- outcome with which a run ends at a message is one of a message. For each 20 octets of a message, the
--- fewest that one has, at most 268435456 octets are counted as written, the most that one has: so the sum
--- over an input of 2 ^ 40 octets fits 64 bits.
+-- outcome with which a run ends at a message is one of a message. For each 20 octets of a message that begins
+-- with `GRIB`, the fewest that a field has, at most 268435456 octets are counted as written, the most that a
+-- message has: so the sum over an input of 2 ^ 40 octets fits 64 bits.
 pub record IsLawful (task : Task) : Type 0 where
   pub message_stays : (octets more : List ℕ) (total : ℕ) → task.judge octets ≡ Message total → task.judge (octets ++ more) ≡ Message total
   pub refusal_stays : (octets more : List ℕ) (fault : Fault) → task.judge octets ≡ Faulty fault → is_truncated fault.reason ≡ false

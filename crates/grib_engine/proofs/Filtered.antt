@@ -1,0 +1,58 @@
+-- The fields of a message that are written, one after another.
+use Rattle.std.proofs.Common.{◌≡◌, ℕ, ◌+◌, ◌-◌, ◌*◌, ◌<◌, ◌≤◌, Bool, true, false, List, [], ◌++◌, length, refl, sym, ap, ◌∙◌, subst, arith, append_assoc, length-append}
+use Rattle.std.specs.declared.option.Option.{Option}
+use Rattle.std.specs.Io.KnownBytes.{Appends}
+use Rattle.std.proofs.KnownBytes.{Appends-trans}
+use Rattle.grib_io.specs.Outside.{AppendsFront}
+use Rattle.grib_io.specs.Rows.{choose}
+use Rattle.grib_keys.specs.declared.condition.Condition.{Condition}
+use Rattle.grib_select.specs.Values.{fulfils_all}
+use Rattle.grib_select.specs.Single.{single_of}
+use Rattle.grib2_message.specs.Fields.{field_count}
+use Rattle.grib_engine.specs.Tasks.{texts_from, all_fulfil, single_if, filtered}
+use Rattle.grib_engine.proofs.Outside.{front_more}
+use Rattle.grib_engine.proofs.Pending.{texts_more, texts_join}
+
+-- whether a field is written
+pub is_single : (conditions : List Condition) (message : List ℕ) (i : ℕ) → fulfils_all message i conditions ≡ true → single_if conditions message i ≡ single_of message i
+is_single conditions message i yes = ap (λ b. choose b (λ _. single_of message i) (λ _. [])) yes
+
+pub is_nothing : (conditions : List Condition) (message : List ℕ) (i : ℕ) → fulfils_all message i conditions ≡ false → single_if conditions message i ≡ []
+is_nothing conditions message i not = ap (λ b. choose b (λ _. single_of message i) (λ _. [])) not
+
+-- whether the message is written whole
+pub is_whole : (conditions : List Condition) (message : List ℕ) → all_fulfil conditions message ≡ true → filtered conditions message ≡ message
+is_whole conditions message yes = ap (λ b. choose b (λ _. message) (λ _. texts_from (single_if conditions message) (field_count message) 1)) yes
+
+pub is_parted : (conditions : List Condition) (message : List ℕ) → all_fulfil conditions message ≡ false
+    → filtered conditions message ≡ texts_from (single_if conditions message) (field_count message) 1
+is_parted conditions message not = ap (λ b. choose b (λ _. message) (λ _. texts_from (single_if conditions message) (field_count message) 1)) not
+
+-- a field more was written
+pub text_written : (a b c : Option (List ℕ)) (text : ℕ → List ℕ) (k field : ℕ) → field ≡ 1 + k → Appends a b (texts_from text k 1)
+    → Appends b c (text field) → Appends a c (texts_from text (k + 1) 1)
+text_written a b c text k field is before now =
+    subst (Appends a c) (ap (λ n. texts_from text k 1 ++ text n) is ∙ sym (texts_more text k 1))
+    (Appends-trans a b c (texts_from text k 1) (text field) before now)
+
+-- or a front of it
+pub text_refused : (a b c : Option (List ℕ)) (text : ℕ → List ℕ) (k field n : ℕ) → field ≡ 1 + k → k < n → Appends a b (texts_from text k 1)
+    → AppendsFront b c (text field) → AppendsFront a c (texts_from text n 1)
+text_refused a b c text k field n is less before (front, rest, is_front, told) =
+    let count : (k + 1) + (n - (k + 1)) ≡ n = omega arith in
+    let later : List ℕ = texts_from text (n - (k + 1)) (1 + (k + 1)) in
+    let so_far : texts_from text (k + 1) 1 ≡ (texts_from text k 1 ++ front) ++ rest =
+    texts_more text k 1
+    ∙ (ap (λ m. texts_from text k 1 ++ text m) (sym is)
+    ∙ (ap (λ xs. texts_from text k 1 ++ xs) is_front ∙ sym (append_assoc (texts_from text k 1) front rest))) in
+    let all : texts_from text (k + 1) 1 ++ later ≡ texts_from text n 1 = sym (texts_join text (k + 1) (n - (k + 1)) 1) ∙ ap (λ m. texts_from text m 1) count in
+    subst (AppendsFront a c) all
+    (front_more a c (texts_from text (k + 1) 1) later (texts_from text k 1 ++ front, rest, so_far, Appends-trans a b c (texts_from text k 1) front before told))
+
+-- and its octets counted
+pub text_counted : (text : ℕ → List ℕ) (k field before more : ℕ) → field ≡ 1 + k → before ≡ length (texts_from text k 1) → more ≡ length (text field)
+    → before + more ≡ length (texts_from text (k + 1) 1)
+text_counted text k field before more is so_far here =
+    let e : length (texts_from text (k + 1) 1) ≡ length (texts_from text k 1 ++ text field) =
+    ap length (texts_more text k 1 ∙ ap (λ n. texts_from text k 1 ++ text n) (sym is)) in
+    omega (arith, length-append (texts_from text k 1) (text field))

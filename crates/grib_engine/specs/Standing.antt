@@ -1,0 +1,33 @@
+-- What a run of `split` leaves on a shelf, wherever it ends.
+use Rattle.std.specs.Prelude.{◌≡◌, ◌≢◌, ℕ, ◌+◌, ◌⊎◌, Some, List, [], ◌∷◌, ◌++◌, take, drop, All}
+use Rattle.std.specs.declared.option.Option.{Option}
+use Rattle.grib_io.specs.Shelves.{Held}
+use Rattle.grib2_message.specs.Fields.{field_count}
+use Rattle.grib_stream.specs.Stream.{Found, stream}
+use Rattle.grib_engine.specs.Parts.{Part, parts_of}
+use Rattle.grib_engine.specs.Tasks.{judge}
+
+-- the parts of these messages, before which the input has so many fields
+abbrev pub parts_within : List ℕ → ℕ → List Found → List Part
+parts_within out before [] = []
+parts_within out before (found ∷ later) =
+    parts_of out before found.octets ++ parts_within out (before + field_count found.octets) later
+
+-- the parts of all messages of an input
+abbrev pub all_parts : List ℕ → List ℕ → List Part
+all_parts out input = parts_within out 0 (stream judge input).messages
+
+-- what stands under the name of a part that may be begun: what stood there, or some first octets of the part
+abbrev pub MayBeBegun : Part → Option (List ℕ) → Option (List ℕ) → Type 0
+MayBeBegun part before now = (now ≡ before) ⊎ ((front rest : List ℕ) × (part.octets ≡ front ++ rest) × (now ≡ Some front))
+
+-- The first so many parts stand whole under their names, and the next may be begun. Each other name has what it had.
+pub record StandFirst (parts : List Part) (before now : Held) (count : ℕ) : Type 0 where
+  pub whole : All (λ part. now part.name ≡ Some part.octets) (take count parts)
+  pub next : (part : Part) (later : List Part) → drop count parts ≡ part ∷ later → MayBeBegun part (before part.name) (now part.name)
+  pub others : (name : List ℕ) → All (λ part. part.name ≢ name) (take (count + 1) parts) → now name ≡ before name
+
+-- all parts stand whole under their names, and each other name has what it had
+pub record StandAll (parts : List Part) (before now : Held) : Type 0 where
+  pub whole : All (λ part. now part.name ≡ Some part.octets) parts
+  pub others : (name : List ℕ) → All (λ part. part.name ≢ name) parts → now name ≡ before name
