@@ -240,6 +240,7 @@ few_judged : (place skipped octet : ℕ) (octets : List ℕ) (j : Judgement) →
     (before_first
     (on_judgement j (λ total. followed_by (message_after place (take total (octet ∷ octets))) (stream_from judge (total - 1) (place + 1) skipped octets))).messages)
     ≤ length (octet ∷ octets)
+unfolding fields_within
 few_judged place skipped octet octets (Message total) begun is later =
     let message = take total (octet ∷ octets) in
     let least = least_message (octet ∷ octets) total is in
@@ -253,6 +254,7 @@ few_judged place skipped octet octets (Faulty fault) begun is later = omega arit
 few_judged place skipped octet octets Unbuilt begun is later = omega arith
 
 few_from : (inside place skipped : ℕ) (octets : List ℕ) → fields_within (before_first (stream_from judge inside place skipped octets).messages) ≤ length octets - inside
+unfolding fields_within
 few_from zero place skipped [] = omega arith
 few_from (suc inside) place skipped [] = omega arith
 few_from (suc inside) place skipped (octet ∷ octets) = let less = few_from inside (place + 1) skipped octets in omega arith

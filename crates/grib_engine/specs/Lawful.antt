@@ -12,6 +12,9 @@ use Rattle.grib_io.specs.Rows.{choose, first_fault}
 use Rattle.grib2_sections.specs.Verdict.{Verdict, Accepted, Refused}
 use Rattle.grib2_sections.specs.Head.{edition, head_rows}
 use Rattle.grib2_sections.specs.Frame.{ends_at, section_at, placed_at}
+use Rattle.grib1_sections.specs.Acceptance.{verdict_1}
+use Rattle.grib1_sections.proofs.Stays.{accepted_stays as first_stays, refused_stays as first_refused_stays}
+use Rattle.grib1_sections.proofs.Fronts.{accepted_least as first_least, accepted_there as first_there, accepted_alone as first_alone}
 use Rattle.grib2_message.specs.View.{is_numbered}
 use Rattle.grib2_message.specs.Acceptance.{unless_refused, verdict_2}
 use Rattle.grib2_message.specs.Fields.{sections_from, sections_of, field_count}
