@@ -1,8 +1,8 @@
 -- What is written of an input that is repacked, message for message.
-use Rattle.std.proofs.Common.{◌≡◌, ℕ, zero, suc, ◌+◌, ◌-◌, ◌^◌, ◌<◌, ◌≤◌, ◌==◌, Bool, true, false, Option, Some, None, List, [], ◌∷◌, ◌++◌, length, map, take, drop, All, refl, sym, ap, ◌∙◌, subst, arith, ⊎_elim, length-take-le, take-append-drop}
+use Rattle.std.proofs.Common.{◌≡◌, ℕ, zero, suc, ◌+◌, ◌-◌, ◌^◌, ◌<◌, ◌≤◌, ◌==◌, Bool, true, false, Option, Some, None, List, [], ◌∷◌, ◌++◌, length, map, take, All, refl, sym, ap, ◌∙◌, subst, arith, ⊎_elim}
 use Rattle.std.specs.List.{concat}
 use Rattle.std.proofs.lemmas.Bool.{cases_Bool, cases_lt, false≢true}
-use Rattle.std.proofs.lemmas.List.{take-append-le, take_all}
+use Rattle.std.proofs.lemmas.List.{take_all}
 use Rattle.std.proofs.lemmas.List.Elements.{All-nil, All-cons, All-head, All-tail, All-take}
 use Rattle.grib_io.specs.Rows.{choose}
 use Rattle.grib_packing.specs.Misfits.{Target}
@@ -20,7 +20,7 @@ use Rattle.grib_stream.specs.declared.place.Place.{Place}
 use Rattle.grib_stream.specs.Task.{Task}
 use Rattle.grib_stream.specs.Answer.{Answer, after, on_given, answers, on_end, place_of, at_limit, answer_of, answer_within}
 use Rattle.grib_stream.proofs.Exits.{within_short, within_long, closed_at_limit, open_at_limit}
-use Rattle.grib_stream.proofs.Streams.{stream_skip, stream_begun, begins_is}
+use Rattle.grib_stream.proofs.Streams.{stream_skip, stream_begun}
 use Rattle.grib_engine.specs.declared.job.Job.TheVariants.{Repack}
 use Rattle.grib_engine.specs.EditionOne.{given_1}
 use Rattle.grib_engine.specs.Lawful.{IsFirst, IsOther, message_judged, least_message, there_message, edition_alone, message_alone}

@@ -1,27 +1,26 @@
 -- What stands on a shelf after some first acts of `split`.
-use Rattle.std.proofs.Common.{◌≡◌, ◌≢◌, ℕ, zero, suc, ◌+◌, ◌-◌, ◌^◌, ◌<◌, ◌≤◌, ◌*◌, ◌==◌, ◌⊎◌, inl, inr, Bool, true, false, cond, Some, None, List, [], ◌∷◌, ◌++◌, length, map, take, drop, refl, sym, ap, ◌∙◌, subst, arith, ⊎_elim, append_assoc, append-nil, length-take-le}
+use Rattle.std.proofs.Common.{◌≡◌, ◌≢◌, ℕ, zero, suc, ◌+◌, ◌-◌, ◌^◌, ◌<◌, ◌≤◌, ◌*◌, ◌==◌, ◌⊎◌, inl, inr, Bool, true, false, cond, Some, List, [], ◌∷◌, ◌++◌, length, map, take, refl, sym, ap, ◌∙◌, subst, arith, ⊎_elim, append-nil, length-take-le}
 use Rattle.std.specs.declared.option.Option.{Option}
 use Rattle.std.specs.Prelude.{All, codes}
-use Rattle.std.specs.List.{range_with_len, flat_map}
+use Rattle.std.specs.List.{range_with_len}
 use Rattle.std.specs.Fmt.{decimal}
 use Rattle.std.specs.Str.{bytes_eq}
-use Rattle.std.proofs.lemmas.Bool.{cases_Bool, false≢true, cases_lt}
+use Rattle.std.proofs.lemmas.Bool.{cases_Bool, cases_lt}
 use Rattle.std.proofs.lemmas.Fmt.{decimal_injective}
 use Rattle.std.proofs.lemmas.List.{append_cancel_left, map-append, length-take}
 use Rattle.std.proofs.lemmas.List.Concat.{flat_map-append}
 use Rattle.std.proofs.lemmas.List.Elements.{All-nil, All-cons, All-head, All-tail, All-take, All-drop}
 use Rattle.std.proofs.lemmas.Slice.Eq.{bytes_eq-Decides}
-use Rattle.grib_io.specs.declared.fault.Fault.{Fault}
 use Rattle.grib_io.specs.Rows.{choose}
 use Rattle.grib_io.specs.Shelves.{Held}
 use Rattle.grib2_sections.specs.Head.{edition}
 use Rattle.grib2_message.specs.Fields.{field_count}
-use Rattle.grib_stream.specs.Acts.{Act, Makes, Adds, held_after, World, world, Did, DidFront}
+use Rattle.grib_stream.specs.Acts.{Act, Makes, Adds, held_after, world, Did, DidFront}
 use Rattle.grib_stream.specs.Outcomes.{is_open}
 use Rattle.grib_stream.specs.Stream.{begins, Judgement, Message, Faulty, Unbuilt, Found, End, Over, Refusing, NotRead, stream_from, stream, on_judgement, followed_by, message_after}
 use Rattle.grib_stream.specs.declared.place.Place.{Place}
 use Rattle.grib_stream.specs.Task.{Task}
-use Rattle.grib_stream.specs.Answer.{Answer, after, on_given, answers, on_end, place_of, at_limit, answer_of, answer_within}
+use Rattle.grib_stream.specs.Answer.{Answer, after, on_given, answers, place_of, at_limit, answer_of, answer_within}
 use Rattle.grib_stream.proofs.Exits.{within_short, within_long, closed_at_limit, open_at_limit}
 use Rattle.grib_stream.proofs.Streams.{stream_skip, stream_begun}
 use Rattle.grib_stream.proofs.Worlds.{held-append}
@@ -29,7 +28,7 @@ use Rattle.grib_engine.specs.declared.job.Job.TheVariants.{Split}
 use Rattle.grib_engine.specs.FieldOctets.{twenty_each}
 use Rattle.grib_engine.specs.EditionOne.{given_1}
 use Rattle.grib_engine.specs.Lawful.{least_message, there_message, fields_other}
-use Rattle.grib_engine.specs.Parts.{Part, part, part_name, part_of, first_parts, parts_of, adds, puts, puts_all, octets_within}
+use Rattle.grib_engine.specs.Parts.{Part, part, part_name, part_of, parts_of, adds, puts, puts_all, octets_within}
 use Rattle.grib_engine.specs.Standing.{parts_within, before_first, all_parts, MayBeBegun, StandFirst, StandAll}
 use Rattle.grib_engine.specs.Tasks.{judge, fields_of, given_2, task}
 use Rattle.grib_engine.proofs.Keeping.{alone_other, within_acts}

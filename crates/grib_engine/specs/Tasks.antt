@@ -7,7 +7,7 @@ use Rattle.grib2_sections.specs.Head.{edition}
 use Rattle.grib2_sections.specs.Verdict.{Verdict, Accepted, Refused}
 use Rattle.grib_stream.specs.declared.place.Place.{Place}
 use Rattle.grib_stream.specs.declared.place.Totals.{Totals}
-use Rattle.grib_stream.specs.Stream.{Judgement, Message, Faulty, Unbuilt}
+use Rattle.grib_stream.specs.Stream.{Judgement, Message, Faulty}
 use Rattle.grib_stream.specs.Acts.{writes}
 use Rattle.grib_stream.specs.Task.{Task, Given, Gives, Ends}
 use Rattle.grib_stream.specs.Answer.{Answer, answer_within}

@@ -171,14 +171,7 @@ fn append_dumped<T: Sink>(
     let column = message.column(alloc, field)?;
     let reference = reference_of(&column);
     let listed = list_line(alloc, message, number, field)?;
-    append_dump(
-        alloc,
-        listed.as_slice(),
-        &reference,
-        &column,
-        lines,
-        output,
-    )
+    append_dump(alloc, listed.as_slice(), &reference, &column, lines, output)
 }
 
 /// The reference value of a column of edition 2.

@@ -1,7 +1,7 @@
 use Rattle.std.proofs.Common.{refl, ◌∙◌, rules}
 use Rattle.grib_text.specs.Lines.{point_lines}
 use Rattle.grib_engine.proofs.Outside.{front_none}
-use Rattle.grib_engine.proofs.Pending.{dumped_is, three_written, one_refused, two_refused, counts_passed, on_refused}
+use Rattle.grib_engine.proofs.Pending.{dumped_is, three_written, one_refused, two_refused, on_refused}
 use Rattle.grib_engine.proofs.dumping.append_dump.Goals as goal
 
 pub returns-in_err-numbers-clause-octets : goal.returns-in_err-numbers-clause-octets

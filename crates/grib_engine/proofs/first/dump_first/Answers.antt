@@ -1,4 +1,4 @@
-use Rattle.std.proofs.Common.{◌∙◌, ◌++◌, rules, subst, sym}
+use Rattle.std.proofs.Common.{◌∙◌, rules, subst}
 use Rattle.grib_io.specs.Outside.{AppendsFront}
 use Rattle.grib_engine.specs.Pending.{Writes}
 use Rattle.grib_engine.proofs.Outside.{front_none}
