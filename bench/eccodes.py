@@ -1,10 +1,10 @@
 #!/usr/bin/env python3
-"""Compares `grib dump` with ecCodes on files of edition 2, value by value: eccodes.py PROGRAM FILE..
+"""Compares `grib dump` with ecCodes on files, value by value: eccodes.py PROGRAM FILE..
 
 Wants grib_get_data of ecCodes (Debian: libeccodes-tools). Each message is handed to both by
 itself. Of each value that ecCodes gives, the scaled number is computed back by the reference value and the
 scale factors that PROGRAM prints, and has to be the one that PROGRAM prints for that point. Prints a line
-for each file: messages, fields and points that agree, refusals by their reason, and what differs."""
+for each file and edition: messages, fields and points that agree, refusals by their reason, and what differs."""
 import collections
 import subprocess
 import sys
@@ -49,26 +49,35 @@ def agrees(ours, theirs):
     return scaled == points or sorted(scaled, key=key) == sorted(points, key=key)
 
 
+def compared(program, message, counts):
+    """Counts what comes of a message."""
+    counts["messages"] += 1
+    run = subprocess.run([program, "dump"], input=message, capture_output=True)
+    if run.returncode != 0:
+        counts["refused " + " ".join(run.stderr.decode().split()[5:])] += 1
+        return
+    ours, theirs = our_fields(run.stdout.decode()), their_fields(message)
+    if theirs is None:
+        counts["accepted, and ecCodes fails"] += 1
+        return
+    counts["fields differ in number"] += len(ours) != len(theirs)
+    for one, other in zip(ours, theirs):
+        counts["fields that agree" if agrees(one, other) else "fields that DIFFER"] += 1
+        counts["points"] += len(one[3])
+
+
 def main():
     program, failed = sys.argv[1], False
     for path in sys.argv[2:]:
-        counts = collections.Counter()
-        for message in messages(open(path, "rb").read()):
-            counts["messages"] += 1
-            run = subprocess.run([program, "dump"], input=message, capture_output=True)
-            if run.returncode != 0:
-                counts["refused " + " ".join(run.stderr.decode().split()[5:])] += 1
-                continue
-            ours, theirs = our_fields(run.stdout.decode()), their_fields(message)
-            if theirs is None:
-                counts["accepted, and ecCodes fails"] += 1
-                continue
-            counts["fields differ in number"] += len(ours) != len(theirs)
-            for one, other in zip(ours, theirs):
-                counts["fields that agree" if agrees(one, other) else "fields that DIFFER"] += 1
-                counts["points"] += len(one[3])
-        failed |= counts["fields that DIFFER"] + counts["fields differ in number"] > 0
-        print(path + ": " + ", ".join(f"{number} {what}" for what, number in counts.items() if number))
+        data = open(path, "rb").read()
+        for edition in 1, 2:
+            counts = collections.Counter()
+            for message in messages(data, edition):
+                compared(program, message, counts)
+            failed |= counts["fields that DIFFER"] + counts["fields differ in number"] > 0
+            if counts:
+                told = ", ".join(f"{number} {what}" for what, number in counts.items() if number)
+                print(f"{path}, edition {edition}: {told}")
     sys.exit(failed)
 
 

@@ -1,14 +1,18 @@
 -- The values of words that are read.
-use Rattle.std.proofs.Common.{◌≡◌, ◌⊎◌, ℕ, suc, ◌+◌, ◌-◌, ◌^◌, ◌<◌, ◌≤◌, Bool, true, false, cond, not, ◌&&◌, ◌||◌, ◌==◌, nat_le, Option, Some, None, option_map, Result, Ok, Err, IfOk, List, [], ◌∷◌, ◌++◌, length, map, get_or, take, drop, codes, refl, sym, ap, ◌∙◌, subst, rules, arith, tests, ⊎_elim, inl, inr, eqb-true}
-use Rattle.std.specs.List.{list_any, list_all, find, position_or_len, before_first, after_first}
-use Rattle.std.specs.Option.{option_map_or}
+use Rattle.std.proofs.Common.{All, IsTrue, ◌≡◌, ◌⊎◌, ℕ, suc, ◌+◌, ◌-◌, ◌<◌, ◌≤◌, Bool, true, false, cond, not, ◌&&◌, ◌||◌, ◌==◌, nat_le, Option, Some, None, option_map, Result, Ok, Err, IfOk, List, [], ◌∷◌, ◌++◌, length, map, get_or, take, drop, codes, refl, sym, ap, ◌∙◌, subst, rules, arith, tests, ⊎_elim, inl, inr, eqb-true}
+use Rattle.std.specs.List.{list_any, list_all, find, position_or_len, cons_option}
+use Rattle.std.specs.Option.{option_map_or, option_and_then}
 use Rattle.std.specs.Str.{bytes_eq}
 use Rattle.std.proofs.lemmas.Bool.{cases_Bool, false≢true}
 use Rattle.std.proofs.lemmas.List.{length-append, take_rest}
+use Rattle.std.proofs.lemmas.List.Elements.{All-nil, All-cons}
 use Rattle.std.proofs.lemmas.List.Sums.{split_at_first, passes_at_first}
 use Rattle.std.proofs.lemmas.Slice.Eq.{bytes_eq-Decides}
+use Rattle.grib_keys.specs.declared.key.Key.{Key}
+use Rattle.grib_keys.specs.declared.condition.Value.{Value}
+use Rattle.grib_keys.specs.declared.condition.Condition.{Condition}
+use Rattle.grib_keys.specs.Keys.{key_named, can_set}
 use Rattle.grib_made.specs.Made.{MayBeMade}
-use Rattle.grib_repack.specs.declared.target.RepackTarget.{RepackTarget}
 use Rattle.grib_repack.specs.declared.target.RepackTarget.TheVariants.{Simple, Complex, Spatial}
 use Rattle.grib_engine.specs.declared.job.Job.{Job}
 use Rattle.grib_engine.specs.Jobs.{IsJob, is_target}
@@ -16,9 +20,13 @@ use Rattle.grib_cli.specs.declared.words.JobFault.{JobFault}
 use Rattle.grib_cli.specs.declared.words.command.Command.{Command}
 use Rattle.grib_cli.specs.declared.words.command.Command.TheVariants as the
 use Rattle.grib_cli.specs.declared.words.command.Command.TheVariants.{Filter, Split, Set, Repack, Migrate, Make}
-use Rattle.grib_cli.specs.Values.{number, is_number, is_between}
-use Rattle.grib_cli.specs.Reading.{is, is_equals, has_equals, name_in, value_in, entries, takes, is_named, has_name, has_word, is_read, read_count, has_target, is_complete, command_named, reading_of, reading}
-use Rattle.grib_cli.specs.Words.{value_of, number_of, target_of, job_of_command}
+use Rattle.grib_cli.specs.Values.{number, is_number, is_between, key_value}
+use Rattle.grib_cli.specs.Reading.{is, is_equals, has_equals, name_in, value_in, is_key_to_set, is_key_value, entries, takes, is_named, has_name, has_word, is_read, read_count, has_target, is_complete, command_named, reading_of, reading}
+use Rattle.grib_cli.specs.Words.{value_of, number_of, target_of, condition, conditions_of, job_of_command, job_of_reading, IsUnlessMemory, IsAsked}
+
+-- the key of a change can be set
+abbrev CanBeSet : Condition → Type 0
+CanBeSet change = IsTrue (can_set change.key)
 
 -- ---- tests
 
@@ -251,6 +259,27 @@ pub make_stands : (words : List (List ℕ)) → HasRead Make words → TargetSta
 make_stands words read =
     target_in words (make_sized words read).target (λ has. value_taken Make (codes "to") words read.all has) (λ has. value_taken Make (codes "order") words read.all has)
 
+-- ---- changes
+
+no_changes : All CanBeSet []
+no_changes = All-nil CanBeSet
+
+change_can : (key : Option Key) (value : Option Value) (changes : List Condition) → option_map_or can_set key false ≡ true → All CanBeSet changes
+    → All CanBeSet (cons_option (option_and_then (λ key. option_map (condition key) value) key) changes)
+change_can None value changes can all = absurd (false≢true can)
+change_can (Some key) None changes can all = all
+change_can (Some key) (Some value) changes can all = All-cons CanBeSet (condition key value) changes can all
+
+key_can : (name value : List ℕ) → takes (entries Set) name value ≡ true → is_key_to_set name ≡ true
+key_can name value h = (both (is_key_to_set name) (is_key_value value) (only_first (is_key_to_set name && is_key_value value) h)).0
+
+changes_can : (words : List (List ℕ)) → list_all (taken Set) words ≡ true → All CanBeSet (conditions_of words)
+changes_can [] all = no_changes
+changes_can (word ∷ later) all =
+    let parts = both (taken Set word) (list_all (taken Set) later) all in
+    change_can (key_named (name_in word)) (key_value (value_in word)) (conditions_of later) (key_can (name_in word) (value_in word) parts.0)
+    (changes_can later parts.1)
+
 -- ---- the job
 
 one_or_two : (n : ℕ) → 1 ≤ n → n ≤ 2 → ((n == 1) || (n == 2)) ≡ true
@@ -274,15 +303,26 @@ size_is words stands =
     record { seed_fits = omega arith; some_columns = ni.low; few_columns = ni.high; some_rows = nj.low; few_rows = nj.high }
 
 pub is_job : (command : Command) (words : List (List ℕ)) → HasRead command words → IfOk (job_of_command command words) IsJob
-is_job the.Check words read = record { target_stands = refl; size_stands = tt }
-is_job the.List words read = record { target_stands = refl; size_stands = tt }
-is_job the.Dump words read = record { target_stands = refl; size_stands = tt }
-is_job Repack words read = record { target_stands = target_is words (repack_stands words read); size_stands = tt }
-is_job Make words read = record { target_stands = target_is words (make_stands words read); size_stands = size_is words (make_sized words read) }
-is_job Filter words read = tt
-is_job Split words read = tt
-is_job Set words read = tt
+is_job the.Check words read = record { target_stands = refl; size_stands = tt; changes_stand = no_changes }
+is_job the.List words read = record { target_stands = refl; size_stands = tt; changes_stand = no_changes }
+is_job the.Dump words read = record { target_stands = refl; size_stands = tt; changes_stand = no_changes }
+is_job Filter words read = record { target_stands = refl; size_stands = tt; changes_stand = no_changes }
+is_job Split words read = record { target_stands = refl; size_stands = tt; changes_stand = no_changes }
+is_job Set words read = record { target_stands = refl; size_stands = tt; changes_stand = changes_can words read.all }
+is_job Repack words read = record { target_stands = target_is words (repack_stands words read); size_stands = tt; changes_stand = no_changes }
+is_job Make words read =
+    record { target_stands = target_is words (make_stands words read); size_stands = size_is words (make_sized words read); changes_stand = no_changes }
 is_job Migrate words read = tt
+
+-- the answer to the words, by that to the words behind their command
+pub asked : (words : List (List ℕ)) (command : Command) (result : Result Job JobFault) → reading words ≡ Ok command
+    → IsUnlessMemory result (job_of_command command (drop 1 words)) → IsAsked result words
+asked words command result read answer = subst (λ r. IsUnlessMemory result (job_of_reading r (drop 1 words))) (sym read) answer
+
+pub answer_is_job : (command : Command) (words : List (List ℕ)) (result : Result Job JobFault) → HasRead command words
+    → IsUnlessMemory result (job_of_command command words) → IfOk result IsJob
+answer_is_job command words result read (inl same) = subst (λ r. IfOk r IsJob) (sym same) (is_job command words read)
+answer_is_job command words result read (inr memory) = subst (λ r. IfOk r IsJob) (sym memory) tt
 
 -- ---- the word of a name
 

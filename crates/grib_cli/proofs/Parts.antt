@@ -1,8 +1,15 @@
 -- Words of a command line as lists, and their `=`.
-use Rattle.std.proofs.Common.{◌≡◌, ℕ, ◌+◌, Bool, true, false, cond, not, ◌||◌, List, [], ◌∷◌, length, map, refl, ap, arith}
-use Rattle.std.specs.List.{list_any, position_or_len}
+use Rattle.std.proofs.Common.{◌≡◌, ℕ, ◌+◌, Bool, true, false, cond, not, ◌||◌, Option, Some, None, option_map, List, [], ◌∷◌, length, map, refl, sym, ap, arith}
+use Rattle.std.specs.List.{list_any, position_or_len, filter_map}
+use Rattle.std.specs.Option.{option_and_then}
+use Rattle.std.proofs.lemmas.List.{drop_all}
+use Rattle.grib_keys.specs.declared.key.Key.{Key}
+use Rattle.grib_keys.specs.declared.condition.Value.{Value}
+use Rattle.grib_keys.specs.Keys.{key_named}
 use Rattle.grib_cli.specs.declared.words.command.Command.{Command}
-use Rattle.grib_cli.specs.Reading.{is_equals, has_equals, is_named, is_read}
+use Rattle.grib_cli.specs.Values.{key_value}
+use Rattle.grib_cli.specs.Reading.{is_equals, has_equals, name_in, value_in, is_named, is_read}
+use Rattle.grib_cli.specs.Words.{condition, condition_of}
 
 pub list_any-map : {X Y : Type 0} (p : Y → Bool) (f : X → Y) (xs : List X) → list_any p (map f xs) ≡ list_any (λ x. p (f x)) xs
 list_any-map p f [] = refl
@@ -25,3 +32,23 @@ unnamed name word e = rw (lacks_equals word e) refl
 
 pub unread : (command : Command) (earlier : List (List ℕ)) (word : List ℕ) → position_or_len is_equals word ≡ length word → false ≡ is_read command earlier word
 unread command earlier word e = rw (lacks_equals word e) refl
+
+-- ---- conditions
+
+no_value : (word : List ℕ) → position_or_len is_equals word ≡ length word → value_in word ≡ []
+no_value word e = drop_all (position_or_len is_equals word + 1) word (omega (arith, e))
+
+none_without : (key : Option Key) → option_and_then (λ key. option_map (condition key) (key_value [])) key ≡ None
+none_without None = refl
+none_without (Some key) = refl
+
+pub unconditioned : (word : List ℕ) → position_or_len is_equals word ≡ length word → None ≡ condition_of word
+unconditioned word e = rw (no_value word e) (sym (none_without (key_named (name_in word))))
+
+pub conditioned : (word : List ℕ) (key : Key) (value : Value) → key_named (name_in word) ≡ Some key → key_value (value_in word) ≡ Some value
+    → Some (condition key value) ≡ condition_of word
+conditioned word key value named valued = rw (named, valued) refl
+
+pub filter_map-map : {X Y Z : Type 0} (h : Y → Option Z) (f : X → Y) (xs : List X) → filter_map h (map f xs) ≡ filter_map (λ x. h (f x)) xs
+filter_map-map h f [] = refl
+filter_map-map h f (x ∷ xs) = rw (filter_map-map h f xs) refl

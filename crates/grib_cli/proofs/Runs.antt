@@ -1,5 +1,5 @@
 -- A run by what its words ask for.
-use Rattle.std.proofs.Common.{◌≡◌, ◌⊎◌, ℕ, ◌^◌, true, false, Result, Ok, Err, IfOk, IfErr, MatchResult, Option, Some, None, List, [], ◌++◌, refl, sym, ap, ◌∙◌, subst, arith, inl, inr}
+use Rattle.std.proofs.Common.{◌≡◌, ◌≢◌, ◌⊎◌, ℕ, ◌^◌, true, false, Result, Ok, Err, IfOk, IfErr, MatchResult, Option, Some, None, List, [], ◌++◌, refl, sym, ap, ◌∙◌, subst, arith, inl, inr}
 use Rattle.std.proofs.KnownBytes.{Consumes-nil}
 use Rattle.std.proofs.lemmas.Bool.{false≢true}
 use Rattle.grib_io.specs.Outside.{AppendsFront}
@@ -8,7 +8,7 @@ use Rattle.grib_stream.specs.Outcomes.{is_broken, is_cut_short}
 use Rattle.grib_stream.specs.Run.{Gives, Runs}
 use Rattle.grib_stream.specs.Answer.{Answer}
 use Rattle.grib_stream.specs.declared.outcome.Outcome.{Outcome}
-use Rattle.grib_stream.specs.declared.outcome.Outcome.TheVariants.{ReadFault, WriteFault, Memory}
+use Rattle.grib_stream.specs.declared.outcome.Outcome.TheVariants.{ReadFault, WriteFault, ShelfFault, Memory}
 use Rattle.grib_engine.specs.declared.job.Job.{Job}
 use Rattle.grib_engine.specs.declared.job.Job.TheVariants.{Check, List as Listing, Dump, Filter, Split, Set, Repack, Make}
 use Rattle.grib_engine.specs.Outcomes.{note_of, NotesFront}
@@ -61,6 +61,12 @@ cut_memory fault result memory (inr (inr want)) = ap is_cut_short want
 pub one_at_memory : (fault : JobFault) (result outcome : Outcome) → fault ≡ faults.Memory → OneOf (outcome_of fault) result → OneOf outcome result
 one_at_memory fault result outcome memory (inl same) = inr (inr (same ∙ ap outcome_of memory))
 one_at_memory fault result outcome memory (inr later) = inr later
+
+not_shelf : (result : Outcome) → is_cut_short result ≡ true → result ≢ ShelfFault
+not_shelf result cut shelf = false≢true (sym (ap is_cut_short shelf) ∙ cut)
+
+pub unshelved_memory : (fault : JobFault) (result : Outcome) → fault ≡ faults.Memory → OneOf (outcome_of fault) result → result ≢ ShelfFault
+unshelved_memory fault result memory one = not_shelf result (cut_memory fault result memory one)
 
 -- nothing was taken, and nothing done
 no_read : (result : Outcome) → is_cut_short result ≡ true → result ≡ ReadFault → ⊥

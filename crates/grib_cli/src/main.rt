@@ -1,4 +1,4 @@
-//! The command `grib`: standard input, output and error around the top call.
+//! The command `grib`: standard input, output and error, and the files, around the top call.
 #![tactic(auto)]
 
 ghost use Rattle.std.specs.Prelude.{◌≡◌, ◌≢◌};
@@ -6,7 +6,7 @@ ghost use Rattle.std.specs.IoError.{error_kind};
 ghost use Rattle.std.specs.declared.io.ErrorKind.TheVariants.{OutOfMemory};
 
 use grib_engine::Outcome;
-use grib_io::{MemoryShelf, ReadSource, WriteSink};
+use grib_io::{FileShelf, ReadSource, WriteSink};
 use std::process::ExitCode;
 use std::{env, io};
 
@@ -29,7 +29,7 @@ fn main(rt: HostRuntime) -> ExitCode {
     let mut input = ReadSource::new(rt.stdin());
     let mut output = WriteSink::new(rt.stdout());
     let mut notes = WriteSink::new(rt.stderr());
-    let mut shelf = MemoryShelf::new(rt.alloc(), Vec::new(rt.alloc()));
+    let mut shelf = FileShelf::new(&rt);
     let outcome = run(
         rt.alloc(),
         words.as_slice(),

@@ -1,13 +1,13 @@
 //! The top call: from the words and the input to the output, the notes and the outcome.
 
-ghost use Rattle.std.specs.Prelude.{◌≡◌, ◌<◌, ◌⊎◌, true, false, map, string_bytes, [], IfOk, IfErr, MatchResult};
+ghost use Rattle.std.specs.Prelude.{◌≡◌, ◌≢◌, ◌<◌, ◌⊎◌, true, false, map, string_bytes, [], IfOk, IfErr, MatchResult};
 ghost use Rattle.std.specs.Io.KnownBytes.{Appends, Keeps};
 ghost use Rattle.grib_stream.specs.Acts.{world};
 ghost use Rattle.grib_stream.specs.Faults.{faults, CountsRun};
 ghost use Rattle.grib_stream.specs.Outcomes.{is_cut_short};
-ghost use Rattle.grib_stream.specs.declared.outcome.Outcome.TheVariants.{Done, WriteFault, Memory};
+ghost use Rattle.grib_stream.specs.declared.outcome.Outcome.TheVariants.{Done, WriteFault, ShelfFault, Memory};
 ghost use Rattle.grib_engine.specs.Closing.{Unfinished};
-ghost use Rattle.grib_engine.specs.Jobs.{makes};
+ghost use Rattle.grib_engine.specs.Jobs.{makes, uses_shelf};
 ghost use Rattle.grib_engine.specs.Outcomes.{note_of, NotesFront};
 ghost use Rattle.grib_engine.specs.Serving.{RunsJob, NotesJob, NotesJobFront};
 ghost use Rattle.grib_cli.specs.Words as asked;
@@ -19,7 +19,7 @@ use std::alloc::Global;
 
 /// Does what the words ask for with the messages of `input`, or without it: writes the answer to `output`
 /// and notes how the run ended. The answer is a function of the words and the input alone; it does not
-/// depend on how the input comes in pieces. The shelf is not used so far.
+/// depend on how the input comes in pieces. `split` alone uses the shelf.
 pub fn run<S: Source, T: Sink, N: Sink, H: Shelf>(
     alloc: Global,
     words: &[String],
@@ -56,7 +56,11 @@ pub fn run<S: Source, T: Sink, N: Sink, H: Shelf>(
     ensures counts { CountsRun result
         (faults (S.faults input.old) (T.faults output.old) (N.faults notes.old) (H.faults shelf.old))
         (faults (S.faults input.new) (T.faults output.new) (N.faults notes.new) (H.faults shelf.new)) }
-    ensures shelf { shelf.new ≡ shelf.old }
+    ensures shelf { MatchResult (asked.job_of (map string_bytes words.now))
+        (λ job. uses_shelf job ≡ false → shelf.new ≡ shelf.old)
+        (λ fault. shelf.new ≡ shelf.old) }
+    ensures unshelved { IfOk (asked.job_of (map string_bytes words.now)) (λ job.
+        uses_shelf job ≡ false → result ≢ ShelfFault) }
 
     // Words that ask for no job, whatever the input tells: nothing is taken, and nothing but the note is
     // written.

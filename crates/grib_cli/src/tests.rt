@@ -12,7 +12,9 @@ use std::alloc::{AllocError, Global};
 use std::io::{self, Write};
 use std::test::Fail;
 
+mod editions;
 mod packing;
+mod selecting;
 
 // The message M1 of docs/PROFILE.md, a field of 2 by 2 points.
 const PLAIN: [u8; 183] = [
@@ -65,6 +67,7 @@ struct Ran {
     outcome: Outcome,
     output: MemorySink,
     notes: MemorySink,
+    shelf: MemoryShelf,
 }
 
 impl Ran {
@@ -113,6 +116,7 @@ fn run_over(
         outcome,
         output,
         notes,
+        shelf,
     })
 }
 
@@ -344,6 +348,10 @@ fn words_without_a_reading(rt: HostRuntime) -> Result<(), Fail> {
         ("check file", 1),
         ("repack to=1", 1),
         ("repack to=3", 2),
+        ("filter centre=98 level=500", 2),
+        ("set points=3", 1),
+        ("set year=2025 month=013", 2),
+        ("split", 1),
     ] {
         let note = format!(in rt.alloc(); "usage word {word}\n")?;
         let ran = run_over(rt.alloc(), words, &PLAIN, 50, CALM)?;
@@ -354,18 +362,7 @@ fn words_without_a_reading(rt: HostRuntime) -> Result<(), Fail> {
 
 #[test]
 fn what_is_to_come_is_not_built(rt: HostRuntime) -> Result<(), Fail> {
-    for words in [
-        "filter centre=98",
-        "split out=p",
-        "set year=2025",
-        "migrate params=t",
-    ] {
-        let ran = run_over(rt.alloc(), words, &PLAIN, 50, CALM)?;
-        assert!(rt; ran.is(Outcome::NotBuilt, "", "not built\n"));
-    }
-    let mut octets = PLAIN;
-    octets[7] = 1;
-    let ran = run_over(rt.alloc(), "check", &octets, 50, CALM)?;
+    let ran = run_over(rt.alloc(), "migrate params=t", &PLAIN, 50, CALM)?;
     assert!(rt; ran.is(Outcome::NotBuilt, "", "not built\n"));
     Ok(())
 }

@@ -5,10 +5,11 @@ ghost use Rattle.grib_engine.specs.Jobs.{IsJob};
 ghost use Rattle.grib_cli.specs.Reading as grammar;
 ghost use Rattle.grib_cli.specs.Reading.{entries, size_entries, target_entries, reading};
 ghost use Rattle.grib_cli.specs.Words.{IsAsked};
+ghost use Rattle.grib_cli.specs.declared.words.JobFault.TheVariants.{Memory};
 
 use grib_engine::Job;
 use grib_keys::Key;
-use std::alloc::Global;
+use std::alloc::{AllocError, Global};
 
 mod asking;
 mod command;
@@ -33,13 +34,21 @@ pub enum JobFault {
     Memory,
 }
 
+impl From<AllocError> for JobFault {
+    ghost from_gives = { λ _ fault. fault ≡ Memory };
+
+    fn from(_error: AllocError) -> JobFault {
+        JobFault::Memory
+    }
+}
+
 /// The job that the words ask for. It is one that there is.
-pub fn job_of(_alloc: Global, words: &[String]) -> Result<Job, JobFault>
+pub fn job_of(alloc: Global, words: &[String]) -> Result<Job, JobFault>
     ensures asked { IsAsked result (map string_bytes words.now) }
     ensures is_job { IfOk result IsJob }
 {
     match read_words(words) {
-        Ok(command) => job_of_command(command, &words[1..]),
+        Ok(command) => job_of_command(alloc, command, &words[1..]),
         Err(word) => Err(JobFault::Usage(word)),
     }
 }

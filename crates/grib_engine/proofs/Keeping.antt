@@ -1,11 +1,14 @@
 -- What is written of an input that is repacked, message for message.
-use Rattle.std.proofs.Common.{◌≡◌, ℕ, zero, suc, ◌+◌, ◌-◌, ◌^◌, ◌<◌, ◌≤◌, true, Option, Some, None, List, [], ◌∷◌, ◌++◌, length, map, take, All, refl, sym, ap, ◌∙◌, subst, ⊎_elim}
+use Rattle.std.proofs.Common.{◌≡◌, ℕ, zero, suc, ◌+◌, ◌-◌, ◌^◌, ◌<◌, ◌≤◌, ◌==◌, Bool, true, false, Option, Some, None, List, [], ◌∷◌, ◌++◌, length, map, take, All, refl, sym, ap, ◌∙◌, subst, arith, ⊎_elim}
 use Rattle.std.specs.List.{concat}
-use Rattle.std.proofs.lemmas.Bool.{cases_Bool, cases_lt}
+use Rattle.std.proofs.lemmas.Bool.{cases_Bool, cases_lt, false≢true}
 use Rattle.std.proofs.lemmas.List.{take_all}
 use Rattle.std.proofs.lemmas.List.Elements.{All-nil, All-cons, All-head, All-tail, All-take}
+use Rattle.grib_io.specs.Rows.{choose}
 use Rattle.grib_packing.specs.Misfits.{Target}
 use Rattle.grib_simple.specs.Written.{IsTarget}
+use Rattle.grib2_sections.specs.Head.{edition}
+use Rattle.grib2_sections.specs.Verdict.{Accepted}
 use Rattle.grib2_message.specs.Message.{IsMessage}
 use Rattle.grib_repack.specs.declared.target.RepackTarget.{RepackTarget}
 use Rattle.grib_repack.specs.Faults.{target_of}
@@ -13,27 +16,39 @@ use Rattle.grib_repack.specs.Repacked.{RepackMisfit, MayBeRepacked, repacked, re
 use Rattle.grib_stream.specs.Acts.{Act, Writes, Makes, Adds, writes, written}
 use Rattle.grib_stream.specs.Outcomes.{is_open}
 use Rattle.grib_stream.specs.Stream.{begins, Judgement, Message, Faulty, Unbuilt, Found, End, Over, Refusing, NotRead, stream_from, stream, on_judgement, followed_by, message_after}
+use Rattle.grib_stream.specs.declared.place.Place.{Place}
 use Rattle.grib_stream.specs.Task.{Task}
 use Rattle.grib_stream.specs.Answer.{Answer, after, on_given, answers, on_end, place_of, at_limit, answer_of, answer_within}
 use Rattle.grib_stream.proofs.Exits.{within_short, within_long, closed_at_limit, open_at_limit}
 use Rattle.grib_stream.proofs.Streams.{stream_skip, stream_begun}
 use Rattle.grib_engine.specs.declared.job.Job.TheVariants.{Repack}
-use Rattle.grib_engine.specs.Lawful.{message_alone}
+use Rattle.grib_engine.specs.EditionOne.{given_1}
+use Rattle.grib_engine.specs.Lawful.{IsFirst, IsOther, message_judged, least_message, there_message, edition_alone, message_alone}
 use Rattle.grib_engine.specs.Same.{SameValues, AllSame, kept_then, before_kept}
-use Rattle.grib_engine.specs.Tasks.{judge, given_unless, task}
+use Rattle.grib_engine.specs.Tasks.{judge, given_unless, given_2, task}
 
 -- ---- the messages of an input
 
+-- accepted, where it is not of edition 1
 pub record IsFound (found : Found) : Type 0 where
-  pub accepted : IsMessage found.octets
+  pub accepted : (edition found.octets == 1) ≡ false → IsMessage found.octets
   pub are_octets : All (λ octet. octet < 256) found.octets
+
+pub alone_other : (rest : List ℕ) (total : ℕ) → begins rest ≡ true → judge rest ≡ Message total → (edition (take total rest) == 1) ≡ false → IsMessage (take total rest)
+alone_other rest total begun is not_one =
+    let least = least_message rest total is in
+    let same = ap (λ n. n == 1) (edition_alone rest total (omega arith) (there_message rest total is)) in
+    ⊎_elim
+    (λ (m : IsFirst rest (Accepted total)). absurd (false≢true (sym not_one ∙ (same ∙ m.first_edition))))
+    (λ (m : IsOther rest (Accepted total)). message_alone rest total begun m)
+    (message_judged rest total is)
 
 found_judged : (place skipped octet : ℕ) (octets : List ℕ) (j : Judgement) → All (λ o. o < 256) (octet ∷ octets) → begins (octet ∷ octets) ≡ true → judge (octet ∷ octets) ≡ j
     → ((inside : ℕ) → All IsFound (stream_from judge inside (place + 1) skipped octets).messages)
     → All IsFound (on_judgement j (λ total. followed_by (message_after place (take total (octet ∷ octets))) (stream_from judge (total - 1) (place + 1) skipped octets))).messages
 found_judged place skipped octet octets (Message total) small begun is later =
     All-cons IsFound (message_after place (take total (octet ∷ octets))) (stream_from judge (total - 1) (place + 1) skipped octets).messages
-    (record { accepted = message_alone (octet ∷ octets) total begun is; are_octets = All-take (λ o. o < 256) total (octet ∷ octets) small }) (later (total - 1))
+    (record { accepted = alone_other (octet ∷ octets) total begun is; are_octets = All-take (λ o. o < 256) total (octet ∷ octets) small }) (later (total - 1))
 found_judged place skipped octet octets (Faulty fault) small begun is later = All-nil IsFound
 found_judged place skipped octet octets Unbuilt small begun is later = All-nil IsFound
 
@@ -70,6 +85,15 @@ step target None m message t next rest goes =
     ∙ ap (λ xs. xs ++ concat (map (repacked target) rest)) (written_of (repacked target message))
 step target (Some misfit) m message t next rest goes = refl
 
+-- by the edition
+chosen : (target : RepackTarget) (b : Bool) (place : Place) (message : List ℕ) (t : Task) (next : List Act → ℕ → Answer) (rest : List (List ℕ))
+    → ((acts : List Act) (more : ℕ) → written (next acts more).acts ≡ written acts ++ concat (map (repacked (target_of target)) rest))
+    → written (on_given t (choose b (λ _. given_1 (Repack target) place message) (λ _. given_2 (Repack target) place message)) next).acts
+    ≡ concat (map (repacked (target_of target)) (choose b (λ _. []) (λ _. kept_then (repack_misfit (target_of target) message) message rest)))
+chosen target true place message t next rest goes = refl
+chosen target false place message t next rest goes =
+    step (target_of target) (repack_misfit (target_of target) message) place.message message t next rest goes
+
 at_end : (target : RepackTarget) (m f w : ℕ) (end : End) → written (on_end (task (Repack target)) m f w end).acts ≡ []
 at_end target m f w (Over skipped) = refl
 at_end target m f w (Refusing fault) = refl
@@ -80,7 +104,7 @@ acts_are : (target : RepackTarget) (m f w : ℕ) (founds : List Found) (end : En
 acts_are target m f w [] end = at_end target m f w end
 acts_are target m f w (found ∷ later) end =
     let t = task (Repack target) in
-    step (target_of target) (repack_misfit (target_of target) found.octets) (place_of m found.before f).message found.octets t
+    chosen target (edition found.octets == 1) (place_of m found.before f) found.octets t
     (λ acts more. after acts (answers t (m + 1) (f + t.fields found.octets) (w + more) later end)) (before_kept (target_of target) later)
     (λ acts more. written_join acts (answers t (m + 1) (f + t.fields found.octets) (w + more) later end).acts
     ∙ ap (λ xs. written acts ++ xs) (acts_are target (m + 1) (f + t.fields found.octets) (w + more) later end))
@@ -109,13 +133,19 @@ same_then : (target : Target) (misfit : Option RepackMisfit) (message : List ℕ
 same_then target None message rest own later = (own refl, later)
 same_then target (Some misfit) message rest own later = tt
 
+same_chosen : (target : Target) (b : Bool) (misfit : Option RepackMisfit) (message : List ℕ) (rest : List (List ℕ))
+    → (b ≡ false → misfit ≡ None → SameValues message (repacked target message)) → AllSame rest (map (repacked target) rest)
+    → AllSame (choose b (λ _. []) (λ _. kept_then misfit message rest)) (map (repacked target) (choose b (λ _. []) (λ _. kept_then misfit message rest)))
+same_chosen target true misfit message rest own later = tt
+same_chosen target false misfit message rest own later = same_then target misfit message rest (own refl) later
+
 same_all : (target : Target) → IsTarget target → ((message : List ℕ) → MayBeRepacked target message → SameValues message (repacked target message))
     → (founds : List Found) → All IsFound founds → AllSame (before_kept target founds) (map (repacked target) (before_kept target founds))
 same_all target stands law [] all = tt
 same_all target stands law (found ∷ later) all =
     let first = All-head IsFound found later all in
-    same_then target (repack_misfit target found.octets) found.octets (before_kept target later)
-    (λ none. law found.octets (record { accepted = first.accepted; are_octets = first.are_octets; target_stands = stands; fits = none }))
+    same_chosen target (edition found.octets == 1) (repack_misfit target found.octets) found.octets (before_kept target later)
+    (λ not_one none. law found.octets (record { accepted = first.accepted not_one; are_octets = first.are_octets; target_stands = stands; fits = none }))
     (same_all target stands law later (All-tail IsFound found later all))
 
 pub same_messages : (target : Target) (limit : ℕ) (input : List ℕ) → IsTarget target → All (λ octet. octet < 256) input

@@ -5,6 +5,7 @@ pub mod Served
 pub mod Answers
 pub mod Filtered
 pub mod Made
+pub mod Editions
 pub mod Keeping
 pub mod Wanted
 pub mod Finite

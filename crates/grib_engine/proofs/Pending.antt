@@ -10,11 +10,17 @@ use Rattle.std.proofs.lemmas.Bool.{false≢true}
 use Rattle.std.proofs.lemmas.Result.{on_ok_weaker}
 use Rattle.grib_io.specs.Outside.{AppendsFront, CountsStop, CountsStops}
 use Rattle.grib_packing.specs.declared.column.Point.{Point}
-use Rattle.grib_text.specs.Lines.{point_line, point_lines, list_line}
+use Rattle.grib_bits.specs.Bits.{bits_of, signed}
+use Rattle.grib_dyadic.specs.Reference.{Binary, ieee, ibm, reduced}
+use Rattle.grib_text.specs.Lines.{point_line, point_lines, list_line, reference_line}
+use Rattle.grib_text.specs.Lines1.{list_line1}
+use Rattle.grib1_sections.specs.Column.{column1_of}
 use Rattle.grib_packing.specs.declared.column.Column.{Column}
 use Rattle.grib2_message.specs.Fields.{column_of}
+use Rattle.grib_engine.specs.Dumped.{dumped}
+use Rattle.grib_engine.specs.EditionOne.{dump_text_1}
 use Rattle.grib_engine.specs.Pending.{Writes, AppendsAllBut, WritesAllBut}
-use Rattle.grib_engine.specs.Tasks.{texts_from, dump_text, reference_line_of}
+use Rattle.grib_engine.specs.Tasks.{texts_from, dump_text}
 use Rattle.grib_engine.proofs.Outside.{front_more}
 
 -- one step after another
@@ -166,13 +172,45 @@ field_refused a b c old pending text k field n is less before front =
     (subst (AppendsFront a c) (append_assoc old (texts_from text k 1) (text field))
     (pending_front a b c (old ++ texts_from text k 1) pending (text field) before front))
 
+-- what `dump` prints of a field, by its parts
+pub dumped_is : (listed numbers : List ℕ) (reference : Binary) (column : Column) (points : List Point)
+    → numbers ≡ reference_line reference (signed (bits_of 16 column.e)) (signed (bits_of 16 column.d)) → points ≡ column.points
+    → (listed ++ numbers) ++ point_lines 1 points ≡ dumped listed reference column
+dumped_is listed numbers reference column points is_numbers are_points =
+    ap (λ xs. (listed ++ xs) ++ point_lines 1 points) is_numbers
+    ∙ ap (λ ps. (listed ++ reference_line reference (signed (bits_of 16 column.e)) (signed (bits_of 16 column.d))) ++ point_lines 1 ps) are_points
+
+-- two parts that were written, and a third
+pub three_written : {T E : Type 0} (result : Result T E) (a b c d : Option (List ℕ)) (old one before two between rest whole left : List ℕ)
+    → (one ++ two) ++ rest ≡ whole → AppendsAllBut a b (old ++ one) before → AppendsAllBut b c (before ++ two) between
+    → WritesAllBut result c d (between ++ rest) left → WritesAllBut result a d (old ++ whole) left
+three_written result a b c d old one before two between rest whole left is first second third =
+    writes_on result a c d old (one ++ two) rest whole between left is
+    (subst (λ xs. AppendsAllBut a c xs between) (append_assoc old one two) (pending_more a b c (old ++ one) before two between first second)) third
+
+-- or a front of the first or of the second
+pub one_refused : (a b : Option (List ℕ)) (old one two rest whole : List ℕ) → (one ++ two) ++ rest ≡ whole → AppendsFront a b (old ++ one) → AppendsFront a b (old ++ whole)
+one_refused a b old one two rest whole is front = front_on a b old one (two ++ rest) whole (sym (append_assoc one two rest) ∙ is) front
+
+pub two_refused : (a b c : Option (List ℕ)) (old one before two rest whole : List ℕ) → (one ++ two) ++ rest ≡ whole → AppendsAllBut a b (old ++ one) before
+    → AppendsFront b c (before ++ two) → AppendsFront a c (old ++ whole)
+two_refused a b c old one before two rest whole is first front =
+    front_on a c old (one ++ two) rest whole is
+    (subst (AppendsFront a c) (append_assoc old one two) (pending_front a b c (old ++ one) before two first front))
+
 -- the text of a field in `dump`
-pub dump_is : (m : List ℕ) (number i : ℕ) (column : Column) (shown : List ℕ) (points : List Point) → column ≡ column_of m i
-    → shown ≡ list_line m number i ++ reference_line_of column → points ≡ column.points → shown ++ point_lines 1 points ≡ dump_text m number i
-dump_is m number i column shown points is_column is_shown are_points =
-    ap (λ xs. xs ++ point_lines 1 points) is_shown
-    ∙ (ap (λ ps. (list_line m number i ++ reference_line_of column) ++ point_lines 1 ps) are_points
-    ∙ ap (λ x. (list_line m number i ++ reference_line_of x) ++ point_lines 1 x.points) is_column)
+pub dump_is : (m : List ℕ) (number i : ℕ) (column : Column) (listed : List ℕ) (reference : Binary) → column ≡ column_of m i
+    → listed ≡ list_line m number i → reference ≡ reduced (ieee column.reference) → dumped listed reference column ≡ dump_text m number i
+dump_is m number i column listed reference is_column is_listed is_reference =
+    ap (λ xs. dumped xs reference column) is_listed
+    ∙ (ap (λ r. dumped (list_line m number i) r column) is_reference ∙ ap (λ x. dumped (list_line m number i) (reduced (ieee x.reference)) x) is_column)
+
+-- and that of a message of edition 1
+pub dump_is_1 : (m : List ℕ) (number : ℕ) (column : Column) (listed : List ℕ) (reference : Binary) → column ≡ column1_of m
+    → listed ≡ list_line1 m number → reference ≡ reduced (ibm column.reference) → dumped listed reference column ≡ dump_text_1 m number
+dump_is_1 m number column listed reference is_column is_listed is_reference =
+    ap (λ xs. dumped xs reference column) is_listed
+    ∙ (ap (λ r. dumped (list_line1 m number) r column) is_reference ∙ ap (λ x. dumped (list_line1 m number) (reduced (ibm x.reference)) x) is_column)
 
 -- what holds of a result, after a refusal that is passed on
 pub if_refused : {T E : Type 0} (result : Result T E) (P : T → Type 0) → IsErr result → IfOk result P
@@ -186,6 +224,9 @@ on_refused (Err e) P is = tt
 -- a buffer that was empty
 pub from_empty : (a b : Option (List ℕ)) (empty octets pending : List ℕ) → empty ≡ [] → AppendsAllBut a b (empty ++ octets) pending → AppendsAllBut a b octets pending
 from_empty a b empty octets pending none before = subst (λ xs. AppendsAllBut a b (xs ++ octets) pending) none before
+
+pub front_from_empty : (a b : Option (List ℕ)) (empty octets : List ℕ) → empty ≡ [] → AppendsFront a b (empty ++ octets) → AppendsFront a b octets
+front_from_empty a b empty octets none front = subst (λ xs. AppendsFront a b (xs ++ octets)) none front
 
 pub counts_passed : {T : Type 0} (result : Result T Stop) (stop : Stop) (before now : ℕ) → IsErrAnd result (λ e. e ≡ stop) → CountsStop stop before now
     → CountsStops result before now

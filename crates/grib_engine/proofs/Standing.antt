@@ -1,35 +1,37 @@
 -- What stands on a shelf after some first acts of `split`.
-use Rattle.std.proofs.Common.{◌≡◌, ◌≢◌, ℕ, zero, suc, ◌+◌, ◌-◌, ◌^◌, ◌<◌, ◌≤◌, ◌⊎◌, inl, inr, true, false, cond, Some, None, List, [], ◌∷◌, ◌++◌, length, map, take, drop, refl, sym, ap, ◌∙◌, subst, arith, ⊎_elim, append_assoc, append-nil, length-take-le}
+use Rattle.std.proofs.Common.{◌≡◌, ◌≢◌, ℕ, zero, suc, ◌+◌, ◌-◌, ◌^◌, ◌<◌, ◌≤◌, ◌*◌, ◌==◌, ◌⊎◌, inl, inr, Bool, true, false, cond, Some, List, [], ◌∷◌, ◌++◌, length, map, take, refl, sym, ap, ◌∙◌, subst, arith, ⊎_elim, append-nil, length-take-le}
 use Rattle.std.specs.declared.option.Option.{Option}
 use Rattle.std.specs.Prelude.{All, codes}
-use Rattle.std.specs.List.{range_with_len, flat_map}
+use Rattle.std.specs.List.{range_with_len}
 use Rattle.std.specs.Fmt.{decimal}
 use Rattle.std.specs.Str.{bytes_eq}
-use Rattle.std.proofs.lemmas.Bool.{cases_Bool, false≢true, cases_lt}
+use Rattle.std.proofs.lemmas.Bool.{cases_Bool, cases_lt}
 use Rattle.std.proofs.lemmas.Fmt.{decimal_injective}
 use Rattle.std.proofs.lemmas.List.{append_cancel_left, map-append, length-take}
 use Rattle.std.proofs.lemmas.List.Concat.{flat_map-append}
 use Rattle.std.proofs.lemmas.List.Elements.{All-nil, All-cons, All-head, All-tail, All-take, All-drop}
 use Rattle.std.proofs.lemmas.Slice.Eq.{bytes_eq-Decides}
-use Rattle.grib_io.specs.declared.fault.Fault.{Fault}
+use Rattle.grib_io.specs.Rows.{choose}
 use Rattle.grib_io.specs.Shelves.{Held}
+use Rattle.grib2_sections.specs.Head.{edition}
 use Rattle.grib2_message.specs.Fields.{field_count}
-use Rattle.grib_stream.specs.Acts.{Act, Makes, Adds, held_after, World, world, Did, DidFront}
+use Rattle.grib_stream.specs.Acts.{Act, Makes, Adds, held_after, world, Did, DidFront}
 use Rattle.grib_stream.specs.Outcomes.{is_open}
 use Rattle.grib_stream.specs.Stream.{begins, Judgement, Message, Faulty, Unbuilt, Found, End, Over, Refusing, NotRead, stream_from, stream, on_judgement, followed_by, message_after}
+use Rattle.grib_stream.specs.declared.place.Place.{Place}
 use Rattle.grib_stream.specs.Task.{Task}
-use Rattle.grib_stream.specs.Answer.{Answer, answers, on_end, at_limit, answer_of, answer_within}
+use Rattle.grib_stream.specs.Answer.{Answer, after, on_given, answers, place_of, at_limit, answer_of, answer_within}
 use Rattle.grib_stream.proofs.Exits.{within_short, within_long, closed_at_limit, open_at_limit}
 use Rattle.grib_stream.proofs.Streams.{stream_skip, stream_begun}
 use Rattle.grib_stream.proofs.Worlds.{held-append}
 use Rattle.grib_engine.specs.declared.job.Job.TheVariants.{Split}
-use Rattle.grib2_message.proofs.Fronts.{accepted_least, accepted_there}
 use Rattle.grib_engine.specs.FieldOctets.{twenty_each}
-use Rattle.grib_engine.specs.Lawful.{message_judged, message_alone, not_first}
-use Rattle.grib_engine.specs.Parts.{Part, part, part_name, part_of, first_parts, parts_of, adds, puts, puts_all}
-use Rattle.grib_engine.specs.Standing.{parts_within, all_parts, MayBeBegun, StandFirst, StandAll}
-use Rattle.grib_engine.specs.Tasks.{judge, task}
-use Rattle.grib_engine.proofs.Keeping.{within_acts}
+use Rattle.grib_engine.specs.EditionOne.{given_1}
+use Rattle.grib_engine.specs.Lawful.{least_message, there_message, fields_other}
+use Rattle.grib_engine.specs.Parts.{Part, part, part_name, part_of, parts_of, adds, puts, puts_all, octets_within}
+use Rattle.grib_engine.specs.Standing.{parts_within, before_first, all_parts, MayBeBegun, StandFirst, StandAll}
+use Rattle.grib_engine.specs.Tasks.{judge, fields_of, given_2, task}
+use Rattle.grib_engine.proofs.Keeping.{alone_other, within_acts}
 use Rattle.grib_engine.proofs.Shelved.{held_adds, other_adds, same_name, range-append}
 
 -- ---- some first acts
@@ -224,61 +226,91 @@ numbers_unlike out a (suc n) few = (later_unlike out a (a + 1) n (omega arith) (
 
 -- ---- an input has fewer fields than octets
 
-accepted_size : (octets : List ℕ) (total : ℕ) → judge octets ≡ Message total → (20 ≤ total) × (total ≤ length octets)
-accepted_size octets total is =
-    let m = message_judged octets total is in
-    let other = not_first octets m.other_edition in
-    (accepted_least octets total other m.verdict_is, accepted_there octets total other m.verdict_is)
+-- a message before others, where it is not of edition 1, and they have fewer fields than octets
+few_before : (b : Bool) (found : Found) (later : List Found) → (b ≡ false → 20 * field_count found.octets ≤ length found.octets)
+    → fields_within (choose b (λ _. []) (λ _. found ∷ before_first later)) ≤ length found.octets + fields_within (before_first later)
+unfolding fields_within
+few_before true found later few = omega arith
+few_before false found later few = let own = few refl in omega arith
 
 few_judged : (place skipped octet : ℕ) (octets : List ℕ) (j : Judgement) → begins (octet ∷ octets) ≡ true → judge (octet ∷ octets) ≡ j
-    → ((inside : ℕ) → fields_within (stream_from judge inside (place + 1) skipped octets).messages ≤ length octets - inside)
-    → fields_within (on_judgement j (λ total. followed_by (message_after place (take total (octet ∷ octets))) (stream_from judge (total - 1) (place + 1) skipped octets))).messages
+    → ((inside : ℕ) → fields_within (before_first (stream_from judge inside (place + 1) skipped octets).messages) ≤ length octets - inside)
+    → fields_within
+    (before_first
+    (on_judgement j (λ total. followed_by (message_after place (take total (octet ∷ octets))) (stream_from judge (total - 1) (place + 1) skipped octets))).messages)
     ≤ length (octet ∷ octets)
 unfolding fields_within
 few_judged place skipped octet octets (Message total) begun is later =
-    let size = accepted_size (octet ∷ octets) total is in
-    let few = twenty_each (take total (octet ∷ octets)) (message_alone (octet ∷ octets) total begun is) in
-    let whole : length (take total (octet ∷ octets)) ≡ total = length-take-le total (octet ∷ octets) size.1 in
+    let message = take total (octet ∷ octets) in
+    let least = least_message (octet ∷ octets) total is in
+    let there = there_message (octet ∷ octets) total is in
+    let few = few_before (edition message == 1) (message_after place message) (stream_from judge (total - 1) (place + 1) skipped octets).messages
+    (λ not_one. twenty_each message (alone_other (octet ∷ octets) total begun is not_one)) in
+    let whole : length message ≡ total = length-take-le total (octet ∷ octets) there in
     let rest = later (total - 1) in
-    omega (arith, size.0, size.1)
+    omega (arith, least, there)
 few_judged place skipped octet octets (Faulty fault) begun is later = omega arith
 few_judged place skipped octet octets Unbuilt begun is later = omega arith
 
-few_from : (inside place skipped : ℕ) (octets : List ℕ) → fields_within (stream_from judge inside place skipped octets).messages ≤ length octets - inside
+few_from : (inside place skipped : ℕ) (octets : List ℕ) → fields_within (before_first (stream_from judge inside place skipped octets).messages) ≤ length octets - inside
 unfolding fields_within
 few_from zero place skipped [] = omega arith
 few_from (suc inside) place skipped [] = omega arith
 few_from (suc inside) place skipped (octet ∷ octets) = let less = few_from inside (place + 1) skipped octets in omega arith
 few_from zero place skipped (octet ∷ octets) =
     ⊎_elim
-    (λ begun. subst (λ s. fields_within s.messages ≤ length (octet ∷ octets) - 0) (sym (stream_begun judge place skipped octet octets begun))
+    (λ begun. subst (λ s. fields_within (before_first s.messages) ≤ length (octet ∷ octets) - 0) (sym (stream_begun judge place skipped octet octets begun))
     (let few = few_judged place skipped octet octets (judge (octet ∷ octets)) begun refl (λ inside. few_from inside (place + 1) skipped octets) in omega arith))
-    (λ none. subst (λ s. fields_within s.messages ≤ length (octet ∷ octets) - 0) (sym (stream_skip judge place skipped octet octets none))
+    (λ none. subst (λ s. fields_within (before_first s.messages) ≤ length (octet ∷ octets) - 0) (sym (stream_skip judge place skipped octet octets none))
     (let few = few_from zero (place + 1) (skipped + 1) octets in omega arith))
     (cases_Bool (begins (octet ∷ octets)))
 
 distinct : (out input : List ℕ) → length input < 2 ^ 64 → Distinct (all_parts out input)
 distinct out input short =
-    let founds = (stream judge input).messages in
+    let founds = before_first (stream judge input).messages in
     let few = few_from 0 0 0 input in
     distinct_names (all_parts out input)
     (subst Unlike (sym (names_within out 0 founds)) (numbers_unlike out (0 + 1) (fields_within founds) (omega arith)))
 
 -- ---- what is done for an input
 
-acts_are : (out : List ℕ) (m f w : ℕ) (founds : List Found) (end : End) → (answers (task (Split out)) m f w founds end).acts ≡ puts_all (parts_within out f founds)
+-- what is done for a message, and then for those after it
+acts_chosen : (out : List ℕ) (b : Bool) (place : Place) (found : Found) (t : Task) (next : List Act → ℕ → Answer) (rest : List Found)
+    → (b ≡ false → (acts : List Act) (more : ℕ) → (next acts more).acts ≡ acts ++ puts_all (parts_within out (place.fields + field_count found.octets) rest))
+    → (on_given t (choose b (λ _. given_1 (Split out) place found.octets) (λ _. given_2 (Split out) place found.octets)) next).acts
+    ≡ puts_all (parts_within out place.fields (choose b (λ _. []) (λ _. found ∷ rest)))
+acts_chosen out true place found t next rest goes = refl
+acts_chosen out false place found t next rest goes =
+    let parts = parts_of out place.fields found.octets in
+    goes refl (puts_all parts) (octets_within parts)
+    ∙ sym (flat_map-append puts parts (parts_within out (place.fields + field_count found.octets) rest))
+
+acts_are : (out : List ℕ) (m f w : ℕ) (founds : List Found) (end : End) → (answers (task (Split out)) m f w founds end).acts ≡ puts_all (parts_within out f (before_first founds))
 acts_are out m f w [] (Over skipped) = refl
 acts_are out m f w [] (Refusing fault) = refl
 acts_are out m f w [] NotRead = refl
 acts_are out m f w (found ∷ later) end =
-    ap (λ acts. puts_all (parts_of out f found.octets) ++ acts) (acts_are out (m + 1) (f + field_count found.octets) _ later end)
-    ∙ sym (flat_map-append puts (parts_of out f found.octets) (parts_within out (f + field_count found.octets) later))
+    let t = task (Split out) in
+    let place = place_of m found.before f in
+    acts_chosen out (edition found.octets == 1) place found t (λ acts more. after acts (answers t (m + 1) (f + fields_of found.octets) (w + more) later end)) (before_first later)
+    (λ not_one acts more. ap (λ n. acts ++ (answers t (m + 1) (f + n) (w + more) later end).acts) (fields_other found.octets not_one)
+    ∙ ap (λ xs. acts ++ xs) (acts_are out (m + 1) (f + field_count found.octets) (w + more) later end))
+
+ending_chosen : (out : List ℕ) (b : Bool) (place : Place) (message : List ℕ) (t : Task) (next : List Act → ℕ → Answer)
+    → ((acts : List Act) (more : ℕ) → (next acts more).ending ≡ [])
+    → (on_given t (choose b (λ _. given_1 (Split out) place message) (λ _. given_2 (Split out) place message)) next).ending ≡ []
+ending_chosen out true place message t next none = refl
+ending_chosen out false place message t next none = none _ _
 
 no_ending : (out : List ℕ) (m f w : ℕ) (founds : List Found) (end : End) → (answers (task (Split out)) m f w founds end).ending ≡ []
 no_ending out m f w [] (Over skipped) = refl
 no_ending out m f w [] (Refusing fault) = refl
 no_ending out m f w [] NotRead = refl
-no_ending out m f w (found ∷ later) end = no_ending out (m + 1) (f + field_count found.octets) _ later end
+no_ending out m f w (found ∷ later) end =
+    let t = task (Split out) in
+    ending_chosen out (edition found.octets == 1) (place_of m found.before f) found.octets t
+    (λ acts more. after acts (answers t (m + 1) (f + fields_of found.octets) (w + more) later end))
+    (λ acts more. no_ending out (m + 1) (f + fields_of found.octets) (w + more) later end)
 
 limit_ending : (t : Task) (a : Answer) → a.ending ≡ [] → (at_limit t a).ending ≡ []
 limit_ending t a none =

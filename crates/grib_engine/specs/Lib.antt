@@ -3,6 +3,8 @@ pub mod Notes
 pub mod Parts
 pub mod Shelving
 pub mod Outcomes
+pub mod Dumped
+pub mod EditionOne
 pub mod Tasks
 pub mod FieldOctets
 pub mod PartOctets

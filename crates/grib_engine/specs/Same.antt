@@ -1,8 +1,10 @@
 -- What an answer to repacking has in common with its input: message for message, field for field and point for
 -- point the same values.
-use Rattle.std.specs.Prelude.{◌≡◌, ℕ, ◌^◌, ◌≤◌, Option, Some, None, List, [], ◌∷◌, take}
+use Rattle.std.specs.Prelude.{◌≡◌, ℕ, ◌^◌, ◌≤◌, ◌==◌, Option, Some, None, List, [], ◌∷◌, take}
 use Rattle.std.specs.List.{concat}
+use Rattle.grib_io.specs.Rows.{choose}
 use Rattle.grib_packing.specs.Misfits.{Target}
+use Rattle.grib2_sections.specs.Head.{edition}
 use Rattle.grib2_message.specs.Message.{IsMessage}
 use Rattle.grib2_message.specs.Fields.{field_count, meaning_of}
 use Rattle.grib_repack.specs.declared.target.RepackTarget.{RepackTarget}
@@ -30,10 +32,12 @@ abbrev pub kept_then : Option RepackMisfit → List ℕ → List (List ℕ) → 
 kept_then None message later = message ∷ later
 kept_then (Some misfit) message later = []
 
--- the messages before the first that is kept
+-- the messages before the first that is kept; each of edition 1 is
 abbrev pub before_kept : Target → List Found → List (List ℕ)
 before_kept target [] = []
-before_kept target (found ∷ later) = kept_then (repack_misfit target found.octets) found.octets (before_kept target later)
+before_kept target (found ∷ later) =
+    choose (edition found.octets == 1) (λ _. [])
+    (λ _. kept_then (repack_misfit target found.octets) found.octets (before_kept target later))
 
 -- the messages of an input, as far as it is answered
 abbrev pub messages_answered : List ℕ → List Found

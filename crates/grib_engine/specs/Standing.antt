@@ -1,7 +1,9 @@
 -- What a run of `split` leaves on a shelf, wherever it ends.
-use Rattle.std.specs.Prelude.{◌≡◌, ◌≢◌, ℕ, ◌+◌, ◌⊎◌, Some, List, [], ◌∷◌, ◌++◌, take, drop, All}
+use Rattle.std.specs.Prelude.{◌≡◌, ◌≢◌, ℕ, ◌+◌, ◌==◌, ◌⊎◌, Some, List, [], ◌∷◌, ◌++◌, take, drop, All}
 use Rattle.std.specs.declared.option.Option.{Option}
+use Rattle.grib_io.specs.Rows.{choose}
 use Rattle.grib_io.specs.Shelves.{Held}
+use Rattle.grib2_sections.specs.Head.{edition}
 use Rattle.grib2_message.specs.Fields.{field_count}
 use Rattle.grib_stream.specs.Stream.{Found, stream}
 use Rattle.grib_engine.specs.Parts.{Part, parts_of}
@@ -13,9 +15,14 @@ parts_within out before [] = []
 parts_within out before (found ∷ later) =
     parts_of out before found.octets ++ parts_within out (before + field_count found.octets) later
 
--- the parts of all messages of an input
+-- the messages before the first of edition 1, which is kept
+abbrev pub before_first : List Found → List Found
+before_first [] = []
+before_first (found ∷ later) = choose (edition found.octets == 1) (λ _. []) (λ _. found ∷ before_first later)
+
+-- the parts of these messages of an input
 abbrev pub all_parts : List ℕ → List ℕ → List Part
-all_parts out input = parts_within out 0 (stream judge input).messages
+all_parts out input = parts_within out 0 (before_first (stream judge input).messages)
 
 -- what stands under the name of a part that may be begun: what stood there, or some first octets of the part
 abbrev pub MayBeBegun : Part → Option (List ℕ) → Option (List ℕ) → Type 0

@@ -1,21 +1,20 @@
 -- What the commands do with the messages of an input.
 use Rattle.std.specs.Prelude.{ℕ, zero, suc, ◌+◌, ◌^◌, Bool, Option, Some, None, List, [], ◌++◌, length, ◌==◌}
 use Rattle.std.specs.List.{list_all, range_with_len}
-use Rattle.grib_bits.specs.Bits.{bits_of, signed}
 use Rattle.grib_dyadic.specs.Reference.{ieee, reduced}
 use Rattle.grib_io.specs.Rows.{choose}
 use Rattle.grib2_sections.specs.Head.{edition}
 use Rattle.grib2_sections.specs.Verdict.{Verdict, Accepted, Refused}
-use Rattle.grib_packing.specs.declared.column.Column.{Column}
 use Rattle.grib_stream.specs.declared.place.Place.{Place}
 use Rattle.grib_stream.specs.declared.place.Totals.{Totals}
-use Rattle.grib_stream.specs.Stream.{Judgement, Message, Faulty, Unbuilt}
+use Rattle.grib_stream.specs.Stream.{Judgement, Message, Faulty}
 use Rattle.grib_stream.specs.Acts.{writes}
 use Rattle.grib_stream.specs.Task.{Task, Given, Gives, Ends}
 use Rattle.grib_stream.specs.Answer.{Answer, answer_within}
 use Rattle.grib2_message.specs.Acceptance.{verdict_2}
 use Rattle.grib2_message.specs.Fields.{field_count, column_of}
-use Rattle.grib_text.specs.Lines.{check_line, total_line, list_line, reference_line, point_lines}
+use Rattle.grib1_sections.specs.Acceptance.{verdict_1}
+use Rattle.grib_text.specs.Lines.{check_line, total_line, list_line}
 use Rattle.grib_stream.specs.declared.outcome.Outcome.{Outcome}
 use Rattle.grib_stream.specs.declared.outcome.Outcome.TheVariants.{Done, Kept}
 use Rattle.grib_stream.specs.declared.outcome.Cause.{Cause}
@@ -36,6 +35,8 @@ use Rattle.grib_made.specs.Summary.{present_count, present_sum}
 use Rattle.grib_made.specs.Made.{made}
 use Rattle.grib_engine.specs.declared.job.Job.{Job}
 use Rattle.grib_engine.specs.declared.job.Job.TheVariants.{Check, List as Listing, Dump, Filter, Split, Set, Repack, Make}
+use Rattle.grib_engine.specs.Dumped.{dumped}
+use Rattle.grib_engine.specs.EditionOne.{given_1}
 use Rattle.grib_engine.specs.Notes.{written_note, made_note}
 use Rattle.grib_engine.specs.Parts.{parts_of, puts_all, octets_within}
 use Rattle.grib_engine.specs.Outcomes.{note_of}
@@ -44,19 +45,18 @@ abbrev pub judged : Verdict → Judgement
 judged (Accepted total) = Message total
 judged (Refused fault) = Faulty fault
 
--- what the octets from a `GRIB` on are; edition 1 is not built yet
+-- what the octets from a `GRIB` on are, by their edition
 abbrev pub judge : List ℕ → Judgement
-judge octets = choose (edition octets == 1) (λ _. Unbuilt) (λ _. judged (verdict_2 octets))
+judge octets = choose (edition octets == 1) (λ _. judged (verdict_1 octets)) (λ _. judged (verdict_2 octets))
 
--- the line on the reference value and the scale factors of a column
-abbrev pub reference_line_of : Column → List ℕ
-reference_line_of column = reference_line (reduced (ieee column.reference)) (signed (bits_of 16 column.e)) (signed (bits_of 16 column.d))
+-- how many fields a message has; one of edition 1 has one
+abbrev pub fields_of : List ℕ → ℕ
+fields_of message = choose (edition message == 1) (λ _. 1) (λ _. field_count message)
 
--- what `dump` prints of field i of message m: the lines of the field, of its reference value and of its points
+-- what `dump` prints of field i of message m
 abbrev pub dump_text : List ℕ → ℕ → ℕ → List ℕ
 dump_text message m i =
-    let column = column_of message i in
-    (list_line message m i ++ reference_line_of column) ++ point_lines 1 column.points
+    let column = column_of message i in dumped (list_line message m i) (reduced (ieee column.reference)) column
 
 -- the texts of so many fields, from field i on
 abbrev pub texts_from : (ℕ → List ℕ) → ℕ → ℕ → List ℕ
@@ -75,10 +75,10 @@ field_text (Set changes) message m i = []
 field_text (Repack target) message m i = []
 field_text (Make seed ni nj target) message m i = []
 
--- what is printed of a message: a line, or the texts of its fields
-abbrev pub message_text : Job → Place → List ℕ → List ℕ
-message_text Check place message = check_line place.message place.before 2 (length message) (field_count message)
-message_text job place message = texts_from (field_text job message place.message) (field_count message) 1
+-- what is printed of a message of edition 2: a line, or the texts of its fields
+abbrev pub message_text_2 : Job → Place → List ℕ → List ℕ
+message_text_2 Check place message = check_line place.message place.before 2 (length message) (field_count message)
+message_text_2 job place message = texts_from (field_text job message place.message) (field_count message) 1
 
 -- the misfit of a message as the cause that it is kept by
 abbrev pub cause_of : RepackMisfit → Cause
@@ -121,18 +121,22 @@ filtered conditions message =
     choose (all_fulfil conditions message) (λ _. message)
     (λ _. texts_from (single_if conditions message) (field_count message) 1)
 
--- what a message gives: its printed text, which no note counts, those of its fields that are asked for, or the
--- changed message; nothing to `make`
-abbrev pub given : Job → Place → List ℕ → Given
-given (Repack target) place message =
+-- what a message of edition 2 gives: its printed text, which no note counts, those of its fields that are asked
+-- for, or the changed message; nothing to `make`
+abbrev pub given_2 : Job → Place → List ℕ → Given
+given_2 (Repack target) place message =
     given_unless (repack_misfit (target_of target) message) place.message (repacked (target_of target) message)
-given (Filter conditions) place message = given_whole (filtered conditions message)
-given (Split name) place message =
+given_2 (Filter conditions) place message = given_whole (filtered conditions message)
+given_2 (Split name) place message =
     let parts = parts_of name place.fields message in
     Gives (puts_all parts) (octets_within parts)
-given (Set changes) place message = given_set (set_fault message changes) place.message (with_keys message changes)
-given (Make seed ni nj target) place message = Gives [] 0
-given job place message = Gives (writes (message_text job place message)) 0
+given_2 (Set changes) place message = given_set (set_fault message changes) place.message (with_keys message changes)
+given_2 (Make seed ni nj target) place message = Gives [] 0
+given_2 job place message = Gives (writes (message_text_2 job place message)) 0
+
+-- what a message gives, by its edition
+abbrev pub given : Job → Place → List ℕ → Given
+given job place message = choose (edition message == 1) (λ _. given_1 job place message) (λ _. given_2 job place message)
 
 -- what is printed at the end of the input
 abbrev pub ending_text : Job → Totals → List ℕ
@@ -150,7 +154,7 @@ ending_note job totals = []
 abbrev pub task : Job → Task
 task job = record {
   judge = judge;
-  fields = field_count;
+  fields = fields_of;
   result = given job;
   ending = λ totals. record { acts = writes (ending_text job totals); note = ending_note job totals };
   note = note_of;

@@ -11,13 +11,14 @@ ghost use Rattle.grib_stream.specs.Task.{Gives};
 ghost use Rattle.grib_engine.specs.Answering.{Answers, answered_by, answered_unset};
 ghost use Rattle.grib_engine.specs.Jobs.{CanChange, is_target, has_target, uses_shelf};
 ghost use Rattle.grib_engine.specs.Reading.{held_octets};
-ghost use Rattle.grib_engine.specs.Tasks.{message_text, filtered, given, given_unless, given_set};
+ghost use Rattle.grib_engine.specs.Tasks.{message_text_2, filtered, given, given_2, given_unless, given_set};
 ghost use Rattle.grib_engine.specs.declared.answering.Answered.TheVariants.{WriteFault, ShelfFault};
 
 use crate::filtering::write_filtered;
+use crate::first::answer_first;
 use crate::job::Job;
 use crate::printing::write_message;
-use crate::reading::Held;
+use crate::reading::{Held, first_edition, second_edition};
 use crate::splitting::split;
 use crate::writing::write_whole;
 use grib_io::{Shelf, Sink, Stop};
@@ -68,7 +69,41 @@ pub fn answer_message<T: Sink, H: Shelf>(
     ensures unshelved { uses_shelf job.now ≡ false → result ≢ ShelfFault }
     ensures output { uses_shelf job.now ≡ true → output.new ≡ output.old }
 {
-    let Held::Two(message) = held;
+    match held {
+        Held::One(message) => {
+            first_edition(message);
+            answer_first(alloc, job, place, message, output, shelf)
+        }
+        Held::Two(message) => {
+            second_edition(message);
+            answer_second(alloc, job, place, message, output, shelf)
+        }
+    }
+}
+
+/// Does what the job says of a message of edition 2 at this place.
+fn answer_second<T: Sink, H: Shelf>(
+    alloc: Global,
+    job: &Job,
+    place: &Place,
+    message: &Message<'_>,
+    output: &mut T,
+    shelf: &mut H,
+) -> Answered
+    requires target { has_target job.now ≡ true }
+    requires changes { CanChange job.now }
+    requires fields { place.now.fields ≤ 2 ^ 41 }
+    ensures answers { Answers result place.now.message (given_2 job.now place.now message.now)
+        (world (T.contents output.old) (H.contents shelf.old))
+        (world (T.contents output.new) (H.contents shelf.new)) }
+    ensures write_fault { result ≡ WriteFault → Counted (T.faults output.old) (T.faults output.new) }
+    ensures write_calm { result ≢ WriteFault → T.faults output.new ≡ T.faults output.old }
+    ensures shelf_fault { result ≡ ShelfFault → Counted (H.faults shelf.old) (H.faults shelf.new) }
+    ensures shelf_calm { result ≢ ShelfFault → H.faults shelf.new ≡ H.faults shelf.old }
+    ensures shelf { uses_shelf job.now ≡ false → shelf.new ≡ shelf.old }
+    ensures unshelved { uses_shelf job.now ≡ false → result ≢ ShelfFault }
+    ensures output { uses_shelf job.now ≡ true → output.new ≡ output.old }
+{
     match job {
         Job::Check => print(alloc, job, place, message, output, shelf),
         Job::List => print(alloc, job, place, message, output, shelf),
@@ -98,7 +133,7 @@ fn print<T: Sink, H: Shelf>(
     shelf: &mut H,
 ) -> Answered
     ensures answers { Answers result place.now.message
-        (Gives (writes (message_text job.now place.now message.now)) 0)
+        (Gives (writes (message_text_2 job.now place.now message.now)) 0)
         (world (T.contents output.old) (H.contents shelf.old))
         (world (T.contents output.new) (H.contents shelf.new)) }
     ensures write_fault { result ≡ WriteFault → Counted (T.faults output.old) (T.faults output.new) }

@@ -2,14 +2,13 @@
 
 ghost use Rattle.std.specs.Prelude.{◌≡◌, length, IfOk};
 ghost use Rattle.grib_io.specs.Outside.{CountsStops};
-ghost use Rattle.grib2_message.specs.Fields.{field_count};
 ghost use Rattle.grib_engine.specs.Pending.{Writes};
 ghost use Rattle.grib_engine.specs.Reading.{held_octets};
 ghost use Rattle.grib_engine.specs.Tasks as tasks;
 
 use crate::job::Job;
 use crate::notes::written_note;
-use crate::reading::Held;
+use crate::reading::{Held, first_edition, second_edition};
 use crate::writing::write_whole;
 use grib_io::{Sink, Stop};
 use grib_stream::{Totals, Whole};
@@ -57,14 +56,25 @@ pub(crate) fn ending_note(alloc: Global, job: &Job, totals: &Totals) -> Result<V
 /// The octets and the fields of a message, of whose result so many octets are counted.
 pub(crate) fn counted(held: &Held<'_>, written: u64) -> Whole
     ensures octets { result.octets ≡ length (held_octets held.now) }
-    ensures fields { result.fields ≡ field_count (held_octets held.now) }
+    ensures fields { result.fields ≡ tasks.fields_of (held_octets held.now) }
     ensures written { result.written ≡ written }
 {
     match held {
-        Held::Two(message) => Whole {
-            octets: message.length(),
-            fields: u64::from(message.fields()),
-            written,
-        },
+        Held::One(message) => {
+            first_edition(message);
+            Whole {
+                octets: message.length(),
+                fields: 1,
+                written,
+            }
+        }
+        Held::Two(message) => {
+            second_edition(message);
+            Whole {
+                octets: message.length(),
+                fields: u64::from(message.fields()),
+                written,
+            }
+        }
     }
 }

@@ -29,7 +29,8 @@ pub fn what_is_answered_keeps_each_value()
 /// Wherever a run of `split` ends, the first so many fields of the input stand whole under their names, the
 /// name of the next is as it was or has some first octets of that field, and each other name has what it had.
 /// All fields stand so where neither a device nor memory ended the run, and those of the octets that were
-/// taken where a read failed. The fields are those of the messages of the input, as far as it is answered.
+/// taken where a read failed. The fields are those of the messages of the input before the first of edition
+/// 1, as far as it is answered.
 pub fn what_is_split_stands_whole()
     ensures first { (out input : List ℕ) (before now : Held) (output output_now : Option (List ℕ)) (outcome : Outcome)
         → Gives (answer (Split out) input) outcome (world output (Some before)) (world output_now (Some now))

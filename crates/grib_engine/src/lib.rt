@@ -3,8 +3,10 @@
 
 mod answering;
 mod closing;
+mod dumping;
 mod ending;
 mod filtering;
+mod first;
 mod job;
 pub mod laws;
 mod making;

@@ -13,8 +13,8 @@ use grib_stream::{Kept, Outcome, Performed, Performer, Place, Totals};
 use grib2_sections::read_head;
 use std::alloc::Global;
 
-/// The least octets of a message of edition 2.
-const LEAST: u64 = 20;
+/// The least total length that a message may state, one of edition 1.
+const LEAST: u64 = 12;
 
 /// A job that is to answer the messages of an input.
 #[derive(Debug, Drop)]
@@ -54,7 +54,6 @@ impl Performer for Answering<'_> {
         let held = match read_held(alloc, octets) {
             Ok(held) => held,
             Err(Unread::Refused(fault)) => return Performed::Refused(fault),
-            Err(Unread::NotBuilt) => return Performed::Ends(Outcome::NotBuilt),
             Err(Unread::Memory) => return Performed::Ends(Outcome::Memory),
         };
         match answer_message(alloc, self.job, place, &held, output, shelf) {

@@ -11,7 +11,10 @@ use grib_packing::Point;
 use grib_text::append_point_line;
 
 /// From so many octets on a buffer is passed on.
-pub(crate) const FULL: usize = 65_536;
+const FULL: usize = 65_536;
+
+/// The octets of lines that are gathered before they are passed on, and room for some lines more.
+pub(crate) const ROOM: usize = FULL + 1024;
 
 /// Appends some text to the buffer, which is passed on first where it is full.
 pub(crate) fn append_text<T: Sink>(

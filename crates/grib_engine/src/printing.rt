@@ -1,27 +1,26 @@
-//! What is printed of a message.
+//! What is printed of a message of edition 2.
 
-ghost use Rattle.std.specs.Prelude.{◌≡◌, ◌<◌, ◌≤◌, ◌++◌, length, IfOk};
+ghost use Rattle.std.specs.Prelude.{◌≡◌, ◌<◌, ◌≤◌, ◌++◌, length};
 ghost use Rattle.grib_io.specs.Outside.{CountsStops};
 ghost use Rattle.grib_bits.specs.Binary32.{ieee_exponent};
+ghost use Rattle.grib_dyadic.specs.Reference.{ieee, reduced};
 ghost use Rattle.grib_text.specs.Lines as printed;
 ghost use Rattle.grib2_message.specs.Fields.{field_count};
 ghost use Rattle.grib_engine.specs.Pending.{Writes, WritesAllBut};
 ghost use Rattle.grib_engine.specs.Tasks as tasks;
-ghost use Rattle.grib_engine.specs.Tasks.{field_text, texts_from, message_text};
+ghost use Rattle.grib_engine.specs.Tasks.{field_text, texts_from, message_text_2};
 
+use crate::dumping::append_dump;
 use crate::job::Job;
-use crate::points::{FULL, append_points, append_text};
+use crate::points::{ROOM, append_text};
 use crate::writing::write_whole;
 use grib_dyadic::Dyadic;
 use grib_io::{Sink, Stop};
 use grib_packing::Column;
 use grib_stream::Place;
-use grib_text::{check_line, list_line, reference_line};
+use grib_text::{check_line, list_line};
 use grib2_message::Message;
-use std::alloc::{AllocError, Global};
-
-/// The octets of lines that are gathered before they are written, and room for some lines more.
-const ROOM: usize = FULL + 1024;
+use std::alloc::Global;
 
 /// Writes what the job prints of a message at this place.
 pub(crate) fn write_message<T: Sink>(
@@ -32,7 +31,7 @@ pub(crate) fn write_message<T: Sink>(
     output: &mut T,
 ) -> Result<(), Stop>
     ensures octets { Writes result (T.contents output.old) (T.contents output.new)
-        (message_text job.now place.now message.now) }
+        (message_text_2 job.now place.now message.now) }
     ensures counted { CountsStops result (T.faults output.old) (T.faults output.new) }
 {
     match job {
@@ -170,36 +169,15 @@ fn append_dumped<T: Sink>(
     ensures counted { CountsStops result (T.faults output.old) (T.faults output.new) }
 {
     let column = message.column(alloc, field)?;
-    let heading = dump_heading(alloc, number, message, field, &column)?;
-    append_text(lines, heading.as_slice(), output)?;
-    append_points(lines, column.points.as_slice(), output)
+    let reference = reference_of(&column);
+    let listed = list_line(alloc, message, number, field)?;
+    append_dump(alloc, listed.as_slice(), &reference, &column, lines, output)
 }
 
-/// The line of a field, and the line on the numbers of its column.
-fn dump_heading(
-    alloc: Global,
-    number: u64,
-    message: &Message<'_>,
-    field: u32,
-    column: &Column,
-) -> Result<Vec<u8>, AllocError>
-    requires first { 1 ≤ field }
-    requires last { field ≤ field_count message.now }
+/// The reference value of a column of edition 2.
+fn reference_of(column: &Column) -> Dyadic
     requires finite { ieee_exponent column.now.reference < 255 }
-    ensures { IfOk result (λ heading. heading.items
-        ≡ printed.list_line message.now number field ++ tasks.reference_line_of column.now) }
+    ensures { result ≡ reduced (ieee column.now.reference) }
 {
-    let mut heading = list_line(alloc, message, number, field)?;
-    let numbers = reference_line_of(alloc, column)?;
-    heading.extend_from_slice(numbers.as_slice())?;
-    Ok(heading)
-}
-
-/// The line on the reference value and the scale factors of a column.
-fn reference_line_of(alloc: Global, column: &Column) -> Result<Vec<u8>, AllocError>
-    requires finite { ieee_exponent column.now.reference < 255 }
-    ensures { IfOk result (λ line. line.items ≡ tasks.reference_line_of column.now) }
-{
-    let reference = Dyadic::from_ieee(column.reference).unwrap();
-    reference_line(alloc, &reference, column.e, column.d)
+    Dyadic::from_ieee(column.reference).unwrap()
 }

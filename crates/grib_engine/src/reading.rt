@@ -8,6 +8,7 @@ ghost use Rattle.grib_engine.specs.declared.reading.Unread.TheVariants.{Refused,
 ghost use Rattle.grib2_message.specs.declared.fault.ReadFault.TheVariants.{Refused as RefusedMessage};
 
 use grib_io::Fault;
+use grib1_sections::{Message1, ReadFault1, read_message1};
 use grib2_message::{Message, ReadFault, read_message};
 use grib2_sections::{read_head, u8_at};
 use std::alloc::Global;
@@ -15,6 +16,8 @@ use std::alloc::Global;
 /// A message that is held whole.
 #[derive(Debug, Drop)]
 pub enum Held<'a> {
+    /// Of edition 1.
+    One(Message1<'a>),
     /// Of edition 2.
     Two(Message<'a>),
 }
@@ -24,8 +27,6 @@ pub enum Held<'a> {
 pub(crate) enum Unread {
     /// They are refused.
     Refused(Fault),
-    /// They are of edition 1, which is not built yet.
-    NotBuilt,
     /// Want of memory.
     Memory,
 }
@@ -36,7 +37,7 @@ pub(crate) fn read_held<'a>(alloc: Global, octets: &'a [u8]) -> Result<Held<'a>,
     ensures { MatchResult result (Holds octets.now) (IsUnread octets.now) }
 {
     match edition_of(octets) {
-        1 => Err(Unread::NotBuilt),
+        1 => read_first(alloc, octets),
         2 => read_second(alloc, octets),
         _ => match read_head(octets) {
             Ok(_) => unreachable!(),
@@ -56,6 +57,19 @@ fn edition_of(octets: &[u8]) -> u8
     }
 }
 
+/// Reads a message of edition 1.
+fn read_first<'a>(alloc: Global, octets: &'a [u8]) -> Result<Held<'a>, Unread>
+    requires begun { begins octets.now ≡ true }
+    requires first { head.edition octets.now ≡ 1 }
+    ensures { MatchResult result (Holds octets.now) (IsUnread octets.now) }
+{
+    match read_message1(alloc, octets) {
+        Ok(message) => Ok(Held::One(message)),
+        Err(ReadFault1::Refused(fault)) => Err(Unread::Refused(fault)),
+        Err(ReadFault1::Memory) => Err(Unread::Memory),
+    }
+}
+
 /// Reads a message of edition 2.
 fn read_second<'a>(alloc: Global, octets: &'a [u8]) -> Result<Held<'a>, Unread>
     requires begun { begins octets.now ≡ true }
@@ -67,4 +81,18 @@ fn read_second<'a>(alloc: Global, octets: &'a [u8]) -> Result<Held<'a>, Unread>
         Err(ReadFault::Refused(fault)) => Err(Unread::Refused(fault)),
         Err(ReadFault::Memory) => Err(Unread::Memory),
     }
+}
+
+/// A message of edition 1 says so in its octets.
+pub(crate) fn first_edition(message: &Message1<'_>)
+    ensures { head.edition message.now ≡ 1 }
+{
+    message.octets();
+}
+
+/// A message of edition 2 says so in its octets.
+pub(crate) fn second_edition(message: &Message<'_>)
+    ensures { head.edition message.now ≡ 2 }
+{
+    message.octets();
 }

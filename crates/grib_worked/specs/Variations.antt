@@ -4,7 +4,8 @@ use Rattle.grib_io.specs.declared.fault.Reason.TheVariants.{Truncated}
 use Rattle.grib_io.specs.Rows.{refusal}
 use Rattle.grib_io.specs.declared.fault.Fault.{Fault}
 use Rattle.grib2_sections.specs.Verdict.{Verdict, Refused as refused_by}
-use Rattle.grib_stream.specs.declared.outcome.Outcome.TheVariants.{Done, Refused}
+use Rattle.grib_stream.specs.declared.outcome.Outcome.TheVariants.{Done, Refused, Kept}
+use Rattle.grib_stream.specs.declared.outcome.Cause.{Cause}
 use Rattle.grib_stream.specs.Acts.{writes}
 use Rattle.grib_stream.specs.Answer.{Answer}
 use Rattle.grib_engine.specs.Outcomes.{note_of}
@@ -93,6 +94,12 @@ abbrev pub refused_after : List ℕ → ℕ → Fault → Answer
 refused_after text number fault =
     let outcome = Refused (record { message = number; fault = fault }) in
     record { acts = writes text; ending = []; note = note_of outcome; outcome = outcome }
+
+-- and where the first message is kept by a cause
+abbrev pub kept_by : Cause → Answer
+kept_by cause =
+    let outcome = Kept (record { message = 1; cause = cause }) in
+    record { acts = []; ending = []; note = note_of outcome; outcome = outcome }
 
 -- and where the input ends after k octets of its first message
 abbrev pub cut_answer : ℕ → Answer

@@ -2,16 +2,15 @@
 
 ghost use Rattle.std.specs.Prelude.{◌≡◌, [], ◌++◌, codes, take, map, replicate};
 ghost use Rattle.std.specs.List.{range_with_len};
-ghost use Rattle.grib_io.specs.declared.fault.Reason.TheVariants.{Edition, PngPacked, ReferenceNotFinite};
+ghost use Rattle.grib_io.specs.declared.fault.Reason.TheVariants.{Edition, GridType, PngPacked, ReferenceNotFinite};
 ghost use Rattle.grib_io.specs.Rows.{refusal};
-ghost use Rattle.grib_stream.specs.declared.outcome.Outcome.TheVariants.{NotBuilt};
-ghost use Rattle.grib_stream.specs.Acts.{writes};
-ghost use Rattle.grib_stream.specs.Answer.{after, silent};
-ghost use Rattle.grib_engine.specs.declared.job.Job.TheVariants.{Check, List, Dump};
-ghost use Rattle.grib_engine.specs.Tasks.{answer, task};
+ghost use Rattle.grib_stream.specs.declared.outcome.Cause.TheVariants.{EditionOne};
+ghost use Rattle.grib_repack.specs.declared.target.RepackTarget.TheVariants.{Simple};
+ghost use Rattle.grib_engine.specs.declared.job.Job.TheVariants.{Check, List, Dump, Set, Repack};
+ghost use Rattle.grib_engine.specs.Tasks.{answer};
 ghost use Rattle.grib_worked.specs.Hex.{hex, put};
-ghost use Rattle.grib_worked.specs.Messages.{m1, m2, m3, c2};
-ghost use Rattle.grib_worked.specs.Variations.{cut_answer, refused_after, done_with, no_bits};
+ghost use Rattle.grib_worked.specs.Messages.{m1, m2, m3, c2, g1};
+ghost use Rattle.grib_worked.specs.Variations.{cut_answer, refused_after, kept_by, done_with, no_bits};
 
 /// `check` of nothing, of the plain message, and of it twice after a bulletin's heading and before five
 /// zeros.
@@ -57,9 +56,15 @@ pub fn answers_with_refusals()
     ensures second { answer Check (m1 ++ put m1 153 (hex "0029")) ≡ refused_after (codes "message 1 at 0 edition 2 octets 183 fields 1\n") 2 (refusal 153 PngPacked 41) }
 {}
 
-/// Edition 1 is not built so far: nothing is written of such a message.
-pub fn answers_not_built()
-    ensures first { answer Check (put m1 8 (hex "01")) ≡ silent (task Check) NotBuilt }
-    ensures second { answer Check (m1 ++ put m1 8 (hex "01"))
-        ≡ after (writes (codes "message 1 at 0 edition 2 octets 183 fields 1\n")) (silent (task Check) NotBuilt) }
+/// A message of edition 1 is read as one of edition 2 is, and kept by the commands that change messages.
+pub fn answers_to_edition_1()
+    ensures check { answer Check (m1 ++ g1)
+        ≡ done_with (codes "message 1 at 0 edition 2 octets 183 fields 1\nmessage 2 at 183 edition 1 octets 88 fields 1\n") (codes "messages 2 fields 2 skipped 0\n") }
+    ensures list { answer List g1 ≡ done_with (codes "1.1 ed=1 centre=98 time=2024-01-15T12:00 grid=0 points=4 param=2.11 unit=1 range=0 "
+        ++ codes "p1=6 p2=0 level=100:500 bits=8 values=4\n") [] }
+    ensures dump { answer Dump g1 ≡ done_with (codes "1.1 ed=1 centre=98 time=2024-01-15T12:00 grid=0 points=4 param=2.11 unit=1 range=0 "
+        ++ codes "p1=6 p2=0 level=100:500 bits=8 values=4\nreference -949*2^-3 binary -3 decimal 1\n1 0\n2 1\n3 2\n4 255\n") [] }
+    ensures repack { answer (Repack Simple) g1 ≡ kept_by EditionOne }
+    ensures set { answer (Set []) g1 ≡ kept_by EditionOne }
+    ensures grid_type { answer Check (put g1 42 (hex "32")) ≡ refused_after [] 1 (refusal 42 GridType 50) }
 {}

@@ -2,11 +2,11 @@
 
 ghost use Rattle.std.specs.Prelude.{◌≡◌, [], ◌∷◌, ◌++◌, codes, take, replicate};
 ghost use Rattle.grib_io.specs.Rows.{refusal};
-ghost use Rattle.grib_io.specs.declared.fault.Reason.TheVariants.{Truncated};
-ghost use Rattle.grib_stream.specs.Stream.{stream, stream_of, message_after, Over, Refusing, NotRead};
+ghost use Rattle.grib_io.specs.declared.fault.Reason.TheVariants.{Truncated, TotalLength};
+ghost use Rattle.grib_stream.specs.Stream.{stream, stream_of, message_after, Over, Refusing};
 ghost use Rattle.grib_engine.specs.Tasks.{judge};
 ghost use Rattle.grib_worked.specs.Hex.{hex, put};
-ghost use Rattle.grib_worked.specs.Messages.{m1, m2};
+ghost use Rattle.grib_worked.specs.Messages.{m1, m2, g1};
 
 /// An empty input, and inputs that end before a whole `GRIB`.
 pub fn inputs_without_messages()
@@ -27,7 +27,8 @@ pub fn cut_second_message()
     ensures refused { stream judge (m2 ++ take 100 m1) ≡ stream_of (message_after 0 m2 ∷ []) (Refusing (refusal 101 Truncated 100)) }
 {}
 
-/// A message of edition 1 after one of edition 2, which is not read so far.
-pub fn first_edition()
-    ensures found { stream judge (m1 ++ put m1 8 (hex "01")) ≡ stream_of (message_after 0 m1 ∷ []) NotRead }
+/// A message of edition 1 between two of edition 2; and one whose total length, 0, is refused.
+pub fn both_editions()
+    ensures found { stream judge (m1 ++ g1 ++ m1) ≡ stream_of (message_after 0 m1 ∷ message_after 183 g1 ∷ message_after 271 m1 ∷ []) (Over 0) }
+    ensures refused { stream judge (m1 ++ put m1 8 (hex "01")) ≡ stream_of (message_after 0 m1 ∷ []) (Refusing (refusal 5 TotalLength 0)) }
 {}

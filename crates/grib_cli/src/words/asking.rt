@@ -1,6 +1,6 @@
 //! The job of a command, by the values of its words.
 
-ghost use Rattle.std.specs.Prelude.{◌≡◌, ◌-◌, ◌^◌, true, false, codes, map, string_bytes, Ok};
+ghost use Rattle.std.specs.Prelude.{◌≡◌, ◌-◌, ◌^◌, true, false, codes, map, string_bytes, Ok, IfOk};
 ghost use Rattle.grib_cli.specs.Reading as grammar;
 ghost use Rattle.grib_cli.specs.Reading.{is, is_named, reading_of};
 ghost use Rattle.grib_cli.specs.Values.{is_between};
@@ -8,19 +8,28 @@ ghost use Rattle.grib_cli.specs.Words as asked;
 ghost use Rattle.std.specs.declared.option.Option.TheVariants.{Some};
 
 use super::command::Command;
-use super::values::number_of;
+use super::values::{key_value, number_of};
 use super::{JobFault, is_named};
-use grib_engine::{Job, RepackTarget};
+use grib_engine::{Conditions, Job, Name, RepackTarget};
+use grib_keys::{Condition, Key};
+use std::alloc::{AllocError, Global};
 
 /// The job of a command with these words behind it, which it reads.
-pub(super) fn job_of_command(command: Command, words: &[String]) -> Result<Job, JobFault>
+pub(super) fn job_of_command(
+    alloc: Global,
+    command: Command,
+    words: &[String],
+) -> Result<Job, JobFault>
     requires { reading_of (Some command) (map string_bytes words.now) ≡ Ok command }
-    ensures { result ≡ asked.job_of_command command (map string_bytes words.now) }
+    ensures { asked.IsUnlessMemory result (asked.job_of_command command (map string_bytes words.now)) }
 {
     match command {
         Command::Check => Ok(Job::Check),
         Command::List => Ok(Job::List),
         Command::Dump => Ok(Job::Dump),
+        Command::Filter => Ok(Job::Filter(Conditions::of(conditions_of(alloc, words)?))),
+        Command::Split => Ok(Job::Split(name_by(alloc, words, "out")?)),
+        Command::Set => Ok(Job::Set(Conditions::of(conditions_of(alloc, words)?))),
         Command::Repack => Ok(Job::Repack(target_of(words))),
         Command::Make => Ok(Job::Make {
             seed: number_by(words, "seed"),
@@ -28,10 +37,35 @@ pub(super) fn job_of_command(command: Command, words: &[String]) -> Result<Job, 
             nj: number_by(words, "nj"),
             target: target_of(words),
         }),
-        Command::Filter | Command::Split | Command::Set | Command::Migrate => {
-            Err(JobFault::NotBuilt)
-        }
+        Command::Migrate => Err(JobFault::NotBuilt),
     }
+}
+
+/// The conditions of the words, in their order.
+fn conditions_of(alloc: Global, words: &[String]) -> Result<Vec<Condition>, AllocError>
+    ensures { IfOk result (λ v. v.items ≡ asked.conditions_of (map string_bytes words.now)) }
+{
+    words
+        .iter()
+        .filter_map(|word| condition_of(word.as_str()))
+        .collect(alloc)
+}
+
+/// The key of a word's name with the value that the word gives it, if there is such a key and it is a value.
+fn condition_of(word: &str) -> Option<Condition>
+    ensures { result ≡ asked.condition_of word.now }
+{
+    let (name, value) = word.split_once('=')?;
+    let key = Key::of(name)?;
+    let value = key_value(value)?;
+    Some(Condition { key, value })
+}
+
+/// The value of the word that has this name, as a name on a shelf.
+fn name_by(alloc: Global, words: &[String], name: &str) -> Result<Name, AllocError>
+    ensures { IfOk result (λ found. found ≡ asked.value_of name.now (map string_bytes words.now)) }
+{
+    Ok(Name::of(String::from_str(alloc, value_of(words, name))?))
 }
 
 /// What the words ask fields to be packed to.

@@ -3,7 +3,7 @@ use Rattle.grib_stream.proofs.Worlds.{did_keep}
 use Rattle.grib_stream.specs.declared.outcome.Outcome.{Outcome}
 use Rattle.grib_engine.specs.Outcomes.{NotesFront}
 use Rattle.grib_cli.specs.Words.{job_of, outcome_of}
-use Rattle.grib_cli.proofs.Runs.{OneOf, if_asked, by_asked, cut_memory, runs_nothing, fronts_memory, memory_front, other_front}
+use Rattle.grib_cli.proofs.Runs.{OneOf, if_asked, by_asked, cut_memory, runs_nothing, fronts_memory, memory_front, other_front, unshelved_memory}
 use Rattle.grib_cli.proofs.running.run.Goals as goal
 
 pub returns-in-Err-clause-runs : goal.returns-in-Err-clause-runs
@@ -19,3 +19,13 @@ returns-in-Err-clause-noted_front g c =
     by_asked (job_of (map string_bytes c.args.words.now)) c.in-Err.fault _ _ c.in-Err.ensures.asked noted
     (λ memory job. fronts_memory job _ _ _ _ _ _ _ (memory_front c.in-Err.fault _ _ memory noted))
     (λ memory other. other_front other _ _ (memory_front c.in-Err.fault _ _ memory noted))
+
+pub returns-in-Err-clause-shelf : goal.returns-in-Err-clause-shelf
+returns-in-Err-clause-shelf g c =
+    by_asked (job_of (map string_bytes c.args.words.now)) c.in-Err.fault _ _ c.in-Err.ensures.asked refl (λ memory job unused. refl) (λ memory other. refl)
+
+pub returns-in-Err-clause-unshelved : goal.returns-in-Err-clause-unshelved
+returns-in-Err-clause-unshelved g c =
+    if_asked (job_of (map string_bytes c.args.words.now)) c.in-Err.fault _ c.in-Err.ensures.asked
+    (λ memory job unused. unshelved_memory c.in-Err.fault c.close_with_note.result memory
+    (subst (λ o. OneOf o c.close_with_note.result) c.outcome_of.ensures c.close_with_note.ensures.one_of))

@@ -1,4 +1,4 @@
-use Rattle.std.proofs.Common.{◌≡◌, ◌+◌, arith, rules, refl, sym, ap, ◌∙◌, subst}
+use Rattle.std.proofs.Common.{◌≡◌, ◌+◌, arith, rules, refl, ap, ◌∙◌, subst}
 use Rattle.grib2_message.specs.Fields.{field_count}
 use Rattle.grib_stream.specs.Acts.{world}
 use Rattle.grib_stream.proofs.Worlds.{did_none}

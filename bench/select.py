@@ -1,0 +1,119 @@
+#!/usr/bin/env python3
+"""Cuts files of edition 2 into fields and picks fields from them, and compares: select.py PROGRAM FILE..
+
+Wants grib_filter of ecCodes (Debian: libeccodes-tools). Of each file the messages that PROGRAM accepts are taken,
+one after another. What `split` makes of them, joined again, has to give ecCodes the same values, field by field;
+so has what `filter` gives for each key of the first field with its value there, of the fields that have that value
+by the reading of this script; and what `set` gives for a centre. Prints for each file what agrees and what
+differs."""
+import collections
+import hashlib
+import os
+import subprocess
+import sys
+import tempfile
+
+from messages import messages
+
+# The section of each key with its first and its last octet, 's' for a number with sign and 'm' for one that may be
+# missing. The places of scanning, la1, lo1 and ensembleNumber go by the template.
+PLACES = {
+    "discipline": (0, 7, 7, ""), "centre": (1, 6, 7, ""), "subCentre": (1, 8, 9, ""), "masterTables": (1, 10, 10, ""),
+    "localTables": (1, 11, 11, ""), "significance": (1, 12, 12, ""), "year": (1, 13, 14, ""), "month": (1, 15, 15, ""),
+    "day": (1, 16, 16, ""), "hour": (1, 17, 17, ""), "minute": (1, 18, 18, ""), "second": (1, 19, 19, ""),
+    "status": (1, 20, 20, ""), "dataType": (1, 21, 21, ""), "earthShape": (3, 15, 15, ""), "points": (3, 7, 10, ""),
+    "gridTemplate": (3, 13, 14, ""), "ni": (3, 31, 34, "m"), "nj": (3, 35, 38, "m"), "productTemplate": (4, 8, 9, ""),
+    "category": (4, 10, 10, ""), "number": (4, 11, 11, ""), "process": (4, 12, 12, ""), "generator": (4, 14, 14, ""),
+    "timeUnit": (4, 18, 18, ""), "forecastTime": (4, 19, 22, "s"), "surface1": (4, 23, 23, "m"),
+    "surface1Scale": (4, 24, 24, "sm"), "surface1Value": (4, 25, 28, "m"), "packing": (5, 10, 11, ""),
+    "bits": (5, 20, 20, ""),
+}
+SCANNING = {0: 72, 1: 72, 40: 72, 10: 60, 20: 65, 30: 65}
+
+
+def run(words, octets):
+    return subprocess.run(words, input=octets, capture_output=True)
+
+
+def fields(message):
+    """The sections in force for each field, by their numbers."""
+    sections, at = {0: message[:16]}, 16
+    while message[at : at + 4] != b"7777":
+        length = int.from_bytes(message[at : at + 4], "big")
+        sections[message[at + 4]] = message[at : at + length]
+        if message[at + 4] == 7:
+            yield dict(sections)
+        at += length
+
+
+def keys(sections):
+    """The keys of a field with their values, as a command line has them."""
+    places = dict(PLACES)
+    template = int.from_bytes(sections[3][12:14], "big")
+    scanning, first = SCANNING[template], 47 if SCANNING[template] == 72 else 39
+    places |= {"scanning": (3, scanning, scanning, ""), "la1": (3, first, first + 3, "s"), "lo1": (3, first + 4, first + 7, "")}
+    if int.from_bytes(sections[4][7:9], "big") in (1, 11):
+        places["ensembleNumber"] = (4, 36, 36, "")
+    values = {}
+    for key, (section, start, end, kind) in places.items():
+        octets = sections[section][start - 1 : end]
+        number, sign = int.from_bytes(octets, "big"), 1 << 8 * len(octets) - 1
+        if "m" in kind and number == 2 * sign - 1:
+            values[key] = "missing"
+        else:
+            values[key] = str(sign - number if "s" in kind and number > sign else number % sign if "s" in kind else number)
+    return values
+
+
+def eccodes(octets, known):
+    """The values of each field that ecCodes reads, as checksums. What was read of a message is known from then on."""
+    read = []
+    for message in messages(octets):
+        digest = hashlib.sha256(message).digest()
+        if digest not in known:
+            with tempfile.NamedTemporaryFile("w") as rules:
+                rules.write('print "field";\nprint "[values%.17g!1]";')
+                rules.flush()
+                text = run(["grib_filter", rules.name, "-"], message).stdout
+            known[digest] = [hashlib.sha256(values).digest() for values in text.split(b"field\n")[1:]]
+        read += known[digest]
+    return read
+
+
+def split(program, octets):
+    """The parts that `split` makes, joined again."""
+    with tempfile.TemporaryDirectory() as folder:
+        name = os.path.join(folder, "part")
+        if run([program, "split", "out=" + name], octets).returncode != 0:
+            return b""
+        return b"".join(open(f"{name}.{n}", "rb").read() for n in range(1, len(os.listdir(folder)) + 1))
+
+
+def main():
+    program, failed = sys.argv[1], False
+    for path in sys.argv[2:]:
+        counts = collections.Counter()
+        every = list(messages(open(path, "rb").read()))
+        accepted = [message for message in every if run([program, "check"], message).returncode == 0]
+        counts["messages"], counts["refused"] = len(accepted), len(every) - len(accepted)
+        own = [keys(sections) for message in accepted for sections in fields(message)]
+        octets, known = b"".join(accepted), {}
+        theirs = eccodes(octets, known)
+        counts["fields"] = len(own)
+        counts["fields DIFFER in number"] = len(own) != len(theirs)
+        if own and len(own) == len(theirs):
+            counts["split DIFFERS"] = eccodes(split(program, octets), known) != theirs
+            changed = run([program, "set", "centre=255"], octets).stdout
+            counts["set DIFFERS"] = eccodes(changed, known) != theirs
+            for key, value in own[0].items():
+                picked = run([program, "filter", f"{key}={value}"], octets)
+                wanted = [values for values, field in zip(theirs, own) if field.get(key) == value]
+                counts["keys"] += 1
+                counts["fields picked"] += len(wanted)
+                counts["filter DIFFERS"] += picked.returncode != 0 or eccodes(picked.stdout, known) != wanted
+        failed |= any("DIFFER" in what and number for what, number in counts.items())
+        print(path + ": " + ", ".join(f"{number} {what}" for what, number in counts.items() if number), flush=True)
+    sys.exit(failed)
+
+
+main()

@@ -1,0 +1,71 @@
+-- What is given of a message that was read, by its edition.
+use Rattle.std.proofs.Common.{◌≡◌, ℕ, ◌==◌, true, List, length, take, refl, sym, ap, ◌∙◌, subst}
+use Rattle.std.proofs.lemmas.Bool.{false≢true}
+use Rattle.grib_io.specs.Rows.{choose}
+use Rattle.grib2_sections.specs.Head.{edition}
+use Rattle.grib2_message.specs.Fields.{field_count}
+use Rattle.grib_stream.specs.declared.place.Place.{Place}
+use Rattle.grib_stream.specs.declared.outcome.Outcome.{Outcome}
+use Rattle.grib_stream.specs.Acts.{World, DidFront}
+use Rattle.grib_stream.specs.Outcomes.{is_cut_within}
+use Rattle.grib_stream.specs.Performed.{EndsWith}
+use Rattle.grib_stream.specs.Task.{Given, Gives, Ends, next_given, next_judged, next_of, acts_of}
+use Rattle.grib_engine.specs.declared.answering.Answered.{Answered}
+use Rattle.grib_engine.specs.declared.job.Job.{Job}
+use Rattle.grib_engine.specs.declared.reading.Held.{Held}
+use Rattle.grib_engine.specs.declared.reading.Held.TheVariants.{One, Two}
+use Rattle.grib_engine.specs.Answering.{Answers, acts_given}
+use Rattle.grib_engine.specs.EditionOne.{given_1}
+use Rattle.grib_engine.specs.Reading.{held_octets, Holds}
+use Rattle.grib_engine.specs.Tasks.{fields_of, given_2, given, task}
+
+given_of_first : (job : Job) (place : Place) (held : Held) (message : List ℕ) → held ≡ One message → edition message ≡ 1
+    → given job place (held_octets held) ≡ given_1 job place message
+given_of_first job place held message is first =
+    ap (λ h. given job place (held_octets h)) is
+    ∙ ap (λ e. choose (e == 1) (λ _. given_1 job place message) (λ _. given_2 job place message)) first
+
+given_of_second : (job : Job) (place : Place) (held : Held) (message : List ℕ) → held ≡ Two message → edition message ≡ 2
+    → given job place (held_octets held) ≡ given_2 job place message
+given_of_second job place held message is second =
+    ap (λ h. given job place (held_octets h)) is
+    ∙ ap (λ e. choose (e == 1) (λ _. given_1 job place message) (λ _. given_2 job place message)) second
+
+pub answers_first : (result : Answered) (m : ℕ) (job : Job) (place : Place) (held : Held) (message : List ℕ) (a b : World) → held ≡ One message → edition message ≡ 1
+    → Answers result m (given_1 job place message) a b → Answers result m (given job place (held_octets held)) a b
+answers_first result m job place held message a b is first answers =
+    subst (λ x. Answers result m x a b) (sym (given_of_first job place held message is first)) answers
+
+pub answers_second : (result : Answered) (m : ℕ) (job : Job) (place : Place) (held : Held) (message : List ℕ) (a b : World) → held ≡ Two message → edition message ≡ 2
+    → Answers result m (given_2 job place message) a b → Answers result m (given job place (held_octets held)) a b
+answers_second result m job place held message a b is second answers =
+    subst (λ x. Answers result m x a b) (sym (given_of_second job place held message is second)) answers
+
+pub fields_first : (held : Held) (message : List ℕ) → held ≡ One message → edition message ≡ 1 → fields_of (held_octets held) ≡ 1
+fields_first held message is first =
+    ap (λ h. fields_of (held_octets h)) is ∙ ap (λ e. choose (e == 1) (λ _. 1) (λ _. field_count message)) first
+
+pub fields_second : (held : Held) (message : List ℕ) → held ≡ Two message → edition message ≡ 2 → fields_of (held_octets held) ≡ field_count message
+fields_second held message is second =
+    ap (λ h. fields_of (held_octets h)) is ∙ ap (λ e. choose (e == 1) (λ _. 1) (λ _. field_count message)) second
+
+-- ---- what comes next
+
+acts_same : (given : Given) (total fields : ℕ) → acts_of (next_given given total fields) ≡ acts_given given
+acts_same (Gives acts written) total fields = refl
+acts_same (Ends outcome) total fields = refl
+
+acts_next : (job : Job) (place : Place) (octets : List ℕ) (held : Held) → Holds octets held
+    → acts_of (next_of (task job) place octets) ≡ acts_given (given job place (held_octets held))
+acts_next job place octets held holds =
+    let n = length (held_octets held) in
+    ap (λ j. acts_of (next_judged j (λ total. next_given (given job place (take total octets)) total (fields_of (take total octets))))) holds.judged
+    ∙ (acts_same (given job place (take n octets)) n (fields_of (take n octets)) ∙ ap (λ m. acts_given (given job place m)) (sym holds.message))
+
+-- a front of what a message gives was done, and then the run ended
+pub ends_within : (job : Job) (place : Place) (octets : List ℕ) (held : Held) (outcome : Outcome) (a b : World) → is_cut_within outcome ≡ true → Holds octets held
+    → DidFront a b (acts_given (given job place (held_octets held))) → EndsWith (next_of (task job) place octets) outcome a b
+ends_within job place octets held outcome a b cut holds front = record {
+  stopped = λ whole. absurd (false≢true (sym whole ∙ cut));
+  cut = λ _. subst (DidFront a b) (sym (acts_next job place octets held holds)) front;
+}
