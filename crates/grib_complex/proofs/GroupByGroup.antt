@@ -14,7 +14,7 @@ use Rattle.grib_groups.proofs.Parts.{drop-next, sum-more, length-parts}
 use Rattle.grib_groups.proofs.Back.{length-group, length-runs, padded_octets, length-padded8}
 
 -- the bits of one run
-run_bits : (k b : ℕ) (run : List Code) → k ≤ 2 → length (group_fields k b run) ≡ length run * width_of k run
+pub run_bits : (k b : ℕ) (run : List Code) → k ≤ 2 → length (group_fields k b run) ≡ length run * width_of k run
 run_bits k b run few =
     let layout : Layout = record {
       groups = 0;

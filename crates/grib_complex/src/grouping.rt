@@ -4,10 +4,10 @@ ghost use Rattle.std.specs.Prelude.{◌≡◌, ℕ, ◌+◌, ◌*◌, ◌/◌, �
 ghost use Rattle.grib_packing.specs.Groupings.{Chosen, IsGrouping, header_bits, joined, runs, width_of};
 ghost use Rattle.grib_packing.specs.Packed.{group_fields, group_parts};
 ghost use Rattle.grib_packing.specs.Span.{IsTold, IsBelow};
-ghost use Rattle.grib_groups.specs.Encoding.{LaysOut};
+ghost use Rattle.grib_groups.specs.Encoding.{AreMeasures, LaysOut};
 ghost use Rattle.grib_complex.specs.FieldCodes.{codes_in};
 
-use grib_groups::Layout;
+use grib_groups::{Layout, Measure, later_measures, measures_of, next_measure};
 use grib_io::Code;
 use grib_packing::{Span, bit_length};
 use grib_split::{Costs, chosen_lengths, fewest_lengths};
@@ -39,6 +39,8 @@ impl FieldCodes {
 #[derive(Debug, Drop)]
 pub struct Grouping {
     pub lengths: Vec<u32>,
+    /// The reference and the width of each group, none where all codes are the same.
+    pub measures: Vec<Measure>,
     pub layout: Layout,
 }
 
@@ -58,6 +60,8 @@ pub fn grouping_of(
     requires few { management ≤ 2 }
     requires codes { All (IsTold management) (codes_in codes.now) }
     ensures lays_out { IfOk result (λ grouping. LaysOut grouping.layout (codes_in codes.now) grouping.lengths.items) }
+    ensures known { IfOk result (λ grouping. AreMeasures grouping.layout.management grouping.layout.reference_bits
+        grouping.measures.items (runs grouping.lengths.items (codes_in codes.now))) }
     ensures management { IfOk result (λ grouping. grouping.layout.management ≡ management) }
     ensures chosen { IfOk result (λ grouping.
         Chosen (header_bits management (codes_in codes.now)) (width_of management) (codes_in codes.now) grouping.lengths.items) }
@@ -79,6 +83,8 @@ fn grouping_of_each(alloc: Global, codes: &[Code], management: u8) -> Result<Gro
     requires few { management ≤ 2 }
     requires codes { All (IsTold management) codes.now }
     ensures lays_out { IfOk result (λ grouping. LaysOut grouping.layout codes.now grouping.lengths.items) }
+    ensures known { IfOk result (λ grouping. AreMeasures grouping.layout.management grouping.layout.reference_bits
+        grouping.measures.items (runs grouping.lengths.items codes.now)) }
     ensures management { IfOk result (λ grouping. grouping.layout.management ≡ management) }
     ensures chosen { IfOk result (λ grouping.
         Chosen (header_bits management codes.now) (width_of management) codes.now grouping.lengths.items) }
@@ -91,6 +97,7 @@ fn grouping_of_each(alloc: Global, codes: &[Code], management: u8) -> Result<Gro
         width_bits: bit_length(u64::from(span.width(reserved))),
     };
     let lengths = chosen_lengths(alloc, codes, &costs)?;
+    let measures = measures_of(alloc, codes, &lengths, reserved, costs.reference_bits)?;
     let layout = Layout {
         groups: lengths.len() as u32,
         reference_bits: costs.reference_bits as u8,
@@ -102,7 +109,11 @@ fn grouping_of_each(alloc: Global, codes: &[Code], management: u8) -> Result<Gro
         length_bits: 6,
         management,
     };
-    Ok(Grouping { lengths, layout })
+    Ok(Grouping {
+        lengths,
+        measures,
+        layout,
+    })
 }
 
 /// The groups of so many codes that are all the same: none takes a bit beside its header, so they are the
@@ -122,6 +133,8 @@ fn grouping_of_same(
     requires few { management ≤ 2 }
     requires code { IsTold management code }
     ensures lays_out { IfOk result (λ grouping. LaysOut grouping.layout (replicate count code) grouping.lengths.items) }
+    ensures known { IfOk result (λ grouping. AreMeasures grouping.layout.management grouping.layout.reference_bits
+        grouping.measures.items (runs grouping.lengths.items (replicate count code))) }
     ensures management { IfOk result (λ grouping. grouping.layout.management ≡ management) }
     ensures chosen { IfOk result (λ grouping.
         Chosen (header_bits management (replicate count code)) (width_of management) (replicate count code) grouping.lengths.items) }
@@ -139,17 +152,29 @@ fn grouping_of_same(
         length_bits: 6,
         management,
     };
-    Ok(Grouping { lengths, layout })
+    Ok(Grouping {
+        lengths,
+        measures: Vec::new(alloc),
+        layout,
+    })
 }
 
 /// The octets that the groups of these codes take in Section 7.
-pub fn octets_of_groups(codes: &FieldCodes, lengths: &[u32], layout: &Layout) -> u32
+pub fn octets_of_groups(
+    codes: &FieldCodes,
+    lengths: &[u32],
+    known: &[Measure],
+    layout: &Layout,
+) -> u32
     requires lays_out { LaysOut layout.now (codes_in codes.now) lengths.now }
+    requires known { AreMeasures layout.now.management layout.now.reference_bits known.now (runs lengths.now (codes_in codes.now)) }
     requires most { length (codes_in codes.now) ≤ 33554432 }
     ensures is { 8 * result ≡ length (group_parts layout.now.management (codes_in codes.now) lengths.now) }
     ensures few { result ≤ 1000000000 }
 {
-    let bits = bits_of_groups(codes, lengths, u32::from(layout.management));
+    let reserved = u32::from(layout.management);
+    let reference_bits = u32::from(layout.reference_bits);
+    let bits = bits_of_groups(codes, lengths, known, reserved, reference_bits);
     let references = octets_for(layout.groups, layout.reference_bits);
     let widths = octets_for(layout.groups, layout.width_bits);
     references + widths + octets_for(layout.groups, 6) + bits.div_ceil(8)
@@ -167,35 +192,54 @@ fn octets_for(count: u32, bits: u8) -> u32
 }
 
 /// The bits that the packed numbers of all groups take.
-fn bits_of_groups(codes: &FieldCodes, lengths: &[u32], reserved: u32) -> u32
+fn bits_of_groups(
+    codes: &FieldCodes,
+    lengths: &[u32],
+    known: &[Measure],
+    reserved: u32,
+    reference_bits: u32,
+) -> u32
     requires reserved { reserved ≤ 2 }
+    requires references { reference_bits ≤ 32 }
     requires grouping { IsGrouping (length (codes_in codes.now)) lengths.now }
     requires codes { All (IsBelow reserved) (codes_in codes.now) }
+    requires known { AreMeasures reserved reference_bits known.now (runs lengths.now (codes_in codes.now)) }
     requires most { length (codes_in codes.now) ≤ 33554432 }
     ensures is { (bits : ℕ) → result ≡ length (joined (map (group_fields reserved bits) (runs lengths.now (codes_in codes.now)))) }
     ensures few { result ≤ 32 * length (codes_in codes.now) }
 {
     match codes {
-        FieldCodes::Each(codes) => bits_of_each(codes, lengths, reserved),
+        FieldCodes::Each(codes) => bits_of_each(codes, lengths, known, reserved, reference_bits),
         FieldCodes::Same(_code, _count) => 0,
     }
 }
 
 /// The same of codes one after another.
-fn bits_of_each(codes: &[Code], lengths: &[u32], reserved: u32) -> u32
+fn bits_of_each(
+    codes: &[Code],
+    lengths: &[u32],
+    known: &[Measure],
+    reserved: u32,
+    reference_bits: u32,
+) -> u32
     requires reserved { reserved ≤ 2 }
+    requires references { reference_bits ≤ 32 }
     requires grouping { IsGrouping (length codes.now) lengths.now }
     requires codes { All (IsBelow reserved) codes.now }
+    requires known { AreMeasures reserved reference_bits known.now (runs lengths.now codes.now) }
     requires most { length codes.now ≤ 33554432 }
     ensures is { (bits : ℕ) → result ≡ length (joined (map (group_fields reserved bits) (runs lengths.now codes.now))) }
     ensures few { result ≤ 32 * length codes.now }
 {
     let mut rest = codes;
+    let mut told = known;
     let mut bits = 0;
     for length in lengths {
         let (run, after) = rest.split_at(*length as usize);
-        bits += *length * Span::of(run).width(reserved);
+        let measure = next_measure(told, run, reserved, reference_bits);
+        bits += *length * u32::from(measure.width);
         rest = after;
+        told = later_measures(told);
     }
     bits
 }

@@ -68,16 +68,23 @@ fn pack_plainly(
         IsComplex column.now kind packed.section5 packed.section6 packed.section7) }
 {
     let grouping = grouping_of(alloc, codes, management)?;
-    let octets = 5 + octets_of_groups(codes, &grouping.lengths, &grouping.layout);
+    let layout = &grouping.layout;
+    let octets = 5 + octets_of_groups(codes, &grouping.lengths, &grouping.measures, layout);
     let section5 = room_for(alloc, 47)?;
     let section6 = room_for(alloc, 6)?;
     let mut section7 = room_for(alloc, octets)?;
     write_head(octets, 7, &mut section7);
     let values = codes.count();
     Ok(Packed {
-        section5: complex_representation(column, values, &grouping.layout, kind, section5),
+        section5: complex_representation(column, values, layout, kind, section5),
         section6: no_bitmap(section6),
-        section7: groups_section(codes, &grouping.lengths, &grouping.layout, section7),
+        section7: groups_section(
+            codes,
+            &grouping.lengths,
+            &grouping.measures,
+            layout,
+            section7,
+        ),
     })
 }
 
@@ -212,7 +219,8 @@ fn pack_spatially(
     let grouping = grouping_of(alloc, codes, management)?;
     let size = descriptor_octets(differences);
     let descriptors = (u32::from(order) + 1) * u32::from(size);
-    let groups = octets_of_groups(codes, &grouping.lengths, &grouping.layout);
+    let layout = &grouping.layout;
+    let groups = octets_of_groups(codes, &grouping.lengths, &grouping.measures, layout);
     let octets = 5 + descriptors + groups;
     let section5 = room_for(alloc, 49)?;
     let section6 = room_for(alloc, 6)?;
@@ -221,10 +229,15 @@ fn pack_spatially(
     write_descriptors(differences, order, size, &mut section7);
     let values = codes.count();
     let differencing = Differencing { order, size };
-    let layout = &grouping.layout;
     Ok(Packed {
         section5: spatial_representation(column, values, layout, differencing, kind, section5),
         section6: no_bitmap(section6),
-        section7: groups_section(codes, &grouping.lengths, layout, section7),
+        section7: groups_section(
+            codes,
+            &grouping.lengths,
+            &grouping.measures,
+            layout,
+            section7,
+        ),
     })
 }

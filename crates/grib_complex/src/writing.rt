@@ -5,15 +5,16 @@ ghost use Rattle.grib_bits.specs.Bits.{bits as bits_in};
 ghost use Rattle.grib_bits.specs.Octets.{octets};
 ghost use Rattle.grib_packing.specs.declared.column.Column as column_packing;
 ghost use Rattle.grib2_sections.specs.Encoding.{octets_of, AddsOctets};
+ghost use Rattle.grib_packing.specs.Groupings.{runs};
 ghost use Rattle.grib_packing.specs.Packed.{HasContents, HasNumbers, group_parts};
-ghost use Rattle.grib_groups.specs.Encoding.{LaysOut};
+ghost use Rattle.grib_groups.specs.Encoding.{AreMeasures, LaysOut};
 ghost use Rattle.grib_simple.specs.Sections.{number_octets};
 ghost use Rattle.grib_complex.specs.FieldCodes.{codes_in};
 ghost use Rattle.grib_complex.specs.Written.{HasLayoutOf, layout_octets};
 
 use crate::grouping::FieldCodes;
 use grib_bits::BitWriter;
-use grib_groups::{Layout, encode_groups, encode_same};
+use grib_groups::{Layout, Measure, encode_measured_groups, encode_same};
 use grib_io::List;
 use grib_packing::Column;
 use grib_simple::{octets_written, write_head, write_numbers};
@@ -101,10 +102,12 @@ fn write_layout(layout: &Layout, out: &mut BitWriter)
 pub fn groups_section(
     codes: &FieldCodes,
     lengths: &[u32],
+    known: &[Measure],
     layout: &Layout,
     mut begun: BitWriter,
 ) -> List<u8>
     requires lays_out { LaysOut layout.now (codes_in codes.now) lengths.now }
+    requires known { AreMeasures layout.now.management layout.now.reference_bits known.now (runs lengths.now (codes_in codes.now)) }
     requires some { 1 ≤ length (codes_in codes.now) }
     requires most { length (codes_in codes.now) ≤ 33554432 }
     requires whole { length begun.bits % 8 ≡ 0 }
@@ -112,13 +115,20 @@ pub fn groups_section(
     ensures bits { bits_in result ≡ begun.bits ++ group_parts layout.now.management (codes_in codes.now) lengths.now }
     ensures octets { All (λ octet. octet < 256) result }
 {
-    put_groups(codes, lengths, layout, &mut begun);
+    put_groups(codes, lengths, known, layout, &mut begun);
     octets_written(begun)
 }
 
 /// Writes the groups of these codes.
-fn put_groups(codes: &FieldCodes, lengths: &[u32], layout: &Layout, out: &mut BitWriter)
+fn put_groups(
+    codes: &FieldCodes,
+    lengths: &[u32],
+    known: &[Measure],
+    layout: &Layout,
+    out: &mut BitWriter,
+)
     requires lays_out { LaysOut layout.now (codes_in codes.now) lengths.now }
+    requires known { AreMeasures layout.now.management layout.now.reference_bits known.now (runs lengths.now (codes_in codes.now)) }
     requires some { 1 ≤ length (codes_in codes.now) }
     requires most { length (codes_in codes.now) ≤ 33554432 }
     requires whole { length out.old.bits % 8 ≡ 0 }
@@ -126,7 +136,7 @@ fn put_groups(codes: &FieldCodes, lengths: &[u32], layout: &Layout, out: &mut Bi
     ensures { out.new.bits ≡ out.old.bits ++ group_parts layout.now.management (codes_in codes.now) lengths.now }
 {
     match codes {
-        FieldCodes::Each(codes) => encode_groups(codes, lengths, layout, out),
+        FieldCodes::Each(codes) => encode_measured_groups(codes, lengths, known, layout, out),
         FieldCodes::Same(code, count) => encode_same(*code, *count, lengths, layout, out),
     }
 }

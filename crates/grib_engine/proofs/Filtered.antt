@@ -1,5 +1,6 @@
 -- The fields of a message that are written, one after another.
-use Rattle.std.proofs.Common.{◌≡◌, ℕ, ◌+◌, ◌-◌, ◌*◌, ◌<◌, ◌≤◌, Bool, true, false, List, [], ◌++◌, length, refl, sym, ap, ◌∙◌, subst, arith, append_assoc, length-append}
+use Rattle.std.proofs.Common.{◌≡◌, ℕ, zero, suc, ◌∷◌, ◌&&◌, ◌+◌, ◌-◌, ◌*◌, ◌<◌, ◌≤◌, Bool, true, false, List, [], ◌++◌, length, refl, sym, ap, ◌∙◌, subst, arith, append_assoc, append-nil, length-append, Ok}
+use Rattle.std.specs.List.{list_all, range_with_len}
 use Rattle.std.specs.declared.option.Option.{Option}
 use Rattle.std.specs.Io.KnownBytes.{Appends}
 use Rattle.std.proofs.KnownBytes.{Appends-trans}
@@ -9,24 +10,45 @@ use Rattle.grib_keys.specs.declared.condition.Condition.{Condition}
 use Rattle.grib_select.specs.Values.{fulfils_all}
 use Rattle.grib_select.specs.Single.{single_of}
 use Rattle.grib2_message.specs.Fields.{field_count}
+use Rattle.grib_engine.specs.Pending.{Writes}
 use Rattle.grib_engine.specs.Tasks.{texts_from, all_fulfil, single_if, filtered}
 use Rattle.grib_engine.proofs.Outside.{front_more}
 use Rattle.grib_engine.proofs.Pending.{texts_more, texts_join}
 
+-- whether n fields from field i on fulfil the conditions
+abbrev pub all_from : List Condition → List ℕ → ℕ → ℕ → Bool
+all_from conditions message i n = list_all (λ j. fulfils_all message j conditions) (range_with_len i n)
+
+one_more : (i n : ℕ) → 1 ≤ n → range_with_len i n ≡ i ∷ range_with_len (i + 1) (n - 1)
+one_more i zero some = absurd (omega arith)
+one_more i (suc n) some = ap (λ (k : ℕ). i ∷ range_with_len (i + 1) k) (let e : n ≡ suc n - 1 = omega arith in e)
+
+pub all_on : (conditions : List Condition) (message : List ℕ) (i n : ℕ) → 1 ≤ n → fulfils_all message i conditions ≡ true
+    → all_from conditions message i n ≡ all_from conditions message (i + 1) (n - 1)
+all_on conditions message i n some here =
+    ap (list_all (λ j. fulfils_all message j conditions)) (one_more i n some)
+    ∙ ap (λ b. b && all_from conditions message (i + 1) (n - 1)) here
+
+pub all_off : (conditions : List Condition) (message : List ℕ) (i n : ℕ) → 1 ≤ n → fulfils_all message i conditions ≡ false
+    → all_from conditions message i n ≡ false
+all_off conditions message i n some none =
+    ap (list_all (λ j. fulfils_all message j conditions)) (one_more i n some)
+    ∙ ap (λ b. b && all_from conditions message (i + 1) (n - 1)) none
+
 -- whether a field is written
 pub is_single : (conditions : List Condition) (message : List ℕ) (i : ℕ) → fulfils_all message i conditions ≡ true → single_if conditions message i ≡ single_of message i
-is_single conditions message i yes = ap (λ b. choose b (λ _. single_of message i) (λ _. [])) yes
+is_single conditions message i here = ap (λ b. choose b (λ _. single_of message i) (λ _. [])) here
 
 pub is_nothing : (conditions : List Condition) (message : List ℕ) (i : ℕ) → fulfils_all message i conditions ≡ false → single_if conditions message i ≡ []
-is_nothing conditions message i not = ap (λ b. choose b (λ _. single_of message i) (λ _. [])) not
+is_nothing conditions message i none = ap (λ b. choose b (λ _. single_of message i) (λ _. [])) none
 
 -- whether the message is written whole
 pub is_whole : (conditions : List Condition) (message : List ℕ) → all_fulfil conditions message ≡ true → filtered conditions message ≡ message
-is_whole conditions message yes = ap (λ b. choose b (λ _. message) (λ _. texts_from (single_if conditions message) (field_count message) 1)) yes
+is_whole conditions message all = ap (λ b. choose b (λ _. message) (λ _. texts_from (single_if conditions message) (field_count message) 1)) all
 
 pub is_parted : (conditions : List Condition) (message : List ℕ) → all_fulfil conditions message ≡ false
     → filtered conditions message ≡ texts_from (single_if conditions message) (field_count message) 1
-is_parted conditions message not = ap (λ b. choose b (λ _. message) (λ _. texts_from (single_if conditions message) (field_count message) 1)) not
+is_parted conditions message some = ap (λ b. choose b (λ _. message) (λ _. texts_from (single_if conditions message) (field_count message) 1)) some
 
 -- a field more was written
 pub text_written : (a b c : Option (List ℕ)) (text : ℕ → List ℕ) (k field : ℕ) → field ≡ 1 + k → Appends a b (texts_from text k 1)
@@ -56,3 +78,10 @@ text_counted text k field before more is so_far here =
     let e : length (texts_from text (k + 1) 1) ≡ length (texts_from text k 1 ++ text field) =
     ap length (texts_more text k 1 ∙ ap (λ n. texts_from text k 1 ++ text n) (sym is)) in
     omega (arith, length-append (texts_from text k 1) (text field))
+
+-- all were written
+pub texts_whole : {E : Type 0} (a b : Option (List ℕ)) (text : ℕ → List ℕ) (k n count : ℕ) → k ≡ n → Appends a b (texts_from text k 1)
+    → Writes {E = E} (Ok count) a b (texts_from text n 1)
+texts_whole a b text k n count is told =
+    let all : Appends a b (texts_from text n 1) = subst (λ m. Appends a b (texts_from text m 1)) is told in
+    record { whole = all; front = (texts_from text n 1, [], sym (append-nil (texts_from text n 1)), all) }

@@ -106,14 +106,14 @@ put_both a b c name octets empty others is others_then =
     (on_shelf (Some b) (Some c) (adds name octets) (written_adds name octets)
     (added b c name [] octets empty (is ∙ ap (λ (h : Option (List ℕ)). Some (unwrap_or h [] ++ octets)) empty) others_then) output)
 
-put_cut : {T E : Type 0} (e : E) (a b c : Held) (name octets : List ℕ) → b name ≡ Some [] → OthersAsBefore a b name → AddsPiece {T} {E} (Err e) octets (b name) (c name)
+put_cut : (T : Type 0) {E : Type 0} (e : E) (a b c : Held) (name octets : List ℕ) → b name ≡ Some [] → OthersAsBefore a b name → AddsPiece {T = T} {E = E} (Err e) octets (b name) (c name)
     → OthersAsBefore b c name → DidFrontOnShelf (Some a) (Some c) (puts (part name octets))
-put_cut e a b c name octets empty others (inl same) others_then =
+put_cut T e a b c name octets empty others (inl same) others_then =
     front_told (Some a) (Some c) (Makes name ∷ []) (adds name octets) _ refl
     (λ output. did_still (world output (Some a)) (world output (Some b)) (world output (Some c)) (Makes name ∷ [])
     (on_shelf (Some a) (Some b) (Makes name ∷ []) refl (made a b name empty others) output)
     (on_shelf (Some b) (Some c) [] refl (still b c name same others_then) output))
-put_cut e a b c name octets empty others (inr (front, rest, is, now)) others_then =
+put_cut T e a b c name octets empty others (inr (front, rest, is, now)) others_then =
     front_told (Some a) (Some c) (puts (part name front)) (adds name rest) (puts (part name octets))
     (ap (λ acts. Makes name ∷ acts) (ap (adds name) is ∙ adds-append name front rest)) (put_both a b c name front empty others now others_then)
 
@@ -125,11 +125,11 @@ put_added result (Some a) (Some b) None name octets empty others now others_then
 put_added (Ok x) (Some a) (Some b) (Some c) name octets empty others now others_then =
     let did = put_both a b c name octets empty others now others_then in
     record { whole = did; front = λ output. front_whole (world output (Some a)) (world output (Some c)) (puts (part name octets)) (did output) }
-put_added {T} {E} (Err e) (Some a) (Some b) (Some c) name octets empty others now others_then =
-    record { whole = tt; front = put_cut {T} {E} e a b c name octets empty others now others_then }
+put_added {T = T} {E = E} (Err e) (Some a) (Some b) (Some c) name octets empty others now others_then =
+    record { whole = tt; front = put_cut T e a b c name octets empty others now others_then }
 
 -- what was told whole
-pub whole_told : {T E : Type 0} (x : T) (a b : Option Held) (acts : List Act) → DidOnShelf a b acts → Shelves {T} {E} (Ok x) a b acts
+pub whole_told : {T E : Type 0} (x : T) (a b : Option Held) (acts : List Act) → DidOnShelf a b acts → Shelves {T = T} {E = E} (Ok x) a b acts
 whole_told x a b acts did = record { whole = did; front = λ output. front_whole (world output a) (world output b) acts (did output) }
 
 -- ---- a field
@@ -139,7 +139,7 @@ part_is name octets shown_name shown named is = ap (λ n. part n shown) named �
 
 -- a field that was put whole
 pub field_whole : {T E : Type 0} (x : T) (a b : Option Held) (name octets shown_name shown : List ℕ) → shown_name ≡ name → shown ≡ octets
-    → Shelves {T} {E} (Ok x) a b (puts (part shown_name shown)) → {U : Type 0} (y : U) → Shelves {U} {E} (Ok y) a b (puts (part name octets))
+    → Shelves {T = T} {E = E} (Ok x) a b (puts (part shown_name shown)) → {U : Type 0} (y : U) → Shelves {T = U} {E = E} (Ok y) a b (puts (part name octets))
 field_whole x a b name octets shown_name shown named is told y = record {
   whole = subst (λ p. DidOnShelf a b (puts p)) (part_is name octets shown_name shown named is) told.whole;
   front = subst (λ p. DidFrontOnShelf a b (puts p)) (part_is name octets shown_name shown named is) told.front;

@@ -77,7 +77,7 @@ other_puts name octets other held differs =
     ap (λ same. held_after other (cond same (Some []) held) (adds name octets)) differs ∙ other_adds other name held octets differs
 
 differs : (name other : List ℕ) → name ≢ other → bytes_eq name other ≡ false
-differs name other no = ⊎_elim (λ yes. absurd (no ((bytes_eq-Decides name other).0 yes))) (λ differs. differs) (cases_Bool (bytes_eq name other))
+differs name other unlike = ⊎_elim (λ same. absurd (unlike ((bytes_eq-Decides name other).0 same))) (λ differs. differs) (cases_Bool (bytes_eq name other))
 
 begun : (p : Part) (front more : List Act) (held : Option (List ℕ)) → puts p ≡ front ++ more → MayBeBegun p held (held_after p.name held front)
 begun p front more held is = elim (cut_puts p front more is) [
@@ -86,9 +86,9 @@ begun p front more held is = elim (cut_puts p front more is) [
 ]
 
 apart : (p : Part) (front more : List Act) (other : List ℕ) (held : Option (List ℕ)) → puts p ≡ front ++ more → p.name ≢ other → held_after other held front ≡ held
-apart p front more other held is no = elim (cut_puts p front more is) [
+apart p front more other held is unlike = elim (cut_puts p front more is) [
   | inl none ↦ ap (held_after other held) none
-  | inr (first, rest, same, acts) ↦ ap (held_after other held) acts ∙ other_puts p.name first other held (differs p.name other no)
+  | inr (first, rest, same, acts) ↦ ap (held_after other held) acts ∙ other_puts p.name first other held (differs p.name other unlike)
 ]
 
 -- ---- parts whose names differ
@@ -132,7 +132,7 @@ stand_first (p ∷ parts) distinct front rest is before now did = elim (cut (put
       let (count, stands) = stand_first parts distinct.1 more rest on then now
       (λ name. did name ∙ (ap (held_after name (before name)) past ∙ held-append name (before name) (puts p) more)) in
       let keeps : (name : List ℕ) → p.name ≢ name → then name ≡ before name =
-      λ name no. other_puts p.name p.octets name (before name) (differs p.name name no) in (
+      λ name unlike. other_puts p.name p.octets name (before name) (differs p.name name unlike) in (
         suc count,
         record {
           whole = All-cons (λ (part : Part). now part.name ≡ Some part.octets) p (take count parts)

@@ -83,7 +83,7 @@ pub fn answer_message<T: Sink, H: Shelf>(
             shelf,
         ),
         Job::Set(changes) => write_set(alloc, changes.as_slice(), place, message, output, shelf),
-        Job::Split(name) => split(alloc, name, place, message, shelf),
+        Job::Split(name) => split(alloc, name, place, message, output, shelf),
         Job::Make { .. } => Answered::Whole(0),
     }
 }

@@ -1,9 +1,9 @@
 //! The fields of a message on a shelf, each as a message of its own.
 
-ghost use Rattle.std.specs.Prelude.{◌≡◌, ◌≢◌, ◌+◌, ◌*◌, ◌≤◌, ◌^◌, ℕ, List, string_bytes, length, IfOk};
-ghost use Rattle.std.specs.declared.option.Option.{Option};
+ghost use Rattle.std.specs.Prelude.{◌≡◌, ◌≢◌, ◌+◌, ◌*◌, ◌≤◌, ◌^◌, string_bytes, length, IfOk};
 ghost use Rattle.grib_io.specs.Outside.{Counted, CountsStops};
 ghost use Rattle.grib2_message.specs.Fields.{field_count};
+ghost use Rattle.grib2_message.specs.Message.{IsMessage};
 ghost use Rattle.grib_select.specs.Single.{single_of};
 ghost use Rattle.grib_stream.specs.Acts.{world};
 ghost use Rattle.grib_stream.specs.Task.{Gives};
@@ -15,29 +15,32 @@ ghost use Rattle.grib_engine.specs.declared.answering.Answered.TheVariants.{Writ
 
 use crate::answering::Answered;
 use crate::name::Name;
-use grib_io::{Shelf, Stop};
+use grib_io::{Shelf, Sink, Stop};
 use grib_select::single;
 use grib_stream::Place;
 use grib2_message::Message;
 use std::alloc::{AllocError, Global};
 
 /// Puts each field of a message at this place on the shelf, as a message of its own under the name with
-/// the number of the field in the whole input.
-pub(crate) fn split<H: Shelf>(
+/// the number of the field in the whole input. Nothing is written.
+pub(crate) fn split<T: Sink, H: Shelf>(
     alloc: Global,
     name: &Name,
     place: &Place,
     message: &Message<'_>,
+    output: &mut T,
     shelf: &mut H,
 ) -> Answered
     requires { place.now.fields ≤ 2 ^ 41 }
-    ensures answers { (output : Option (List ℕ)) → Answers result place.now.message
+    ensures answers { Answers result place.now.message
         (Gives (puts_all (parts_of name.now place.now.fields message.now))
         (octets_within (parts_of name.now place.now.fields message.now)))
-        (world output (H.contents shelf.old)) (world output (H.contents shelf.new)) }
+        (world (T.contents output.old) (H.contents shelf.old))
+        (world (T.contents output.new) (H.contents shelf.new)) }
     ensures shelf_fault { result ≡ ShelfFault → Counted (H.faults shelf.old) (H.faults shelf.new) }
     ensures shelf_calm { result ≢ ShelfFault → H.faults shelf.new ≡ H.faults shelf.old }
     ensures unwritten { result ≢ WriteFault }
+    ensures output { output.new ≡ output.old }
 {
     match put_fields(alloc, name, place.fields, message, shelf) {
         Ok(written) => Answered::Whole(written),
@@ -61,6 +64,8 @@ fn put_fields<H: Shelf>(
         ≡ octets_within (parts_of name.now before message.now)) }
     ensures counted { CountsStops result (H.faults shelf.old) (H.faults shelf.new) }
 {
+    // That the message is accepted bounds the octets of each field.
+    let _accepted = message.octets();
     let mut written = 0;
     let count = message.fields();
     for index in 0..count {
@@ -78,6 +83,7 @@ fn put_field<H: Shelf>(
     field: u32,
     shelf: &mut H,
 ) -> Result<u64, Stop>
+    requires message { IsMessage message.now }
     requires before { before ≤ 2 ^ 41 }
     requires first { 1 ≤ field }
     requires last { field ≤ field_count message.now }

@@ -14,3 +14,4 @@ pub mod Marks
 pub mod Back
 pub mod Pieces
 pub mod Same
+pub mod Measures

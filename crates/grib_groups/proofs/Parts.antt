@@ -121,7 +121,7 @@ module _ (lengths : List ℕ) (i : ℕ) (within : i < length lengths) where
         total = omega (arith, h.total, sum-more l (drop (i + 1) lengths), ap length is, length-drop l rest);
       }
 
-  runs-next : (rest : List Code) → runs (drop i lengths) rest ≡ take (get_or lengths i 0) rest ∷ runs (drop (i + 1) lengths) (drop (get_or lengths i 0) rest)
+  pub runs-next : (rest : List Code) → runs (drop i lengths) rest ≡ take (get_or lengths i 0) rest ∷ runs (drop (i + 1) lengths) (drop (get_or lengths i 0) rest)
   runs-next rest = ap (λ ns. runs ns rest) (drop-next lengths i within)
 
   pub fits-next : (P : List Code → Type 0) (rest after : List Code) → after ≡ drop (get_or lengths i 0) rest → All P (runs (drop i lengths) rest)

@@ -1,18 +1,36 @@
 -- What groups are written from.
-use Rattle.std.specs.Prelude.{◌≡◌, ℕ, ◌+◌, ◌-◌, ◌^◌, ◌<◌, ◌≤◌, None, List, length, drop, get_or, sum, All}
+use Rattle.std.specs.Prelude.{◌≡◌, ℕ, ◌+◌, ◌-◌, ◌^◌, ◌<◌, ◌≤◌, None, Bool, cond, ◌==◌, List, [], ◌∷◌, length, drop, get_or, map, sum, All}
 use Rattle.grib_io.specs.declared.code.Code.{Code}
 use Rattle.grib_io.specs.declared.code.Code.TheVariants.{Present, Primary, Secondary}
 use Rattle.grib_io.specs.Rows.{first_fault}
 use Rattle.grib_packing.specs.declared.layout.Layout.{Layout}
-use Rattle.grib_packing.specs.Groupings.{IsGrouping, length_bits, reference_bits_of, width_bits_of}
+use Rattle.grib_packing.specs.Groupings.{IsGrouping, length_bits, reference_bits_of, width_bits_of, width_of}
+use Rattle.grib_packing.specs.Packed.{fields, packed_number, reference_of}
 use Rattle.grib_packing.specs.Groups.{group_rows, grouped, lengths, list_rows, widths}
 use Rattle.grib_packing.specs.Span.{IsTold}
+use Rattle.grib_groups.specs.declared.measuring.Measure.{Measure}
 
 -- a number is no less than the reference of its group, and its packed number has no more bits than the width
 abbrev pub IsPackable : ℕ → ℕ → Code → Type 0
 IsPackable width reference (Present n) = (reference ≤ n) × (n - reference < 2 ^ width)
 IsPackable width reference Primary = Unit {0}
 IsPackable width reference Secondary = Unit {0}
+
+-- the reference, where references have b bits, and the width of a run, where k codes are reserved
+pub record IsMeasure (k b : ℕ) (measure : Measure) (run : List Code) : Type 0 where
+  pub reference : measure.reference ≡ reference_of b run
+  pub width : measure.width ≡ width_of k run
+
+-- the packed numbers of a run with this reference and width; of width 0 there are none
+abbrev pub measured_fields : Measure → List Code → List Bool
+measured_fields measure run =
+    cond (measure.width == 0) [] (fields measure.width (map (packed_number measure.width measure.reference) run))
+
+-- the references and widths of the first runs, as many as there are
+abbrev pub AreMeasures : ℕ → ℕ → List Measure → List (List Code) → Type 0
+AreMeasures k b measures [] = Unit {0}
+AreMeasures k b [] (run ∷ groups) = Unit {0}
+AreMeasures k b (measure ∷ measures) (run ∷ groups) = IsMeasure k b measure run × AreMeasures k b measures groups
 
 -- the layout of codes that are written as groups of these lengths
 pub record LaysOut (layout : Layout) (codes : List Code) (lengths : List ℕ) : Type 0 where

@@ -4,9 +4,10 @@ ghost use Rattle.std.specs.Prelude.{◌≡◌, ◌+◌, ◌-◌, ◌*◌, ◌%�
 ghost use Rattle.grib_packing.specs.Groupings.{IsGrouping, joined, length_bits, reference_bits_of, runs, width_bits_of, width_of};
 ghost use Rattle.grib_packing.specs.Packed.{fields, group_fields, group_parts, packed_number, padded, reference_of};
 ghost use Rattle.grib_packing.specs.Span.{IsTold, IsBelow};
-ghost use Rattle.grib_groups.specs.Encoding.{IsPackable};
+ghost use Rattle.grib_groups.specs.Encoding.{AreMeasures, IsPackable, measured_fields};
 
 use crate::Layout;
+use crate::measuring::{Measure, later_measures, next_measure};
 use grib_bits::BitWriter;
 use grib_io::Code;
 use grib_packing::Span;
@@ -28,12 +29,38 @@ pub fn encode_groups(codes: &[Code], lengths: &[u32], layout: &Layout, out: &mut
     ensures bits { out.new.bits ≡ out.old.bits ++ group_parts layout.now.management codes.now lengths.now }
     ensures spare { out.new.spare + length (group_parts layout.now.management codes.now lengths.now) ≡ out.old.spare }
 {
+    encode_measured_groups(codes, lengths, &[], layout, out);
+}
+
+/// Writes the same, where the references and widths of the first groups are known: the codes of these groups
+/// are read once, and those of the others three times.
+pub fn encode_measured_groups(
+    codes: &[Code],
+    lengths: &[u32],
+    known: &[Measure],
+    layout: &Layout,
+    out: &mut BitWriter,
+)
+    requires management { layout.now.management ≤ 2 }
+    requires references { layout.now.reference_bits ≡ reference_bits_of layout.now.management codes.now }
+    requires widths { layout.now.width_bits ≡ width_bits_of layout.now.management codes.now }
+    requires lengths { layout.now.length_bits ≡ length_bits }
+    requires grouping { IsGrouping (length codes.now) lengths.now }
+    requires most { length codes.now ≤ 33554432 }
+    requires codes { All (IsTold layout.now.management) codes.now }
+    requires known { AreMeasures layout.now.management layout.now.reference_bits known.now (runs lengths.now codes.now) }
+    requires whole { length out.old.bits % 8 ≡ 0 }
+    requires room { length (group_parts layout.now.management codes.now lengths.now) ≤ out.old.spare }
+    ensures bits { out.new.bits ≡ out.old.bits ++ group_parts layout.now.management codes.now lengths.now }
+    ensures spare { out.new.spare + length (group_parts layout.now.management codes.now lengths.now) ≡ out.old.spare }
+{
     let reserved = u32::from(layout.management);
-    let reference_bits = u32::from(layout.reference_bits);
-    put_references(codes, lengths, reference_bits, out);
-    put_widths(codes, lengths, reserved, u32::from(layout.width_bits), out);
+    let bits = u32::from(layout.reference_bits);
+    let width_bits = u32::from(layout.width_bits);
+    put_references(codes, lengths, known, reserved, bits, out);
+    put_widths(codes, lengths, known, reserved, bits, width_bits, out);
     put_lengths(lengths, out);
-    put_numbers(codes, lengths, reserved, reference_bits, out);
+    put_numbers(codes, lengths, known, reserved, bits, out);
 }
 
 /// Writes so many codes that are all the same as groups of these lengths, as [`encode_groups`] does. Such
@@ -71,9 +98,19 @@ fn put_same(reference: u64, bits: u32, lengths: &[u32], out: &mut BitWriter)
 }
 
 /// Writes the reference of each group.
-fn put_references(codes: &[Code], lengths: &[u32], bits: u32, out: &mut BitWriter)
+fn put_references(
+    codes: &[Code],
+    lengths: &[u32],
+    known: &[Measure],
+    reserved: u32,
+    bits: u32,
+    out: &mut BitWriter,
+)
     requires few { bits ≤ 32 }
+    requires reserved { reserved ≤ 2 }
     requires grouping { IsGrouping (length codes.now) lengths.now }
+    requires codes { All (IsBelow reserved) codes.now }
+    requires known { AreMeasures reserved bits known.now (runs lengths.now codes.now) }
     requires fits { All (λ run. reference_of bits run < 2 ^ bits) (runs lengths.now codes.now) }
     requires whole { length out.old.bits % 8 ≡ 0 }
     requires room { length (padded (fields bits (map (reference_of bits) (runs lengths.now codes.now)))) ≤ out.old.spare }
@@ -81,20 +118,33 @@ fn put_references(codes: &[Code], lengths: &[u32], bits: u32, out: &mut BitWrite
     ensures spare { out.new.spare + length (padded (fields bits (map (reference_of bits) (runs lengths.now codes.now)))) ≡ out.old.spare }
 {
     let mut rest = codes;
+    let mut told = known;
     for length in lengths {
         let (run, after) = rest.split_at(*length as usize);
-        out.put(Span::of(run).reference(bits), bits);
+        let measure = next_measure(told, run, reserved, bits);
+        out.put(u64::from(measure.reference), bits);
         rest = after;
+        told = later_measures(told);
     }
     out.align();
 }
 
-/// Writes the width of each group.
-fn put_widths(codes: &[Code], lengths: &[u32], reserved: u32, bits: u32, out: &mut BitWriter)
+/// Writes the width of each group, in so many bits.
+fn put_widths(
+    codes: &[Code],
+    lengths: &[u32],
+    known: &[Measure],
+    reserved: u32,
+    reference_bits: u32,
+    bits: u32,
+    out: &mut BitWriter,
+)
     requires few { bits ≤ 64 }
+    requires references { reference_bits ≤ 32 }
     requires reserved { reserved ≤ 2 }
     requires grouping { IsGrouping (length codes.now) lengths.now }
     requires codes { All (IsBelow reserved) codes.now }
+    requires known { AreMeasures reserved reference_bits known.now (runs lengths.now codes.now) }
     requires fits { All (λ run. width_of reserved run < 2 ^ bits) (runs lengths.now codes.now) }
     requires whole { length out.old.bits % 8 ≡ 0 }
     requires room { length (padded (fields bits (map (width_of reserved) (runs lengths.now codes.now)))) ≤ out.old.spare }
@@ -102,10 +152,13 @@ fn put_widths(codes: &[Code], lengths: &[u32], reserved: u32, bits: u32, out: &m
     ensures spare { out.new.spare + length (padded (fields bits (map (width_of reserved) (runs lengths.now codes.now)))) ≡ out.old.spare }
 {
     let mut rest = codes;
+    let mut told = known;
     for length in lengths {
         let (run, after) = rest.split_at(*length as usize);
-        out.put(u64::from(Span::of(run).width(reserved)), bits);
+        let measure = next_measure(told, run, reserved, reference_bits);
+        out.put(u64::from(measure.width), bits);
         rest = after;
+        told = later_measures(told);
     }
     out.align();
 }
@@ -125,38 +178,51 @@ fn put_lengths(lengths: &[u32], out: &mut BitWriter)
 }
 
 /// Writes the packed numbers of all groups.
-fn put_numbers(codes: &[Code], lengths: &[u32], reserved: u32, bits: u32, out: &mut BitWriter)
+fn put_numbers(
+    codes: &[Code],
+    lengths: &[u32],
+    known: &[Measure],
+    reserved: u32,
+    bits: u32,
+    out: &mut BitWriter,
+)
     requires few { bits ≤ 32 }
     requires reserved { reserved ≤ 2 }
     requires grouping { IsGrouping (length codes.now) lengths.now }
     requires codes { All (IsBelow reserved) codes.now }
+    requires known { AreMeasures reserved bits known.now (runs lengths.now codes.now) }
     requires whole { length out.old.bits % 8 ≡ 0 }
     requires room { length (padded (joined (map (group_fields reserved bits) (runs lengths.now codes.now)))) ≤ out.old.spare }
     ensures bits { out.new.bits ≡ out.old.bits ++ padded (joined (map (group_fields reserved bits) (runs lengths.now codes.now))) }
     ensures spare { out.new.spare + length (padded (joined (map (group_fields reserved bits) (runs lengths.now codes.now)))) ≡ out.old.spare }
 {
     let mut rest = codes;
+    let mut told = known;
     for length in lengths {
         let (run, after) = rest.split_at(*length as usize);
-        put_group(run, reserved, bits, out);
+        let measure = next_measure(told, run, reserved, bits);
+        put_group(run, measure, out);
         rest = after;
+        told = later_measures(told);
     }
     out.align();
 }
 
-/// Writes the packed numbers of one group.
-fn put_group(run: &[Code], reserved: u32, bits: u32, out: &mut BitWriter)
-    requires few { bits ≤ 32 }
-    requires reserved { reserved ≤ 2 }
-    requires codes { All (IsBelow reserved) run.now }
-    requires room { length (group_fields reserved bits run.now) ≤ out.old.spare }
-    ensures bits { out.new.bits ≡ out.old.bits ++ group_fields reserved bits run.now }
-    ensures spare { out.new.spare + length (group_fields reserved bits run.now) ≡ out.old.spare }
+/// Writes the packed numbers of one group with this reference and width.
+fn put_group(run: &[Code], measure: Measure, out: &mut BitWriter)
+    requires few { measure.width ≤ 32 }
+    requires codes { 1 ≤ measure.width → All (IsPackable measure.width measure.reference) run.now }
+    requires room { length (measured_fields measure run.now) ≤ out.old.spare }
+    ensures bits { out.new.bits ≡ out.old.bits ++ measured_fields measure run.now }
+    ensures spare { out.new.spare + length (measured_fields measure run.now) ≡ out.old.spare }
 {
-    let span = Span::of(run);
-    let width = span.width(reserved);
-    if width > 0 {
-        put_codes(run, width, span.reference(bits), out);
+    if measure.width > 0 {
+        put_codes(
+            run,
+            u32::from(measure.width),
+            u64::from(measure.reference),
+            out,
+        );
     }
 }
 

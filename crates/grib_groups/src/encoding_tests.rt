@@ -75,7 +75,7 @@ fn a_number_that_would_be_all_ones(rt: HostRuntime) -> Result<(), Fail> {
 }
 
 #[test]
-fn a_group_of_width_0(rt: HostRuntime) -> Result<(), Fail> {
+fn a_group_of_width_0_with_known_references_and_widths(rt: HostRuntime) -> Result<(), Fail> {
     let codes = [
         Code::Present(0),
         Code::Present(0),
@@ -92,7 +92,8 @@ fn a_group_of_width_0(rt: HostRuntime) -> Result<(), Fail> {
         groups: 2,
         ..LAYOUT
     };
-    encode_groups(&codes, &[2, 2], &layout, &mut out);
+    let known = measures_of(rt.alloc(), &codes, &[2, 2], 0, 5)?;
+    encode_measured_groups(&codes, &[2, 2], &known, &layout, &mut out);
     let octets = out.into_octets();
     let expected = [0x02, 0xc0, 0x0c, 0x04, 0x10, 0xa0];
     assert_eq!(rt; octets.as_slice(), expected.as_slice());

@@ -10,6 +10,7 @@ mod feeding;
 pub mod laws;
 mod list_feeding;
 mod lists;
+mod measuring;
 mod numbers;
 mod run;
 mod table;
@@ -18,13 +19,14 @@ mod taker;
 mod tests;
 
 pub use decoding::{decode_groups, read_groups, take_codes, take_groups};
-pub use encoding::{encode_groups, encode_same};
+pub use encoding::{encode_groups, encode_measured_groups, encode_same};
 pub use feeding::{Fed, part_of, rest_of};
 pub use grib_packing::{Group, Layout};
 pub use list_feeding::FedLists;
 pub use lists::{
     Lengths, Lists, References, Widths, lists_fit, octets_of, octets_of_lists, plain_layout,
 };
+pub use measuring::{Measure, later_measures, measures_of, next_measure};
 pub use numbers::Numbers;
 pub use table::Table;
 pub use taker::Taker;

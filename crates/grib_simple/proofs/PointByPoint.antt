@@ -1,5 +1,6 @@
 -- Lemmas on points that are written one after another.
 use Rattle.std.proofs.Common.{◌≡◌, ℕ, zero, suc, ◌+◌, ◌*◌, ◌%◌, ◌^◌, ◌<◌, ◌≤◌, Bool, true, false, not, ℤ, nat_abs, List, [], ◌∷◌, ◌++◌, length, take, drop, get_or, replicate, bit_or, All, refl, sym, ap, ap₂, ◌∙◌, arith, append_assoc, subst, drop-cons}
+use Rattle.std.specs.List.{list_any}
 use Rattle.std.proofs.lemmas.List.{take_more, map-append}
 use Rattle.std.proofs.lemmas.List.Elements.{All-head, All-tail}
 use Rattle.grib_bits.specs.Bits.{bits, bits_of, digit}
@@ -7,7 +8,7 @@ use Rattle.grib_bits.specs.Written.{Written, padding}
 use Rattle.grib_bits.proofs.Numbers.{length-bits_of, bits_of-shl_or, shl_or-lt}
 use Rattle.grib_packing.specs.declared.column.Point.{Point}
 use Rattle.grib_packing.specs.declared.column.Point.TheVariants.{Scaled, Missing, Missing2}
-use Rattle.grib_packing.specs.Misfits.{is_missing}
+use Rattle.grib_packing.specs.Misfits.{is_missing, is_missing2}
 use Rattle.grib_packing.specs.Packed.{fields, padded, present_bits, simple_numbers}
 use Rattle.grib_packing.proofs.Left.{Left, left_more, left_room, padding-behind}
 
@@ -28,6 +29,15 @@ module _ (points : List Point) (i word bit : ℕ) (d : Point) (within : i < leng
 
   pub word_lt : word < 2 ^ i → bit_or (word * 2 ^ 1 % 2 ^ 64) bit < 2 ^ (i + 1)
   word_lt before = shl_or-lt i 1 word bit (omega arith) before small
+
+-- ---- no scaled numbers
+
+pub all_missing : (points : List Point) → list_any is_missing2 points ≡ false → length (simple_numbers points) ≡ 0
+    → present_bits points ≡ replicate (length points) false
+all_missing [] one_kind none = refl
+all_missing (Scaled x ∷ points) one_kind none = absurd (cc)
+all_missing (Missing ∷ points) one_kind none = ap (λ (bs : List Bool). false ∷ bs) (all_missing points one_kind none)
+all_missing (Missing2 ∷ points) one_kind none = absurd (cc)
 
 -- ---- scaled numbers
 

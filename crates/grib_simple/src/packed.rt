@@ -13,7 +13,8 @@ use std::alloc::Global;
 
 /// Sections 5, 6 and 7 of a column: the numbers of the points that are not missing in the least bits,
 /// and a bitmap where a point is missing. `kind` is the type of the original values (code table 5.1).
-/// It looks at all points first, takes all its memory, and then writes.
+/// It looks at all points first, takes all its memory, and then writes. A field that is wholly missing is
+/// written without looking again.
 ///
 /// # Errors
 ///
@@ -33,7 +34,7 @@ pub fn pack_simply(alloc: Global, column: &Column, kind: u8) -> Result<Packed, P
     let section7 = room_for(alloc, octets)?;
     Ok(Packed {
         section5: representation_section(column, survey.present, bits as u8, kind, section5),
-        section6: bitmap_section(points, survey.missing, section6),
+        section6: bitmap_section(points, survey.present, survey.missing, section6),
         section7: values_section(points, bits, octets, section7),
     })
 }

@@ -1,9 +1,9 @@
 //! Simple packing as it is written.
 
-ghost use Rattle.std.specs.Prelude.{◌≡◌, ◌+◌, ◌*◌, ◌/◌, ◌^◌, ◌<◌, ◌≤◌, ◌++◌, [], cond, not, length, All};
+ghost use Rattle.std.specs.Prelude.{◌≡◌, ◌+◌, ◌*◌, ◌/◌, ◌^◌, ◌<◌, ◌≤◌, ◌++◌, [], cond, not, false, replicate, length, All};
 ghost use Rattle.std.specs.List.{list_any};
 ghost use Rattle.grib_bits.specs.Bits.{bits_of, digit};
-ghost use Rattle.grib_packing.specs.Misfits.{is_missing as is_missing_point};
+ghost use Rattle.grib_packing.specs.Misfits.{is_missing as is_missing_point, is_missing2};
 ghost use Rattle.grib_packing.specs.Packed.{HasContents, HasNumbers, IsBitmap, fields, no_bitmap_section, present_bits, simple_numbers};
 
 use crate::sections::{octets_written, write_head, write_numbers};
@@ -32,16 +32,18 @@ pub fn representation_section(
 }
 
 /// Section 6, in a writer that has room for it: without a bitmap where no point is missing (WMO-No. 306,
-/// Volume I.2, FM 92 GRIB edition 2, code table 6.0).
-pub fn bitmap_section(points: &[Point], missing: bool, mut room: BitWriter) -> List<u8>
+/// Volume I.2, FM 92 GRIB edition 2, code table 6.0). So many points have a scaled number.
+pub fn bitmap_section(points: &[Point], present: u32, missing: bool, room: BitWriter) -> List<u8>
     requires few { length points.now ≤ 33554432 }
+    requires one_kind { list_any is_missing2 points.now ≡ false }
+    requires present { present ≡ length (simple_numbers points.now) }
     requires missing { missing ≡ list_any is_missing_point points.now }
     requires none { room.bits ≡ [] }
     requires room { 8 * cond missing (6 + (length points.now + 7) / 8) 6 ≤ room.spare }
     ensures { IsBitmap result points.now }
 {
     if missing {
-        own_bitmap(points, room)
+        own_bitmap(points, present, room)
     } else {
         no_bitmap(room)
     }
@@ -60,17 +62,48 @@ pub fn no_bitmap(mut room: BitWriter) -> List<u8>
 }
 
 /// Section 6 with a bitmap, in a writer that has room for it.
-fn own_bitmap(points: &[Point], mut room: BitWriter) -> List<u8>
+fn own_bitmap(points: &[Point], present: u32, mut room: BitWriter) -> List<u8>
     requires few { length points.now ≤ 33554432 }
+    requires one_kind { list_any is_missing2 points.now ≡ false }
+    requires present { present ≡ length (simple_numbers points.now) }
     requires none { room.bits ≡ [] }
     requires room { 48 + 8 * ((length points.now + 7) / 8) ≤ room.spare }
     ensures { HasContents 6 result (bits_of 8 0 ++ present_bits points.now) }
 {
     write_head(6 + (points.len() as u32).div_ceil(8), 6, &mut room);
     write_u8(0, &mut room);
-    put_present(points, &mut room);
+    put_bitmap(points, present, &mut room);
     room.align();
     octets_written(room)
+}
+
+/// Writes a bit for each point, 1 for those that are not missing. Where so many have a scaled number and
+/// these are none, no point is looked at.
+fn put_bitmap(points: &[Point], present: u32, out: &mut BitWriter)
+    requires few { length points.now ≤ 33554432 }
+    requires one_kind { list_any is_missing2 points.now ≡ false }
+    requires present { present ≡ length (simple_numbers points.now) }
+    requires room { length points.now ≤ out.old.spare }
+    ensures bits { out.new.bits ≡ out.old.bits ++ present_bits points.now }
+    ensures spare { out.new.spare + length points.now ≡ out.old.spare }
+{
+    if present == 0 {
+        put_zeros(points.len() as u32, out);
+    } else {
+        put_present(points, out);
+    }
+}
+
+/// Writes so many bits that are 0.
+fn put_zeros(count: u32, out: &mut BitWriter)
+    requires { count ≤ out.old.spare }
+    ensures bits { out.new.bits ≡ out.old.bits ++ replicate count false }
+    ensures spare { out.new.spare + count ≡ out.old.spare }
+{
+    for _word in 0..count / 64 {
+        out.put(0, 64);
+    }
+    out.put(0, count % 64);
 }
 
 /// Writes a bit for each point, 1 for those that are not missing.

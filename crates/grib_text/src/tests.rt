@@ -5,8 +5,10 @@ use crate::listed::{ListedField, field_line};
 use grib_dyadic::Dyadic;
 use grib_io::{Fault, Reason, Refusal};
 use grib_simple::Point;
+use grib1_sections::read_message1;
 use grib2_message::read_message;
 use grib2_sections::u8_at;
+use std::alloc::Global;
 use std::test::Fail;
 
 #[test]
@@ -70,6 +72,45 @@ fn message_has_its_line(rt: HostRuntime) -> Result<(), Fail> {
     Ok(())
 }
 
+/// A message of edition 1 of 2 by 2 points.
+const PLAIN: &[u8] = b"GRIB\0\0\x58\x01\
+\0\0\x1c\x02\x62\x01\xff\x80\x0b\x64\x01\xf4\x18\x01\x0f\x0c\0\x01\x06\0\0\0\0\0\x15\0\0\x01\
+\0\0\x20\0\xff\0\0\x02\0\x02\0\xc3\x50\0\x27\x10\x80\0\xbf\x68\0\x2a\xf8\x03\xe8\x03\xe8\0\0\0\0\0\
+\0\0\x10\x08\x80\x03\xc2\x76\xa0\0\x08\0\x01\x02\xff\07777";
+
+/// Another one, 76 years before the year 0, whose bitmap leaves out one point.
+const CENTURY_0: &[u8] = b"GRIB\0\0\x5f\x01\
+\0\0\x1c\x02\x62\x01\xff\xc0\x0b\x65\x01\xf4\x18\x0c\x1f\x17\x3b\x01\x06\x0c\x04\0\0\0\0\0\0\x01\
+\0\0\x20\0\xff\0\0\x02\0\x02\0\xc3\x50\0\x27\x10\x80\0\xbf\x68\0\x2a\xf8\x03\xe8\x03\xe8\0\0\0\0\0\
+\0\0\x07\x04\0\0\xbf\
+\0\0\x10\x08\x80\x03\xc2\x76\xa0\0\x08\0\x01\x02\xff\07777";
+
+/// The line of the message of edition 1 that these octets are.
+fn line_of(alloc: Global, octets: &[u8], number: u64) -> Result<Vec<u8>, Fail> {
+    if !octets.starts_with(b"GRIB") || octets.len() < 8 || u8_at(octets, 8) != 1 {
+        return Err(Fail::from("no message"));
+    }
+    match read_message1(alloc, octets) {
+        Ok(message) => Ok(list_line1(alloc, &message, number)?),
+        Err(_) => Err(Fail::from("refused")),
+    }
+}
+
+#[test]
+fn messages_of_edition_1_have_their_line(rt: HostRuntime) -> Result<(), Fail> {
+    let plain = line_of(rt.alloc(), PLAIN, 1)?;
+    assert_eq!(rt;
+        plain.as_slice(),
+        b"1.1 ed=1 centre=98 time=2024-01-15T12:00 grid=0 points=4 param=2.11 unit=1 range=0 p1=6 p2=0 level=100:500 bits=8 values=4\n".as_slice()
+    );
+    let early = line_of(rt.alloc(), CENTURY_0, 12)?;
+    assert_eq!(rt;
+        early.as_slice(),
+        b"12.1 ed=1 centre=98 time=-076-12-31T23:59 grid=0 points=4 param=2.11 unit=1 range=4 p1=6 p2=12 level=101:500 bits=8 values=3\n".as_slice()
+    );
+    Ok(())
+}
+
 #[test]
 fn missing_surface_and_earlier_time_are_printed(rt: HostRuntime) -> Result<(), Fail> {
     let listed = ListedField {
@@ -91,6 +132,11 @@ fn missing_surface_and_earlier_time_are_printed(rt: HostRuntime) -> Result<(), F
 fn reference_has_its_line(rt: HostRuntime) -> Result<(), Fail> {
     let reference = Dyadic::from_ieee(0xc2ed4000).ok().ok_or("not finite")?;
     let line = reference_line(rt.alloc(), &reference, 0x8003, 1)?;
+    assert_eq!(rt;
+        line.as_slice(),
+        b"reference -949*2^-3 binary -3 decimal 1\n".as_slice()
+    );
+    let line = reference_line(rt.alloc(), &Dyadic::from_ibm(0xc276a000), 0x8003, 1)?;
     assert_eq!(rt;
         line.as_slice(),
         b"reference -949*2^-3 binary -3 decimal 1\n".as_slice()

@@ -2,14 +2,18 @@ use Rattle.std.proofs.Common.{◌*◌, ◌≤◌, length, get_or, ap, ◌∙◌,
 use Rattle.std.proofs.Math.Nat.{mul-le-mul_left}
 use Rattle.grib_packing.specs.Groupings.{width_of}
 use Rattle.grib_packing.specs.Packed.{group_fields}
+use Rattle.grib_groups.proofs.Measures.{known-here, known-next, narrow}
 use Rattle.grib_groups.proofs.Parts.{no_parts, grouping-within, grouping-next, below_run, below_after}
 use Rattle.grib_complex.proofs.GroupByGroup.{next_bits}
 use Rattle.grib_complex.proofs.grouping.bits_of_each.Goals as goal
 
-pub width-requires-clause-small : goal.width-requires-clause-small
-width-requires-clause-small c =
-    c.of.ensures.small c.args.reserved c.requires.reserved
-    (below_run c.args.reserved c.loop-length.rest.now c.split_at.result.0.now _ c.split_at.ensures.front c.loop-length.invariant.codes)
+pub next_measure-measure-requires-clause-codes : goal.next_measure-measure-requires-clause-codes
+next_measure-measure-requires-clause-codes c = below_run c.args.reserved c.loop-length.rest.now c.split_at.result.0.now _ c.split_at.ensures.front c.loop-length.invariant.codes
+
+pub next_measure-measure-requires-clause-known : goal.next_measure-measure-requires-clause-known
+next_measure-measure-requires-clause-known c =
+    known-here c.args.reserved c.args.reference_bits c.args.lengths.now c.loop-length.length-index (omega arith) c.loop-length.told.now c.loop-length.rest.now c.split_at.result.0.now
+    c.split_at.ensures.front c.loop-length.invariant.known
 
 pub loop-length-preserved : goal.loop-length-preserved
 loop-length-preserved c =
@@ -19,12 +23,17 @@ loop-length-preserved c =
     let after = c.split_at.result.1.now in
     let l = get_or lengths i 0 in
     let fits = grouping-within lengths i c.loop-length-test.true (length rest) c.loop-length.invariant.grouping in
-    let most : l * c.width.result ≤ l * 32 = mul-le-mul_left l c.width.ensures.few in
-    let is = c.width.ensures.is c.split_at.result.0.now c.of.ensures.span ∙ ap (width_of c.args.reserved) c.split_at.ensures.front in
+    let below = below_run c.args.reserved rest c.split_at.result.0.now _ c.split_at.ensures.front c.loop-length.invariant.codes in
+    let few = narrow c.args.reserved c.args.reference_bits c.next_measure-measure.result c.split_at.result.0.now c.next_measure-measure.ensures c.requires.reserved below in
+    let most : l * c.from.result ≤ l * 32 = mul-le-mul_left l (omega (arith, few, c.from.ensures)) in
+    let is = c.from.ensures ∙ c.next_measure-measure.ensures.width ∙ ap (width_of c.args.reserved) c.split_at.ensures.front in
     record {
       grouping = grouping-next lengths i c.loop-length-test.true rest after c.split_at.ensures.back c.loop-length.invariant.grouping;
       codes = below_after c.args.reserved rest after l c.split_at.ensures.back c.loop-length.invariant.codes;
-      sum = λ b. omega (arith, c.loop-length.invariant.sum b, next_bits c.args.reserved b lengths i rest after c.width.result c.requires.reserved c.loop-length-test.true fits is c.split_at.ensures.back);
+      known =
+          known-next c.args.reserved c.args.reference_bits lengths i (omega arith) c.loop-length.told.now c.later_measures-told.result.now rest after c.later_measures-told.ensures c.split_at.ensures.back
+          c.loop-length.invariant.known;
+      sum = λ b. omega (arith, c.loop-length.invariant.sum b, next_bits c.args.reserved b lengths i rest after c.from.result c.requires.reserved c.loop-length-test.true fits is c.split_at.ensures.back);
       few = omega (arith, most, c.split_at.ensures.back_len, c.loop-length.invariant.few);
     }
 

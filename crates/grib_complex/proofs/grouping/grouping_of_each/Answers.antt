@@ -30,6 +30,10 @@ pub chosen_lengths-requires-clause-codes : goal.chosen_lengths-requires-clause-c
 chosen_lengths-requires-clause-codes c =
     subst (λ (j : ℕ). All (IsBelow j) c.args.codes.now) (sym c.from-reserved.ensures) (all_below c.args.management c.args.codes.now c.requires.codes)
 
+pub measures_of-requires-clause-codes : goal.measures_of-requires-clause-codes
+measures_of-requires-clause-codes c =
+    subst (λ (j : ℕ). All (IsBelow j) c.args.codes.now) (sym c.from-reserved.ensures) (all_below c.args.management c.args.codes.now c.requires.codes)
+
 pub overflow_cast-layout : goal.overflow_cast-layout
 overflow_cast-layout c =
     let chosen = c.in_ok-lengths.ensures in

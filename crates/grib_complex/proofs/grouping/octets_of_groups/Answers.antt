@@ -1,8 +1,9 @@
-use Rattle.std.proofs.Common.{◌≡◌, ℕ, ◌+◌, ◌*◌, ◌≤◌, length, map, All, sym, subst, arith}
+use Rattle.std.proofs.Common.{◌≡◌, ℕ, ◌+◌, ◌*◌, ◌≤◌, length, map, All, sym, subst, subst₂, arith}
 use Rattle.grib_packing.specs.Groupings.{joined, runs}
 use Rattle.grib_packing.specs.Packed.{group_fields}
 use Rattle.grib_packing.specs.Span.{IsBelow}
 use Rattle.grib_packing.proofs.Bounds.{all_below}
+use Rattle.grib_groups.specs.Encoding.{AreMeasures}
 use Rattle.grib_complex.proofs.GroupByGroup.{groups_few, references_few, widths_few, parts_octets}
 use Rattle.grib_complex.specs.FieldCodes.{codes_in}
 use Rattle.grib_complex.proofs.grouping.octets_of_groups.Goals as goal
@@ -12,7 +13,15 @@ bits_of_groups-bits-requires-clause-codes c =
     let layout = c.args.layout.now in
     let codes = codes_in c.args.codes.now in
     let below = all_below layout.management codes c.requires.lays_out.codes_are_told in
-    subst (λ (j : ℕ). All (IsBelow j) codes) (sym c.from.ensures) below
+    subst (λ (j : ℕ). All (IsBelow j) codes) (sym c.from-reserved.ensures) below
+
+pub bits_of_groups-bits-requires-clause-references : goal.bits_of_groups-bits-requires-clause-references
+bits_of_groups-bits-requires-clause-references c =
+    omega (arith, references_few c.args.layout.now (codes_in c.args.codes.now) c.args.lengths.now c.requires.lays_out, c.from-reference_bits.ensures)
+
+pub bits_of_groups-bits-requires-clause-known : goal.bits_of_groups-bits-requires-clause-known
+bits_of_groups-bits-requires-clause-known c =
+    subst₂ (λ (k b : ℕ). AreMeasures k b c.args.known.now (runs c.args.lengths.now (codes_in c.args.codes.now))) (sym c.from-reserved.ensures) (sym c.from-reference_bits.ensures) c.requires.known
 
 pub octets_for-references-requires-clause-count : goal.octets_for-references-requires-clause-count
 octets_for-references-requires-clause-count c = omega (arith, groups_few c.args.layout.now (codes_in c.args.codes.now) c.args.lengths.now c.requires.lays_out, c.requires.most)
@@ -55,7 +64,7 @@ overflow_add-result-3 c = record { fits = omega (arith, small c) }
 pub returns-clause-is : goal.returns-clause-is
 returns-clause-is c =
     let whole = parts_octets c.args.layout.now (codes_in c.args.codes.now) c.args.lengths.now c.requires.lays_out c.bits_of_groups-bits.result
-    (subst (λ (j : ℕ). c.bits_of_groups-bits.result ≡ length (joined (map (group_fields j c.args.layout.now.reference_bits) (runs c.args.lengths.now (codes_in c.args.codes.now))))) c.from.ensures
+    (subst (λ (j : ℕ). c.bits_of_groups-bits.result ≡ length (joined (map (group_fields j c.args.layout.now.reference_bits) (runs c.args.lengths.now (codes_in c.args.codes.now))))) c.from-reserved.ensures
     (c.bits_of_groups-bits.ensures.is c.args.layout.now.reference_bits)) in
     omega (arith, whole, c.octets_for-references.ensures.is, c.octets_for-widths.ensures.is, c.octets_for.ensures.is, c.div_ceil.ensures)
 

@@ -21,7 +21,7 @@ returns c =
     let begun : c.write_head.new.out.bits ≡ bits (head_of octets 7) =
     c.write_head.ensures.bits ∙ ap (λ xs. xs ++ bits (head_of octets 7)) c.in_ok-section7.ensures.0 in
     let first : c.deref.result.now ≡ lengths = c.deref.ensures.value in
-    let second : c.deref-2.result.now ≡ lengths = c.deref-2.ensures.value in
+    let second : c.deref-3.result.now ≡ lengths = c.deref-3.ensures.value in
     let size : 8 * c.octets_of_groups-octets.result ≡ length parts =
     c.octets_of_groups-octets.ensures.is ∙ ap (λ ls. length (group_parts layout.management codes ls)) first in
     let most : c.octets_of_groups-octets.result ≤ 1000000000 = c.octets_of_groups-octets.ensures.few in

@@ -36,7 +36,7 @@ groups_section-requires-clause-room c =
     let codes = codes_in c.args.codes.now in
     let layout = c.in_ok-grouping.grouping.layout in
     let first : c.deref.result.now ≡ c.in_ok-grouping.grouping.lengths.items = c.deref.ensures.value in
-    let second : c.deref-2.result.now ≡ c.in_ok-grouping.grouping.lengths.items = c.deref-2.ensures.value in
+    let second : c.deref-3.result.now ≡ c.in_ok-grouping.grouping.lengths.items = c.deref-3.ensures.value in
     let size = c.octets_of_groups-groups.ensures.is ∙ ap (λ ls. length (group_parts layout.management codes ls)) (first ∙ sym second) in
     let product : (c.from.result + 1) * c.from-2.result ≡ (c.args.order + 1) * c.descriptor_octets-size.result = ap₂ (λ (m n : ℕ). (m + 1) * n) c.from.ensures c.from-2.ensures in
     omega (arith, size, product, c.write_descriptors.ensures.spare, c.write_head.ensures.spare, c.in_ok-section7.ensures.1)
@@ -58,7 +58,7 @@ returns c =
     c.write_head.ensures.bits ∙ ap (λ xs. xs ++ bits (head_of octets 7)) c.in_ok-section7.ensures.0 in
     let begun : c.write_descriptors.new.out.bits ≡ bits (head_of octets 7) ++ fields = c.write_descriptors.ensures.bits ∙ ap (λ xs. xs ++ fields) head in
     let first : c.deref.result.now ≡ lengths = c.deref.ensures.value in
-    let second : c.deref-2.result.now ≡ lengths = c.deref-2.ensures.value in
+    let second : c.deref-3.result.now ≡ lengths = c.deref-3.ensures.value in
     let size : 8 * c.octets_of_groups-groups.result ≡ length parts =
     c.octets_of_groups-groups.ensures.is ∙ ap (λ ls. length (group_parts layout.management codes ls)) first in
     let most : c.octets_of_groups-groups.result ≤ 1000000000 = c.octets_of_groups-groups.ensures.few in

@@ -1,27 +1,32 @@
 use Rattle.std.proofs.Common.{ℕ, ◌++◌, ◌≤◌, List, length, All, sym, ap, ◌∙◌, arith, subst}
 use Rattle.std.proofs.lemmas.List.{length-replicate}
 use Rattle.grib_io.specs.declared.code.Code.{Code}
-use Rattle.grib_packing.specs.Groupings.{IsGrouping, width_bits_of, reference_bits_of}
+use Rattle.grib_packing.specs.Groupings.{IsGrouping, runs, width_bits_of, reference_bits_of}
 use Rattle.grib_packing.specs.Packed.{group_parts}
 use Rattle.grib_packing.specs.Span.{IsTold}
 use Rattle.grib_complex.specs.FieldCodes.{codes_in}
+use Rattle.grib_groups.specs.Encoding.{AreMeasures}
 use Rattle.grib_complex.proofs.AllTheSame.{told_one}
 use Rattle.grib_complex.proofs.writing.put_groups.Goals as goal
 
-pub encode_groups-requires-clause-references : goal.encode_groups-requires-clause-references
-encode_groups-requires-clause-references c =
+pub encode_measured_groups-requires-clause-references : goal.encode_measured_groups-requires-clause-references
+encode_measured_groups-requires-clause-references c =
     c.requires.lays_out.reference_bits ∙ ap (reference_bits_of c.args.layout.now.management) (ap codes_in c.in-Each.is ∙ sym c.deref.ensures.value)
 
-pub encode_groups-requires-clause-widths : goal.encode_groups-requires-clause-widths
-encode_groups-requires-clause-widths c =
+pub encode_measured_groups-requires-clause-widths : goal.encode_measured_groups-requires-clause-widths
+encode_measured_groups-requires-clause-widths c =
     c.requires.lays_out.width_bits ∙ ap (width_bits_of c.args.layout.now.management) (ap codes_in c.in-Each.is ∙ sym c.deref.ensures.value)
 
-pub encode_groups-requires-clause-codes : goal.encode_groups-requires-clause-codes
-encode_groups-requires-clause-codes c =
+pub encode_measured_groups-requires-clause-codes : goal.encode_measured_groups-requires-clause-codes
+encode_measured_groups-requires-clause-codes c =
     subst (λ (cs : List Code). All (IsTold c.args.layout.now.management) cs) (ap codes_in c.in-Each.is ∙ sym c.deref.ensures.value) c.requires.lays_out.codes_are_told
 
-pub encode_groups-requires-clause-room : goal.encode_groups-requires-clause-room
-encode_groups-requires-clause-room c =
+pub encode_measured_groups-requires-clause-known : goal.encode_measured_groups-requires-clause-known
+encode_measured_groups-requires-clause-known c =
+    subst (λ (cs : List Code). AreMeasures c.args.layout.now.management c.args.layout.now.reference_bits c.args.known.now (runs c.args.lengths.now cs)) (ap codes_in c.in-Each.is ∙ sym c.deref.ensures.value) c.requires.known
+
+pub encode_measured_groups-requires-clause-room : goal.encode_measured_groups-requires-clause-room
+encode_measured_groups-requires-clause-room c =
     subst (λ (cs : List Code). length (group_parts c.args.layout.now.management cs c.args.lengths.now) ≤ c.args.out.now.spare) (ap codes_in c.in-Each.is ∙ sym c.deref.ensures.value) c.requires.room
 
 pub encode_same-requires-clause-references : goal.encode_same-requires-clause-references
@@ -45,7 +50,7 @@ encode_same-requires-clause-room c =
 
 pub returns-in-Each : goal.returns-in-Each
 returns-in-Each c =
-    c.encode_groups.ensures.bits
+    c.encode_measured_groups.ensures.bits
     ∙ ap (λ (cs : List Code). c.args.out.now.bits ++ group_parts c.args.layout.now.management cs c.args.lengths.now) (sym (ap codes_in c.in-Each.is ∙ sym c.deref.ensures.value))
 
 pub returns-in-Same : goal.returns-in-Same

@@ -1,10 +1,10 @@
 use Rattle.std.proofs.Common.{◌∙◌, arith, rules}
 use Rattle.grib_engine.specs.Tasks.{single_if}
-use Rattle.grib_engine.proofs.Filtered.{text_written, text_refused, text_counted}
+use Rattle.grib_engine.proofs.Filtered.{text_written, text_refused, text_counted, texts_whole}
 use Rattle.grib_engine.proofs.filtering.write_matching.Goals as goal
 
-pub returns-in_err-write_if_matching-clause-octets : goal.returns-in_err-write_if_matching-clause-octets
-returns-in_err-write_if_matching-clause-octets g c = record {
+pub returns-in_err-written-clause-octets : goal.returns-in_err-written-clause-octets
+returns-in_err-written-clause-octets g c = record {
   whole = search rules;
   front = text_refused _ _ _ (single_if c.args.conditions.now c.args.message.now) c.loop-index.index _ _ (omega arith) (omega arith)
       c.loop-index.invariant.told c.write_if_matching.ensures.octets.front;
@@ -14,8 +14,12 @@ pub loop-index-preserved : goal.loop-index-preserved
 loop-index-preserved g c =
     let text = single_if c.args.conditions.now c.args.message.now in
     record {
-      told = text_written _ _ _ text c.loop-index.index _ (omega arith) c.loop-index.invariant.told c.in_ok-write_if_matching.ensures.octets.whole;
-      calm = c.in_ok-write_if_matching.ensures.counted ∙ c.loop-index.invariant.calm;
-      count = text_counted text c.loop-index.index _ c.loop-index.written _ (omega arith) c.loop-index.invariant.count c.in_ok-write_if_matching.ensures.count;
-      few = omega (arith, c.loop-index.invariant.few, c.in_ok-write_if_matching.ensures.few);
+      told = text_written _ _ _ text c.loop-index.index _ (omega arith) c.loop-index.invariant.told c.in_ok-written.ensures.octets.whole;
+      calm = c.in_ok-written.ensures.counted ∙ c.loop-index.invariant.calm;
+      count = text_counted text c.loop-index.index _ c.loop-index.written _ (omega arith) c.loop-index.invariant.count c.in_ok-written.ensures.count;
+      few = omega (arith, c.loop-index.invariant.few, c.in_ok-written.ensures.few);
     }
+
+pub returns-clause-octets : goal.returns-clause-octets
+returns-clause-octets g c =
+    texts_whole _ _ (single_if c.args.conditions.now c.args.message.now) c.loop-index.index _ c.loop-index.written (omega arith) c.loop-index.invariant.told

@@ -1,8 +1,14 @@
 use Rattle.std.proofs.Common.{append_assoc}
 use Rattle.grib_engine.proofs.notes.kept_text.Goals as goal
 
+pub returns-in-EditionOne : goal.returns-in-EditionOne
+returns-in-EditionOne c = rw c.in-EditionOne.is (simp append_assoc c.format.ensures.ok)
+
+pub returns-in-OutOfRange : goal.returns-in-OutOfRange
+returns-in-OutOfRange c = rw c.in-OutOfRange.is c.text_at_point-in-OutOfRange.ensures
+
 pub returns-in-DifferenceRange : goal.returns-in-DifferenceRange
-returns-in-DifferenceRange c = rw c.in-DifferenceRange.is (simp append_assoc c.format.ensures.ok)
+returns-in-DifferenceRange c = rw c.in-DifferenceRange.is (simp append_assoc c.format-in-DifferenceRange.ensures.ok)
 
 pub returns-in-OutputTooLong : goal.returns-in-OutputTooLong
 returns-in-OutputTooLong c = rw c.in-OutputTooLong.is (simp append_assoc c.format-in-OutputTooLong.ensures.ok)

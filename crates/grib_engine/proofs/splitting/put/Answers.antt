@@ -4,7 +4,7 @@ use Rattle.grib_engine.proofs.splitting.put.Goals as goal
 
 pub returns-in_err-make-clause-shelved : goal.returns-in_err-make-clause-shelved
 returns-in_err-make-clause-shelved g c = record {
-  whole = on_refused _ _ c.from_residual-in_err-make.ensures.0;
+  whole = on_refused _ _ c.from_residual.ensures.0;
   front = put_unmade _ _ c.args.name.now c.args.octets.now c.in_err-make.ensures.octets c.in_err-make.ensures.others;
 }
 

@@ -1,4 +1,4 @@
-use Rattle.std.proofs.Common.{◌≡◌, arith, rules, refl, sym, ap, ◌∙◌, subst}
+use Rattle.std.proofs.Common.{◌≡◌, ◌+◌, arith, rules, refl, sym, ap, ◌∙◌, subst}
 use Rattle.grib2_message.specs.Fields.{field_count}
 use Rattle.grib_stream.specs.Acts.{world}
 use Rattle.grib_stream.proofs.Worlds.{did_none}
@@ -11,22 +11,22 @@ use Rattle.grib_engine.proofs.splitting.put_fields.Goals as goal
 pub loop-index-init : goal.loop-index-init
 loop-index-init g c = record { told = λ output. did_none (world output (g.H.Shelf.contents c.args.shelf.now)); sum = refl; few = omega arith; calm = refl }
 
-pub returns-in_err-put_field-clause-shelved : goal.returns-in_err-put_field-clause-shelved
-returns-in_err-put_field-clause-shelved g c = record {
+pub returns-in_err-written-clause-shelved : goal.returns-in_err-written-clause-shelved
+returns-in_err-written-clause-shelved g c = record {
   whole = search rules;
-  front = fields_cut c.args.name.now c.args.before c.args.message.now _ _ _ c.loop-index.index _ _ (omega arith) (omega arith) c.loop-index.invariant.told
+  front = fields_cut c.args.name.now c.args.before c.args.message.now _ _ _ c.loop-index.index (c.loop-index.index + 1) (field_count c.args.message.now) (omega arith) (omega arith) c.loop-index.invariant.told
       c.put_field.ensures.shelved.front;
 }
 
 pub loop-index-preserved : goal.loop-index-preserved
 loop-index-preserved g c =
-    let more = octets_more c.args.name.now c.args.before c.args.message.now c.loop-index.index _ (omega arith) in
+    let more = octets_more c.args.name.now c.args.before c.args.message.now c.loop-index.index (c.loop-index.index + 1) (omega arith) in
     record {
-      told = fields_put c.args.name.now c.args.before c.args.message.now _ _ _ c.loop-index.index _ (omega arith) c.loop-index.invariant.told
-          c.in_ok-put_field.ensures.shelved.whole;
-      sum = omega (arith, c.loop-index.invariant.sum, c.in_ok-put_field.ensures.written, more);
-      few = omega (arith, c.loop-index.invariant.few, c.in_ok-put_field.ensures.few);
-      calm = c.in_ok-put_field.ensures.counted ∙ c.loop-index.invariant.calm;
+      told = fields_put c.args.name.now c.args.before c.args.message.now _ _ _ c.loop-index.index (c.loop-index.index + 1) (omega arith) c.loop-index.invariant.told
+          c.in_ok-written.ensures.shelved.whole;
+      sum = omega (arith, c.loop-index.invariant.sum, c.in_ok-written.ensures.written, more);
+      few = omega (arith, c.loop-index.invariant.few, c.in_ok-written.ensures.few);
+      calm = c.in_ok-written.ensures.counted ∙ c.loop-index.invariant.calm;
     }
 
 pub returns : goal.returns

@@ -1,20 +1,24 @@
 use Rattle.std.proofs.Common.{◌^◌, ◌<◌, ◌∙◌, arith, length, get_or}
 use Rattle.grib_packing.specs.Groupings.{width_of}
+use Rattle.grib_groups.proofs.Measures.{known-here, known-next}
 use Rattle.grib_groups.proofs.Parts.{below_run, below_after, left_padded, no_fields, grouping-within, grouping-next, fits-next, fits-here, field_more, field_room}
 use Rattle.grib_groups.proofs.encoding.put_widths.Goals as goal
 
 pub split_at-requires : goal.split_at-requires
 split_at-requires c = grouping-within c.args.lengths.now c.loop-length.length-index (omega arith) (length c.loop-length.rest.now) c.loop-length.invariant.grouping
 
-pub width-requires-clause-small : goal.width-requires-clause-small
-width-requires-clause-small c =
-    let below = below_run c.args.reserved c.loop-length.rest.now c.split_at.result.0.now _ c.split_at.ensures.front c.loop-length.invariant.codes in
-    c.of.ensures.small c.args.reserved c.requires.reserved below
+pub next_measure-measure-requires-clause-codes : goal.next_measure-measure-requires-clause-codes
+next_measure-measure-requires-clause-codes c = below_run c.args.reserved c.loop-length.rest.now c.split_at.result.0.now _ c.split_at.ensures.front c.loop-length.invariant.codes
+
+pub next_measure-measure-requires-clause-known : goal.next_measure-measure-requires-clause-known
+next_measure-measure-requires-clause-known c =
+    known-here c.args.reserved c.args.reference_bits c.args.lengths.now c.loop-length.length-index (omega arith) c.loop-length.told.now c.loop-length.rest.now c.split_at.result.0.now
+    c.split_at.ensures.front c.loop-length.invariant.known
 
 pub put-requires-clause-fits : goal.put-requires-clause-fits
 put-requires-clause-fits c =
     fits-here c.args.lengths.now c.loop-length.length-index (omega arith) (width_of c.args.reserved) (2 ^ c.args.bits) c.from.result c.loop-length.rest.now c.split_at.result.0.now
-    c.split_at.ensures.front (c.from.ensures ∙ c.width.ensures.is c.split_at.result.0.now c.of.ensures.span) c.loop-length.invariant.fits
+    c.split_at.ensures.front (c.from.ensures ∙ c.next_measure-measure.ensures.width) c.loop-length.invariant.fits
 
 pub put-requires-clause-room : goal.put-requires-clause-room
 put-requires-clause-room c =
@@ -31,10 +35,13 @@ loop-length-preserved c =
     record {
       grouping = grouping-next lengths i (omega arith) rest after c.split_at.ensures.back c.loop-length.invariant.grouping;
       codes = below_after c.args.reserved rest after (get_or lengths i 0) c.split_at.ensures.back c.loop-length.invariant.codes;
+      known =
+          known-next c.args.reserved c.args.reference_bits lengths i (omega arith) c.loop-length.told.now c.later_measures-told.result.now rest after c.later_measures-told.ensures c.split_at.ensures.back
+          c.loop-length.invariant.known;
       fits = fits-next lengths i (omega arith) (λ xs. width_of c.args.reserved xs < 2 ^ c.args.bits) rest after c.split_at.ensures.back c.loop-length.invariant.fits;
       written =
           field_more lengths i (omega arith) (width_of c.args.reserved) c.args.bits c.args.out.now c.loop-length.out c.put.new.self _ c.from.result rest run after
-          c.split_at.ensures.front c.split_at.ensures.back (c.from.ensures ∙ c.width.ensures.is run c.of.ensures.span) c.loop-length.invariant.written c.put.ensures.bits c.put.ensures.spare;
+          c.split_at.ensures.front c.split_at.ensures.back (c.from.ensures ∙ c.next_measure-measure.ensures.width) c.loop-length.invariant.written c.put.ensures.bits c.put.ensures.spare;
     }
 
 pub returns-clause-bits : goal.returns-clause-bits

@@ -4,7 +4,7 @@ use Rattle.grib_packing.specs.declared.column.Column.{Column}
 use Rattle.grib_packing.specs.Groupings.{digits}
 use Rattle.grib_packing.specs.Misfits.{ToSimple, first_misfit}
 use Rattle.grib_packing.specs.Packed.{HasContents, HasNumbers, IsBitmap, IsSimple, fields, simple_numbers, simple_width}
-use Rattle.grib_simple.proofs.Fitting.{few_numbers, width_few, width_fits}
+use Rattle.grib_simple.proofs.Fitting.{few_numbers, none_fail, width_few, width_fits}
 use Rattle.grib_simple.proofs.packed.pack_simply.Goals as goal
 
 pub values_octets-octets-requires-clause-count : goal.values_octets-octets-requires-clause-count
@@ -20,6 +20,11 @@ module _ (c : goal.After-bit_length-bits) where
 
 pub values_octets-octets-requires-clause-bits : goal.values_octets-octets-requires-clause-bits
 values_octets-octets-requires-clause-bits c = omega (arith, width c, width_few c.as_slice-points.result.now (fits c))
+
+pub bitmap_section-requires-clause-one_kind : goal.bitmap_section-requires-clause-one_kind
+bitmap_section-requires-clause-one_kind c =
+    let both = none_fail c.as_slice-points.result.now (c.in_ok-fits.ensures c.as_slice-points.result.now c.of-survey.ensures) in
+    both.0
 
 few : (c : goal.After-bitmap_section) → c.bit_length-bits.result ≤ 48
 few c =

@@ -1,0 +1,11 @@
+pub mod Agreeing
+pub mod Answered
+pub mod Columns
+pub mod Entries
+pub mod Fronts
+pub mod Joined
+pub mod Listed
+pub mod Parts
+pub mod Places
+pub mod Rows
+pub mod Stays

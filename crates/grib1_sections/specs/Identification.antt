@@ -1,0 +1,22 @@
+-- Section 1, the product definition section (WMO-No. 306, Volume I.2, FM 92 GRIB edition 1): octet 8
+-- flags the sections that follow (code table 1), bit 1 Section 2, bit 2 Section 3.
+use Rattle.std.specs.Prelude.{ℕ, Bool, not, List, [], ◌∷◌}
+use Rattle.grib_bits.specs.Octets.{octets}
+use Rattle.grib_io.specs.declared.fault.Reason.TheVariants.{NoGridSection}
+use Rattle.grib_io.specs.Rows.{Row, row}
+use Rattle.grib1_sections.specs.Frame.{bit}
+
+abbrev pub section_flags : List ℕ → ℕ
+section_flags s = octets s 8 8
+
+abbrev pub flags_grid : List ℕ → Bool
+flags_grid s = bit 1 (section_flags s)
+
+abbrev pub flags_bitmap : List ℕ → Bool
+flags_bitmap s = bit 2 (section_flags s)
+
+-- row B1.1
+abbrev pub identification_rows : List ℕ → List Row
+identification_rows s =
+    row (not (flags_grid s)) 8 NoGridSection (section_flags s)  -- B1.1
+    ∷ []

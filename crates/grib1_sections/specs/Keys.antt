@@ -1,0 +1,47 @@
+-- Section 1, the product definition section (WMO-No. 306, Volume I.2, FM 92 GRIB edition 1): its numbers by
+-- their names.
+use Rattle.std.specs.Prelude.{ℕ, List}
+use Rattle.grib_bits.specs.Octets.{octets}
+use Rattle.grib1_sections.specs.Acceptance.{identification}
+use Rattle.grib1_sections.specs.declared.key.Key1.{Key1}
+use Rattle.grib1_sections.specs.declared.key.Key1.TheVariants.{Version, Centre, Process, GridNumber, Flags, Parameter, LevelType, Level, YearOfCentury, Month, Day, Hour, Minute, Unit as TimeUnit, P1, P2, TimeRange, AverageCount, AverageMissing, Century, SubCentre, DecimalScale}
+
+-- the octets at which a number stands, from the first to the last
+pub record Place : Type 0 where
+  pub first : ℕ
+  pub last : ℕ
+
+abbrev pub at : ℕ → ℕ → Place
+at first last = record { first = first; last = last }
+
+abbrev pub place_of : Key1 → Place
+place_of Version = at 4 4
+place_of Centre = at 5 5
+place_of Process = at 6 6
+place_of GridNumber = at 7 7
+place_of Flags = at 8 8
+place_of Parameter = at 9 9
+place_of LevelType = at 10 10
+place_of Level = at 11 12
+place_of YearOfCentury = at 13 13
+place_of Month = at 14 14
+place_of Day = at 15 15
+place_of Hour = at 16 16
+place_of Minute = at 17 17
+place_of TimeUnit = at 18 18
+place_of P1 = at 19 19
+place_of P2 = at 20 20
+place_of TimeRange = at 21 21
+place_of AverageCount = at 22 23
+place_of AverageMissing = at 24 24
+place_of Century = at 25 25
+place_of SubCentre = at 26 26
+place_of DecimalScale = at 27 28
+
+-- the number of a Section 1
+abbrev pub key_in : List ℕ → Key1 → ℕ
+key_in s1 key = let place = place_of key in octets s1 place.first place.last
+
+-- the number of a message
+abbrev pub key1_of : List ℕ → Key1 → ℕ
+key1_of message key = key_in (identification message) key

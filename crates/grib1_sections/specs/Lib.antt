@@ -1,0 +1,14 @@
+pub mod Frame
+pub mod Identification
+pub mod Grid
+pub mod Bitmap
+pub mod Data
+pub mod Acceptance
+pub mod Grammar
+pub mod Message
+pub mod ReadFaults
+pub mod Kept
+pub mod Keys
+pub mod Coordinates
+pub mod Column
+pub mod Held

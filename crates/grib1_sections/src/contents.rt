@@ -1,0 +1,82 @@
+//! What a message tells: its column, the numbers of Section 1 and the lists of Section 2.
+
+ghost use Rattle.std.specs.Prelude.{◌≡◌, ◌≢◌, ◌<◌, ◌≤◌, ◌^◌, length, Some, IfOk};
+ghost use Rattle.grib1_sections.specs.Acceptance.{grid};
+ghost use Rattle.grib1_sections.specs.Grid.{row_list};
+ghost use Rattle.grib1_sections.specs.Coordinates.{coordinate_list};
+ghost use Rattle.grib1_sections.specs.Column.{column1_of};
+ghost use Rattle.grib1_sections.specs.Keys.{key1_of};
+ghost use Rattle.grib1_sections.specs.Message.{SectionsPass, section_of};
+
+use crate::column::read_column;
+use crate::key::{Key1, number_of};
+use crate::lists::{read_coordinates, read_rows};
+use crate::message::Message1;
+use grib_packing::Column;
+use std::alloc::{AllocError, Global};
+
+impl<'a> Message1<'a> {
+    /// What the message holds, one entry for each grid point. The reference value of the column is a
+    /// word of the IBM single form.
+    ///
+    /// # Errors
+    ///
+    /// There is no memory for the points.
+    pub fn column1(&self, alloc: Global) -> Result<Column, AllocError>
+        ensures column { IfOk result (λ column. column ≡ column1_of self.now) }
+        ensures some { IfOk result (λ column. 1 ≤ length column.points) }
+        ensures few { IfOk result (λ column. length column.points ≤ 33554432) }
+    {
+        read_column(
+            alloc,
+            there(self, 1),
+            self.section(3),
+            there(self, 4),
+            self.points(),
+        )
+    }
+
+    /// The number of the key, as the octets of Section 1 make it.
+    pub fn key1(&self, key: Key1) -> u64
+        ensures number { result ≡ key1_of self.now key }
+        ensures small { result < 2 ^ 16 }
+    {
+        number_of(there(self, 1), key)
+    }
+
+    /// The number of points of each row of a grid whose rows differ in length; else empty.
+    ///
+    /// # Errors
+    ///
+    /// There is no memory for the numbers.
+    pub fn rows1(&self, alloc: Global) -> Result<Vec<u32>, AllocError>
+        ensures { IfOk result (λ rows. rows.items ≡ row_list (grid self.now)) }
+    {
+        read_rows(alloc, there(self, 2))
+    }
+
+    /// The vertical coordinates, words of the IBM single form; empty where there are none.
+    ///
+    /// # Errors
+    ///
+    /// There is no memory for the words.
+    pub fn coordinates1(&self, alloc: Global) -> Result<Vec<u32>, AllocError>
+        ensures { IfOk result (λ words. words.items ≡ coordinate_list (grid self.now)) }
+    {
+        read_coordinates(alloc, there(self, 2))
+    }
+}
+
+/// The section with this number, 1, 2 or 4, which each message has.
+fn there<'a>(message: &Message1<'a>, number: u8) -> &'a [u8]
+    requires low { 1 ≤ number }
+    requires high { number ≤ 4 }
+    requires present { number ≢ 3 }
+    ensures section { section_of message.now number ≡ Some result.now }
+    ensures passes { SectionsPass message.now }
+{
+    let Some(section) = message.section(number) else {
+        unreachable!();
+    };
+    section
+}

@@ -1,0 +1,115 @@
+//! Sections one after another, and the end mark.
+
+ghost use Rattle.std.specs.Prelude.{◌≡◌, ◌+◌, ◌-◌, ◌≤◌, ◌<◌, ◌^◌, length, Some, None, MatchResult};
+ghost use Rattle.grib_io.specs.Rows as rows;
+ghost use Rattle.grib_io.specs.Rows.{first_fault};
+ghost use Rattle.grib2_sections.specs.Head.{total_length_1};
+ghost use Rattle.grib1_sections.specs.Frame.{frame_rows, end_rows, bit};
+ghost use Rattle.grib1_sections.specs.Kept.{Stands};
+
+use grib_io::{Fault, Reason};
+use grib2_sections::{u32_at, uint_at};
+
+/// The end mark `7777` as a number.
+const END_MARK: u32 = 0x37373737;
+
+/// A section, and the octet of the message at which it begins.
+#[derive(Clone, Copy, Debug)]
+pub(crate) struct Placed<'a> {
+    pub start: usize,
+    pub octets: &'a [u8],
+}
+
+impl Placed<'_> {
+    /// The octet of the message at which what follows the section begins.
+    pub fn end(&self) -> usize
+        requires { self.now.start + length self.now.octets.now < 2 ^ 64 }
+        ensures { result ≡ self.now.start + length self.now.octets.now }
+    {
+        self.start + self.octets.len()
+    }
+
+    /// The refusal at this octet of the section, counted from 1, for this reason, with this detail.
+    pub fn refusal(&self, place: u64, reason: Reason, detail: u64) -> Fault
+        requires start { self.now.start < 2 ^ 63 }
+        requires counted { 1 ≤ place }
+        requires near { place < 256 }
+        ensures { result ≡ rows.fault_at self.now.start (rows.refusal place reason detail) }
+    {
+        Fault::at(self.start as u64 + (place - 1), reason, detail)
+    }
+}
+
+/// The section that begins at octet `start` of a message of `total` octets and has at least `least`. A
+/// refusal is that of the first row that fails: the octets end too early, or the section is too short
+/// or leaves no four octets behind it.
+pub(crate) fn section_from<'a>(
+    octets: &'a [u8],
+    total: u64,
+    start: usize,
+    least: usize,
+) -> Result<Placed<'a>, Fault>
+    requires counted { 1 ≤ start }
+    requires within { start ≤ length octets.now + 1 }
+    requires total { total ≡ total_length_1 octets.now }
+    ensures { MatchResult result
+        (λ section. (first_fault (frame_rows octets.now start least) ≡ None)
+        × (section.start ≡ start) × Stands octets.now start least section.octets.now)
+        (λ fault. first_fault (frame_rows octets.now start least) ≡ Some fault) }
+{
+    let before = start - 1;
+    if octets.len() < before + 3 {
+        return Err(truncated(octets));
+    }
+    let length = uint_at(octets, start, 3) as usize;
+    if length < least || total < (before + length + 4) as u64 {
+        return Err(Fault::at(start as u64, Reason::SectionLength, length as u64));
+    }
+    if octets.len() < before + length {
+        return Err(truncated(octets));
+    }
+    Ok(Placed {
+        start,
+        octets: &octets[before..before + length],
+    })
+}
+
+/// Tries the rows of the end mark, which is to begin at octet `start` of a message of `total` octets.
+pub(crate) fn check_end(octets: &[u8], total: u64, start: usize) -> Result<(), Fault>
+    requires counted { 1 ≤ start }
+    requires within { start ≤ length octets.now + 1 }
+    requires total { total ≡ total_length_1 octets.now }
+    ensures { MatchResult result
+        (λ _. first_fault (end_rows octets.now start) ≡ None)
+        (λ fault. first_fault (end_rows octets.now start) ≡ Some fault) }
+{
+    if octets.len() < start + 3 {
+        return Err(truncated(octets));
+    }
+    let mark = u32_at(octets, start);
+    if mark != END_MARK {
+        return Err(Fault::at(start as u64, Reason::EndMark, u64::from(mark)));
+    }
+    let last_octet = start as u64 + 3;
+    if last_octet < total {
+        return Err(Fault::at(last_octet + 1, Reason::LengthDisagrees, total - last_octet));
+    }
+    Ok(())
+}
+
+/// The refusal of a message of which only these octets are there.
+fn truncated(octets: &[u8]) -> Fault
+    ensures { result ≡ rows.refusal (length octets.now + 1) Reason.Truncated (length octets.now) }
+{
+    let present = octets.len() as u64;
+    Fault::at(present + 1, Reason::Truncated, present)
+}
+
+/// Bit `number` of an octet, bit 1 being the most significant.
+pub(crate) fn has_bit(octet: u8, number: u8) -> bool
+    requires low { 1 ≤ number }
+    requires high { number ≤ 8 }
+    ensures { result ≡ bit number octet }
+{
+    octet >> (8 - number) & 1 == 1
+}
