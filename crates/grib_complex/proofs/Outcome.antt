@@ -181,6 +181,15 @@ no_range s5 s7 two =
     let place = first_place is_out_of_range (group_entries s5 s7) in
     ap (λ (t : ℕ). cond (eqb t 3 && ltb 0 place) (Some (refusal 1 ScaledRange place)) None) two
 
+pub plain_range : (complex : Complex) (s5 s7 : List ℕ) → Spelled complex s5 → IsAccepted complex → complex.order ≡ 0 → first_fault (range_rows s5 s7) ≡ None
+plain_range complex s5 s7 spelled accepted none = elim accepted.order [
+  | inl two ↦ no_range s5 s7 (sym spelled.simple.template ∙ two.0)
+  | inr three ↦ absurd (elim three.1 [
+    | inl one ↦ omega arith
+    | inr both ↦ omega arith
+  ])
+]
+
 -- what is known of the codes and entries of a Section 7 whose groups were read
 module _ (complex : Complex) (s5 s7 : List ℕ) (table : Table) (spelled : Spelled complex s5) (accepted : IsAccepted complex) (readable : IsReadable complex s7 table) where
   pub same_numbers : Numbers s5 complex.layout ((complex.order + 1) * complex.extra) complex.simple.values complex.order complex.extra complex.simple.template

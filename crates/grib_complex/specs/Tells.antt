@@ -6,6 +6,7 @@ use Rattle.grib_packing.specs.declared.column.Point.{Point}
 use Rattle.grib_packing.specs.Entries.{is_out_of_range}
 use Rattle.grib_spatial.specs.Running.{Run}
 use Rattle.grib_complex.specs.declared.telling.Teller.{Teller}
+use Rattle.grib_complex.specs.declared.values.Plain.{Plain}
 use Rattle.grib_complex.specs.declared.values.Values.{Values}
 use Rattle.grib_complex.specs.Told.{Telling, Plainly, After, told, after}
 
@@ -27,3 +28,7 @@ pub record ValuesTook {K : Type 0} (kept : K → List Point → K → Type 0) (b
   pub tells : (start : Telling) (seen : List Code) → length seen + length codes < 2 ^ 63 → Tells start seen before.teller → Tells start (seen ++ codes) after_them.teller
   pub keeps : (start : Telling) (seen : List Code) → length seen + length codes < 2 ^ 63 → Tells start seen before.teller → after_them.teller.beyond ≡ 0
       → kept before.keeper (told (after start seen) codes) after_them.keeper
+
+-- The points of these codes, which are the scaled numbers themselves, went to what keeps them.
+abbrev pub PlainTook : {K : Type 0} → (K → List Point → K → Type 0) → Plain K → List Code → Plain K → Type 0
+PlainTook kept before codes after_them = kept before.keeper (told Plainly codes) after_them.keeper

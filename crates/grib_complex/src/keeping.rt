@@ -60,22 +60,21 @@ impl Points {
         })
     }
 
-    /// Goes on to the next point that is present.
-    #[inline(always)]
-    fn go_on(self) -> Points
-        ensures { (mask : List Bool) (seen : List point) → length seen < present_count mask → ArePoints mask seen self
-            → ArePoints mask seen result × (0 < result.left) }
-    {
-        if self.left > 0 {
-            return self;
-        }
-        self.skip_missing()
-    }
-
-    /// The same where the run of present points has ended. It takes the points by value, so that they stay
-    /// in registers where it is not called.
+    /// Keeps the next point where the run of present points has ended. It takes the points by value, so that
+    /// they stay in registers where it is not called.
     #[cold]
     #[inline(never)]
+    fn keep_next(self, point: Point) -> Points
+        requires { self.left ≡ 0 }
+        ensures { PointsKept self (point ∷ []) result }
+    {
+        let mut points = self.skip_missing();
+        points.left = points.left.saturating_sub(1);
+        push_within(&mut points.points, point);
+        points
+    }
+
+    /// Goes on to the next point that is present, where the run of present points has ended.
     fn skip_missing(mut self) -> Points
         requires { self.left ≡ 0 }
         ensures { (mask : List Bool) (seen : List point) → length seen < present_count mask → ArePoints mask seen self
@@ -115,8 +114,11 @@ impl Keeper for Points {
 
     #[inline(always)]
     fn keep(self, point: Point) -> Points {
-        let mut points = self.go_on();
-        points.left = points.left.saturating_sub(1);
+        if self.left == 0 {
+            return self.keep_next(point);
+        }
+        let mut points = self;
+        points.left -= 1;
         push_within(&mut points.points, point);
         points
     }

@@ -15,7 +15,7 @@ use crate::keeping::Keeper;
 use crate::range::stays_within;
 use crate::representation::{Complex, accepted_complex};
 use crate::telling::Teller;
-use crate::values::Values;
+use crate::values::{Plain, Values};
 use byteorder::{BigEndian, ByteOrder};
 use grib_groups::{Table, lists_fit, read_groups, take_codes};
 use grib_io::{Fault, Reason, Section, UnpackFault};
@@ -112,10 +112,26 @@ fn take_group_values<K: Keeper + Drop>(
     if !keeper.keeps() && stays_in_range(complex, section7.octets, &table) {
         return Ok(keeper);
     }
+    if complex.order == 0 {
+        return Ok(take_plainly(complex, section7, table, keeper));
+    }
     match take_points(complex, section7, table, keeper) {
         Ok(keeper) => Ok(keeper),
         Err(fault) => Err(UnpackFault::Refused(fault)),
     }
+}
+
+/// Hands the points of all values on, where there are no differences.
+fn take_plainly<K: Keeper>(complex: &Complex, section7: &Section<'_>, table: Table, keeper: K) -> K
+    requires accepted { IsAccepted complex.now }
+    requires order { complex.now.order ≡ 0 }
+    requires read { IsReadable complex.now section7.now.octets.now table }
+    ensures { (s5 : List ℕ) → Spelled complex.now s5
+        → (first_fault (range_rows s5 section7.now.octets.now) ≡ None)
+        × K.kept keeper (group_entries s5 section7.now.octets.now) result }
+{
+    let taker = Plain { keeper };
+    take_codes(&complex.layout, section7, complex.skip(), table, taker).keeper
 }
 
 /// The groups of a field, whose Section 7 passes all rows but that on the range of its numbers.

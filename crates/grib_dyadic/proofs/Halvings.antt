@@ -5,7 +5,7 @@ use Rattle.std.proofs.lemmas.Nat.{pow_pos}
 use Rattle.std.proofs.lemmas.Bool.Decides.{eqb_tells}
 use Rattle.std.specs.Int.{is_negative, int_min}
 use Rattle.grib_dyadic.specs.Sign.{signed}
-use Rattle.grib_dyadic.specs.Reference.{Binary, binary, two_to_difference, halvings, reduced, ieee, IsFinite, IsReduced, SameNumber}
+use Rattle.grib_dyadic.specs.Reference.{Binary, binary, two_to_difference, halvings, reduced, ieee, ibm, ibm_b, IsFinite, IsReduced, SameNumber}
 use Rattle.grib_dyadic.proofs.Numbers.{SameNumber_trans}
 use Rattle.grib_dyadic.proofs.Reduced.{zero-times, reduced_once}
 use Rattle.grib_dyadic.proofs.Signs.{nat_abs-signed, signed_number, is_negative_iff, zero_of_abs, SameNumber-signed, SameNumber-lower}
@@ -92,3 +92,16 @@ pub reduced-ieee : (word : ℕ) (d : Binary) → word < 2 ^ 32 → IsFinite word
 reduced-ieee word d small finite red same =
     let form = reduced-form (ieee word) (ieee-small word small finite) in
     reduced_once d (reduced (ieee word)) red form.is_reduced (SameNumber_trans d (ieee word) (reduced (ieee word)) same form.same)
+
+-- the number of an IBM word has 24 bits
+ibm-small : (word : ℕ) → nat_abs (ibm word).mantissa < 2 ^ 64
+ibm-small word =
+    let is : nat_abs (ibm word).mantissa ≡ ibm_b word = nat_abs-signed (word / 2 ^ 31 == 1) (ibm_b word) in
+    let small : ibm_b word < 2 ^ 24 = omega arith in
+    omega arith
+
+-- a reduced number that is the number of an IBM word
+pub reduced-ibm : (word : ℕ) (d : Binary) → IsReduced d → SameNumber d (ibm word) → d ≡ reduced (ibm word)
+reduced-ibm word d red same =
+    let form = reduced-form (ibm word) (ibm-small word) in
+    reduced_once d (reduced (ibm word)) red form.is_reduced (SameNumber_trans d (ibm word) (reduced (ibm word)) same form.same)

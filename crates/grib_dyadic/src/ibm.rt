@@ -1,5 +1,5 @@
 ghost use Rattle.std.specs.Prelude.{◌≡◌, ℕ, ◌*◌, ◌^◌, ◌<◌, ◌≤◌, ◌↔◌, pos, ◌+ℤ◌, ◌-ℤ◌, ◌≤ℤ◌, IsSome, IfSome, IfNone};
-ghost use Rattle.grib_dyadic.specs.Reference.{binary, ibm, ibm_a, SameNumber, IsReduced, HasIbm, HasIbmAt};
+ghost use Rattle.grib_dyadic.specs.Reference.{binary, ibm, ibm_a, SameNumber, IsReduced, reduced, HasIbm, HasIbmAt};
 
 use crate::dyadic::Dyadic;
 use crate::word::{bit_length, digits_at, signed_word};
@@ -9,6 +9,7 @@ impl Dyadic {
     pub fn from_ibm(word: u32) -> Self
         ensures number { SameNumber result (ibm word) }
         ensures reduced { IsReduced result }
+        ensures value { result ≡ reduced (ibm word) }
     {
         let a = (word >> 24) & 0x7f;
         Dyadic::new(word >> 31 == 1, word & 0xff_ffff, 4 * a as i32 - 280)

@@ -1,20 +1,12 @@
 -- What is written of an input that is repacked, message for message.
-use Rattle.std.proofs.Common.{◌≡◌, ℕ, zero, suc, ◌+◌, ◌-◌, ◌^◌, ◌<◌, ◌≤◌, true, Option, Some, None, List, [], ◌∷◌, ◌++◌, length, map, take, drop, All, refl, sym, ap, ◌∙◌, subst, arith, ⊎_elim, length-take-le, take-append-drop}
+use Rattle.std.proofs.Common.{◌≡◌, ℕ, zero, suc, ◌+◌, ◌-◌, ◌^◌, ◌<◌, ◌≤◌, true, Option, Some, None, List, [], ◌∷◌, ◌++◌, length, map, take, All, refl, sym, ap, ◌∙◌, subst, ⊎_elim}
 use Rattle.std.specs.List.{concat}
 use Rattle.std.proofs.lemmas.Bool.{cases_Bool, cases_lt}
-use Rattle.std.proofs.lemmas.List.{take-append-le, take_all}
+use Rattle.std.proofs.lemmas.List.{take_all}
 use Rattle.std.proofs.lemmas.List.Elements.{All-nil, All-cons, All-head, All-tail, All-take}
-use Rattle.grib_io.specs.Rows.{first_fault}
-use Rattle.grib_io.specs.declared.fault.Fault.{Fault}
 use Rattle.grib_packing.specs.Misfits.{Target}
 use Rattle.grib_simple.specs.Written.{IsTarget}
-use Rattle.grib2_sections.specs.Head.{edition, head_rows}
-use Rattle.grib2_sections.specs.Verdict.{Verdict, Accepted}
-use Rattle.grib2_message.specs.Acceptance.{unless_refused}
 use Rattle.grib2_message.specs.Message.{IsMessage}
-use Rattle.grib2_message.proofs.Passed.{passes_from_none}
-use Rattle.grib2_message.proofs.Whole.{head_passes}
-use Rattle.grib2_message.proofs.Fronts.{accepted_least, accepted_there, accepted_alone}
 use Rattle.grib_repack.specs.declared.target.RepackTarget.{RepackTarget}
 use Rattle.grib_repack.specs.Faults.{target_of}
 use Rattle.grib_repack.specs.Repacked.{RepackMisfit, MayBeRepacked, repacked, repack_misfit}
@@ -24,7 +16,7 @@ use Rattle.grib_stream.specs.Stream.{begins, Judgement, Message, Faulty, Unbuilt
 use Rattle.grib_stream.specs.Task.{Task}
 use Rattle.grib_stream.specs.Answer.{Answer, after, on_given, answers, on_end, place_of, at_limit, answer_of, answer_within}
 use Rattle.grib_stream.proofs.Exits.{within_short, within_long, closed_at_limit, open_at_limit}
-use Rattle.grib_stream.proofs.Streams.{stream_skip, stream_begun, begins_is}
+use Rattle.grib_stream.proofs.Streams.{stream_skip, stream_begun}
 use Rattle.grib_engine.specs.declared.job.Job.TheVariants.{Repack}
 use Rattle.grib_engine.specs.Lawful.{message_alone}
 use Rattle.grib_engine.specs.Same.{SameValues, AllSame, kept_then, before_kept}

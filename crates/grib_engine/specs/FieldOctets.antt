@@ -1,13 +1,12 @@
 -- A field has twenty octets at least, five for each of its Sections 4 to 7, and a message of its own no more than
 -- any other message.
-use Rattle.std.proofs.Common.{◌≡◌, ◌≢◌, ℕ, zero, suc, ◌+◌, ◌-◌, ◌*◌, ◌<◌, ◌≤◌, Bool, true, false, cond, ◌==◌, nat_lt, ◌⊎◌, inl, inr, List, [], ◌∷◌, ◌++◌, length, refl, sym, ap, ◌∙◌, arith, ⊎_elim, lt-ltb, le-ltb, length-append}
+use Rattle.std.proofs.Common.{◌≡◌, ◌≢◌, ℕ, zero, suc, ◌+◌, ◌-◌, ◌*◌, ◌<◌, ◌≤◌, Bool, cond, nat_lt, List, [], ◌∷◌, ◌++◌, length, ap, arith, ⊎_elim, lt-ltb, le-ltb, length-append}
 use Rattle.std.specs.List.{concat, count_by}
-use Rattle.std.proofs.lemmas.Bool.{cases_eq, cases_lt, cases_Bool}
-use Rattle.grib_io.specs.Rows.{choose}
+use Rattle.std.proofs.lemmas.Bool.{cases_eq}
 use Rattle.grib2_sections.specs.Frame.{Placed, placed_at, section_number}
 use Rattle.grib2_message.specs.View.{is_numbered, last_number}
 use Rattle.grib2_message.specs.Grammar.{AreSections}
-use Rattle.grib2_message.specs.Fields.{sections_of, field_count}
+use Rattle.grib2_message.specs.Fields.{field_count}
 use Rattle.grib2_message.specs.Message.{IsMessage}
 use Rattle.grib2_message.proofs.Order.{Follows, next, skips, again, follows_tells}
 use Rattle.grib2_message.proofs.Parted.{message_parted, message_states, message_most}

@@ -76,7 +76,9 @@ impl Coding {
         requires { self.reference + number < 2 ^ 64 }
         ensures { result ≡ code_by self number }
     {
-        if number == self.primary {
+        if number < self.primary.min(self.secondary) {
+            Code::Present(self.reference + number)
+        } else if number == self.primary {
             Code::Primary
         } else if number == self.secondary {
             Code::Secondary

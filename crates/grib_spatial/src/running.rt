@@ -10,14 +10,6 @@ use std::marker::Model;
 #[derive(Clone, Copy, Debug, PartialEq, Eq)]
 pub struct ScaledRange;
 
-/// The numbers that the next one follows.
-#[derive(Clone, Copy, Debug)]
-enum Last {
-    NoNumber,
-    One(i64),
-    Two(i64, i64),
-}
-
 /// Undoes the spatial differences of a field, a code at a time (WMO-No. 306, Volume I.2, FM 92 GRIB
 /// edition 2, data template 7.3). A clause sees what the codes are read with, and the numbers that the
 /// next one follows.
@@ -27,25 +19,29 @@ pub struct Running {
     first: i64,
     second: i64,
     minimum: i64,
-    last: Last,
+    /// How many first values were told.
+    told: u8,
+    /// The last number but one, and the last one.
+    before: i64,
+    last: i64,
 }
 
 impl Model for Running {
     ghost use Rattle.std.specs.Prelude.{◌≡◌, ◌⊎◌, ◌^◌, ◌≤◌, nat_abs};
     ghost use Rattle.grib_packing.specs.Differences.{Descriptors, NoNumber, One, Two};
     ghost use Rattle.grib_spatial.specs.Running.{Run};
-    ghost use Rattle.grib_spatial.specs.Follows.{last_of, IsSmall};
+    ghost use Rattle.grib_spatial.specs.Follows.{last_of};
 
     ghost Value = { Run };
 
     ghost view = { λ r. record {
       told = record { order = r.order; first = r.first; second = r.second; minimum = r.minimum };
-      last = last_of r.last;
+      last = last_of r.told r.before r.last;
     } };
 
     ghost invariant = { λ r. ((r.order ≡ 1) ⊎ (r.order ≡ 2))
         × (nat_abs r.first ≤ 2 ^ 31) × (nat_abs r.second ≤ 2 ^ 31) × (nat_abs r.minimum ≤ 2 ^ 31)
-        × IsSmall r.last };
+        × (r.told ≤ r.order) × (nat_abs r.before ≤ 2 ^ 60) × (nat_abs r.last ≤ 2 ^ 60) };
 }
 
 impl Running {
@@ -66,7 +62,9 @@ impl Running {
             first,
             second,
             minimum,
-            last: Last::NoNumber,
+            told: 0,
+            before: 0,
+            last: 0,
         }
     }
 
@@ -88,11 +86,11 @@ impl Running {
         if number.unsigned_abs() > 1 << 60 {
             return Err(ScaledRange);
         }
-        self.last = match self.last {
-            Last::One(one) if self.order == 2 => Last::Two(one, number),
-            Last::NoNumber | Last::One(_) => Last::One(number),
-            Last::Two(_, two) => Last::Two(two, number),
-        };
+        if self.told < self.order {
+            self.told += 1;
+        }
+        self.before = self.last;
+        self.last = number;
         Ok(number)
     }
 
@@ -102,11 +100,18 @@ impl Running {
         requires { code < 2 ^ 49 }
         ensures { result ≡ next_of self.now code }
     {
-        match self.last {
-            Last::NoNumber => self.first,
-            Last::One(_) if self.order == 2 => self.second,
-            Last::One(one) => code as i64 + self.minimum + one,
-            Last::Two(one, two) => after_two(code as i64 + self.minimum, one, two),
+        if self.told < self.order {
+            return if self.told == 0 {
+                self.first
+            } else {
+                self.second
+            };
+        }
+        let difference = code as i64 + self.minimum;
+        if self.order == 1 {
+            difference + self.last
+        } else {
+            after_two(difference, self.before, self.last)
         }
     }
 }

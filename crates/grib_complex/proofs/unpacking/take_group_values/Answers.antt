@@ -12,6 +12,15 @@ returns-then-stays_in_range g c = λ s5 spelled.
       entries_counted c.args.complex.now s5 s7 c.in-Ok.table spelled c.requires.accepted c.in-Ok.ensures.read,
     )
 
+pub returns-then-complex-eq0 : goal.returns-then-complex-eq0
+returns-then-complex-eq0 g c = λ s5 spelled.
+    let s7 = c.args.section7.now.octets.now in
+    let taken = c.take_plainly.ensures s5 spelled in (
+      c.in-Ok.ensures.fault s5 spelled ∙ taken.0,
+      taken.1,
+      entries_counted c.args.complex.now s5 s7 c.in-Ok.table spelled c.requires.accepted c.in-Ok.ensures.read,
+    )
+
 pub returns-in-Ok-take_points : goal.returns-in-Ok-take_points
 returns-in-Ok-take_points g c = λ s5 spelled.
     let s7 = c.args.section7.now.octets.now in

@@ -1,13 +1,12 @@
-use Rattle.std.proofs.Common.{refl, arith}
+use Rattle.std.proofs.Common.{◌-◌, refl, arith}
 use Rattle.grib_complex.proofs.Masks.{are_kept}
 use Rattle.grib_complex.proofs.keeping.PointsKeeper.keep.Goals as goal
 
 pub returns : goal.returns
 returns c = record {
   keeps = λ mask seen room are.
-      let at = c.go_on-points.result in
-      let here = c.go_on-points.ensures mask seen (omega arith) are in
-      let after = record at { points = c.push_within.new.items; left = c.saturating_sub.result } in
-      are_kept mask seen at after c.args.point here.0 here.1 refl c.saturating_sub.ensures
-      (c.push_within.ensures.items (omega (arith, here.0.within, here.0.memory, here.1, at.points.ok.0))) c.push_within.ensures.capacity;
+      let before = c.args.self in
+      let after = record before { points = c.push_within.new.items; left = before.left - 1 } in
+      are_kept mask seen before after c.args.point are (omega arith) refl refl
+      (c.push_within.ensures.items (omega (arith, are.within, are.memory, before.points.ok.0))) c.push_within.ensures.capacity;
 }
