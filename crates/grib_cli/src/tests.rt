@@ -162,16 +162,6 @@ const FIRST_LINE: usize = 46;
 
 const SECOND_LINE: usize = 47;
 
-#[test]
-fn messages_are_found_among_other_octets(rt: HostRuntime) -> Result<(), Fail> {
-    let octets = stream(rt.alloc())?;
-    for piece in [1, 7, 383] {
-        let checked = run_over(rt.alloc(), "check", octets.as_slice(), piece, CALM)?;
-        assert!(rt; checked.is(Outcome::Done, STREAM_CHECKED, ""));
-    }
-    Ok(())
-}
-
 // The message with a Section 7 of 70,008 octets, of which four are read: 70,182 octets.
 fn long_message(alloc: Global) -> Result<Vec<u8>, AllocError> {
     let mut octets = PLAIN[..170].to_vec(alloc)?;
@@ -248,21 +238,6 @@ fn each_write_may_fail(rt: HostRuntime) -> Result<(), Fail> {
 }
 
 #[test]
-fn each_write_of_a_dump_may_fail(rt: HostRuntime) -> Result<(), Fail> {
-    // The output takes 100 octets at a time, 203 in all, and is then finished.
-    let fronts = ["", &DUMPED[..100], &DUMPED[..200], DUMPED];
-    for (written, front) in fronts.iter().enumerate() {
-        let output = written as u64 + 1;
-        let dumped = run_over(rt.alloc(), "dump", &PLAIN, 100, Failing { output, ..CALM })?;
-        assert!(rt; dumped.is(Outcome::WriteFault, front, ""));
-    }
-    let failing = Failing { output: 5, ..CALM };
-    let dumped = run_over(rt.alloc(), "dump", &PLAIN, 100, failing)?;
-    assert!(rt; dumped.is(Outcome::Done, DUMPED, ""));
-    Ok(())
-}
-
-#[test]
 fn each_call_of_the_notes_may_fail(rt: HostRuntime) -> Result<(), Fail> {
     // The note has 40 octets; then the notes are finished.
     let note = "refused message 1 octet 11 Truncated 10\n";
@@ -324,18 +299,6 @@ fn octets_that_are_not_there_refuse(rt: HostRuntime) -> Result<(), Fail> {
             let outcome = refused(octet, Reason::Truncated, present as u64);
             assert!(rt; cut.is(outcome, "", note.as_str()));
         }
-    }
-    Ok(())
-}
-
-#[test]
-fn another_edition_refuses(rt: HostRuntime) -> Result<(), Fail> {
-    let mut octets = PLAIN;
-    octets[7] = 3;
-    for piece in [1, 7, 183] {
-        let other = run_over(rt.alloc(), "check", &octets, piece, CALM)?;
-        let outcome = refused(8, Reason::Edition, 3);
-        assert!(rt; other.is(outcome, "", "refused message 1 octet 8 Edition 3\n"));
     }
     Ok(())
 }

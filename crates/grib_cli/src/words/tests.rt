@@ -14,7 +14,7 @@ fn read(alloc: Global, line: &str) -> Result<Result<Command, u64>, AllocError> {
 }
 
 // Lines that are read, with their commands.
-const READ: [(Command, &str); 36] = [
+const READ: [(Command, &str); 33] = [
     // Each command has its name.
     (Command::Check, "check"),
     (Command::List, "list"),
@@ -41,18 +41,15 @@ const READ: [(Command, &str); 36] = [
     (Command::Filter, "filter year=-9223372036854775808"),
     (Command::Filter, "filter year=missing"),
     // `split` takes a text that is not empty.
-    (Command::Split, "split out=p"),
     (Command::Split, "split out=="),
     (Command::Split, "split out=a=b"),
     (Command::Split, "split out=é"),
     // `repack` takes an order beside differences alone.
-    (Command::Repack, "repack to=0"),
     (Command::Repack, "repack to=2"),
     (Command::Repack, "repack to=3 order=1"),
     (Command::Repack, "repack to=3 order=2"),
     (Command::Repack, "repack order=2 to=3"),
     // `migrate` takes a table, and may keep local octets.
-    (Command::Migrate, "migrate params=t"),
     (Command::Migrate, "migrate params=t local=keep"),
     (Command::Migrate, "migrate local=keep params==t"),
     // `make` takes numbers within their bounds.

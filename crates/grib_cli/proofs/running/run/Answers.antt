@@ -1,8 +1,7 @@
-use Rattle.std.proofs.Common.{refl, map, string_bytes, ◌∙◌, subst, ◌≡◌}
+use Rattle.std.proofs.Common.{refl, map, string_bytes, subst}
 use Rattle.grib_stream.proofs.Worlds.{did_keep}
-use Rattle.grib_stream.specs.declared.outcome.Outcome.{Outcome}
 use Rattle.grib_engine.specs.Outcomes.{NotesFront}
-use Rattle.grib_cli.specs.Words.{job_of, outcome_of}
+use Rattle.grib_cli.specs.Words.{job_of}
 use Rattle.grib_cli.proofs.Runs.{OneOf, if_asked, by_asked, cut_memory, runs_nothing, fronts_memory, memory_front, other_front, unshelved_memory}
 use Rattle.grib_cli.proofs.running.run.Goals as goal
 

@@ -1,5 +1,5 @@
 #!/usr/bin/env python3
-"""Cuts files of edition 2 into fields and picks fields from them, and compares: select.py PROGRAM FILE..
+"""Cuts files of edition 2 into fields and picks fields from them, and compares: keys.py PROGRAM FILE..
 
 Wants grib_filter of ecCodes (Debian: libeccodes-tools). Of each file the messages that PROGRAM accepts are taken,
 one after another. What `split` makes of them, joined again, has to give ecCodes the same values, field by field;
