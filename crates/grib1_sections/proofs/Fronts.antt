@@ -1,21 +1,20 @@
 -- What is accepted rests on the octets of the message alone.
-use Rattle.std.proofs.Common.{◌≡◌, ℕ, ◌+◌, ◌≤◌, true, Option, Some, List, length, take, ◌==◌, sym, ap, ◌∙◌, arith, subst, length-take-le, take-take}
+use Rattle.std.proofs.Common.{◌≡◌, ℕ, ◌+◌, ◌≤◌, true, List, length, take, ◌==◌, sym, ap, ◌∙◌, arith, subst, length-take-le, take-take}
 use Rattle.grib_bits.specs.Octets.{octets}
 use Rattle.grib_io.specs.Rows.{Row, first_fault}
 use Rattle.grib2_sections.specs.Verdict.{Accepted}
 use Rattle.grib2_sections.specs.Head.{indicator, edition, total_length_1}
 use Rattle.grib2_sections.specs.Frame.{ends_at}
-use Rattle.grib1_sections.specs.Frame.{section_at}
 use Rattle.grib1_sections.specs.Identification.{identification_rows}
 use Rattle.grib1_sections.specs.Grid.{grid_rows}
 use Rattle.grib1_sections.specs.Bitmap.{bitmap_rows}
 use Rattle.grib1_sections.specs.Data.{data_rows}
-use Rattle.grib1_sections.specs.Acceptance.{message_fault, verdict_1, has_bitmap, identification, grid_start, bitmap_start, data_start, end_start, points_of, values_of}
+use Rattle.grib1_sections.specs.Acceptance.{message_fault, verdict_1, has_bitmap, grid_start, bitmap_start, data_start, end_start, points_of, values_of}
 use Rattle.grib1_sections.specs.Message.{IsMessage1}
 use Rattle.grib1_sections.proofs.Rows.{accepted_none, none_accepted}
 use Rattle.grib1_sections.proofs.Agreeing.{Agree, Inside, agree_front, same_octets, same_section}
 use Rattle.grib1_sections.proofs.Places.{same_flag, same_grid_start, same_bitmap_start, same_points, same_data_start, same_values, same_end_start}
-use Rattle.grib1_sections.proofs.Parts.{Whole, Parts, PartsInside, parts_from_none, none_from_parts, parts_inside}
+use Rattle.grib1_sections.proofs.Parts.{Whole, Parts, parts_from_none, none_from_parts, parts_inside}
 
 -- ---- octets that agree as far as the message goes
 

@@ -1,8 +1,11 @@
-pub mod Rows
 pub mod Agreeing
-pub mod Places
-pub mod Parts
-pub mod Stays
-pub mod Fronts
-pub mod Entries
+pub mod Answered
 pub mod Columns
+pub mod Entries
+pub mod Fronts
+pub mod Joined
+pub mod Listed
+pub mod Parts
+pub mod Places
+pub mod Rows
+pub mod Stays

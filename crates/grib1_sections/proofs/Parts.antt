@@ -1,20 +1,20 @@
 -- What the rows of a message say where none fails.
-use Rattle.std.proofs.Common.{◌≡◌, ℕ, zero, suc, ◌+◌, ◌-◌, ◌<◌, ◌≤◌, Bool, true, false, not, ◌&&◌, ◌||◌, Option, Some, None, List, [], ◌∷◌, length, nat_lt, ◌==◌, refl, sym, ap, ◌∙◌, subst, arith, ltb-false, le-ltb, eq-eqb, ne_eqb, eqb-true}
+use Rattle.std.proofs.Common.{◌≡◌, ℕ, ◌+◌, ◌-◌, ◌≤◌, Bool, true, false, not, ◌||◌, Option, None, List, length, nat_lt, ◌==◌, refl, sym, ap, ◌∙◌, arith, ltb-false, le-ltb, eq-eqb, ne_eqb}
 use Rattle.std.proofs.lemmas.Bool.{and_left, and_right, or_parts, or_from, not-false, not_from_true}
 use Rattle.grib_bits.specs.Octets.{octets}
 use Rattle.grib_io.specs.declared.fault.Fault.{Fault}
 use Rattle.grib_io.specs.Rows.{Row, first_fault, first_fault_at, choose}
 use Rattle.grib2_sections.specs.Head.{edition, total_length, total_length_1, head_rows}
 use Rattle.grib2_sections.specs.Frame.{ends_at}
-use Rattle.grib1_sections.specs.Frame.{frame_rows, end_rows, section_at, after}
+use Rattle.grib1_sections.specs.Frame.{frame_rows, end_rows, section_at}
 use Rattle.grib1_sections.specs.Identification.{identification_rows}
 use Rattle.grib1_sections.specs.Grid.{grid_rows}
 use Rattle.grib1_sections.specs.Bitmap.{bitmap_rows}
 use Rattle.grib1_sections.specs.Data.{data_rows}
 use Rattle.grib1_sections.specs.Acceptance.{or_else, section_fault, bitmap_fault, sections_fault, message_fault, has_bitmap, grid_start, bitmap_start, data_start, end_start, points_of, values_of}
-use Rattle.grib1_sections.proofs.Rows.{AllPass, passes_from_none, none_from_passes, second_fails, or_none, none_or, none-located, located-none}
+use Rattle.grib1_sections.proofs.Rows.{passes_from_none, none_from_passes, second_fails, or_none, none_or, none-located, located-none}
 use Rattle.grib1_sections.proofs.Agreeing.{Inside}
-use Rattle.grib1_sections.proofs.Places.{GridInside, BitmapInside, grid_start-is, bitmap_start-is, data_start-flagged, data_start-plain, end_start-is}
+use Rattle.grib1_sections.proofs.Places.{BitmapInside, grid_start-is, bitmap_start-is, data_start-flagged, data_start-plain, end_start-is}
 
 -- ---- one section
 
@@ -45,12 +45,12 @@ pub none_from_whole : (m : List ℕ) (q least : ℕ) (rows : List ℕ → List R
 none_from_whole m q least rows w =
     none_or (first_fault (frame_rows m q least)) (λ _. first_fault_at q (rows (section_at m q)))
     (none_from_passes (frame_rows m q least) (
-    le-ltb (length m) (q + 2) w.begins,
-    (
-      or_from (nat_lt (octets m q (q + 2)) least) (nat_lt (total_length_1 m) (q - 1 + octets m q (q + 2) + 4))
-          (le-ltb (octets m q (q + 2)) least w.least_is) (le-ltb (total_length_1 m) (q - 1 + octets m q (q + 2) + 4) w.room),
-      (le-ltb (length m) (q - 1 + octets m q (q + 2)) w.there, tt),
-    ),
+      le-ltb (length m) (q + 2) w.begins,
+      (
+        or_from (nat_lt (octets m q (q + 2)) least) (nat_lt (total_length_1 m) (q - 1 + octets m q (q + 2) + 4))
+            (le-ltb (octets m q (q + 2)) least w.least_is) (le-ltb (total_length_1 m) (q - 1 + octets m q (q + 2) + 4) w.room),
+        (le-ltb (length m) (q - 1 + octets m q (q + 2)) w.there, tt),
+      ),
     ))
     (located-none q (first_fault (rows (section_at m q))) w.rows_hold)
 
@@ -152,8 +152,8 @@ none_from_parts m first p =
     (none_or (section_fault m (data_start m) 11 (data_rows (values_of m))) (from_end m)
     (none_from_whole m (data_start m) 11 (data_rows (values_of m)) p.fourth)
     (none_from_passes (end_rows m (end_start m)) (
-    le-ltb (length m) (end_start m + 3) p.there,
-    (not_from_true (ends_at m (end_start m)) p.ends, (le-ltb (end_start m + 3) (total_length_1 m) p.last, tt)),
+      le-ltb (length m) (end_start m + 3) p.there,
+      (not_from_true (ends_at m (end_start m)) p.ends, (le-ltb (end_start m + 3) (total_length_1 m) p.last, tt)),
     ))))))
 
 -- ---- where the sections lie

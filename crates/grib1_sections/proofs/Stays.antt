@@ -16,7 +16,7 @@ use Rattle.grib1_sections.specs.Acceptance.{or_else, section_fault, bitmap_fault
 use Rattle.grib1_sections.proofs.Rows.{or_none, passes_from_none, accepted_none, none_accepted, refused_some, some_refused}
 use Rattle.grib1_sections.proofs.Agreeing.{Agree, Inside, agree_more, same_octets, same_section}
 use Rattle.grib1_sections.proofs.Places.{GridInside, BitmapInside, same_flag, same_grid_start, same_bitmap_start, same_points, same_data_start, same_values, same_end_start, grid_start-is, bitmap_start-is, data_start-flagged, data_start-plain, end_start-is}
-use Rattle.grib1_sections.proofs.Parts.{Whole, bitmap_whole, head_first, head_none, from_end, from_data, from_bitmap, from_grid, from_first}
+use Rattle.grib1_sections.proofs.Parts.{bitmap_whole, head_first, from_end, from_data, from_bitmap, from_grid, from_first}
 
 -- ---- a refusal that asks for more, or the same
 
@@ -109,9 +109,9 @@ end_kept n u w q size h low total =
     let there : q + 3 ≤ n = omega (arith, size, ltb-false (length u) (q + 3) pass) in
     let same : octets w q (q + 3) ≡ octets u q (q + 3) = same_octets n u w q (q + 3) h low (omega arith) there in
     let after : ℕ → ℕ → Option Fault = λ mark t. first_fault (
-      row (not (mark == 926365495)) q EndMark mark
-      ∷ row (nat_lt (q + 3) t) (q + 4) LengthDisagrees (t - (q + 3))
-      ∷ []) in (
+    row (not (mark == 926365495)) q EndMark mark
+    ∷ row (nat_lt (q + 3) t) (q + 4) LengthDisagrees (t - (q + 3))
+    ∷ []) in (
       le-ltb (length w) (q + 3) (omega (arith, h.long_w, there)),
       inr (ap (λ mark. after mark (total_length_1 w)) same ∙ ap (after (octets u q (q + 3))) total),
     ))

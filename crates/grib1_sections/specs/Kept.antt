@@ -1,10 +1,9 @@
 -- What is known of the sections of a message while it is read, and after, for private functions.
-use Rattle.std.specs.Prelude.{◌≡◌, ℕ, ◌+◌, ◌≤◌, true, Option, Some, None, List, length}
+use Rattle.std.specs.Prelude.{◌≡◌, ℕ, ◌+◌, ◌≤◌, true, Option, Some, List, length}
 use Rattle.grib_bits.specs.Octets.{octets}
 use Rattle.grib_io.specs.declared.fault.Fault.{Fault}
-use Rattle.grib_io.specs.Rows.{first_fault}
 use Rattle.grib2_sections.specs.Head.{total_length_1}
-use Rattle.grib1_sections.specs.Frame.{frame_rows, section_at}
+use Rattle.grib1_sections.specs.Frame.{section_at}
 use Rattle.grib1_sections.specs.Grid.{lists_rows, list_place, lists_end}
 use Rattle.grib1_sections.specs.Message.{IsMessage1}
 use Rattle.grib1_sections.specs.Acceptance.{identification, grid, bitmap, data_section, points_of, values_of, data_start}
@@ -35,6 +34,7 @@ pub record HasBitmap (message : List ℕ) (s : Option (List ℕ)) (present after
   pub section : s ≡ bitmap message
   pub present_are : present ≡ values_of message
   pub place : after ≡ data_start message
+  pub low : 1 ≤ after
   pub there : after ≤ length message + 1
   pub room : after + 3 ≤ total_length_1 message
 

@@ -1,5 +1,5 @@
 -- A message of edition 1 as a whole.
-use Rattle.std.specs.Prelude.{◌≡◌, ℕ, cond, Option, Some, None, List, length, take, ◌==◌}
+use Rattle.std.specs.Prelude.{◌≡◌, ℕ, cond, Option, Some, List, length, take, ◌==◌}
 use Rattle.grib2_sections.specs.Verdict.{Accepted}
 use Rattle.grib2_sections.specs.Head.{indicator, edition}
 use Rattle.grib1_sections.specs.Identification.{identification_rows}

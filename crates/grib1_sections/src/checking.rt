@@ -188,10 +188,18 @@ pub(crate) fn check_bitmap(
     let octets = section.octets;
     let number = u16_at(octets, 5);
     if number != 0 {
-        return Err(section.refusal(5, Reason::BitmapIndicator, u64::from(number)).into());
+        return Err(
+            section
+                .refusal(5, Reason::BitmapIndicator, u64::from(number))
+                .into(),
+        );
     }
     if octets.len() - 6 < points.div_ceil(8) as usize {
-        return Err(section.refusal(1, Reason::BitmapSize, octets.len() as u64).into());
+        return Err(
+            section
+                .refusal(1, Reason::BitmapSize, octets.len() as u64)
+                .into(),
+        );
     }
     let mask = Mask::of_octets(alloc, &octets[6..], points)?;
     Ok(ones(&mask))

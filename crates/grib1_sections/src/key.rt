@@ -1,6 +1,6 @@
 //! The numbers of Section 1 by their names.
 
-ghost use Rattle.std.specs.Prelude.{◌≡◌, ◌+◌, ◌-◌, ◌≤◌, length};
+ghost use Rattle.std.specs.Prelude.{◌≡◌, ◌+◌, ◌≤◌, ◌<◌, ◌^◌, length};
 ghost use Rattle.grib1_sections.specs.Keys as keys;
 ghost use Rattle.grib1_sections.specs.Keys.{key_in};
 
@@ -101,7 +101,8 @@ fn place_of(key: Key1) -> Place
 /// The number of the key in this Section 1.
 pub(crate) fn number_of(section1: &[u8], key: Key1) -> u64
     requires { 28 ≤ length section1.now }
-    ensures { result ≡ key_in section1.now key }
+    ensures number { result ≡ key_in section1.now key }
+    ensures small { result < 2 ^ 16 }
 {
     let place = place_of(key);
     let size = place.last + 1 - place.first;

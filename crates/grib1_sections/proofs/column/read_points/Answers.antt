@@ -1,4 +1,4 @@
-use Rattle.std.proofs.Common.{◌≡◌, Bool, true, List, IfOk, option_copied, replicate, sym, ap, ◌∙◌, subst}
+use Rattle.std.proofs.Common.{◌≡◌, true, List, IfOk, option_copied, replicate, sym, ap, ◌∙◌, subst}
 use Rattle.grib_bits.specs.Bits.{bits as bits_in}
 use Rattle.grib_packing.specs.declared.column.Point.{Point}
 use Rattle.grib1_sections.specs.Bitmap.{mask_of}
