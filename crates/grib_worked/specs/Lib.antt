@@ -4,3 +4,4 @@ pub mod Variations
 pub mod Changes
 pub mod Columns
 pub mod Values
+pub mod Edition1

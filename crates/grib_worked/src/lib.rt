@@ -6,6 +6,7 @@ pub mod acceptance;
 pub mod answers;
 pub mod changes;
 pub mod columns;
+pub mod edition1;
 pub mod grammar;
 pub mod lines;
 pub mod packings;
