@@ -30,7 +30,13 @@ fn both_editions_are_checked_in_one_input(rt: HostRuntime) -> Result<(), Fail> {
     both.extend_from_slice(&FIRST)?;
     for piece in [1, 7, 271] {
         let checked = run_over(rt.alloc(), "check", both.as_slice(), piece, CALM)?;
-        assert!(rt; checked.is(Outcome::Done, "message 1 at 0 edition 2 octets 183 fields 1\nmessage 2 at 183 edition 1 octets 88 fields 1\nmessages 2 fields 2 skipped 0\n", ""));
+        assert!(rt;
+            checked.is(
+                Outcome::Done,
+                "message 1 at 0 edition 2 octets 183 fields 1\nmessage 2 at 183 edition 1 octets 88 fields 1\nmessages 2 fields 2 skipped 0\n",
+                ""
+            )
+        );
     }
     Ok(())
 }
