@@ -107,17 +107,3 @@ abbrev pub w : List ℕ
 w =
     head (hex "00000000000000C7") ++ identification ++ grid ++ product ++ put representation 20 (hex "28")
     ++ no_bitmap ++ hex "00000019 07 0000000000 0000000001 0000000002 0100000000" ++ end
-
--- The sections of G1, of edition 1.
-abbrev pub first_identification : List ℕ
-first_identification = hex "00001C 02 62 01 FF 80 0B 64 01F4 18 01 0F 0C 00 01 06 00 00 0000 00 15 00 0001"
-
-abbrev pub first_grid : List ℕ
-first_grid = hex "000020 00 FF 00 0002 0002 00C350 002710 80 00BF68 002AF8 03E8 03E8 00 00000000"
-
-abbrev pub first_values : List ℕ
-first_values = hex "000010 08 8003 C276A000 08 000102FF 00"
-
--- G1, 88 octets: the field of M1 in edition 1
-abbrev pub g1 : List ℕ
-g1 = hex "47524942 000058 01" ++ first_identification ++ first_grid ++ first_values ++ end

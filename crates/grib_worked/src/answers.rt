@@ -9,7 +9,8 @@ ghost use Rattle.grib_repack.specs.declared.target.RepackTarget.TheVariants.{Sim
 ghost use Rattle.grib_engine.specs.declared.job.Job.TheVariants.{Check, List, Dump, Set, Repack};
 ghost use Rattle.grib_engine.specs.Tasks.{answer};
 ghost use Rattle.grib_worked.specs.Hex.{hex, put};
-ghost use Rattle.grib_worked.specs.Messages.{m1, m2, m3, c2, g1};
+ghost use Rattle.grib_worked.specs.Messages.{m1, m2, m3, c2};
+ghost use Rattle.grib_worked.specs.Edition1.{g1};
 ghost use Rattle.grib_worked.specs.Variations.{cut_answer, refused_after, kept_by, done_with, no_bits};
 
 /// `check` of nothing, of the plain message, and of it twice after a bulletin's heading and before five

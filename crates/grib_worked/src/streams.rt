@@ -6,7 +6,8 @@ ghost use Rattle.grib_io.specs.declared.fault.Reason.TheVariants.{Truncated, Tot
 ghost use Rattle.grib_stream.specs.Stream.{stream, stream_of, message_after, Over, Refusing};
 ghost use Rattle.grib_engine.specs.Tasks.{judge};
 ghost use Rattle.grib_worked.specs.Hex.{hex, put};
-ghost use Rattle.grib_worked.specs.Messages.{m1, m2, g1};
+ghost use Rattle.grib_worked.specs.Messages.{m1, m2};
+ghost use Rattle.grib_worked.specs.Edition1.{g1};
 
 /// An empty input, and inputs that end before a whole `GRIB`.
 pub fn inputs_without_messages()
