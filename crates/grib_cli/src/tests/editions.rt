@@ -1,10 +1,7 @@
 //! Messages of edition 1: read as those of edition 2 are, and never changed.
 
-ghost use Rattle.std.specs.Prelude.{◌≤◌};
-
-use super::{CALM, Failing, PLAIN, refused, run_over};
+use super::{CALM, PLAIN, run_over};
 use grib_engine::{Cause, Kept, Outcome};
-use grib_io::Reason;
 use std::test::Fail;
 
 // The message G1 of docs/PROFILE.md, a field of 2 by 2 points.
@@ -67,26 +64,5 @@ fn a_message_of_edition_1_is_kept_from_changes(rt: HostRuntime) -> Result<(), Fa
         let ran = run_over(rt.alloc(), words, &FIRST, 50, CALM)?;
         assert!(rt; ran.is(kept, "", "kept message 1 EditionOne\n"));
     }
-    Ok(())
-}
-
-#[test]
-fn a_cut_message_of_edition_1_refuses(rt: HostRuntime) -> Result<(), Fail> {
-    for present in 4..88 {
-        let octet = present as u64 + 1;
-        let note = format!(in rt.alloc(); "refused message 1 octet {octet} Truncated {present}\n")?;
-        let cut = run_over(rt.alloc(), "dump", &FIRST[..present], 40, CALM)?;
-        let outcome = refused(octet, Reason::Truncated, present as u64);
-        assert!(rt; cut.is(outcome, "", note.as_str()));
-    }
-    Ok(())
-}
-
-#[test]
-fn a_dump_of_edition_1_may_fail(rt: HostRuntime) -> Result<(), Fail> {
-    let failing = Failing { output: 3, ..CALM };
-    let dumped = run_over(rt.alloc(), "dump", &FIRST, 50, failing)?;
-    assert!(rt; dumped.outcome == Outcome::WriteFault);
-    assert!(rt; dumped.output.octets() == &DUMPED.as_bytes()[..100]);
     Ok(())
 }
