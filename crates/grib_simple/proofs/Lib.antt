@@ -7,3 +7,5 @@ mod PointByPoint
 pub mod Fitting
 mod Bitmaps
 pub mod Back
+mod Same
+mod Times

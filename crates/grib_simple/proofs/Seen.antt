@@ -14,7 +14,7 @@ use Rattle.grib_simple.specs.Survey.{place_after, is_too_wide, Surveys}
 pub first_place-some : {A : Type 0} (test : A → Bool) (xs : List A) → position_or_len test xs < length xs → first_place test xs ≡ position_or_len test xs + 1
 first_place-some test xs h = rw (lt-ltb (position_or_len test xs) (length xs) h) refl
 
-first-here : {A : Type 0} (test : A → Bool) (x : A) (xs : List A) → test x ≡ true → first_place test (x ∷ xs) ≡ 1
+pub first-here : {A : Type 0} (test : A → Bool) (x : A) (xs : List A) → test x ≡ true → first_place test (x ∷ xs) ≡ 1
 first-here test x xs e =
     let first : position_or_len test (x ∷ xs) ≡ 0 = rw e refl in
     first_place-some test (x ∷ xs) (omega arith) ∙ ap (λ (n : ℕ). n + 1) first
@@ -104,15 +104,16 @@ module _ (test : Point → Bool) (x : Point) (rest : List Point) (found seen now
 -- ---- a scaled number more
 
 pub number_more : (before now : Survey) (seen place : ℕ) (x : ℤ) (rest points : List Point) → place ≡ seen + 1
-    → now.secondary ≡ before.secondary → now.missing ≡ before.missing → now.present ≡ before.present + 1 → now.greatest ≡ max before.greatest (nat_abs x)
+    → now.secondary ≡ before.secondary → now.missing ≡ before.missing → now.same ≡ before.same → now.present ≡ before.present + 1 → now.greatest ≡ max before.greatest (nat_abs x)
     → place_after now.too_wide place is_too_wide rest ≡ place_after before.too_wide seen is_too_wide (Scaled x ∷ rest)
     → Surveys before seen (Scaled x ∷ rest) points → Surveys now place rest points
-number_more before now seen place x rest points next secondary missing present most wide h = record {
+number_more before now seen place x rest points next secondary missing same present most wide h = record {
   secondary = place-later is_missing2 (Scaled x) rest before.secondary seen now.secondary place next refl secondary ∙ h.secondary;
   too_wide = wide ∙ h.too_wide;
   greatest_is = omega (arith, h.greatest_is, most);
   present = omega (arith, h.present, present);
   missing = ap (λ (b : Bool). b || list_any is_missing rest) missing ∙ h.missing;
+  same = same ∙ h.same;
 }
 
 -- ---- the first misfit

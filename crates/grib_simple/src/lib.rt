@@ -2,12 +2,14 @@
 //! packing: template 5.0.
 #![tactic(auto)]
 
+mod common;
 pub mod laws;
 mod numbers;
 mod packed;
 mod packing;
 #[cfg(test)]
 mod packing_tests;
+mod repeated;
 mod representation;
 mod sections;
 mod simple;
@@ -17,6 +19,7 @@ mod tests;
 mod writing;
 mod written;
 
+pub use common::common_point;
 pub use grib_packing::{Column, Point};
 pub use numbers::{masked_points, unpack_numbers, unpack_points};
 pub use packing::Packing;

@@ -13,8 +13,8 @@ use std::alloc::Global;
 
 /// Sections 5, 6 and 7 of a column: the numbers of the points that are not missing in the least bits,
 /// and a bitmap where a point is missing. `kind` is the type of the original values (code table 5.1).
-/// It looks at all points first, takes all its memory, and then writes. A field that is wholly missing is
-/// written without looking again.
+/// It looks at all points first, takes all its memory, and then writes. A field of one value, or wholly
+/// missing, is written without looking again.
 ///
 /// # Errors
 ///
@@ -35,7 +35,7 @@ pub fn pack_simply(alloc: Global, column: &Column, kind: u8) -> Result<Packed, P
     Ok(Packed {
         section5: representation_section(column, survey.present, bits as u8, kind, section5),
         section6: bitmap_section(points, survey.present, survey.missing, section6),
-        section7: values_section(points, bits, octets, section7),
+        section7: values_section(points, survey, bits, octets, section7),
     })
 }
 

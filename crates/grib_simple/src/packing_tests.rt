@@ -7,6 +7,7 @@ ghost use Rattle.grib_packing.specs.Entries.{is_out_of_range};
 use super::*;
 use grib_io::List;
 use std::alloc::Global;
+use std::process::Abort;
 use std::test::Fail;
 
 /// The column of these points, with R = -118.625, E = -3 and D = 1, packed simply. Their original values
@@ -138,6 +139,40 @@ fn numbers_of_48_bits(rt: HostRuntime) -> Result<(), Fail> {
         0, 0, 0, 17, 7, 255, 255, 255, 255, 255, 255, 0, 0, 0, 0, 0, 1,
     ];
     assert!(rt; has(&made, 2, 48, &[0, 0, 0, 6, 6, 255], &data));
+    Ok(())
+}
+
+/// Section 7 of so many points with this number, which has 19 bits, once it was seen to unpack to them.
+fn same_and_back(
+    rt: &impl Abort,
+    alloc: Global,
+    number: i64,
+    count: u32,
+) -> Result<List<u8>, PackFault>
+    requires some { 1 ≤ count }
+    requires few { count ≤ 33554432 }
+    requires within { is_out_of_range (Point.Scaled number) ≡ false }
+{
+    let points = vec![in alloc; Point::Scaled(number); count as usize]?;
+    let packed = packed(alloc, &points)?;
+    let octets = packed.section7.as_slice();
+    assert!(rt; octets.len() > 5 && octets.len() <= 1 << 20);
+    let data = &octets[5..];
+    assert!(rt; 19 * u64::from(count) <= 8 * data.len() as u64);
+    let back = unpack_points(alloc, data, 19, count)?;
+    assert!(rt; back.as_slice() == points.as_slice());
+    Ok(packed.section7)
+}
+
+/// One number of 19 bits at each point: three stand in a word, and one is left.
+#[test]
+fn one_number_many_times(rt: HostRuntime) -> Result<(), Fail> {
+    let Ok(section7) = same_and_back(&rt, rt.alloc(), 0x54321, 70_000) else {
+        panic!(rt; "not packed");
+    };
+    let octets = section7.as_slice();
+    assert!(rt; octets.len() == 166_255);
+    assert!(rt; octets[..5] == [0, 0x02, 0x89, 0x6f, 7]);
     Ok(())
 }
 

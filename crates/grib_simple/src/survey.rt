@@ -1,12 +1,14 @@
-//! What is seen of a column in one pass, before it is packed.
+//! What is seen of a column in one pass, before it is packed. A column of one value, or wholly missing, is
+//! known by its first point and their count.
 
-ghost use Rattle.std.specs.Prelude.{◌≡◌, ◌+◌, ◌-◌, ◌^◌, ◌<◌, ◌≤◌, ◌∷◌, List, length, None, MatchResult};
+ghost use Rattle.std.specs.Prelude.{◌≡◌, ◌+◌, ◌-◌, ◌^◌, ◌<◌, ◌≤◌, ◌∷◌, List, length, replicate, None, MatchResult};
 ghost use Rattle.grib_packing.specs.declared.column.Point as point_packing;
 ghost use Rattle.grib_packing.specs.Misfits.{ToSimple, first_misfit, is_outside};
 ghost use Rattle.grib_simple.specs.Survey.{IsSurvey, Surveys};
 ghost use Rattle.grib_simple.specs.Written.{IsPackFault};
 
 use crate::Point;
+use crate::common::common_point;
 use crate::written::PackFault;
 
 /// The greatest number of simple packing, which has 48 bits at most.
@@ -25,25 +27,61 @@ pub struct Survey {
     pub secondary: u32,
     /// The first point, from 1, whose number is negative or has more than 48 bits, 0 for none.
     pub too_wide: u32,
+    /// Whether all points are known to be the same, so that each scaled number is the greatest.
+    pub same: bool,
 }
 
 impl Survey {
     /// That of these points.
     pub fn of(points: &[Point]) -> Survey
+        requires some { 1 ≤ length points.now }
+        requires few { length points.now ≤ 33554432 }
+        ensures { IsSurvey result points.now }
+    {
+        match common_point(points) {
+            Some(point) => Survey::of_same(point, points.len() as u32),
+            None => Survey::of_each(points),
+        }
+    }
+
+    /// That of so many points that are all this one.
+    fn of_same(point: Point, count: u32) -> Survey
+        requires { 1 ≤ count }
+        ensures { IsSurvey result (replicate count point) }
+    {
+        let one = Survey::of_none().with(1, point);
+        Survey {
+            present: one.present * count,
+            same: true,
+            ..one
+        }
+    }
+
+    /// That of points which are looked at one after another.
+    fn of_each(points: &[Point]) -> Survey
         requires { length points.now ≤ 33554432 }
         ensures { IsSurvey result points.now }
     {
-        let mut survey = Survey {
+        let mut survey = Survey::of_none();
+        for index in 0..points.len() {
+            survey = survey.with(index as u32 + 1, points[index]);
+        }
+        survey
+    }
+
+    /// That of no points yet.
+    fn of_none() -> Survey
+        ensures survey { (points : List point_packing.Point) → Surveys result 0 points points }
+        ensures none { result.present ≡ 0 }
+    {
+        Survey {
             greatest: 0,
             present: 0,
             missing: false,
             secondary: 0,
             too_wide: 0,
-        };
-        for index in 0..points.len() {
-            survey = survey.with(index as u32 + 1, points[index]);
+            same: false,
         }
-        survey
     }
 
     /// That of one point more, at this place.

@@ -5,8 +5,11 @@ ghost use Rattle.std.specs.List.{list_any};
 ghost use Rattle.grib_bits.specs.Bits.{bits_of, digit};
 ghost use Rattle.grib_packing.specs.Misfits.{is_missing as is_missing_point, is_missing2};
 ghost use Rattle.grib_packing.specs.Packed.{HasContents, HasNumbers, IsBitmap, fields, no_bitmap_section, present_bits, simple_numbers};
+ghost use Rattle.grib_simple.specs.Survey.{IsSurvey};
 
+use crate::repeated::put_same;
 use crate::sections::{octets_written, write_head, write_numbers};
+use crate::survey::Survey;
 use crate::{Column, Point};
 use grib_bits::BitWriter;
 use grib_io::List;
@@ -148,7 +151,14 @@ fn present_bit(point: Point) -> u64
 
 /// Section 7 of simple packing, in a writer that has room for so many octets: the scaled numbers, in so
 /// many bits each (WMO-No. 306, Volume I.2, FM 92 GRIB edition 2, data template 7.0).
-pub fn values_section(points: &[Point], bits: u32, octets: u32, mut room: BitWriter) -> List<u8>
+pub fn values_section(
+    points: &[Point],
+    survey: Survey,
+    bits: u32,
+    octets: u32,
+    mut room: BitWriter,
+) -> List<u8>
+    requires survey { IsSurvey survey points.now }
     requires width { bits ≤ 48 }
     requires fits { All (λ number. number < 2 ^ bits) (simple_numbers points.now) }
     requires octets { octets ≡ 5 + (length (simple_numbers points.now) * bits + 7) / 8 }
@@ -157,20 +167,27 @@ pub fn values_section(points: &[Point], bits: u32, octets: u32, mut room: BitWri
     ensures { HasContents 7 result (fields bits (simple_numbers points.now)) }
 {
     write_head(octets, 7, &mut room);
-    put_numbers(points, bits, &mut room);
+    put_numbers(points, survey, bits, &mut room);
     room.align();
     octets_written(room)
 }
 
-/// Writes the scaled numbers, in so many bits each: nothing, where these are none.
-fn put_numbers(points: &[Point], bits: u32, out: &mut BitWriter)
+/// Writes the scaled numbers, in so many bits each: nothing, where these are none. Where the numbers are
+/// known to be the same, no point is looked at.
+fn put_numbers(points: &[Point], survey: Survey, bits: u32, out: &mut BitWriter)
+    requires survey { IsSurvey survey points.now }
     requires width { bits ≤ 48 }
     requires fits { All (λ number. number < 2 ^ bits) (simple_numbers points.now) }
     requires room { length (fields bits (simple_numbers points.now)) ≤ out.old.spare }
     ensures bits { out.new.bits ≡ out.old.bits ++ fields bits (simple_numbers points.now) }
     ensures spare { out.new.spare + length (fields bits (simple_numbers points.now)) ≡ out.old.spare }
 {
-    if bits > 0 {
+    if bits == 0 {
+        return;
+    }
+    if survey.same {
+        put_same(survey.greatest, survey.present, bits, out);
+    } else {
         put_each(points, bits, out);
     }
 }

@@ -1,4 +1,4 @@
-use Rattle.std.proofs.Common.{◌≡◌, ◌++◌, Bool, List, length, replicate, false, sym, ap, ◌∙◌, arith}
+use Rattle.std.proofs.Common.{◌≡◌, ◌++◌, Bool, List, length, sym, ap, ◌∙◌, arith}
 use Rattle.grib_packing.specs.Packed.{simple_numbers}
 use Rattle.grib_simple.proofs.PointByPoint.{all_missing}
 use Rattle.grib_simple.proofs.writing.put_bitmap.Goals as goal

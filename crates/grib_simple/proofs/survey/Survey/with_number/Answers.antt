@@ -24,4 +24,4 @@ returns-clause-survey c rest points h =
     ] in
     let most : c.max.result ≡ max before.greatest (nat_abs x) =
     c.max.ensures ∙ ap (λ (n : ℕ). max before.greatest n) (c.unsigned_abs.ensures.value ∙ ap nat_abs back) in
-    number_more before _ (place - 1) place x rest points next refl refl refl most wide h
+    number_more before _ (place - 1) place x rest points next refl refl refl refl most wide h

@@ -3,7 +3,7 @@ use Rattle.grib_packing.specs.declared.column.Point.{Point}
 use Rattle.grib_packing.specs.declared.column.Point.TheVariants.{Scaled}
 use Rattle.grib_simple.specs.Survey.{Surveys}
 use Rattle.grib_simple.proofs.Seen.{next_point}
-use Rattle.grib_simple.proofs.survey.Survey.of.Goals as goal
+use Rattle.grib_simple.proofs.survey.Survey.of_each.Goals as goal
 
 pub loop-index-preserved : goal.loop-index-preserved
 loop-index-preserved c =
