@@ -7,7 +7,7 @@ ghost use Rattle.grib_groups.specs.Table.{groups_in, IsWhole, IsNarrow};
 ghost use Rattle.grib_groups.specs.Going.{left_of, IsReadable, IsShort, IsReady, Went};
 
 use crate::coding::Coding;
-use crate::run::take_run;
+use crate::run::{take_in_words, take_run};
 use crate::{Group, Layout, RunTaker, Table};
 use grib_bits::{BitWindow, get_bits};
 
@@ -112,6 +112,38 @@ impl Numbers {
         ensures waits { 0 < values (left_of self.new (groups_in table.now)) → IsShort self.new }
     {
         taker = self.take_some(layout, piece, &mut at, taker);
+        if self.current.count > 0 {
+            keep_rest(&mut self.pending, piece, at);
+            return taker;
+        }
+        self.take_next_groups(layout, table, piece, at, taker)
+    }
+
+    /// Takes the numbers of the next groups that fit, and keeps the bits that are left. Nothing is left of the
+    /// current group.
+    fn take_next_groups<T: RunTaker>(
+        &mut self,
+        layout: &Layout,
+        table: &Table,
+        piece: &[u8],
+        mut at: u64,
+        mut taker: T,
+    ) -> T
+        requires bits { layout.now.reference_bits ≤ 48 }
+        requires whole { IsWhole table.now }
+        requires narrow { IsNarrow table.now }
+        requires limit { 0 < vec_len table.now.lengths → 2 ^ 33 ≤ T.Taker.limit }
+        requires short { length piece.now < 2 ^ 32 }
+        requires readable { IsReadable T.Taker.limit self.old.current }
+        requires none { self.old.current.count ≡ 0 }
+        requires pending { self.old.pending ≡ [] }
+        requires within { at ≤ 8 * length piece.now }
+        ensures goes { Went T.Taker.took layout.now (left_of self.old (groups_in table.now)) (drop at (bits_in piece.now)) taker
+            (left_of self.new (groups_in table.now)) self.new.pending result }
+        ensures ready { IsReady T.Taker.limit self.new }
+        ensures waits { 0 < values (left_of self.new (groups_in table.now)) → IsShort self.new }
+    {
+        taker = self.take_whole_groups(layout, table, piece, &mut at, taker);
         while self.current.count == 0 && self.next < table.len() {
             self.current = table.group(self.next);
             self.next += 1;
@@ -121,6 +153,44 @@ impl Numbers {
             return taker;
         }
         keep_rest(&mut self.pending, piece, at);
+        taker
+    }
+
+    /// Takes the next groups, as long as each number of a group begins where eight octets are left. Nothing is
+    /// left of the current one.
+    #[inline(always)]
+    fn take_whole_groups<T: RunTaker>(
+        &mut self,
+        layout: &Layout,
+        table: &Table,
+        piece: &[u8],
+        at: &mut u64,
+        mut taker: T,
+    ) -> T
+        requires bits { layout.now.reference_bits ≤ 48 }
+        requires whole { IsWhole table.now }
+        requires narrow { IsNarrow table.now }
+        requires limit { 0 < vec_len table.now.lengths → 2 ^ 33 ≤ T.Taker.limit }
+        requires short { length piece.now < 2 ^ 32 }
+        requires none { self.old.current.count ≡ 0 }
+        requires within { at.old ≤ 8 * length piece.now }
+        ensures goes { Went T.Taker.took layout.now (left_of self.old (groups_in table.now)) (drop at.old (bits_in piece.now)) taker
+            (left_of self.new (groups_in table.now)) (drop at.new (bits_in piece.now)) result }
+        ensures current { self.new.current ≡ self.old.current }
+        ensures pending { self.new.pending ≡ self.old.pending }
+        ensures within { at.new ≤ 8 * length piece.now }
+    {
+        let bits = 8 * piece.len() as u64;
+        while self.next < table.len() {
+            let group = table.group(self.next);
+            let end = *at + u64::from(group.count) * u64::from(group.width);
+            if bits < end + 64 {
+                break;
+            }
+            taker = take_in_words(layout, group, piece, *at, taker);
+            *at = end;
+            self.next += 1;
+        }
         taker
     }
 

@@ -41,6 +41,30 @@ pub fn take_run<T: RunTaker>(
     take_from_end(coding, octets, at, width, count - whole, taker)
 }
 
+/// Takes all numbers of a group, each of which begins where eight octets are left.
+#[inline(always)]
+pub fn take_in_words<T: RunTaker>(
+    layout: &Layout,
+    group: Group,
+    octets: &[u8],
+    at: u64,
+    taker: T,
+) -> T
+    requires width { group.width ≤ 48 }
+    requires bits { layout.now.reference_bits ≤ 48 }
+    requires limit { group.reference + 2 ^ group.width ≤ T.Taker.limit }
+    requires short { length octets.now < 2 ^ 32 }
+    requires within { at + group.count * group.width + 64 ≤ 8 * length octets.now }
+    ensures { T.Taker.took taker (map (code_of layout.now group) (plain (drop at (bits_in octets.now)) group.width group.count)) result }
+{
+    let width = u32::from(group.width);
+    let coding = Coding::of(layout, group);
+    if width == 0 {
+        return take_same(coding, group.count, taker);
+    }
+    take_from_words(coding, octets, at, width, group.count, taker)
+}
+
 /// Takes `count` numbers of no bits.
 #[inline(always)]
 fn take_same<T: RunTaker>(coding: Coding, count: u32, taker: T) -> T
