@@ -2,6 +2,7 @@ pub mod Plain
 pub mod Taken
 pub mod Coded
 pub mod Runs
+pub mod CodeRuns
 pub mod Listed
 pub mod Moves
 pub mod Places

@@ -112,6 +112,17 @@ taken_next layout group groups bits empty = record {
   ends = record { before = []; joined = refl };
 }
 
+-- and a group with no values may stand before the others
+pub taken_before : (layout : Layout) (group : Group) (groups : List Group) (bits : List Bool) → group.count ≡ 0 → Taken layout groups bits [] (group ∷ groups) bits
+taken_before layout group groups bits empty =
+    let next = taken_next layout group groups bits empty in
+    record {
+      agree = λ more. sym (next.agree more);
+      counted = omega (arith, next.counted);
+      used = λ some. sym (next.used (omega (arith, some, values-cons group groups, empty)));
+      ends = record { before = []; joined = refl };
+    }
+
 -- where no value is left, no bits are needed
 pub taken_all : (layout : Layout) (groups : List Group) (bits : List Bool) → values groups ≡ 0 → Taken layout groups bits [] groups []
 taken_all layout groups bits none = record {

@@ -1,4 +1,5 @@
 pub mod Taking
+pub mod CodeRuns
 pub mod Table
 pub mod Going
 pub mod Lists

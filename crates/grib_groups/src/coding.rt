@@ -9,7 +9,7 @@ use grib_io::Code;
 
 /// What the packed numbers of one group mean: a code, unless they are one of the marks. A mark that
 /// no number is has all bits set.
-#[derive(Clone, Copy)]
+#[derive(Clone, Copy, Debug)]
 pub struct Coding {
     reference: u64,
     primary: u64,
@@ -68,6 +68,16 @@ impl Coding {
                 u64::MAX
             },
         }
+    }
+
+    /// What the numbers of codes are below, where packed numbers have so many bits.
+    #[inline(always)]
+    pub fn limit(self, width: u32) -> u64
+        requires width { width ≤ 48 }
+        requires small { self.reference < 2 ^ 32 }
+        ensures { result ≡ self.reference + 2 ^ width }
+    {
+        self.reference + (1 << width)
     }
 
     /// The code of a packed number.

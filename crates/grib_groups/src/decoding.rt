@@ -10,7 +10,7 @@ ghost use Rattle.grib_groups.specs.Lists.{CodesTook, IsRefusal, GroupsRead};
 ghost use Rattle.grib_groups.specs.Laws.{codes-none, codes-more};
 
 use crate::lists::{Lists, octets_of_lists};
-use crate::{Fed, Layout, Table, Taker};
+use crate::{Fed, Layout, RunTaker, Table, Taker};
 use byteorder::{BigEndian, ByteOrder};
 use grib_io::{Code, Section, UnpackFault, push_within};
 use std::alloc::Global;
@@ -35,6 +35,8 @@ impl Taker for Codes {
 
     ghost more = { codes-more };
 }
+
+impl RunTaker for Codes {}
 
 /// The codes of all values of a Section 7 that has `skip` octets of extra descriptors after octet 5,
 /// where Section 5 has `count` values (WMO-No. 306, Volume I.2, FM 92 GRIB edition 2, data templates
@@ -78,7 +80,7 @@ pub fn decode_groups(
 /// # Errors
 ///
 /// As [`decode_groups`]; what has taken the codes is dropped.
-pub fn take_groups<T: Taker + Drop>(
+pub fn take_groups<T: RunTaker + Drop>(
     alloc: Global,
     layout: &Layout,
     section7: &Section<'_>,
@@ -95,10 +97,10 @@ pub fn take_groups<T: Taker + Drop>(
     requires high { section7.now.start ≤ 268435456 }
     requires skip { skip ≤ 12 }
     requires lists { first_fault (list_rows layout.now (length section7.now.octets.now) skip) ≡ None }
-    requires limit { 2 ^ 33 ≤ T.limit }
+    requires limit { 2 ^ 33 ≤ T.Taker.limit }
     ensures { MatchResult result
         (λ after. (first_fault_at section7.now.start (group_rows layout.now section7.now.octets.now skip count) ≡ None)
-        × T.took taker (grouped layout.now (drop (5 + skip) section7.now.octets.now)) after
+        × T.Taker.took taker (grouped layout.now (drop (5 + skip) section7.now.octets.now)) after
         × (length (grouped layout.now (drop (5 + skip) section7.now.octets.now)) ≡ count))
         (IsRefusal (first_fault_at section7.now.start (group_rows layout.now section7.now.octets.now skip count))) }
 {
@@ -107,7 +109,7 @@ pub fn take_groups<T: Taker + Drop>(
 }
 
 /// Hands the codes of all values of such a section on, of which the groups were read.
-pub fn take_codes<T: Taker>(
+pub fn take_codes<T: RunTaker>(
     layout: &Layout,
     section7: &Section<'_>,
     skip: u32,
@@ -117,8 +119,8 @@ pub fn take_codes<T: Taker>(
     requires references { layout.now.reference_bits ≤ 32 }
     requires skip { skip ≤ 12 }
     requires read { GroupsRead layout.now section7.now.octets.now skip table }
-    requires limit { 2 ^ 33 ≤ T.limit }
-    ensures took { T.took taker (grouped layout.now (drop (5 + skip) section7.now.octets.now)) result }
+    requires limit { 2 ^ 33 ≤ T.Taker.limit }
+    ensures took { T.Taker.took taker (grouped layout.now (drop (5 + skip) section7.now.octets.now)) result }
     ensures count { length (grouped layout.now (drop (5 + skip) section7.now.octets.now)) ≡ values (groups_in table) }
 {
     let before = u64::from(5 + skip) + octets_of_lists(layout);

@@ -9,7 +9,7 @@ ghost use Rattle.grib_groups.specs.Table.{groups_in, IsWhole, IsNarrow};
 ghost use Rattle.grib_groups.specs.Feeding.{IsFeedable, WasFed, no_marks, plain_groups, part};
 
 use crate::lists::plain_layout;
-use crate::{Group, Layout, Numbers, Table, Taker};
+use crate::{Group, Layout, Numbers, RunTaker, Table};
 use std::alloc::Global;
 
 /// Packed numbers, as their octets come, and what takes their codes.
@@ -21,15 +21,15 @@ pub struct Fed<T> {
     taker: T,
 }
 
-impl<T: Taker> Fed<T> {
+impl<T: RunTaker> Fed<T> {
     /// The numbers of all groups of a table, of which no octet came yet.
     pub fn groups(layout: Layout, table: Table, taker: T) -> Fed<T>
         requires bits { layout.reference_bits ≤ 48 }
         requires whole { IsWhole table }
         requires narrow { IsNarrow table }
-        requires limit { 2 ^ 33 ≤ T.limit }
-        ensures feedable { IsFeedable T.limit result }
-        ensures fed { WasFed T.took layout (groups_in table) taker [] result }
+        requires limit { 2 ^ 33 ≤ T.Taker.limit }
+        ensures feedable { IsFeedable T.Taker.limit result }
+        ensures fed { WasFed T.Taker.took layout (groups_in table) taker [] result }
     {
         let nothing = Group {
             reference: 0,
@@ -47,9 +47,9 @@ impl<T: Taker> Fed<T> {
     /// So many numbers of `bits` bits, none of which is a mark and of which no octet came yet.
     pub fn list(alloc: Global, bits: u8, count: u32, taker: T) -> Fed<T>
         requires width { bits ≤ 48 }
-        requires limit { 2 ^ bits ≤ T.limit }
-        ensures feedable { IsFeedable T.limit result }
-        ensures fed { WasFed T.took no_marks (plain_groups bits count) taker [] result }
+        requires limit { 2 ^ bits ≤ T.Taker.limit }
+        ensures feedable { IsFeedable T.Taker.limit result }
+        ensures fed { WasFed T.Taker.took no_marks (plain_groups bits count) taker [] result }
     {
         let all = Group {
             reference: 0,
@@ -66,11 +66,11 @@ impl<T: Taker> Fed<T> {
 
     /// Hands the codes of all numbers on that end in the next octets.
     pub fn push(self, piece: &[u8]) -> Fed<T>
-        requires feedable { IsFeedable T.limit self }
+        requires feedable { IsFeedable T.Taker.limit self }
         requires short { length piece.now < 2 ^ 32 }
-        ensures feedable { IsFeedable T.limit result }
+        ensures feedable { IsFeedable T.Taker.limit result }
         ensures fed { (layout : layout_of_numbers) (groups : List group_of_numbers) (start : _) (octets : List ℕ)
-            → WasFed T.took layout groups start octets self → WasFed T.took layout groups start (octets ++ piece.now) result }
+            → WasFed T.Taker.took layout groups start octets self → WasFed T.Taker.took layout groups start (octets ++ piece.now) result }
     {
         let Fed {
             layout,
@@ -89,10 +89,10 @@ impl<T: Taker> Fed<T> {
 
     /// What took the codes, once the octets of all numbers came.
     pub fn finish(self) -> T
-        requires { IsFeedable T.limit self }
+        requires { IsFeedable T.Taker.limit self }
         ensures { (layout : layout_of_numbers) (groups : List group_of_numbers) (start : _) (octets : List ℕ)
-            → WasFed T.took layout groups start octets self → packed_bits groups ≤ 8 * length octets
-            → T.took start (codes_from layout groups (bits_in octets)) result }
+            → WasFed T.Taker.took layout groups start octets self → packed_bits groups ≤ 8 * length octets
+            → T.Taker.took start (codes_from layout groups (bits_in octets)) result }
     {
         let Fed {
             layout,

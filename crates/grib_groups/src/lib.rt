@@ -1,6 +1,7 @@
 //! Groups of complex packing.
 #![tactic(auto)]
 
+mod code_run;
 mod coding;
 mod decoding;
 mod encoding;
@@ -18,6 +19,7 @@ mod taker;
 #[cfg(test)]
 mod tests;
 
+pub use code_run::{CodeRun, SameRun, WordRun};
 pub use decoding::{decode_groups, read_groups, take_codes, take_groups};
 pub use encoding::{encode_groups, encode_measured_groups, encode_same};
 pub use feeding::{Fed, part_of, rest_of};
@@ -29,4 +31,4 @@ pub use lists::{
 pub use measuring::{Measure, later_measures, measures_of, next_measure};
 pub use numbers::Numbers;
 pub use table::Table;
-pub use taker::Taker;
+pub use taker::{RunTaker, Taker, take_each};

@@ -12,7 +12,7 @@ ghost use Rattle.grib_groups.specs.Lists.{ListsAre, lists_fault, AreEmpty, WereR
 ghost use Rattle.grib_groups.specs.Feeding.{no_marks};
 ghost use Rattle.grib_groups.specs.Laws.{references-none, references-more, widths-none, widths-more, lengths-none, lengths-more};
 
-use crate::{FedLists, Layout, Table, Taker};
+use crate::{FedLists, Layout, RunTaker, Table, Taker};
 use grib_io::{Code, Fault, Reason, push_within};
 use std::alloc::{AllocError, Global};
 
@@ -36,6 +36,8 @@ impl Taker for References {
 
     ghost more = { references-more };
 }
+
+impl RunTaker for References {}
 
 /// The widths that were read, each the reference width and a coded width.
 #[derive(Debug, Drop)]
@@ -62,6 +64,8 @@ impl Taker for Widths {
 
     ghost more = { widths-more };
 }
+
+impl RunTaker for Widths {}
 
 /// The lengths that were read, each the reference length and some increments.
 #[derive(Debug, Drop)]
@@ -105,6 +109,8 @@ impl Taker for Lengths {
 
     ghost more = { lengths-more };
 }
+
+impl RunTaker for Lengths {}
 
 /// The three lists of groups.
 #[derive(Debug, Drop)]

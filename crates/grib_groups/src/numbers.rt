@@ -7,8 +7,8 @@ ghost use Rattle.grib_groups.specs.Table.{groups_in, IsWhole, IsNarrow};
 ghost use Rattle.grib_groups.specs.Going.{left_of, IsReadable, IsShort, IsReady, Went};
 
 use crate::coding::Coding;
-use crate::run::take_run;
-use crate::{Group, Layout, Table, Taker};
+use crate::run::{take_in_words, take_run};
+use crate::{Group, Layout, RunTaker, Table};
 use grib_bits::{BitWindow, get_bits};
 
 /// The packed numbers that are still to come: what is left of the current group, the index of the
@@ -36,16 +36,16 @@ impl Numbers {
     }
 
     /// Hands the codes of all numbers on that end in the next octets.
-    pub fn push<T: Taker>(&mut self, layout: &Layout, table: &Table, piece: &[u8], taker: T) -> T
+    pub fn push<T: RunTaker>(&mut self, layout: &Layout, table: &Table, piece: &[u8], taker: T) -> T
         requires bits { layout.now.reference_bits ≤ 48 }
         requires whole { IsWhole table.now }
         requires narrow { IsNarrow table.now }
-        requires limit { 0 < vec_len table.now.lengths → 2 ^ 33 ≤ T.limit }
+        requires limit { 0 < vec_len table.now.lengths → 2 ^ 33 ≤ T.Taker.limit }
         requires short { length piece.now < 2 ^ 32 }
-        requires ready { IsReady T.limit self.old }
-        ensures goes { Went T.took layout.now (left_of self.old (groups_in table.now)) (self.old.pending ++ bits_in piece.now) taker
+        requires ready { IsReady T.Taker.limit self.old }
+        ensures goes { Went T.Taker.took layout.now (left_of self.old (groups_in table.now)) (self.old.pending ++ bits_in piece.now) taker
             (left_of self.new (groups_in table.now)) self.new.pending result }
-        ensures ready { IsReady T.limit self.new }
+        ensures ready { IsReady T.Taker.limit self.new }
         ensures waits { 0 < values (left_of self.new (groups_in table.now)) → IsShort self.new }
     {
         let pending = self.pending.len();
@@ -62,13 +62,19 @@ impl Numbers {
     }
 
     /// Takes the number of which the last `missing` bits begin the next octets.
-    fn take_across<T: Taker>(&mut self, layout: &Layout, piece: &[u8], missing: u32, taker: T) -> T
+    fn take_across<T: RunTaker>(
+        &mut self,
+        layout: &Layout,
+        piece: &[u8],
+        missing: u32,
+        taker: T,
+    ) -> T
         requires bits { layout.now.reference_bits ≤ 48 }
-        requires readable { IsReadable T.limit self.old.current }
+        requires readable { IsReadable T.Taker.limit self.old.current }
         requires count { 0 < self.old.current.count }
         requires missing { length self.old.pending + missing ≡ self.old.current.width }
         requires within { missing ≤ 8 * length piece.now }
-        ensures goes { (groups : _) → Went T.took layout.now (left_of self.old groups) (self.old.pending ++ bits_in piece.now) taker
+        ensures goes { (groups : _) → Went T.Taker.took layout.now (left_of self.old groups) (self.old.pending ++ bits_in piece.now) taker
             (left_of self.new groups) (drop missing (bits_in piece.now)) result }
         ensures current { self.new.current ≡ record self.old.current { count = self.old.current.count - 1 } }
         ensures next { self.new.next ≡ self.old.next }
@@ -84,7 +90,7 @@ impl Numbers {
 
     /// Takes the numbers that fit into the octets after their first `at` bits, and keeps the bits that
     /// are left.
-    fn take_fitting<T: Taker>(
+    fn take_fitting<T: RunTaker>(
         &mut self,
         layout: &Layout,
         table: &Table,
@@ -95,17 +101,49 @@ impl Numbers {
         requires bits { layout.now.reference_bits ≤ 48 }
         requires whole { IsWhole table.now }
         requires narrow { IsNarrow table.now }
-        requires limit { 0 < vec_len table.now.lengths → 2 ^ 33 ≤ T.limit }
+        requires limit { 0 < vec_len table.now.lengths → 2 ^ 33 ≤ T.Taker.limit }
         requires short { length piece.now < 2 ^ 32 }
-        requires readable { IsReadable T.limit self.old.current }
+        requires readable { IsReadable T.Taker.limit self.old.current }
         requires pending { self.old.pending ≡ [] }
         requires within { at ≤ 8 * length piece.now }
-        ensures goes { Went T.took layout.now (left_of self.old (groups_in table.now)) (drop at (bits_in piece.now)) taker
+        ensures goes { Went T.Taker.took layout.now (left_of self.old (groups_in table.now)) (drop at (bits_in piece.now)) taker
             (left_of self.new (groups_in table.now)) self.new.pending result }
-        ensures ready { IsReady T.limit self.new }
+        ensures ready { IsReady T.Taker.limit self.new }
         ensures waits { 0 < values (left_of self.new (groups_in table.now)) → IsShort self.new }
     {
         taker = self.take_some(layout, piece, &mut at, taker);
+        if self.current.count > 0 {
+            keep_rest(&mut self.pending, piece, at);
+            return taker;
+        }
+        self.take_next_groups(layout, table, piece, at, taker)
+    }
+
+    /// Takes the numbers of the next groups that fit, and keeps the bits that are left. Nothing is left of the
+    /// current group.
+    fn take_next_groups<T: RunTaker>(
+        &mut self,
+        layout: &Layout,
+        table: &Table,
+        piece: &[u8],
+        mut at: u64,
+        mut taker: T,
+    ) -> T
+        requires bits { layout.now.reference_bits ≤ 48 }
+        requires whole { IsWhole table.now }
+        requires narrow { IsNarrow table.now }
+        requires limit { 0 < vec_len table.now.lengths → 2 ^ 33 ≤ T.Taker.limit }
+        requires short { length piece.now < 2 ^ 32 }
+        requires readable { IsReadable T.Taker.limit self.old.current }
+        requires none { self.old.current.count ≡ 0 }
+        requires pending { self.old.pending ≡ [] }
+        requires within { at ≤ 8 * length piece.now }
+        ensures goes { Went T.Taker.took layout.now (left_of self.old (groups_in table.now)) (drop at (bits_in piece.now)) taker
+            (left_of self.new (groups_in table.now)) self.new.pending result }
+        ensures ready { IsReady T.Taker.limit self.new }
+        ensures waits { 0 < values (left_of self.new (groups_in table.now)) → IsShort self.new }
+    {
+        taker = self.take_whole_groups(layout, table, piece, &mut at, taker);
         while self.current.count == 0 && self.next < table.len() {
             self.current = table.group(self.next);
             self.next += 1;
@@ -118,16 +156,54 @@ impl Numbers {
         taker
     }
 
+    /// Takes the next groups, as long as each number of a group begins where eight octets are left. Nothing is
+    /// left of the current one.
+    #[inline(always)]
+    fn take_whole_groups<T: RunTaker>(
+        &mut self,
+        layout: &Layout,
+        table: &Table,
+        piece: &[u8],
+        at: &mut u64,
+        mut taker: T,
+    ) -> T
+        requires bits { layout.now.reference_bits ≤ 48 }
+        requires whole { IsWhole table.now }
+        requires narrow { IsNarrow table.now }
+        requires limit { 0 < vec_len table.now.lengths → 2 ^ 33 ≤ T.Taker.limit }
+        requires short { length piece.now < 2 ^ 32 }
+        requires none { self.old.current.count ≡ 0 }
+        requires within { at.old ≤ 8 * length piece.now }
+        ensures goes { Went T.Taker.took layout.now (left_of self.old (groups_in table.now)) (drop at.old (bits_in piece.now)) taker
+            (left_of self.new (groups_in table.now)) (drop at.new (bits_in piece.now)) result }
+        ensures current { self.new.current ≡ self.old.current }
+        ensures pending { self.new.pending ≡ self.old.pending }
+        ensures within { at.new ≤ 8 * length piece.now }
+    {
+        let bits = 8 * piece.len() as u64;
+        while self.next < table.len() {
+            let group = table.group(self.next);
+            let end = *at + u64::from(group.count) * u64::from(group.width);
+            if bits < end + 64 {
+                break;
+            }
+            taker = take_in_words(layout, group, piece, *at, taker);
+            *at = end;
+            self.next += 1;
+        }
+        taker
+    }
+
     /// Takes the numbers of the current group that fit.
     #[inline(always)]
-    fn take_some<T: Taker>(&mut self, layout: &Layout, piece: &[u8], at: &mut u64, taker: T) -> T
+    fn take_some<T: RunTaker>(&mut self, layout: &Layout, piece: &[u8], at: &mut u64, taker: T) -> T
         requires bits { layout.now.reference_bits ≤ 48 }
         requires short { length piece.now < 2 ^ 32 }
-        requires readable { IsReadable T.limit self.old.current }
+        requires readable { IsReadable T.Taker.limit self.old.current }
         requires within { at.old ≤ 8 * length piece.now }
-        ensures goes { (groups : _) → Went T.took layout.now (left_of self.old groups) (drop at.old (bits_in piece.now)) taker
+        ensures goes { (groups : _) → Went T.Taker.took layout.now (left_of self.old groups) (drop at.old (bits_in piece.now)) taker
             (left_of self.new groups) (drop at.new (bits_in piece.now)) result }
-        ensures readable { IsReadable T.limit self.new.current }
+        ensures readable { IsReadable T.Taker.limit self.new.current }
         ensures next { self.new.next ≡ self.old.next }
         ensures pending { self.new.pending ≡ self.old.pending }
         ensures within { at.new ≤ 8 * length piece.now }

@@ -1,9 +1,10 @@
 //! What takes codes on.
 
-ghost use Rattle.std.specs.Prelude.{ℕ, ◌<◌, List, [], ◌∷◌, ◌++◌};
+ghost use Rattle.std.specs.Prelude.{◌≡◌, ℕ, ◌<◌, ◌≤◌, List, [], ◌∷◌, ◌++◌};
 ghost use Rattle.grib_io.specs.declared.code.Code.{Code};
 ghost use Rattle.grib_groups.specs.Taking.{number_of};
 
+use crate::CodeRun;
 use grib_io::Code;
 
 /// What takes codes one after another. It is handed on by value, so that what it counts stays in
@@ -24,4 +25,29 @@ pub trait Taker {
 
     ghost more: { (before between after : Self) (codes more_codes : List Code) → took before codes between → took between more_codes after
         → took before (codes ++ more_codes) after };
+}
+
+/// What takes codes that follow one another in a group, all at once.
+pub trait RunTaker: Taker + Sized {
+    /// Takes the codes of a run.
+    fn take_run<R: CodeRun + Drop>(self, run: R) -> Self
+        requires stands { R.stands run }
+        requires limit { R.limit run ≤ Self.limit }
+        ensures { Self.took self (R.codes run) result }
+    {
+        take_each(run, self)
+    }
+}
+
+/// Takes the codes of a run, one after another.
+pub fn take_each<R: CodeRun + Drop, T: Taker>(mut run: R, mut taker: T) -> T
+    requires stands { R.stands run }
+    requires limit { R.limit run ≤ T.limit }
+    ensures { T.took taker (R.codes run) result }
+{
+    for _index in 0..run.count() {
+        let code = run.next();
+        taker = taker.take(code);
+    }
+    taker
 }

@@ -1,26 +1,8 @@
-use Rattle.std.proofs.Common.{◌+◌, ◌<◌, drop, sym, subst, arith}
-use Rattle.grib_bits.specs.Bits.{bits}
-use Rattle.grib_groups.specs.Taking.{number_of, code_by}
-use Rattle.grib_groups.proofs.Coded.{number_of-code_by}
-use Rattle.grib_bits.proofs.WordNumbers.{number-lt}
-use Rattle.grib_groups.proofs.Runs.{pow_at_most, took_more, next_place}
+use Rattle.std.proofs.Common.{List, subst}
+use Rattle.grib_io.specs.declared.code.Code.{Code}
 use Rattle.grib_groups.proofs.run.take_from_words.Goals as goal
 
-pub code-requires : goal.code-requires
-code-requires g c =
-    let bits = drop c.loop-index.place (bits c.args.octets.now) in
-    omega (arith, number-lt c.args.width bits, c.number_in_word-number.ensures.value, pow_at_most c.args.width c.requires.width)
-
-pub take-taker-requires : goal.take-taker-requires
-take-taker-requires g c =
-    let number = c.number_in_word-number.result in
-    let small : c.args.coding.reference + number < g.T.Taker.limit =
-    omega (arith, number-lt c.args.width (drop c.loop-index.place (bits c.args.octets.now)), c.number_in_word-number.ensures.value, c.requires.limit) in
-    subst (λ code. number_of code < g.T.Taker.limit) (sym c.code.ensures) (number_of-code_by c.args.coding number g.T.Taker.limit small)
-
-pub loop-index-preserved : goal.loop-index-preserved
-loop-index-preserved g c = record {
-  took = took_more g.T.Taker.took g.met.T.Taker.more (code_by c.args.coding) (bits c.args.octets.now) c.args.at c.args.width c.loop-index._index c.loop-index.place c.number_in_word-number.result c.code.result c.args.taker c.loop-index.taker c.take-taker.result
-      c.loop-index.invariant.took c.loop-index.invariant.place c.number_in_word-number.ensures.value c.code.ensures c.take-taker.ensures;
-  place = omega (arith, c.from-place.ensures, next_place c.args.at c.loop-index.place c.args.width c.loop-index._index c.loop-index.invariant.place);
-}
+pub returns : goal.returns
+returns g c =
+    let took = g.T.Taker.took in
+    subst (λ (cs : List Code). took c.args.taker cs c.take_run.result) c.new-run.ensures.codes c.take_run.ensures

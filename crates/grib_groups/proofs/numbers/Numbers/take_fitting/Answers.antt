@@ -1,90 +1,26 @@
-use Rattle.std.proofs.Common.{◌≡◌, ◌+◌, ◌^◌, ◌≤◌, ◌∷◌, [], List, Bool, drop, length, slice_index, sym, ap, ◌∙◌, arith, subst, pow_mono}
+use Rattle.std.proofs.Common.{◌≡◌, ◌<◌, List, Bool, length, drop, ap, ◌∙◌, arith}
 use Rattle.std.proofs.lemmas.List.{length-drop}
 use Rattle.grib_bits.specs.Bits.{bits}
 use Rattle.grib_bits.proofs.OctetBits.{length-bits}
-use Rattle.grib_packing.specs.declared.group.Group.{Group}
-use Rattle.grib_groups.specs.Taking.{Taken, values}
 use Rattle.grib_groups.specs.Table.{groups_in}
-use Rattle.grib_groups.specs.Going.{left_of, IsShort}
-use Rattle.grib_groups.proofs.Taken.{taken_next, taken_all, values-cons}
-use Rattle.grib_groups.proofs.Listed.{groups_from_index, no_groups, narrow_at}
-use Rattle.grib_groups.proofs.Moves.{went_same, went_then}
+use Rattle.grib_groups.specs.Going.{IsShort}
+use Rattle.grib_groups.proofs.Moves.{went_then}
 use Rattle.grib_groups.proofs.numbers.Numbers.take_fitting.Goals as goal
-use Rattle.grib_groups.proofs.numbers.Numbers.take_fitting.Goals.{then-loop-self-test+else-self-len, else-loop-self-test}
-
-pub take_some-taker-requires-in-loop-self-clause-readable : goal.take_some-taker-requires-in-loop-self-clause-readable
-take_some-taker-requires-in-loop-self-clause-readable g c =
-    let next = c.loop-self.self.next in
-    let group = c.group-self.result in
-    let width : group.width ≡ slice_index c.args.table.now.widths.items next = ap (λ (gr : Group). gr.width) c.group-self.ensures.group in
-    let narrow : group.width ≤ 32 = omega (arith, width, narrow_at c.args.table.now c.requires.whole next c.requires.narrow (omega arith)) in
-    let power : 2 ^ group.width ≤ 2 ^ 32 = pow_mono narrow in
-    record {
-      width = omega arith;
-      below = omega (arith, power, c.group-self.ensures.reference, c.requires.limit (omega arith));
-    }
-
-pub loop-self-preserved : goal.loop-self-preserved
-loop-self-preserved g c =
-    let took = g.T.Taker.took in
-    let none = g.met.T.Taker.none in
-    let more = g.met.T.Taker.more in
-    let layout = c.args.layout.now in
-    let table = c.args.table.now in
-    let groups = groups_in table in
-    let current = c.loop-self.self.current in
-    let next = c.loop-self.self.next in
-    let here = drop c.loop-self.at (bits c.args.piece.now) in
-    let following : drop next groups ≡ c.group-self.result ∷ drop (next + 1) groups =
-    groups_from_index table c.requires.whole next (omega arith) ∙ ap (λ (group : Group). group ∷ drop (next + 1) groups) (sym c.group-self.ensures.group) in
-    let advanced = subst (λ (gs : List Group). Taken layout (current ∷ drop next groups) here [] gs here) following (taken_next layout current (drop next groups) here (omega arith)) in
-    record {
-      went = went_then took none more layout c.loop-self.invariant.went
-          (went_then took none more layout (went_same took none more layout _ _ here here c.loop-self.taker advanced) (c.take_some-taker-in-loop-self.ensures.goes groups));
-      readable = c.take_some-taker-in-loop-self.ensures.readable;
-      pending = c.take_some-taker-in-loop-self.ensures.pending ∙ c.loop-self.invariant.pending;
-      within = c.take_some-taker-in-loop-self.ensures.within;
-      no_more = c.take_some-taker-in-loop-self.ensures.no_more;
-    }
-
--- where the loop ended at a group with no values left, it was the last
-no_values : (g : _) (c : goal.Then-self-eq0 g) → values (left_of c.loop-self.self (groups_in c.args.table.now)) ≡ 0
-no_values g c =
-    let table = c.args.table.now in
-    let next = c.loop-self.self.next in
-    elim c.loop-self-test.branch [
-      | then-loop-self-test+else-self-len w ↦
-          let past = no_groups table c.requires.whole next (omega (arith, w.if-self-len.false, w.len.ensures)) in
-          values-cons c.loop-self.self.current (drop next (groups_in table))
-          ∙ ap (λ (gs : List Group). c.loop-self.self.current.count + values gs) past
-          ∙ omega (arith, c.if-self-eq0.true)
-      | else-loop-self-test w ↦ absurd (w.loop-self-test.false c.if-self-eq0.true)
-    ]
-
-pub returns-then-self-eq0-clause-goes : goal.returns-then-self-eq0-clause-goes
-returns-then-self-eq0-clause-goes g c =
-    let took = g.T.Taker.took in
-    let none = g.met.T.Taker.none in
-    let more = g.met.T.Taker.more in
-    let layout = c.args.layout.now in
-    let groups = groups_in c.args.table.now in
-    let left = left_of c.loop-self.self groups in
-    let here = drop c.loop-self.at (bits c.args.piece.now) in
-    let taken = subst (λ (bs : List Bool). Taken layout left here [] left bs) (sym c.loop-self.invariant.pending) (taken_all layout left here (no_values g c)) in
-    went_then took none more layout c.loop-self.invariant.went (went_same took none more layout left left here c.loop-self.self.pending c.loop-self.taker taken)
-
-pub returns-then-self-eq0-clause-waits : goal.returns-then-self-eq0-clause-waits
-returns-then-self-eq0-clause-waits g c = λ some. absurd (omega (arith, no_values g c))
+use Rattle.grib_groups.proofs.numbers.Numbers.take_fitting.Goals.{After-keep_rest}
 
 -- what is left is shorter than the next number
-is_short : (g : _) (c : goal.After-keep_rest g) → IsShort (record c.loop-self.self { pending = c.keep_rest.new.pending })
+is_short : (g : _) (c : After-keep_rest g) → IsShort (record c.take_some-taker.new.self { pending = c.keep_rest.new.pending })
 is_short g c = record {
   some = omega arith;
-  short = omega (arith, ap length c.keep_rest.ensures, length-drop c.loop-self.at (bits c.args.piece.now), length-bits c.args.piece.now, c.loop-self.invariant.no_more);
+  short = omega (arith, ap length c.keep_rest.ensures, length-drop c.take_some-taker.new.at (bits c.args.piece.now), length-bits c.args.piece.now, c.take_some-taker.ensures.no_more);
 }
 
-pub returns-clause-ready : goal.returns-clause-ready
-returns-clause-ready g c = record { readable = c.loop-self.invariant.readable; pending = λ _. is_short g c }
+pub returns-then-self-gt0-clause-ready : goal.returns-then-self-gt0-clause-ready
+returns-then-self-gt0-clause-ready g c = record { readable = c.take_some-taker.ensures.readable; pending = λ _. is_short g c }
 
-pub returns-clause-waits : goal.returns-clause-waits
-returns-clause-waits g c = λ _. is_short g c
+pub returns-then-self-gt0-clause-waits : goal.returns-then-self-gt0-clause-waits
+returns-then-self-gt0-clause-waits g c = λ _. is_short g c
+
+pub returns-clause-goes : goal.returns-clause-goes
+returns-clause-goes g c =
+    went_then g.T.Taker.took g.met.T.Taker.none g.met.T.Taker.more c.args.layout.now (c.take_some-taker.ensures.goes (groups_in c.args.table.now)) c.take_next_groups.ensures.goes

@@ -2,7 +2,7 @@ use Rattle.std.proofs.Common.{◌≡◌, ◌+◌, ◌-◌, ◌*◌, ◌<◌, ◌
 use Rattle.grib_bits.specs.Bits.{bits}
 use Rattle.grib_groups.specs.Table.{groups_in}
 use Rattle.grib_groups.specs.Going.{left_of, IsReadable, Went}
-use Rattle.grib_groups.proofs.numbers.Numbers.take_fitting.Given as goal
+use Rattle.grib_groups.proofs.numbers.Numbers.take_next_groups.Given as goal
 
 abbrev pub invariant-loop-self : goal.invariant-loop-self
 invariant-loop-self g l = record {

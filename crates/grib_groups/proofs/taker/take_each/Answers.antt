@@ -1,0 +1,22 @@
+use Rattle.std.proofs.Common.{◌≡◌, ◌+◌, refl, ap, sym, ◌∙◌, arith, length}
+use Rattle.grib_groups.proofs.CodeRuns.{passed_none, passed_next, passed_all}
+use Rattle.grib_groups.proofs.taker.take_each.Goals as goal
+
+pub loop-index-init : goal.loop-index-init
+loop-index-init g c = record {
+  so_far = passed_none g.T.Taker.took c.args.taker g.met.T.Taker.none (g.R.CodeRun.codes c.args.run);
+  left = omega (arith, c.count-index-end.ensures);
+  stands = c.requires.stands;
+  limit = refl;
+}
+
+pub loop-index-preserved : goal.loop-index-preserved
+loop-index-preserved g c = record {
+  so_far = passed_next g.T.Taker.took c.args.taker g.met.T.Taker.more c.loop-index.invariant.so_far c.next-code.ensures.codes c.take-taker.ensures;
+  left = omega (arith, c.loop-index.invariant.left, ap length c.next-code.ensures.codes);
+  stands = c.next-code.ensures.stands;
+  limit = c.next-code.ensures.limit ∙ c.loop-index.invariant.limit;
+}
+
+pub returns : goal.returns
+returns g c = passed_all g.T.Taker.took c.args.taker c.loop-index.invariant.so_far (omega (arith, c.loop-index.invariant.left))

@@ -1,0 +1,11 @@
+use Rattle.std.proofs.Common.{◌≡◌, ◌+◌, length}
+use Rattle.grib_groups.specs.CodeRuns.{Passed}
+use Rattle.grib_groups.proofs.taker.take_each.Given as goal
+
+abbrev pub invariant-loop-index : goal.invariant-loop-index
+invariant-loop-index g l = record {
+  so_far : Passed (g.T.Taker.took l.fn.taker) (g.R.CodeRun.codes l.fn.run) (g.R.CodeRun.codes l.run) l.taker;
+  left : length (g.R.CodeRun.codes l.run) + l._index ≡ l._index-end;
+  stands : g.R.CodeRun.stands l.run;
+  limit : g.R.CodeRun.limit l.run ≡ g.R.CodeRun.limit l.fn.run;
+}
