@@ -3,7 +3,8 @@
 # differences and with those of order 1 and 2, with numbers of 3, 8 and 14 bits in groups of 10 and of 50,
 # with and without missing marks, against the same work written by hand in plain Rust (complex.rs) and built
 # by `rustc -O`. A ratio is the plain program's time over ours: above 1, ours is the faster. Then, how fast
-# it is decided that the data are accepted, against unpacking them: above 1, deciding is the faster.
+# it is decided that the data are accepted, and how fast they are unpacked where they come in pieces of 65,536
+# octets, against unpacking them whole: above 1, deciding and pieces are the faster.
 #
 #     bench/complex.sh [COUNT]     COUNT points in place of 16 million
 set -euo pipefail
@@ -17,6 +18,7 @@ export MALLOC_MMAP_MAX_=0 MALLOC_TRIM_THRESHOLD_=100000000000
 program="$top/crates/grib_complex_bench/out/grib_complex_bench"
 column() { "$program" column "$order" "$width" "$group" "$management" "$count" "$passes"; }
 accept() { "$program" accept "$order" "$width" "$group" "$management" "$count" "$passes"; }
+fed() { "$program" "$size" "$order" "$width" "$group" "$management" "$count" "$passes"; }
 plain() { "$work/plain" column "$order" "$width" "$group" "$management" "$count" "$passes"; }
 
 for order in 0 1 2; do
@@ -31,6 +33,11 @@ for order in 0 1 2; do
         for count in 1 9 1001 100000; do
           agree "$what, $count points"
         done
+        ours() { fed; }
+        for size in 1 7 65536; do
+          agree "$what, $count points in pieces of $size octets"
+        done
+        ours() { column; }
         count=$most
         agree "$what"
         passes=6
@@ -38,6 +45,8 @@ for order in 0 1 2; do
         ours() { accept; }
         theirs() { column; }
         ratio "$what: accepted" 3
+        ours() { fed; }
+        ratio "$what: in pieces of $size octets" 3
       done
     done
   done

@@ -1,12 +1,12 @@
-//! Unpacks a field in complex packing, or decides only whether its data are accepted, for a measurement of
-//! speed. Prints one checksum.
+//! Unpacks a field in complex packing, whole or in pieces, or decides only whether its data are accepted, for
+//! a measurement of speed. Prints one checksum.
 //!
-//! The arguments are `column` or `accept`, the order of differences (0 for none), the bits of a packed
-//! number, the values of a group, the missing value management (0 or 1), how many values there are, and how
-//! many times it is done.
+//! The arguments are `column`, `accept` or the octets of a piece, the order of differences (0 for none), the
+//! bits of a packed number, the values of a group, the missing value management (0 or 1), how many values
+//! there are, and how many times it is done.
 #![tactic(auto)]
 
-use anyhow::{Context, Result, bail};
+use anyhow::{Context, Result};
 use std::env;
 
 mod field;
@@ -14,12 +14,12 @@ mod work;
 
 use field::{Shape, data, representation};
 use grib_bitmap::Mask;
-use work::{accepted, column, point_sum};
+use work::{accepted, column, fed_column, point_sum};
 
 fn main(rt: HostRuntime) -> Result<()> {
     let mut arguments = env::args(&rt)?;
     let _program = arguments.next();
-    let work = arguments.next().context("`column` or `accept`")?;
+    let work = arguments.next().context("`column`, `accept` or octets")?;
     let order: u8 = arguments.next().context("an order")?.parse()?;
     let width: u8 = arguments.next().context("a width")?.parse()?;
     let group: u32 = arguments.next().context("the values of a group")?.parse()?;
@@ -45,7 +45,11 @@ fn main(rt: HostRuntime) -> Result<()> {
                 point_sum(column.points.as_slice())
             }
             "accept" => accepted(rt.alloc(), &section5, count, &section7)?,
-            other => bail!("`{other}` is neither `column` nor `accept`"),
+            size => {
+                let size = size.parse()?;
+                let column = fed_column(rt.alloc(), &section5, &mask, &section7, size)?;
+                point_sum(column.points.as_slice())
+            }
         };
         sum = sum.wrapping_add(more);
     }
