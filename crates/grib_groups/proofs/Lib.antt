@@ -16,3 +16,4 @@ pub mod Back
 pub mod Pieces
 pub mod Same
 pub mod Measures
+pub mod Joined

@@ -8,7 +8,7 @@ use Rattle.grib_bits.specs.Bits.{bits_of}
 use Rattle.grib_bits.specs.Written.{Written, padding}
 use Rattle.grib_io.specs.declared.code.Code.{Code}
 use Rattle.grib_packing.specs.Groupings.{IsGrouping, joined, runs, length_bits, width_of, reference_bits_of, width_bits_of}
-use Rattle.grib_packing.specs.Span.{IsBelow}
+use Rattle.grib_packing.specs.Span.{IsBelow, IsTold}
 use Rattle.grib_packing.specs.Packed.{fields, padded, reference_of, group_fields, group_parts}
 
 -- of the whole that is being written, this is left
@@ -194,6 +194,12 @@ below_run k rest run l is below = subst (All (IsBelow k)) (sym is) (All-take (Is
 
 pub below_after : (k : ℕ) (rest after : List Code) (l : ℕ) → after ≡ drop l rest → All (IsBelow k) rest → All (IsBelow k) after
 below_after k rest after l is below = subst (All (IsBelow k)) (sym is) (All-drop (IsBelow k) l rest below)
+
+pub told_run : (k : ℕ) (rest run : List Code) (l : ℕ) → run ≡ take l rest → All (IsTold k) rest → All (IsTold k) run
+told_run k rest run l is told = subst (All (IsTold k)) (sym is) (All-take (IsTold k) l rest told)
+
+pub told_after : (k : ℕ) (rest after : List Code) (l : ℕ) → after ≡ drop l rest → All (IsTold k) rest → All (IsTold k) after
+told_after k rest after l is told = subst (All (IsTold k)) (sym is) (All-drop (IsTold k) l rest told)
 
 -- the last group is done
 pub no_fields : (val : List Code → ℕ) (w : ℕ) (lengths : List ℕ) (i : ℕ) (rest : List Code) → length lengths ≤ i → fields w (map val (runs (drop i lengths) rest)) ≡ []

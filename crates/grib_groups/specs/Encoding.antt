@@ -1,10 +1,10 @@
 -- What groups are written from.
-use Rattle.std.specs.Prelude.{◌≡◌, ℕ, ◌+◌, ◌-◌, ◌^◌, ◌<◌, ◌≤◌, None, Bool, cond, ◌==◌, List, [], ◌∷◌, length, drop, get_or, map, sum, All}
+use Rattle.std.specs.Prelude.{◌≡◌, ℕ, ◌+◌, ◌-◌, ◌^◌, ◌<◌, ◌≤◌, None, Bool, cond, ◌==◌, List, [], ◌∷◌, length, drop, get_or, map, sum, All, IsTrue}
 use Rattle.grib_io.specs.declared.code.Code.{Code}
 use Rattle.grib_io.specs.declared.code.Code.TheVariants.{Present, Primary, Secondary}
 use Rattle.grib_io.specs.Rows.{first_fault}
 use Rattle.grib_packing.specs.declared.layout.Layout.{Layout}
-use Rattle.grib_packing.specs.Groupings.{IsGrouping, length_bits, reference_bits_of, width_bits_of, width_of}
+use Rattle.grib_packing.specs.Groupings.{IsGrouping, is_present, length_bits, reference_bits_of, width_bits_of, width_of}
 use Rattle.grib_packing.specs.Packed.{fields, packed_number, reference_of}
 use Rattle.grib_packing.specs.Groups.{group_rows, grouped, lengths, list_rows, widths}
 use Rattle.grib_packing.specs.Span.{IsTold}
@@ -15,6 +15,10 @@ abbrev pub IsPackable : ℕ → ℕ → Code → Type 0
 IsPackable width reference (Present n) = (reference ≤ n) × (n - reference < 2 ^ width)
 IsPackable width reference Primary = Unit {0}
 IsPackable width reference Secondary = Unit {0}
+
+-- and it is no mark
+abbrev pub IsNumber : ℕ → ℕ → Code → Type 0
+IsNumber width reference code = IsTrue (is_present code) × IsPackable width reference code
 
 -- the reference, where references have b bits, and the width of a run, where k codes are reserved
 pub record IsMeasure (k b : ℕ) (measure : Measure) (run : List Code) : Type 0 where

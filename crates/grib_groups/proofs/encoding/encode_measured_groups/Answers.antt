@@ -1,7 +1,7 @@
 use Rattle.std.proofs.Common.{◌-◌, ◌++◌, All, map, sym, ap, ◌∙◌, arith, subst}
 use Rattle.grib_packing.specs.Groupings.{runs, length_bits, width_of}
 use Rattle.grib_packing.specs.Packed.{fields, reference_of}
-use Rattle.grib_packing.specs.Span.{IsBelow}
+use Rattle.grib_packing.specs.Span.{IsBelow, IsTold}
 use Rattle.grib_packing.proofs.Bounds.{references_fit, reference_bits-few, widths_fit, width_bits-few, all_below}
 use Rattle.grib_groups.proofs.Measures.{known-by}
 use Rattle.grib_groups.proofs.Parts.{even_after, four_parts, length-parts, parts-are}
@@ -80,7 +80,7 @@ put_numbers-requires-clause-few c =
 
 pub put_numbers-requires-clause-codes : goal.put_numbers-requires-clause-codes
 put_numbers-requires-clause-codes c =
-    subst (λ k. All (IsBelow k) c.args.codes.now) (sym c.from-reserved.ensures) (all_below c.args.layout.now.management c.args.codes.now c.requires.codes)
+    subst (λ k. All (IsTold k) c.args.codes.now) (sym c.from-reserved.ensures) c.requires.codes
 
 pub put_numbers-requires-clause-whole : goal.put_numbers-requires-clause-whole
 put_numbers-requires-clause-whole c =

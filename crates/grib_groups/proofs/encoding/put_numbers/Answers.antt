@@ -1,29 +1,33 @@
 use Rattle.std.proofs.Common.{◌++◌, arith, length, get_or, sym, ap, ◌∙◌}
 use Rattle.grib_packing.specs.Packed.{group_fields}
+use Rattle.grib_packing.proofs.Bounds.{all_below}
 use Rattle.grib_groups.proofs.Measures.{known-here, known-next, measured-is, narrow}
 use Rattle.grib_groups.proofs.Packable.{packable}
-use Rattle.grib_groups.proofs.Parts.{below_run, below_after, left_padded, no_parts, grouping-within, grouping-next, part_more, part_room}
+use Rattle.grib_groups.proofs.Parts.{told_run, told_after, left_padded, no_parts, grouping-within, grouping-next, part_more, part_room}
 use Rattle.grib_groups.proofs.encoding.put_numbers.Goals as goal
 
 pub split_at-requires : goal.split_at-requires
 split_at-requires c = grouping-within c.args.lengths.now c.loop-length.length-index (omega arith) (length c.loop-length.rest.now) c.loop-length.invariant.grouping
 
 pub next_measure-measure-requires-clause-codes : goal.next_measure-measure-requires-clause-codes
-next_measure-measure-requires-clause-codes c = below_run c.args.reserved c.loop-length.rest.now c.split_at.result.0.now _ c.split_at.ensures.front c.loop-length.invariant.codes
+next_measure-measure-requires-clause-codes c = all_below c.args.reserved _ (told_run c.args.reserved c.loop-length.rest.now c.split_at.result.0.now _ c.split_at.ensures.front c.loop-length.invariant.codes)
 
 pub next_measure-measure-requires-clause-known : goal.next_measure-measure-requires-clause-known
 next_measure-measure-requires-clause-known c =
     known-here c.args.reserved c.args.bits c.args.lengths.now c.loop-length.length-index (omega arith) c.loop-length.told.now c.loop-length.rest.now c.split_at.result.0.now
     c.split_at.ensures.front c.loop-length.invariant.known
 
+pub put_group-requires-clause-told : goal.put_group-requires-clause-told
+put_group-requires-clause-told c = told_run c.args.reserved c.loop-length.rest.now c.split_at.result.0.now _ c.split_at.ensures.front c.loop-length.invariant.codes
+
 pub put_group-requires-clause-few : goal.put_group-requires-clause-few
 put_group-requires-clause-few c =
-    let below = below_run c.args.reserved c.loop-length.rest.now c.split_at.result.0.now _ c.split_at.ensures.front c.loop-length.invariant.codes in
+    let below = all_below c.args.reserved _ (told_run c.args.reserved c.loop-length.rest.now c.split_at.result.0.now _ c.split_at.ensures.front c.loop-length.invariant.codes) in
     narrow c.args.reserved c.args.bits c.next_measure-measure.result c.split_at.result.0.now c.next_measure-measure.ensures c.requires.reserved below
 
 pub put_group-requires-clause-codes : goal.put_group-requires-clause-codes
 put_group-requires-clause-codes c some =
-    let below = below_run c.args.reserved c.loop-length.rest.now c.split_at.result.0.now _ c.split_at.ensures.front c.loop-length.invariant.codes in
+    let below = all_below c.args.reserved _ (told_run c.args.reserved c.loop-length.rest.now c.split_at.result.0.now _ c.split_at.ensures.front c.loop-length.invariant.codes) in
     packable c.args.reserved c.args.bits c.next_measure-measure.result.width c.next_measure-measure.result.reference c.split_at.result.0.now c.next_measure-measure.ensures.width c.next_measure-measure.ensures.reference
     some c.requires.reserved below
 
@@ -43,7 +47,7 @@ loop-length-preserved c =
     let is = measured-is c.args.reserved c.args.bits c.next_measure-measure.result run c.next_measure-measure.ensures in
     record {
       grouping = grouping-next lengths i (omega arith) rest after c.split_at.ensures.back c.loop-length.invariant.grouping;
-      codes = below_after c.args.reserved rest after (get_or lengths i 0) c.split_at.ensures.back c.loop-length.invariant.codes;
+      codes = told_after c.args.reserved rest after (get_or lengths i 0) c.split_at.ensures.back c.loop-length.invariant.codes;
       known =
           known-next c.args.reserved c.args.bits lengths i (omega arith) c.loop-length.told.now c.later_measures-told.result.now rest after c.later_measures-told.ensures c.split_at.ensures.back
           c.loop-length.invariant.known;

@@ -1,0 +1,117 @@
+-- Packed numbers of a group that are written several at once.
+use Rattle.std.proofs.Common.{◌≡◌, ℕ, suc, ◌+◌, ◌*◌, ◌%◌, ◌^◌, ◌<◌, ◌≤◌, Bool, true, bit_or, List, [], ◌∷◌, ◌++◌, length, take, drop, get_or, map, All, refl, sym, ap, ap₂, ◌∙◌, subst, arith, append_assoc, drop-cons}
+use Rattle.std.specs.List.{list_all}
+use Rattle.std.proofs.Math.Seq.{take-add}
+use Rattle.std.proofs.lemmas.List.{append-nil, take-append-drop, drop-drop, drop_all}
+use Rattle.std.proofs.lemmas.List.Elements.{All-cons, All-head, All-tail}
+use Rattle.grib_bits.specs.Bits.{bits_of}
+use Rattle.grib_bits.specs.Written.{Written}
+use Rattle.grib_bits.proofs.Numbers.{bits_of-shl_or, shl_or-lt, length-bits_of}
+use Rattle.grib_io.specs.declared.code.Code.{Code}
+use Rattle.grib_io.specs.declared.code.Code.TheVariants.{Present, Primary, Secondary}
+use Rattle.grib_packing.specs.Groupings.{is_present}
+use Rattle.grib_packing.specs.Packed.{fields}
+use Rattle.grib_packing.specs.Span.{IsTold}
+use Rattle.grib_groups.specs.Encoding.{IsNumber, IsPackable}
+use Rattle.grib_groups.proofs.Parts.{Left, left_more, left_room}
+
+-- ---- a group without marks
+
+pub all_present : (k : ℕ) (run : List Code) → k ≡ 0 → All (IsTold k) run → list_all is_present run ≡ true
+all_present k [] none told = refl
+all_present k (Present n ∷ run) none told = all_present k run none (All-tail (IsTold k) (Present n) run told)
+all_present k (Primary ∷ run) none told = absurd (omega (arith, none, All-head (IsTold k) Primary run told))
+all_present k (Secondary ∷ run) none told = absurd (omega (arith, none, All-head (IsTold k) Secondary run told))
+
+pub numbers : (w r : ℕ) (run : List Code) → list_all is_present run ≡ true → All (IsPackable w r) run → All (IsNumber w r) run
+numbers w r [] present each = λ i d within. absurd (omega (arith, within))
+numbers w r (Present n ∷ run) present each =
+    All-cons (IsNumber w r) (Present n) run (refl, All-head (IsPackable w r) (Present n) run each)
+    (numbers w r run present (All-tail (IsPackable w r) (Present n) run each))
+numbers w r (Primary ∷ run) present each = cc
+numbers w r (Secondary ∷ run) present each = cc
+
+-- ---- the numbers of two runs
+
+pub fields-append : (w : ℕ) (f : Code → ℕ) (xs ys : List Code) → fields w (map f (xs ++ ys)) ≡ fields w (map f xs) ++ fields w (map f ys)
+fields-append w f [] ys = refl
+fields-append w f (x ∷ xs) ys =
+    ap (λ bits. bits_of w (f x) ++ bits) (fields-append w f xs ys) ∙ sym (append_assoc (bits_of w (f x)) (fields w (map f xs)) (fields w (map f ys)))
+
+module _ (w : ℕ) (f : Code → ℕ) (run : List Code) (at : ℕ) where
+  next_two : (d : Code) → at + 2 ≤ length run → take 2 (drop at run) ≡ get_or run at d ∷ get_or run (at + 1) d ∷ []
+  next_two d within =
+      let one : suc at ≡ at + 1 = omega arith in
+      ap (take 2) (drop-cons run at d (omega arith))
+      ∙ ap (λ (k : ℕ). get_or run at d ∷ take 1 (drop k run)) one
+      ∙ ap (λ xs. get_or run at d ∷ take 1 xs) (drop-cons run (at + 1) d (omega arith))
+
+  pub two_joined : (d : Code) (a b : ℕ) → at + 2 ≤ length run → 2 * w ≤ 64 → a ≡ f (get_or run at d) → b ≡ f (get_or run (at + 1) d) → b < 2 ^ w
+      → bits_of (2 * w) (bit_or (a * 2 ^ w % 2 ^ 64) b) ≡ fields w (map f (take 2 (drop at run)))
+  two_joined d a b within word first second fits =
+      let twice : 2 * w ≡ w + w = omega arith in
+      ap (λ (k : ℕ). bits_of k (bit_or (a * 2 ^ w % 2 ^ 64) b)) twice
+      ∙ bits_of-shl_or w w a b (omega arith) fits
+      ∙ ap₂ (λ (m n : ℕ). bits_of w m ++ bits_of w n) first second
+      ∙ ap (λ bits. bits_of w (f (get_or run at d)) ++ bits) (sym (append-nil (bits_of w (f (get_or run (at + 1) d)))))
+      ∙ ap (λ codes. fields w (map f codes)) (sym (next_two d within))
+
+  pub four_joined : (a b : ℕ) → 4 * w ≤ 64 → b < 2 ^ (2 * w)
+      → bits_of (2 * w) a ≡ fields w (map f (take 2 (drop at run))) → bits_of (2 * w) b ≡ fields w (map f (take 2 (drop (at + 2) run)))
+      → bits_of (4 * w) (bit_or (a * 2 ^ (2 * w) % 2 ^ 64) b) ≡ fields w (map f (take 4 (drop at run)))
+  four_joined a b word fits first second =
+      let twice : 4 * w ≡ 2 * w + 2 * w = omega arith in
+      let two = take 2 (drop at run) in
+      let more = take 2 (drop (at + 2) run) in
+      let both : two ++ more ≡ take 4 (drop at run) =
+      ap (λ (codes : List Code). two ++ take 2 codes) (sym (drop-drop 2 at run)) ∙ sym (take-add 2 2 (drop at run)) in
+      ap (λ (k : ℕ). bits_of k (bit_or (a * 2 ^ (2 * w) % 2 ^ 64) b)) twice
+      ∙ bits_of-shl_or (2 * w) (2 * w) a b (omega arith) fits
+      ∙ ap₂ (λ (xs ys : List Bool). xs ++ ys) first second
+      ∙ sym (fields-append w f two more)
+      ∙ ap (λ codes. fields w (map f codes)) both
+
+  pub four_fit : (a b : ℕ) → 4 * w ≤ 64 → a < 2 ^ (2 * w) → b < 2 ^ (2 * w) → bit_or (a * 2 ^ (2 * w) % 2 ^ 64) b < 2 ^ (4 * w)
+  four_fit a b word first second =
+      let twice : 2 * w + 2 * w ≡ 4 * w = omega arith in
+      subst (λ (k : ℕ). bit_or (a * 2 ^ (2 * w) % 2 ^ 64) b < 2 ^ k) twice (shl_or-lt (2 * w) (2 * w) a b (omega arith) first second)
+
+  pub two_fit : (a b : ℕ) → 2 * w ≤ 64 → a < 2 ^ w → b < 2 ^ w → bit_or (a * 2 ^ w % 2 ^ 64) b < 2 ^ (2 * w)
+  two_fit a b word first second =
+      let twice : w + w ≡ 2 * w = omega arith in
+      subst (λ (k : ℕ). bit_or (a * 2 ^ w % 2 ^ 64) b < 2 ^ k) twice (shl_or-lt w w a b (omega arith) first second)
+
+-- ---- four more are written
+
+module _ (w : ℕ) (f : Code → ℕ) (run : List Code) (done : ℕ) where
+  next_four : (number : ℕ) → bits_of (4 * w) number ≡ fields w (map f (take 4 (drop (4 * done) run)))
+      → fields w (map f (drop (4 * done) run)) ≡ bits_of (4 * w) number ++ fields w (map f (drop (4 * (done + 1)) run))
+  next_four number is =
+      let rest = drop (4 * done) run in
+      let next : 4 * done + 4 ≡ 4 * (done + 1) = omega arith in
+      ap (λ codes. fields w (map f codes)) (sym (take-append-drop 4 rest))
+      ∙ fields-append w f (take 4 rest) (drop 4 rest)
+      ∙ ap₂ (λ (xs : List Bool) (codes : List Code). xs ++ fields w (map f codes)) (sym is) (drop-drop 4 (4 * done) run ∙ ap (λ (k : ℕ). drop k run) next)
+
+  pub four_room : (start now : Written) (whole : List Bool) (number : ℕ) → bits_of (4 * w) number ≡ fields w (map f (take 4 (drop (4 * done) run)))
+      → Left start now whole (fields w (map f (drop (4 * done) run))) → length whole ≤ start.spare → 4 * w ≤ now.spare
+  four_room start now whole number is so_far room =
+      let next = left_room start now whole (bits_of (4 * w) number) _ _ (next_four number is) so_far room in
+      omega (arith, next, length-bits_of (4 * w) number)
+
+  pub four_more : (start now after : Written) (whole : List Bool) (number : ℕ) → bits_of (4 * w) number ≡ fields w (map f (take 4 (drop (4 * done) run)))
+      → Left start now whole (fields w (map f (drop (4 * done) run))) → after.bits ≡ now.bits ++ bits_of (4 * w) number → after.spare + 4 * w ≡ now.spare
+      → Left start after whole (fields w (map f (drop (4 * (done + 1)) run)))
+  four_more start now after whole number is so_far bits spare =
+      left_more start now after whole (bits_of (4 * w) number) _ _ (next_four number is) so_far bits (omega (arith, spare, length-bits_of (4 * w) number))
+
+  pub no_codes : length run ≤ 4 * done → fields w (map f (drop (4 * done) run)) ≡ []
+  no_codes past = ap (λ codes. fields w (map f codes)) (drop_all (4 * done) run past)
+
+-- ---- the first numbers and then the others
+
+pub parts_joined : (w : ℕ) (f : Code → ℕ) (run first rest : List Code) (n : ℕ) → first ≡ take n run → rest ≡ drop n run
+    → fields w (map f run) ≡ fields w (map f first) ++ fields w (map f rest)
+parts_joined w f run first rest n is_first is_rest =
+    ap (λ codes. fields w (map f codes)) (sym (take-append-drop n run) ∙ ap₂ (λ (xs ys : List Code). xs ++ ys) (sym is_first) (sym is_rest))
+    ∙ fields-append w f first rest

@@ -1,0 +1,25 @@
+use Rattle.std.proofs.Common.{arith}
+use Rattle.grib_packing.specs.Packed.{packed_number}
+use Rattle.grib_groups.proofs.Joined.{four_more, four_room, no_codes}
+use Rattle.grib_groups.proofs.Parts.{left_none}
+use Rattle.grib_groups.proofs.encoding.put_fours.Goals as goal
+
+pub put-requires-clause-room : goal.put-requires-clause-room
+put-requires-clause-room c =
+    four_room c.args.width (packed_number c.args.width c.args.reference) c.args.run.now c.loop-done.done c.args.out.now c.loop-done.out _ c.four_numbers-four.result
+    c.four_numbers-four.ensures.are c.loop-done.invariant c.requires.room
+
+pub loop-done-preserved : goal.loop-done-preserved
+loop-done-preserved c =
+    four_more c.args.width (packed_number c.args.width c.args.reference) c.args.run.now c.loop-done.done c.args.out.now c.loop-done.out c.put.new.self _ c.four_numbers-four.result
+    c.four_numbers-four.ensures.are c.loop-done.invariant c.put.ensures.bits c.put.ensures.spare
+
+pub returns-clause-bits : goal.returns-clause-bits
+returns-clause-bits c =
+    (left_none c.args.out.now c.loop-done.out _ _
+    (no_codes c.args.width (packed_number c.args.width c.args.reference) c.args.run.now c.loop-done.done (omega arith)) c.loop-done.invariant).0
+
+pub returns-clause-spare : goal.returns-clause-spare
+returns-clause-spare c =
+    (left_none c.args.out.now c.loop-done.out _ _
+    (no_codes c.args.width (packed_number c.args.width c.args.reference) c.args.run.now c.loop-done.done (omega arith)) c.loop-done.invariant).1

@@ -1,0 +1,32 @@
+use Rattle.std.proofs.Common.{◌++◌, arith, ap, length, map, sym, ◌∙◌, append_assoc}
+use Rattle.std.proofs.lemmas.List.{length-append}
+use Rattle.grib_packing.specs.Packed.{fields, packed_number}
+use Rattle.grib_groups.proofs.Joined.{parts_joined}
+use Rattle.grib_groups.proofs.encoding.put_present.Goals as goal
+
+pub put_fours-requires-clause-room : goal.put_fours-requires-clause-room
+put_fours-requires-clause-room c =
+    let f = packed_number c.args.width c.args.reference in
+    let parts = parts_joined c.args.width (packed_number c.args.width c.args.reference) c.args.run.now c.split_at.result.0.now c.split_at.result.1.now _ c.split_at.ensures.front c.split_at.ensures.back in
+    omega (arith, c.requires.room, ap length parts, length-append (fields c.args.width (map f c.split_at.result.0.now)) (fields c.args.width (map f c.split_at.result.1.now)))
+
+pub put_each-requires-2-clause-room : goal.put_each-requires-2-clause-room
+put_each-requires-2-clause-room c =
+    let f = packed_number c.args.width c.args.reference in
+    let parts = parts_joined c.args.width (packed_number c.args.width c.args.reference) c.args.run.now c.split_at.result.0.now c.split_at.result.1.now _ c.split_at.ensures.front c.split_at.ensures.back in
+    omega (arith, c.requires.room, ap length parts, length-append (fields c.args.width (map f c.split_at.result.0.now)) (fields c.args.width (map f c.split_at.result.1.now)), c.put_fours.ensures.spare)
+
+pub returns-clause-bits : goal.returns-clause-bits
+returns-clause-bits c =
+    let f = packed_number c.args.width c.args.reference in
+    let parts = parts_joined c.args.width (packed_number c.args.width c.args.reference) c.args.run.now c.split_at.result.0.now c.split_at.result.1.now _ c.split_at.ensures.front c.split_at.ensures.back in
+    c.put_each-2.ensures.bits
+    ∙ ap (λ xs. xs ++ fields c.args.width (map f c.split_at.result.1.now)) c.put_fours.ensures.bits
+    ∙ append_assoc c.args.out.now.bits (fields c.args.width (map f c.split_at.result.0.now)) (fields c.args.width (map f c.split_at.result.1.now))
+    ∙ ap (λ xs. c.args.out.now.bits ++ xs) (sym parts)
+
+pub returns-clause-spare : goal.returns-clause-spare
+returns-clause-spare c =
+    let f = packed_number c.args.width c.args.reference in
+    let parts = parts_joined c.args.width (packed_number c.args.width c.args.reference) c.args.run.now c.split_at.result.0.now c.split_at.result.1.now _ c.split_at.ensures.front c.split_at.ensures.back in
+    omega (arith, ap length parts, length-append (fields c.args.width (map f c.split_at.result.0.now)) (fields c.args.width (map f c.split_at.result.1.now)), c.put_fours.ensures.spare, c.put_each-2.ensures.spare)
