@@ -1,6 +1,6 @@
 //! The codes of a column.
 
-ghost use Rattle.std.specs.Prelude.{◌≡◌, ◌≤◌, ◌∷◌, [], length, replicate, false, true, None, IfOk, IfSome, MatchOption, MatchResult};
+ghost use Rattle.std.specs.Prelude.{◌≡◌, ◌≤◌, ◌∷◌, [], length, false, true, None, IfOk, MatchOption, MatchResult};
 ghost use Rattle.grib_packing.specs.Misfits.{ToComplex, first_misfit, is_outside as is_outside_of, is_scaled_outside, management_of, scaled_numbers as numbers_in};
 ghost use Rattle.grib_packing.specs.Packed.{placed_codes, target_codes};
 ghost use Rattle.grib_simple.specs.Written.{IsPackFault};
@@ -33,44 +33,6 @@ pub fn marks(point: Point) -> u8
         Point::Scaled(_) => 0,
         Point::Missing => 1,
         Point::Missing2 => 2,
-    }
-}
-
-/// The point that all points are, where they are all the same.
-pub fn common_point(points: &[Point]) -> Option<Point>
-    requires { 1 ≤ length points.now }
-    ensures { IfSome result (λ point. points.now ≡ replicate (length points.now) point) }
-{
-    let first = points[0];
-    for index in 0..points.len() {
-        if !is_same(points[index], first) {
-            return None;
-        }
-    }
-    Some(first)
-}
-
-/// Whether two points are the same.
-#[inline(always)]
-fn is_same(a: Point, b: Point) -> bool
-    ensures { result ≡ true → a ≡ b }
-{
-    match a {
-        Point::Scaled(x) => match b {
-            Point::Scaled(y) => x == y,
-            Point::Missing => false,
-            Point::Missing2 => false,
-        },
-        Point::Missing => match b {
-            Point::Scaled(_) => false,
-            Point::Missing => true,
-            Point::Missing2 => false,
-        },
-        Point::Missing2 => match b {
-            Point::Scaled(_) => false,
-            Point::Missing => false,
-            Point::Missing2 => true,
-        },
     }
 }
 

@@ -12,7 +12,7 @@ ghost use Rattle.grib_complex.specs.Constant.{DifferencesOf};
 ghost use Rattle.grib_complex.specs.FieldCodes.{codes_in};
 ghost use Rattle.grib_simple.specs.Written.{IsPacked, MayBePacked};
 
-use crate::coding::{codes_at_points, common_point, management, scaled_numbers};
+use crate::coding::{codes_at_points, management, scaled_numbers};
 use crate::constant::Constant;
 use crate::differencing::{are_out, descriptor_octets, write_descriptors};
 use crate::grouping::{FieldCodes, grouping_of, octets_of_groups};
@@ -22,7 +22,7 @@ use crate::writing::{
 };
 use grib_io::Code;
 use grib_packing::{Column, Point};
-use grib_simple::{PackFault, Packed, no_bitmap, room_for, write_head};
+use grib_simple::{PackFault, Packed, common_point, no_bitmap, room_for, write_head};
 use grib_spatial::{Differences, difference};
 use std::alloc::{AllocError, Global};
 

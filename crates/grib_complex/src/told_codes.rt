@@ -10,10 +10,10 @@ ghost use Rattle.grib_spatial.specs.Undoing.{read_with};
 ghost use Rattle.grib_simple.specs.Written.{IsPackFault};
 ghost use Rattle.grib_complex.specs.FieldCodes.{codes_in};
 
-use crate::coding::{common_point, management, marks, plain_code, plain_codes};
+use crate::coding::{management, marks, plain_code, plain_codes};
 use crate::grouping::FieldCodes;
 use grib_packing::Point;
-use grib_simple::PackFault;
+use grib_simple::{PackFault, common_point};
 use std::alloc::Global;
 
 /// The codes of a column, and the missing value management.
