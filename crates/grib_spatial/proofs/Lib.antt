@@ -3,3 +3,5 @@ pub mod Told
 pub mod Whole
 pub mod Least
 pub mod Again
+pub mod Reach
+pub mod Following

@@ -5,6 +5,7 @@ mod differences;
 mod differencing;
 pub mod laws;
 mod running;
+mod steady;
 #[cfg(test)]
 mod tests;
 mod undoing;
@@ -12,4 +13,5 @@ mod undoing;
 pub use differences::Differences;
 pub use differencing::difference;
 pub use running::{Running, ScaledRange};
+pub use steady::Steady;
 pub use undoing::{UndoFault, undo};

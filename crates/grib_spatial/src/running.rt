@@ -2,7 +2,7 @@
 
 ghost use Rattle.std.specs.Prelude.{◌≡◌, ◌⊎◌, ◌^◌, ◌<◌, ◌≤◌, true, false, pos, ◌+ℤ◌, ◌-ℤ◌, ◌*ℤ◌, nat_abs, IfOk, OnOk, OnErr};
 ghost use Rattle.grib_packing.specs.Differences.{NoNumber, is_beyond};
-ghost use Rattle.grib_spatial.specs.Running.{next_of, after_code};
+ghost use Rattle.grib_spatial.specs.Running.{next_of, after_code, number_by};
 
 use std::marker::Model;
 
@@ -15,15 +15,15 @@ pub struct ScaledRange;
 /// next one follows.
 #[derive(Debug, Drop)]
 pub struct Running {
-    order: u8,
-    first: i64,
-    second: i64,
-    minimum: i64,
+    pub(crate) order: u8,
+    pub(crate) first: i64,
+    pub(crate) second: i64,
+    pub(crate) minimum: i64,
     /// How many first values were told.
-    told: u8,
+    pub(crate) told: u8,
     /// The last number but one, and the last one.
-    before: i64,
-    last: i64,
+    pub(crate) before: i64,
+    pub(crate) last: i64,
 }
 
 impl Model for Running {
@@ -107,17 +107,29 @@ impl Running {
                 self.second
             };
         }
-        let difference = code as i64 + self.minimum;
-        if self.order == 1 {
-            difference + self.last
-        } else {
-            after_two(difference, self.before, self.last)
-        }
+        number_after(self.order, self.minimum, self.before, self.last, code)
+    }
+}
+
+/// The number after these two, by a code and the overall minimum of differences of this order.
+#[inline(always)]
+pub(crate) fn number_after(order: u8, minimum: i64, before: i64, last: i64, code: u64) -> i64
+    requires minimum { nat_abs minimum ≤ 2 ^ 31 }
+    requires before { nat_abs before ≤ 2 ^ 60 }
+    requires last { nat_abs last ≤ 2 ^ 60 }
+    requires code { code < 2 ^ 49 }
+    ensures { result ≡ number_by order (pos code +ℤ minimum) before last }
+{
+    let difference = code as i64 + minimum;
+    if order == 1 {
+        difference + last
+    } else {
+        after_two(difference, before, last)
     }
 }
 
 /// The number after `one` and `two` that makes this second difference with them.
-#[inline]
+#[inline(always)]
 fn after_two(difference: i64, one: i64, two: i64) -> i64
     requires difference { nat_abs difference ≤ 2 ^ 50 }
     requires one { nat_abs one ≤ 2 ^ 60 }
