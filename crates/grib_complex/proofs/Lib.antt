@@ -17,3 +17,4 @@ pub mod FirstValues
 pub mod Back
 pub mod ByDifferences
 pub mod AllTheSame
+pub mod AtOnce

@@ -1,10 +1,11 @@
 -- What tells the points of codes, as these come.
-use Rattle.std.specs.Prelude.{◌≡◌, ◌+◌, ◌<◌, ◌^◌, Option, None, Some, List, ◌++◌, length}
+use Rattle.std.specs.Prelude.{◌≡◌, ◌+◌, ◌<◌, ◌^◌, false, Option, None, Some, List, All, ◌++◌, length}
 use Rattle.grib_io.specs.declared.code.Code.{Code}
 use Rattle.grib_io.specs.Rows.{first_place}
 use Rattle.grib_packing.specs.declared.column.Point.{Point}
 use Rattle.grib_packing.specs.Entries.{is_out_of_range}
 use Rattle.grib_spatial.specs.Running.{Run}
+use Rattle.grib_complex.specs.declared.runs.Steadily.{Steadily}
 use Rattle.grib_complex.specs.declared.telling.Teller.{Teller}
 use Rattle.grib_complex.specs.declared.values.Plain.{Plain}
 use Rattle.grib_complex.specs.declared.values.Values.{Values}
@@ -32,3 +33,13 @@ pub record ValuesTook {K : Type 0} (kept : K → List Point → K → Type 0) (b
 -- The points of these codes, which are the scaled numbers themselves, went to what keeps them.
 abbrev pub PlainTook : {K : Type 0} → (K → List Point → K → Type 0) → Plain K → List Code → Plain K → Type 0
 PlainTook kept before codes after_them = kept before.keeper (told Plainly codes) after_them.keeper
+
+-- The number of this point, if any, is within plus and minus 2 ^ 60.
+abbrev pub IsWithin : Point → Type 0
+IsWithin point = is_out_of_range point ≡ false
+
+-- The points of these codes, which are those of differences, went to what keeps them: none is out of range.
+pub record SteadilyTook {K : Type 0} (kept : K → List Point → K → Type 0) (before : Steadily K) (codes : List Code) (after_them : Steadily K) : Type 0 where
+  pub within : All IsWithin (told (telling_of (Some before.steady.run)) codes)
+  pub telling : telling_of (Some after_them.steady.run) ≡ after (telling_of (Some before.steady.run)) codes
+  pub keeps : kept before.keeper (told (telling_of (Some before.steady.run)) codes) after_them.keeper

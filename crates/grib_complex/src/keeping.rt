@@ -1,6 +1,6 @@
 //! What becomes of the points of values.
 
-ghost use Rattle.std.specs.Prelude.{◌≡◌, ◌+◌, ◌≤◌, ◌<◌, List, Bool, false, [], ◌∷◌, ◌++◌, length, replicate, IfOk, vec_len, vec_capacity};
+ghost use Rattle.std.specs.Prelude.{◌≡◌, ℕ, ◌+◌, ◌≤◌, ◌<◌, List, Bool, false, [], ◌∷◌, ◌++◌, length, replicate, IfOk, vec_len, vec_capacity};
 ghost use Rattle.grib_bitmap.specs.Mask.{present_count};
 ghost use Rattle.grib_packing.specs.Column.{points_with_mask};
 ghost use Rattle.grib_packing.specs.declared.column.Point.{Point as point};
@@ -22,9 +22,22 @@ pub trait Keeper {
     fn keeps(&self) -> bool
         ensures { result ≡ false → (points : List point) → kept self.now points self.now };
 
+    // How many points it keeps without a look at where they go.
+    ghost room: { Self → ℕ };
+
+    /// How many of the next points it keeps without a look at where they go.
+    fn room(&self) -> u32
+        ensures { result ≡ room self.now };
+
     /// Keeps the next point.
     fn keep(self, point: Point) -> Self
         ensures { kept self (point ∷ []) result };
+
+    /// Keeps the next point, where there is room.
+    fn keep_within(self, point: Point) -> Self
+        requires { 1 ≤ room self }
+        ensures kept { kept self (point ∷ []) result }
+        ensures room { room self ≤ room result + 1 };
 
     ghost none: { (keeper : Self) → kept keeper [] keeper };
 
@@ -112,11 +125,23 @@ impl Keeper for Points {
         true
     }
 
+    ghost room = { λ points. points.left };
+
+    #[inline(always)]
+    fn room(&self) -> u32 {
+        self.left
+    }
+
     #[inline(always)]
     fn keep(self, point: Point) -> Points {
         if self.left == 0 {
             return self.keep_next(point);
         }
+        self.keep_within(point)
+    }
+
+    #[inline(always)]
+    fn keep_within(self, point: Point) -> Points {
         let mut points = self;
         points.left -= 1;
         push_within(&mut points.points, point);
@@ -140,8 +165,20 @@ impl Keeper for Nothing {
         false
     }
 
+    ghost room = { λ _. 4294967295 };
+
+    #[inline]
+    fn room(&self) -> u32 {
+        u32::MAX
+    }
+
     #[inline]
     fn keep(self, _point: Point) -> Nothing {
+        self
+    }
+
+    #[inline]
+    fn keep_within(self, _point: Point) -> Nothing {
         self
     }
 

@@ -15,6 +15,7 @@ mod packing;
 mod packing_tests;
 mod range;
 mod representation;
+mod runs;
 mod telling;
 #[cfg(test)]
 mod tests;

@@ -1,6 +1,6 @@
 //! The points that codes tell.
 
-ghost use Rattle.std.specs.Prelude.{◌≡◌, ℕ, ◌+◌, ◌<◌, ◌^◌, List, [], ◌∷◌, ◌++◌, length, None};
+ghost use Rattle.std.specs.Prelude.{◌≡◌, ℕ, ◌+◌, ◌%◌, ◌<◌, ◌≤◌, ◌^◌, true, List, [], ◌∷◌, ◌++◌, length, Option, None, Some, IfSome};
 ghost use Rattle.grib_io.specs.declared.code.Code.{Code as code_of_value};
 ghost use Rattle.grib_groups.specs.Taking.{number_of};
 ghost use Rattle.grib_complex.specs.Told.{Telling, point_of, after};
@@ -8,7 +8,7 @@ ghost use Rattle.grib_complex.specs.Tells.{Tells, telling_of};
 
 use grib_io::Code;
 use grib_packing::Point;
-use grib_spatial::{Running, ScaledRange};
+use grib_spatial::{Running, ScaledRange, Steady};
 
 /// Tells the points of codes: a code is the scaled number itself, or that of a difference.
 #[derive(Debug, Drop)]
@@ -38,6 +38,40 @@ impl Teller {
         ensures { result ≡ self.now.beyond }
     {
         self.beyond
+    }
+
+    /// Whether each code is the scaled number itself.
+    #[inline(always)]
+    pub fn is_plain(&self) -> bool
+        ensures { result ≡ true → self.now.running ≡ None }
+    {
+        self.running.is_none()
+    }
+
+    /// What undoes the differences of the next `count` codes below `limit`, where none of their numbers can be
+    /// out of range.
+    #[inline(always)]
+    pub fn steady(&self, count: u32, limit: u64) -> Option<Steady>
+        requires { limit ≤ 2 ^ 49 }
+        ensures run { IfSome result (λ steady. self.now.running ≡ Some steady.run) }
+        ensures left { IfSome result (λ steady. steady.left ≡ count) }
+        ensures limit { IfSome result (λ steady. steady.limit ≡ limit) }
+    {
+        self.running.as_ref()?.steady(count, limit)
+    }
+
+    /// After the points of `count` codes were told, none of which was out of range, and with this the next one is.
+    #[inline(always)]
+    pub fn passed(self, count: u32, running: Option<Running>) -> Teller
+        ensures running { result.running ≡ running }
+        ensures place { result.place ≡ (self.place + count) % 2 ^ 64 }
+        ensures beyond { result.beyond ≡ self.beyond }
+    {
+        Teller {
+            running,
+            place: self.place.wrapping_add(u64::from(count)),
+            beyond: self.beyond,
+        }
     }
 
     /// The point of the next code.

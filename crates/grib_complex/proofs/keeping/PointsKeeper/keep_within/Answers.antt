@@ -1,9 +1,9 @@
 use Rattle.std.proofs.Common.{◌-◌, refl, arith}
 use Rattle.grib_complex.proofs.Masks.{are_kept}
-use Rattle.grib_complex.proofs.keeping.PointsKeeper.keep.Goals as goal
+use Rattle.grib_complex.proofs.keeping.PointsKeeper.keep_within.Goals as goal
 
-pub returns : goal.returns
-returns c = record {
+pub returns-clause-kept : goal.returns-clause-kept
+returns-clause-kept c = record {
   keeps = λ mask seen room are.
       let before = c.args.self in
       let after = record before { points = c.push_within.new.items; left = before.left - 1 } in

@@ -1,0 +1,114 @@
+-- Lemmas on the points of codes that come at once.
+use Rattle.std.proofs.Common.{◌≡◌, ◌+◌, ◌%◌, ◌<◌, ◌^◌, List, [], ◌∷◌, ◌++◌, All, Some, None, length, refl, sym, ap, ◌∙◌, arith, append_assoc, subst, inl, inr, le-ltb}
+use Rattle.std.proofs.lemmas.Bool.{cases_lt}
+use Rattle.std.proofs.lemmas.List.{length-append, append-nil}
+use Rattle.std.proofs.lemmas.List.Elements.{All-nil, All-head, All-tail, All-append, All-same}
+use Rattle.grib_io.specs.declared.code.Code.{Code}
+use Rattle.grib_io.specs.declared.code.Code.TheVariants.{Present, Primary, Secondary}
+use Rattle.grib_io.specs.Rows.{first_place}
+use Rattle.grib_packing.specs.declared.column.Point.{Point}
+use Rattle.grib_packing.specs.Entries.{is_out_of_range}
+use Rattle.grib_groups.specs.Taking.{number_of}
+use Rattle.grib_groups.proofs.Places.{place_nowhere, place_before}
+use Rattle.grib_complex.specs.declared.runs.Steadily.{Steadily}
+use Rattle.grib_complex.specs.declared.telling.Teller.{Teller}
+use Rattle.grib_complex.specs.declared.values.Plain.{Plain}
+use Rattle.grib_complex.specs.declared.values.Values.{Values}
+use Rattle.grib_complex.specs.Told.{Telling, Plainly, point_of, told, after}
+use Rattle.grib_complex.specs.Tells.{IsWithin, telling_of, Tells, PlainTook, SteadilyTook, ValuesTook}
+use Rattle.grib_complex.specs.Laws.{told-append, after-append, after-plainly, plain-none, plain-more}
+
+-- ---- the first place out of range
+
+nowhere_more : (points more : List Point) → first_place is_out_of_range points ≡ 0 → All IsWithin more → first_place is_out_of_range (points ++ more) ≡ 0
+nowhere_more points [] none within = ap (first_place is_out_of_range) (append-nil points) ∙ none
+nowhere_more points (point ∷ more) none within =
+    ap (first_place is_out_of_range) (sym (append_assoc points (point ∷ []) more))
+    ∙ nowhere_more (points ++ point ∷ []) more (place_nowhere is_out_of_range points point none (All-head IsWithin point more within)) (All-tail IsWithin point more within)
+
+before_more : (points more : List Point) → 0 < first_place is_out_of_range points → first_place is_out_of_range (points ++ more) ≡ first_place is_out_of_range points
+before_more points [] some = ap (first_place is_out_of_range) (append-nil points)
+before_more points (point ∷ more) some =
+    let one = place_before is_out_of_range points point some in
+    ap (first_place is_out_of_range) (sym (append_assoc points (point ∷ []) more))
+    ∙ before_more (points ++ point ∷ []) more (omega (arith, one)) ∙ one
+
+-- ---- codes that come at once, none of whose numbers is out of range
+
+tells_run : (start : Telling) (seen codes : List Code) (before last : Teller) → length seen + length codes < 2 ^ 63 → Tells start seen before
+    → last.place ≡ (before.place + length codes) % 2 ^ 64 → last.beyond ≡ before.beyond
+    → (before.beyond ≡ 0 → All IsWithin (told (after start seen) codes)) → (before.beyond ≡ 0 → telling_of last.running ≡ after (after start seen) codes)
+    → Tells start (seen ++ codes) last
+tells_run start seen codes before last room tells is_place same within telling =
+    let points = told start seen in
+    let more = told (after start seen) codes in
+    record {
+      place = omega (arith, is_place, tells.place, length-append seen codes);
+      beyond = same ∙ tells.beyond ∙ elim (cases_lt 0 before.beyond) [
+        | inl some ↦ sym (before_more points more (omega (arith, tells.beyond)))
+        | inr none ↦
+            let nothing : before.beyond ≡ 0 = omega arith in
+            let nowhere : first_place is_out_of_range points ≡ 0 = sym tells.beyond ∙ nothing in
+            nowhere ∙ sym (nowhere_more points more nowhere (within nothing))
+      ] ∙ ap (first_place is_out_of_range) (sym (told-append start seen codes));
+      telling = λ none. telling (sym same ∙ none) ∙ sym (after-append start seen codes);
+    }
+
+pub values_run : {K : Type 0} (kept : K → List Point → K → Type 0) (before last : Values K) (codes : List Code) (telling : Telling) → telling_of before.teller.running ≡ telling
+    → last.teller.place ≡ (before.teller.place + length codes) % 2 ^ 64 → last.teller.beyond ≡ before.teller.beyond
+    → (before.teller.running ≡ None → last.teller.running ≡ None)
+    → All IsWithin (told telling codes) → telling_of last.teller.running ≡ after telling codes → kept before.keeper (told telling codes) last.keeper
+    → ValuesTook kept before codes last
+values_run kept before last codes telling is is_place same plain within after_them keeps =
+    let here = λ (start : Telling) (seen : List Code) (tells : Tells start seen before.teller) (none : before.teller.beyond ≡ 0).
+    let e : telling ≡ after start seen = sym is ∙ tells.telling none in e in
+    record {
+      stays = λ some. same;
+      plain = λ none. (plain none, same);
+      tells = λ start seen room tells.
+          tells_run start seen codes before.teller last.teller room tells is_place same
+          (λ none. subst (λ (t : Telling). All IsWithin (told t codes)) (here start seen tells none) within)
+          (λ none. after_them ∙ ap (λ (t : Telling). after t codes) (here start seen tells none));
+      keeps = λ start seen room tells none.
+          subst (λ (t : Telling). kept before.keeper (told t codes) last.keeper) (here start seen tells (sym same ∙ none)) keeps;
+    }
+
+-- ---- codes that are the scaled numbers themselves
+
+abbrev pub PlainWithin : {K : Type 0} → (K → List Point → K → Type 0) → Plain K → List Code → Plain K → Type 0
+PlainWithin kept before codes last = PlainTook kept before codes last × All IsWithin (told Plainly codes)
+
+module _ {K : Type 0} (kept : K → List Point → K → Type 0) (none : (keeper : K) → kept keeper [] keeper)
+    (more : (before between after : K) (points more_points : List Point) → kept before points between → kept between more_points after → kept before (points ++ more_points) after) where
+  pub plain_within-none : (taker : Plain K) → PlainWithin kept taker [] taker
+  plain_within-none taker = (plain-none kept none taker, All-nil IsWithin)
+
+  pub plain_within-more : (before between last : Plain K) (codes more_codes : List Code) → PlainWithin kept before codes between → PlainWithin kept between more_codes last
+      → PlainWithin kept before (codes ++ more_codes) last
+  plain_within-more before between last codes more_codes first second = (
+    plain-more kept more before between last codes more_codes first.0 second.0,
+    All-same IsWithin _ _ (told-append Plainly codes more_codes ∙ ap (λ (t : Telling). told Plainly codes ++ told t more_codes) (after-plainly codes))
+        (All-append IsWithin (told Plainly codes) (told Plainly more_codes) first.1 second.1),
+  )
+
+  -- ---- codes of differences
+
+  pub steadily-none : (taker : Steadily K) → SteadilyTook kept taker [] taker
+  steadily-none taker = record { within = All-nil IsWithin; telling = refl; keeps = none taker.keeper }
+
+  pub steadily-more : (before between last : Steadily K) (codes more_codes : List Code) → SteadilyTook kept before codes between → SteadilyTook kept between more_codes last
+      → SteadilyTook kept before (codes ++ more_codes) last
+  steadily-more before between last codes more_codes first second =
+      let t = telling_of (Some before.steady.run) in
+      let both : told t (codes ++ more_codes) ≡ told t codes ++ told (telling_of (Some between.steady.run)) more_codes =
+      told-append t codes more_codes ∙ ap (λ (u : Telling). told t codes ++ told u more_codes) (sym first.telling) in
+      record {
+        within = All-same IsWithin _ _ both (All-append IsWithin _ _ first.within second.within);
+        telling = second.telling ∙ ap (λ (u : Telling). after u more_codes) first.telling ∙ sym (after-append t codes more_codes);
+        keeps = subst (λ (ps : List Point). kept before.keeper ps last.keeper) (sym both) (more before.keeper between.keeper last.keeper _ _ first.keeps second.keeps);
+      }
+
+pub plain_within : (code : Code) → number_of code < 2 ^ 49 → IsWithin (point_of Plainly code)
+plain_within (Present n) small = le-ltb (2 ^ 60) n (omega arith)
+plain_within Primary small = refl
+plain_within Secondary small = refl
