@@ -36,7 +36,12 @@ impl Taker for Codes {
     ghost more = { codes-more };
 }
 
-impl RunTaker for Codes {}
+impl RunTaker for Codes {
+    #[inline]
+    fn is_ready(&self, _count: u32, _limit: u64) -> bool {
+        true
+    }
+}
 
 /// The codes of all values of a Section 7 that has `skip` octets of extra descriptors after octet 5,
 /// where Section 5 has `count` values (WMO-No. 306, Volume I.2, FM 92 GRIB edition 2, data templates

@@ -37,7 +37,12 @@ impl Taker for References {
     ghost more = { references-more };
 }
 
-impl RunTaker for References {}
+impl RunTaker for References {
+    #[inline]
+    fn is_ready(&self, _count: u32, _limit: u64) -> bool {
+        true
+    }
+}
 
 /// The widths that were read, each the reference width and a coded width.
 #[derive(Debug, Drop)]
@@ -65,7 +70,12 @@ impl Taker for Widths {
     ghost more = { widths-more };
 }
 
-impl RunTaker for Widths {}
+impl RunTaker for Widths {
+    #[inline]
+    fn is_ready(&self, _count: u32, _limit: u64) -> bool {
+        true
+    }
+}
 
 /// The lengths that were read, each the reference length and some increments.
 #[derive(Debug, Drop)]
@@ -110,7 +120,12 @@ impl Taker for Lengths {
     ghost more = { lengths-more };
 }
 
-impl RunTaker for Lengths {}
+impl RunTaker for Lengths {
+    #[inline]
+    fn is_ready(&self, _count: u32, _limit: u64) -> bool {
+        true
+    }
+}
 
 /// The three lists of groups.
 #[derive(Debug, Drop)]

@@ -1,13 +1,13 @@
 //! The packed numbers of groups, as their octets come.
 
-ghost use Rattle.std.specs.Prelude.{◌≡◌, ℕ, ◌+◌, ◌-◌, ◌*◌, ◌^◌, ◌<◌, ◌≤◌, List, [], ◌++◌, length, drop, vec_len};
+ghost use Rattle.std.specs.Prelude.{◌≡◌, ◌⊎◌, ℕ, ◌+◌, ◌-◌, ◌*◌, ◌^◌, ◌<◌, ◌≤◌, List, [], ◌++◌, length, drop, vec_len};
 ghost use Rattle.grib_bits.specs.Bits.{bits as bits_in};
 ghost use Rattle.grib_groups.specs.Taking.{values};
 ghost use Rattle.grib_groups.specs.Table.{groups_in, IsWhole, IsNarrow};
 ghost use Rattle.grib_groups.specs.Going.{left_of, IsReadable, IsShort, IsReady, Went};
 
 use crate::coding::Coding;
-use crate::run::{take_in_words, take_run};
+use crate::run::{take_at_once, take_numbers};
 use crate::{Group, Layout, RunTaker, Table};
 use grib_bits::{BitWindow, get_bits};
 
@@ -143,11 +143,9 @@ impl Numbers {
         ensures ready { IsReady T.Taker.limit self.new }
         ensures waits { 0 < values (left_of self.new (groups_in table.now)) → IsShort self.new }
     {
-        taker = self.take_whole_groups(layout, table, piece, &mut at, taker);
         while self.current.count == 0 && self.next < table.len() {
-            self.current = table.group(self.next);
-            self.next += 1;
-            taker = self.take_some(layout, piece, &mut at, taker);
+            taker = self.take_ready_groups(layout, table, piece, &mut at, taker);
+            taker = self.take_next_group(layout, table, piece, &mut at, taker);
         }
         if self.current.count == 0 {
             return taker;
@@ -156,10 +154,44 @@ impl Numbers {
         taker
     }
 
-    /// Takes the next groups, as long as each number of a group begins where eight octets are left. Nothing is
-    /// left of the current one.
-    #[inline(always)]
-    fn take_whole_groups<T: RunTaker>(
+    /// Takes the numbers of the next group that fit, if there is one. Nothing is left of the current one.
+    fn take_next_group<T: RunTaker>(
+        &mut self,
+        layout: &Layout,
+        table: &Table,
+        piece: &[u8],
+        at: &mut u64,
+        taker: T,
+    ) -> T
+        requires bits { layout.now.reference_bits ≤ 48 }
+        requires whole { IsWhole table.now }
+        requires narrow { IsNarrow table.now }
+        requires limit { 0 < vec_len table.now.lengths → 2 ^ 33 ≤ T.Taker.limit }
+        requires short { length piece.now < 2 ^ 32 }
+        requires readable { IsReadable T.Taker.limit self.old.current }
+        requires none { self.old.current.count ≡ 0 }
+        requires within { at.old ≤ 8 * length piece.now }
+        ensures goes { Went T.Taker.took layout.now (left_of self.old (groups_in table.now)) (drop at.old (bits_in piece.now)) taker
+            (left_of self.new (groups_in table.now)) (drop at.new (bits_in piece.now)) result }
+        ensures readable { IsReadable T.Taker.limit self.new.current }
+        ensures next { self.new.next ≡ self.old.next + 1 ⊎ vec_len table.now.lengths ≤ self.new.next }
+        ensures pending { self.new.pending ≡ self.old.pending }
+        ensures within { at.new ≤ 8 * length piece.now }
+        ensures no_more { 0 < self.new.current.count → 8 * length piece.now < at.new + self.new.current.width }
+    {
+        if self.next >= table.len() {
+            return taker;
+        }
+        self.current = table.group(self.next);
+        self.next += 1;
+        self.take_some(layout, piece, at, taker)
+    }
+
+    /// Takes the next groups at once, as long as what takes the codes is ready for each, and each number of a
+    /// group begins where eight octets are left. Nothing is left of the current group. It is not inlined, so
+    /// that what takes the codes stays in registers from one group to the next.
+    #[inline(never)]
+    fn take_ready_groups<T: RunTaker>(
         &mut self,
         layout: &Layout,
         table: &Table,
@@ -177,6 +209,7 @@ impl Numbers {
         ensures goes { Went T.Taker.took layout.now (left_of self.old (groups_in table.now)) (drop at.old (bits_in piece.now)) taker
             (left_of self.new (groups_in table.now)) (drop at.new (bits_in piece.now)) result }
         ensures current { self.new.current ≡ self.old.current }
+        ensures next { self.old.next ≤ self.new.next }
         ensures pending { self.new.pending ≡ self.old.pending }
         ensures within { at.new ≤ 8 * length piece.now }
     {
@@ -187,7 +220,10 @@ impl Numbers {
             if bits < end + 64 {
                 break;
             }
-            taker = take_in_words(layout, group, piece, *at, taker);
+            if !taker.is_ready(group.count, limit_of(group)) {
+                break;
+            }
+            taker = take_at_once(layout, group, piece, *at, taker);
             *at = end;
             self.next += 1;
         }
@@ -213,11 +249,20 @@ impl Numbers {
         let width = u32::from(group.width);
         let start = *at;
         let count = count_within(8 * piece.len() as u64 - start, width, group.count);
-        let taker = take_run(layout, group, piece, start, count, taker);
+        let taker = take_numbers(layout, group, piece, start, count, taker);
         *at = start + u64::from(count) * u64::from(width);
         self.current.count = group.count - count;
         taker
     }
+}
+
+/// What the numbers of the codes of a group are below.
+#[inline(always)]
+fn limit_of(group: Group) -> u64
+    requires { group.width ≤ 48 }
+    ensures { result ≡ group.reference + 2 ^ group.width }
+{
+    u64::from(group.reference) + (1 << group.width)
 }
 
 /// How many of `count` numbers have all their bits among the next `bits` ones.

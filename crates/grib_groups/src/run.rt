@@ -7,12 +7,12 @@ ghost use Rattle.grib_packing.specs.Groups.{code_of};
 ghost use Rattle.grib_groups.specs.Taking.{code_by};
 
 use crate::coding::Coding;
-use crate::{Group, Layout, RunTaker, SameRun, Taker, WordRun};
+use crate::{Group, Layout, RunTaker, SameRun, Taker, WordRun, take_each};
 use grib_bits::get_bits;
 
 /// Takes `count` numbers of a group, which stand after the first `at` bits of `octets`.
 #[inline(always)]
-pub fn take_run<T: RunTaker>(
+pub fn take_numbers<T: Taker>(
     layout: &Layout,
     group: Group,
     octets: &[u8],
@@ -22,10 +22,10 @@ pub fn take_run<T: RunTaker>(
 ) -> T
     requires width { group.width ≤ 48 }
     requires bits { layout.now.reference_bits ≤ 48 }
-    requires limit { group.reference + 2 ^ group.width ≤ T.Taker.limit }
+    requires limit { group.reference + 2 ^ group.width ≤ T.limit }
     requires short { length octets.now < 2 ^ 32 }
     requires within { at + count * group.width ≤ 8 * length octets.now }
-    ensures { T.Taker.took taker (map (code_of layout.now group) (plain (drop at (bits_in octets.now)) group.width count)) result }
+    ensures { T.took taker (map (code_of layout.now group) (plain (drop at (bits_in octets.now)) group.width count)) result }
 {
     let width = u32::from(group.width);
     let coding = Coding::of(layout, group);
@@ -41,9 +41,9 @@ pub fn take_run<T: RunTaker>(
     take_from_end(coding, octets, at, width, count - whole, taker)
 }
 
-/// Takes all numbers of a group, each of which begins where eight octets are left.
+/// Takes all numbers of a group at once, each of which begins where eight octets are left.
 #[inline(always)]
-pub fn take_in_words<T: RunTaker>(
+pub fn take_at_once<T: RunTaker>(
     layout: &Layout,
     group: Group,
     octets: &[u8],
@@ -55,25 +55,61 @@ pub fn take_in_words<T: RunTaker>(
     requires limit { group.reference + 2 ^ group.width ≤ T.Taker.limit }
     requires short { length octets.now < 2 ^ 32 }
     requires within { at + group.count * group.width + 64 ≤ 8 * length octets.now }
+    requires ready { T.RunTaker.ready taker group.count (group.reference + 2 ^ group.width) }
     ensures { T.Taker.took taker (map (code_of layout.now group) (plain (drop at (bits_in octets.now)) group.width group.count)) result }
 {
     let width = u32::from(group.width);
     let coding = Coding::of(layout, group);
     if width == 0 {
-        return take_same(coding, group.count, taker);
+        return same_at_once(coding, group.count, taker);
     }
-    take_from_words(coding, octets, at, width, group.count, taker)
+    words_at_once(coding, octets, at, width, group.count, taker)
 }
 
-/// Takes `count` numbers of no bits.
+/// Takes `count` numbers of no bits at once.
 #[inline(always)]
-fn take_same<T: RunTaker>(coding: Coding, count: u32, taker: T) -> T
+fn same_at_once<T: RunTaker>(coding: Coding, count: u32, taker: T) -> T
     requires limit { coding.reference + 1 ≤ T.Taker.limit }
     requires reference { coding.reference < 2 ^ 32 }
+    requires ready { T.RunTaker.ready taker count (coding.reference + 1) }
     ensures { (xs : _) → T.Taker.took taker (map (code_by coding) (plain xs 0 count)) result }
 {
     let run = SameRun::new(coding.code(0), coding.limit(0), count);
     taker.take_run(run)
+}
+
+/// Takes `count` numbers from words of eight octets at once.
+#[inline(always)]
+fn words_at_once<T: RunTaker>(
+    coding: Coding,
+    octets: &[u8],
+    at: u64,
+    width: u32,
+    count: u32,
+    taker: T,
+) -> T
+    requires some { 1 ≤ width }
+    requires width { width ≤ 48 }
+    requires limit { coding.reference + 2 ^ width ≤ T.Taker.limit }
+    requires reference { coding.reference < 2 ^ 32 }
+    requires short { length octets.now < 2 ^ 32 }
+    requires within { 0 < count → at + count * width + 64 ≤ 8 * length octets.now + width }
+    requires ready { T.RunTaker.ready taker count (coding.reference + 2 ^ width) }
+    ensures { T.Taker.took taker (map (code_by coding) (plain (drop at (bits_in octets.now)) width count)) result }
+{
+    let run = WordRun::new(coding, octets, at, width, count);
+    taker.take_run(run)
+}
+
+/// Takes `count` numbers of no bits.
+#[inline(always)]
+fn take_same<T: Taker>(coding: Coding, count: u32, taker: T) -> T
+    requires limit { coding.reference + 1 ≤ T.limit }
+    requires reference { coding.reference < 2 ^ 32 }
+    ensures { (xs : _) → T.took taker (map (code_by coding) (plain xs 0 count)) result }
+{
+    let run = SameRun::new(coding.code(0), coding.limit(0), count);
+    take_each(run, taker)
 }
 
 /// How many of `count` numbers begin where eight octets are left.
@@ -98,7 +134,7 @@ fn count_in_words(length: u64, at: u64, width: u32, count: u32) -> u32
 
 /// Takes `count` numbers from words of eight octets.
 #[inline(always)]
-fn take_from_words<T: RunTaker>(
+fn take_from_words<T: Taker>(
     coding: Coding,
     octets: &[u8],
     at: u64,
@@ -108,14 +144,14 @@ fn take_from_words<T: RunTaker>(
 ) -> T
     requires some { 1 ≤ width }
     requires width { width ≤ 48 }
-    requires limit { coding.reference + 2 ^ width ≤ T.Taker.limit }
+    requires limit { coding.reference + 2 ^ width ≤ T.limit }
     requires reference { coding.reference < 2 ^ 32 }
     requires short { length octets.now < 2 ^ 32 }
     requires within { 0 < count → at + count * width + 64 ≤ 8 * length octets.now + width }
-    ensures { T.Taker.took taker (map (code_by coding) (plain (drop at (bits_in octets.now)) width count)) result }
+    ensures { T.took taker (map (code_by coding) (plain (drop at (bits_in octets.now)) width count)) result }
 {
     let run = WordRun::new(coding, octets, at, width, count);
-    taker.take_run(run)
+    take_each(run, taker)
 }
 
 /// Takes the last `count` numbers of some octets, a few.

@@ -1,6 +1,6 @@
 //! What takes codes on.
 
-ghost use Rattle.std.specs.Prelude.{◌≡◌, ℕ, ◌<◌, ◌≤◌, List, [], ◌∷◌, ◌++◌};
+ghost use Rattle.std.specs.Prelude.{◌≡◌, ℕ, ◌<◌, ◌≤◌, true, List, [], ◌∷◌, ◌++◌, length};
 ghost use Rattle.grib_io.specs.declared.code.Code.{Code};
 ghost use Rattle.grib_groups.specs.Taking.{number_of};
 
@@ -27,12 +27,22 @@ pub trait Taker {
         → took before (codes ++ more_codes) after };
 }
 
-/// What takes codes that follow one another in a group, all at once.
+/// What takes the codes of a run at once, where it is ready for them.
 pub trait RunTaker: Taker + Sized {
-    /// Takes the codes of a run.
+    // It takes so many codes below a limit at once.
+    ghost ready: { Self → ℕ → ℕ → Type 0 } = { λ _ _ _. Unit {0} };
+
+    /// Whether it takes `count` codes below `limit` at once.
+    fn is_ready(&self, count: u32, limit: u64) -> bool
+        requires { limit ≤ Self.limit }
+        ensures { result ≡ true → ready self.now count limit };
+
+    /// Takes the codes of a run, for which it is ready.
+    #[inline(always)]
     fn take_run<R: CodeRun + Drop>(self, run: R) -> Self
         requires stands { R.stands run }
         requires limit { R.limit run ≤ Self.limit }
+        requires ready { ready self (length (R.codes run)) (R.limit run) }
         ensures { Self.took self (R.codes run) result }
     {
         take_each(run, self)
@@ -40,6 +50,7 @@ pub trait RunTaker: Taker + Sized {
 }
 
 /// Takes the codes of a run, one after another.
+#[inline(always)]
 pub fn take_each<R: CodeRun + Drop, T: Taker>(mut run: R, mut taker: T) -> T
     requires stands { R.stands run }
     requires limit { R.limit run ≤ T.limit }

@@ -8,4 +8,4 @@ pub returns : goal.returns
 returns g c = λ xs.
     let took = g.T.Taker.took in
     let same = c.new-run.ensures.codes ∙ ap (replicate c.args.count) c.code.ensures ∙ sym (plain_zeros (code_by c.args.coding) xs c.args.count) in
-    subst (λ (cs : List Code). took c.args.taker cs c.take_run.result) same c.take_run.ensures
+    subst (λ (cs : List Code). took c.args.taker cs c.take_each.result) same c.take_each.ensures

@@ -11,5 +11,5 @@ returns-clause-goes g c = λ groups.
     let place : c.args.at.now + c.from.result * c.from-2.result ≡ c.args.at.now + count * group.width =
     ap₂ (λ (m n : ℕ). c.args.at.now + m * n) c.from.ensures (c.from-2.ensures ∙ c.from-width.ensures) in
     let product : count * c.from-width.result ≡ count * group.width = ap (λ (n : ℕ). count * n) c.from-width.ensures in
-    went_run g.T.Taker.took c.args.layout.now group (drop c.args.self.now.next groups) (bits c.args.piece.now) c.args.at.now count (group.count - count) _ c.args.taker c.take_run-taker.result
-    (omega arith) (omega (arith, product, c.count_within-count.ensures.within, length-bits c.args.piece.now)) place c.take_run-taker.ensures
+    went_run g.T.Taker.took c.args.layout.now group (drop c.args.self.now.next groups) (bits c.args.piece.now) c.args.at.now count (group.count - count) _ c.args.taker c.take_numbers-taker.result
+    (omega arith) (omega (arith, product, c.count_within-count.ensures.within, length-bits c.args.piece.now)) place c.take_numbers-taker.ensures

@@ -8,10 +8,10 @@ use Rattle.grib_groups.specs.Going.{Went}
 use Rattle.grib_groups.proofs.Taken.{taken_before, taken_next}
 use Rattle.grib_groups.proofs.Listed.{groups_from_index, narrow_at}
 use Rattle.grib_groups.proofs.Moves.{went_run, went_same, went_then}
-use Rattle.grib_groups.proofs.numbers.Numbers.take_whole_groups.Goals as goal
+use Rattle.grib_groups.proofs.numbers.Numbers.take_ready_groups.Goals as goal
 
-pub take_in_words-taker-requires-clause-limit : goal.take_in_words-taker-requires-clause-limit
-take_in_words-taker-requires-clause-limit g c =
+pub take_at_once-taker-requires-clause-limit : goal.take_at_once-taker-requires-clause-limit
+take_at_once-taker-requires-clause-limit g c =
     let next = c.loop-self.self.next in
     let group = c.group-group.result in
     let width : group.width ≡ slice_index c.args.table.now.widths.items next = ap (λ (gr : Group). gr.width) c.group-group.ensures.group in
@@ -35,7 +35,7 @@ loop-self-preserved g c =
     let at = c.loop-self.at in
     let end = at + c.from.result * c.from-in-loop-self.result in
     let taker = c.loop-self.taker in
-    let after = c.take_in_words-taker.result in
+    let after = c.take_at_once-taker.result in
     let empty : current.count ≡ 0 = ap (λ (gr : Group). gr.count) c.loop-self.invariant.current ∙ c.requires.none in
     let size : c.from.result * c.from-in-loop-self.result ≡ group.count * group.width = ap₂ (λ (m n : ℕ). m * n) c.from.ensures c.from-in-loop-self.ensures in
     let following : drop next groups ≡ group ∷ rest =
@@ -45,7 +45,7 @@ loop-self-preserved g c =
     let left : Group = record group { count = 0 } in
     let advanced = subst (λ (gs : List Group). Taken layout (current ∷ drop next groups) here [] gs here) following (taken_next layout current (drop next groups) here empty) in
     let over : Went took layout (group ∷ rest) here taker (left ∷ rest) there after =
-    went_run took layout group rest all at group.count 0 end taker after (omega arith) (omega (arith, size, length-bits c.args.piece.now)) (omega (arith, size)) c.take_in_words-taker.ensures in
+    went_run took layout group rest all at group.count 0 end taker after (omega arith) (omega (arith, size, length-bits c.args.piece.now)) (omega (arith, size)) c.take_at_once-taker.ensures in
     let past = went_same took none more layout (left ∷ rest) rest there there after (taken_next layout left rest there refl) in
     let before = went_same took none more layout rest (current ∷ rest) there there after (taken_before layout current rest there empty) in
     record {
@@ -53,6 +53,7 @@ loop-self-preserved g c =
           (went_then took none more layout (went_same took none more layout _ _ here here taker advanced)
           (went_then took none more layout over (went_then took none more layout past before)));
       current = c.loop-self.invariant.current;
+      next = omega (arith, c.loop-self.invariant.next);
       pending = c.loop-self.invariant.pending;
       within = omega (arith, size);
     }

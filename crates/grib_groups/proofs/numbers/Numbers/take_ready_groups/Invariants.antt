@@ -2,12 +2,13 @@ use Rattle.std.proofs.Common.{◌≡◌, ◌-◌, ◌*◌, ◌≤◌, length, dr
 use Rattle.grib_bits.specs.Bits.{bits}
 use Rattle.grib_groups.specs.Table.{groups_in}
 use Rattle.grib_groups.specs.Going.{left_of, Went}
-use Rattle.grib_groups.proofs.numbers.Numbers.take_whole_groups.Given as goal
+use Rattle.grib_groups.proofs.numbers.Numbers.take_ready_groups.Given as goal
 
 abbrev pub invariant-loop-self : goal.invariant-loop-self
 invariant-loop-self g l = record {
   went : Went g.T.Taker.took l.layout (left_of l.fn.self (groups_in l.table)) (drop l.fn.at (bits l.piece)) l.fn.taker (left_of l.self (groups_in l.table)) (drop l.at (bits l.piece)) l.taker;
   current : l.self.current ≡ l.fn.self.current;
+  next : l.fn.self.next ≤ l.self.next;
   pending : l.self.pending ≡ l.fn.self.pending;
   within : l.at ≤ 8 * length l.piece;
 }

@@ -5,7 +5,7 @@ use Rattle.grib_io.specs.declared.code.Code.{Code}
 use Rattle.grib_packing.specs.Groups.{code_of}
 use Rattle.grib_groups.specs.Taking.{code_by}
 use Rattle.grib_groups.proofs.Runs.{map-plain, took_then}
-use Rattle.grib_groups.proofs.run.take_run.Goals as goal
+use Rattle.grib_groups.proofs.run.take_numbers.Goals as goal
 
 pub returns-then-width-eq0 : goal.returns-then-width-eq0
 returns-then-width-eq0 g c =
