@@ -1,16 +1,15 @@
 -- Runs of codes that are all the same.
-use Rattle.std.proofs.Common.{◌≡◌, ℕ, zero, suc, ◌+◌, ◌-◌, ◌≤◌, ◌||◌, ◌&&◌, ◌==◌, max, min, Bool, true, false, cond, List, [], ◌∷◌, ◌++◌, length, take, drop, map, replicate, refl, sym, ap, ap₂, ◌∙◌, arith, eq-eqb}
+use Rattle.std.proofs.Common.{◌≡◌, ℕ, zero, suc, ◌-◌, ◌≤◌, ◌||◌, ◌&&◌, ◌==◌, max, Bool, true, false, List, [], ◌∷◌, ◌++◌, take, map, replicate, refl, sym, ap, ap₂, ◌∙◌, arith, eq-eqb}
 use Rattle.std.specs.List.{list_any, list_all}
 use Rattle.std.proofs.lemmas.List.{take-replicate, drop-replicate}
 use Rattle.std.proofs.lemmas.List.Elements.{All-head, All-tail}
-use Rattle.grib_bits.specs.Bits.{bits_of}
 use Rattle.grib_io.specs.declared.code.Code.{Code}
 use Rattle.grib_io.specs.declared.code.Code.TheVariants.{Present, Primary, Secondary}
 use Rattle.grib_packing.specs.declared.span.Span.{Span}
 use Rattle.grib_packing.specs.Span.{IsSpan}
-use Rattle.grib_packing.specs.Groupings.{IsGrouping, digits, greatest, smallest, present_codes, is_present, is_primary, is_secondary, is_uniform, joined, runs, width_of, width_bits_of, reference_bits_of}
+use Rattle.grib_packing.specs.Groupings.{IsGrouping, digits, greatest, smallest, present_codes, is_present, is_primary, is_secondary, is_uniform, joined, runs, width_of, width_bits_of}
 use Rattle.grib_packing.specs.Packed.{fields, group_fields, reference_of}
-use Rattle.grib_packing.proofs.Spans.{reference_by, reference_of-by}
+use Rattle.grib_packing.proofs.Spans.{reference_of-by}
 use Rattle.grib_groups.proofs.Parts.{sum-more}
 
 -- ---- what such a run has

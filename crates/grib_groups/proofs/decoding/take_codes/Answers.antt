@@ -4,7 +4,6 @@ use Rattle.grib_bits.specs.Bits.{bits}
 use Rattle.grib_io.specs.declared.code.Code.{Code}
 use Rattle.grib_packing.specs.declared.group.Group.{Group}
 use Rattle.grib_packing.specs.Groups.{codes_from, list_octets, grouped, packed_bits}
-use Rattle.grib_groups.specs.Taking.{values}
 use Rattle.grib_groups.specs.Table.{groups_in}
 use Rattle.grib_groups.proofs.Taken.{length-codes_from}
 use Rattle.grib_groups.proofs.decoding.take_codes.Goals as goal

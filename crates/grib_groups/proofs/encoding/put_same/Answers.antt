@@ -1,4 +1,4 @@
-use Rattle.std.proofs.Common.{◌≡◌, ℕ, suc, ◌+◌, ◌<◌, ◌≤◌, Bool, List, ◌∷◌, ◌++◌, length, drop, map, get_or, ap, ◌∙◌, arith}
+use Rattle.std.proofs.Common.{◌≡◌, ℕ, ◌+◌, ◌<◌, ◌≤◌, Bool, List, ◌++◌, length, drop, map, ap, arith}
 use Rattle.grib_bits.specs.Bits.{bits_of}
 use Rattle.grib_bits.specs.Written.{Written}
 use Rattle.grib_bits.proofs.Numbers.{length-bits_of}

@@ -1,6 +1,19 @@
-use Rattle.std.proofs.Common.{List, subst}
+use Rattle.std.proofs.Common.{◌≡◌, ℕ, List, drop, length, subst, sym, ap, ◌∙◌}
+use Rattle.grib_bits.specs.Bits.{bits}
 use Rattle.grib_io.specs.declared.code.Code.{Code}
+use Rattle.grib_groups.specs.CodeRuns.{codes_in_words, limit_of}
+use Rattle.grib_groups.specs.Taking.{code_by}
+use Rattle.grib_groups.proofs.CodeRuns.{length-codes}
 use Rattle.grib_groups.proofs.run.words_at_once.Goals as goal
+
+pub take_run-requires-clause-ready : goal.take_run-requires-clause-ready
+take_run-requires-clause-ready g c =
+    let ready = g.T.RunTaker.ready in
+    let run = c.new-run.result in
+    let count : length (codes_in_words run) ≡ c.args.count =
+    ap length c.new-run.ensures.codes ∙ length-codes (code_by c.args.coding) (drop c.args.at (bits c.args.octets.now)) c.args.width c.args.count in
+    subst (λ (n : ℕ). ready c.args.taker n (limit_of run)) (sym count)
+    (subst (λ (n : ℕ). ready c.args.taker c.args.count n) (sym c.new-run.ensures.limit) c.requires.ready)
 
 pub returns : goal.returns
 returns g c =

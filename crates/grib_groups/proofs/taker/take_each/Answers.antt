@@ -1,4 +1,4 @@
-use Rattle.std.proofs.Common.{◌≡◌, ◌+◌, refl, ap, sym, ◌∙◌, arith, length}
+use Rattle.std.proofs.Common.{refl, ap, ◌∙◌, arith, length}
 use Rattle.grib_groups.proofs.CodeRuns.{passed_none, passed_next, passed_all}
 use Rattle.grib_groups.proofs.taker.take_each.Goals as goal
 

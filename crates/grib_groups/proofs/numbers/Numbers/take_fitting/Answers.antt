@@ -1,4 +1,4 @@
-use Rattle.std.proofs.Common.{◌≡◌, ◌<◌, List, Bool, length, drop, ap, ◌∙◌, arith}
+use Rattle.std.proofs.Common.{length, ap, arith}
 use Rattle.std.proofs.lemmas.List.{length-drop}
 use Rattle.grib_bits.specs.Bits.{bits}
 use Rattle.grib_bits.proofs.OctetBits.{length-bits}

@@ -1,28 +1,19 @@
-use Rattle.std.proofs.Common.{◌≡◌, ◌+◌, ◌^◌, ◌≤◌, ◌∷◌, [], List, Bool, drop, length, slice_index, sym, ap, ◌∙◌, arith, subst, pow_mono}
+use Rattle.std.proofs.Common.{◌≡◌, ◌+◌, [], List, Bool, drop, length, sym, ap, ◌∙◌, arith, subst}
 use Rattle.std.proofs.lemmas.List.{length-drop}
 use Rattle.grib_bits.specs.Bits.{bits}
 use Rattle.grib_bits.proofs.OctetBits.{length-bits}
 use Rattle.grib_packing.specs.declared.group.Group.{Group}
 use Rattle.grib_groups.specs.Taking.{Taken, values}
 use Rattle.grib_groups.specs.Table.{groups_in}
-use Rattle.grib_groups.specs.Going.{left_of, IsShort}
-use Rattle.grib_groups.proofs.Taken.{taken_next, taken_all, values-cons}
-use Rattle.grib_groups.proofs.Listed.{groups_from_index, no_groups, narrow_at}
+use Rattle.grib_groups.specs.Going.{left_of, IsReadable, IsShort}
+use Rattle.grib_groups.proofs.Taken.{taken_all, values-cons}
+use Rattle.grib_groups.proofs.Listed.{no_groups}
 use Rattle.grib_groups.proofs.Moves.{went_same, went_then}
 use Rattle.grib_groups.proofs.numbers.Numbers.take_next_groups.Goals as goal
 use Rattle.grib_groups.proofs.numbers.Numbers.take_next_groups.Goals.{then-loop-self-test+else-self-len, else-loop-self-test}
 
-pub take_some-taker-requires-clause-readable : goal.take_some-taker-requires-clause-readable
-take_some-taker-requires-clause-readable g c =
-    let next = c.loop-self.self.next in
-    let group = c.group-self.result in
-    let width : group.width ≡ slice_index c.args.table.now.widths.items next = ap (λ (gr : Group). gr.width) c.group-self.ensures.group in
-    let narrow : group.width ≤ 32 = omega (arith, width, narrow_at c.args.table.now c.requires.whole next c.requires.narrow (omega arith)) in
-    let power : 2 ^ group.width ≤ 2 ^ 32 = pow_mono narrow in
-    record {
-      width = omega arith;
-      below = omega (arith, power, c.group-self.ensures.reference, c.requires.limit (omega arith));
-    }
+pub take_next_group-taker-requires-clause-readable : goal.take_next_group-taker-requires-clause-readable
+take_next_group-taker-requires-clause-readable g c = subst (IsReadable g.T.Taker.limit) (sym c.take_ready_groups-taker.ensures.current) c.loop-self.invariant.readable
 
 pub loop-self-preserved : goal.loop-self-preserved
 loop-self-preserved g c =
@@ -30,21 +21,13 @@ loop-self-preserved g c =
     let none = g.met.T.Taker.none in
     let more = g.met.T.Taker.more in
     let layout = c.args.layout.now in
-    let table = c.args.table.now in
-    let groups = groups_in table in
-    let current = c.loop-self.self.current in
-    let next = c.loop-self.self.next in
-    let here = drop c.loop-self.at (bits c.args.piece.now) in
-    let following : drop next groups ≡ c.group-self.result ∷ drop (next + 1) groups =
-    groups_from_index table c.requires.whole next (omega arith) ∙ ap (λ (group : Group). group ∷ drop (next + 1) groups) (sym c.group-self.ensures.group) in
-    let advanced = subst (λ (gs : List Group). Taken layout (current ∷ drop next groups) here [] gs here) following (taken_next layout current (drop next groups) here (omega arith)) in
     record {
       went = went_then took none more layout c.loop-self.invariant.went
-          (went_then took none more layout (went_same took none more layout _ _ here here c.loop-self.taker advanced) (c.take_some-taker.ensures.goes groups));
-      readable = c.take_some-taker.ensures.readable;
-      pending = c.take_some-taker.ensures.pending ∙ c.loop-self.invariant.pending;
-      within = c.take_some-taker.ensures.within;
-      no_more = c.take_some-taker.ensures.no_more;
+          (went_then took none more layout c.take_ready_groups-taker.ensures.goes c.take_next_group-taker.ensures.goes);
+      readable = c.take_next_group-taker.ensures.readable;
+      pending = c.take_next_group-taker.ensures.pending ∙ c.take_ready_groups-taker.ensures.pending ∙ c.loop-self.invariant.pending;
+      within = c.take_next_group-taker.ensures.within;
+      no_more = c.take_next_group-taker.ensures.no_more;
     }
 
 -- where the loop ended at a group with no values left, it was the last

@@ -10,6 +10,15 @@ use Rattle.grib_groups.proofs.Listed.{groups_from_index, narrow_at}
 use Rattle.grib_groups.proofs.Moves.{went_run, went_same, went_then}
 use Rattle.grib_groups.proofs.numbers.Numbers.take_ready_groups.Goals as goal
 
+pub is_ready-requires : goal.is_ready-requires
+is_ready-requires g c =
+    let next = c.loop-self.self.next in
+    let group = c.group-group.result in
+    let width : group.width ≡ slice_index c.args.table.now.widths.items next = ap (λ (gr : Group). gr.width) c.group-group.ensures.group in
+    let narrow : group.width ≤ 32 = omega (arith, width, narrow_at c.args.table.now c.requires.whole next c.requires.narrow (omega arith)) in
+    let power : 2 ^ group.width ≤ 2 ^ 32 = pow_mono narrow in
+    omega (arith, power, c.limit_of.ensures, c.group-group.ensures.reference, c.requires.limit (omega arith))
+
 pub take_at_once-taker-requires-clause-limit : goal.take_at_once-taker-requires-clause-limit
 take_at_once-taker-requires-clause-limit g c =
     let next = c.loop-self.self.next in
