@@ -262,7 +262,7 @@ fn width_of(least: u32, greatest: u32, primary: u8, secondary: u8, reserved: u32
         return Width { bits, limit: 0 };
     }
     let spread = greatest - least;
-    if spread.max(u32::from(primary.max(secondary))) == 0 {
+    if spread == 0 && primary.max(secondary) == 0 {
         return Width { bits: 0, limit: 1 };
     }
     let bits = bit_length(u64::from(spread) + u64::from(reserved));
