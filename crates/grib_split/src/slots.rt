@@ -195,7 +195,7 @@ impl Slots {
         while rest != 0 {
             let place = rest.trailing_zeros();
             self.mend_one(place as usize, length_at(at, place as usize), reserved);
-            rest &= !(1 << place);
+            rest &= rest - 1;
         }
     }
 
