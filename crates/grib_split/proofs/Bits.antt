@@ -1,9 +1,10 @@
 -- The first of some places from one on, counted round 64.
-use Rattle.std.proofs.Common.{◌≡◌, ◌≢◌, ℕ, ◌+◌, ◌-◌, ◌*◌, ◌/◌, ◌%◌, ◌^◌, ◌<◌, ◌≤◌, ◌⊎◌, inl, inr, sym, ap, ◌∙◌, arith}
-use Rattle.std.specs.Int.{w64, trailing_zeros, bit_at, bit_not}
+use Rattle.std.proofs.Common.{◌≡◌, ◌≢◌, ℕ, ◌+◌, ◌-◌, ◌*◌, ◌/◌, ◌%◌, ◌^◌, ◌<◌, ◌≤◌, ◌⊎◌, inl, inr, sym, ap, ◌∙◌, arith, div-add-mod'}
+use Rattle.std.proofs.Math.Nat.{mod-lt, one-le-pow}
+use Rattle.std.specs.Int.{w64, trailing_zeros, bit_at}
 use Rattle.std.specs.Prelude.{bit_and}
-use Rattle.std.proofs.lemmas.Nat.{shr-shr, shr_le, and_le_l}
-use Rattle.std.proofs.lemmas.Nat.Bits.{bit_at-trailing_zeros, bit_at-zero, bit_at_above, bit_at_clear_same}
+use Rattle.std.proofs.lemmas.Nat.{shr-shr, shr_le, and_le_r}
+use Rattle.std.proofs.lemmas.Nat.Bits.{bit_at-trailing_zeros, bit_at-zero, bit_at_above, bit_at_and, bit_at_cat_low, bit_at_cat_high}
 
 -- bits behind a shift
 shifted : (n start i : ℕ) → bit_at (n / 2 ^ start) i ≡ bit_at n (start + i)
@@ -70,21 +71,36 @@ first_round places start within some small none =
 
 -- ---- without the lowest bit
 
-abbrev pub cleared : ℕ → ℕ → ℕ
-cleared n k = bit_and n (bit_not w64 (1 * 2 ^ k % 2 ^ 64))
+pub cleared_less : (n : ℕ) → n ≢ 0 → bit_and n (n - 1) < n
+cleared_less n some = omega (arith, and_le_r n (n - 1), some)
 
-less_or_same : (a b : ℕ) → a ≤ b → (a < b) ⊎ (a ≡ b)
-less_or_same a b order = grind arith
+-- one less has the same bits above one that is set
+same_above : (n k place : ℕ) → k < place → bit_at n k ≡ 1 → bit_at (n - 1) place ≡ bit_at n place
+same_above n k place above set =
+    let a = n / 2 ^ place in
+    let b = n % 2 ^ place in
+    let whole : a * 2 ^ place + b ≡ n = div-add-mod' n (2 ^ place) in
+    let low : bit_at b k ≡ 1 = sym (bit_at_cat_low a place b k above) ∙ (ap (λ m. bit_at m k) whole ∙ set) in
+    let some : 0 < b = elim (none_or_some b) [
+      | inl none ↦ absurd (let no_bit : bit_at b k ≡ 0 = ap (λ m. bit_at m k) none ∙ bit_at-zero k in omega (arith, no_bit, low))
+      | inr some ↦ some
+    ] in
+    let small : b < 2 ^ place = mod-lt n (let some : 1 ≤ 2 ^ place = one-le-pow place 2 (omega arith) in omega (arith, some)) in
+    let one_less : a * 2 ^ place + (b - 1) ≡ n - 1 = omega (arith, whole, some) in
+    let here = bit_at_cat_high a place (b - 1) place (omega (arith, small)) (omega arith) in
+    let there = bit_at_cat_high a place b place small (omega arith) in
+    ap (λ m. bit_at m place) (sym one_less) ∙ (here ∙ (sym there ∙ ap (λ m. bit_at m place) whole))
+  where
+    none_or_some : (b : ℕ) → (b ≡ 0) ⊎ (0 < b)
+    none_or_some b = grind arith
 
-pub cleared_less : (n : ℕ) → n < 2 ^ 64 → n ≢ 0 → cleared n (trailing_zeros w64 n) < n
-cleared_less n small some =
-    let t = bit_at-trailing_zeros w64 n (omega (arith, some)) small in
+pub cleared_other : (n place : ℕ) → n < 2 ^ 64 → n ≢ 0 → trailing_zeros w64 n ≢ place → bit_at (bit_and n (n - 1)) place ≡ 0 → bit_at n place ≡ 0
+cleared_other n place small some other unset =
     let k = trailing_zeros w64 n in
-    elim (less_or_same (cleared n k) n (and_le_l n (bit_not w64 (1 * 2 ^ k % 2 ^ 64)))) [
-      | inl less ↦ less
-      | inr same ↦ absurd (
-          let none : bit_at (cleared n k) k ≡ 0 = bit_at_clear_same w64 n k t.0 in
-          let here : bit_at (cleared n k) k ≡ bit_at n k = ap (λ m. bit_at m k) same in
-          omega (arith, none, here, t.1)
-          )
+    let t = bit_at-trailing_zeros w64 n (omega (arith, some)) small in
+    elim (below_or_not place k) [
+      | inl below ↦ t.2 place below
+      | inr above ↦
+          let same = same_above n k place (omega (arith, above, other)) t.1 in
+          omega (arith, bit_at_and n (n - 1) place, unset, same)
     ]

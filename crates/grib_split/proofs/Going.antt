@@ -1,5 +1,5 @@
 -- The runs of a place by the places of their ends, and with one code more.
-use Rattle.std.proofs.Common.{◌≡◌, ℕ, zero, suc, ◌+◌, ◌-◌, ◌*◌, ◌^◌, ◌%◌, ◌<◌, ◌≤◌, ◌⊎◌, inl, inr, List, ◌∷◌, length, get_or, take, drop, All, ap, ap₂, sym, ◌∙◌, subst, arith, drop-cons, length-drop}
+use Rattle.std.proofs.Common.{◌≡◌, ℕ, suc, ◌+◌, ◌-◌, ◌*◌, ◌^◌, ◌%◌, ◌<◌, ◌≤◌, ◌⊎◌, inl, inr, List, ◌∷◌, length, get_or, take, drop, All, ap, ap₂, sym, ◌∙◌, subst, arith, drop-cons, length-drop}
 use Rattle.std.specs.Prelude.{slice_index}
 use Rattle.std.specs.Int.{bit_at}
 use Rattle.std.proofs.Math.Nat.{mul-le-mul, suc-mul}
@@ -13,8 +13,9 @@ use Rattle.grib_split.specs.declared.slots.Slots.{Slots}
 use Rattle.grib_split.specs.Costs.{header_of}
 use Rattle.grib_split.specs.Least as least
 use Rattle.grib_split.specs.Least.{IsLeast, with_first}
-use Rattle.grib_split.specs.Runs.{Run, Runs, Waits, After, Afters, after_of, Wide, PricedBut, Told, length_to}
+use Rattle.grib_split.specs.Runs.{Run, Runs, Waits, After, Afters, after_of, Wide, Priced, PricedBut, Told, length_to, SameNumbers, SameMarks, SameWidths}
 use Rattle.grib_split.proofs.Bounds.{cost_bound}
+use Rattle.grib_split.proofs.Kept.{told_same, wide_as, priced_as}
 
 -- ---- places
 
@@ -38,10 +39,10 @@ runs_by k codes at slots r l some most =
     subst P (forth at l some most) (r p (omega arith))
 
 pub waits_by : (k : ℕ) (codes : List Code) (at : ℕ) (slots : Slots) → Waits k codes at slots
-    → (p : ℕ) → p < 64 → Run k slots p (length_to at p - 1) (take (length_to at p - 1) (drop (at + 1) codes))
+    → (p : ℕ) → p < 64 → Run k slots p (length_to at p) (take (length_to at p - 1) (drop (at + 1) codes))
 waits_by k codes at slots w p within =
     let l = length_to at p in
-    let P : ℕ → Type 0 = λ n. Run k slots n (l - 1) (take (l - 1) (drop (at + 1) codes)) in
+    let P : ℕ → Type 0 = λ n. Run k slots n l (take (l - 1) (drop (at + 1) codes)) in
     subst P (back at p within) (w l (length_some at p) (length_most at p))
 
 -- ---- runs with one code more before them
@@ -62,15 +63,8 @@ pub told_small : (k : ℕ) (codes : List Code) (at l p : ℕ) (slots : Slots) �
     → slice_index slots.greatest p + k < 2 ^ 32
 told_small k codes at l p slots few each t = omega (arith, t.tells.most, run_small k codes at l few each)
 
-count_more : (l w a : ℕ) → 1 ≤ l → (l - 1) * w + a + w ≡ l * w + a
-count_more zero w a some = absurd (omega arith)
-count_more (suc l) w a some = let e : suc l - 1 ≡ l = omega arith in rw e (omega (arith, suc-mul l w))
-
-pub cost_more : (l w a old new : ℕ) → 1 ≤ l → old ≡ (l - 1) * w + a → new ≡ old + w → new ≡ l * w + a
-cost_more l w a old new some before is = omega (arith, is, before, count_more l w a some)
-
-pub cost_fits : (l w a old : ℕ) → 1 ≤ l → l ≤ 64 → w ≤ 32 → a ≤ 2147483648 → old ≡ (l - 1) * w + a → old + w < 4294967296
-cost_fits l w a old some most few small is = let m : l * w ≤ 64 * 32 = mul-le-mul most few in omega (arith, m, is, count_more l w a some)
+fits_more : (l w a old : ℕ) → l ≤ 64 → w ≤ 32 → a ≤ 2147483648 → old ≡ l * w + a → old + w < 4294967296
+fits_more l w a old most few small is = let m : l * w ≤ 64 * 32 = mul-le-mul most few in omega (arith, m, is)
 
 -- ---- what comes after
 
@@ -90,6 +84,32 @@ after_at costs codes at p slots references widths most afters within =
     let l = length_to at p in
     let P : ℕ → Type 0 = λ n. slice_index slots.after n ≤ 2147483648 in
     subst P (back at p within) (after_small costs codes (at + l) (after_of slots at l) references widths most (afters l (length_some at p) (length_most at p)))
+
+-- ---- the runs whose costs count one code more
+
+abbrev pub Longer : ℕ → List Code → ℕ → Slots → Type 0
+Longer k codes at slots = (l : ℕ) → 1 ≤ l → l ≤ 64 → Run k slots ((at + l) % 64) (suc l) (take l (drop at codes))
+
+pub longer : (costs : Costs) (codes : List Code) (at : ℕ) (a b : Slots) → costs.reference_bits ≤ 32 → costs.width_bits ≤ 6 → length codes ≤ 33554432
+    → ((p : ℕ) → p < 64 → slice_index a.cost p + slice_index a.width p < 2 ^ 32 → slice_index b.cost p ≡ slice_index a.cost p + slice_index a.width p)
+    → SameNumbers a b → SameMarks a b → SameWidths a b → b.after ≡ a.after
+    → Afters (header_of costs) costs.reserved codes at a → Runs costs.reserved codes at a → Longer costs.reserved codes at b
+longer costs codes at a b references widths most cost numbers marks same same_after afters runs l some few =
+    let k = costs.reserved in
+    let p = (at + l) % 64 in
+    let run = take l (drop at codes) in
+    let r = runs l some few in
+    let w = slice_index a.width p in
+    let small = after_small costs codes (at + l) (after_of a at l) references widths most (afters l some few) in
+    let is = cost p (omega arith) (fits_more l w (slice_index a.after p) (slice_index a.cost p) few r.priced.wide.few small r.priced.cost) in
+    let more : slice_index b.cost p ≡ suc l * w + slice_index a.after p = omega (arith, is, r.priced.cost, suc-mul l w) in
+    record {
+      told = told_same a b p run numbers marks r.told;
+      priced = record {
+        wide = wide_as k a b p run (ap (λ xs. slice_index xs p) same.width) (ap (λ xs. slice_index xs p) same.limit) r.priced.wide;
+        cost = more ∙ ap₂ (λ n m. suc l * n + m) (sym (ap (λ xs. slice_index xs p) same.width)) (sym (ap (λ xs. slice_index xs p) same_after));
+      };
+    }
 
 -- ---- the best of the runs
 
@@ -144,32 +164,22 @@ told_taken k codes at d a b place waits told p within =
     let P : List Code → Type 0 = λ run. Told b p run in
     subst P (sym (run_more codes at l d place (length_some at p))) (told p (take (l - 1) (drop (at + 1) codes)) within (waits_by k codes at a waits p within).told)
 
-pub priced_taken : (costs : Costs) (codes : List Code) (at places : ℕ) (d : Code) (a b : Slots) → at < length codes → length codes ≤ 33554432
-    → costs.reserved ≤ 2 → costs.reference_bits ≤ 32 → costs.width_bits ≤ 6 → All (IsBelow costs.reserved) codes
-    → Waits costs.reserved codes at a → Afters (header_of costs) costs.reserved codes at a
+pub priced_taken : (k : ℕ) (codes : List Code) (at places : ℕ) (d : Code) (a b : Slots) → at < length codes
+    → k ≤ 2 → All (IsBelow k) codes → Waits k codes at a
     → ((p k : ℕ) (run : List Code) → p < 64 → k ≤ 2 → bit_at places p ≡ 0 → IsBelow k (get_or codes at d) → slice_index a.greatest p + k < 2 ^ 32
     → Told a p run → Wide k (slice_index a.width p) (slice_index a.limit p) run
     → Wide k (slice_index a.width p) (slice_index a.limit p) (get_or codes at d ∷ run))
-    → ((p : ℕ) → p < 64 → slice_index a.cost p + slice_index a.width p < 2 ^ 32 → slice_index b.cost p ≡ slice_index a.cost p + slice_index a.width p)
-    → b.width ≡ a.width → b.limit ≡ a.limit → b.after ≡ a.after
-    → PricedBut costs.reserved b at places (λ p. take (length_to at p) (drop at codes))
-priced_taken costs codes at places d a b place most few references widths each waits afters wide cost same_width same_limit same_after p within unset =
-    let k = costs.reserved in
+    → b.cost ≡ a.cost → b.width ≡ a.width → b.limit ≡ a.limit → b.after ≡ a.after
+    → PricedBut k b at places (λ p. take (length_to at p) (drop at codes))
+priced_taken k codes at places d a b place few each waits wide same_cost same_width same_limit same_after p within unset =
     let l = length_to at p in
     let w = waits_by k codes at a waits p within in
     let small = told_small k codes (at + 1) (l - 1) p a few each w.told in
-    let P : List Code → Type 0 = λ run. Wide k (slice_index b.width p) (slice_index b.limit p) run in
-    let Q : ℕ → Type 0 = λ n. Wide k n (slice_index b.limit p) (get_or codes at d ∷ take (l - 1) (drop (at + 1) codes)) in
-    let R : ℕ → Type 0 = λ n. Wide k (slice_index a.width p) n (get_or codes at d ∷ take (l - 1) (drop (at + 1) codes)) in
+    let run = get_or codes at d ∷ take (l - 1) (drop (at + 1) codes) in
     let wider = wide p k (take (l - 1) (drop (at + 1) codes)) within few unset (each at d place) small w.told w.priced.wide in
-    let fits = cost_fits l (slice_index a.width p) (slice_index a.after p) (slice_index a.cost p) (length_some at p) (length_most at p) w.priced.wide.few
-    (after_at costs codes at p a references widths most afters within) w.priced.cost in
-    let is = cost_more l (slice_index a.width p) (slice_index a.after p) (slice_index a.cost p) (slice_index b.cost p) (length_some at p) w.priced.cost (cost p within fits) in
-    record {
-      wide = subst P (sym (run_more codes at l d place (length_some at p)))
-          (subst Q (sym (ap (λ xs. slice_index xs p) same_width)) (subst R (sym (ap (λ xs. slice_index xs p) same_limit)) wider));
-      cost = is ∙ ap₂ (λ n m. l * n + m) (sym (ap (λ xs. slice_index xs p) same_width)) (sym (ap (λ xs. slice_index xs p) same_after));
-    }
+    let P : List Code → Type 0 = λ run. Priced k b p l run in
+    subst P (sym (run_more codes at l d place (length_some at p))) (priced_as k a b p l run (ap (λ xs. slice_index xs p) same_width) (ap (λ xs. slice_index xs p) same_limit)
+    (ap (λ xs. slice_index xs p) same_cost) (ap (λ xs. slice_index xs p) same_after) (record { wide = wider; cost = w.priced.cost }))
 
 pub afters_same : (header k : ℕ) (codes : List Code) (at : ℕ) (a b : Slots) → b.after ≡ a.after → Afters header k codes at a → Afters header k codes at b
 afters_same header k codes at a b same afters l some most =

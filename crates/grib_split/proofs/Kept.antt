@@ -14,17 +14,23 @@ told_same a b place run numbers marks t = record {
       (ap (λ xs. slice_index xs place) marks.primary) (ap (λ xs. slice_index xs place) marks.secondary);
 }
 
+-- the width by its numbers
+pub wide_as : (k : ℕ) (a b : Slots) (place : ℕ) (run : List Code) → slice_index b.width place ≡ slice_index a.width place
+    → slice_index b.limit place ≡ slice_index a.limit place → Wide k (slice_index a.width place) (slice_index a.limit place) run
+    → Wide k (slice_index b.width place) (slice_index b.limit place) run
+wide_as k a b place run width limit wide =
+    let P : ℕ → Type 0 = λ w. Wide k w (slice_index b.limit place) run in
+    let Q : ℕ → Type 0 = λ n. Wide k (slice_index a.width place) n run in
+    subst P (sym width) (subst Q (sym limit) wide)
+
 -- the price by its numbers
 pub priced_as : (k : ℕ) (a b : Slots) (place count : ℕ) (run : List Code) → slice_index b.width place ≡ slice_index a.width place
     → slice_index b.limit place ≡ slice_index a.limit place → slice_index b.cost place ≡ slice_index a.cost place → slice_index b.after place ≡ slice_index a.after place
     → Priced k a place count run → Priced k b place count run
-priced_as k a b place count run width limit cost after p =
-    let P : ℕ → Type 0 = λ w. Wide k w (slice_index b.limit place) run in
-    let Q : ℕ → Type 0 = λ n. Wide k (slice_index a.width place) n run in
-    record {
-      wide = subst P (sym width) (subst Q (sym limit) p.wide);
-      cost = cost ∙ (p.cost ∙ ap₂ (λ w n. count * w + n) (sym width) (sym after));
-    }
+priced_as k a b place count run width limit cost after p = record {
+  wide = wide_as k a b place run width limit p.wide;
+  cost = cost ∙ (p.cost ∙ ap₂ (λ w n. count * w + n) (sym width) (sym after));
+}
 
 pub other_at : (xs ys : List ℕ) (here place value : ℕ) → here ≢ place → ys ≡ slice_set xs here value → slice_index ys place ≡ slice_index xs place
 other_at xs ys here place value other is = ap (λ zs. slice_index zs place) is ∙ get_or-set_other xs here place value 0 (λ e. other (sym e))

@@ -64,10 +64,10 @@ pub record After (header reserved : ℕ) (codes : List Code) (from after : ℕ) 
   pub some : from ≤ length codes → IsLeast header (width_of reserved) (drop from codes) after
   pub none : length codes < from → after ≡ 2147483648
 
--- the runs from the place after `at` on, before the code at `at` is put before each
+-- the runs from the place after `at` on, before the code at `at` is put before each; their costs count it already
 abbrev pub Waits : ℕ → List Code → ℕ → Slots → Type 0
 Waits reserved codes at slots =
-    (l : ℕ) → 1 ≤ l → l ≤ 64 → Run reserved slots ((at + l) % 64) (l - 1) (take (l - 1) (drop (at + 1) codes))
+    (l : ℕ) → 1 ≤ l → l ≤ 64 → Run reserved slots ((at + l) % 64) l (take (l - 1) (drop (at + 1) codes))
 
 -- what comes after the run of each length from `at` on
 abbrev pub after_of : Slots → ℕ → ℕ → ℕ

@@ -38,6 +38,7 @@ pub fn least_choices(codes: &[Code], costs: &Costs, choices: &mut [u8])
     let mut cost = 0;
     for done in 0..codes.len() {
         let at = codes.len() - 1 - done;
+        slots.lengthen();
         slots.begin((at + 1) % 64, cost);
         let best = best_at(&mut slots, codes, at, costs);
         choices[at] = best.length as u8;

@@ -68,6 +68,21 @@ impl Slots {
         }
     }
 
+    /// Adds what one code more costs by the width of each run. It comes before `begin`, so that
+    /// the lanes do not wait for the one cost that is written there.
+    #[inline]
+    pub(crate) fn lengthen(&mut self)
+        ensures cost { (place : ℕ) → place < 64
+            → slice_index self.old.cost place + slice_index self.old.width place < 2 ^ 32
+            → slice_index self.new.cost place ≡ slice_index self.old.cost place + slice_index self.old.width place }
+        ensures numbers { SameNumbers self.old self.new }
+        ensures marks { SameMarks self.old self.new }
+        ensures widths { SameWidths self.old self.new }
+        ensures after { self.new.after ≡ self.old.after }
+    {
+        self.cost = (u32x64::from_array(self.cost) + u32x64::from_array(self.width)).to_array();
+    }
+
     /// Puts the run of no codes, before codes of this least cost, at a place.
     #[inline]
     pub(crate) fn begin(&mut self, place: usize, cost: u32)
@@ -102,33 +117,16 @@ impl Slots {
             → IsBelow k code → slice_index self.old.greatest place + k < 2 ^ 32 → Told self.old place run
             → Wide k (slice_index self.old.width place) (slice_index self.old.limit place) run
             → Wide k (slice_index self.old.width place) (slice_index self.old.limit place) (code ∷ run) }
-        ensures cost { (place : ℕ) → place < 64
-            → slice_index self.old.cost place + slice_index self.old.width place < 2 ^ 32
-            → slice_index self.new.cost place ≡ slice_index self.old.cost place + slice_index self.old.width place }
+        ensures cost { self.new.cost ≡ self.old.cost }
         ensures limit { self.new.limit ≡ self.old.limit }
         ensures width { self.new.width ≡ self.old.width }
         ensures after { self.new.after ≡ self.old.after }
     {
-        self.lengthen();
         match code {
             Code::Present(number) => self.take_number(number as u32),
             Code::Primary => self.take_primary(),
             Code::Secondary => self.take_secondary(),
         }
-    }
-
-    /// Adds what one code more costs by the width of each run.
-    #[inline]
-    fn lengthen(&mut self)
-        ensures cost { (place : ℕ) → place < 64
-            → slice_index self.old.cost place + slice_index self.old.width place < 2 ^ 32
-            → slice_index self.new.cost place ≡ slice_index self.old.cost place + slice_index self.old.width place }
-        ensures numbers { SameNumbers self.old self.new }
-        ensures marks { SameMarks self.old self.new }
-        ensures widths { SameWidths self.old self.new }
-        ensures after { self.new.after ≡ self.old.after }
-    {
-        self.cost = (u32x64::from_array(self.cost) + u32x64::from_array(self.width)).to_array();
     }
 
     #[inline]
@@ -197,7 +195,7 @@ impl Slots {
         while rest != 0 {
             let place = rest.trailing_zeros();
             self.mend_one(place as usize, length_at(at, place as usize), reserved);
-            rest &= !(1 << place);
+            rest &= rest - 1;
         }
     }
 
@@ -262,7 +260,7 @@ fn width_of(least: u32, greatest: u32, primary: u8, secondary: u8, reserved: u32
         return Width { bits, limit: 0 };
     }
     let spread = greatest - least;
-    if spread.max(u32::from(primary.max(secondary))) == 0 {
+    if spread == 0 && primary.max(secondary) == 0 {
         return Width { bits: 0, limit: 1 };
     }
     let bits = bit_length(u64::from(spread) + u64::from(reserved));

@@ -30,7 +30,7 @@ returns-clause-runs c =
     let taken = c.take-places.new.self in
     let mended = c.mend.new.self in
     let told = told_taken costs.reserved codes at (Present 0) c.args.slots.now taken q.place q.runs t.told in
-    let priced = priced_taken costs codes at c.take-places.result (Present 0) c.args.slots.now taken q.place q.most q.reserved q.references q.widths q.codes q.runs q.after
+    let priced = priced_taken costs.reserved codes at c.take-places.result (Present 0) c.args.slots.now taken q.place q.reserved q.codes q.runs
     t.wide t.cost t.width t.limit t.after in
     let run : (p : ℕ) → p < 64 → Run costs.reserved mended p (length_to at p) (take (length_to at p) (drop at codes)) = λ p within. record {
       told = told_same taken mended p (take (length_to at p) (drop at codes)) c.mend.ensures.numbers c.mend.ensures.marks (told p within);
@@ -49,7 +49,7 @@ overflow_add-result c =
     let taken = c.take-places.new.self in
     let mended = c.mend.new.self in
     let told = told_taken costs.reserved codes at (Present 0) c.args.slots.now taken q.place q.runs t.told in
-    let priced = priced_taken costs codes at c.take-places.result (Present 0) c.args.slots.now taken q.place q.most q.reserved q.references q.widths q.codes q.runs q.after
+    let priced = priced_taken costs.reserved codes at c.take-places.result (Present 0) c.args.slots.now taken q.place q.reserved q.codes q.runs
     t.wide t.cost t.width t.limit t.after in
     let run : (p : ℕ) → p < 64 → Run costs.reserved mended p (length_to at p) (take (length_to at p) (drop at codes)) = λ p within. record {
       told = told_same taken mended p (take (length_to at p) (drop at codes)) c.mend.ensures.numbers c.mend.ensures.marks (told p within);
@@ -73,7 +73,7 @@ overflow_add-result-2 c =
     let taken = c.take-places.new.self in
     let mended = c.mend.new.self in
     let told = told_taken costs.reserved codes at (Present 0) c.args.slots.now taken q.place q.runs t.told in
-    let priced = priced_taken costs codes at c.take-places.result (Present 0) c.args.slots.now taken q.place q.most q.reserved q.references q.widths q.codes q.runs q.after
+    let priced = priced_taken costs.reserved codes at c.take-places.result (Present 0) c.args.slots.now taken q.place q.reserved q.codes q.runs
     t.wide t.cost t.width t.limit t.after in
     let run : (p : ℕ) → p < 64 → Run costs.reserved mended p (length_to at p) (take (length_to at p) (drop at codes)) = λ p within. record {
       told = told_same taken mended p (take (length_to at p) (drop at codes)) c.mend.ensures.numbers c.mend.ensures.marks (told p within);
@@ -97,7 +97,7 @@ overflow_add-result-3 c =
     let taken = c.take-places.new.self in
     let mended = c.mend.new.self in
     let told = told_taken costs.reserved codes at (Present 0) c.args.slots.now taken q.place q.runs t.told in
-    let priced = priced_taken costs codes at c.take-places.result (Present 0) c.args.slots.now taken q.place q.most q.reserved q.references q.widths q.codes q.runs q.after
+    let priced = priced_taken costs.reserved codes at c.take-places.result (Present 0) c.args.slots.now taken q.place q.reserved q.codes q.runs
     t.wide t.cost t.width t.limit t.after in
     let run : (p : ℕ) → p < 64 → Run costs.reserved mended p (length_to at p) (take (length_to at p) (drop at codes)) = λ p within. record {
       told = told_same taken mended p (take (length_to at p) (drop at codes)) c.mend.ensures.numbers c.mend.ensures.marks (told p within);
@@ -121,7 +121,7 @@ returns-clause-best c =
     let taken = c.take-places.new.self in
     let mended = c.mend.new.self in
     let told = told_taken costs.reserved codes at (Present 0) c.args.slots.now taken q.place q.runs t.told in
-    let priced = priced_taken costs codes at c.take-places.result (Present 0) c.args.slots.now taken q.place q.most q.reserved q.references q.widths q.codes q.runs q.after
+    let priced = priced_taken costs.reserved codes at c.take-places.result (Present 0) c.args.slots.now taken q.place q.reserved q.codes q.runs
     t.wide t.cost t.width t.limit t.after in
     let run : (p : ℕ) → p < 64 → Run costs.reserved mended p (length_to at p) (take (length_to at p) (drop at codes)) = λ p within. record {
       told = told_same taken mended p (take (length_to at p) (drop at codes)) c.mend.ensures.numbers c.mend.ensures.marks (told p within);
@@ -145,7 +145,7 @@ returns-clause-cost c =
     let taken = c.take-places.new.self in
     let mended = c.mend.new.self in
     let told = told_taken costs.reserved codes at (Present 0) c.args.slots.now taken q.place q.runs t.told in
-    let priced = priced_taken costs codes at c.take-places.result (Present 0) c.args.slots.now taken q.place q.most q.reserved q.references q.widths q.codes q.runs q.after
+    let priced = priced_taken costs.reserved codes at c.take-places.result (Present 0) c.args.slots.now taken q.place q.reserved q.codes q.runs
     t.wide t.cost t.width t.limit t.after in
     let run : (p : ℕ) → p < 64 → Run costs.reserved mended p (length_to at p) (take (length_to at p) (drop at codes)) = λ p within. record {
       told = told_same taken mended p (take (length_to at p) (drop at codes)) c.mend.ensures.numbers c.mend.ensures.marks (told p within);

@@ -6,7 +6,7 @@ use Rattle.grib_split.specs.Least.{IsLeast}
 use Rattle.grib_split.specs.Runs.{Runs, Afters}
 use Rattle.grib_split.proofs.Begin.{Blank, same_but, waits_begun, afters_begun, least_none, runs_none, afters_none}
 use Rattle.grib_split.proofs.Choices.{HeadsFrom, cost_of_best, head_of_best, heads_more}
-use Rattle.grib_split.proofs.Going.{afters_same}
+use Rattle.grib_split.proofs.Going.{Longer, longer, afters_same}
 use Rattle.grib_split.proofs.choosing.least_choices.Goals as goal
 
 -- the place of this turn is before that of the turns so far
@@ -43,11 +43,17 @@ best_at-best-requires-clause-runs c =
     let n = length c.args.codes.now in
     let at = n - 1 - c.loop-done.done in
     let b = c.begin.ensures in
-    let old = c.loop-done.slots in
+    let costs = c.args.costs.now in
+    let codes = c.args.codes.now in
+    let i = c.loop-done.invariant in
+    let q = c.requires in
+    let t = c.lengthen.ensures in
+    let old = c.lengthen.new.self in
     let new = c.begin.new.self in
     let same = same_but old new ((at + 1) % 64) _ _ _ _ _ _ _ _ b.least b.greatest b.primary b.secondary b.width b.limit b.cost b.after in
-    let P : ℕ → Type 0 = λ m. Runs c.args.costs.now.reserved c.args.codes.now m old in
-    waits_begun c.args.costs.now.reserved c.args.codes.now at c.loop-done.cost old new b.here same (subst P (one_before n c.loop-done.done c.loop-done-test.true) c.loop-done.invariant.runs)
+    let P : ℕ → Type 0 = λ m. Longer costs.reserved codes m old in
+    let longer_runs = longer costs codes (n - c.loop-done.done) c.loop-done.slots old q.references q.widths q.most t.cost t.numbers t.marks t.widths t.after i.afters i.runs in
+    waits_begun costs.reserved codes at c.loop-done.cost old new b.here same (subst P (one_before n c.loop-done.done c.loop-done-test.true) longer_runs)
 
 pub best_at-best-requires-clause-after : goal.best_at-best-requires-clause-after
 best_at-best-requires-clause-after c =
@@ -56,13 +62,14 @@ best_at-best-requires-clause-after c =
     let header = header_of c.args.costs.now in
     let at = n - 1 - c.loop-done.done in
     let b = c.begin.ensures in
-    let old = c.loop-done.slots in
+    let old = c.lengthen.new.self in
     let new = c.begin.new.self in
     let same = same_but old new ((at + 1) % 64) _ _ _ _ _ _ _ _ b.least b.greatest b.primary b.secondary b.width b.limit b.cost b.after in
+    let longer_afters = afters_same header k c.args.codes.now (n - c.loop-done.done) c.loop-done.slots old c.lengthen.ensures.after c.loop-done.invariant.afters in
     let e = one_before n c.loop-done.done c.loop-done-test.true in
     let P : ℕ → Type 0 = λ m. Afters header k c.args.codes.now m old in
     let Q : ℕ → Type 0 = λ m. IsLeast header (width_of k) (drop m c.args.codes.now) c.loop-done.cost in
-    afters_begun header k c.args.codes.now at c.loop-done.cost old new (omega (arith, c.loop-done-test.true)) b.here same (subst Q e c.loop-done.invariant.cost) (subst P e c.loop-done.invariant.afters)
+    afters_begun header k c.args.codes.now at c.loop-done.cost old new (omega (arith, c.loop-done-test.true)) b.here same (subst Q e c.loop-done.invariant.cost) (subst P e longer_afters)
 
 pub loop-done-preserved : goal.loop-done-preserved
 loop-done-preserved c =
@@ -77,13 +84,13 @@ loop-done-preserved c =
     let slots = c.best_at-best.new.slots in
     let best = c.best_at-best.ensures in
     let n = c.best_at-best.result.length in
-    let old = c.loop-done.slots in
+    let old = c.lengthen.new.self in
     let b = c.begin.ensures in
     let same = same_but old begun ((at + 1) % 64) _ _ _ _ _ _ _ _ b.least b.greatest b.primary b.secondary b.width b.limit b.cost b.after in
     let before = one_before (length codes) done more in
     let S : ℕ → Type 0 = λ m. Afters (header_of costs) costs.reserved codes m old in
     let T : ℕ → Type 0 = λ m. IsLeast (header_of costs) (width_of costs.reserved) (drop m codes) c.loop-done.cost in
-    let afters = afters_begun (header_of costs) costs.reserved codes at c.loop-done.cost old begun within b.here same (subst T before i.cost) (subst S before i.afters) in
+    let afters = afters_begun (header_of costs) costs.reserved codes at c.loop-done.cost old begun within b.here same (subst T before i.cost) (subst S before (afters_same (header_of costs) costs.reserved codes (length codes - done) c.loop-done.slots old c.lengthen.ensures.after i.afters)) in
     let e = next_place (length codes) done in
     let H : ℕ → Type 0 = λ m. HeadsFrom costs codes m c.loop-done.choices in
     let heads = subst H (one_before (length codes) done more) i.heads in

@@ -1,5 +1,4 @@
-use Rattle.std.proofs.Common.{rules, ◌≡◌, List, ℕ, ap, sym, ◌∙◌, subst}
-use Rattle.grib_split.specs.Fewest.{fewest}
+use Rattle.std.proofs.Common.{rules, List, ℕ, sym, subst}
 use Rattle.grib_packing.specs.Groupings.{Chosen}
 use Rattle.grib_split.proofs.FewGroups.{fewest_chosen}
 use Rattle.grib_split.proofs.fewest.fewest_lengths.Goals as goal

@@ -1,8 +1,8 @@
-use Rattle.std.proofs.Common.{◌≡◌, ◌≢◌, ℕ, ◌⊎◌, inl, inr, ap, sym, ◌∙◌, subst, arith}
+use Rattle.std.proofs.Common.{◌≡◌, ◌≢◌, ℕ, ◌⊎◌, inl, inr, ap, ◌∙◌, subst, arith}
 use Rattle.std.specs.Int.{w64, trailing_zeros, bit_at}
-use Rattle.std.proofs.lemmas.Nat.Bits.{bit_at-trailing_zeros, bit_at_clear_other, bit_at-zero}
+use Rattle.std.proofs.lemmas.Nat.Bits.{bit_at-trailing_zeros, bit_at-zero}
 use Rattle.grib_split.specs.Runs.{Priced, length_to}
-use Rattle.grib_split.proofs.Bits.{cleared_less}
+use Rattle.grib_split.proofs.Bits.{cleared_less, cleared_other}
 use Rattle.grib_split.proofs.Kept.{told_same, priced_other}
 use Rattle.grib_split.proofs.slots.Slots.mend.Goals as goal
 
@@ -10,7 +10,7 @@ same_or_not : (a b : ℕ) → (a ≡ b) ⊎ (a ≢ b)
 same_or_not a b = grind arith
 
 pub loop-rest-smaller : goal.loop-rest-smaller
-loop-rest-smaller c = cleared_less c.loop-rest.rest c.loop-rest.auto.rest-fits.fits c.loop-rest-test.true
+loop-rest-smaller c = cleared_less c.loop-rest.rest c.loop-rest-test.true
 
 pub loop-rest-preserved : goal.loop-rest-preserved
 loop-rest-preserved c =
@@ -29,7 +29,7 @@ loop-rest-preserved c =
             let Q : ℕ → Type 0 = λ l. Priced c.args.reserved c.mend_one.new.self at_place l (run at_place) in
             subst P here (subst Q c.length_at.ensures.is (m.priced (run at_place) (told_same c.args.self.now c.loop-rest.self at_place (run at_place) i.numbers i.marks (told at_place t.0))))
         | inr other ↦
-            let kept : bit_at rest place ≡ 0 = sym (bit_at_clear_other w64 rest at_place t.0 place within (λ e. other (sym e))) ∙ unset in
+            let kept : bit_at rest place ≡ 0 = cleared_other rest place c.loop-rest.auto.rest-fits.fits c.loop-rest-test.true other unset in
             priced_other c.args.reserved c.loop-rest.self c.mend_one.new.self at_place place (length_to c.args.at place) (run place) other m.width m.limit m.cost m.after (i.priced run told right place within kept)
       ];
     }

@@ -14,10 +14,10 @@ returns-in-Present-clause-told c place run within t =
     let P : Code → Type 0 = λ code. Told c.take_number.new.self place (code ∷ run) in
     let below : IsBelow 0 (Present n) = subst (IsBelow 0) c.in-Present.is c.requires in
     let tells = tells_as _ _ _ _ (slice_index c.take_number.new.self.least place) (slice_index c.take_number.new.self.greatest place) (slice_index c.take_number.new.self.primary place) (slice_index c.take_number.new.self.secondary place) (Present n ∷ run) (tells_number _ _ _ _ n run (omega (arith, below)) t.tells)
-    (c.take_number.ensures.least place within ∙ ap (λ xs. min (slice_index xs place) n) c.lengthen.ensures.numbers.least)
-    (c.take_number.ensures.greatest place within ∙ ap (λ xs. max (slice_index xs place) n) c.lengthen.ensures.numbers.greatest)
-    (ap (λ xs. slice_index xs place) (c.take_number.ensures.marks.primary ∙ c.lengthen.ensures.marks.primary))
-    (ap (λ xs. slice_index xs place) (c.take_number.ensures.marks.secondary ∙ c.lengthen.ensures.marks.secondary)) in
+    (c.take_number.ensures.least place within)
+    (c.take_number.ensures.greatest place within)
+    (ap (λ xs. slice_index xs place) c.take_number.ensures.marks.primary)
+    (ap (λ xs. slice_index xs place) c.take_number.ensures.marks.secondary) in
     subst P (sym c.in-Present.is) (record { tells = tells })
 
 pub returns-in-Present-clause-wide : goal.returns-in-Present-clause-wide
@@ -25,41 +25,40 @@ returns-in-Present-clause-wide c place k run within few unset below small t w =
     let n = c.in-Present.number in
     let P : Code → Type 0 = λ code. Wide k (slice_index c.args.self.now.width place) (slice_index c.args.self.now.limit place) (code ∷ run) in
     let below_n : IsBelow k (Present n) = subst (IsBelow k) c.in-Present.is below in
-    let low = c.take_number.ensures.least place within ∙ ap (λ xs. min (slice_index xs place) n) c.lengthen.ensures.numbers.least in
-    let high = c.take_number.ensures.greatest place within ∙ ap (λ xs. max (slice_index xs place) n) c.lengthen.ensures.numbers.greatest in
-    let limit = ap (λ xs. slice_index xs place) c.lengthen.ensures.widths.limit in
+    let low = c.take_number.ensures.least place within in
+    let high = c.take_number.ensures.greatest place within in
     let less : max (slice_index c.args.self.now.greatest place) n - min (slice_index c.args.self.now.least place) n < slice_index c.args.self.now.limit place =
-    omega (arith, c.take_number.ensures.places place within unset, low, high, limit) in
+    omega (arith, c.take_number.ensures.places place within unset, low, high) in
     subst P (sym c.in-Present.is) (wide_number k _ _ _ _ _ _ n run t.tells below_n small less w)
 
 pub returns-in-Primary-clause-told : goal.returns-in-Primary-clause-told
 returns-in-Primary-clause-told c place run within t =
     let P : Code → Type 0 = λ code. Told c.take_primary.new.self place (code ∷ run) in
     let tells = tells_as _ _ _ _ (slice_index c.take_primary.new.self.least place) (slice_index c.take_primary.new.self.greatest place) (slice_index c.take_primary.new.self.primary place) (slice_index c.take_primary.new.self.secondary place) (Primary ∷ run) (tells_primary _ _ _ _ run t.tells)
-    (ap (λ xs. slice_index xs place) (c.take_primary.ensures.numbers.least ∙ c.lengthen.ensures.numbers.least))
-    (ap (λ xs. slice_index xs place) (c.take_primary.ensures.numbers.greatest ∙ c.lengthen.ensures.numbers.greatest))
+    (ap (λ xs. slice_index xs place) c.take_primary.ensures.numbers.least)
+    (ap (λ xs. slice_index xs place) c.take_primary.ensures.numbers.greatest)
     (ap (λ xs. slice_index xs place) c.take_primary.ensures.primary ∙ get_or-replicate 64 place 1 0 within)
-    (ap (λ xs. slice_index xs place) (c.take_primary.ensures.secondary ∙ c.lengthen.ensures.marks.secondary)) in
+    (ap (λ xs. slice_index xs place) c.take_primary.ensures.secondary) in
     subst P (sym c.in-Primary.is) (record { tells = tells })
 
 pub returns-in-Primary-clause-wide : goal.returns-in-Primary-clause-wide
 returns-in-Primary-clause-wide c place k run within few unset below small t w =
     let P : Code → Type 0 = λ code. Wide k (slice_index c.args.self.now.width place) (slice_index c.args.self.now.limit place) (code ∷ run) in
-    let some : 0 < slice_index c.args.self.now.primary place = omega (arith, c.take_primary.ensures.places place within unset, ap (λ xs. slice_index xs place) c.lengthen.ensures.marks.primary) in
+    let some : 0 < slice_index c.args.self.now.primary place = omega (arith, c.take_primary.ensures.places place within unset) in
     subst P (sym c.in-Primary.is) (wide_primary k _ _ _ _ _ _ run t.tells some w)
 
 pub returns-in-Secondary-clause-told : goal.returns-in-Secondary-clause-told
 returns-in-Secondary-clause-told c place run within t =
     let P : Code → Type 0 = λ code. Told c.take_secondary.new.self place (code ∷ run) in
     let tells = tells_as _ _ _ _ (slice_index c.take_secondary.new.self.least place) (slice_index c.take_secondary.new.self.greatest place) (slice_index c.take_secondary.new.self.primary place) (slice_index c.take_secondary.new.self.secondary place) (Secondary ∷ run) (tells_secondary _ _ _ _ run t.tells)
-    (ap (λ xs. slice_index xs place) (c.take_secondary.ensures.numbers.least ∙ c.lengthen.ensures.numbers.least))
-    (ap (λ xs. slice_index xs place) (c.take_secondary.ensures.numbers.greatest ∙ c.lengthen.ensures.numbers.greatest))
-    (ap (λ xs. slice_index xs place) (c.take_secondary.ensures.primary ∙ c.lengthen.ensures.marks.primary))
+    (ap (λ xs. slice_index xs place) c.take_secondary.ensures.numbers.least)
+    (ap (λ xs. slice_index xs place) c.take_secondary.ensures.numbers.greatest)
+    (ap (λ xs. slice_index xs place) c.take_secondary.ensures.primary)
     (ap (λ xs. slice_index xs place) c.take_secondary.ensures.secondary ∙ get_or-replicate 64 place 1 0 within) in
     subst P (sym c.in-Secondary.is) (record { tells = tells })
 
 pub returns-in-Secondary-clause-wide : goal.returns-in-Secondary-clause-wide
 returns-in-Secondary-clause-wide c place k run within few unset below small t w =
     let P : Code → Type 0 = λ code. Wide k (slice_index c.args.self.now.width place) (slice_index c.args.self.now.limit place) (code ∷ run) in
-    let some : 0 < slice_index c.args.self.now.secondary place = omega (arith, c.take_secondary.ensures.places place within unset, ap (λ xs. slice_index xs place) c.lengthen.ensures.marks.secondary) in
+    let some : 0 < slice_index c.args.self.now.secondary place = omega (arith, c.take_secondary.ensures.places place within unset) in
     subst P (sym c.in-Secondary.is) (wide_secondary k _ _ _ _ _ _ run t.tells some w)
