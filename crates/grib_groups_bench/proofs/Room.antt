@@ -1,6 +1,6 @@
 -- How many bits groups take at most.
-use Rattle.std.proofs.Common.{◌≡◌, ℕ, ◌+◌, ◌*◌, ◌/◌, ◌^◌, ◌<◌, ◌≤◌, List, [], ◌∷◌, ◌++◌, length, take, drop, map, All, refl, sym, ap, arith, ◌-◌, ◌∙◌}
-use Rattle.std.proofs.Math.Nat.{mul-le-mul_left, mul-le-mul_right, mul-add}
+use Rattle.std.proofs.Common.{◌≡◌, ℕ, ◌+◌, ◌*◌, ◌^◌, ◌<◌, ◌≤◌, List, [], ◌∷◌, length, take, drop, map, All, refl, sym, ap, arith, ◌-◌, ◌∙◌}
+use Rattle.std.proofs.Math.Nat.{mul-le-mul_left, mul-add}
 use Rattle.std.proofs.lemmas.List.{length-append, length-map, take-append-drop}
 use Rattle.std.proofs.lemmas.List.Elements.{All-head, All-tail}
 use Rattle.grib_io.specs.declared.code.Code.{Code}
