@@ -1,12 +1,13 @@
 -- Packed numbers of a group that are written several at once.
-use Rattle.std.proofs.Common.{◌≡◌, ℕ, suc, ◌+◌, ◌*◌, ◌%◌, ◌^◌, ◌<◌, ◌≤◌, Bool, true, bit_or, List, [], ◌∷◌, ◌++◌, length, take, drop, get_or, map, All, refl, sym, ap, ap₂, ◌∙◌, subst, arith, append_assoc, drop-cons}
+use Rattle.std.proofs.Common.{◌≡◌, ℕ, suc, ◌+◌, ◌*◌, ◌^◌, ◌<◌, ◌≤◌, Bool, true, pow_mono, List, [], ◌∷◌, ◌++◌, length, take, drop, get_or, map, All, refl, sym, ap, ap₂, ◌∙◌, arith, append_assoc, drop-cons}
 use Rattle.std.specs.List.{list_all}
 use Rattle.std.proofs.Math.Seq.{take-add}
+use Rattle.std.proofs.lemmas.Nat.{mul-add-lt, pow-add}
 use Rattle.std.proofs.lemmas.List.{append-nil, take-append-drop, drop-drop, drop_all}
 use Rattle.std.proofs.lemmas.List.Elements.{All-cons, All-head, All-tail}
 use Rattle.grib_bits.specs.Bits.{bits_of}
 use Rattle.grib_bits.specs.Written.{Written}
-use Rattle.grib_bits.proofs.Numbers.{bits_of-shl_or, shl_or-lt, length-bits_of}
+use Rattle.grib_bits.proofs.Numbers.{bits_of-join, length-bits_of}
 use Rattle.grib_io.specs.declared.code.Code.{Code}
 use Rattle.grib_io.specs.declared.code.Code.TheVariants.{Present, Primary, Secondary}
 use Rattle.grib_packing.specs.Groupings.{is_present}
@@ -38,6 +39,25 @@ fields-append w f [] ys = refl
 fields-append w f (x ∷ xs) ys =
     ap (λ bits. bits_of w (f x) ++ bits) (fields-append w f xs ys) ∙ sym (append_assoc (bits_of w (f x)) (fields w (map f xs)) (fields w (map f ys)))
 
+pub square : (w s : ℕ) → s ≡ 2 ^ w → s * s ≡ 2 ^ (2 * w)
+square w s scale =
+    let twice : w + w ≡ 2 * w = omega arith in
+    ap₂ (λ (x y : ℕ). x * y) scale scale ∙ sym (pow-add 2 w w) ∙ ap (λ (k : ℕ). 2 ^ k) twice
+
+-- two numbers of k bits are one of n bits, the double
+pub joined_fit : (k n a b s : ℕ) → s ≡ 2 ^ k → n ≡ k + k → a < 2 ^ k → b < 2 ^ k → a * s + b < 2 ^ n
+joined_fit k n a b s scale double first second =
+    let power : 2 ^ k * 2 ^ k ≡ 2 ^ n = sym (pow-add 2 k k) ∙ ap (λ (m : ℕ). 2 ^ m) (sym double) in
+    let below : a * 2 ^ k + b < 2 ^ k * 2 ^ k = mul-add-lt a (2 ^ k) b (2 ^ k) first second in
+    let same : a * s + b ≡ a * 2 ^ k + b = ap (λ (x : ℕ). a * x + b) scale in
+    omega (arith, power, below, same)
+
+-- and so it is a word
+pub joined_word : (k n a b s : ℕ) → s ≡ 2 ^ k → n ≡ k + k → n ≤ 64 → a < 2 ^ k → b < 2 ^ k → a * s + b < 2 ^ 64
+joined_word k n a b s scale double word first second =
+    let power : 2 ^ n ≤ 2 ^ 64 = pow_mono word in
+    omega (arith, power, joined_fit k n a b s scale double first second)
+
 module _ (w : ℕ) (f : Code → ℕ) (run : List Code) (at : ℕ) where
   next_two : (d : Code) → at + 2 ≤ length run → take 2 (drop at run) ≡ get_or run at d ∷ get_or run (at + 1) d ∷ []
   next_two d within =
@@ -46,40 +66,30 @@ module _ (w : ℕ) (f : Code → ℕ) (run : List Code) (at : ℕ) where
       ∙ ap (λ (k : ℕ). get_or run at d ∷ take 1 (drop k run)) one
       ∙ ap (λ xs. get_or run at d ∷ take 1 xs) (drop-cons run (at + 1) d (omega arith))
 
-  pub two_joined : (d : Code) (a b : ℕ) → at + 2 ≤ length run → 2 * w ≤ 64 → a ≡ f (get_or run at d) → b ≡ f (get_or run (at + 1) d) → b < 2 ^ w
-      → bits_of (2 * w) (bit_or (a * 2 ^ w % 2 ^ 64) b) ≡ fields w (map f (take 2 (drop at run)))
-  two_joined d a b within word first second fits =
+  pub two_joined : (d : Code) (a b s : ℕ) → at + 2 ≤ length run → s ≡ 2 ^ w → a ≡ f (get_or run at d) → b ≡ f (get_or run (at + 1) d) → b < 2 ^ w
+      → bits_of (2 * w) (a * s + b) ≡ fields w (map f (take 2 (drop at run)))
+  two_joined d a b s within scale first second fits =
       let twice : 2 * w ≡ w + w = omega arith in
-      ap (λ (k : ℕ). bits_of k (bit_or (a * 2 ^ w % 2 ^ 64) b)) twice
-      ∙ bits_of-shl_or w w a b (omega arith) fits
+      ap₂ (λ (k x : ℕ). bits_of k (a * x + b)) twice scale
+      ∙ bits_of-join w w a b fits
       ∙ ap₂ (λ (m n : ℕ). bits_of w m ++ bits_of w n) first second
       ∙ ap (λ bits. bits_of w (f (get_or run at d)) ++ bits) (sym (append-nil (bits_of w (f (get_or run (at + 1) d)))))
       ∙ ap (λ codes. fields w (map f codes)) (sym (next_two d within))
 
-  pub four_joined : (a b : ℕ) → 4 * w ≤ 64 → b < 2 ^ (2 * w)
+  pub four_joined : (a b s : ℕ) → s ≡ 2 ^ w → b < 2 ^ (2 * w)
       → bits_of (2 * w) a ≡ fields w (map f (take 2 (drop at run))) → bits_of (2 * w) b ≡ fields w (map f (take 2 (drop (at + 2) run)))
-      → bits_of (4 * w) (bit_or (a * 2 ^ (2 * w) % 2 ^ 64) b) ≡ fields w (map f (take 4 (drop at run)))
-  four_joined a b word fits first second =
+      → bits_of (4 * w) (a * (s * s) + b) ≡ fields w (map f (take 4 (drop at run)))
+  four_joined a b s scale fits first second =
       let twice : 4 * w ≡ 2 * w + 2 * w = omega arith in
       let two = take 2 (drop at run) in
       let more = take 2 (drop (at + 2) run) in
       let both : two ++ more ≡ take 4 (drop at run) =
       ap (λ (codes : List Code). two ++ take 2 codes) (sym (drop-drop 2 at run)) ∙ sym (take-add 2 2 (drop at run)) in
-      ap (λ (k : ℕ). bits_of k (bit_or (a * 2 ^ (2 * w) % 2 ^ 64) b)) twice
-      ∙ bits_of-shl_or (2 * w) (2 * w) a b (omega arith) fits
+      ap₂ (λ (k x : ℕ). bits_of k (a * x + b)) twice (square w s scale)
+      ∙ bits_of-join (2 * w) (2 * w) a b fits
       ∙ ap₂ (λ (xs ys : List Bool). xs ++ ys) first second
       ∙ sym (fields-append w f two more)
       ∙ ap (λ codes. fields w (map f codes)) both
-
-  pub four_fit : (a b : ℕ) → 4 * w ≤ 64 → a < 2 ^ (2 * w) → b < 2 ^ (2 * w) → bit_or (a * 2 ^ (2 * w) % 2 ^ 64) b < 2 ^ (4 * w)
-  four_fit a b word first second =
-      let twice : 2 * w + 2 * w ≡ 4 * w = omega arith in
-      subst (λ (k : ℕ). bit_or (a * 2 ^ (2 * w) % 2 ^ 64) b < 2 ^ k) twice (shl_or-lt (2 * w) (2 * w) a b (omega arith) first second)
-
-  pub two_fit : (a b : ℕ) → 2 * w ≤ 64 → a < 2 ^ w → b < 2 ^ w → bit_or (a * 2 ^ w % 2 ^ 64) b < 2 ^ (2 * w)
-  two_fit a b word first second =
-      let twice : w + w ≡ 2 * w = omega arith in
-      subst (λ (k : ℕ). bit_or (a * 2 ^ w % 2 ^ 64) b < 2 ^ k) twice (shl_or-lt w w a b (omega arith) first second)
 
 -- ---- four more are written
 
