@@ -5,3 +5,4 @@ pub mod Least
 pub mod Again
 pub mod Reach
 pub mod Following
+pub mod Steadily

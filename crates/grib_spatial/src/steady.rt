@@ -3,7 +3,7 @@
 ghost use Rattle.std.specs.Prelude.{◌≡◌, ◌⊎◌, ℕ, ◌+◌, ◌*◌, ◌^◌, ◌<◌, ◌≤◌, true, false, nat_abs, ◌-ℤ◌, IfSome};
 ghost use Rattle.grib_packing.specs.Differences.{One, Two, is_beyond};
 ghost use Rattle.grib_spatial.specs.Running.{next_of, after_code};
-ghost use Rattle.grib_spatial.specs.Reach.{reach_by, reach_of};
+ghost use Rattle.grib_spatial.specs.Reach.{reach_by, reach_of, IsSteady};
 
 use crate::running::{Running, number_after};
 use std::marker::Model;
@@ -49,24 +49,33 @@ impl Model for Steady {
 }
 
 impl Running {
-    /// Goes on with `count` codes below `limit`. `None` before all first values were told, and where such
-    /// codes could lead to a number outside plus and minus 2^60.
-    #[inline]
-    pub fn steady(&self, count: u32, limit: u64) -> Option<Steady>
+    /// Whether all first values were told and `count` codes below `limit` can lead to no number outside
+    /// plus and minus 2^60.
+    #[inline(always)]
+    pub fn is_steady(&self, count: u32, limit: u64) -> bool
         requires { limit ≤ 2 ^ 49 }
-        ensures run { IfSome result (λ steady. steady.run ≡ self.now) }
-        ensures left { IfSome result (λ steady. steady.left ≡ count) }
-        ensures limit { IfSome result (λ steady. steady.limit ≡ limit) }
+        ensures { result ≡ true → IsSteady self.now count limit }
     {
         if self.told < self.order {
-            return None;
+            return false;
         }
         let size = limit + self.minimum.unsigned_abs();
-        let reach = reach(self.order, self.before, self.last, size, count)?;
-        if reach > 1 << 60 {
-            return None;
+        match reach(self.order, self.before, self.last, size, count) {
+            Some(reach) => reach <= 1 << 60,
+            None => false,
         }
-        Some(Steady {
+    }
+
+    /// Goes on with `count` codes below `limit`.
+    #[inline(always)]
+    pub fn into_steady(self, count: u32, limit: u64) -> Steady
+        requires limit { limit ≤ 2 ^ 49 }
+        requires steady { IsSteady self count limit }
+        ensures run { result.run ≡ self }
+        ensures left { result.left ≡ count }
+        ensures limit { result.limit ≡ limit }
+    {
+        Steady {
             order: self.order,
             first: self.first,
             second: self.second,
@@ -75,7 +84,7 @@ impl Running {
             last: self.last,
             left: count,
             limit,
-        })
+        }
     }
 }
 

@@ -73,7 +73,10 @@ fn the_first_number_out_of_range_is_refused(rt: HostRuntime) {
 fn first_steadily() -> Option<(i64, i64, i64, i64)> {
     let mut running = Running::new(1, 5, 0, -10);
     running.push(9).ok()?;
-    let mut steady = running.steady(3, 17)?;
+    if !running.is_steady(3, 17) {
+        return None;
+    }
+    let mut steady = running.into_steady(3, 17);
     let (one, two, three) = (steady.push(0), steady.push(16), steady.push(11));
     let four = steady.into_running().push(10).ok()?;
     Some((one, two, three, four))
@@ -84,7 +87,10 @@ fn second_steadily() -> Option<(i64, i64, i64)> {
     let mut running = Running::new(2, 10, 12, 1);
     running.push(3).ok()?;
     running.push(7).ok()?;
-    let mut steady = running.steady(2, 1)?;
+    if !running.is_steady(2, 1) {
+        return None;
+    }
+    let mut steady = running.into_steady(2, 1);
     let (one, two) = (steady.push(0), steady.push(0));
     let three = steady.into_running().push(0).ok()?;
     Some((one, two, three))
@@ -107,7 +113,7 @@ fn is_steady(order: u8, told: u8, count: u32, limit: u64) -> bool
             return false;
         }
     }
-    running.steady(count, limit).is_some()
+    running.is_steady(count, limit)
 }
 
 #[test]
