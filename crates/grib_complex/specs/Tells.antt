@@ -1,10 +1,11 @@
 -- What tells the points of codes, as these come.
-use Rattle.std.specs.Prelude.{◌≡◌, ◌+◌, ◌<◌, ◌^◌, false, Option, None, Some, List, All, ◌++◌, length}
+use Rattle.std.specs.Prelude.{◌≡◌, ℕ, ◌+◌, ◌<◌, ◌^◌, false, Option, None, Some, List, All, ◌++◌, length}
 use Rattle.grib_io.specs.declared.code.Code.{Code}
 use Rattle.grib_io.specs.Rows.{first_place}
 use Rattle.grib_packing.specs.declared.column.Point.{Point}
 use Rattle.grib_packing.specs.Entries.{is_out_of_range}
 use Rattle.grib_spatial.specs.Running.{Run}
+use Rattle.grib_spatial.specs.Reach.{IsSteady}
 use Rattle.grib_complex.specs.declared.runs.Steadily.{Steadily}
 use Rattle.grib_complex.specs.declared.telling.Teller.{Teller}
 use Rattle.grib_complex.specs.declared.values.Plain.{Plain}
@@ -14,6 +15,11 @@ use Rattle.grib_complex.specs.Told.{Telling, Plainly, After, told, after}
 abbrev pub telling_of : Option Run → Telling
 telling_of None = Plainly
 telling_of (Some run) = After run.told run.last
+
+-- No number of so many more codes below the limit can be out of range.
+abbrev pub StayWithin : Option Run → ℕ → ℕ → Type 0
+StayWithin None count limit = Unit {0}
+StayWithin (Some run) count limit = IsSteady run count limit
 
 -- It has told the points of these codes: their number and the place of the first out of range are known,
 -- and where there is none, what the next code is told with.

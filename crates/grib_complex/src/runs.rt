@@ -7,7 +7,7 @@ ghost use Rattle.grib_complex.specs.Tells.{IsWithin, PlainTook, SteadilyTook, te
 
 use crate::keeping::Keeper;
 use crate::values::Plain;
-use grib_groups::{CodeRun, Taker, take_each};
+use grib_groups::CodeRun;
 use grib_io::Code;
 use grib_packing::Point;
 use grib_spatial::Steady;
@@ -17,18 +17,6 @@ use grib_spatial::Steady;
 pub struct Steadily<K> {
     pub steady: Steady,
     pub keeper: K,
-}
-
-/// Takes the codes of a run one after another, where it is not known that all have room and are within the
-/// range. What takes them comes by value, so that it stays in registers where this is not called.
-#[cold]
-#[inline(never)]
-pub fn take_singly<R: CodeRun + Drop, T: Taker>(run: R, taker: T) -> T
-    requires stands { R.stands run }
-    requires limit { R.limit run ≤ T.limit }
-    ensures { T.took taker (R.codes run) result }
-{
-    take_each(run, taker)
 }
 
 /// Takes the codes of a run, which are the scaled numbers themselves.

@@ -1,14 +1,14 @@
 //! The points that codes tell.
 
-ghost use Rattle.std.specs.Prelude.{◌≡◌, ℕ, ◌+◌, ◌%◌, ◌<◌, ◌≤◌, ◌^◌, true, List, [], ◌∷◌, ◌++◌, length, Option, None, Some, IfSome};
+ghost use Rattle.std.specs.Prelude.{◌≡◌, ℕ, ◌+◌, ◌%◌, ◌<◌, ◌≤◌, ◌^◌, true, List, [], ◌∷◌, ◌++◌, length, None};
 ghost use Rattle.grib_io.specs.declared.code.Code.{Code as code_of_value};
 ghost use Rattle.grib_groups.specs.Taking.{number_of};
 ghost use Rattle.grib_complex.specs.Told.{Telling, point_of, after};
-ghost use Rattle.grib_complex.specs.Tells.{Tells, telling_of};
+ghost use Rattle.grib_complex.specs.Tells.{StayWithin, Tells, telling_of};
 
 use grib_io::Code;
 use grib_packing::Point;
-use grib_spatial::{Running, ScaledRange, Steady};
+use grib_spatial::{Running, ScaledRange};
 
 /// Tells the points of codes: a code is the scaled number itself, or that of a difference.
 #[derive(Debug, Drop)]
@@ -40,24 +40,26 @@ impl Teller {
         self.beyond
     }
 
-    /// Whether each code is the scaled number itself.
+    /// Whether no number of the next `count` codes below `limit` can be out of range.
     #[inline(always)]
-    pub fn is_plain(&self) -> bool
-        ensures { result ≡ true → self.now.running ≡ None }
+    pub fn is_ready(&self, count: u32, limit: u64) -> bool
+        requires { limit ≤ 2 ^ 49 }
+        ensures { result ≡ true → StayWithin self.now.running count limit }
     {
-        self.running.is_none()
+        match &self.running {
+            None => true,
+            Some(running) => running.is_steady(count, limit),
+        }
     }
 
-    /// What undoes the differences of the next `count` codes below `limit`, where none of their numbers can be
-    /// out of range.
+    /// What undoes the differences, if there are any. It is to be given back by [`passed`](Teller::passed).
     #[inline(always)]
-    pub fn steady(&self, count: u32, limit: u64) -> Option<Steady>
-        requires { limit ≤ 2 ^ 49 }
-        ensures run { IfSome result (λ steady. self.now.running ≡ Some steady.run) }
-        ensures left { IfSome result (λ steady. steady.left ≡ count) }
-        ensures limit { IfSome result (λ steady. steady.limit ≡ limit) }
+    pub fn take_running(&mut self) -> Option<Running>
+        ensures running { result ≡ self.old.running }
+        ensures place { self.new.place ≡ self.old.place }
+        ensures beyond { self.new.beyond ≡ self.old.beyond }
     {
-        self.running.as_ref()?.steady(count, limit)
+        self.running.take()
     }
 
     /// After the points of `count` codes were told, none of which was out of range, and with this the next one is.
