@@ -15,12 +15,13 @@ pub struct ScaledRange;
 /// next one follows.
 #[derive(Debug, Drop)]
 pub struct Running {
-    pub(crate) order: u8,
+    /// Of eight octets like the others, so that no octets stand between that moves would copy.
+    pub(crate) order: u64,
     pub(crate) first: i64,
     pub(crate) second: i64,
     pub(crate) minimum: i64,
     /// How many first values were told.
-    pub(crate) told: u8,
+    pub(crate) told: u64,
     /// The last number but one, and the last one.
     pub(crate) before: i64,
     pub(crate) last: i64,
@@ -58,7 +59,7 @@ impl Running {
         } }
     {
         Running {
-            order,
+            order: u64::from(order),
             first,
             second,
             minimum,
@@ -113,7 +114,7 @@ impl Running {
 
 /// The number after these two, by a code and the overall minimum of differences of this order.
 #[inline(always)]
-pub(crate) fn number_after(order: u8, minimum: i64, before: i64, last: i64, code: u64) -> i64
+pub(crate) fn number_after(order: u64, minimum: i64, before: i64, last: i64, code: u64) -> i64
     requires minimum { nat_abs minimum ≤ 2 ^ 31 }
     requires before { nat_abs before ≤ 2 ^ 60 }
     requires last { nat_abs last ≤ 2 ^ 60 }
