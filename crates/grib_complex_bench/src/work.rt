@@ -88,9 +88,9 @@ pub fn fed_column(
     let section5 = grouped(representation, mask.len(), ones(mask))?;
     let section7 = section(7, data)?;
     ensure!(size >= 1, "a piece has an octet at least");
-    let length = BigEndian::read_u32(data);
+    let length = BigEndian::read_u32(section7.octets);
     let mut feeder = Feeder::new(alloc, &section5, mask.copy(alloc)?, section7.start, length)?;
-    for piece in data[5..].chunks(size) {
+    for piece in section7.octets[5..].chunks(size) {
         ensure!(piece.len() <= feeder.left() as usize, "too many octets");
         feeder.push(piece);
     }
