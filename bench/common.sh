@@ -14,14 +14,19 @@ need() { # COMMAND [WHERE IT IS FROM]
   command -v "$1" >/dev/null || fail "$1 is not in PATH${2:+ ($2)}"
 }
 
-# Builds the program of a crate, by a run on these words, and the same work in plain Rust.
-build() { # CRATE PLAIN WORD..
+# Builds the program of a crate, by a run on these words.
+build_ours() { # CRATE WORD..
   need rt
-  need rustc
-  (cd "$top/crates/$1" && rt run -- "${@:3}") >"$work/build.log" 2>&1 || {
+  (cd "$top/crates/$1" && rt run -- "${@:2}") >"$work/build.log" 2>&1 || {
     cat "$work/build.log" >&2
     fail "$1 was not built"
   }
+}
+
+# Builds it, and the same work in plain Rust.
+build() { # CRATE PLAIN WORD..
+  need rustc
+  build_ours "$1" "${@:3}"
   rustc -O --edition 2024 "$top/bench/$2" -o "$work/plain" || fail "$2 was not built"
 }
 
@@ -37,6 +42,11 @@ agree() { # WHAT
 seconds() { # COMMAND
   local TIMEFORMAT='%3U %3S' spent
   spent=$({ time "$1" >/dev/null 2>&1; } 2>&1) && awk '{ print $1 + $2 }' <<<"$spent"
+}
+
+# Prints the least of some times.
+least() { # FILE
+  sort -g "$1" | sed -n 1p
 }
 
 # Prints the time of theirs over that of ours. The two take turns, and the least time of each is kept,

@@ -11,11 +11,7 @@ source "$(dirname "$0")/common.sh"
 width=${1:-12}
 count=${2:-16000000}
 [[ $width =~ ^([1-9]|1[0-9]|2[0-4])$ ]] || fail "the width is a number from 1 to 24"
-need rt
-(cd "$top/crates/grib_groups_bench" && rt run -- measured 1000 12) >"$work/build.log" 2>&1 || {
-  cat "$work/build.log" >&2
-  fail "grib_groups_bench was not built"
-}
+build_ours grib_groups_bench measured 1000 12
 
 ours() { "$top/crates/grib_groups_bench/out/grib_groups_bench" "$task" "$count" "$width"; }
 
@@ -26,10 +22,9 @@ for ((round = 0; round < 7; round++)); do
   done
 done
 
-least() { sort -g "$work/$1" | sed -n 1p; }
 for task in groups measured; do
-  awk -v what="$task, $count numbers of $width bits" -v loop="$(least no-numbers) $(least numbers)" \
-    -v groups="$(least no-groups) $(least "$task")" 'BEGIN {
+  awk -v what="$task, $count numbers of $width bits" -v loop="$(least "$work/no-numbers") $(least "$work/numbers")" \
+    -v groups="$(least "$work/no-groups") $(least "$work/$task")" 'BEGIN {
       split(loop, put); split(groups, ours)
       if (put[2] <= put[1] || ours[2] <= ours[1]) exit 1
       printf "%s: %.2f\n", what, (put[2] - put[1]) / (ours[2] - ours[1])

@@ -19,11 +19,6 @@ field=0
 ours() { "$top/crates/grib_packing_bench/out/grib_packing_bench" "$task" "$size" "$which" "$field"; }
 theirs() { "$work/plain" "$task" "$size" "$which" "$field"; }
 
-# Prints the least of some times.
-least() { # FILE
-  sort -g "$1" | sed -n 1p
-}
-
 # Prints the time of theirs over that of ours for packing alone. All runs take turns, and the least time of
 # each is kept.
 packing_ratio() { # WHAT ROUNDS

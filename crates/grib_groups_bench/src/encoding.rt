@@ -5,7 +5,6 @@ ghost use Rattle.grib_packing.specs.Groupings.{runs};
 ghost use Rattle.grib_packing.specs.Span.{IsTold};
 ghost use Rattle.grib_groups.specs.Encoding.{AreMeasures, LaysOut};
 
-use crate::random::Random;
 use anyhow::{Result, ensure};
 use grib_bits::BitWriter;
 use grib_groups::{Layout, Measure, encode_groups, encode_measured_groups, measures_of};
@@ -86,10 +85,11 @@ fn random_numbers(alloc: Global, count: u32, width: u32) -> Result<Vec<u64>, All
     ensures few { IfOk result (λ numbers. All (λ n. n < 2 ^ 32) numbers.items) }
     ensures count { IfOk result (λ numbers. length numbers.items ≡ count) }
 {
-    let mut random = Random::of(1);
+    let mut state = 1u32;
     let mut numbers = Vec::with_capacity(alloc, count as usize)?;
     for _number in 0..count {
-        numbers.push(u64::from(random.next() >> 8) % (1 << width))?;
+        state = state.wrapping_mul(1664525).wrapping_add(1013904223);
+        numbers.push(u64::from(state >> 8) % (1 << width))?;
     }
     Ok(numbers)
 }

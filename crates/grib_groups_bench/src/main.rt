@@ -11,7 +11,6 @@ use anyhow::{Context, Result};
 use std::env;
 
 mod encoding;
-mod random;
 
 use encoding::{Writing, written_sum};
 
