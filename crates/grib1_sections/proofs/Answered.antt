@@ -6,8 +6,8 @@ use Rattle.std.proofs.lemmas.Bool.{not_from_true}
 use Rattle.std.proofs.lemmas.List.FromFn.{map-range_with_len_more}
 use Rattle.std.proofs.lemmas.List.Sums.{sum_by_push}
 use Rattle.grib_bits.specs.Octets.{octets}
-use Rattle.grib_io.specs.declared.fault.Fault.{Fault}
-use Rattle.grib_io.specs.Rows.{Row, first_fault, first_fault_at, choose, located}
+use Rattle.grib_base.specs.declared.fault.Fault.{Fault}
+use Rattle.grib_base.specs.Rows.{Row, first_fault, first_fault_at, choose, located}
 use Rattle.grib2_sections.specs.Verdict as verdicts
 use Rattle.grib2_sections.specs.Verdict.{Verdict}
 use Rattle.grib2_sections.specs.declared.indicator.Head.{Head}
@@ -21,10 +21,10 @@ use Rattle.grib1_sections.specs.Grid.{grid_rows, grid_types, grid_type}
 use Rattle.grib1_sections.specs.Bitmap.{bitmap_rows, mask_of}
 use Rattle.grib1_sections.specs.Data.{data_rows}
 use Rattle.grib1_sections.specs.Acceptance.{section_fault, bitmap_fault, message_fault, verdict_1, has_bitmap, identification, grid, bitmap, data_section, grid_start, bitmap_start, data_start, end_start, points_of, values_of}
-use Rattle.grib1_sections.specs.ReadFaults.{IsVerdict}
+use Rattle.grib2_sections.specs.Refused.{IsVerdict}
 use Rattle.grib1_sections.specs.Kept.{IsReadFault, Stands, HasBitmap, Keeps}
-use Rattle.grib1_sections.specs.declared.fault.ReadFault1.{ReadFault1}
-use Rattle.grib1_sections.specs.declared.fault.ReadFault1.TheVariants.{Refused, Memory}
+use Rattle.grib_base.specs.declared.fault.ReadFault.{ReadFault}
+use Rattle.grib_base.specs.declared.fault.ReadFault.TheVariants.{Refused, Memory}
 use Rattle.grib1_sections.proofs.Rows.{none_from_passes, none_accepted, some_first, some_later, some_refused, none_or}
 use Rattle.grib1_sections.proofs.Places.{grid_start-is, bitmap_start-is, data_start-flagged, data_start-plain, end_start-is, bitmap-flagged, bitmap-plain, same_identification, same_grid, same_bitmap, same_data, same_points, same_values}
 use Rattle.grib1_sections.proofs.Agreeing.{agree_front}
@@ -79,22 +79,22 @@ pub refused_at : {V : Type 0} (P : V → Type 0) (r : Result V Fault) (first : O
 refused_at P (Ok v) first fault h is = absurd h
 refused_at P (Err e) first fault h is = is ∙ ap Some (sym h)
 
-pub refused : {V : Type 0} (P : V → Type 0) (r : Result V ReadFault1) (verdict : Verdict) (fault : Fault)
+pub refused : {V : Type 0} (P : V → Type 0) (r : Result V ReadFault) (verdict : Verdict) (fault : Fault)
     → IsErrAnd r (λ e. e ≡ Refused fault) → verdict ≡ verdicts.Refused fault → MatchResult r P (IsVerdict verdict)
 refused P (Ok v) verdict fault h is = absurd h
-refused P (Err e) verdict fault h is = let Told : ReadFault1 → Type 0 = IsVerdict verdict in subst Told (sym h) is
+refused P (Err e) verdict fault h is = let Told : ReadFault → Type 0 = IsVerdict verdict in subst Told (sym h) is
 
-told : (verdict : Verdict) (found : Option Fault) (e : ReadFault1) → ((fault : Fault) → found ≡ Some fault → verdict ≡ verdicts.Refused fault)
+told : (verdict : Verdict) (found : Option Fault) (e : ReadFault) → ((fault : Fault) → found ≡ Some fault → verdict ≡ verdicts.Refused fault)
     → IsReadFault found e → IsVerdict verdict e
 told verdict found (Refused fault) h is = h fault is
 told verdict found Memory h is = tt
 
-pub passed_on : {V : Type 0} (P : V → Type 0) (r : Result V ReadFault1) (verdict : Verdict) (found : Option Fault) (read : ReadFault1)
+pub passed_on : {V : Type 0} (P : V → Type 0) (r : Result V ReadFault) (verdict : Verdict) (found : Option Fault) (read : ReadFault)
     → IsErrAnd r (λ e. e ≡ read) → ((fault : Fault) → found ≡ Some fault → verdict ≡ verdicts.Refused fault)
     → IsReadFault found read → MatchResult r P (IsVerdict verdict)
 passed_on P (Ok v) verdict found read h says is = absurd h
 passed_on P (Err e) verdict found read h says is =
-    let Told : ReadFault1 → Type 0 = IsVerdict verdict in subst Told (sym h) (told verdict found read says is)
+    let Told : ReadFault → Type 0 = IsVerdict verdict in subst Told (sym h) (told verdict found read says is)
 
 -- ---- the first refusal of a message
 

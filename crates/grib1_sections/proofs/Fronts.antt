@@ -1,7 +1,7 @@
 -- What is accepted rests on the octets of the message alone.
 use Rattle.std.proofs.Common.{◌≡◌, ℕ, ◌+◌, ◌≤◌, true, List, length, take, ◌==◌, sym, ap, ◌∙◌, arith, subst, length-take-le, take-take}
 use Rattle.grib_bits.specs.Octets.{octets}
-use Rattle.grib_io.specs.Rows.{Row, first_fault}
+use Rattle.grib_base.specs.Rows.{Row, first_fault}
 use Rattle.grib2_sections.specs.Verdict.{Accepted}
 use Rattle.grib2_sections.specs.Head.{indicator, edition, total_length_1}
 use Rattle.grib2_sections.specs.Frame.{ends_at}

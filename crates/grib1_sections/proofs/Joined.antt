@@ -5,11 +5,11 @@ use Rattle.std.proofs.lemmas.List.{take-append-le}
 use Rattle.std.proofs.lemmas.List.Elements.{All-drop}
 use Rattle.std.specs.Prelude.{unwrap_or, is_some}
 use Rattle.grib_bits.specs.Octets.{num_on, octets, octet_list}
-use Rattle.grib_io.specs.Rows.{Row, first_fault}
+use Rattle.grib_base.specs.Rows.{Row, first_fault}
 use Rattle.grib2_sections.specs.Verdict.{Accepted}
 use Rattle.grib2_sections.specs.Head.{indicator, end_mark, edition, total_length_1}
 use Rattle.grib2_sections.specs.Frame.{ends_at}
-use Rattle.grib2_sections.proofs.Octets.{octets-within}
+use Rattle.grib_bits.proofs.Encoding.{octets-within}
 use Rattle.grib_bitmap.specs.Mask.{present_count}
 use Rattle.grib1_sections.specs.Frame.{section_length, section_at, after}
 use Rattle.grib1_sections.specs.Identification.{identification_rows, flags_bitmap}

@@ -3,7 +3,7 @@ use Rattle.std.proofs.Common.{◌≡◌, ℕ, ◌+◌, ◌*◌, ◌<◌, ◌≤�
 use Rattle.std.specs.Option.{option_map_or}
 use Rattle.std.proofs.lemmas.Bool.{or_parts, not-false, ltb-true}
 use Rattle.std.specs.declared.option.Option.TheVariants.{Some}
-use Rattle.grib_io.specs.Rows.{first_fault}
+use Rattle.grib_base.specs.Rows.{first_fault}
 use Rattle.grib2_sections.specs.Template.{Template, is_template, least_length}
 use Rattle.grib1_sections.specs.Grid.{grid_types, grid_type, nv, list_place, nj, lists_rows, has_list, row_count, lists_end, grid_rows}
 use Rattle.grib1_sections.specs.Coordinates.{coordinate_count}

@@ -2,8 +2,8 @@
 use Rattle.std.proofs.Common.{◌≡◌, ℕ, ◌+◌, ◌-◌, ◌≤◌, Bool, true, false, not, ◌||◌, Option, None, List, length, nat_lt, ◌==◌, refl, sym, ap, ◌∙◌, arith, ltb-false, le-ltb, eq-eqb, ne_eqb}
 use Rattle.std.proofs.lemmas.Bool.{and_left, and_right, or_parts, or_from, not-false, not_from_true}
 use Rattle.grib_bits.specs.Octets.{octets}
-use Rattle.grib_io.specs.declared.fault.Fault.{Fault}
-use Rattle.grib_io.specs.Rows.{Row, first_fault, first_fault_at, choose}
+use Rattle.grib_base.specs.declared.fault.Fault.{Fault}
+use Rattle.grib_base.specs.Rows.{Row, first_fault, first_fault_at, choose}
 use Rattle.grib2_sections.specs.Head.{edition, total_length, total_length_1, head_rows}
 use Rattle.grib2_sections.specs.Frame.{ends_at}
 use Rattle.grib1_sections.specs.Frame.{frame_rows, end_rows, section_at}

@@ -1,7 +1,7 @@
 -- Rows that do not refuse.
 use Rattle.std.proofs.Common.{◌≡◌, ℕ, Bool, true, false, cond, ◌&&◌, Option, Some, None, List, [], ◌∷◌, refl}
-use Rattle.grib_io.specs.declared.fault.Fault.{Fault}
-use Rattle.grib_io.specs.Rows.{Row, first_fault, located}
+use Rattle.grib_base.specs.declared.fault.Fault.{Fault}
+use Rattle.grib_base.specs.Rows.{Row, first_fault, located}
 use Rattle.grib2_sections.specs.Verdict.{Accepted, Refused}
 use Rattle.grib1_sections.specs.Acceptance.{or_else, verdict_by}
 

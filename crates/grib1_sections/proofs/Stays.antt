@@ -2,9 +2,9 @@
 use Rattle.std.proofs.Common.{◌≡◌, ◌≢◌, ℕ, ◌+◌, ◌-◌, ◌≤◌, Bool, true, false, not, cond, ◌&&◌, ◌||◌, ◌⊎◌, Option, Some, None, List, [], ◌∷◌, ◌++◌, length, nat_lt, ◌==◌, inl, inr, refl, sym, ap, ◌∙◌, arith, ltb-false, le-ltb, ne_eqb}
 use Rattle.std.proofs.lemmas.Bool.{and_left, or_parts}
 use Rattle.grib_bits.specs.Octets.{octets}
-use Rattle.grib_io.specs.declared.fault.Fault.{Fault}
-use Rattle.grib_io.specs.declared.fault.Reason.TheVariants.{Truncated, SectionLength, EndMark, LengthDisagrees, Edition, TotalLength}
-use Rattle.grib_io.specs.Rows.{Row, row, refusal, first_fault, first_fault_at, choose}
+use Rattle.grib_base.specs.declared.fault.Fault.{Fault}
+use Rattle.grib_base.specs.declared.fault.Reason.TheVariants.{Truncated, SectionLength, EndMark, LengthDisagrees, Edition, TotalLength}
+use Rattle.grib_base.specs.Rows.{Row, row, refusal, first_fault, first_fault_at, choose}
 use Rattle.grib2_sections.specs.Verdict.{Accepted, Refused}
 use Rattle.grib2_sections.specs.Head.{edition, total_length, total_length_1, head_rows}
 use Rattle.grib1_sections.specs.Frame.{frame_rows, end_rows, section_at}

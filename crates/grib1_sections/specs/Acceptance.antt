@@ -3,8 +3,8 @@
 -- turn, the rows of its frame and its own, then those of the end mark. The first row that fails gives the
 -- refusal.
 use Rattle.std.specs.Prelude.{ℕ, Bool, cond, Option, Some, None, List}
-use Rattle.grib_io.specs.declared.fault.Fault.{Fault}
-use Rattle.grib_io.specs.Rows.{Row, first_fault, first_fault_at, choose}
+use Rattle.grib_base.specs.declared.fault.Fault.{Fault}
+use Rattle.grib_base.specs.Rows.{Row, first_fault, first_fault_at, choose}
 use Rattle.grib2_sections.specs.Verdict.{Verdict, Accepted, Refused}
 use Rattle.grib2_sections.specs.Head.{head_rows, total_length_1}
 use Rattle.grib_bitmap.specs.Mask.{present_count}

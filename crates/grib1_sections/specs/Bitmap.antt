@@ -5,8 +5,8 @@
 use Rattle.std.specs.Prelude.{ℕ, ◌+◌, ◌*◌, Bool, true, not, Option, Some, None, List, [], ◌∷◌, length, take, drop, replicate, nat_lt, ◌==◌}
 use Rattle.grib_bits.specs.Bits.{bits}
 use Rattle.grib_bits.specs.Octets.{octets}
-use Rattle.grib_io.specs.declared.fault.Reason.TheVariants.{BitmapIndicator, BitmapSize}
-use Rattle.grib_io.specs.Rows.{Row, row}
+use Rattle.grib_base.specs.declared.fault.Reason.TheVariants.{BitmapIndicator, BitmapSize}
+use Rattle.grib_base.specs.Rows.{Row, row}
 
 abbrev pub bitmap_number : List ℕ → ℕ
 bitmap_number s = octets s 5 6

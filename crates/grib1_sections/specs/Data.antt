@@ -4,8 +4,8 @@
 -- The numbers stand from octet 12 on, one for each point that is present.
 use Rattle.std.specs.Prelude.{ℕ, ◌+◌, ◌*◌, List, [], ◌∷◌, length, nat_lt}
 use Rattle.grib_bits.specs.Octets.{octets}
-use Rattle.grib_io.specs.declared.fault.Reason.TheVariants.{Harmonics, SecondOrder, ExtraFlags, BitWidth, DataTooShort}
-use Rattle.grib_io.specs.Rows.{Row, row}
+use Rattle.grib_base.specs.declared.fault.Reason.TheVariants.{Harmonics, SecondOrder, ExtraFlags, BitWidth, DataTooShort}
+use Rattle.grib_base.specs.Rows.{Row, row}
 use Rattle.grib1_sections.specs.Frame.{bit}
 
 abbrev pub data_flags : List ℕ → ℕ

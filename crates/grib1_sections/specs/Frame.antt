@@ -2,8 +2,8 @@
 -- of a section are its length, and `7777` ends the message.
 use Rattle.std.specs.Prelude.{ℕ, ◌+◌, ◌-◌, ◌/◌, ◌%◌, ◌^◌, Bool, not, ◌||◌, List, [], ◌∷◌, length, nat_lt, ◌==◌}
 use Rattle.grib_bits.specs.Octets.{octets, octet_list}
-use Rattle.grib_io.specs.declared.fault.Reason.TheVariants.{Truncated, SectionLength, EndMark, LengthDisagrees}
-use Rattle.grib_io.specs.Rows.{Row, row}
+use Rattle.grib_base.specs.declared.fault.Reason.TheVariants.{Truncated, SectionLength, EndMark, LengthDisagrees}
+use Rattle.grib_base.specs.Rows.{Row, row}
 use Rattle.grib2_sections.specs.Head.{total_length_1}
 use Rattle.grib2_sections.specs.Frame.{ends_at}
 

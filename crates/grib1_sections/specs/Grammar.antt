@@ -2,7 +2,7 @@
 -- and 2, Section 3 where it is flagged, Section 4, and `7777`. It says how a whole message is joined, and
 -- nothing of how it is read.
 use Rattle.std.specs.Prelude.{◌≡◌, ℕ, ◌≤◌, Option, Some, None, List, [], ◌++◌, length, take, unwrap_or, is_some}
-use Rattle.grib_io.specs.Rows.{Row, first_fault}
+use Rattle.grib_base.specs.Rows.{Row, first_fault}
 use Rattle.grib2_sections.specs.Head.{indicator, end_mark, edition, total_length_1}
 use Rattle.grib_bitmap.specs.Mask.{present_count}
 use Rattle.grib1_sections.specs.Frame.{section_length}

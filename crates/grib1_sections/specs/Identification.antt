@@ -2,8 +2,8 @@
 -- flags the sections that follow (code table 1), bit 1 Section 2, bit 2 Section 3.
 use Rattle.std.specs.Prelude.{ℕ, Bool, not, List, [], ◌∷◌}
 use Rattle.grib_bits.specs.Octets.{octets}
-use Rattle.grib_io.specs.declared.fault.Reason.TheVariants.{NoGridSection}
-use Rattle.grib_io.specs.Rows.{Row, row}
+use Rattle.grib_base.specs.declared.fault.Reason.TheVariants.{NoGridSection}
+use Rattle.grib_base.specs.Rows.{Row, row}
 use Rattle.grib1_sections.specs.Frame.{bit}
 
 abbrev pub section_flags : List ℕ → ℕ

@@ -1,17 +1,17 @@
 -- What is known of the sections of a message while it is read, and after, for private functions.
 use Rattle.std.specs.Prelude.{◌≡◌, ℕ, ◌+◌, ◌≤◌, true, Option, Some, List, length}
 use Rattle.grib_bits.specs.Octets.{octets}
-use Rattle.grib_io.specs.declared.fault.Fault.{Fault}
+use Rattle.grib_base.specs.declared.fault.Fault.{Fault}
 use Rattle.grib2_sections.specs.Head.{total_length_1}
 use Rattle.grib1_sections.specs.Frame.{section_at}
 use Rattle.grib1_sections.specs.Grid.{lists_rows, list_place, lists_end}
 use Rattle.grib1_sections.specs.Message.{IsMessage1}
 use Rattle.grib1_sections.specs.Acceptance.{identification, grid, bitmap, data_section, points_of, values_of, data_start}
-use Rattle.grib1_sections.specs.declared.fault.ReadFault1.{ReadFault1}
-use Rattle.grib1_sections.specs.declared.fault.ReadFault1.TheVariants.{Refused, Memory}
+use Rattle.grib_base.specs.declared.fault.ReadFault.{ReadFault}
+use Rattle.grib_base.specs.declared.fault.ReadFault.TheVariants.{Refused, Memory}
 
 -- the refusal of the first row that fails; want of memory says nothing of the rows
-abbrev pub IsReadFault : Option Fault → ReadFault1 → Type 0
+abbrev pub IsReadFault : Option Fault → ReadFault → Type 0
 IsReadFault expected (Refused fault) = expected ≡ Some fault
 IsReadFault expected Memory = Unit {0}
 

@@ -6,7 +6,7 @@ pub mod Data
 pub mod Acceptance
 pub mod Grammar
 pub mod Message
-pub mod ReadFaults
+pub use Rattle.grib2_sections.specs.Refused
 pub mod Kept
 pub mod Keys
 pub mod Coordinates

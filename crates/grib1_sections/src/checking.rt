@@ -3,7 +3,7 @@
 ghost use Rattle.std.specs.Prelude.{◌≡◌, ◌+◌, ◌-◌, ◌*◌, ◌≤◌, ◌<◌, ◌^◌, true, false, length, map, sum, take, drop, Some, None, MatchResult, MatchOption, OnOk};
 ghost use Rattle.std.specs.List.{range_with_len};
 ghost use Rattle.grib_bits.specs.Octets.{octets as octets_of};
-ghost use Rattle.grib_io.specs.Rows.{first_fault, first_fault_at};
+ghost use Rattle.grib_base.specs.Rows.{first_fault, first_fault_at};
 ghost use Rattle.grib2_sections.specs.Template.{is_template, least_length as least_of};
 ghost use Rattle.grib_bitmap.specs.Mask.{present_count};
 ghost use Rattle.grib1_sections.specs.Identification.{identification_rows};
@@ -13,11 +13,10 @@ ghost use Rattle.grib1_sections.specs.Bitmap.{bitmap_rows, mask_of};
 ghost use Rattle.grib1_sections.specs.Data.{data_rows};
 ghost use Rattle.grib1_sections.specs.Kept.{IsReadFault, HasRows};
 
-use crate::ReadFault1;
 use crate::frame::{Placed, has_bit};
+use grib_base::{Fault, ReadFault, Reason};
 use grib_bitmap::{Mask, ones};
-use grib_io::{Fault, Reason};
-use grib2_sections::{u8_at, u16_at};
+use grib_bits::{u8_at, u16_at};
 use std::alloc::Global;
 
 /// Tries the row of Section 1.
@@ -176,7 +175,7 @@ pub(crate) fn check_bitmap(
     alloc: Global,
     section: &Placed<'_>,
     points: u32,
-) -> Result<u32, ReadFault1>
+) -> Result<u32, ReadFault>
     requires start { section.now.start < 2 ^ 63 }
     requires long { 6 ≤ length section.now.octets.now }
     ensures { MatchResult result

@@ -11,11 +11,11 @@ ghost use Rattle.grib1_sections.specs.Data.{bit_width};
 ghost use Rattle.grib1_sections.specs.Column.{column_from};
 ghost use Rattle.grib1_sections.specs.Held.{HoldsBits};
 
+use grib_base::List;
 use grib_bitmap::Mask;
-use grib_io::List;
+use grib_bits::{u8_at, u16_at, u32_at};
 use grib_packing::{Column, Point};
 use grib_simple::{masked_points, unpack_points};
-use grib2_sections::{u8_at, u16_at, u32_at};
 use std::alloc::{AllocError, Global};
 
 /// The column of a grid of so many points, by Section 1, Section 3, where there is one, and Section 4.

@@ -2,8 +2,8 @@
 //! expected numbers.
 
 use super::*;
+use grib_bits::u8_at;
 use grib_packing::{Column, Point};
-use grib2_sections::u8_at;
 use std::alloc::Global;
 use std::test::Fail;
 

@@ -1,14 +1,14 @@
 //! Sections one after another, and the end mark.
 
 ghost use Rattle.std.specs.Prelude.{◌≡◌, ◌+◌, ◌-◌, ◌≤◌, ◌<◌, ◌^◌, length, Some, None, MatchResult};
-ghost use Rattle.grib_io.specs.Rows as rows;
-ghost use Rattle.grib_io.specs.Rows.{first_fault};
+ghost use Rattle.grib_base.specs.Rows as rows;
+ghost use Rattle.grib_base.specs.Rows.{first_fault};
 ghost use Rattle.grib2_sections.specs.Head.{total_length_1};
 ghost use Rattle.grib1_sections.specs.Frame.{frame_rows, end_rows, bit};
 ghost use Rattle.grib1_sections.specs.Kept.{Stands};
 
-use grib_io::{Fault, Reason};
-use grib2_sections::{u32_at, uint_at};
+use grib_base::{Fault, Reason};
+use grib_bits::{u32_at, uint_at};
 
 /// The end mark `7777` as a number.
 const END_MARK: u32 = 0x37373737;

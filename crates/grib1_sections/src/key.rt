@@ -4,7 +4,7 @@ ghost use Rattle.std.specs.Prelude.{◌≡◌, ◌+◌, ◌≤◌, ◌<◌, ◌^
 ghost use Rattle.grib1_sections.specs.Keys as keys;
 ghost use Rattle.grib1_sections.specs.Keys.{key_in};
 
-use grib2_sections::uint_at;
+use grib_bits::uint_at;
 
 /// A number of Section 1, the product definition section (WMO-No. 306, Volume I.2, FM 92 GRIB edition 1).
 #[derive(Clone, Copy, Debug, PartialEq, Eq)]

@@ -1,8 +1,8 @@
 //! Laws over the definitions.
 
 ghost use Rattle.std.specs.Prelude.{◌≡◌, ◌≢◌, ℕ, ◌+◌, ◌<◌, ◌≤◌, List, ◌++◌, length, take, All};
-ghost use Rattle.grib_io.specs.declared.fault.Fault.{Fault};
-ghost use Rattle.grib_io.specs.declared.fault.Reason.TheVariants.{Truncated};
+ghost use Rattle.grib_base.specs.declared.fault.Fault.{Fault};
+ghost use Rattle.grib_base.specs.declared.fault.Reason.TheVariants.{Truncated};
 ghost use Rattle.grib2_sections.specs.Head.{indicator, edition, total_length_1};
 ghost use Rattle.grib2_sections.specs.Verdict.{Accepted, Refused};
 ghost use Rattle.grib1_sections.specs.Acceptance.{verdict_1, identification, grid, bitmap, data_section};

@@ -6,7 +6,6 @@ mod column;
 mod contents;
 #[cfg(test)]
 mod contents_tests;
-mod fault;
 mod frame;
 mod key;
 pub mod laws;
@@ -16,7 +15,7 @@ mod reading;
 #[cfg(test)]
 mod tests;
 
-pub use fault::ReadFault1;
+pub use grib_base::ReadFault as ReadFault1;
 pub use key::Key1;
 pub use message::Message1;
 pub use reading::read_message1;

@@ -7,7 +7,7 @@ ghost use Rattle.grib1_sections.specs.Grid.{row_list};
 ghost use Rattle.grib1_sections.specs.Coordinates.{coordinate_count as count_of, coordinate_list};
 ghost use Rattle.grib1_sections.specs.Held.{HoldsLists};
 
-use grib2_sections::{u8_at, u16_at, u32_at};
+use grib_bits::{u8_at, u16_at, u32_at};
 use std::alloc::{AllocError, Global};
 
 /// Octet 5 where no list stands.

@@ -1,7 +1,7 @@
 //! Reading a message.
 
 ghost use Rattle.std.specs.Prelude.{◌≡◌, ◌+◌, ◌≤◌, true, length, take, Some, None, MatchResult, option_copied};
-ghost use Rattle.grib_io.specs.Rows.{first_fault};
+ghost use Rattle.grib_base.specs.Rows.{first_fault};
 ghost use Rattle.grib2_sections.specs.Head.{indicator, edition, total_length_1};
 ghost use Rattle.grib2_sections.specs.Verdict.{Accepted};
 ghost use Rattle.grib1_sections.specs.Identification.{identification_rows, flags_bitmap as is_flagged};
@@ -9,14 +9,15 @@ ghost use Rattle.grib1_sections.specs.Grid.{grid_rows, grid_points};
 ghost use Rattle.grib1_sections.specs.Data.{data_rows};
 ghost use Rattle.grib1_sections.specs.Acceptance.{verdict_1, has_bitmap, bitmap_fault, bitmap, bitmap_start, data_start, points_of, values_of, section_fault};
 ghost use Rattle.grib1_sections.specs.Message.{IsMessage1};
-ghost use Rattle.grib1_sections.specs.ReadFaults.{IsVerdict};
+ghost use Rattle.grib2_sections.specs.Refused.{IsVerdict};
 ghost use Rattle.grib1_sections.specs.Kept.{IsReadFault, Stands, HasBitmap};
 
+use crate::Message1;
 use crate::checking::{check_bitmap, check_data, check_grid, check_identification};
 use crate::frame::{Placed, check_end, has_bit, section_from};
-use crate::{Message1, ReadFault1};
-use grib_io::Fault;
-use grib2_sections::{read_head, u8_at};
+use grib_base::{Fault, ReadFault};
+use grib_bits::u8_at;
+use grib2_sections::read_head;
 use std::alloc::Global;
 
 /// Reads the message of edition 1 that begins with these octets, which may go on past its end; where they
@@ -25,7 +26,7 @@ use std::alloc::Global;
 /// # Errors
 ///
 /// The first row of the profile that fails, or there is no memory for the bits of Section 3.
-pub fn read_message1<'a>(alloc: Global, octets: &'a [u8]) -> Result<Message1<'a>, ReadFault1>
+pub fn read_message1<'a>(alloc: Global, octets: &'a [u8]) -> Result<Message1<'a>, ReadFault>
     requires indicated { take 4 octets.now ≡ indicator }
     requires edition { edition octets.now ≡ 1 }
     ensures { MatchResult result
@@ -108,7 +109,7 @@ fn read_bitmap<'a>(
     start: usize,
     flagged: bool,
     points: u32,
-) -> Result<Bitmap<'a>, ReadFault1>
+) -> Result<Bitmap<'a>, ReadFault>
     requires counted { 1 ≤ start }
     requires within { start ≤ length octets.now + 1 }
     requires room { start + 3 ≤ total }

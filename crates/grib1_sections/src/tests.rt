@@ -4,16 +4,16 @@
 ghost use Rattle.std.specs.Prelude.{◌≤◌};
 
 use crate::contents_tests::{MASKED, PLAIN, REDUCED};
-use crate::{Message1, ReadFault1, read_message1};
-use grib_io::{Fault, Reason};
-use grib2_sections::u8_at;
+use crate::{Message1, read_message1};
+use grib_base::{Fault, ReadFault, Reason};
+use grib_bits::u8_at;
 use std::alloc::Global;
 use std::test::Fail;
 
 /// Reads a message; want of memory stands for octets that do not begin one of edition 1.
-fn read(alloc: Global, octets: &[u8]) -> Result<Message1<'_>, ReadFault1> {
+fn read(alloc: Global, octets: &[u8]) -> Result<Message1<'_>, ReadFault> {
     if octets.len() < 8 || !octets.starts_with(b"GRIB") || u8_at(octets, 8) != 1 {
-        return Err(ReadFault1::Memory);
+        return Err(ReadFault::Memory);
     }
     read_message1(alloc, octets)
 }
@@ -21,7 +21,7 @@ fn read(alloc: Global, octets: &[u8]) -> Result<Message1<'_>, ReadFault1> {
 /// Why the message is refused, if it is.
 fn refusal(alloc: Global, octets: &[u8]) -> Option<Fault> {
     match read(alloc, octets) {
-        Err(ReadFault1::Refused(fault)) => Some(fault),
+        Err(ReadFault::Refused(fault)) => Some(fault),
         _ => None,
     }
 }

@@ -5,8 +5,8 @@ use Rattle.std.proofs.lemmas.List.{length-append, append-nil, take_more}
 use Rattle.std.proofs.lemmas.List.FromFn.{map-range_with_len_more}
 use Rattle.std.specs.List.{range_with_len}
 use Rattle.grib_bits.specs.Octets.{octets}
-use Rattle.grib2_sections.specs.Encoding.{octets_of}
-use Rattle.grib2_sections.proofs.Octets.{length-octets_of, octets-within, num_on-octets_of}
+use Rattle.grib_bits.specs.Encoding.{octets_of}
+use Rattle.grib_bits.proofs.Encoding.{length-octets_of, octets-within, num_on-octets_of}
 use Rattle.grib2_grids.specs.Written.{entry_octets}
 
 -- the entry in row `row` of `count` ends within the list

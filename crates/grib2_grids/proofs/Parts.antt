@@ -1,11 +1,11 @@
 -- Lemmas on rows that are tried in parts.
 use Rattle.std.proofs.Common.{◌≡◌, ℕ, Bool, true, false, cond, List, [], ◌∷◌, ◌++◌, refl, sym, ap, ◌∙◌, subst, option_map}
 use Rattle.std.specs.Prelude.{Option, Some, None, Result, Ok, Err, IsErrAnd, MatchResult}
-use Rattle.grib_io.specs.declared.fault.Fault.{Fault}
-use Rattle.grib_io.specs.Rows.{Row, first_fault, first_fault_at, fault_at, located}
-use Rattle.grib2_grids.specs.Refused.{IsRefusal}
-use Rattle.grib2_grids.specs.declared.grid.GridFault.{GridFault}
-use Rattle.grib2_grids.specs.declared.grid.GridFault.TheVariants.{Refused}
+use Rattle.grib_base.specs.declared.fault.Fault.{Fault}
+use Rattle.grib_base.specs.Rows.{Row, first_fault, first_fault_at, fault_at, located}
+use Rattle.grib_base.specs.Faults.{IsReadFault}
+use Rattle.grib_base.specs.declared.fault.ReadFault.{ReadFault}
+use Rattle.grib_base.specs.declared.fault.ReadFault.TheVariants.{Refused}
 
 skip_none : (b : Bool) (x : Fault) (rest more last : Option Fault) → cond b (Some x) rest ≡ None → (rest ≡ None → more ≡ last) → cond b (Some x) more ≡ last
 skip_none true x rest more last h go = cc
@@ -38,10 +38,10 @@ module _ (start : ℕ) (first second third : List Row) (first_passed : first_fau
       ap (located start) (first_fault-passed first (second ++ third) first_passed ∙ first_fault-passed second third second_passed)
 
 -- a refusal that `?` made of a row's fault
-pub refused : {V : Type 0} (P : V → Type 0) (r : Result V GridFault) (fault : Fault) (first : Option Fault) → IsErrAnd r (λ e. e ≡ Refused fault) → first ≡ Some fault
-    → MatchResult r P (λ e. IsRefusal e first)
+pub refused : {V : Type 0} (P : V → Type 0) (r : Result V ReadFault) (fault : Fault) (first : Option Fault) → IsErrAnd r (λ e. e ≡ Refused fault) → first ≡ Some fault
+    → MatchResult r P (IsReadFault first)
 refused P (Ok v) fault first h is = absurd h
-refused P (Err e) fault first h is = let Refusal : GridFault → Type 0 = λ e. IsRefusal e first in subst Refusal (sym h) is
+refused P (Err e) fault first h is = let Refusal : ReadFault → Type 0 = IsReadFault first in subst Refusal (sym h) is
 
 -- no refusal of a section is none of the message
 pub none-from_located : (start : ℕ) (o : Option Fault) → located start o ≡ None → o ≡ None

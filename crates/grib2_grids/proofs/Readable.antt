@@ -13,13 +13,13 @@ use Rattle.grib2_grids.specs.Grid.{grid_rows, grid_templates, grid_template, lis
 use Rattle.grib2_grids.specs.Whole.{HasList}
 use Rattle.grib2_grids.specs.Spelled.{IsSectionOf, Spelled, written_length}
 use Rattle.grib2_grids.specs.declared.grid.GridSection.{GridSection}
-use Rattle.grib2_sections.proofs.Octets.{pow_256}
+use Rattle.grib_bits.proofs.Encoding.{pow_256}
 use Rattle.grib2_grids.proofs.Entries.{entry_at, entry_within}
 use Rattle.grib2_grids.proofs.Lists.{row_list-whole, row_list-none, list_start-some}
 use Rattle.grib2_grids.proofs.Passing.{AllPass-from_none, le-from_test, at_most, listed_test, or_right, not_false}
 use Rattle.std.specs.Prelude.{None}
 use Rattle.grib_bits.specs.Octets.{StatesItself}
-use Rattle.grib_io.specs.Rows.{first_fault, first_fault_at}
+use Rattle.grib_base.specs.Rows.{first_fault, first_fault_at}
 use Rattle.grib2_grids.proofs.Parts.{none-from_located}
 
 pub AreOctets-from_All : (s : List ℕ) → All (λ (x : ℕ). x < 256) s → AreOctets s

@@ -4,7 +4,7 @@ use Rattle.std.proofs.lemmas.Bool.{cases_lt}
 use Rattle.std.proofs.lemmas.List.{length-append}
 use Rattle.std.proofs.lemmas.List.FromFn.{fill_by_all}
 use Rattle.std.specs.Prelude.{None}
-use Rattle.grib_io.specs.Rows.{first_fault}
+use Rattle.grib_base.specs.Rows.{first_fault}
 use Rattle.grib2_sections.specs.Template.{least_length, is_template}
 use Rattle.grib2_grids.specs.Grid.{grid_rows, grid_templates, grid_template, grid_source, grid_points, list_octets, list_meaning, list_start, ni, nj, row_list, may_have_list}
 use Rattle.grib2_grids.specs.Whole.{HasList}

@@ -1,7 +1,7 @@
 -- What is said of a written template, by the template.
 use Rattle.std.proofs.Common.{◌≡◌, ℕ, List, ◌++◌, sym, subst}
 use Rattle.grib_bits.specs.Written.{Written}
-use Rattle.grib2_sections.specs.Encoding.{AddsOctets}
+use Rattle.grib_bits.specs.Encoding.{AddsOctets}
 use Rattle.grib2_grids.specs.declared.grid.Grid.{Grid}
 use Rattle.grib2_grids.specs.Spelled.{SpelledTemplate}
 use Rattle.grib2_grids.specs.Written.{header, template_octets}

@@ -2,7 +2,7 @@
 -- grid definition templates 3.0, 3.1, 3.10, 3.20, 3.30 and 3.40).
 use Rattle.std.specs.Prelude.{◌≡◌, ℕ, ◌+◌, ◌*◌, ◌<◌, List, All, length, None}
 use Rattle.grib_bits.specs.Octets.{octets, StatesItself}
-use Rattle.grib_io.specs.Rows.{first_fault}
+use Rattle.grib_base.specs.Rows.{first_fault}
 use Rattle.grib2_sections.specs.Template.{least_length}
 use Rattle.grib2_grids.specs.Grid.{grid_templates, grid_rows, row_list}
 use Rattle.grib2_grids.specs.declared.templates.LatLon.{LatLon}

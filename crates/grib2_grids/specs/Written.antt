@@ -1,7 +1,7 @@
 -- The octets of Section 3 as they are written, part after part.
 use Rattle.std.specs.Prelude.{◌≡◌, ℕ, List, [], ◌∷◌, ◌++◌}
 use Rattle.grib_bits.specs.Octets.{octets}
-use Rattle.grib2_sections.specs.Encoding.{octets_of}
+use Rattle.grib_bits.specs.Encoding.{octets_of}
 use Rattle.grib2_grids.specs.declared.templates.LatLon.{LatLon}
 use Rattle.grib2_grids.specs.declared.templates.Rotation.{Rotation}
 use Rattle.grib2_grids.specs.declared.templates.Mercator.{Mercator}

@@ -1,8 +1,7 @@
 //! What Section 3 holds.
 
 use crate::{Gaussian, Lambert, LatLon, Mercator, Polar, Rotation};
-use grib_io::{Fault, List};
-use std::alloc::AllocError;
+use grib_base::List;
 
 /// A grid by its template.
 #[derive(Clone, Copy, Debug, PartialEq, Eq)]
@@ -36,35 +35,4 @@ pub struct GridSection {
     pub rows: List<u32>,
     /// The template's numbers: octets 13-14, and octet 15 onwards.
     pub grid: Grid,
-}
-
-/// Why Section 3 was not read.
-#[derive(Clone, Copy, Debug, PartialEq, Eq)]
-pub enum GridFault {
-    /// A row of the profile fails.
-    Refused(Fault),
-    /// There is no memory for the list of rows.
-    Memory,
-}
-
-impl From<Fault> for GridFault {
-    ghost use Rattle.std.specs.Prelude.{◌≡◌};
-    ghost use Rattle.grib2_grids.specs.declared.grid.GridFault.TheVariants.{Refused};
-
-    ghost from_gives = { λ fault refused. refused ≡ Refused fault };
-
-    fn from(fault: Fault) -> GridFault {
-        GridFault::Refused(fault)
-    }
-}
-
-impl From<AllocError> for GridFault {
-    ghost use Rattle.std.specs.Prelude.{◌≡◌};
-    ghost use Rattle.grib2_grids.specs.declared.grid.GridFault.TheVariants.{Memory};
-
-    ghost from_gives = { λ _ fault. fault ≡ Memory };
-
-    fn from(_: AllocError) -> GridFault {
-        GridFault::Memory
-    }
 }

@@ -11,7 +11,8 @@ mod templates;
 mod tests;
 mod writing;
 
-pub use grid::{Grid, GridFault, GridSection};
+pub use grib_base::ReadFault as GridFault;
+pub use grid::{Grid, GridSection};
 pub use reading::read_grid;
 pub use templates::{Gaussian, Lambert, LatLon, Mercator, Polar, Rotation};
 pub use writing::write_grid;

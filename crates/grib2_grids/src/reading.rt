@@ -1,19 +1,19 @@
 //! Reading Section 3.
 
 ghost use Rattle.std.specs.Prelude.{◌≡◌, ◌≢◌, ◌≤◌, length, Some, None, Err, MatchResult};
-ghost use Rattle.grib_bits.specs.Octets.{octets as octets_of, StatesItself};
-ghost use Rattle.grib_io.specs.Rows.{first_fault_at};
+ghost use Rattle.grib_bits.specs.Octets.{octets as octets_of};
+ghost use Rattle.grib_base.specs.Rows.{first_fault_at};
 ghost use Rattle.grib2_grids.specs.Grid.{grid_rows, list_octets};
 ghost use Rattle.grib2_grids.specs.Whole.{IsWhole};
-ghost use Rattle.grib2_grids.specs.Refused.{IsRefusal};
+ghost use Rattle.grib_base.specs.Faults.{IsReadFault};
 ghost use Rattle.grib2_grids.specs.Spelled.{Spelled, SpelledTemplate, template_of, SpelledCommon, SpelledLatLon, SpelledRotation, SpelledMercator, SpelledPolar, SpelledLambert, SpelledGaussian};
 
 use crate::row_list::read_list;
 use crate::rows::{check_head, check_list, check_points};
 use crate::templates::{Common, template};
-use crate::{Gaussian, Grid, GridFault, GridSection, Lambert, LatLon, Mercator, Polar, Rotation};
-use grib_io::{List, Section};
-use grib2_sections::{u8_at, u16_at, u32_at};
+use crate::{Gaussian, Grid, GridSection, Lambert, LatLon, Mercator, Polar, ReadFault, Rotation};
+use grib_base::{List, Section};
+use grib_bits::{u8_at, u16_at, u32_at};
 use std::alloc::Global;
 
 /// Reads Section 3.
@@ -23,16 +23,12 @@ use std::alloc::Global;
 /// The first row of the profile that fails: the section is too short, has a grid that the profile
 /// does not have or a list of rows of another shape, or states another number of points than it has.
 /// Or there is no memory for the list of rows, where there is one.
-pub fn read_grid(alloc: Global, section: &Section<'_>) -> Result<GridSection, GridFault>
-    requires itself { StatesItself section.now.number section.now.octets.now }
-    requires low { 1 ≤ section.now.start }
-    requires high { section.now.start ≤ 268435456 }
+pub fn read_grid(alloc: Global, section: &Section<'_>) -> Result<GridSection, ReadFault>
     ensures rows { MatchResult result
         (λ value. (first_fault_at section.now.start (grid_rows section.now.octets.now) ≡ None)
         × Spelled value section.now.octets.now)
-        (λ fault. IsRefusal fault
-        (first_fault_at section.now.start (grid_rows section.now.octets.now))) }
-    ensures memory { list_octets section.now.octets.now ≡ 0 → result ≢ Err GridFault.Memory }
+        (IsReadFault (first_fault_at section.now.start (grid_rows section.now.octets.now))) }
+    ensures memory { list_octets section.now.octets.now ≡ 0 → result ≢ Err ReadFault.Memory }
 {
     let octets = section.octets;
     check_head(section)?;

@@ -7,7 +7,7 @@ ghost use Rattle.grib2_grids.specs.Grid.{list_octets, row_list};
 ghost use Rattle.grib2_grids.specs.Whole.{HasList};
 
 use crate::rows::list_start;
-use grib2_sections::{u8_at, u16_at, u32_at, uint_at};
+use grib_bits::{u8_at, u16_at, u32_at, uint_at};
 use std::alloc::{AllocError, Global};
 
 /// The list of rows, empty where octet 11 is 0.

@@ -1,15 +1,15 @@
 //! The rows of the profile that decide whether Section 3 is accepted.
 
 ghost use Rattle.std.specs.Prelude.{◌≡◌, ◌+◌, ◌-◌, ◌*◌, ◌<◌, ◌≤◌, ◌^◌, ◌==◌, true, false, if◌then◌else◌, length, take, drop, sum, Some, None, MatchResult, MatchOption, OnOk};
-ghost use Rattle.grib_io.specs.Rows as rows;
-ghost use Rattle.grib_io.specs.Rows.{first_fault, first_fault_at, fault_at};
+ghost use Rattle.grib_base.specs.Rows as rows;
+ghost use Rattle.grib_base.specs.Rows.{first_fault, first_fault_at, fault_at};
 ghost use Rattle.grib2_sections.specs.Template.{is_template, least_length as least_of};
 ghost use Rattle.grib2_grids.specs.Grid as grid;
 ghost use Rattle.grib2_grids.specs.Grid.{grid_rows, grid_templates, row_list};
 ghost use Rattle.grib2_grids.specs.Whole.{IsWhole, HasList};
 
-use grib_io::{Fault, Reason, Section};
-use grib2_sections::{refusal_in, u8_at, u16_at, u32_at};
+use grib_base::{Fault, Reason, Section};
+use grib_bits::{u8_at, u16_at, u32_at};
 
 /// The least length in octets of a section with this template, if the profile has it.
 fn least_length(template: u16) -> Option<usize>
@@ -35,8 +35,6 @@ pub(crate) fn list_start(template: u16) -> usize
 
 /// Rows S3.1 to S3.5: the source, the template, the length and the number of points.
 pub(crate) fn check_head(section: &Section<'_>) -> Result<(), Fault>
-    requires low { 1 ≤ section.now.start }
-    requires high { section.now.start ≤ 268435456 }
     ensures rows { MatchResult result
         (λ _. first_fault (take 5 (grid_rows section.now.octets.now)) ≡ None)
         (λ fault. first_fault_at section.now.start (take 5 (grid_rows section.now.octets.now))
@@ -46,29 +44,28 @@ pub(crate) fn check_head(section: &Section<'_>) -> Result<(), Fault>
     let octets = section.octets;
     let length = octets.len();
     if length < 14 {
-        return Err(refusal_in(section, 1, Reason::SectionLength, length as u64));
+        return Err(section.fault_at(1, Reason::SectionLength, length as u64));
     }
     let source = u8_at(octets, 6);
     if source != 0 {
-        return Err(refusal_in(section, 6, Reason::GridSource, u64::from(source)));
+        return Err(section.fault_at(6, Reason::GridSource, u64::from(source)));
     }
     let template = u16_at(octets, 13);
     let Some(least) = least_length(template) else {
-        return Err(refusal_in(section, 13, Reason::GridTemplate, u64::from(template)));
+        return Err(section.fault_at(13, Reason::GridTemplate, u64::from(template)));
     };
     if length < least {
-        return Err(refusal_in(section, 1, Reason::SectionLength, length as u64));
+        return Err(section.fault_at(1, Reason::SectionLength, length as u64));
     }
     let points = u32_at(octets, 7);
     if points == 0 || points > 33_554_432 {
-        return Err(refusal_in(section, 7, Reason::PointCount, u64::from(points)));
+        return Err(section.fault_at(7, Reason::PointCount, u64::from(points)));
     }
     Ok(())
 }
 
 /// Rows S3.6 to S3.9: the list of rows, where there is one.
 pub(crate) fn check_list(section: &Section<'_>) -> Result<(), Fault>
-    requires high { section.now.start ≤ 268435456 }
     requires long { 65 ≤ length section.now.octets.now }
     ensures rows { MatchResult result
         (λ _. first_fault (take 4 (drop 5 (grid_rows section.now.octets.now))) ≡ None)
@@ -83,26 +80,25 @@ pub(crate) fn check_list(section: &Section<'_>) -> Result<(), Fault>
     }
     let meaning = u8_at(octets, 12);
     if meaning != 1 && meaning != 2 {
-        return Err(refusal_in(section, 12, Reason::ListShape, u64::from(meaning)));
+        return Err(section.fault_at(12, Reason::ListShape, u64::from(meaning)));
     }
     let template = u16_at(octets, 13);
     if size > 4 || !may_have_list(template) {
-        return Err(refusal_in(section, 11, Reason::ListShape, u64::from(size)));
+        return Err(section.fault_at(11, Reason::ListShape, u64::from(size)));
     }
     let nj = u32_at(octets, 35);
     if nj == 0 || nj == u32::MAX {
-        return Err(refusal_in(section, 35, Reason::ListShape, u64::from(nj)));
+        return Err(section.fault_at(35, Reason::ListShape, u64::from(nj)));
     }
     let first = list_start(template) as u64;
     if first - 1 + u64::from(size) * u64::from(nj) > octets.len() as u64 {
-        return Err(refusal_in(section, first, Reason::ListShape, u64::from(nj)));
+        return Err(section.fault_at(first, Reason::ListShape, u64::from(nj)));
     }
     Ok(())
 }
 
 /// Rows S3.10 and S3.11: the number of points, by the list of rows or else by Ni and Nj.
 pub(crate) fn check_points(section: &Section<'_>, rows: &[u32]) -> Result<(), Fault>
-    requires high { section.now.start ≤ 268435456 }
     requires long { 65 ≤ length section.now.octets.now }
     requires few { length rows.now < 2 ^ 32 }
     requires rows { rows.now ≡ row_list section.now.octets.now }
@@ -119,7 +115,7 @@ pub(crate) fn check_points(section: &Section<'_>, rows: &[u32]) -> Result<(), Fa
         total(rows)
     };
     if stated != points {
-        return Err(refusal_in(section, 7, Reason::PointCount, stated));
+        return Err(section.fault_at(7, Reason::PointCount, stated));
     }
     Ok(())
 }

@@ -3,14 +3,13 @@
 
 ghost use Rattle.std.specs.Prelude.{◌≡◌, None, IfOk};
 ghost use Rattle.grib_bits.specs.Octets.{StatesItself};
-ghost use Rattle.grib_io.specs.Rows.{first_fault_at};
+ghost use Rattle.grib_base.specs.Rows.{first_fault_at};
 ghost use Rattle.grib2_grids.specs.Grid.{grid_rows};
 ghost use Rattle.grib2_grids.specs.Spelled.{Spelled};
 
 use super::*;
-use grib_bits::BitWriter;
-use grib_io::{Fault, Reason, Section};
-use grib2_sections::{u8_at, u32_at};
+use grib_base::{Fault, Reason, Section};
+use grib_bits::{BitWriter, u8_at, u32_at};
 use std::alloc::{AllocError, Global};
 use std::process::Abort;
 use std::test::Fail;
@@ -128,7 +127,7 @@ fn numbered(alloc: Global, template: u8, length: u8) -> Result<Vec<u8>, AllocErr
 }
 
 /// Reads a section that begins at octet 38 of its message, and sees first that it is one.
-fn read(rt: &impl Abort, alloc: Global, octets: &[u8]) -> Result<GridSection, GridFault>
+fn read(rt: &impl Abort, alloc: Global, octets: &[u8]) -> Result<GridSection, ReadFault>
     ensures itself { StatesItself 3 octets.now }
     ensures rows { IfOk result (λ value. (first_fault_at 38 (grid_rows octets.now) ≡ None)
         × Spelled value octets.now) }
@@ -292,7 +291,7 @@ fn sections_are_refused(rt: HostRuntime) -> Result<(), Fail> {
         put_length(&rt, &mut octets);
         put(&mut octets, at, new);
         let refused = read(&rt, rt.alloc(), octets.as_slice()).err();
-        assert_eq!(rt; refused, Some(GridFault::Refused(fault)));
+        assert_eq!(rt; refused, Some(ReadFault::Refused(fault)));
     }
     Ok(())
 }

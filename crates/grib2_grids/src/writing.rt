@@ -1,7 +1,7 @@
 //! Writing Section 3.
 
 ghost use Rattle.std.specs.Prelude.{◌≡◌, ℕ, ◌*◌, ◌%◌, ◌^◌, ◌<◌, ◌≤◌, List, ◌++◌, length, slice_index};
-ghost use Rattle.grib2_sections.specs.Encoding.{AddsOctets};
+ghost use Rattle.grib_bits.specs.Encoding.{AddsOctets};
 ghost use Rattle.grib2_grids.specs.declared.templates.LatLon.{LatLon};
 ghost use Rattle.grib2_sections.specs.Template.{least_length};
 ghost use Rattle.grib2_grids.specs.Grid.{grid_templates};
@@ -10,8 +10,7 @@ ghost use Rattle.grib2_grids.specs.Written.{header, SpelledHeader, template_octe
 
 use crate::templates::{Common, common_of, template};
 use crate::{Gaussian, Grid, GridSection, Lambert, LatLon, Mercator, Polar, Rotation};
-use grib_bits::BitWriter;
-use grib2_sections::{write_number, write_u8, write_u16, write_u32};
+use grib_bits::{BitWriter, write_number, write_u8, write_u16, write_u32};
 
 /// Writes Section 3 without surplus, as the value was read, so that reading the octets gives the
 /// value again. The writer has the memory already.

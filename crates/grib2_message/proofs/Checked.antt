@@ -1,13 +1,13 @@
 -- The refusal of the next section by its number, and what the code knows of those before.
 use Rattle.std.proofs.Common.{◌≡◌, ℕ, ◌+◌, ◌≤◌, Bool, Option, Some, None, Result, List, length, get_or, sym, ap, ◌∙◌, arith, subst}
-use Rattle.grib_io.specs.declared.fault.Fault.{Fault}
+use Rattle.grib_base.specs.declared.fault.Fault.{Fault}
 use Rattle.grib_bitmap.specs.Mask.{present_count}
 use Rattle.grib2_sections.specs.Frame.{Placed, placed_at, section_at}
 use Rattle.grib2_message.specs.Acceptance.{section_fault, contents_faults, no_rows}
 use Rattle.grib2_message.specs.Kept.{StandsAt, AreSound, begun, HasPlaces, Comes, KeepsBitmap, TellsBitmap}
 use Rattle.grib2_message.specs.View.{last_number, section_count}
-use Rattle.grib2_message.specs.ReadFaults.{AreTried}
-use Rattle.grib2_message.specs.declared.fault.ReadFault.{ReadFault}
+use Rattle.grib_base.specs.Faults.{AreTried}
+use Rattle.grib_base.specs.declared.fault.ReadFault.{ReadFault}
 use Rattle.grib2_message.specs.declared.places.Bitmap.{Bitmap}
 use Rattle.grib2_message.specs.declared.places.Places.{Places}
 use Rattle.grib2_message.proofs.InForce.{in_force_stands}

@@ -1,7 +1,7 @@
 -- What is accepted rests on the octets of the message alone.
 use Rattle.std.proofs.Common.{◌≡◌, ◌≢◌, ℕ, zero, suc, ◌+◌, ◌-◌, ◌≤◌, true, false, None, List, [], ◌∷◌, length, take, ◌==◌, inl, inr, sym, ap, ◌∙◌, arith, length-take-le}
 use Rattle.grib_bits.specs.Octets.{octets}
-use Rattle.grib_io.specs.Rows.{first_fault}
+use Rattle.grib_base.specs.Rows.{first_fault}
 use Rattle.grib2_sections.specs.Verdict.{Accepted}
 use Rattle.grib2_sections.specs.Head.{edition, total_length, head_rows}
 use Rattle.grib2_sections.specs.Frame.{Placed, placed_at, section_at, ends_at}

@@ -7,7 +7,7 @@ use Rattle.grib_bits.specs.Bits.{digit}
 use Rattle.grib_bits.specs.Octets.{num_on, octets}
 use Rattle.grib_bits.proofs.OctetBits.{AreOctets}
 use Rattle.grib_bits.proofs.OctetNumbers.{AreOctets-drop, AreOctets-octet_list}
-use Rattle.grib_io.specs.Rows.{first_fault, choose}
+use Rattle.grib_base.specs.Rows.{first_fault, choose}
 use Rattle.grib_bitmap.specs.Mask.{bitmap_indicator, bitmap_rows, mask_of, own_mask}
 use Rattle.grib_packing.specs.Packing.{value_count}
 use Rattle.grib2_grids.specs.Grid.{grid_points}

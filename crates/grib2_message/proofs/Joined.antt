@@ -4,7 +4,7 @@ use Rattle.std.specs.List.{concat}
 use Rattle.std.proofs.lemmas.Bool.{and_left, and_right, or_from, not_from_true}
 use Rattle.std.proofs.lemmas.List.{take-append-le, drop-append-le}
 use Rattle.grib_bits.specs.Octets.{octets, num_on}
-use Rattle.grib_io.specs.Rows.{first_fault}
+use Rattle.grib_base.specs.Rows.{first_fault}
 use Rattle.grib2_sections.specs.Verdict.{Accepted}
 use Rattle.grib2_sections.specs.Head.{total_length, end_mark}
 use Rattle.grib2_sections.specs.Frame.{Placed, placed_at, section_at, section_length, section_number, may_follow, may_end, ends_at, mark_rows, frame_rows}

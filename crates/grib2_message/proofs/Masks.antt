@@ -4,7 +4,7 @@ use Rattle.std.proofs.lemmas.Bool.{not-false, cases_eq, or_parts, eqb-false}
 use Rattle.std.proofs.lemmas.List.{length-replicate}
 use Rattle.grib_bits.specs.Bits.{bits}
 use Rattle.grib_bits.proofs.OctetBits.{length-bits}
-use Rattle.grib_io.specs.Rows.{first_fault}
+use Rattle.grib_base.specs.Rows.{first_fault}
 use Rattle.grib2_grids.specs.Grid.{grid_rows, grid_points}
 use Rattle.grib_bitmap.specs.Mask.{bitmap_indicator, bitmap_rows, mask_of, own_mask, present_count}
 use Rattle.grib_packing.specs.declared.column.Point.{Point}

@@ -2,7 +2,7 @@
 use Rattle.std.proofs.Common.{◌≡◌, ◌≢◌, ℕ, zero, suc, ◌+◌, ◌≤◌, false, List, [], ◌∷◌, ◌++◌, length, take, inl, inr, sym, ap, ◌∙◌, arith, append_assoc, length-append, take_at}
 use Rattle.std.proofs.lemmas.List.{take-append-le}
 use Rattle.std.specs.List.{concat}
-use Rattle.grib_io.specs.Rows.{first_fault}
+use Rattle.grib_base.specs.Rows.{first_fault}
 use Rattle.grib2_sections.specs.Verdict.{Accepted}
 use Rattle.grib2_sections.specs.Head.{indicator, end_mark, edition, total_length, head_rows}
 use Rattle.grib2_sections.specs.Frame.{Placed, section_at, ends_at}

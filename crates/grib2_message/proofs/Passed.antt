@@ -1,7 +1,7 @@
 -- Rows that do not refuse, and what follows a verdict that accepts.
 use Rattle.std.proofs.Common.{◌≡◌, ℕ, Bool, true, false, cond, ◌⊎◌, Option, Some, None, List, [], ◌∷◌, refl, inl, inr}
-use Rattle.grib_io.specs.declared.fault.Fault.{Fault}
-use Rattle.grib_io.specs.Rows.{Row, first_fault, choose}
+use Rattle.grib_base.specs.declared.fault.Fault.{Fault}
+use Rattle.grib_base.specs.Rows.{Row, first_fault, choose}
 use Rattle.grib2_sections.specs.Verdict.{Verdict, Accepted}
 use Rattle.grib2_message.specs.Acceptance.{unless_refused}
 

@@ -3,13 +3,13 @@ use Rattle.std.proofs.Common.{◌≡◌, ℕ, suc, ◌+◌, ◌≤◌, Some, Non
 use Rattle.std.specs.List.{concat, count_by}
 use Rattle.std.proofs.lemmas.List.{take-append-le}
 use Rattle.grib2_sections.specs.Head.{end_mark, total_length}
-use Rattle.grib2_sections.specs.Encoding.{octets_of}
+use Rattle.grib_bits.specs.Encoding.{octets_of}
 use Rattle.grib2_sections.specs.Frame.{Placed}
-use Rattle.grib2_sections.proofs.Octets.{length-octets_of, num_on-octets_of, octets-within}
+use Rattle.grib_bits.proofs.Encoding.{length-octets_of, num_on-octets_of, octets-within}
 use Rattle.grib2_grids.specs.Grid.{grid_points}
 use Rattle.grib_bitmap.specs.Mask.{mask_of}
 use Rattle.grib_packing.specs.Entries.{column_from}
-use Rattle.grib_simple.specs.declared.written.Packed.{Packed}
+use Rattle.grib_packing.specs.declared.written.Packed.{Packed}
 use Rattle.grib2_message.specs.View.{is_numbered, points_in_force}
 use Rattle.grib2_message.specs.Acceptance.{verdict_2}
 use Rattle.grib2_message.specs.Grammar.{Grammar2}

@@ -3,9 +3,9 @@ use Rattle.std.proofs.Common.{◌≡◌, ◌≢◌, ℕ, zero, suc, ◌+◌, ◌
 use Rattle.std.proofs.lemmas.Bool.{and_right, not-false, not_from_false}
 use Rattle.std.proofs.lemmas.List.{drop-take}
 use Rattle.grib_bits.specs.Octets.{num_on, octets, octet_list}
-use Rattle.grib_io.specs.declared.fault.Fault.{Fault}
-use Rattle.grib_io.specs.declared.fault.Reason.TheVariants.{Truncated, Edition, TotalLength, SectionLength, SectionOrder, LengthDisagrees, EndMark}
-use Rattle.grib_io.specs.Rows.{row, refusal, first_fault, choose}
+use Rattle.grib_base.specs.declared.fault.Fault.{Fault}
+use Rattle.grib_base.specs.declared.fault.Reason.TheVariants.{Truncated, Edition, TotalLength, SectionLength, SectionOrder, LengthDisagrees, EndMark}
+use Rattle.grib_base.specs.Rows.{row, refusal, first_fault, choose}
 use Rattle.grib2_sections.specs.Verdict.{Verdict, Accepted, Refused}
 use Rattle.grib2_sections.specs.Head.{edition, total_length, total_length_1, head_rows}
 use Rattle.grib2_sections.specs.Frame.{Placed, placed_at, section_at, ends_at, may_follow, may_end, mark_rows, frame_rows, Step, End, Fails, Next, unless_fails, step}

@@ -1,12 +1,12 @@
 -- One step of the walk that decides acceptance.
 use Rattle.std.proofs.Common.{◌≡◌, ℕ, suc, ◌+◌, Bool, true, false, ◌⊎◌, Option, Some, None, List, ◌∷◌, length, refl, sym, ◌∙◌, inl, inr}
-use Rattle.grib_io.specs.declared.fault.Fault.{Fault}
+use Rattle.grib_base.specs.declared.fault.Fault.{Fault}
 use Rattle.grib2_sections.specs.Verdict.{Verdict, Accepted}
 use Rattle.grib2_sections.specs.Head.{total_length}
 use Rattle.grib2_sections.specs.Frame.{Placed, placed_at, section_at, ends_at, mark_rows, frame_rows, End, Next, unless_fails}
 use Rattle.grib2_message.specs.View.{last_number}
 use Rattle.grib2_message.specs.Acceptance.{verdict_from, verdict_at, section_fault, unless_refused}
-use Rattle.grib_io.specs.Rows.{first_fault, choose}
+use Rattle.grib_base.specs.Rows.{first_fault, choose}
 use Rattle.grib2_message.proofs.Passed.{AllPass, passes_from_none, at_mark, mark_tells, unless_tells}
 
 -- the section at octet q

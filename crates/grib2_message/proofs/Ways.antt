@@ -5,8 +5,8 @@ use Rattle.std.proofs.lemmas.Bool.{cases_eq}
 use Rattle.std.proofs.lemmas.List.Sums.{sum_by-cons}
 use Rattle.grib_bits.specs.Bits.{digit}
 use Rattle.grib_bits.specs.Octets.{octets, num_on, StatesItself}
-use Rattle.grib_io.specs.declared.fault.Fault.{Fault}
-use Rattle.grib_io.specs.Rows.{first_fault, choose}
+use Rattle.grib_base.specs.declared.fault.Fault.{Fault}
+use Rattle.grib_base.specs.Rows.{first_fault, choose}
 use Rattle.grib2_sections.specs.Verdict.{Verdict, Accepted, Refused}
 use Rattle.grib2_sections.specs.Head.{edition, total_length, head_rows}
 use Rattle.grib2_sections.specs.Frame.{Placed, placed_at, Position, position_after, section_at, section_number, ends_at, may_follow, mark_rows, frame_rows, Step, End, Fails, Next, unless_fails, step, step_from}
@@ -14,9 +14,10 @@ use Rattle.grib2_message.specs.View.{is_numbered, last_number, section_count}
 use Rattle.grib2_message.specs.Acceptance.{section_fault, unless_refused, verdict_at, verdict_from, verdict_2}
 use Rattle.grib2_message.specs.Fields.{sections_from, field_count, sections_up_to_field, field_sections}
 use Rattle.grib2_message.specs.Kept.{Comes}
-use Rattle.grib2_message.specs.ReadFaults.{IsReadFault, IsVerdict}
-use Rattle.grib2_message.specs.declared.fault.ReadFault.{ReadFault}
-use Rattle.grib2_message.specs.declared.fault.ReadFault.TheVariants.{Refused as ReadRefused, Memory as ReadMemory}
+use Rattle.grib_base.specs.Faults.{IsReadFault}
+use Rattle.grib2_sections.specs.Refused.{IsVerdict}
+use Rattle.grib_base.specs.declared.fault.ReadFault.{ReadFault}
+use Rattle.grib_base.specs.declared.fault.ReadFault.TheVariants.{Refused as ReadRefused, Memory as ReadMemory}
 use Rattle.grib2_message.proofs.Passed.{passes_from_none, unless_none}
 use Rattle.grib2_message.proofs.Parts.{from, fifth_at, section_is, front_number}
 use Rattle.grib2_message.proofs.Walk.{mark_passes, frame_passes, FramePasses, stands}

@@ -2,9 +2,9 @@
 -- GRIB edition 2, in the profile of docs/PROFILE.md): the rows of Section 0, then, for each section in
 -- turn, the rows of its frame and those of its contents. The first row that fails gives the refusal.
 use Rattle.std.specs.Prelude.{ℕ, zero, suc, ◌+◌, Option, Some, None, List, [], ◌∷◌, length, get_or}
-use Rattle.grib_io.specs.declared.fault.Fault.{Fault}
-use Rattle.grib_io.specs.declared.fault.Reason.TheVariants.{Truncated}
-use Rattle.grib_io.specs.Rows.{first_fault, first_fault_at, located, refusal}
+use Rattle.grib_base.specs.declared.fault.Fault.{Fault}
+use Rattle.grib_base.specs.declared.fault.Reason.TheVariants.{Truncated}
+use Rattle.grib_base.specs.Rows.{first_fault, first_fault_at, located, refusal}
 use Rattle.grib2_sections.specs.Verdict.{Verdict, Accepted, Refused}
 use Rattle.grib2_sections.specs.Head.{head_rows, total_length}
 use Rattle.grib2_sections.specs.Frame.{Placed, placed_at, section_number, Step, End, Fails, Next, step}

@@ -3,15 +3,15 @@
 use Rattle.std.specs.Prelude.{◌≡◌, ◌⊎◌, ℕ, ◌+◌, ◌≤◌, ◌<◌, ◌^◌, Bool, cond, Option, Some, None, List, [], ◌∷◌, ◌++◌, length, take, drop, slice_get, ◌==◌}
 use Rattle.std.specs.List.{concat}
 use Rattle.grib_bits.specs.Octets.{StatesItself}
-use Rattle.grib_io.specs.Rows.{first_fault}
-use Rattle.grib2_sections.specs.Encoding.{octets_of}
+use Rattle.grib_base.specs.Rows.{first_fault}
+use Rattle.grib_bits.specs.Encoding.{octets_of}
 use Rattle.grib2_sections.specs.Head.{end_mark}
 use Rattle.grib2_sections.specs.Frame.{Placed, section_number}
 use Rattle.grib2_grids.specs.Grid.{grid_points}
 use Rattle.grib_bitmap.specs.Mask.{bitmap_indicator, bitmap_rows}
 use Rattle.grib_packing.specs.Packing.{value_count}
 use Rattle.grib_packing.specs.Entries.{packing_fault, data_fault}
-use Rattle.grib_simple.specs.declared.written.Packed.{Packed}
+use Rattle.grib_packing.specs.declared.written.Packed.{Packed}
 use Rattle.grib2_message.specs.View.{is_numbered}
 use Rattle.grib2_message.specs.Fields.{sections_of, field_count, part_octets}
 use Rattle.grib2_message.specs.Message.{IsMessage}

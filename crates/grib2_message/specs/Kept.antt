@@ -3,9 +3,9 @@ use Rattle.std.specs.Prelude.{◌≡◌, ◌≢◌, ℕ, ◌+◌, ◌-◌, ◌�
 use Rattle.std.specs.Option.{option_map_or}
 use Rattle.grib_bits.specs.Bits.{digit}
 use Rattle.grib_bits.specs.Octets.{octets, StatesItself}
-use Rattle.grib_io.specs.declared.fault.Fault.{Fault}
-use Rattle.grib_io.specs.declared.fault.Reason.TheVariants.{NoEarlierBitmap, BitmapSize}
-use Rattle.grib_io.specs.Rows.{row, first_fault}
+use Rattle.grib_base.specs.declared.fault.Fault.{Fault}
+use Rattle.grib_base.specs.declared.fault.Reason.TheVariants.{NoEarlierBitmap, BitmapSize}
+use Rattle.grib_base.specs.Rows.{row, first_fault}
 use Rattle.grib2_sections.specs.Head.{total_length}
 use Rattle.grib2_sections.specs.Frame.{Placed, section_at, section_number, may_follow}
 use Rattle.grib2_sections.specs.Identification.{identification_rows}

@@ -3,7 +3,8 @@ pub mod Acceptance
 pub mod Grammar
 pub mod Fields
 pub mod Message
-pub mod ReadFaults
+pub use Rattle.grib_base.specs.Faults
+pub use Rattle.grib2_sections.specs.Refused
 pub mod Kept
 pub mod Assembled
 pub use Rattle.grib2_grids.specs.Grid

@@ -1,6 +1,6 @@
 -- A message of edition 2 as a whole.
 use Rattle.std.specs.Prelude.{◌≡◌, ℕ, None, List, length, take}
-use Rattle.grib_io.specs.Rows.{first_fault}
+use Rattle.grib_base.specs.Rows.{first_fault}
 use Rattle.grib2_sections.specs.Verdict.{Accepted}
 use Rattle.grib2_sections.specs.Head.{indicator, edition}
 use Rattle.grib2_sections.specs.Identification.{identification_rows}

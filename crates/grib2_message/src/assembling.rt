@@ -2,14 +2,14 @@
 
 ghost use Rattle.std.specs.Prelude.{◌≡◌, ◌≢◌, ◌++◌, ◌==◌, cond, length, drop, All, IfOk, MatchOption};
 ghost use Rattle.grib_bits.specs.Octets.{StatesItself};
-ghost use Rattle.grib_io.specs.declared.fault.Fault.{Fault};
+ghost use Rattle.grib_base.specs.declared.fault.Fault.{Fault};
 ghost use Rattle.grib2_sections.specs.Frame.{End, Fails, Next, step_from, position_after};
 ghost use Rattle.grib2_message.specs.Assembled as definitions;
 ghost use Rattle.grib2_message.specs.Assembled.{assembled, assembled_body, IsShort};
 ghost use Rattle.grib2_message.specs.Message.{IsMessage};
 
-use grib_io::Section;
-use grib_simple::Packed;
+use grib_base::Section;
+use grib_packing::Packed;
 use grib2_sections::Frame;
 use std::alloc::{AllocError, Global};
 
@@ -81,7 +81,6 @@ fn next_section<'a>(frame: &mut Frame, octets: &'a [u8]) -> Option<Section<'a>>
 
 /// What stands in place of this section, where the first of these parts is that of its field.
 fn in_place<'a>(parts: &'a [Packed], section: &Section<'a>) -> &'a [u8]
-    requires { StatesItself section.now.number section.now.octets.now }
     ensures { result.now ≡ definitions.in_place parts.now section.now.octets.now }
 {
     let Some(part) = parts.first() else {

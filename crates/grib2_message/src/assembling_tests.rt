@@ -8,9 +8,8 @@ use crate::tests::{
     FOUR_NUMBERS, GRID, IDENTIFICATION, NO_BITMAP, OWN_BITMAP, PRODUCT, SAME_BITMAP, THREE_NUMBERS,
     holds, message, plain, read,
 };
-use grib_io::List;
-use grib_packing::Point;
-use grib_simple::Packed;
+use grib_base::List;
+use grib_packing::{Packed, Point};
 use std::alloc::{AllocError, Global};
 use std::test::Fail;
 

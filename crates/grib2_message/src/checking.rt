@@ -2,22 +2,21 @@
 
 ghost use Rattle.std.specs.Prelude.{◌≡◌, ◌+◌, ◌*◌, ◌≤◌, ◌==◌, nat_lt, not, List, [], ◌∷◌, Bool, Option, None, length, unwrap_or, MatchResult};
 ghost use Rattle.grib_bits.specs.Octets.{StatesItself};
-ghost use Rattle.grib_io.specs.Rows.{first_fault, first_fault_at, located, row};
+ghost use Rattle.grib_base.specs.Rows.{first_fault, first_fault_at, located, row};
 ghost use Rattle.grib2_grids.specs.Grid.{grid_rows};
 ghost use Rattle.grib2_products.specs.Product.{product_rows};
 ghost use Rattle.grib_bitmap.specs.Mask.{bitmap_rows, present_count};
 ghost use Rattle.grib_packing.specs.Entries.{packing_fault, data_fault};
 ghost use Rattle.grib2_sections.specs.Identification.{identification_rows};
-ghost use Rattle.grib_io.specs.declared.fault.Reason.TheVariants.{ValueCount, DataTooShort};
+ghost use Rattle.grib_base.specs.declared.fault.Reason.TheVariants.{ValueCount, DataTooShort};
 ghost use Rattle.grib2_message.specs.Kept.{TellsBitmap, earlier_fault};
-ghost use Rattle.grib2_message.specs.ReadFaults.{AreTried, IsReadFault};
+ghost use Rattle.grib_base.specs.Faults.{AreTried, IsReadFault};
 
-use crate::ReadFault;
 use crate::places::Bitmap;
+use grib_base::{Fault, ReadFault, Reason, Section};
 use grib_bitmap::read_mask;
 use grib_complex::{Nothing, read_complex, take_values};
-use grib_io::{Fault, Reason, Section};
-use grib_simple::read_simple;
+use grib_packing::read_simple;
 use grib2_grids::read_grid;
 use grib2_products::read_product;
 use grib2_sections::read_identification;
@@ -28,9 +27,6 @@ const MOST_FIELDS: usize = 4096;
 
 /// Tries the row of Section 1.
 pub(crate) fn check_identification(section: &Section<'_>) -> Result<(), ReadFault>
-    requires itself { StatesItself section.now.number section.now.octets.now }
-    requires low { 1 ≤ section.now.start }
-    requires high { section.now.start ≤ 268435456 }
     ensures { AreTried (first_fault_at section.now.start
         (identification_rows section.now.octets.now)) result }
 {
@@ -40,9 +36,6 @@ pub(crate) fn check_identification(section: &Section<'_>) -> Result<(), ReadFaul
 
 /// Tries the rows of Section 3.
 pub(crate) fn check_grid(alloc: Global, section: &Section<'_>) -> Result<(), ReadFault>
-    requires itself { StatesItself section.now.number section.now.octets.now }
-    requires low { 1 ≤ section.now.start }
-    requires high { section.now.start ≤ 268435456 }
     ensures { AreTried (first_fault_at section.now.start
         (grid_rows section.now.octets.now)) result }
 {
@@ -56,9 +49,6 @@ pub(crate) fn check_product(
     fields: usize,
     section: &Section<'_>,
 ) -> Result<(), ReadFault>
-    requires itself { StatesItself section.now.number section.now.octets.now }
-    requires low { 1 ≤ section.now.start }
-    requires high { section.now.start ≤ 268435456 }
     ensures { AreTried (first_fault_at section.now.start
         (product_rows section.now.octets.now (fields + 1))) result }
 {
@@ -75,9 +65,6 @@ pub(crate) fn check_product(
 
 /// Tries the rows of a Section 5, where the grid in force has so many points.
 pub(crate) fn check_representation(section: &Section<'_>, points: u32) -> Result<(), ReadFault>
-    requires itself { StatesItself section.now.number section.now.octets.now }
-    requires low { 1 ≤ section.now.start }
-    requires high { section.now.start ≤ 268435456 }
     ensures { AreTried (located section.now.start
         (packing_fault section.now.octets.now points)) result }
 {
@@ -97,9 +84,6 @@ pub(crate) fn check_bitmap(
     values: u32,
     earlier: Option<Bitmap>,
 ) -> Result<(), ReadFault>
-    requires itself { StatesItself section.now.number section.now.octets.now }
-    requires low { 1 ≤ section.now.start }
-    requires high { section.now.start ≤ 268435456 }
     ensures { (mask : Option (List Bool)) → TellsBitmap earlier mask
         → AreTried (first_fault_at section.now.start
         (bitmap_rows section.now.octets.now points values mask)) result }
@@ -122,7 +106,6 @@ fn check_earlier(
     points: u32,
     earlier: Option<Bitmap>,
 ) -> Result<u32, ReadFault>
-    requires high { section.now.start ≤ 268435456 }
     ensures { (mask : Option (List Bool)) → TellsBitmap earlier mask → MatchResult result
         (λ present. (earlier_fault points mask ≡ None)
         × (present ≡ present_count (unwrap_or mask [])))
@@ -144,7 +127,6 @@ fn check_earlier(
 
 /// Tries the last row of Section 6: as many points are present as there are values.
 fn check_count(section: &Section<'_>, present: u32, values: u32) -> Result<(), ReadFault>
-    requires high { section.now.start ≤ 268435456 }
     ensures { AreTried (located section.now.start
         (first_fault (row (not (present == values)) 6 ValueCount present ∷ []))) result }
 {
@@ -166,12 +148,6 @@ pub(crate) fn check_values(
     points: u32,
     section7: &Section<'_>,
 ) -> Result<(), ReadFault>
-    requires itself_5 { StatesItself section5.now.number section5.now.octets.now }
-    requires low_5 { 1 ≤ section5.now.start }
-    requires high_5 { section5.now.start ≤ 268435456 }
-    requires itself_7 { StatesItself section7.now.number section7.now.octets.now }
-    requires low_7 { 1 ≤ section7.now.start }
-    requires high_7 { section7.now.start ≤ 268435456 }
     requires accepted { packing_fault section5.now.octets.now points ≡ None }
     ensures { AreTried (located section7.now.start
         (data_fault section5.now.octets.now section7.now.octets.now)) result }

@@ -2,23 +2,23 @@
 
 ghost use Rattle.std.specs.Prelude.{◌≡◌, ◌≤◌, length, ◌≤◌, List, None, length, IfOk};
 ghost use Rattle.grib_bits.specs.Octets.{StatesItself};
-ghost use Rattle.grib_io.specs.Rows.{first_fault};
+ghost use Rattle.grib_base.specs.Rows.{first_fault};
 ghost use Rattle.grib_bitmap.specs.Mask.{bitmap_rows, mask_of, present_count};
 ghost use Rattle.grib_packing.specs.Entries.{packing_fault, column_from};
 ghost use Rattle.grib_packing.specs.Packing.{value_count};
-ghost use Rattle.grib_simple.specs.Unpacked.{IsUnpacked};
+ghost use Rattle.grib_packing.specs.Unpacked.{IsUnpacked};
 ghost use Rattle.grib2_sections.specs.Frame.{Placed};
 ghost use Rattle.grib2_message.specs.View as definitions;
 ghost use Rattle.grib2_message.specs.View.{octets_in_force, points_in_force, mask_in_force};
 ghost use Rattle.grib2_message.specs.Kept.{IsField};
 
 use crate::places::{Places, section_from};
-use grib_bitmap::{Mask, MaskFault, read_mask};
+use grib_base::{ReadFault, Section};
+use grib_bitmap::{Mask, read_mask};
+use grib_bits::{u8_at, u16_at};
 use grib_complex::{ComplexPacking, SpatialPacking};
-use grib_io::{Section, UnpackFault};
-use grib_packing::Column;
-use grib_simple::{Packing, SimplePacking};
-use grib2_sections::{u8_at, u16_at};
+use grib_packing::{Column, Packing};
+use grib_simple::SimplePacking;
 use std::alloc::{AllocError, Global};
 
 /// The indicator of a Section 6 that repeats an earlier bitmap (code table 6.0).
@@ -40,8 +40,8 @@ pub(crate) fn column_at(alloc: Global, octets: &[u8], places: &Places) -> Result
     let mask = mask_at(alloc, octets, places)?;
     match unpack(alloc, &section5, &mask, &section7) {
         Ok(column) => Ok(column),
-        Err(UnpackFault::Memory) => Err(AllocError),
-        Err(UnpackFault::Refused(_)) => unreachable!(),
+        Err(ReadFault::Memory) => Err(AllocError),
+        Err(ReadFault::Refused(_)) => unreachable!(),
     }
 }
 
@@ -51,13 +51,7 @@ fn unpack(
     section5: &Section<'_>,
     mask: &Mask,
     section7: &Section<'_>,
-) -> Result<Column, UnpackFault>
-    requires itself_5 { StatesItself section5.now.number section5.now.octets.now }
-    requires low_5 { 1 ≤ section5.now.start }
-    requires high_5 { section5.now.start ≤ 268435456 }
-    requires itself_7 { StatesItself section7.now.number section7.now.octets.now }
-    requires low_7 { 1 ≤ section7.now.start }
-    requires high_7 { section7.now.start ≤ 268435456 }
+) -> Result<Column, ReadFault>
     requires some { 1 ≤ length mask.now }
     requires few { length mask.now ≤ 33554432 }
     requires accepted { packing_fault section5.now.octets.now (length mask.now) ≡ None }
@@ -115,15 +109,12 @@ fn accepted_mask(
     points: u32,
     values: u32,
 ) -> Result<Mask, AllocError>
-    requires itself { StatesItself section.now.number section.now.octets.now }
-    requires low { 1 ≤ section.now.start }
-    requires high { section.now.start ≤ 268435456 }
     requires accepted { first_fault (bitmap_rows section.now.octets.now points values None) ≡ None }
     ensures { IfOk result (λ mask. mask ≡ mask_of section.now.octets.now points None) }
 {
     match read_mask(alloc, section, points, values, None) {
         Ok(mask) => Ok(mask),
-        Err(MaskFault::Memory) => Err(AllocError),
-        Err(MaskFault::Refused(_)) => unreachable!(),
+        Err(ReadFault::Memory) => Err(AllocError),
+        Err(ReadFault::Refused(_)) => unreachable!(),
     }
 }

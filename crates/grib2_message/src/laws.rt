@@ -1,8 +1,8 @@
 //! Laws over the definitions.
 
 ghost use Rattle.std.specs.Prelude.{◌≡◌, ◌≢◌, ℕ, ◌+◌, ◌<◌, ◌≤◌, List, ◌++◌, Some, None, length, take, map, slice_get, All};
-ghost use Rattle.grib_io.specs.declared.fault.Fault.{Fault};
-ghost use Rattle.grib_io.specs.declared.fault.Reason.TheVariants.{Truncated};
+ghost use Rattle.grib_base.specs.declared.fault.Fault.{Fault};
+ghost use Rattle.grib_base.specs.declared.fault.Reason.TheVariants.{Truncated};
 ghost use Rattle.grib2_sections.specs.Head.{indicator, edition, total_length};
 ghost use Rattle.grib2_sections.specs.Verdict.{Accepted, Refused};
 ghost use Rattle.grib2_message.specs.Acceptance.{verdict_2};
@@ -13,7 +13,7 @@ ghost use Rattle.grib2_message.specs.Assembled.{assembled, MayBeAssembled};
 ghost use Rattle.grib2_grids.specs.Grid.{grid_points};
 ghost use Rattle.grib_bitmap.specs.Mask.{mask_of};
 ghost use Rattle.grib_packing.specs.Entries.{column_from};
-ghost use Rattle.grib_simple.specs.declared.written.Packed.{Packed};
+ghost use Rattle.grib_packing.specs.declared.written.Packed.{Packed};
 
 /// What is accepted is exactly what is in the grammar, with its total length, whatever comes after it.
 /// A message in the grammar has one list of sections, and it is the one that is found in it.

@@ -15,6 +15,7 @@ mod reading;
 #[cfg(test)]
 mod tests;
 
-pub use fault::{AssembleFault, ReadFault};
+pub use fault::AssembleFault;
+pub use grib_base::ReadFault;
 pub use message::Message;
 pub use reading::read_message;

@@ -13,9 +13,8 @@ use crate::AssembleFault;
 use crate::assembling::{assembled_length, put_together};
 use crate::columns::{column_at, own_bitmap};
 use crate::places::Places;
-use grib_io::Section;
-use grib_packing::Column;
-use grib_simple::Packed;
+use grib_base::Section;
+use grib_packing::{Column, Packed};
 use std::alloc::{AllocError, Global};
 use std::marker::Model;
 

@@ -6,16 +6,15 @@ ghost use Rattle.grib2_sections.specs.Frame.{Placed, placed_at};
 ghost use Rattle.grib2_message.specs.View.{earlier_mask, section_count};
 ghost use Rattle.grib2_message.specs.Acceptance.{section_fault};
 ghost use Rattle.grib2_message.specs.Kept.{HasPlaces, KeepsBitmap, IsEarlier, Comes};
-ghost use Rattle.grib2_message.specs.ReadFaults.{AreTried};
+ghost use Rattle.grib_base.specs.Faults.{AreTried};
 
-use crate::ReadFault;
 use crate::checking::{
     check_bitmap, check_grid, check_identification, check_product, check_representation,
     check_values,
 };
 use crate::places::{Bitmap, Places};
-use grib_io::Section;
-use grib2_sections::u8_at;
+use grib_base::{ReadFault, Section};
+use grib_bits::u8_at;
 use std::alloc::Global;
 
 /// The indicator of a Section 6 with bits of its own (code table 6.0).
@@ -32,9 +31,6 @@ pub(crate) fn check(
     requires comes { (before : List Placed) × HasPlaces octets.now before places.now
         × Comes octets.now before section.now.number section.now.start section.now.octets.now
         × (fields ≡ section_count 7 before) }
-    requires itself { StatesItself section.now.number section.now.octets.now }
-    requires low { 1 ≤ section.now.start }
-    requires high { section.now.start ≤ 268435456 }
     ensures { (before : List Placed) → HasPlaces octets.now before places.now
         → Comes octets.now before section.now.number section.now.start section.now.octets.now
         → fields ≡ section_count 7 before

@@ -7,8 +7,8 @@ ghost use Rattle.grib2_sections.specs.Frame.{Placed, section_at};
 ghost use Rattle.grib2_message.specs.View.{last_number, section_in_force, octets_in_force, points_in_force};
 ghost use Rattle.grib2_message.specs.Kept.{StandsAt, HasPlaces};
 
-use grib_io::Section;
-use grib2_sections::u32_at;
+use grib_base::Section;
+use grib_bits::u32_at;
 
 /// The last Section 6 with bits of its own.
 #[derive(Clone, Copy, Debug)]

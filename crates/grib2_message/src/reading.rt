@@ -1,18 +1,19 @@
 //! Reading a message.
 
 ghost use Rattle.std.specs.Prelude.{◌≡◌, ◌≤◌, length, take, None, MatchResult};
-ghost use Rattle.grib_io.specs.Rows.{first_fault};
+ghost use Rattle.grib_base.specs.Rows.{first_fault};
 ghost use Rattle.grib2_sections.specs.Head.{indicator, edition, head_rows, total_length};
 ghost use Rattle.grib2_sections.specs.Verdict.{Accepted};
 ghost use Rattle.grib2_message.specs.Acceptance.{verdict_2};
 ghost use Rattle.grib2_message.specs.Fields.{field_count};
 ghost use Rattle.grib2_message.specs.Kept.{Keeps};
 ghost use Rattle.grib2_message.specs.Message.{IsMessage};
-ghost use Rattle.grib2_message.specs.ReadFaults.{IsVerdict};
+ghost use Rattle.grib2_sections.specs.Refused.{IsVerdict};
 
+use crate::Message;
 use crate::passing::{check, go_past};
 use crate::places::Places;
-use crate::{Message, ReadFault};
+use grib_base::ReadFault;
 use grib2_sections::{Frame, read_head};
 use std::alloc::Global;
 

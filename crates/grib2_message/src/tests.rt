@@ -1,9 +1,9 @@
 //! Whole messages. The octets and what they hold are worked by hand from the tables of the manual.
 
-use crate::{Message, ReadFault, read_message};
-use grib_io::{Fault, Reason};
+use crate::{Message, read_message};
+use grib_base::{Fault, ReadFault, Reason};
+use grib_bits::u8_at;
 use grib_packing::Point;
-use grib2_sections::u8_at;
 use std::alloc::{AllocError, Global};
 use std::test::Fail;
 

@@ -6,8 +6,8 @@ use Rattle.std.specs.List.{range_with_len}
 use Rattle.grib_bits.specs.Octets.{num_on, octets}
 use Rattle.grib_bits.proofs.OctetBits.{AreOctets}
 use Rattle.grib_bits.proofs.OctetNumbers.{octets-lt}
-use Rattle.grib2_sections.specs.Encoding.{octets_of}
-use Rattle.grib2_sections.proofs.Octets.{octets-within, num_on-octets_of}
+use Rattle.grib_bits.specs.Encoding.{octets_of}
+use Rattle.grib_bits.proofs.Encoding.{octets-within, num_on-octets_of}
 use Rattle.grib2_products.specs.Spelled.{spec_at}
 use Rattle.grib2_products.specs.Written.{spec_octets, specs_octets, coordinate_octets}
 use Rattle.grib2_products.specs.declared.templates.Spec.{Spec}

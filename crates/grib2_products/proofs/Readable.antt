@@ -8,8 +8,8 @@ use Rattle.std.specs.Prelude.{None, Option, Some}
 use Rattle.grib_bits.specs.Octets.{octets, StatesItself}
 use Rattle.grib_bits.proofs.OctetBits.{AreOctets}
 use Rattle.grib_bits.proofs.OctetNumbers.{octets-lt}
-use Rattle.grib_io.specs.declared.fault.Fault.{Fault}
-use Rattle.grib_io.specs.Rows.{first_fault, first_fault_at, located}
+use Rattle.grib_base.specs.declared.fault.Fault.{Fault}
+use Rattle.grib_base.specs.Rows.{first_fault, first_fault_at, located}
 use Rattle.grib2_sections.specs.Template.{least_length}
 use Rattle.grib2_products.specs.Product.{product_rows, product_templates, product_template, product_length, template_length, time_ranges, coordinate_count}
 use Rattle.grib2_products.specs.Spelled.{IsSectionOf, Spelled, SpelledTemplate, SpelledInterval, spec_at, template_of, range_count, written_length}

@@ -4,7 +4,7 @@ use Rattle.std.proofs.lemmas.List.{length-append}
 use Rattle.std.proofs.lemmas.List.FromFn.{fill_by_all}
 use Rattle.std.specs.List.{range_with_len}
 use Rattle.std.specs.Prelude.{None}
-use Rattle.grib_io.specs.Rows.{first_fault}
+use Rattle.grib_base.specs.Rows.{first_fault}
 use Rattle.grib2_sections.specs.Template.{least_length, is_template}
 use Rattle.grib2_products.specs.Product.{product_rows, product_templates, product_template, product_length, template_length}
 use Rattle.grib2_products.specs.Spelled.{IsSectionOf, Spelled, SpelledTemplate, SpelledInterval, SpelledEnd, spec_at, template_of, range_count, coordinate_list, written_length}

@@ -1,7 +1,7 @@
 -- What is said of a written template, by the template.
 use Rattle.std.proofs.Common.{◌≡◌, ℕ, List, ◌++◌, sym, subst}
 use Rattle.grib_bits.specs.Written.{Written}
-use Rattle.grib2_sections.specs.Encoding.{AddsOctets}
+use Rattle.grib_bits.specs.Encoding.{AddsOctets}
 use Rattle.grib2_products.specs.declared.product.Product.{Product}
 use Rattle.grib2_products.specs.Written.{header, template_octets, SpelledFixed}
 

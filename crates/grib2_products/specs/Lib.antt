@@ -1,5 +1,5 @@
 pub mod Product
 pub mod Spelled
-pub mod Refused
+pub use Rattle.grib_base.specs.Faults
 pub mod Whole
 pub mod Written

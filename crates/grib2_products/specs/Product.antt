@@ -2,8 +2,8 @@
 -- definition templates 4.0, 4.1, 4.8 and 4.11).
 use Rattle.std.specs.Prelude.{ℕ, ◌+◌, ◌*◌, not, cond, List, [], ◌∷◌, length, nat_lt, ◌==◌}
 use Rattle.grib_bits.specs.Octets.{octets}
-use Rattle.grib_io.specs.declared.fault.Reason.TheVariants.{SectionLength, FieldCount, ProductTemplate}
-use Rattle.grib_io.specs.Rows.{Row, row}
+use Rattle.grib_base.specs.declared.fault.Reason.TheVariants.{SectionLength, FieldCount, ProductTemplate}
+use Rattle.grib_base.specs.Rows.{Row, row}
 use Rattle.grib2_sections.specs.Template.{Template, template, is_template, least_length}
 
 -- the product templates of the profile, each with its least length in octets

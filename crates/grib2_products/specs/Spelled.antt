@@ -3,7 +3,7 @@
 use Rattle.std.specs.Prelude.{◌≡◌, ℕ, ◌+◌, ◌*◌, ◌<◌, List, All, length, map, None}
 use Rattle.std.specs.List.{range_with_len}
 use Rattle.grib_bits.specs.Octets.{octets, StatesItself}
-use Rattle.grib_io.specs.Rows.{first_fault}
+use Rattle.grib_base.specs.Rows.{first_fault}
 use Rattle.grib2_sections.specs.Template.{least_length}
 use Rattle.grib2_products.specs.Product.{product_rows, product_templates, template_length, coordinate_count}
 use Rattle.grib2_products.specs.declared.templates.Instant.{Instant}

@@ -1,7 +1,7 @@
 -- The octets of Section 4 as they are written, part after part.
 use Rattle.std.specs.Prelude.{◌≡◌, ℕ, List, [], ◌∷◌, ◌++◌}
 use Rattle.grib_bits.specs.Octets.{octets}
-use Rattle.grib2_sections.specs.Encoding.{octets_of}
+use Rattle.grib_bits.specs.Encoding.{octets_of}
 use Rattle.grib2_products.specs.Spelled.{SpelledInstant, SpelledEnsemble, SpelledEnd}
 use Rattle.grib2_products.specs.declared.templates.Instant.{Instant}
 use Rattle.grib2_products.specs.declared.templates.Ensemble.{Ensemble}

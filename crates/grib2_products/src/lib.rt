@@ -11,7 +11,8 @@ mod templates;
 mod tests;
 mod writing;
 
-pub use product::{Product, ProductFault, ProductSection};
+pub use grib_base::ReadFault as ProductFault;
+pub use product::{Product, ProductSection};
 pub use reading::read_product;
 pub use templates::{Ensemble, Instant, Interval, Spec};
 pub use writing::write_product;

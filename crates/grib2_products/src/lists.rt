@@ -9,7 +9,7 @@ ghost use Rattle.grib2_products.specs.Spelled.{spec_at, coordinate_list};
 
 use crate::Spec;
 use crate::rows::coordinate_start;
-use grib2_sections::{u8_at, u16_at, u32_at};
+use grib_bits::{u8_at, u16_at, u32_at};
 use std::alloc::{AllocError, Global};
 
 /// The `count` time ranges from octet `first` on. The memory is taken once; for none, none is.

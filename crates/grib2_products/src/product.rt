@@ -1,8 +1,7 @@
 //! What Section 4 holds.
 
 use crate::{Ensemble, Instant, Interval};
-use grib_io::{Fault, List};
-use std::alloc::AllocError;
+use grib_base::List;
 
 /// A product by its template.
 #[derive(Debug, Drop)]
@@ -26,35 +25,4 @@ pub struct ProductSection {
     pub coordinates: List<u32>,
     /// The template's numbers: octets 8-9, and octet 10 onwards.
     pub product: Product,
-}
-
-/// Why Section 4 was not read.
-#[derive(Clone, Copy, Debug, PartialEq, Eq)]
-pub enum ProductFault {
-    /// A row of the profile fails.
-    Refused(Fault),
-    /// There is no memory for the coordinate values or the time ranges.
-    Memory,
-}
-
-impl From<Fault> for ProductFault {
-    ghost use Rattle.std.specs.Prelude.{◌≡◌};
-    ghost use Rattle.grib2_products.specs.declared.product.ProductFault.TheVariants.{Refused};
-
-    ghost from_gives = { λ fault refused. refused ≡ Refused fault };
-
-    fn from(fault: Fault) -> ProductFault {
-        ProductFault::Refused(fault)
-    }
-}
-
-impl From<AllocError> for ProductFault {
-    ghost use Rattle.std.specs.Prelude.{◌≡◌};
-    ghost use Rattle.grib2_products.specs.declared.product.ProductFault.TheVariants.{Memory};
-
-    ghost from_gives = { λ _ fault. fault ≡ Memory };
-
-    fn from(_: AllocError) -> ProductFault {
-        ProductFault::Memory
-    }
 }

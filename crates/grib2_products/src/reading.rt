@@ -1,18 +1,18 @@
 //! Reading Section 4.
 
 ghost use Rattle.std.specs.Prelude.{◌≡◌, ◌≢◌, ◌+◌, ◌*◌, ◌≤◌, length, Some, None, Err, MatchResult, IfOk, IsOk};
-ghost use Rattle.grib_bits.specs.Octets.{octets as octets_of, StatesItself};
-ghost use Rattle.grib_io.specs.Rows.{first_fault_at};
+ghost use Rattle.grib_bits.specs.Octets.{octets as octets_of};
+ghost use Rattle.grib_base.specs.Rows.{first_fault_at};
 ghost use Rattle.grib2_products.specs.Product.{product_rows, coordinate_count, time_ranges};
 ghost use Rattle.grib2_products.specs.Whole.{IsWhole};
-ghost use Rattle.grib2_products.specs.Refused.{IsRefusal};
+ghost use Rattle.grib_base.specs.Faults.{IsReadFault};
 ghost use Rattle.grib2_products.specs.Spelled.{Spelled, SpelledTemplate, template_of, SpelledInstant, SpelledEnsemble, SpelledInterval};
 
 use crate::lists::{read_coordinates, read_specs};
 use crate::rows::check;
-use crate::{Ensemble, Instant, Interval, Product, ProductFault, ProductSection};
-use grib_io::{List, Section};
-use grib2_sections::{u8_at, u16_at, u32_at};
+use crate::{Ensemble, Instant, Interval, Product, ProductSection, ReadFault};
+use grib_base::{List, Section};
+use grib_bits::{u8_at, u16_at, u32_at};
 use std::alloc::{AllocError, Global};
 
 /// Reads Section 4. How many there are in a message is for the reader of the message to see.
@@ -22,17 +22,14 @@ use std::alloc::{AllocError, Global};
 /// The first row of the profile that fails: the section is too short for its template, time ranges
 /// and coordinate values, or has a template that the profile does not have. Or there is no memory
 /// for the time ranges or the coordinate values, where there are any.
-pub fn read_product(alloc: Global, section: &Section<'_>) -> Result<ProductSection, ProductFault>
-    requires itself { StatesItself section.now.number section.now.octets.now }
-    requires low { 1 ≤ section.now.start }
-    requires high { section.now.start ≤ 268435456 }
+pub fn read_product(alloc: Global, section: &Section<'_>) -> Result<ProductSection, ReadFault>
     ensures rows { MatchResult result
         (λ value. (first_fault_at section.now.start (product_rows section.now.octets.now 1) ≡ None)
         × Spelled value section.now.octets.now)
         (λ fault. IsRefusal fault
         (first_fault_at section.now.start (product_rows section.now.octets.now 1))) }
     ensures memory { time_ranges section.now.octets.now ≡ 0
-        → coordinate_count section.now.octets.now ≡ 0 → result ≢ Err ProductFault.Memory }
+        → coordinate_count section.now.octets.now ≡ 0 → result ≢ Err ReadFault.Memory }
 {
     let octets = section.octets;
     check(section)?;

@@ -1,15 +1,15 @@
 //! The rows of the profile that decide whether Section 4 is accepted.
 
 ghost use Rattle.std.specs.Prelude.{◌≡◌, ◌+◌, ◌*◌, ◌<◌, ◌≤◌, true, false, length, Some, None, MatchResult, MatchOption, OnOk};
-ghost use Rattle.grib_io.specs.Rows as rows;
-ghost use Rattle.grib_io.specs.Rows.{first_fault, first_fault_at, fault_at};
+ghost use Rattle.grib_base.specs.Rows as rows;
+ghost use Rattle.grib_base.specs.Rows.{first_fault, first_fault_at, fault_at};
 ghost use Rattle.grib2_sections.specs.Template.{is_template, least_length as least_of};
 ghost use Rattle.grib2_products.specs.Product as product;
 ghost use Rattle.grib2_products.specs.Product.{product_rows, product_templates, product_template};
 ghost use Rattle.grib2_products.specs.Whole.{IsWhole};
 
-use grib_io::{Fault, Reason, Section};
-use grib2_sections::{refusal_in, u8_at, u16_at};
+use grib_base::{Fault, Reason, Section};
+use grib_bits::{u8_at, u16_at};
 
 /// The least length in octets of a section with this template, if the profile has it.
 fn least_length(template: u16) -> Option<usize>
@@ -42,8 +42,6 @@ pub(crate) fn time_ranges(octets: &[u8]) -> u8
 
 /// Rows S4.1 to S4.5: the length, by the template, its time ranges and the coordinate values.
 pub(crate) fn check(section: &Section<'_>) -> Result<(), Fault>
-    requires low { 1 ≤ section.now.start }
-    requires high { section.now.start ≤ 268435456 }
     ensures rows { MatchResult result
         (λ _. first_fault (product_rows section.now.octets.now 1) ≡ None)
         (λ fault. first_fault_at section.now.start (product_rows section.now.octets.now 1)
@@ -53,19 +51,19 @@ pub(crate) fn check(section: &Section<'_>) -> Result<(), Fault>
     let octets = section.octets;
     let length = octets.len();
     if length < 9 {
-        return Err(refusal_in(section, 1, Reason::SectionLength, length as u64));
+        return Err(section.fault_at(1, Reason::SectionLength, length as u64));
     }
     let template = u16_at(octets, 8);
     let Some(least) = least_length(template) else {
-        return Err(refusal_in(section, 8, Reason::ProductTemplate, u64::from(template)));
+        return Err(section.fault_at(8, Reason::ProductTemplate, u64::from(template)));
     };
     if length < least {
-        return Err(refusal_in(section, 1, Reason::SectionLength, length as u64));
+        return Err(section.fault_at(1, Reason::SectionLength, length as u64));
     }
     let ranges = usize::from(time_ranges(octets));
     let coordinates = usize::from(u16_at(octets, 6));
     if length < least + 12 * ranges + 4 * coordinates {
-        return Err(refusal_in(section, 1, Reason::SectionLength, length as u64));
+        return Err(section.fault_at(1, Reason::SectionLength, length as u64));
     }
     Ok(())
 }

@@ -3,7 +3,7 @@
 //!
 //! Each field has the number of its octets as they stand. A field of all ones is missing.
 
-use grib_io::List;
+use grib_base::List;
 
 /// What all four templates share, and all that template 4.0 has: a product at a point in time.
 #[derive(Clone, Copy, Debug, PartialEq, Eq)]

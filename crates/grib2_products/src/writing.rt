@@ -1,7 +1,7 @@
 //! Writing Section 4.
 
 ghost use Rattle.std.specs.Prelude.{◌≡◌, ℕ, ◌+◌, ◌*◌, ◌%◌, ◌≤◌, List, ◌++◌, length};
-ghost use Rattle.grib2_sections.specs.Encoding.{AddsOctets};
+ghost use Rattle.grib_bits.specs.Encoding.{AddsOctets};
 ghost use Rattle.grib2_sections.specs.Template.{least_length};
 ghost use Rattle.grib2_products.specs.declared.templates.Instant.{Instant};
 ghost use Rattle.grib2_products.specs.declared.templates.Ensemble.{Ensemble};
@@ -10,8 +10,7 @@ ghost use Rattle.grib2_products.specs.Spelled.{IsSectionOf, written_length, temp
 ghost use Rattle.grib2_products.specs.Written.{header, SpelledHeader, template_octets, SpelledFixed, instant_octets, ensemble_octets, end_octets, spec_octets, specs_octets, coordinate_octets};
 
 use crate::{Ensemble, Instant, Interval, Product, ProductSection, Spec};
-use grib_bits::BitWriter;
-use grib2_sections::{write_u8, write_u16, write_u32};
+use grib_bits::{BitWriter, write_u8, write_u16, write_u32};
 
 /// Writes Section 4 without surplus, as the value was read, so that reading the octets gives the
 /// value again. The writer has the memory already.

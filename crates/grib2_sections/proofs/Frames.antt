@@ -2,9 +2,9 @@
 use Rattle.std.proofs.Common.{◌≡◌, ℕ, ◌+◌, ◌-◌, ◌<◌, ◌≤◌, Bool, true, false, cond, ◌||◌, Some, None, List, length, take, drop, get_or, nat_lt, refl, sym, ap, ◌∙◌, add-zero, arith, le-ltb, take-take, drop-drop, subst, lt-ltb, length-take}
 use Rattle.std.proofs.lemmas.Bool.{or_from, not_from_true, not_from_false}
 use Rattle.std.proofs.lemmas.List.{drop-take, length-drop, length-take-le, get_or-drop}
-use Rattle.grib_io.specs.declared.fault.Fault.{Fault}
-use Rattle.grib_io.specs.declared.fault.Reason.TheVariants.{SectionOrder, Truncated}
-use Rattle.grib_io.specs.Rows.{first_fault, refusal}
+use Rattle.grib_base.specs.declared.fault.Fault.{Fault}
+use Rattle.grib_base.specs.declared.fault.Reason.TheVariants.{SectionOrder, Truncated}
+use Rattle.grib_base.specs.Rows.{first_fault, refusal}
 use Rattle.grib_bits.specs.Octets.{num_on, octets, StatesItself}
 use Rattle.grib_bits.proofs.OctetBits.{AreOctets}
 use Rattle.grib_bits.proofs.OctetNumbers.{big_number-octets, big_number-rest}

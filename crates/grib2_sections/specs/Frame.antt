@@ -3,9 +3,9 @@
 use Rattle.std.specs.Prelude.{ℕ, ◌+◌, ◌-◌, Bool, not, Option, Some, None, ◌&&◌, ◌||◌, List, [], ◌∷◌, length, get_or, nat_lt, ◌==◌}
 use Rattle.std.specs.List.{list_any}
 use Rattle.grib_bits.specs.Octets.{octets, octet_list}
-use Rattle.grib_io.specs.declared.fault.Reason.TheVariants.{Truncated, SectionOrder, LengthDisagrees, EndMark, SectionLength}
-use Rattle.grib_io.specs.declared.fault.Fault.{Fault}
-use Rattle.grib_io.specs.Rows.{Row, row, first_fault, choose}
+use Rattle.grib_base.specs.declared.fault.Reason.TheVariants.{Truncated, SectionOrder, LengthDisagrees, EndMark, SectionLength}
+use Rattle.grib_base.specs.declared.fault.Fault.{Fault}
+use Rattle.grib_base.specs.Rows.{Row, row, first_fault, choose}
 
 abbrev pub section_length : List ℕ → ℕ
 section_length section = octets section 1 4

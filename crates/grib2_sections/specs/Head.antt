@@ -3,8 +3,8 @@
 -- total length.
 use Rattle.std.specs.Prelude.{ℕ, ◌+◌, not, cond, ◌&&◌, ◌||◌, List, [], ◌∷◌, length, nat_lt, ◌==◌}
 use Rattle.grib_bits.specs.Octets.{octets}
-use Rattle.grib_io.specs.declared.fault.Reason.TheVariants.{Truncated, Edition, TotalLength}
-use Rattle.grib_io.specs.Rows.{Row, row}
+use Rattle.grib_base.specs.declared.fault.Reason.TheVariants.{Truncated, Edition, TotalLength}
+use Rattle.grib_base.specs.Rows.{Row, row}
 use Rattle.grib2_sections.specs.declared.indicator.Head.{Head}
 
 -- the octets `GRIB` and `7777`

@@ -2,8 +2,8 @@
 use Rattle.std.specs.Prelude.{◌≡◌, ℕ, List, [], ◌∷◌, length, nat_lt}
 use Rattle.grib_bits.specs.Octets.{octets}
 use Rattle.grib2_sections.specs.declared.identification.Identification.{Identification}
-use Rattle.grib_io.specs.declared.fault.Reason.TheVariants.{SectionLength}
-use Rattle.grib_io.specs.Rows.{Row, row}
+use Rattle.grib_base.specs.declared.fault.Reason.TheVariants.{SectionLength}
+use Rattle.grib_base.specs.Rows.{Row, row}
 
 -- row S1.1
 abbrev pub identification_rows : List ℕ → List Row

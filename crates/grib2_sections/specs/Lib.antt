@@ -3,4 +3,5 @@ pub mod Verdict
 pub mod Head
 pub mod Frame
 pub mod Identification
-pub mod Encoding
+pub mod Refused
+pub use Rattle.grib_bits.specs.Encoding

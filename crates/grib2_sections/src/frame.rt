@@ -6,7 +6,7 @@ ghost use Rattle.grib2_sections.specs.Frame.{End, Fails, Next, step_from, positi
 
 use crate::refusing::truncated;
 use byteorder::{BigEndian, ByteOrder};
-use grib_io::{Fault, Reason, Section};
+use grib_base::{Fault, Reason, Section};
 use std::marker::Model;
 
 /// The walk over the sections of a message of edition 2 after Section 0 (WMO-No. 306, Volume I.2,
@@ -58,9 +58,7 @@ impl Frame {
             (λ next. MatchOption next
             ((step_from octets.now self.old ≡ End) × (self.new ≡ self.old))
             (λ section. (step_from octets.now self.old ≡ Next section.octets.now)
-            × StatesItself section.number section.octets.now
             × (section.start ≡ self.old.place)
-            × (1 ≤ section.start) × (section.start ≤ 268435456)
             × (self.new ≡ position_after self.old section.octets.now)))
             (λ fault. (step_from octets.now self.old ≡ Fails fault) × (self.new ≡ self.old)) }
     {

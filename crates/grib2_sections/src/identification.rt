@@ -2,14 +2,13 @@
 
 ghost use Rattle.std.specs.Prelude.{◌≡◌, ℕ, ◌%◌, ◌≤◌, List, length, Some, None, MatchResult};
 ghost use Rattle.grib_bits.specs.Octets.{StatesItself};
-ghost use Rattle.grib_io.specs.Rows.{first_fault_at};
-ghost use Rattle.grib2_sections.specs.Encoding.{AddsOctets};
+ghost use Rattle.grib_base.specs.Rows.{first_fault_at};
+ghost use Rattle.grib_bits.specs.Encoding.{AddsOctets};
 ghost use Rattle.grib2_sections.specs.Identification.{identification_rows, Spelled};
 
-use crate::number::{write_u8, write_u16, write_u32};
 use byteorder::{BigEndian, ByteOrder};
-use grib_bits::BitWriter;
-use grib_io::{Fault, Reason, Section};
+use grib_base::{Fault, Reason, Section};
+use grib_bits::{BitWriter, write_u8, write_u16, write_u32};
 
 /// What Section 1 says of a message (WMO-No. 306, Volume I.2, FM 92 GRIB edition 2, Section 1).
 #[derive(Clone, Copy, Debug, PartialEq, Eq)]
@@ -39,9 +38,6 @@ pub struct Identification {
 
 /// Reads Section 1. A refusal says that the section ends before octet 21.
 pub fn read_identification(section: &Section<'_>) -> Result<Identification, Fault>
-    requires itself { StatesItself section.now.number section.now.octets.now }
-    requires low { 1 ≤ section.now.start }
-    requires high { section.now.start ≤ 268435456 }
     ensures { MatchResult result
         (λ value. (first_fault_at section.now.start (identification_rows section.now.octets.now) ≡ None)
         × Spelled value section.now.octets.now)

@@ -1,12 +1,12 @@
 //! Section 0, the indicator section.
 
 ghost use Rattle.std.specs.Prelude.{◌≡◌, take, Some, None, MatchResult};
-ghost use Rattle.grib_io.specs.Rows.{first_fault};
+ghost use Rattle.grib_base.specs.Rows.{first_fault};
 ghost use Rattle.grib2_sections.specs.Head.{indicator, head_rows, head_of};
 
 use crate::refusing::truncated;
 use byteorder::{BigEndian, ByteOrder};
-use grib_io::{Fault, Reason};
+use grib_base::{Fault, Reason};
 
 /// What Section 0 tells of its message (WMO-No. 306, Volume I.2, FM 92 GRIB).
 #[derive(Clone, Copy, Debug, PartialEq, Eq)]

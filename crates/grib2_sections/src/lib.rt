@@ -4,8 +4,6 @@
 mod frame;
 mod identification;
 mod indicator;
-mod number;
-mod reading;
 mod refusing;
 mod section;
 #[cfg(test)]
@@ -14,7 +12,4 @@ mod tests;
 pub use frame::Frame;
 pub use identification::{Identification, read_identification, write_identification};
 pub use indicator::{Head, read_head};
-pub use number::{write_number, write_u8, write_u16, write_u32};
-pub use reading::{u8_at, u16_at, u32_at, uint_at};
-pub use refusing::refusal_in;
-pub use section::{write_octets, write_section};
+pub use section::write_section;

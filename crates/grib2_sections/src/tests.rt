@@ -1,8 +1,8 @@
 //! The frame of a worked message, and its sections as they are written.
 
 use super::*;
+use grib_base::{Fault, Reason};
 use grib_bits::BitWriter;
-use grib_io::{Fault, Reason};
 use std::test::Fail;
 
 /// A message of one field of four points. Its sections begin at octets 17, 38, 110, 144, 165 and 171.

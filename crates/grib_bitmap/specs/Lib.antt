@@ -1,3 +1,3 @@
 pub mod Words
 pub mod Mask
-pub mod Fault
+pub use Rattle.grib_base.specs.Faults

@@ -4,8 +4,8 @@
 use Rattle.std.specs.Prelude.{ℕ, ◌+◌, ◌*◌, Bool, true, not, cond, ◌&&◌, Option, List, [], ◌∷◌, length, take, drop, replicate, is_none, unwrap_or, nat_lt, ◌==◌, count_by}
 use Rattle.grib_bits.specs.Bits.{bits}
 use Rattle.grib_bits.specs.Octets.{octets}
-use Rattle.grib_io.specs.declared.fault.Reason.TheVariants.{SectionLength, BitmapIndicator, NoEarlierBitmap, BitmapSize, ValueCount}
-use Rattle.grib_io.specs.Rows.{Row, row}
+use Rattle.grib_base.specs.declared.fault.Reason.TheVariants.{SectionLength, BitmapIndicator, NoEarlierBitmap, BitmapSize, ValueCount}
+use Rattle.grib_base.specs.Rows.{Row, row}
 
 abbrev pub bitmap_indicator : List ℕ → ℕ
 bitmap_indicator s = octets s 6 6

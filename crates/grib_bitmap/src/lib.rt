@@ -7,5 +7,6 @@ mod section;
 mod tests;
 mod words;
 
+pub use grib_base::ReadFault as MaskFault;
 pub use mask::{Mask, Run, ones, write_mask};
-pub use section::{MaskFault, read_mask};
+pub use section::read_mask;

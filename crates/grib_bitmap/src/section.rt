@@ -1,33 +1,14 @@
 //! Section 6, the bitmap section.
 
 ghost use Rattle.std.specs.Prelude.{◌≡◌, ◌≢◌, ◌≤◌, None, MatchResult, option_copied};
-ghost use Rattle.grib_bits.specs.Octets.{StatesItself};
-ghost use Rattle.grib_io.specs.Rows as rows;
-ghost use Rattle.grib_io.specs.Rows.{first_fault_at};
+ghost use Rattle.grib_base.specs.Rows as rows;
+ghost use Rattle.grib_base.specs.Rows.{first_fault_at};
 ghost use Rattle.grib_bitmap.specs.Mask.{mask_of, present_count, bitmap_rows};
-ghost use Rattle.grib_bitmap.specs.Fault.{IsMaskFault};
-ghost use Rattle.grib_bitmap.specs.declared.section.MaskFault.TheVariants.{Memory};
+ghost use Rattle.grib_base.specs.Faults.{IsReadFault};
 
 use crate::mask::{Mask, ones};
-use grib_io::{Fault, Reason, Section};
-use std::alloc::{AllocError, Global};
-
-/// Why a Section 6 gave no mask.
-#[derive(Clone, Copy, Debug, PartialEq, Eq)]
-pub enum MaskFault {
-    /// The section is refused.
-    Refused(Fault),
-    /// Want of memory.
-    Memory,
-}
-
-impl From<AllocError> for MaskFault {
-    ghost from_gives = { λ _ fault. fault ≡ Memory };
-
-    fn from(_error: AllocError) -> MaskFault {
-        MaskFault::Memory
-    }
-}
+use grib_base::{Fault, ReadFault, Reason, Section};
+use std::alloc::Global;
 
 /// Reads Section 6 (WMO-No. 306, Volume I.2, FM 92 GRIB edition 2, code table 6.0) of a field whose
 /// grid has this many points and whose Section 5 has this many values. `earlier` is the mask of the
@@ -41,15 +22,12 @@ pub fn read_mask(
     points: u32,
     values: u32,
     earlier: Option<&Mask>,
-) -> Result<Mask, MaskFault>
-    requires itself { StatesItself section.now.number section.now.octets.now }
-    requires low { 1 ≤ section.now.start }
-    requires high { section.now.start ≤ 268435456 }
+) -> Result<Mask, ReadFault>
     ensures { let rows = bitmap_rows section.now.octets.now points values (option_copied earlier.entry) in
         MatchResult result
         (λ mask. (first_fault_at section.now.start rows ≡ None)
         × (mask ≡ mask_of section.now.octets.now points (option_copied earlier.entry)))
-        (IsMaskFault (first_fault_at section.now.start rows)) }
+        (IsReadFault (first_fault_at section.now.start rows)) }
 {
     let octets = section.octets;
     let length = octets.len() as u64;
@@ -75,18 +53,18 @@ pub fn read_mask(
 }
 
 /// The refusal at this octet of the message, as why there is no mask.
-fn refused(octet: u64, reason: Reason, detail: u64) -> MaskFault
-    ensures { result ≡ MaskFault.Refused (rows.refusal octet reason detail) }
+fn refused(octet: u64, reason: Reason, detail: u64) -> ReadFault
+    ensures { result ≡ ReadFault.Refused (rows.refusal octet reason detail) }
 {
-    MaskFault::Refused(Fault::at(octet, reason, detail))
+    ReadFault::Refused(Fault::at(octet, reason, detail))
 }
 
 /// The mask, if as many points are present as there are values; else a refusal at this octet.
-fn counted(mask: Mask, values: u32, octet: u64) -> Result<Mask, MaskFault>
+fn counted(mask: Mask, values: u32, octet: u64) -> Result<Mask, ReadFault>
     ensures { MatchResult result
         (λ same. (same ≡ mask) × (present_count mask ≡ values))
         (λ fault. (present_count mask ≢ values)
-        × (fault ≡ MaskFault.Refused (rows.refusal octet Reason.ValueCount (present_count mask)))) }
+        × (fault ≡ ReadFault.Refused (rows.refusal octet Reason.ValueCount (present_count mask)))) }
 {
     let present = ones(&mask);
     if present != values {

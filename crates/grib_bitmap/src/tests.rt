@@ -3,8 +3,8 @@
 
 use super::*;
 use byteorder::{BigEndian, ByteOrder};
+use grib_base::{Fault, Reason, Section};
 use grib_bits::BitWriter;
-use grib_io::{Fault, Reason, Section};
 use std::alloc::Global;
 use std::process::Abort;
 use std::test::Fail;
@@ -18,7 +18,7 @@ fn read(
     points: u32,
     values: u32,
     earlier: Option<&Mask>,
-) -> Result<Mask, MaskFault> {
+) -> Result<Mask, ReadFault> {
     assert!(rt; octets.len() >= 5);
     assert!(rt; BigEndian::read_u32(octets) as usize == octets.len() && octets[4] == 6);
     let section = Section {
@@ -30,7 +30,7 @@ fn read(
 }
 
 /// The mask that was read.
-fn accepted(rt: &impl Abort, read: Result<Mask, MaskFault>) -> Mask {
+fn accepted(rt: &impl Abort, read: Result<Mask, ReadFault>) -> Mask {
     match read {
         Ok(mask) => mask,
         Err(_) => panic!(rt; "the section is refused"),
@@ -38,9 +38,9 @@ fn accepted(rt: &impl Abort, read: Result<Mask, MaskFault>) -> Mask {
 }
 
 /// The octet, the reason and the detail of a refusal.
-fn refused(rt: &impl Abort, read: Result<Mask, MaskFault>) -> (u64, Reason, u64) {
+fn refused(rt: &impl Abort, read: Result<Mask, ReadFault>) -> (u64, Reason, u64) {
     match read {
-        Err(MaskFault::Refused(fault)) => (fault.octet, fault.reason, fault.detail),
+        Err(ReadFault::Refused(fault)) => (fault.octet, fault.reason, fault.detail),
         _ => panic!(rt; "no refusal"),
     }
 }

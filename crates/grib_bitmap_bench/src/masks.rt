@@ -4,8 +4,8 @@ ghost use Rattle.std.specs.Prelude.{◌≤◌};
 
 use anyhow::{Result, anyhow, ensure};
 use byteorder::{BigEndian, ByteOrder};
+use grib_base::Section;
 use grib_bitmap::{Mask, read_mask};
-use grib_io::Section;
 use std::alloc::{AllocError, Global};
 
 /// A Section 6 with a bit for each point, and how many of the bits are set. An octet repeats the one before

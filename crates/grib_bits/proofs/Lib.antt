@@ -5,3 +5,5 @@ pub mod OctetNumbers
 pub mod Signs
 pub mod Writing
 pub mod WordNumbers
+pub mod Encoding
+pub mod Counted

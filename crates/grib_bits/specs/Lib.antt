@@ -3,3 +3,4 @@ pub mod Octets
 pub mod Plain
 pub mod Binary32
 pub mod Written
+pub mod Encoding

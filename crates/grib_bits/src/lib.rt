@@ -4,14 +4,20 @@
 //! significant bit of the first octet on (WMO-No. 306, Volume I.2, FM 92 GRIB).
 #![tactic(auto)]
 
+mod copying;
 mod field;
+mod number;
+mod reading;
 mod sign;
 #[cfg(test)]
 mod tests;
 mod window;
 mod writer;
 
+pub use copying::write_octets;
 pub use field::{get_bits, number_in_word};
+pub use number::{write_number, write_u8, write_u16, write_u32};
+pub use reading::{u8_at, u16_at, u32_at, uint_at};
 pub use sign::{raw_of, signed_of};
 pub use window::BitWindow;
 pub use writer::BitWriter;

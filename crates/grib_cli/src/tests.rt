@@ -3,11 +3,9 @@
 ghost use Rattle.std.specs.Prelude.{◌≤◌};
 
 use crate::run;
+use grib_base::{Fault, Reason, Refusal};
 use grib_engine::Outcome;
-use grib_io::{
-    Fault, MemoryShelf, MemorySink, MemorySource, ReadSource, Reason, Refusal, Sink, Source,
-    WriteSink,
-};
+use grib_io::{MemoryShelf, MemorySink, MemorySource, ReadSource, Sink, Source, WriteSink};
 use std::alloc::{AllocError, Global};
 use std::io::{self, Write};
 use std::test::Fail;

@@ -1,8 +1,8 @@
 -- Lemmas on a Section 5 that is accepted.
 use Rattle.std.proofs.Common.{◌≡◌, ℕ, ◌⊎◌, Bool, true, false, not, ◌&&◌, eqb, Option, Some, None, List, [], ◌∷◌, refl, ap, ◌∙◌, arith, inl, inr}
 use Rattle.std.proofs.lemmas.Bool.{cond-false, eq-eqb, ne_eqb, ltb-false, cases_eq}
-use Rattle.grib_io.specs.declared.fault.Fault.{Fault}
-use Rattle.grib_io.specs.Rows.{Row, first_fault, first_fault_at, located, or_then, choose}
+use Rattle.grib_base.specs.declared.fault.Fault.{Fault}
+use Rattle.grib_base.specs.Rows.{Row, first_fault, first_fault_at, located, or_then, choose}
 use Rattle.grib_packing.specs.Complex.{complex_rows, layout_of, difference_order, extra_octets}
 use Rattle.grib_packing.specs.Packing.{packing_rows, packing_template, most_bits, bit_width}
 use Rattle.grib_packing.specs.Entries.{packing_fault}

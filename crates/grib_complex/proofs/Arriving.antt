@@ -5,9 +5,9 @@ use Rattle.std.proofs.lemmas.Bool.{cases_lt, cases_eq, cond-false, ne_eqb}
 use Rattle.std.proofs.lemmas.List.{drop-drop, drop-take, take-take, take-append-le, drop-append-le, length-drop}
 use Rattle.grib_bits.specs.Bits.{bits, signed}
 use Rattle.grib_bits.specs.Octets.{octets, octet_list, num_on}
-use Rattle.grib_io.specs.declared.fault.Fault.{Fault}
-use Rattle.grib_io.specs.declared.fault.Reason.TheVariants.{FirstValueSign, DataTooShort}
-use Rattle.grib_io.specs.Rows.{first_fault, first_fault_at, located, refusal, choose}
+use Rattle.grib_base.specs.declared.fault.Fault.{Fault}
+use Rattle.grib_base.specs.declared.fault.Reason.TheVariants.{FirstValueSign, DataTooShort}
+use Rattle.grib_base.specs.Rows.{first_fault, first_fault_at, located, refusal, choose}
 use Rattle.grib_packing.specs.declared.layout.Layout.{Layout}
 use Rattle.grib_packing.specs.declared.group.Group.{Group}
 use Rattle.grib_packing.specs.declared.column.Point.TheVariants.{Scaled}
@@ -20,7 +20,7 @@ use Rattle.grib_groups.specs.declared.lists.Lists.{Lists}
 use Rattle.grib_groups.specs.declared.table.Table.{Table}
 use Rattle.grib_groups.specs.Table.{IsWhole, IsNarrow}
 use Rattle.grib_groups.specs.Lists.{lists_fault, ListsAre}
-use Rattle.grib_io.specs.declared.fault.UnpackFault.TheVariants.{Refused as UnpackRefused}
+use Rattle.grib_base.specs.declared.fault.ReadFault.TheVariants.{Refused as UnpackRefused}
 use Rattle.grib_complex.proofs.Decided.{fault_of_signs}
 use Rattle.grib_complex.proofs.Outcome.{Numbers, numbers_with, rows_of_signs, lists_are, refused_groups, rest_is_range, codes_are, entries_are}
 use Rattle.grib_groups.proofs.Pieces.{references-front, widths-front, lengths-front}

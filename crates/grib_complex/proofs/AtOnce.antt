@@ -3,9 +3,9 @@ use Rattle.std.proofs.Common.{◌≡◌, ◌+◌, ◌%◌, ◌<◌, ◌^◌, Lis
 use Rattle.std.proofs.lemmas.Bool.{cases_lt}
 use Rattle.std.proofs.lemmas.List.{length-append, append-nil}
 use Rattle.std.proofs.lemmas.List.Elements.{All-nil, All-head, All-tail, All-append, All-same}
-use Rattle.grib_io.specs.declared.code.Code.{Code}
-use Rattle.grib_io.specs.declared.code.Code.TheVariants.{Present, Primary, Secondary}
-use Rattle.grib_io.specs.Rows.{first_place}
+use Rattle.grib_base.specs.declared.code.Code.{Code}
+use Rattle.grib_base.specs.declared.code.Code.TheVariants.{Present, Primary, Secondary}
+use Rattle.grib_base.specs.Rows.{first_place}
 use Rattle.grib_packing.specs.declared.column.Point.{Point}
 use Rattle.grib_packing.specs.Entries.{is_out_of_range}
 use Rattle.grib_groups.specs.Taking.{number_of}

@@ -4,9 +4,9 @@ use Rattle.std.specs.List.{list_any, filter_map}
 use Rattle.std.proofs.lemmas.List.{length-map}
 use Rattle.grib_bits.specs.Bits.{bits}
 use Rattle.grib_bits.specs.Octets.{octets}
-use Rattle.grib_io.specs.declared.code.Code.{Code}
-use Rattle.grib_io.specs.declared.fault.Fault.{Fault}
-use Rattle.grib_io.specs.Rows.{first_fault, first_place, or_then, choose}
+use Rattle.grib_base.specs.declared.code.Code.{Code}
+use Rattle.grib_base.specs.declared.fault.Fault.{Fault}
+use Rattle.grib_base.specs.Rows.{first_fault, first_place, or_then, choose}
 use Rattle.grib_bitmap.specs.Mask.{bitmap_rows, mask_of, present_count}
 use Rattle.grib_bitmap.proofs.Runs.{present_count-replicate}
 use Rattle.grib_packing.specs.declared.column.Column.{Column}
@@ -23,8 +23,8 @@ use Rattle.grib_packing.specs.Packed.{HasLayout, HasNumbers, IsComplex, group_pa
 use Rattle.grib_packing.specs.Packing.{packing_template, value_count}
 use Rattle.grib_packing.specs.Span.{IsTold}
 use Rattle.grib_groups.specs.Encoding.{LaysOut, ReadsBack}
-use Rattle.grib_simple.specs.Laws.{UnpackTo}
-use Rattle.grib_simple.specs.Written.{MayBePacked}
+use Rattle.grib_packing.specs.Laws.{UnpackTo}
+use Rattle.grib_packing.specs.Written.{MayBePacked}
 use Rattle.grib_simple.proofs.Accepted.{same_column}
 use Rattle.grib_simple.proofs.Back.{shared_rows}
 use Rattle.grib_simple.proofs.Fitting.{parts_false, number_back}

@@ -13,8 +13,8 @@ use Rattle.grib_complex.specs.declared.representation.Complex.{Complex}
 use Rattle.grib_complex.specs.declared.values.Values.{Values}
 use Rattle.grib_complex.specs.Descriptors.{IsAccepted}
 use Rattle.grib_bits.specs.Bits.{bits}
-use Rattle.grib_io.specs.declared.fault.Reason.TheVariants.{ScaledRange}
-use Rattle.grib_io.specs.Rows.{first_place, located, refusal}
+use Rattle.grib_base.specs.declared.fault.Reason.TheVariants.{ScaledRange}
+use Rattle.grib_base.specs.Rows.{first_place, located, refusal}
 use Rattle.grib_packing.specs.declared.column.Point.{Point}
 use Rattle.grib_packing.specs.Entries.{data_fault, entries_of, is_out_of_range}
 use Rattle.grib_groups.specs.Taking.{values}

@@ -5,10 +5,10 @@ use Rattle.std.proofs.lemmas.List.{length-append, length-drop, drop-drop}
 use Rattle.grib_bits.specs.Bits.{bits, bits_of}
 use Rattle.grib_bits.specs.Octets.{octets}
 use Rattle.grib_bits.proofs.OctetBits.{AreOctets, length-bits}
-use Rattle.grib_io.specs.declared.code.Code.{Code}
-use Rattle.grib_io.specs.declared.fault.Fault.{Fault}
-use Rattle.grib_io.specs.Rows.{first_fault, first_place, or_then, choose}
-use Rattle.grib_io.proofs.Places.{NoneOf, first_place-none}
+use Rattle.grib_base.specs.declared.code.Code.{Code}
+use Rattle.grib_base.specs.declared.fault.Fault.{Fault}
+use Rattle.grib_base.specs.Rows.{first_fault, first_place, or_then, choose}
+use Rattle.grib_base.proofs.Places.{NoneOf, first_place-none}
 use Rattle.grib_bitmap.specs.Mask.{bitmap_rows, mask_of}
 use Rattle.grib_packing.specs.declared.column.Column.{Column}
 use Rattle.grib_packing.specs.Column.{points_with_mask}
@@ -23,8 +23,8 @@ use Rattle.grib_packing.proofs.Fields.{segment}
 use Rattle.grib_packing.proofs.Sections.{AreOctets-all}
 use Rattle.grib_spatial.proofs.Undone.{undone_1, undone_2, undone-first, undone-second}
 use Rattle.grib_groups.specs.Encoding.{LaysOut, ReadsBack}
-use Rattle.grib_simple.specs.Laws.{UnpackTo}
-use Rattle.grib_simple.specs.Written.{MayBePacked}
+use Rattle.grib_packing.specs.Laws.{UnpackTo}
+use Rattle.grib_packing.specs.Written.{MayBePacked}
 use Rattle.grib_simple.proofs.Accepted.{same_column}
 use Rattle.grib_simple.proofs.Back.{shared_rows}
 use Rattle.grib_simple.proofs.Fitting.{number_back, parts_false}

@@ -2,7 +2,7 @@
 use Rattle.std.proofs.Common.{◌≡◌, ℕ, ◌+◌, ◌-◌, ◌*◌, ◌/◌, ◌<◌, ◌≤◌, List, [], ◌∷◌, ◌++◌, length, take, drop, get_or, map, sum, refl, sym, ap, ap₂, ◌∙◌, arith}
 use Rattle.std.proofs.lemmas.List.{length-append, length-take-le, length-map}
 use Rattle.std.proofs.lemmas.List.Elements.{All-head, All-tail}
-use Rattle.grib_io.specs.declared.code.Code.{Code}
+use Rattle.grib_base.specs.declared.code.Code.{Code}
 use Rattle.grib_packing.specs.declared.layout.Layout.{Layout}
 use Rattle.grib_packing.specs.Groupings.{IsGrouping, greatest, present_codes, joined, runs, length_bits, width_of}
 use Rattle.grib_packing.specs.Packed.{reference_of, group_fields, group_parts}

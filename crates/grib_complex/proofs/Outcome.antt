@@ -1,8 +1,8 @@
 -- Lemmas on what becomes of the codes of a Section 7.
 use Rattle.std.proofs.Common.{◌≡◌, ℕ, ◌+◌, ◌*◌, ◌<◌, ◌^◌, ◌⊎◌, Bool, true, false, cond, ◌&&◌, eqb, ltb, Option, Some, None, List, [], length, drop, refl, sym, ap, ap₂, ◌∙◌, arith, subst, inl, inr}
 use Rattle.std.proofs.lemmas.Bool.{cond-true, eq-eqb, lt-ltb}
-use Rattle.grib_io.specs.declared.fault.Reason.TheVariants.{FirstValueSign, ScaledRange}
-use Rattle.grib_io.specs.Rows.{first_fault, first_fault_at, first_place, located, refusal}
+use Rattle.grib_base.specs.declared.fault.Reason.TheVariants.{FirstValueSign, ScaledRange}
+use Rattle.grib_base.specs.Rows.{first_fault, first_fault_at, first_place, located, refusal}
 use Rattle.grib_packing.specs.declared.column.Point.{Point}
 use Rattle.grib_packing.specs.declared.layout.Layout.{Layout}
 use Rattle.grib_packing.specs.Complex.{layout_of, difference_order, extra_octets, descriptor_octets}
@@ -20,10 +20,9 @@ use Rattle.grib_complex.specs.Told.{Telling, Plainly, told}
 use Rattle.grib_complex.specs.Tells.{Tells, telling_of, ValuesTook}
 use Rattle.grib_complex.specs.Descriptors.{is_signed_at, telling_by, IsAccepted, IsReadable}
 use Rattle.grib_complex.proofs.Told.{length-told}
-use Rattle.grib_io.specs.declared.fault.UnpackFault.{UnpackFault}
-use Rattle.grib_io.specs.declared.fault.UnpackFault.TheVariants.{Refused, Memory}
-use Rattle.grib_groups.specs.Lists.{IsRefusal}
-use Rattle.grib_simple.specs.Unpacked.{IsUnpackFault}
+use Rattle.grib_base.specs.declared.fault.ReadFault.{ReadFault}
+use Rattle.grib_base.specs.declared.fault.ReadFault.TheVariants.{Refused, Memory}
+use Rattle.grib_base.specs.Faults.{IsReadFault}
 use Rattle.grib_complex.specs.declared.representation.Complex.{Complex}
 use Rattle.grib_complex.specs.Representation.{Spelled}
 use Rattle.grib_complex.proofs.Decided.{after_groups, fault_of_groups, entries-plain, entries-differences}
@@ -156,7 +155,7 @@ module _ (s5 s7 : List ℕ) (layout : Layout) (skip count order extra template :
     (start l : ℕ) (is_length : l ≡ length s7) (lists : first_fault (list_rows layout l skip) ≡ None)
     (signs : ◌≡◌ {A = ℕ} (cond (is_signed_at order extra s7 0) 1 (cond (is_signed_at order extra s7 1) 2 0)) 0) where
   -- one of rows S7.4 to S7.6 fails, or there is no memory
-  pub refused_groups : (fault : UnpackFault) → IsRefusal (first_fault_at start (group_rows layout s7 skip count)) fault → IsUnpackFault (located start (group_data_fault s5 s7)) fault
+  pub refused_groups : (fault : ReadFault) → IsReadFault (first_fault_at start (group_rows layout s7 skip count)) fault → IsReadFault (located start (group_data_fault s5 s7)) fault
   refused_groups (Refused f) is_fault =
       fault_of_groups s5 s7 start (lists_hold s5 s7 layout skip count order extra template same start l is_length lists signs) (signs_hold s5 s7 layout skip count order extra template same start l is_length lists signs)
       f (sym (rows_are s5 s7 layout skip count order extra template same start) ∙ is_fault)

@@ -6,10 +6,10 @@ use Rattle.grib_bits.specs.Bits.{bits}
 use Rattle.grib_bits.specs.Octets.{octets}
 use Rattle.grib_bits.specs.Plain.{plain}
 use Rattle.grib_bitmap.specs.Mask.{present_count}
-use Rattle.grib_io.specs.declared.code.Code.TheVariants.{Present}
-use Rattle.grib_io.specs.declared.fault.Fault.{Fault}
-use Rattle.grib_io.specs.declared.fault.Reason.TheVariants.{DataTooShort}
-use Rattle.grib_io.specs.Rows.{first_fault, located, refusal, choose}
+use Rattle.grib_base.specs.declared.code.Code.TheVariants.{Present}
+use Rattle.grib_base.specs.declared.fault.Fault.{Fault}
+use Rattle.grib_base.specs.declared.fault.Reason.TheVariants.{DataTooShort}
+use Rattle.grib_base.specs.Rows.{first_fault, located, refusal, choose}
 use Rattle.grib_packing.specs.declared.column.Point.TheVariants.{Scaled}
 use Rattle.grib_packing.specs.Entries.{data_fault, entries_of, group_data_fault, group_entries, complex_data_fault, complex_entries}
 use Rattle.grib_packing.specs.Groups.{list_octets, list_rows}

@@ -2,8 +2,8 @@
 use Rattle.std.proofs.Common.{◌≡◌, suc, ◌+◌, ◌%◌, ◌<◌, ◌^◌, true, false, List, [], ◌∷◌, ◌++◌, length, refl, sym, ap, ◌∙◌, arith, inl, inr}
 use Rattle.std.proofs.lemmas.Bool.{cases_lt}
 use Rattle.std.proofs.lemmas.List.{length_push}
-use Rattle.grib_io.specs.declared.code.Code.{Code}
-use Rattle.grib_io.specs.Rows.{first_place}
+use Rattle.grib_base.specs.declared.code.Code.{Code}
+use Rattle.grib_base.specs.Rows.{first_place}
 use Rattle.grib_packing.specs.Entries.{is_out_of_range}
 use Rattle.grib_groups.proofs.Places.{place_there, place_nowhere, place_before}
 use Rattle.grib_complex.specs.declared.telling.Teller.{Teller}

@@ -1,6 +1,6 @@
 -- Columns of which all points are the same, by differences.
 use Rattle.std.specs.Prelude.{◌≡◌, ℕ, false, List}
-use Rattle.grib_io.specs.declared.code.Code.{Code}
+use Rattle.grib_base.specs.declared.code.Code.{Code}
 use Rattle.grib_packing.specs.declared.column.Point.{Point}
 use Rattle.grib_packing.specs.Differences.{Descriptors, descriptors_of}
 use Rattle.grib_packing.specs.Misfits.{ToSpatial, are_differences_out, management_of, scaled_numbers}

@@ -2,14 +2,14 @@
 use Rattle.std.specs.Prelude.{◌≡◌, ℕ, ◌+◌, ◌-◌, ◌*◌, ◌^◌, ◌<◌, ◌≤◌, Bool, Option, None, Some, List, [], ◌++◌, length, take, drop, min}
 use Rattle.grib_bits.specs.Bits.{bits}
 use Rattle.grib_bitmap.specs.Mask.{present_count}
-use Rattle.grib_io.specs.declared.fault.Fault.{Fault}
-use Rattle.grib_io.specs.declared.fault.Reason.TheVariants.{ScaledRange}
-use Rattle.grib_io.specs.Rows.{first_place, located, refusal}
+use Rattle.grib_base.specs.declared.fault.Fault.{Fault}
+use Rattle.grib_base.specs.declared.fault.Reason.TheVariants.{ScaledRange}
+use Rattle.grib_base.specs.Rows.{first_place, located, refusal}
 use Rattle.grib_packing.specs.declared.group.Group.{Group}
 use Rattle.grib_packing.specs.declared.layout.Layout.{Layout}
 use Rattle.grib_packing.specs.Entries.{data_fault, entries_of, is_out_of_range}
 use Rattle.grib_packing.specs.Groups.{codes_from, list_octets, packed_bits}
-use Rattle.grib_simple.specs.Simple as simple
+use Rattle.grib_packing.specs.Representation as simple
 use Rattle.grib_groups.specs.declared.feeding.Fed.{Fed}
 use Rattle.grib_groups.specs.Feeding.{AreFeedable, IsFeedable, ListsFed, WasFed}
 use Rattle.grib_groups.specs.Taking.{values}

@@ -1,6 +1,6 @@
 -- The codes of a field as they are kept.
 use Rattle.std.specs.Prelude.{List, replicate}
-use Rattle.grib_io.specs.declared.code.Code.{Code}
+use Rattle.grib_base.specs.declared.code.Code.{Code}
 use Rattle.grib_complex.specs.declared.grouping.FieldCodes.{FieldCodes}
 use Rattle.grib_complex.specs.declared.grouping.FieldCodes.TheVariants.{Each, Same}
 

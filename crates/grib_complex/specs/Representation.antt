@@ -2,7 +2,7 @@
 use Rattle.std.specs.Prelude.{◌≡◌, ℕ, List}
 use Rattle.grib_bits.specs.Octets.{octets}
 use Rattle.grib_packing.specs.Complex.{layout_of, difference_order, extra_octets}
-use Rattle.grib_simple.specs.Simple as simple
+use Rattle.grib_packing.specs.Representation as simple
 use Rattle.grib_complex.specs.declared.representation.Complex.{Complex}
 
 -- the value has the numbers of the section

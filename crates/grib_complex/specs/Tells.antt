@@ -1,7 +1,7 @@
 -- What tells the points of codes, as these come.
 use Rattle.std.specs.Prelude.{◌≡◌, ℕ, ◌+◌, ◌<◌, ◌^◌, false, Option, None, Some, List, All, ◌++◌, length}
-use Rattle.grib_io.specs.declared.code.Code.{Code}
-use Rattle.grib_io.specs.Rows.{first_place}
+use Rattle.grib_base.specs.declared.code.Code.{Code}
+use Rattle.grib_base.specs.Rows.{first_place}
 use Rattle.grib_packing.specs.declared.column.Point.{Point}
 use Rattle.grib_packing.specs.Entries.{is_out_of_range}
 use Rattle.grib_spatial.specs.Running.{Run}

@@ -1,7 +1,7 @@
 -- The points that codes tell, one after another.
 use Rattle.std.specs.Prelude.{List, [], ◌∷◌, pos}
-use Rattle.grib_io.specs.declared.code.Code.{Code}
-use Rattle.grib_io.specs.declared.code.Code.TheVariants.{Present, Primary, Secondary}
+use Rattle.grib_base.specs.declared.code.Code.{Code}
+use Rattle.grib_base.specs.declared.code.Code.TheVariants.{Present, Primary, Secondary}
 use Rattle.grib_packing.specs.declared.column.Point.{Point}
 use Rattle.grib_packing.specs.declared.column.Point.TheVariants.{Scaled, Missing, Missing2}
 use Rattle.grib_packing.specs.Differences.{Descriptors, Last, next_number, last_after}

@@ -3,11 +3,10 @@
 ghost use Rattle.std.specs.Prelude.{◌≡◌, ◌≤◌, ◌∷◌, [], length, false, true, None, IfOk, MatchOption, MatchResult};
 ghost use Rattle.grib_packing.specs.Misfits.{ToComplex, first_misfit, is_outside as is_outside_of, is_scaled_outside, management_of, scaled_numbers as numbers_in};
 ghost use Rattle.grib_packing.specs.Packed.{placed_codes, target_codes};
-ghost use Rattle.grib_simple.specs.Written.{IsPackFault};
+ghost use Rattle.grib_packing.specs.Written.{IsPackFault};
 
-use grib_io::Code;
-use grib_packing::Point;
-use grib_simple::PackFault;
+use grib_base::Code;
+use grib_packing::{PackFault, Point};
 use std::alloc::{AllocError, Global};
 
 /// The missing value management of these points (code table 5.5), which is also how many codes are reserved:

@@ -7,7 +7,7 @@ ghost use Rattle.grib_complex.specs.Constant.{DifferencesOf};
 
 use crate::coding::is_outside;
 use crate::differencing::MOST;
-use grib_io::{Code, List};
+use grib_base::{Code, List};
 use grib_packing::Point;
 use grib_spatial::Differences;
 use std::alloc::Global;

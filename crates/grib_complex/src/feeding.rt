@@ -3,11 +3,11 @@
 ghost use Rattle.std.specs.Prelude.{◌≡◌, ◌⊎◌, ℕ, ◌+◌, ◌-◌, ◌*◌, ◌^◌, ◌<◌, ◌≤◌, Bool, Some, None, List, [], ◌++◌, length as length_of, take, drop, IfOk, MatchResult};
 ghost use Rattle.grib_bits.specs.Octets.{StatesItself};
 ghost use Rattle.grib_bitmap.specs.Mask.{present_count};
-ghost use Rattle.grib_io.specs.Rows.{located};
+ghost use Rattle.grib_base.specs.Rows.{located};
 ghost use Rattle.grib_packing.specs.Entries.{packing_fault, data_fault, column_from};
 ghost use Rattle.grib_packing.specs.Groups.{list_octets};
 ghost use Rattle.grib_packing.specs.Packing.{packing_template, value_count};
-ghost use Rattle.grib_simple.specs.Simple as shared;
+ghost use Rattle.grib_packing.specs.Representation as shared;
 ghost use Rattle.grib_complex.specs.Representation.{Spelled};
 ghost use Rattle.grib_complex.specs.Descriptors.{IsAccepted};
 ghost use Rattle.grib_complex.specs.Kept.{ArePoints};
@@ -19,11 +19,10 @@ use crate::keeping::Points;
 use crate::representation::{Complex, accepted_complex};
 use crate::telling::Teller;
 use crate::values::Values;
+use grib_base::{Fault, List, Reason, Section};
 use grib_bitmap::Mask;
 use grib_groups::{Fed, FedLists, lists_fit, octets_of_lists, part_of, rest_of};
-use grib_io::{Fault, Reason, Section};
-use grib_packing::Column;
-use grib_simple::{Simple, read_simple};
+use grib_packing::{Column, Simple, read_simple};
 use std::alloc::{AllocError, Global};
 
 /// Reads the column of a field as the octets of its Section 7 come, in any pieces (WMO-No. 306, Volume I.2,
@@ -77,9 +76,6 @@ impl Feeder {
         start: u64,
         length: u32,
     ) -> Result<Feeder, AllocError>
-        requires itself_5 { StatesItself section5.now.number section5.now.octets.now }
-        requires low_5 { 1 ≤ section5.now.start }
-        requires high_5 { section5.now.start ≤ 268435456 }
         requires accepted { packing_fault section5.now.octets.now (length_of mask) ≡ None }
         requires values { present_count mask ≡ value_count section5.now.octets.now }
         requires low { 1 ≤ start }
@@ -163,7 +159,7 @@ impl Feeder {
             reference: simple.reference,
             e: simple.e,
             d: simple.d,
-            points: grib_io::List::of(keeper.finish()),
+            points: List::of(keeper.finish()),
         })
     }
 }
@@ -177,9 +173,6 @@ fn start_state(
     start: u64,
     length: u32,
 ) -> Result<State, AllocError>
-    requires itself_5 { StatesItself section5.now.number section5.now.octets.now }
-    requires low_5 { 1 ≤ section5.now.start }
-    requires high_5 { section5.now.start ≤ 268435456 }
     requires accepted { packing_fault section5.now.octets.now count ≡ None }
     requires low { 1 ≤ start }
     requires high { start ≤ 268435456 }
@@ -226,9 +219,6 @@ fn start_grouped(
     start: u64,
     length: u32,
 ) -> Result<State, AllocError>
-    requires itself_5 { StatesItself section5.now.number section5.now.octets.now }
-    requires low_5 { 1 ≤ section5.now.start }
-    requires high_5 { section5.now.start ≤ 268435456 }
     requires accepted { packing_fault section5.now.octets.now count ≡ None }
     requires template { (packing_template section5.now.octets.now ≡ 2) ⊎ (packing_template section5.now.octets.now ≡ 3) }
     requires low { 1 ≤ start }

@@ -7,8 +7,8 @@ ghost use Rattle.grib_packing.specs.Span.{IsTold, IsBelow};
 ghost use Rattle.grib_groups.specs.Encoding.{AreMeasures, LaysOut};
 ghost use Rattle.grib_complex.specs.FieldCodes.{codes_in};
 
+use grib_base::Code;
 use grib_groups::{Layout, Measure, later_measures, measures_of, next_measure};
-use grib_io::Code;
 use grib_packing::{Span, bit_length};
 use grib_split::{Costs, chosen_lengths, fewest_lengths};
 use std::alloc::{AllocError, Global};

@@ -8,8 +8,8 @@ ghost use Rattle.grib_packing.specs.declared.column.Point.TheVariants.{Missing};
 ghost use Rattle.grib_complex.specs.Kept.{ArePoints, PointsKept};
 ghost use Rattle.grib_complex.specs.Laws.{points-none, points-more};
 
+use grib_base::push_within;
 use grib_bitmap::Mask;
-use grib_io::push_within;
 use grib_packing::Point;
 use std::alloc::{AllocError, Global};
 

@@ -4,8 +4,8 @@ ghost use Rattle.std.specs.Prelude.{◌≡◌, ◌⊎◌, ℕ, None, List};
 ghost use Rattle.grib_packing.specs.declared.column.Column as column_packing;
 ghost use Rattle.grib_packing.specs.Misfits.{ToComplex, ToSpatial, first_misfit};
 ghost use Rattle.grib_packing.specs.Packed.{Packed as HasPacked};
-ghost use Rattle.grib_simple.specs.Laws.{UnpackTo};
-ghost use Rattle.grib_simple.specs.Written.{MayBePacked};
+ghost use Rattle.grib_packing.specs.Laws.{UnpackTo};
+ghost use Rattle.grib_packing.specs.Written.{MayBePacked};
 
 use grib_groups::laws::what_is_written_reads_back;
 use grib_spatial::laws::differences_tell_their_numbers;

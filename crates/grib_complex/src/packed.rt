@@ -10,7 +10,7 @@ ghost use Rattle.grib_spatial.specs.Undoing.{read_with};
 ghost use Rattle.grib_packing.specs.Span.{IsTold};
 ghost use Rattle.grib_complex.specs.Constant.{DifferencesOf};
 ghost use Rattle.grib_complex.specs.FieldCodes.{codes_in};
-ghost use Rattle.grib_simple.specs.Written.{IsPacked, MayBePacked};
+ghost use Rattle.grib_packing.specs.Written.{IsPacked, MayBePacked};
 
 use crate::coding::{codes_at_points, management, scaled_numbers};
 use crate::constant::Constant;
@@ -20,9 +20,9 @@ use crate::told_codes::plainly_told;
 use crate::writing::{
     Differencing, complex_representation, groups_section, spatial_representation,
 };
-use grib_io::Code;
-use grib_packing::{Column, Point};
-use grib_simple::{PackFault, Packed, common_point, no_bitmap, room_for, write_head};
+use grib_base::Code;
+use grib_packing::{Column, PackFault, Packed, Point, no_bitmap, room_for, write_head};
+use grib_simple::common_point;
 use grib_spatial::{Differences, difference};
 use std::alloc::{AllocError, Global};
 

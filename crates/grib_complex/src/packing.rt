@@ -6,16 +6,15 @@ ghost use Rattle.grib_bitmap.specs.Mask.{present_count};
 ghost use Rattle.grib_packing.specs.Entries.{packing_fault};
 ghost use Rattle.grib_packing.specs.Misfits.{ToComplex, ToSpatial};
 ghost use Rattle.grib_packing.specs.Packing.{packing_template, value_count};
-ghost use Rattle.grib_simple.specs.Unpacked.{IsUnpacked};
+ghost use Rattle.grib_packing.specs.Unpacked.{IsUnpacked};
 
 use crate::keeping::Points;
 use crate::packed::{pack_complex, pack_spatial};
 use crate::representation::accepted_complex;
 use crate::unpacking::take_complex_values;
+use grib_base::{List, ReadFault, Section};
 use grib_bitmap::Mask;
-use grib_io::{List, Section, UnpackFault};
-use grib_packing::Column;
-use grib_simple::{PackFault, Packed, Packing};
+use grib_packing::{Column, PackFault, Packed, Packing};
 use std::alloc::Global;
 
 /// Complex packing: the numbers of the present points stand in groups, each with a reference and a
@@ -34,7 +33,7 @@ impl Packing for ComplexPacking {
         section5: &Section<'_>,
         mask: &Mask,
         section7: &Section<'_>,
-    ) -> Result<Column, UnpackFault> {
+    ) -> Result<Column, ReadFault> {
         unpack(alloc, section5, mask, section7)
     }
 
@@ -72,7 +71,7 @@ impl Packing for SpatialPacking {
         section5: &Section<'_>,
         mask: &Mask,
         section7: &Section<'_>,
-    ) -> Result<Column, UnpackFault> {
+    ) -> Result<Column, ReadFault> {
         unpack(alloc, section5, mask, section7)
     }
 
@@ -87,13 +86,7 @@ fn unpack(
     section5: &Section<'_>,
     mask: &Mask,
     section7: &Section<'_>,
-) -> Result<Column, UnpackFault>
-    requires itself_5 { StatesItself section5.now.number section5.now.octets.now }
-    requires low_5 { 1 ≤ section5.now.start }
-    requires high_5 { section5.now.start ≤ 268435456 }
-    requires itself_7 { StatesItself section7.now.number section7.now.octets.now }
-    requires low_7 { 1 ≤ section7.now.start }
-    requires high_7 { section7.now.start ≤ 268435456 }
+) -> Result<Column, ReadFault>
     requires accepted { packing_fault section5.now.octets.now (length mask.now) ≡ None }
     requires template { (packing_template section5.now.octets.now ≡ 2) ⊎ (packing_template section5.now.octets.now ≡ 3) }
     requires values { present_count mask.now ≡ value_count section5.now.octets.now }
@@ -101,10 +94,10 @@ fn unpack(
 {
     let complex = accepted_complex(section5, mask.len());
     let Ok(mask) = mask.copy(alloc) else {
-        return Err(UnpackFault::Memory);
+        return Err(ReadFault::Memory);
     };
     let Ok(points) = Points::start(alloc, mask) else {
-        return Err(UnpackFault::Memory);
+        return Err(ReadFault::Memory);
     };
     let points = match take_complex_values(alloc, &complex, section7, points) {
         Ok(points) => points,

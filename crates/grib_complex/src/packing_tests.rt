@@ -5,9 +5,8 @@ ghost use Rattle.std.specs.List.{list_any};
 ghost use Rattle.grib_packing.specs.Entries.{is_out_of_range};
 
 use super::*;
-use grib_io::List;
-use grib_packing::{Column, Point};
-use grib_simple::{PackFault, Packed, Packing};
+use grib_base::List;
+use grib_packing::{Column, PackFault, Packed, Packing, Point};
 use std::alloc::{AllocError, Global};
 use std::test::Fail;
 

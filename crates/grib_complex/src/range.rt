@@ -1,7 +1,7 @@
 //! Fields whose numbers cannot leave the range, whatever their codes are.
 
 ghost use Rattle.std.specs.Prelude.{◌≡◌, ◌⊎◌, ℕ, ◌+◌, ◌-◌, ◌*◌, ◌^◌, ◌<◌, ◌≤◌, min, cond, ◌==◌, List, Bool, true, false, length, nat_abs};
-ghost use Rattle.grib_io.specs.Rows.{first_place};
+ghost use Rattle.grib_base.specs.Rows.{first_place};
 ghost use Rattle.grib_packing.specs.declared.layout.Layout.{Layout as layout_of_groups};
 ghost use Rattle.grib_packing.specs.Entries.{is_out_of_range};
 ghost use Rattle.grib_packing.specs.Groups.{codes_from};

@@ -2,18 +2,18 @@
 
 ghost use Rattle.std.specs.Prelude.{◌≡◌, ◌⊎◌, ◌+◌, ◌*◌, ◌^◌, ◌<◌, ◌≤◌, ◌==◌, cond, slice_index, length, Some, None, MatchResult};
 ghost use Rattle.grib_bits.specs.Octets.{StatesItself};
-ghost use Rattle.grib_io.specs.Rows.{first_fault, first_fault_at};
+ghost use Rattle.grib_base.specs.Rows.{first_fault, first_fault_at};
 ghost use Rattle.grib_packing.specs.Complex.{complex_rows, layout_of};
 ghost use Rattle.grib_packing.specs.Entries.{packing_fault};
 ghost use Rattle.grib_packing.specs.Packing.{packing_rows, packing_template};
-ghost use Rattle.grib_simple.specs.Simple as shared;
+ghost use Rattle.grib_packing.specs.Representation as shared;
 ghost use Rattle.grib_complex.specs.Descriptors.{IsAccepted};
 ghost use Rattle.grib_complex.specs.Representation.{Spelled};
 
 use byteorder::{BigEndian, ByteOrder};
+use grib_base::{Fault, Reason, Section};
 use grib_groups::Layout;
-use grib_io::{Fault, Reason, Section};
-use grib_simple::{Simple, read_simple};
+use grib_packing::{Simple, read_simple};
 
 /// What Section 5 says of a field in complex packing (WMO-No. 306, Volume I.2, FM 92 GRIB edition 2, data
 /// representation templates 5.2 and 5.3).
@@ -50,9 +50,6 @@ impl Complex {
 /// missing value management, the number of groups, the widths and lengths of groups, the order of
 /// differencing or the octets of its descriptors are not of the profile.
 pub fn read_complex(section: &Section<'_>, points: u32) -> Result<Complex, Fault>
-    requires itself { StatesItself section.now.number section.now.octets.now }
-    requires low { 1 ≤ section.now.start }
-    requires high { section.now.start ≤ 268435456 }
     requires accepted { first_fault (packing_rows section.now.octets.now points) ≡ None }
     requires template { (packing_template section.now.octets.now ≡ 2) ⊎ (packing_template section.now.octets.now ≡ 3) }
     ensures { MatchResult result
@@ -107,9 +104,6 @@ pub fn read_complex(section: &Section<'_>, points: u32) -> Result<Complex, Fault
 
 /// The same of a section that is accepted.
 pub fn accepted_complex(section: &Section<'_>, points: u32) -> Complex
-    requires itself { StatesItself section.now.number section.now.octets.now }
-    requires low { 1 ≤ section.now.start }
-    requires high { section.now.start ≤ 268435456 }
     requires accepted { packing_fault section.now.octets.now points ≡ None }
     requires template { (packing_template section.now.octets.now ≡ 2) ⊎ (packing_template section.now.octets.now ≡ 3) }
     ensures accepted { IsAccepted result }

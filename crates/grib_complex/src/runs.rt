@@ -7,8 +7,8 @@ ghost use Rattle.grib_complex.specs.Tells.{IsWithin, PlainTook, SteadilyTook, te
 
 use crate::keeping::Keeper;
 use crate::values::Plain;
+use grib_base::Code;
 use grib_groups::CodeRun;
-use grib_io::Code;
 use grib_packing::Point;
 use grib_spatial::Steady;
 

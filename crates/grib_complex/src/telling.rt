@@ -1,12 +1,12 @@
 //! The points that codes tell.
 
 ghost use Rattle.std.specs.Prelude.{◌≡◌, ℕ, ◌+◌, ◌%◌, ◌<◌, ◌≤◌, ◌^◌, true, List, [], ◌∷◌, ◌++◌, length, None};
-ghost use Rattle.grib_io.specs.declared.code.Code.{Code as code_of_value};
+ghost use Rattle.grib_base.specs.declared.code.Code.{Code as code_of_value};
 ghost use Rattle.grib_groups.specs.Taking.{number_of};
 ghost use Rattle.grib_complex.specs.Told.{Telling, point_of, after};
 ghost use Rattle.grib_complex.specs.Tells.{StayWithin, Tells, telling_of};
 
-use grib_io::Code;
+use grib_base::Code;
 use grib_packing::Point;
 use grib_spatial::{Running, ScaledRange};
 

@@ -10,10 +10,9 @@ ghost use Rattle.grib_complex.specs.Feeding.{IsFed};
 
 use super::*;
 use byteorder::{BigEndian, ByteOrder};
+use grib_base::{Fault, ReadFault, Reason, Section};
 use grib_bitmap::{Mask, ones, read_mask};
-use grib_io::{Fault, Reason, Section, UnpackFault};
-use grib_packing::{Column, Point};
-use grib_simple::{Packing, read_simple};
+use grib_packing::{Column, Packing, Point, read_simple};
 use std::alloc::Global;
 use std::process::Abort;
 use std::test::Fail;
@@ -41,7 +40,7 @@ fn unpacked(
     representation: &[u8],
     mask: &Mask,
     data: &[u8],
-) -> Result<Column, UnpackFault> {
+) -> Result<Column, ReadFault> {
     let answer = whole(rt, alloc, representation, mask, data);
     for size in [1, 7, 1000] {
         let pieces = in_pieces(rt, alloc, representation, mask, data, size);
@@ -58,7 +57,7 @@ fn whole(
     representation: &[u8],
     mask: &Mask,
     data: &[u8],
-) -> Result<Column, UnpackFault> {
+) -> Result<Column, ReadFault> {
     let section5 = section(rt, 5, 144, representation);
     let section7 = section(rt, 7, 200, data);
     let Ok(simple) = read_simple(&section5, mask.len()) else {
@@ -108,9 +107,6 @@ fn feeder(
     mask: &Mask,
     length: u32,
 ) -> Feeder
-    requires itself { StatesItself section5.now.number section5.now.octets.now }
-    requires low { 1 ≤ section5.now.start }
-    requires high { section5.now.start ≤ 268435456 }
     requires accepted { packing_fault section5.now.octets.now (length_of mask.now) ≡ None }
     requires values { present_count mask.now ≡ value_count section5.now.octets.now }
     ensures { IsFed result }
@@ -139,19 +135,19 @@ fn fed(rt: &impl Abort, mut feeder: Feeder, data: &[u8], size: usize) -> Result<
 }
 
 /// Whether a field that came in pieces has the answer of the whole.
-fn is_same(fed: &Result<Column, Fault>, whole: &Result<Column, UnpackFault>) -> bool {
+fn is_same(fed: &Result<Column, Fault>, whole: &Result<Column, ReadFault>) -> bool {
     match (fed, whole) {
         (Ok(column), Ok(same)) => {
             (column.reference, column.e, column.d) == (same.reference, same.e, same.d)
                 && column.points.as_slice() == same.points.as_slice()
         }
-        (Err(fault), Err(same)) => *same == UnpackFault::Refused(*fault),
+        (Err(fault), Err(same)) => *same == ReadFault::Refused(*fault),
         _ => false,
     }
 }
 
 /// Whether the field has these points.
-fn has_points(answer: &Result<Column, UnpackFault>, points: &[Point]) -> bool {
+fn has_points(answer: &Result<Column, ReadFault>, points: &[Point]) -> bool {
     match answer {
         Ok(column) => column.points.as_slice() == points,
         Err(_fault) => false,
@@ -159,12 +155,7 @@ fn has_points(answer: &Result<Column, UnpackFault>, points: &[Point]) -> bool {
 }
 
 /// Whether the field is refused so.
-fn is_refused(
-    answer: &Result<Column, UnpackFault>,
-    octet: u64,
-    reason: Reason,
-    detail: u64,
-) -> bool {
+fn is_refused(answer: &Result<Column, ReadFault>, octet: u64, reason: Reason, detail: u64) -> bool {
     let expected = Fault {
         octet,
         reason,
@@ -172,7 +163,7 @@ fn is_refused(
     };
     match answer {
         Ok(_column) => false,
-        Err(fault) => *fault == UnpackFault::Refused(expected),
+        Err(fault) => *fault == ReadFault::Refused(expected),
     }
 }
 
@@ -346,7 +337,7 @@ fn numbers_out_of_range(rt: HostRuntime) -> Result<(), Fail> {
         reason: Reason::ScaledRange,
         detail: 18921,
     };
-    assert!(rt; accepted == Err(UnpackFault::Refused(refusal)));
+    assert!(rt; accepted == Err(ReadFault::Refused(refusal)));
     Ok(())
 }
 
@@ -357,7 +348,7 @@ fn accepted(
     representation: &[u8],
     points: u32,
     data: &[u8],
-) -> Result<(), UnpackFault> {
+) -> Result<(), ReadFault> {
     let section5 = section(rt, 5, 144, representation);
     let section7 = section(rt, 7, 200, data);
     let Ok(simple) = read_simple(&section5, points) else {
@@ -385,7 +376,7 @@ fn what_is_accepted(rt: HostRuntime) {
         detail: 12,
     };
     let answer = accepted(&rt, rt.alloc(), &M3, 4, &short);
-    assert!(rt; answer == Err(UnpackFault::Refused(refusal)));
+    assert!(rt; answer == Err(ReadFault::Refused(refusal)));
 }
 
 /// Section 5 of 20 values of 12 bits in template 5.0.

@@ -7,13 +7,13 @@ ghost use Rattle.grib_packing.specs.Entries.{is_out_of_range};
 ghost use Rattle.grib_packing.specs.Misfits.{ToComplex, ToSpatial, are_differences_out, first_misfit, management_of, scaled_numbers as numbers_in};
 ghost use Rattle.grib_packing.specs.Packed.{target_codes};
 ghost use Rattle.grib_spatial.specs.Undoing.{read_with};
-ghost use Rattle.grib_simple.specs.Written.{IsPackFault};
+ghost use Rattle.grib_packing.specs.Written.{IsPackFault};
 ghost use Rattle.grib_complex.specs.FieldCodes.{codes_in};
 
 use crate::coding::{management, marks, plain_code, plain_codes};
 use crate::grouping::FieldCodes;
-use grib_packing::Point;
-use grib_simple::{PackFault, common_point};
+use grib_packing::{PackFault, Point};
+use grib_simple::common_point;
 use std::alloc::Global;
 
 /// The codes of a column, and the missing value management.

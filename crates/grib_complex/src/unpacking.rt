@@ -2,11 +2,11 @@
 
 ghost use Rattle.std.specs.Prelude.{◌≡◌, ◌⊎◌, ℕ, ◌*◌, ◌≤◌, List, length, replicate, pos, true, None, Some, IfOk, MatchResult};
 ghost use Rattle.grib_bits.specs.Octets.{StatesItself};
-ghost use Rattle.grib_io.specs.Rows.{first_fault, first_fault_at, located};
+ghost use Rattle.grib_base.specs.Rows.{first_fault, first_fault_at, located};
 ghost use Rattle.grib_packing.specs.declared.column.Point.TheVariants.{Scaled};
 ghost use Rattle.grib_packing.specs.Entries.{packing_fault, complex_data_fault, complex_entries, group_data_fault, group_entries, range_rows};
 ghost use Rattle.grib_packing.specs.Packing.{packing_template, value_count};
-ghost use Rattle.grib_simple.specs.Unpacked.{IsUnpackFault};
+ghost use Rattle.grib_base.specs.Faults.{IsReadFault};
 ghost use Rattle.grib_complex.specs.Representation.{Spelled};
 ghost use Rattle.grib_complex.specs.Descriptors.{IsAccepted, IsReadable};
 
@@ -17,8 +17,8 @@ use crate::representation::{Complex, accepted_complex};
 use crate::telling::Teller;
 use crate::values::{Plain, Values};
 use byteorder::{BigEndian, ByteOrder};
+use grib_base::{Fault, ReadFault, Reason, Section};
 use grib_groups::{Table, lists_fit, read_groups, take_codes};
-use grib_io::{Fault, Reason, Section, UnpackFault};
 use grib_packing::Point;
 use std::alloc::Global;
 
@@ -35,20 +35,14 @@ pub fn take_values<K: Keeper + Drop>(
     points: u32,
     section7: &Section<'_>,
     keeper: K,
-) -> Result<K, UnpackFault>
-    requires itself_5 { StatesItself section5.now.number section5.now.octets.now }
-    requires low_5 { 1 ≤ section5.now.start }
-    requires high_5 { section5.now.start ≤ 268435456 }
-    requires itself_7 { StatesItself section7.now.number section7.now.octets.now }
-    requires low_7 { 1 ≤ section7.now.start }
-    requires high_7 { section7.now.start ≤ 268435456 }
+) -> Result<K, ReadFault>
     requires accepted { packing_fault section5.now.octets.now points ≡ None }
     requires template { (packing_template section5.now.octets.now ≡ 2) ⊎ (packing_template section5.now.octets.now ≡ 3) }
     ensures { MatchResult result
         (λ after. (complex_data_fault section5.now.octets.now section7.now.octets.now ≡ None)
         × K.kept keeper (complex_entries section5.now.octets.now section7.now.octets.now) after
         × (length (complex_entries section5.now.octets.now section7.now.octets.now) ≡ value_count section5.now.octets.now))
-        (IsUnpackFault (located section7.now.start (complex_data_fault section5.now.octets.now section7.now.octets.now))) }
+        (IsReadFault (located section7.now.start (complex_data_fault section5.now.octets.now section7.now.octets.now))) }
 {
     let complex = accepted_complex(section5, points);
     take_complex_values(alloc, &complex, section7, keeper)
@@ -60,16 +54,13 @@ pub fn take_complex_values<K: Keeper + Drop>(
     complex: &Complex,
     section7: &Section<'_>,
     keeper: K,
-) -> Result<K, UnpackFault>
+) -> Result<K, ReadFault>
     requires accepted { IsAccepted complex.now }
-    requires itself { StatesItself section7.now.number section7.now.octets.now }
-    requires low { 1 ≤ section7.now.start }
-    requires high { section7.now.start ≤ 268435456 }
     ensures { (s5 : List ℕ) → Spelled complex.now s5 → MatchResult result
         (λ after. (complex_data_fault s5 section7.now.octets.now ≡ None)
         × K.kept keeper (complex_entries s5 section7.now.octets.now) after
         × (length (complex_entries s5 section7.now.octets.now) ≡ value_count s5))
-        (IsUnpackFault (located section7.now.start (complex_data_fault s5 section7.now.octets.now))) }
+        (IsReadFault (located section7.now.start (complex_data_fault s5 section7.now.octets.now))) }
 {
     if complex.layout.groups == 0 {
         return Ok(keep_zeros(complex.simple.values, keeper));
@@ -93,17 +84,14 @@ fn take_group_values<K: Keeper + Drop>(
     complex: &Complex,
     section7: &Section<'_>,
     keeper: K,
-) -> Result<K, UnpackFault>
+) -> Result<K, ReadFault>
     requires accepted { IsAccepted complex.now }
     requires groups { 1 ≤ complex.now.layout.groups }
-    requires itself { StatesItself section7.now.number section7.now.octets.now }
-    requires low { 1 ≤ section7.now.start }
-    requires high { section7.now.start ≤ 268435456 }
     ensures { (s5 : List ℕ) → Spelled complex.now s5 → MatchResult result
         (λ after. (group_data_fault s5 section7.now.octets.now ≡ None)
         × K.kept keeper (group_entries s5 section7.now.octets.now) after
         × (length (group_entries s5 section7.now.octets.now) ≡ value_count s5))
-        (IsUnpackFault (located section7.now.start (group_data_fault s5 section7.now.octets.now))) }
+        (IsReadFault (located section7.now.start (group_data_fault s5 section7.now.octets.now))) }
 {
     let table = match read_table(alloc, complex, section7) {
         Ok(table) => table,
@@ -117,7 +105,7 @@ fn take_group_values<K: Keeper + Drop>(
     }
     match take_points(complex, section7, table, keeper) {
         Ok(keeper) => Ok(keeper),
-        Err(fault) => Err(UnpackFault::Refused(fault)),
+        Err(fault) => Err(ReadFault::Refused(fault)),
     }
 }
 
@@ -135,36 +123,25 @@ fn take_plainly<K: Keeper>(complex: &Complex, section7: &Section<'_>, table: Tab
 }
 
 /// The groups of a field, whose Section 7 passes all rows but that on the range of its numbers.
-fn read_table(
-    alloc: Global,
-    complex: &Complex,
-    section7: &Section<'_>,
-) -> Result<Table, UnpackFault>
+fn read_table(alloc: Global, complex: &Complex, section7: &Section<'_>) -> Result<Table, ReadFault>
     requires accepted { IsAccepted complex.now }
     requires groups { 1 ≤ complex.now.layout.groups }
-    requires itself { StatesItself section7.now.number section7.now.octets.now }
-    requires low { 1 ≤ section7.now.start }
-    requires high { section7.now.start ≤ 268435456 }
     ensures read { IfOk result (IsReadable complex.now section7.now.octets.now) }
     ensures fault { (s5 : List ℕ) → Spelled complex.now s5 → MatchResult result
         (λ _. group_data_fault s5 section7.now.octets.now ≡ first_fault (range_rows s5 section7.now.octets.now))
-        (IsUnpackFault (located section7.now.start (group_data_fault s5 section7.now.octets.now))) }
+        (IsReadFault (located section7.now.start (group_data_fault s5 section7.now.octets.now))) }
 {
     let start = section7.start;
     let length = length_of(section7);
     let extra = complex.extra;
     let skip = complex.skip();
     if !lists_fit(&complex.layout, length, skip) {
-        return Err(UnpackFault::Refused(Fault::at(start, Reason::DataTooShort, u64::from(length))));
+        return Err(ReadFault::Refused(Fault::at(start, Reason::DataTooShort, u64::from(length))));
     }
     let signed = signed_first_value(section7.octets, complex.order, extra);
     if signed > 0 {
         let place = start + 5 + u64::from(signed - 1) * u64::from(extra);
-        return Err(UnpackFault::Refused(Fault::at(
-            place,
-            Reason::FirstValueSign,
-            u64::from(signed),
-        )));
+        return Err(ReadFault::Refused(Fault::at(place, Reason::FirstValueSign, u64::from(signed))));
     }
     read_groups(
         alloc,
@@ -197,8 +174,6 @@ fn take_points<K: Keeper + Drop>(
     keeper: K,
 ) -> Result<K, Fault>
     requires accepted { IsAccepted complex.now }
-    requires low { 1 ≤ section7.now.start }
-    requires high { section7.now.start ≤ 268435456 }
     requires read { IsReadable complex.now section7.now.octets.now table }
     ensures { (s5 : List ℕ) → Spelled complex.now s5 → MatchResult result
         (λ after. (first_fault (range_rows s5 section7.now.octets.now) ≡ None)
@@ -226,7 +201,6 @@ fn take_points<K: Keeper + Drop>(
 
 /// The length that a section states, which is its own.
 fn length_of(section: &Section<'_>) -> u32
-    requires { StatesItself section.now.number section.now.octets.now }
     ensures { result ≡ length section.now.octets.now }
 {
     BigEndian::read_u32(section.octets)

@@ -7,8 +7,8 @@ ghost use Rattle.grib_complex.specs.Laws.{plain-none, plain-more, values-none, v
 use crate::keeping::Keeper;
 use crate::runs::{Steadily, keep_plainly, keep_steadily, plain_point};
 use crate::telling::Teller;
+use grib_base::Code;
 use grib_groups::{CodeRun, RunTaker, Taker};
-use grib_io::Code;
 use grib_packing::Point;
 
 /// Tells the point of each code, and hands it on.

@@ -4,21 +4,19 @@ ghost use Rattle.std.specs.Prelude.{◌≡◌, ℕ, ◌+◌, ◌*◌, ◌%◌, �
 ghost use Rattle.grib_bits.specs.Bits.{bits as bits_in};
 ghost use Rattle.grib_bits.specs.Octets.{octets};
 ghost use Rattle.grib_packing.specs.declared.column.Column as column_packing;
-ghost use Rattle.grib2_sections.specs.Encoding.{octets_of, AddsOctets};
+ghost use Rattle.grib_bits.specs.Encoding.{octets_of, AddsOctets};
 ghost use Rattle.grib_packing.specs.Groupings.{runs};
 ghost use Rattle.grib_packing.specs.Packed.{HasContents, HasNumbers, group_parts};
 ghost use Rattle.grib_groups.specs.Encoding.{AreMeasures, LaysOut};
-ghost use Rattle.grib_simple.specs.Sections.{number_octets};
+ghost use Rattle.grib_packing.specs.Sections.{number_octets};
 ghost use Rattle.grib_complex.specs.FieldCodes.{codes_in};
 ghost use Rattle.grib_complex.specs.Written.{HasLayoutOf, layout_octets};
 
 use crate::grouping::FieldCodes;
-use grib_bits::BitWriter;
+use grib_base::List;
+use grib_bits::{BitWriter, write_u8, write_u32};
 use grib_groups::{Layout, Measure, encode_measured_groups, encode_same};
-use grib_io::List;
-use grib_packing::Column;
-use grib_simple::{octets_written, write_head, write_numbers};
-use grib2_sections::{write_u8, write_u32};
+use grib_packing::{Column, octets_written, write_head, write_numbers};
 
 /// What Section 5 says of differences: their order (code table 5.6), and the octets of each extra descriptor.
 #[derive(Clone, Copy, Debug)]

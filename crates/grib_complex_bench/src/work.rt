@@ -7,10 +7,10 @@ ghost use Rattle.grib_packing.specs.Packing.{packing_template, value_count};
 
 use anyhow::{Result, anyhow, bail, ensure};
 use byteorder::{BigEndian, ByteOrder};
+use grib_base::{ReadFault, Section};
 use grib_bitmap::{Mask, ones};
 use grib_complex::{ComplexPacking, Feeder, Nothing, SpatialPacking, read_complex, take_values};
-use grib_io::{Section, UnpackFault};
-use grib_simple::{Column, Packing, Point, read_simple};
+use grib_packing::{Column, Packing, Point, read_simple};
 use std::alloc::Global;
 
 /// Each so many points one is looked at.
@@ -105,8 +105,8 @@ pub fn accepted(alloc: Global, representation: &[u8], points: u32, data: &[u8]) 
     let section7 = section(7, data)?;
     match take_values(alloc, &section5, points, &section7, Nothing) {
         Ok(_nothing) => Ok(1),
-        Err(UnpackFault::Refused(_)) => Ok(0),
-        Err(UnpackFault::Memory) => bail!("there is no memory"),
+        Err(ReadFault::Refused(_)) => Ok(0),
+        Err(ReadFault::Memory) => bail!("there is no memory"),
     }
 }
 

@@ -1,6 +1,6 @@
 -- What comes of a message.
 use Rattle.std.proofs.Common.{◌≡◌, ◌⊎◌, ℕ, true, false, Bool, ◌||◌, ◌==◌, None, Some, Option, List, [], length, refl, sym, ap, ◌∙◌, subst, inl, inr, eqb-true}
-use Rattle.grib_simple.specs.Written.{IsTarget}
+use Rattle.grib_packing.specs.Written.{IsTarget}
 use Rattle.grib_stream.specs.Acts.{Act, World, writes, DidFront}
 use Rattle.grib_stream.specs.Task.{Gives, Ends}
 use Rattle.grib_stream.proofs.Worlds.{did_none}

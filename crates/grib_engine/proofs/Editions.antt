@@ -1,7 +1,7 @@
 -- What is given of a message that was read, by its edition.
 use Rattle.std.proofs.Common.{◌≡◌, ℕ, ◌==◌, true, List, length, take, refl, sym, ap, ◌∙◌, subst}
 use Rattle.std.proofs.lemmas.Bool.{false≢true}
-use Rattle.grib_io.specs.Rows.{choose}
+use Rattle.grib_base.specs.Rows.{choose}
 use Rattle.grib2_sections.specs.Head.{edition}
 use Rattle.grib2_message.specs.Fields.{field_count}
 use Rattle.grib_stream.specs.declared.place.Place.{Place}

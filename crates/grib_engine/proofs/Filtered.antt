@@ -5,7 +5,7 @@ use Rattle.std.specs.declared.option.Option.{Option}
 use Rattle.std.specs.Io.KnownBytes.{Appends}
 use Rattle.std.proofs.KnownBytes.{Appends-trans}
 use Rattle.grib_io.specs.Outside.{AppendsFront}
-use Rattle.grib_io.specs.Rows.{choose}
+use Rattle.grib_base.specs.Rows.{choose}
 use Rattle.grib_keys.specs.declared.condition.Condition.{Condition}
 use Rattle.grib_select.specs.Values.{fulfils_all}
 use Rattle.grib_select.specs.Single.{single_of}

@@ -4,9 +4,9 @@ use Rattle.std.specs.List.{concat}
 use Rattle.std.proofs.lemmas.Bool.{cases_Bool, cases_lt, false≢true}
 use Rattle.std.proofs.lemmas.List.{take_all}
 use Rattle.std.proofs.lemmas.List.Elements.{All-nil, All-cons, All-head, All-tail, All-take}
-use Rattle.grib_io.specs.Rows.{choose}
+use Rattle.grib_base.specs.Rows.{choose}
 use Rattle.grib_packing.specs.Misfits.{Target}
-use Rattle.grib_simple.specs.Written.{IsTarget}
+use Rattle.grib_packing.specs.Written.{IsTarget}
 use Rattle.grib2_sections.specs.Head.{edition}
 use Rattle.grib2_sections.specs.Verdict.{Accepted}
 use Rattle.grib2_message.specs.Message.{IsMessage}

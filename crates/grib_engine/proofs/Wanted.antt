@@ -1,7 +1,7 @@
 -- How many octets a message has at least, by the octets that are there.
 use Rattle.std.proofs.Common.{◌≡◌, ℕ, ◌≤◌, false, None, List, ◌++◌, length, ◌==◌, sym, ap, ◌∙◌, arith, ⊎_elim, ltb-false}
 use Rattle.std.proofs.lemmas.Bool.{cond-true, cond-false}
-use Rattle.grib_io.specs.Rows.{first_fault}
+use Rattle.grib_base.specs.Rows.{first_fault}
 use Rattle.grib2_sections.specs.Head.{edition, total_length, total_length_1, discipline, head_rows, head_of}
 use Rattle.grib2_sections.specs.declared.indicator.Head.{Head}
 use Rattle.grib2_sections.specs.Verdict.{Accepted}

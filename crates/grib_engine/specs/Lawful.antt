@@ -5,10 +5,10 @@ use Rattle.std.proofs.lemmas.List.{drop_all, take-append-le}
 use Rattle.std.proofs.lemmas.List.Sums.{count_by-le-length}
 use lib.Seq.{drop-append-le}
 use Rattle.grib_bits.specs.Octets.{num_on, octets}
-use Rattle.grib_io.specs.declared.fault.Fault.{Fault}
-use Rattle.grib_io.specs.declared.fault.Reason.{Reason}
-use Rattle.grib_io.specs.declared.fault.Reason.TheVariants.{Truncated}
-use Rattle.grib_io.specs.Rows.{choose, first_fault}
+use Rattle.grib_base.specs.declared.fault.Fault.{Fault}
+use Rattle.grib_base.specs.declared.fault.Reason.{Reason}
+use Rattle.grib_base.specs.declared.fault.Reason.TheVariants.{Truncated}
+use Rattle.grib_base.specs.Rows.{choose, first_fault}
 use Rattle.grib2_sections.specs.Verdict.{Verdict, Accepted, Refused}
 use Rattle.grib2_sections.specs.Head.{edition, head_rows}
 use Rattle.grib2_sections.specs.Frame.{ends_at, section_at, placed_at}

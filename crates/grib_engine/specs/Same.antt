@@ -2,7 +2,7 @@
 -- point the same values.
 use Rattle.std.specs.Prelude.{◌≡◌, ℕ, ◌^◌, ◌≤◌, ◌==◌, Option, Some, None, List, [], ◌∷◌, take}
 use Rattle.std.specs.List.{concat}
-use Rattle.grib_io.specs.Rows.{choose}
+use Rattle.grib_base.specs.Rows.{choose}
 use Rattle.grib_packing.specs.Misfits.{Target}
 use Rattle.grib2_sections.specs.Head.{edition}
 use Rattle.grib2_message.specs.Message.{IsMessage}

@@ -1,7 +1,7 @@
 -- What a run of `split` leaves on a shelf, wherever it ends.
 use Rattle.std.specs.Prelude.{◌≡◌, ◌≢◌, ℕ, ◌+◌, ◌==◌, ◌⊎◌, Some, List, [], ◌∷◌, ◌++◌, take, drop, All}
 use Rattle.std.specs.declared.option.Option.{Option}
-use Rattle.grib_io.specs.Rows.{choose}
+use Rattle.grib_base.specs.Rows.{choose}
 use Rattle.grib_io.specs.Shelves.{Held}
 use Rattle.grib2_sections.specs.Head.{edition}
 use Rattle.grib2_message.specs.Fields.{field_count}

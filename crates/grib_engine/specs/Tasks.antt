@@ -2,7 +2,7 @@
 use Rattle.std.specs.Prelude.{ℕ, zero, suc, ◌+◌, ◌^◌, Bool, Option, Some, None, List, [], ◌++◌, length, ◌==◌}
 use Rattle.std.specs.List.{list_all, range_with_len}
 use Rattle.grib_dyadic.specs.Reference.{ieee, reduced}
-use Rattle.grib_io.specs.Rows.{choose}
+use Rattle.grib_base.specs.Rows.{choose}
 use Rattle.grib2_sections.specs.Head.{edition}
 use Rattle.grib2_sections.specs.Verdict.{Verdict, Accepted, Refused}
 use Rattle.grib_stream.specs.declared.place.Place.{Place}

@@ -1,7 +1,7 @@
 //! What is to be done with an input.
 
 use crate::name::Name;
-use grib_io::List;
+use grib_base::List;
 use grib_repack::RepackTarget;
 use grib_select::Condition;
 

@@ -22,12 +22,13 @@ ghost use Rattle.grib_engine.specs.Tasks.{writing, made_answer};
 use crate::closing::close_with_note;
 use crate::notes::made_note;
 use crate::writing::write_whole;
+use grib_base::ReadFault;
 use grib_io::{Sink, Stop};
 use grib_made::laws::{what_is_made_fits, what_is_made_is_accepted, what_is_made_stays_short};
 use grib_made::{made_message, made_summary};
 use grib_repack::{RepackFault, RepackTarget, repack};
 use grib_stream::Outcome;
-use grib2_message::{ReadFault, read_message};
+use grib2_message::read_message;
 use std::alloc::{AllocError, Global};
 
 /// A message that was made and packed anew, and the note on it.

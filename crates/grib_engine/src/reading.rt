@@ -5,12 +5,13 @@ ghost use Rattle.grib2_sections.specs.Head as head;
 ghost use Rattle.grib_stream.specs.Stream.{begins};
 ghost use Rattle.grib_engine.specs.Reading.{Holds, IsUnread};
 ghost use Rattle.grib_engine.specs.declared.reading.Unread.TheVariants.{Refused, Memory};
-ghost use Rattle.grib2_message.specs.declared.fault.ReadFault.TheVariants.{Refused as RefusedMessage};
+ghost use Rattle.grib_base.specs.declared.fault.ReadFault.TheVariants.{Refused as RefusedMessage};
 
-use grib_io::Fault;
-use grib1_sections::{Message1, ReadFault1, read_message1};
-use grib2_message::{Message, ReadFault, read_message};
-use grib2_sections::{read_head, u8_at};
+use grib_base::{Fault, ReadFault};
+use grib_bits::u8_at;
+use grib1_sections::{Message1, read_message1};
+use grib2_message::{Message, read_message};
+use grib2_sections::read_head;
 use std::alloc::Global;
 
 /// A message that is held whole.
@@ -65,8 +66,8 @@ fn read_first<'a>(alloc: Global, octets: &'a [u8]) -> Result<Held<'a>, Unread>
 {
     match read_message1(alloc, octets) {
         Ok(message) => Ok(Held::One(message)),
-        Err(ReadFault1::Refused(fault)) => Err(Unread::Refused(fault)),
-        Err(ReadFault1::Memory) => Err(Unread::Memory),
+        Err(ReadFault::Refused(fault)) => Err(Unread::Refused(fault)),
+        Err(ReadFault::Memory) => Err(Unread::Memory),
     }
 }
 

@@ -4,9 +4,8 @@ ghost use Rattle.std.specs.Prelude.{◌≤◌, ◌^◌};
 
 use crate::performing::Answering;
 use crate::{Cause, Job, Kept, Outcome, Totals, close, close_with_note, serve};
-use grib_io::{
-    CalmSink, CalmSource, Fault, MemoryShelf, MemorySink, MemorySource, Reason, Refusal, Sink,
-};
+use grib_base::{Fault, Reason, Refusal};
+use grib_io::{CalmSink, CalmSource, MemoryShelf, MemorySink, MemorySource, Sink};
 use grib_keys::Key;
 use grib_stream::answer_within;
 use std::alloc::{AllocError, Global};

@@ -8,14 +8,14 @@ use Rattle.std.proofs.lemmas.Nat.{pow_pos}
 use Rattle.grib_bits.specs.Bits.{bits, bits_of, num}
 use Rattle.grib_bits.specs.Plain.{plain}
 use Rattle.grib_bits.specs.Written.{padding}
-use Rattle.grib_io.specs.declared.fault.Fault.{Fault}
-use Rattle.grib_io.specs.Rows.{first_place}
-use Rattle.grib_io.proofs.Places.{NoneOf, first_place-none}
+use Rattle.grib_base.specs.declared.fault.Fault.{Fault}
+use Rattle.grib_base.specs.Rows.{first_place}
+use Rattle.grib_base.proofs.Places.{NoneOf, first_place-none}
 use Rattle.grib_groups.proofs.Taken.{packed_bits-cons}
 use Rattle.grib_bits.proofs.Numbers.{length-bits_of, num-bits_of}
 use Rattle.grib_bits.proofs.OctetBits.{length-bits, drop-bits}
-use Rattle.grib_io.specs.declared.code.Code.{Code}
-use Rattle.grib_io.specs.declared.code.Code.TheVariants.{Present, Primary, Secondary}
+use Rattle.grib_base.specs.declared.code.Code.{Code}
+use Rattle.grib_base.specs.declared.code.Code.TheVariants.{Present, Primary, Secondary}
 use Rattle.grib_packing.specs.declared.layout.Layout.{Layout}
 use Rattle.grib_packing.specs.declared.group.Group.{Group}
 use Rattle.grib_packing.specs.Groups.{code_of, codes_from, groups_from, octets_for, packed_bits}

@@ -3,7 +3,7 @@ use Rattle.std.proofs.Common.{◌≡◌, ℕ, zero, suc, ◌+◌, ◌*◌, ◌-�
 use Rattle.std.proofs.lemmas.List.{append-nil, drop-drop, length-map, nil_from_length}
 use Rattle.grib_bits.specs.Bits.{num}
 use Rattle.grib_bits.specs.Plain.{plain}
-use Rattle.grib_io.specs.declared.code.Code.{Code}
+use Rattle.grib_base.specs.declared.code.Code.{Code}
 use Rattle.grib_groups.specs.CodeRuns.{Passed}
 use Rattle.grib_groups.proofs.Plain.{length-plain, plain-add}
 

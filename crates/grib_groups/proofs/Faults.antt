@@ -2,9 +2,9 @@
 use Rattle.std.proofs.Common.{◌≡◌, ℕ, ◌+◌, ◌*◌, ◌<◌, ◌≤◌, Bool, true, false, cond, not, ltb, eqb, Option, Some, None, List, sum, refl, sym, ap, ap₂, ◌∙◌, arith, inl, inr}
 use Rattle.std.specs.Option.{option_map}
 use Rattle.std.proofs.lemmas.Bool.{lt-ltb, le-ltb, eq-eqb, ne_eqb, ltb-false, eqb-true, not-false, cases_lt}
-use Rattle.grib_io.specs.declared.fault.Fault.{Fault}
-use Rattle.grib_io.specs.declared.fault.Reason.TheVariants.{GroupWidth, GroupShape, DataTooShort}
-use Rattle.grib_io.specs.Rows.{refusal, fault_at, first_place}
+use Rattle.grib_base.specs.declared.fault.Fault.{Fault}
+use Rattle.grib_base.specs.declared.fault.Reason.TheVariants.{GroupWidth, GroupShape, DataTooShort}
+use Rattle.grib_base.specs.Rows.{refusal, fault_at, first_place}
 use Rattle.grib_packing.specs.declared.layout.Layout.{Layout}
 use Rattle.grib_packing.specs.Groups.{reference_octets, list_octets, packed_bits, groups_from, first_past}
 use Rattle.grib_groups.specs.declared.lists.Lists.{Lists}

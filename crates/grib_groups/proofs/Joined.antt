@@ -8,8 +8,8 @@ use Rattle.std.proofs.lemmas.List.Elements.{All-cons, All-head, All-tail}
 use Rattle.grib_bits.specs.Bits.{bits_of}
 use Rattle.grib_bits.specs.Written.{Written}
 use Rattle.grib_bits.proofs.Numbers.{bits_of-join, length-bits_of}
-use Rattle.grib_io.specs.declared.code.Code.{Code}
-use Rattle.grib_io.specs.declared.code.Code.TheVariants.{Present, Primary, Secondary}
+use Rattle.grib_base.specs.declared.code.Code.{Code}
+use Rattle.grib_base.specs.declared.code.Code.TheVariants.{Present, Primary, Secondary}
 use Rattle.grib_packing.specs.Groupings.{is_present}
 use Rattle.grib_packing.specs.Packed.{fields}
 use Rattle.grib_packing.specs.Span.{IsTold}

@@ -1,7 +1,7 @@
 -- The references and widths of groups, one after another.
 use Rattle.std.proofs.Common.{◌≡◌, ℕ, ◌+◌, ◌^◌, ◌<◌, ◌≤◌, Bool, true, false, List, [], ◌∷◌, length, take, drop, get_or, map, refl, sym, All, subst, subst₂, arith, pow_mono, cond, ◌==◌}
 use Rattle.std.specs.List.{list_any}
-use Rattle.grib_io.specs.declared.code.Code.{Code}
+use Rattle.grib_base.specs.declared.code.Code.{Code}
 use Rattle.grib_packing.specs.Groupings.{greatest, smallest, present_codes, is_present, is_primary, is_secondary, runs}
 use Rattle.grib_packing.specs.Packed.{fields, group_fields, packed_number, reference_of}
 use Rattle.grib_packing.specs.Span.{IsBelow}

@@ -5,7 +5,7 @@ use Rattle.std.proofs.lemmas.Nat.{shl_whole, or_shifted}
 use Rattle.grib_bits.specs.Bits.{num}
 use Rattle.grib_bits.specs.Plain.{plain, plain_at}
 use Rattle.grib_bits.proofs.Numbers.{num-append, num-lt}
-use Rattle.grib_io.specs.declared.code.Code.{Code}
+use Rattle.grib_base.specs.declared.code.Code.{Code}
 use Rattle.grib_packing.specs.declared.group.Group.{Group}
 use Rattle.grib_packing.specs.declared.layout.Layout.{Layout}
 use Rattle.grib_packing.specs.Groups.{code_of}

@@ -3,8 +3,8 @@ use Rattle.std.proofs.Common.{◌≡◌, ℕ, ◌+◌, ◌-◌, ◌^◌, ◌<◌
 use Rattle.std.specs.List.{list_any}
 use Rattle.std.proofs.lemmas.Bool.{cond-true, cond-false}
 use Rattle.std.proofs.lemmas.List.Elements.{All-weaker}
-use Rattle.grib_io.specs.declared.code.Code.{Code}
-use Rattle.grib_io.specs.declared.code.Code.TheVariants.{Present, Primary, Secondary}
+use Rattle.grib_base.specs.declared.code.Code.{Code}
+use Rattle.grib_base.specs.declared.code.Code.TheVariants.{Present, Primary, Secondary}
 use Rattle.grib_packing.specs.Groupings.{digits, width_of, greatest, smallest, present_codes, is_present, is_primary, is_secondary}
 use Rattle.grib_packing.specs.Packed.{reference_of, group_fields, fields, packed_number}
 use Rattle.grib_packing.specs.Span.{IsBelow}

@@ -6,7 +6,7 @@ use Rattle.std.proofs.lemmas.List.Elements.{All-head, All-tail, All-take, All-dr
 use Rattle.grib_bits.proofs.Numbers.{length-bits_of}
 use Rattle.grib_bits.specs.Bits.{bits_of}
 use Rattle.grib_bits.specs.Written.{Written, padding}
-use Rattle.grib_io.specs.declared.code.Code.{Code}
+use Rattle.grib_base.specs.declared.code.Code.{Code}
 use Rattle.grib_packing.specs.Groupings.{IsGrouping, joined, runs, length_bits, width_of, reference_bits_of, width_bits_of}
 use Rattle.grib_packing.specs.Span.{IsBelow, IsTold}
 use Rattle.grib_packing.specs.Packed.{fields, padded, reference_of, group_fields, group_parts}

@@ -4,7 +4,7 @@ use Rattle.std.specs.List.{prefix_len}
 use Rattle.std.specs.Option.{option_map_or}
 use Rattle.std.proofs.lemmas.Bool.{cases_lt, lt-ltb, le-ltb, cond-true, cond-false}
 use Rattle.std.proofs.lemmas.List.{length_push}
-use Rattle.grib_io.specs.Rows.{first_place}
+use Rattle.grib_base.specs.Rows.{first_place}
 use Rattle.grib_packing.specs.Groups.{first_past}
 
 -- ---- the first place

@@ -2,7 +2,7 @@
 use Rattle.std.proofs.Common.{◌≡◌, ℕ, ◌+◌, ◌-◌, ◌*◌, ◌≤◌, Bool, List, [], ◌∷◌, ◌++◌, length, map, vec_capacity, slice_set, sym, ap, ap₂, ◌∙◌, arith, subst}
 use Rattle.std.proofs.lemmas.List.{length-map, map-append, set_at}
 use Rattle.grib_bits.specs.Plain.{plain, plain_at}
-use Rattle.grib_io.specs.declared.code.Code.TheVariants.{Present}
+use Rattle.grib_base.specs.declared.code.Code.TheVariants.{Present}
 use Rattle.grib_groups.specs.declared.lists.References.{References}
 use Rattle.grib_groups.specs.declared.lists.Widths.{Widths}
 use Rattle.grib_groups.specs.declared.lists.Lengths.{Lengths}

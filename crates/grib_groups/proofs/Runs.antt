@@ -5,7 +5,7 @@ use Rattle.std.proofs.lemmas.List.{drop-drop, map-append}
 use Rattle.grib_bits.specs.Bits.{bits, num}
 use Rattle.grib_bits.specs.Plain.{plain, plain_at}
 use Rattle.grib_bits.proofs.WordNumbers.{number-lt}
-use Rattle.grib_io.specs.declared.code.Code.{Code}
+use Rattle.grib_base.specs.declared.code.Code.{Code}
 use Rattle.grib_groups.proofs.Plain.{plain_more, plain_at-drop, plain-add}
 
 -- ---- places

@@ -2,7 +2,7 @@
 use Rattle.std.specs.Prelude.{◌≡◌, ℕ, ◌+◌, ◌*◌, ◌^◌, ◌<◌, ◌≤◌, List, ◌++◌, length, drop, map, replicate}
 use Rattle.grib_bits.specs.Bits.{bits}
 use Rattle.grib_bits.specs.Plain.{plain}
-use Rattle.grib_io.specs.declared.code.Code.{Code}
+use Rattle.grib_base.specs.declared.code.Code.{Code}
 use Rattle.grib_groups.specs.declared.code_run.SameRun.{SameRun}
 use Rattle.grib_groups.specs.declared.code_run.WordRun.{WordRun}
 use Rattle.grib_groups.specs.Taking.{code_by, number_of}

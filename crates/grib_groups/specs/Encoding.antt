@@ -1,8 +1,8 @@
 -- What groups are written from.
 use Rattle.std.specs.Prelude.{◌≡◌, ℕ, ◌+◌, ◌-◌, ◌^◌, ◌<◌, ◌≤◌, None, Bool, cond, ◌==◌, List, [], ◌∷◌, length, drop, get_or, map, sum, All, IsTrue}
-use Rattle.grib_io.specs.declared.code.Code.{Code}
-use Rattle.grib_io.specs.declared.code.Code.TheVariants.{Present, Primary, Secondary}
-use Rattle.grib_io.specs.Rows.{first_fault}
+use Rattle.grib_base.specs.declared.code.Code.{Code}
+use Rattle.grib_base.specs.declared.code.Code.TheVariants.{Present, Primary, Secondary}
+use Rattle.grib_base.specs.Rows.{first_fault}
 use Rattle.grib_packing.specs.declared.layout.Layout.{Layout}
 use Rattle.grib_packing.specs.Groupings.{IsGrouping, is_present, length_bits, reference_bits_of, width_bits_of, width_of}
 use Rattle.grib_packing.specs.Packed.{fields, packed_number, reference_of}

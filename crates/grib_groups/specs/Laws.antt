@@ -1,7 +1,7 @@
 -- Laws of what takes codes.
 use Rattle.std.proofs.Common.{◌≡◌, ℕ, ◌+◌, ◌*◌, ◌≤◌, List, [], ◌++◌, length, map, vec_capacity, refl, sym, ap, ap₂, ◌∙◌, arith, append_assoc, subst}
 use Rattle.std.proofs.lemmas.List.{append-nil, map-append, length-append, length-map}
-use Rattle.grib_io.specs.declared.code.Code.{Code}
+use Rattle.grib_base.specs.declared.code.Code.{Code}
 use Rattle.grib_groups.specs.declared.decoding.Codes.{Codes}
 use Rattle.grib_groups.specs.declared.lists.References.{References}
 use Rattle.grib_groups.specs.declared.lists.Widths.{Widths}

@@ -1,14 +1,14 @@
 -- What is read of the three lists of groups.
 use Rattle.std.specs.Prelude.{◌≡◌, ℕ, ◌+◌, ◌*◌, ◌^◌, ◌<◌, ◌≤◌, List, [], ◌∷◌, ◌++◌, length, drop, map, nat_lt, not, ◌==◌, Option, Some, sum, vec_capacity}
 use Rattle.std.specs.List.{All}
-use Rattle.grib_io.specs.declared.code.Code.{Code}
-use Rattle.grib_io.specs.declared.fault.Fault.{Fault}
-use Rattle.grib_io.specs.declared.fault.Reason.TheVariants.{GroupWidth, GroupShape, DataTooShort}
-use Rattle.grib_io.specs.Rows.{Row, row, first_place, first_fault_at}
+use Rattle.grib_base.specs.declared.code.Code.{Code}
+use Rattle.grib_base.specs.declared.fault.Fault.{Fault}
+use Rattle.grib_base.specs.declared.fault.Reason.TheVariants.{GroupWidth, GroupShape, DataTooShort}
+use Rattle.grib_base.specs.Rows.{Row, row, first_place, first_fault_at}
 use Rattle.grib_packing.specs.declared.layout.Layout.{Layout}
 use Rattle.grib_packing.specs.Groups.{reference_octets, list_octets, packed_bits, groups, groups_from, first_past}
-use Rattle.grib_io.specs.declared.fault.UnpackFault.{UnpackFault}
-use Rattle.grib_io.specs.declared.fault.UnpackFault.TheVariants.{Refused, Memory}
+use Rattle.grib_base.specs.declared.fault.ReadFault.{ReadFault}
+use Rattle.grib_base.specs.declared.fault.ReadFault.TheVariants.{Refused, Memory}
 use Rattle.grib_groups.specs.declared.decoding.Codes.{Codes}
 use Rattle.grib_groups.specs.declared.lists.References.{References}
 use Rattle.grib_groups.specs.declared.lists.Widths.{Widths}
@@ -117,11 +117,6 @@ abbrev pub CodesTook : Codes → List Code → Codes → Type 0
 CodesTook before codes after =
     length before.items.items + length codes ≤ vec_capacity before.items
     → Grown before.items.items (vec_capacity before.items) (map (λ code. code) codes) after.items.items (vec_capacity after.items)
-
--- A refusal is this fault; want of memory says nothing.
-abbrev pub IsRefusal : Option Fault → UnpackFault → Type 0
-IsRefusal fault (Refused refused) = fault ≡ Some refused
-IsRefusal fault Memory = Unit {0}
 
 -- The table of the groups of a Section 7 that has all bits of their packed numbers and `skip` octets of
 -- extra descriptors.

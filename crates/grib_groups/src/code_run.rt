@@ -3,13 +3,13 @@
 ghost use Rattle.std.specs.Prelude.{◌≡◌, ℕ, ◌+◌, ◌*◌, ◌^◌, ◌<◌, ◌≤◌, List, ◌∷◌, length, drop, map, replicate};
 ghost use Rattle.grib_bits.specs.Bits.{bits as bits_in};
 ghost use Rattle.grib_bits.specs.Plain.{plain};
-ghost use Rattle.grib_io.specs.declared.code.Code.{Code as code_of_value};
+ghost use Rattle.grib_base.specs.declared.code.Code.{Code as code_of_value};
 ghost use Rattle.grib_groups.specs.Taking.{code_by, number_of};
 ghost use Rattle.grib_groups.specs.CodeRuns.{AreInWords, IsBelowItsLimit, codes_in_words, limit_of, same_codes};
 
 use crate::coding::Coding;
+use grib_base::Code;
 use grib_bits::number_in_word;
-use grib_io::Code;
 
 /// Codes of one group that follow one another, each of which is given once.
 pub trait CodeRun {

@@ -5,7 +5,7 @@ ghost use Rattle.grib_packing.specs.Groups.{code_of};
 ghost use Rattle.grib_groups.specs.Taking.{code_by};
 
 use crate::{Group, Layout};
-use grib_io::Code;
+use grib_base::Code;
 
 /// What the packed numbers of one group mean: a code, unless they are one of the marks. A mark that
 /// no number is has all bits set.

@@ -2,17 +2,18 @@
 
 ghost use Rattle.std.specs.Prelude.{◌≡◌, ℕ, ◌+◌, ◌*◌, ◌^◌, ◌≤◌, ◌<◌, length, drop, None, MatchResult, vec_len};
 ghost use Rattle.grib_bits.specs.Octets.{StatesItself};
-ghost use Rattle.grib_io.specs.Rows.{first_fault, first_fault_at};
+ghost use Rattle.grib_base.specs.Rows.{first_fault, first_fault_at};
 ghost use Rattle.grib_packing.specs.Groups.{grouped, group_rows, list_rows};
 ghost use Rattle.grib_groups.specs.Taking.{values};
 ghost use Rattle.grib_groups.specs.Table.{groups_in};
-ghost use Rattle.grib_groups.specs.Lists.{CodesTook, IsRefusal, GroupsRead};
+ghost use Rattle.grib_groups.specs.Lists.{CodesTook, GroupsRead};
+ghost use Rattle.grib_base.specs.Faults.{IsReadFault};
 ghost use Rattle.grib_groups.specs.Laws.{codes-none, codes-more};
 
 use crate::lists::{Lists, octets_of_lists};
 use crate::{Fed, Layout, RunTaker, Table, Taker};
 use byteorder::{BigEndian, ByteOrder};
-use grib_io::{Code, Section, UnpackFault, push_within};
+use grib_base::{Code, ReadFault, Section, push_within};
 use std::alloc::Global;
 
 /// Codes one after another, for which there is memory.
@@ -58,23 +59,20 @@ pub fn decode_groups(
     section7: &Section<'_>,
     skip: u32,
     count: u32,
-) -> Result<Vec<Code>, UnpackFault>
+) -> Result<Vec<Code>, ReadFault>
     requires references { layout.now.reference_bits ≤ 32 }
     requires widths { layout.now.width_bits ≤ 32 }
     requires lengths { layout.now.length_bits ≤ 32 }
     requires groups { 1 ≤ layout.now.groups }
-    requires itself { StatesItself section7.now.number section7.now.octets.now }
-    requires low { 1 ≤ section7.now.start }
-    requires high { section7.now.start ≤ 268435456 }
     requires skip { skip ≤ 12 }
     requires lists { first_fault (list_rows layout.now (length section7.now.octets.now) skip) ≡ None }
     ensures { MatchResult result
         (λ codes. (first_fault_at section7.now.start (group_rows layout.now section7.now.octets.now skip count) ≡ None)
         × (codes.items ≡ grouped layout.now (drop (5 + skip) section7.now.octets.now)))
-        (IsRefusal (first_fault_at section7.now.start (group_rows layout.now section7.now.octets.now skip count))) }
+        (IsReadFault (first_fault_at section7.now.start (group_rows layout.now section7.now.octets.now skip count))) }
 {
     let Ok(items) = Vec::with_capacity(alloc, count as usize) else {
-        return Err(UnpackFault::Memory);
+        return Err(ReadFault::Memory);
     };
     let codes = take_groups(alloc, layout, section7, skip, count, Codes { items })?;
     Ok(codes.items)
@@ -92,14 +90,11 @@ pub fn take_groups<T: RunTaker + Drop>(
     skip: u32,
     count: u32,
     taker: T,
-) -> Result<T, UnpackFault>
+) -> Result<T, ReadFault>
     requires references { layout.now.reference_bits ≤ 32 }
     requires widths { layout.now.width_bits ≤ 32 }
     requires lengths { layout.now.length_bits ≤ 32 }
     requires groups { 1 ≤ layout.now.groups }
-    requires itself { StatesItself section7.now.number section7.now.octets.now }
-    requires low { 1 ≤ section7.now.start }
-    requires high { section7.now.start ≤ 268435456 }
     requires skip { skip ≤ 12 }
     requires lists { first_fault (list_rows layout.now (length section7.now.octets.now) skip) ≡ None }
     requires limit { 2 ^ 33 ≤ T.Taker.limit }
@@ -107,7 +102,7 @@ pub fn take_groups<T: RunTaker + Drop>(
         (λ after. (first_fault_at section7.now.start (group_rows layout.now section7.now.octets.now skip count) ≡ None)
         × T.Taker.took taker (grouped layout.now (drop (5 + skip) section7.now.octets.now)) after
         × (length (grouped layout.now (drop (5 + skip) section7.now.octets.now)) ≡ count))
-        (IsRefusal (first_fault_at section7.now.start (group_rows layout.now section7.now.octets.now skip count))) }
+        (IsReadFault (first_fault_at section7.now.start (group_rows layout.now section7.now.octets.now skip count))) }
 {
     let table = read_groups(alloc, layout, section7, skip, count)?;
     Ok(take_codes(layout, section7, skip, table, taker))
@@ -144,36 +139,32 @@ pub fn read_groups(
     section7: &Section<'_>,
     skip: u32,
     count: u32,
-) -> Result<Table, UnpackFault>
+) -> Result<Table, ReadFault>
     requires references { layout.now.reference_bits ≤ 32 }
     requires widths { layout.now.width_bits ≤ 32 }
     requires lengths { layout.now.length_bits ≤ 32 }
     requires groups { 1 ≤ layout.now.groups }
-    requires itself { StatesItself section7.now.number section7.now.octets.now }
-    requires low { 1 ≤ section7.now.start }
-    requires high { section7.now.start ≤ 268435456 }
     requires skip { skip ≤ 12 }
     requires lists { first_fault (list_rows layout.now (length section7.now.octets.now) skip) ≡ None }
     ensures { MatchResult result
         (λ table. (first_fault_at section7.now.start (group_rows layout.now section7.now.octets.now skip count) ≡ None)
         × GroupsRead layout.now section7.now.octets.now skip table
         × (values (groups_in table) ≡ count))
-        (IsRefusal (first_fault_at section7.now.start (group_rows layout.now section7.now.octets.now skip count))) }
+        (IsReadFault (first_fault_at section7.now.start (group_rows layout.now section7.now.octets.now skip count))) }
 {
     let length = length_of(section7);
     let octets = &section7.octets[5 + skip as usize..];
     let Ok(lists) = Lists::read(alloc, layout, octets, count) else {
-        return Err(UnpackFault::Memory);
+        return Err(ReadFault::Memory);
     };
     if let Some(fault) = lists.fault(layout, skip, length, section7.start) {
-        return Err(UnpackFault::Refused(fault));
+        return Err(ReadFault::Refused(fault));
     }
     Ok(lists.into_table())
 }
 
 /// The length that a section states, which is its own.
 fn length_of(section: &Section<'_>) -> u32
-    requires { StatesItself section.now.number section.now.octets.now }
     ensures { result ≡ length section.now.octets.now }
 {
     BigEndian::read_u32(section.octets)

@@ -3,7 +3,7 @@
 ghost use Rattle.std.specs.Prelude.{◌≡◌, ◌+◌, ◌-◌, ◌*◌, ◌%◌, ◌^◌, ◌<◌, ◌≤◌, ◌++◌, length, take, drop, get_or, map, replicate, All};
 ghost use Rattle.std.specs.List.{list_all};
 ghost use Rattle.grib_bits.specs.Bits.{bits_of};
-ghost use Rattle.grib_io.specs.declared.code.Code.TheVariants.{Primary};
+ghost use Rattle.grib_base.specs.declared.code.Code.TheVariants.{Primary};
 ghost use Rattle.grib_packing.specs.Groupings.{IsGrouping, is_present, joined, length_bits, reference_bits_of, runs, width_bits_of, width_of};
 ghost use Rattle.grib_packing.specs.Packed.{fields, group_fields, group_parts, packed_number, padded, reference_of};
 ghost use Rattle.grib_packing.specs.Span.{IsTold, IsBelow};
@@ -11,8 +11,8 @@ ghost use Rattle.grib_groups.specs.Encoding.{AreMeasures, IsNumber, IsPackable, 
 
 use crate::Layout;
 use crate::measuring::{Measure, later_measures, next_measure};
+use grib_base::Code;
 use grib_bits::BitWriter;
-use grib_io::Code;
 use grib_packing::Span;
 
 /// Writes codes as groups of these lengths: the references, the widths, the lengths less 1 in 6 bits each

@@ -1,8 +1,8 @@
 //! Expected octets are those of worked messages.
 
 use super::*;
+use grib_base::Code;
 use grib_bits::BitWriter;
-use grib_io::Code;
 use std::test::Fail;
 
 const PRIMARY: Code = Code::Primary;

@@ -2,7 +2,7 @@
 
 ghost use Rattle.std.specs.Prelude.{◌≡◌, ℕ, ◌+◌, ◌≤◌, ◌++◌, Bool, List, length, drop};
 ghost use Rattle.grib_bits.specs.Bits.{bits};
-ghost use Rattle.grib_io.specs.declared.code.Code as code_io;
+ghost use Rattle.grib_base.specs.declared.code.Code as code_io;
 ghost use Rattle.grib_packing.specs.declared.layout.Layout as layout_packing;
 ghost use Rattle.grib_packing.specs.Packed.{group_parts};
 ghost use Rattle.grib_groups.specs.Encoding.{LaysOut, ReadsBack};

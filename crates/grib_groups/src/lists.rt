@@ -4,8 +4,8 @@ ghost use Rattle.std.specs.Prelude.{List, length, map, sum, None, ◌↔◌, IsT
 ghost use Rattle.std.specs.List.{All};
 ghost use Rattle.grib_bits.specs.Bits.{bits as bits_in};
 ghost use Rattle.grib_bits.specs.Plain.{plain};
-ghost use Rattle.grib_io.specs.declared.code.Code.TheVariants.{Present};
-ghost use Rattle.grib_io.specs.Rows.{first_fault};
+ghost use Rattle.grib_base.specs.declared.code.Code.TheVariants.{Present};
+ghost use Rattle.grib_base.specs.Rows.{first_fault};
 ghost use Rattle.grib_groups.specs.Taking.{number_of};
 ghost use Rattle.grib_packing.specs.Groups.{list_octets, packed_bits, groups_from, octets_for, list_rows, references as all_references, widths as all_widths, lengths as all_lengths};
 ghost use Rattle.grib_groups.specs.Lists.{ListsAre, lists_fault, AreEmpty, WereRead, ReferencesTook, WidthsTook, LengthsTook, LengthAdded};
@@ -13,7 +13,7 @@ ghost use Rattle.grib_groups.specs.Feeding.{no_marks};
 ghost use Rattle.grib_groups.specs.Laws.{references-none, references-more, widths-none, widths-more, lengths-none, lengths-more};
 
 use crate::{FedLists, Layout, RunTaker, Table, Taker};
-use grib_io::{Code, Fault, Reason, push_within};
+use grib_base::{Code, Fault, Reason, push_within};
 use std::alloc::{AllocError, Global};
 
 /// The references that were read.

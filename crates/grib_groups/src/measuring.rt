@@ -5,7 +5,7 @@ ghost use Rattle.grib_packing.specs.Groupings.{IsGrouping, runs};
 ghost use Rattle.grib_packing.specs.Span.{IsBelow};
 ghost use Rattle.grib_groups.specs.Encoding.{AreMeasures, IsMeasure};
 
-use grib_io::Code;
+use grib_base::Code;
 use grib_packing::Span;
 use std::alloc::{AllocError, Global};
 

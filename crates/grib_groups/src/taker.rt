@@ -1,11 +1,11 @@
 //! What takes codes on.
 
 ghost use Rattle.std.specs.Prelude.{◌≡◌, ℕ, ◌<◌, ◌≤◌, true, List, [], ◌∷◌, ◌++◌, length};
-ghost use Rattle.grib_io.specs.declared.code.Code.{Code};
+ghost use Rattle.grib_base.specs.declared.code.Code.{Code};
 ghost use Rattle.grib_groups.specs.Taking.{number_of};
 
 use crate::CodeRun;
-use grib_io::Code;
+use grib_base::Code;
 
 /// What takes codes one after another. It is handed on by value, so that what it counts stays in
 /// registers over a run of codes.

@@ -2,7 +2,7 @@
 
 use super::*;
 use byteorder::{BigEndian, ByteOrder};
-use grib_io::{Code, Fault, Reason, Section, UnpackFault};
+use grib_base::{Code, Fault, ReadFault, Reason, Section};
 use std::alloc::Global;
 use std::process::Abort;
 use std::test::Fail;
@@ -35,7 +35,7 @@ fn decoded(
     octets: &[u8],
     skip: u32,
     count: u32,
-) -> Result<Vec<Code>, UnpackFault> {
+) -> Result<Vec<Code>, ReadFault> {
     assert!(rt; octets.len() >= 5);
     let length = BigEndian::read_u32(octets);
     assert!(rt; length as usize == octets.len());
@@ -51,7 +51,7 @@ fn decoded(
 }
 
 /// Whether the section has these codes.
-fn has_codes(answer: &Result<Vec<Code>, UnpackFault>, codes: &[Code]) -> bool {
+fn has_codes(answer: &Result<Vec<Code>, ReadFault>, codes: &[Code]) -> bool {
     match answer {
         Ok(answered) => answered.as_slice() == codes,
         Err(_fault) => false,
@@ -60,7 +60,7 @@ fn has_codes(answer: &Result<Vec<Code>, UnpackFault>, codes: &[Code]) -> bool {
 
 /// Whether the section is refused so.
 fn is_refused(
-    answer: &Result<Vec<Code>, UnpackFault>,
+    answer: &Result<Vec<Code>, ReadFault>,
     octet: u64,
     reason: Reason,
     detail: u64,
@@ -72,7 +72,7 @@ fn is_refused(
     };
     match answer {
         Ok(_codes) => false,
-        Err(fault) => *fault == UnpackFault::Refused(expected),
+        Err(fault) => *fault == ReadFault::Refused(expected),
     }
 }
 

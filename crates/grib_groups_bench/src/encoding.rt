@@ -6,9 +6,9 @@ ghost use Rattle.grib_packing.specs.Span.{IsTold};
 ghost use Rattle.grib_groups.specs.Encoding.{AreMeasures, LaysOut};
 
 use anyhow::{Result, ensure};
+use grib_base::Code;
 use grib_bits::BitWriter;
 use grib_groups::{Layout, Measure, encode_groups, encode_measured_groups, measures_of};
-use grib_io::Code;
 use grib_packing::{Span, bit_length};
 use grib_split::fewest_lengths;
 use std::alloc::{AllocError, Global};

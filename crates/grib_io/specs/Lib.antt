@@ -1,5 +1,3 @@
-pub mod Reason
-pub mod Rows
 pub mod Outside
 pub mod Memory
 pub mod Adapters

@@ -2,15 +2,15 @@
 use Rattle.std.proofs.Common.{◌≡◌, ◌≢◌, ℕ, ◌+◌, ◌*◌, ◌≤◌, ◌==◌, Bool, true, false, count_by, List, [], ◌∷◌, ◌++◌, length, refl, ap, ap₂, ◌∙◌, sym, subst, arith, length-append, append-nil, eq-eqb, ne_eqb}
 use Rattle.std.specs.List.{concat}
 use Rattle.grib_bits.specs.Octets.{StatesItself}
-use Rattle.grib_io.specs.Rows.{first_fault, located}
+use Rattle.grib_base.specs.Rows.{first_fault, located}
 use Rattle.grib_bitmap.specs.Mask.{bitmap_rows, mask_of}
 use Rattle.grib_packing.specs.declared.column.Column.{Column}
 use Rattle.grib_packing.specs.Packing.{value_count}
 use Rattle.grib_packing.specs.Entries.{packing_fault, data_fault, column_from}
-use Rattle.grib_simple.specs.Laws.{UnpackTo}
+use Rattle.grib_packing.specs.Laws.{UnpackTo}
 use Rattle.grib2_sections.specs.Frame.{Placed, placed_at, section_number, may_follow, may_end}
 use Rattle.grib2_sections.specs.Head.{end_mark}
-use Rattle.grib2_sections.proofs.Octets.{num_on-octets_of}
+use Rattle.grib_bits.proofs.Encoding.{num_on-octets_of}
 use Rattle.grib2_message.specs.Acceptance.{verdict_2}
 use Rattle.grib2_message.specs.Grammar.{IsSection, AreSections, Grammar2}
 use Rattle.grib2_message.specs.Message.{IsMessage}
@@ -20,7 +20,7 @@ use Rattle.grib2_message.proofs.InForce.{octets_same, octets_other}
 use Rattle.grib2_message.proofs.Placing.{placed_from}
 use Rattle.grib2_message.proofs.Sound.{fault_of, mask_here, mask_kept, points_kept}
 use Rattle.grib2_message.proofs.Whole.{grammar_accepted, sections_alone}
-use Rattle.grib_simple.specs.declared.written.Packed.{Packed}
+use Rattle.grib_packing.specs.declared.written.Packed.{Packed}
 use Rattle.grib_made.specs.Made.{MayBeMade, made_identification, made_grid, made_product, sections_with, message_with}
 use Rattle.grib_made.proofs.Grid.{points_stand, grid_passes}
 

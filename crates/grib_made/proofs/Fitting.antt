@@ -13,7 +13,7 @@ use Rattle.grib_packing.specs.declared.column.Point.TheVariants.{Scaled, Missing
 use Rattle.grib_packing.specs.Differences.{lesser, least, least_of, difference_at, differences, code_at, difference_codes}
 use Rattle.grib_packing.specs.Entries.{is_out_of_range}
 use Rattle.grib_packing.specs.Misfits.{Misfit, SecondaryMissing, OutOfRange, Target, ToSimple, ToComplex, ToSpatial, misfit_at, first_misfit, is_missing, is_missing2, is_outside, is_scaled_outside, scaled_numbers, management_of, greatest_code, are_differences_out}
-use Rattle.grib_simple.specs.Written.{MayBePacked}
+use Rattle.grib_packing.specs.Written.{MayBePacked}
 use Rattle.grib_made.specs.Points.{made_point, made_points, made_column}
 use Rattle.grib_made.specs.Made.{MayBeMade}
 use Rattle.grib_made.proofs.OneByOne.{few_points}

@@ -2,8 +2,8 @@
 use Rattle.std.proofs.Common.{◌≡◌, ℕ, ◌*◌, ◌≤◌, ◌||◌, ◌==◌, false, not, nat_lt, refl, ap, ap₂, ◌∙◌, sym, arith, le-ltb, eq-eqb, ne_eqb}
 use Rattle.std.specs.Prelude.{None}
 use Rattle.std.proofs.lemmas.Nat.{mul-le}
-use Rattle.grib_io.specs.Rows.{first_fault}
-use Rattle.grib2_sections.proofs.Octets.{num_on-octets_of}
+use Rattle.grib_base.specs.Rows.{first_fault}
+use Rattle.grib_bits.proofs.Encoding.{num_on-octets_of}
 use Rattle.grib2_grids.specs.Grid.{grid_rows, grid_points}
 use Rattle.grib2_grids.specs.Grid as grid
 use Rattle.grib2_message.proofs.Passed.{none_from_passes}

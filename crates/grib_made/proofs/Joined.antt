@@ -2,7 +2,7 @@
 use Rattle.std.proofs.Common.{◌≡◌, ℕ, ◌+◌, List, [], ◌++◌, length, ap, ◌∙◌, sym, arith, append_assoc, append-nil, length-append}
 use Rattle.std.specs.List.{concat}
 use Rattle.grib2_sections.specs.Head.{end_mark}
-use Rattle.grib_simple.specs.declared.written.Packed.{Packed}
+use Rattle.grib_packing.specs.declared.written.Packed.{Packed}
 use Rattle.grib_made.specs.Made.{made_indicator, made_identification, made_grid, made_product, sections_with, message_with}
 
 -- octets behind those that were added before

@@ -4,10 +4,10 @@ use Rattle.grib_packing.specs.declared.column.Column.{Column}
 use Rattle.grib_packing.specs.declared.column.Point.{Point}
 use Rattle.std.specs.Prelude.{None}
 use Rattle.grib_packing.specs.Misfits.{ToSimple, first_misfit}
-use Rattle.grib_simple.specs.Written.{MayBePacked}
+use Rattle.grib_packing.specs.Written.{MayBePacked}
 use Rattle.grib_packing.specs.Packed.{IsSimple}
-use Rattle.grib_simple.specs.Laws.{UnpackTo}
-use Rattle.grib_simple.specs.declared.written.Packed.{Packed}
+use Rattle.grib_packing.specs.Laws.{UnpackTo}
+use Rattle.grib_packing.specs.declared.written.Packed.{Packed}
 use Rattle.grib_packed.specs.Written.{HasWords, packed}
 use Rattle.grib_packed.proofs.Short.{simple_short}
 use Rattle.grib_packed.proofs.Written.{simple_only, simple_written}

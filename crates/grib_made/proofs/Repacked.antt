@@ -2,8 +2,8 @@
 use Rattle.std.proofs.Common.{◌≡◌, ℕ, ◌+◌, ◌==◌, true, false, List, [], ◌∷◌, ◌++◌, length, take, refl, ap, ◌∙◌, arith, length-append, eq-eqb, ne_eqb}
 use Rattle.std.specs.List.{concat}
 use Rattle.grib_packing.specs.declared.column.Column.{Column}
-use Rattle.grib_simple.specs.declared.written.Packed.{Packed}
-use Rattle.grib2_sections.specs.Encoding.{octets_of}
+use Rattle.grib_packing.specs.declared.written.Packed.{Packed}
+use Rattle.grib_bits.specs.Encoding.{octets_of}
 use Rattle.grib2_sections.specs.Frame.{section_number}
 use Rattle.grib2_sections.specs.Head.{end_mark}
 use Rattle.grib2_message.specs.Assembled.{replaced, assembled_body, assembled}

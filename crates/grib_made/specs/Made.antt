@@ -2,10 +2,10 @@
 -- 4.0 and 5.0). Which message is made is a choice of ours.
 use Rattle.std.specs.Prelude.{ℕ, ◌+◌, ◌*◌, ◌^◌, ◌<◌, ◌≤◌, List, [], ◌∷◌, ◌++◌, length}
 use Rattle.std.specs.List.{concat}
-use Rattle.grib2_sections.specs.Encoding.{octets_of}
+use Rattle.grib_bits.specs.Encoding.{octets_of}
 use Rattle.grib2_sections.specs.Head.{indicator, end_mark}
 use Rattle.grib_packing.specs.Misfits.{ToSimple}
-use Rattle.grib_simple.specs.declared.written.Packed.{Packed}
+use Rattle.grib_packing.specs.declared.written.Packed.{Packed}
 use Rattle.grib_packed.specs.Written.{packed}
 use Rattle.grib_made.specs.Points.{made_column}
 

@@ -3,7 +3,7 @@
 ghost use Rattle.std.specs.Prelude.{◌≡◌, ℕ, ◌≤◌, None, [], ◌∷◌, length};
 ghost use Rattle.grib_bits.specs.Octets.{octets};
 ghost use Rattle.grib_packing.specs.Misfits.{Target, first_misfit};
-ghost use Rattle.grib_simple.specs.Written.{IsTarget, MayBePacked};
+ghost use Rattle.grib_packing.specs.Written.{IsTarget, MayBePacked};
 ghost use Rattle.grib_packed.specs.Written.{packed};
 ghost use Rattle.grib2_message.specs.Assembled.{assembled};
 ghost use Rattle.grib2_message.specs.Message.{IsMessage};

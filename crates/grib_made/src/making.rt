@@ -3,13 +3,13 @@
 ghost use Rattle.std.specs.Prelude.{◌≡◌, ◌+◌, ◌*◌, ◌^◌, ◌<◌, ◌≤◌, ◌++◌, length, None, IfOk, OnOk};
 ghost use Rattle.grib_packing.specs.Misfits.{ToSimple, first_misfit};
 ghost use Rattle.grib_packing.specs.Packed.{IsSimple};
-ghost use Rattle.grib_simple.specs.Written.{MayBePacked};
+ghost use Rattle.grib_packing.specs.Written.{MayBePacked};
 ghost use Rattle.grib_made.specs.Made.{made, made_grid, made_identification, made_indicator, made_product, message_with};
 
 use crate::points::make_points;
-use grib_io::List;
-use grib_packing::Column;
-use grib_simple::{PackFault, Packed, Packing, SimplePacking};
+use grib_base::List;
+use grib_packing::{Column, PackFault, Packed, Packing};
+use grib_simple::SimplePacking;
 use std::alloc::{AllocError, Global};
 
 /// Octets 1 to 8 of Section 0: edition 2, discipline 0.

@@ -1,9 +1,10 @@
 //! What is made, against octets and sums that another program made by the same rules.
 
 use crate::{Summary, made_message, made_summary};
+use grib_base::ReadFault;
+use grib_bits::u8_at;
 use grib_packing::Point;
-use grib2_message::{Message, ReadFault, read_message};
-use grib2_sections::u8_at;
+use grib2_message::{Message, read_message};
 use std::alloc::Global;
 use std::test::Fail;
 

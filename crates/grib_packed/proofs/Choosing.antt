@@ -1,7 +1,7 @@
 -- The lengths that are found group by group are a chosen grouping.
 use Rattle.std.proofs.Common.{◌≡◌, ◌⊎◌, inl, inr, ℕ, zero, suc, ◌+◌, ◌-◌, ◌<◌, ◌≤◌, min, Bool, true, false, cond, nat_lt, List, [], ◌∷◌, length, drop, map, refl, sym, ap, ◌∙◌, subst, arith, length-drop, ltb-true, ltb-false}
 use Rattle.std.specs.List.{range_with_len}
-use Rattle.grib_io.specs.declared.code.Code.{Code}
+use Rattle.grib_base.specs.declared.code.Code.{Code}
 use Rattle.grib_packing.specs.Groupings.{Chosen, cost_of}
 use Rattle.grib_split.specs.Least.{IsLeast, Best, AreLeastAfter}
 use Rattle.grib_split.proofs.Optimal.{chosen_step}

@@ -2,14 +2,14 @@
 use Rattle.std.proofs.Common.{◌≡◌, ℕ, ◌-◌, ◌^◌, ◌<◌, ◌≤◌, List, ◌++◌, length, drop, get_or, All, ap, ◌∙◌, arith}
 use Rattle.std.proofs.lemmas.List.Elements.{All-append}
 use Rattle.grib_bits.proofs.OctetBits.{AreOctets}
-use Rattle.grib_io.specs.declared.code.Code.{Code}
-use Rattle.grib2_sections.specs.Encoding.{octets_of, section_of}
-use Rattle.grib2_sections.proofs.Octets.{All-octets_of, num_on-octets_of, StatesItself-section_of}
+use Rattle.grib_base.specs.declared.code.Code.{Code}
+use Rattle.grib_bits.specs.Encoding.{octets_of, section_of}
+use Rattle.grib_bits.proofs.Encoding.{All-octets_of, num_on-octets_of, StatesItself-section_of}
 use Rattle.grib_packing.specs.declared.column.Column.{Column}
 use Rattle.grib_packing.specs.Groupings.{length_bits, width_bits_of}
 use Rattle.grib_packing.specs.Packed.{HasLayout, HasNumbers}
 use Rattle.grib_packing.proofs.Sections.{AreOctets-all}
-use Rattle.grib_simple.specs.Sections.{number_octets}
+use Rattle.grib_packing.specs.Sections.{number_octets}
 use Rattle.grib_complex.specs.Written.{layout_octets}
 use Rattle.grib_packed.specs.Written.{HasWords, layout_with}
 use Rattle.grib_packed.proofs.Octets.{below-section, next}

@@ -8,8 +8,8 @@ use Rattle.grib_bits.specs.Plain.{plain}
 use Rattle.grib_bits.proofs.Numbers.{bits_of-num, num-lt}
 use Rattle.grib_bits.proofs.OctetBits.{AreOctets, same_from_bits}
 use Rattle.grib_bits.proofs.OctetNumbers.{AreOctets-drop, AreOctets-take, bits_of-octets}
-use Rattle.grib2_sections.specs.Encoding.{octets_of, section_of}
-use Rattle.grib2_sections.proofs.Octets.{bits-octets_of, AreOctets-octets_of, All-octets_of, octets_of-one, StatesItself-section_of}
+use Rattle.grib_bits.specs.Encoding.{octets_of, section_of}
+use Rattle.grib_bits.proofs.Encoding.{bits-octets_of, AreOctets-octets_of, All-octets_of, octets_of-one, StatesItself-section_of}
 use Rattle.grib_packing.specs.Packed.{HasContents, padded}
 use Rattle.grib_packing.proofs.Fields.{plain-add, length-plain, length-padded8}
 use Rattle.grib_packing.proofs.Sections.{AreOctets-all}

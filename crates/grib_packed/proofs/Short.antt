@@ -7,7 +7,7 @@ use Rattle.grib_packing.specs.declared.column.Column.{Column}
 use Rattle.grib_packing.specs.Differences.{descriptors_of}
 use Rattle.grib_packing.specs.Misfits.{ToSimple, ToComplex, ToSpatial, first_misfit, is_missing, scaled_numbers}
 use Rattle.grib_packing.specs.Packed.{descriptor_fields, fields, present_bits, simple_numbers, simple_width}
-use Rattle.grib_simple.specs.Written.{MayBePacked}
+use Rattle.grib_packing.specs.Written.{MayBePacked}
 use Rattle.grib_packed.specs.Section.{section_with}
 use Rattle.grib_packed.specs.Written.{simple_sections, complex_sections, spatial_sections, group_bits}
 use Rattle.grib_packed.proofs.Octets.{length-with}

@@ -2,8 +2,8 @@
 use Rattle.std.proofs.Common.{◌≡◌, ℕ, ◌≤◌, List, ◌++◌, length, drop, ap, ap₂, ◌∙◌, arith, subst}
 use Rattle.std.proofs.lemmas.List.{drop_all}
 use Rattle.grib_bits.specs.Octets.{octets}
-use Rattle.grib_io.specs.declared.code.Code.{Code}
-use Rattle.grib2_sections.specs.Encoding.{octets_of, section_of}
+use Rattle.grib_base.specs.declared.code.Code.{Code}
+use Rattle.grib_bits.specs.Encoding.{octets_of, section_of}
 use Rattle.grib_packing.specs.declared.column.Column.{Column}
 use Rattle.grib_packing.specs.Differences.{descriptors_of}
 use Rattle.grib_packing.specs.Groupings.{header_bits, reference_bits_of, width_of}
@@ -11,7 +11,7 @@ use Rattle.grib_packing.specs.Misfits.{ToComplex, ToSpatial, management_of, scal
 use Rattle.grib_packing.specs.Packed.{HasContents, HasLayout, HasNumbers, IsComplex, IsSpatial, descriptor_fields, descriptor_size, group_parts, target_codes}
 use Rattle.grib_packing.proofs.Sections.{AreOctets-all}
 use Rattle.grib_split.proofs.Following.{only_chosen}
-use Rattle.grib_simple.specs.Sections.{number_octets}
+use Rattle.grib_packing.specs.Sections.{number_octets}
 use Rattle.grib_complex.specs.Written.{layout_octets}
 use Rattle.grib_packed.specs.Written.{complex_sections, spatial_sections, group_lengths, layout_with}
 use Rattle.grib_packed.proofs.Numbers.{layout_front, numbers_front}

@@ -5,8 +5,8 @@ use Rattle.std.proofs.Math.Nat.{mul-le-mul_left}
 use Rattle.std.proofs.lemmas.List.{length-append, length-map, drop_all}
 use Rattle.std.proofs.lemmas.List.Elements.{All-nil, All-append}
 use Rattle.grib_bits.specs.Bits.{bits_of}
-use Rattle.grib2_sections.specs.Encoding.{octets_of, section_of}
-use Rattle.grib2_sections.proofs.Octets.{All-octets_of, num_on-octets_of}
+use Rattle.grib_bits.specs.Encoding.{octets_of, section_of}
+use Rattle.grib_bits.proofs.Encoding.{All-octets_of, num_on-octets_of}
 use Rattle.grib_packing.specs.declared.column.Point.{Point}
 use Rattle.grib_packing.specs.declared.column.Column.{Column}
 use Rattle.grib_packing.specs.Differences.{Descriptors, descriptors_of, difference_codes}
@@ -16,8 +16,8 @@ use Rattle.grib_packing.specs.Packed.{HasLayout, HasNumbers, IsComplex, IsSimple
 use Rattle.grib_packing.specs.Span.{IsTold}
 use Rattle.grib_packing.proofs.Bounds.{reference_bits-few, width_bits-few}
 use Rattle.grib_packing.proofs.Fields.{length-fields}
-use Rattle.grib_simple.specs.Sections.{number_octets}
-use Rattle.grib_simple.specs.Written.{MayBePacked}
+use Rattle.grib_packing.specs.Sections.{number_octets}
+use Rattle.grib_packing.specs.Written.{MayBePacked}
 use Rattle.grib_simple.proofs.Fitting.{few_numbers, width_few}
 use Rattle.grib_complex.specs.Written.{layout_octets}
 use Rattle.grib_complex.proofs.CodeByCode.{length-placed, management-few, plain_told}

@@ -3,7 +3,7 @@
 -- found is that grouping.
 use Rattle.std.specs.Prelude.{ℕ, zero, suc, ◌-◌, min, cond, List, [], ◌∷◌, length, drop, map, nat_lt}
 use Rattle.std.specs.List.{range_with_len}
-use Rattle.grib_io.specs.declared.code.Code.{Code}
+use Rattle.grib_base.specs.declared.code.Code.{Code}
 use Rattle.grib_packing.specs.Groupings.{cost_of}
 
 -- of two lists of lengths the one that costs less, the first where both cost the same

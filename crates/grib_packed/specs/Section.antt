@@ -1,7 +1,7 @@
 -- A section by its number and the bits after its octet 5.
 use Rattle.std.specs.Prelude.{ℕ, ◌/◌, Bool, List, length}
 use Rattle.grib_bits.specs.Plain.{plain}
-use Rattle.grib2_sections.specs.Encoding.{section_of}
+use Rattle.grib_bits.specs.Encoding.{section_of}
 use Rattle.grib_packing.specs.Packed.{padded}
 
 -- the octets of some bits, which zeros fill up to a whole octet: the numbers of 8 bits each

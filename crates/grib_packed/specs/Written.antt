@@ -4,8 +4,8 @@
 use Rattle.std.specs.Prelude.{ℕ, ◌-◌, ◌^◌, ◌<◌, Bool, cond, List, ◌++◌, length, get_or}
 use Rattle.std.specs.List.{list_any}
 use Rattle.grib_bits.specs.Bits.{bits_of}
-use Rattle.grib_io.specs.declared.code.Code.{Code}
-use Rattle.grib2_sections.specs.Encoding.{octets_of, section_of}
+use Rattle.grib_base.specs.declared.code.Code.{Code}
+use Rattle.grib_bits.specs.Encoding.{octets_of, section_of}
 use Rattle.grib_packing.specs.declared.column.Point.{Point}
 use Rattle.grib_packing.specs.declared.column.Column.{Column}
 use Rattle.grib_packing.specs.declared.layout.Layout.{Layout}
@@ -13,8 +13,8 @@ use Rattle.grib_packing.specs.Differences.{descriptors_of}
 use Rattle.grib_packing.specs.Groupings.{header_bits, length_bits, reference_bits_of, width_bits_of, width_of}
 use Rattle.grib_packing.specs.Misfits.{Target, ToSimple, ToComplex, ToSpatial, is_missing, management_of, scaled_numbers}
 use Rattle.grib_packing.specs.Packed.{descriptor_fields, descriptor_size, fields, group_parts, no_bitmap_section, present_bits, simple_numbers, simple_width, target_codes}
-use Rattle.grib_simple.specs.declared.written.Packed.{Packed}
-use Rattle.grib_simple.specs.Sections.{number_octets}
+use Rattle.grib_packing.specs.declared.written.Packed.{Packed}
+use Rattle.grib_packing.specs.Sections.{number_octets}
 use Rattle.grib_complex.specs.Written.{layout_octets}
 use Rattle.grib_packed.specs.Chosen.{chosen}
 use Rattle.grib_packed.specs.Section.{section_with}

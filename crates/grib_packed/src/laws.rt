@@ -1,12 +1,12 @@
 //! Laws over the definitions.
 
 ghost use Rattle.std.specs.Prelude.{◌≡◌, ℕ, ◌+◌, ◌*◌, ◌<◌, ◌≤◌, None, List, length};
-ghost use Rattle.grib_io.specs.declared.code.Code as code_io;
+ghost use Rattle.grib_base.specs.declared.code.Code as code_io;
 ghost use Rattle.grib_packing.specs.declared.column.Column as column_packing;
 ghost use Rattle.grib_packing.specs.Groupings.{Chosen};
 ghost use Rattle.grib_packing.specs.Misfits.{Target, first_misfit};
 ghost use Rattle.grib_packing.specs.Packed.{Packed as HasPacked};
-ghost use Rattle.grib_simple.specs.Written.{IsTarget, MayBePacked};
+ghost use Rattle.grib_packing.specs.Written.{IsTarget, MayBePacked};
 ghost use Rattle.grib_packed.specs.Chosen.{chosen};
 ghost use Rattle.grib_packed.specs.Written.{HasWords, packed};
 

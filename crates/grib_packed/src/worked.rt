@@ -3,7 +3,7 @@
 #![tactic(auto, unfolding(crate::specs::Written::packed))]
 
 ghost use Rattle.std.specs.Prelude.{◌≡◌, [], ◌∷◌, negsuc};
-ghost use Rattle.grib_io.specs.declared.code.Code.TheVariants.{Present};
+ghost use Rattle.grib_base.specs.declared.code.Code.TheVariants.{Present};
 ghost use Rattle.grib_packing.specs.declared.column.Point.TheVariants.{Scaled, Missing, Missing2};
 ghost use Rattle.grib_packing.specs.Groupings.{width_of};
 ghost use Rattle.grib_packing.specs.Misfits.{ToSimple, ToComplex, ToSpatial};

@@ -7,8 +7,8 @@ use Rattle.grib_bits.specs.Bits.{bits}
 use Rattle.grib_bits.specs.Octets.{StatesItself}
 use Rattle.grib_bits.proofs.OctetBits.{AreOctets, length-bits, take-bits, same_from_bits}
 use Rattle.grib_bits.proofs.OctetNumbers.{AreOctets-take}
-use Rattle.grib2_sections.specs.Encoding.{octets_of}
-use Rattle.grib2_sections.proofs.Octets.{All-octets_of, num_on-octets_of}
+use Rattle.grib_bits.specs.Encoding.{octets_of}
+use Rattle.grib_bits.proofs.Encoding.{All-octets_of, num_on-octets_of}
 use Rattle.grib_packing.specs.Packed.{padded, HasContents}
 use Rattle.grib_packing.proofs.Fields.{segment}
 

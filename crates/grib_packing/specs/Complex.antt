@@ -2,8 +2,8 @@
 -- GRIB edition 2, data representation templates 5.2 and 5.3).
 use Rattle.std.specs.Prelude.{ℕ, ◌+◌, ◌*◌, not, cond, ◌&&◌, List, [], ◌∷◌, nat_lt, ◌==◌}
 use Rattle.grib_bits.specs.Octets.{octets}
-use Rattle.grib_io.specs.declared.fault.Reason.TheVariants.{MissingManagement, GroupCount, GroupWidth, GroupShape, DifferenceOrder, ExtraOctets}
-use Rattle.grib_io.specs.Rows.{Row, row}
+use Rattle.grib_base.specs.declared.fault.Reason.TheVariants.{MissingManagement, GroupCount, GroupWidth, GroupShape, DifferenceOrder, ExtraOctets}
+use Rattle.grib_base.specs.Rows.{Row, row}
 use Rattle.grib_packing.specs.declared.layout.Layout.{Layout}
 use Rattle.grib_packing.specs.Packing.{packing_template, value_count, bit_width}
 

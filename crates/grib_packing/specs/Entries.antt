@@ -2,11 +2,11 @@
 use Rattle.std.specs.Prelude.{ℕ, ◌+◌, ◌-◌, ◌*◌, Bool, false, cond, ◌&&◌, Option, List, [], ◌∷◌, ◌++◌, length, drop, map, replicate, Some, None, nat_lt, ◌==◌, ℤ, pos}
 use Rattle.std.specs.List.{filter_map}
 use Rattle.grib_bits.specs.Octets.{octets, signed_octets}
-use Rattle.grib_io.specs.declared.code.Code.{Code}
-use Rattle.grib_io.specs.declared.code.Code.TheVariants.{Present, Primary, Secondary}
-use Rattle.grib_io.specs.declared.fault.Reason.TheVariants.{FirstValueSign, ScaledRange}
-use Rattle.grib_io.specs.declared.fault.Fault.{Fault}
-use Rattle.grib_io.specs.Rows.{Row, row, first_fault, first_place, or_then, choose}
+use Rattle.grib_base.specs.declared.code.Code.{Code}
+use Rattle.grib_base.specs.declared.code.Code.TheVariants.{Present, Primary, Secondary}
+use Rattle.grib_base.specs.declared.fault.Reason.TheVariants.{FirstValueSign, ScaledRange}
+use Rattle.grib_base.specs.declared.fault.Fault.{Fault}
+use Rattle.grib_base.specs.Rows.{Row, row, first_fault, first_place, or_then, choose}
 use Rattle.grib_packing.specs.Groups.{grouped, list_rows, group_rows}
 use Rattle.grib_packing.specs.Column.{column_with, points_with_mask}
 use Rattle.grib_packing.specs.Simple.{simple_rows, simple_entries}

@@ -4,10 +4,10 @@
 use Rattle.std.specs.Prelude.{ℕ, ◌+◌, ◌-◌, ◌*◌, ◌/◌, ◌^◌, Bool, not, cond, ◌&&◌, List, [], ◌∷◌, ◌++◌, length, drop, map, nat_lt, ◌==◌, sum, sum_by, slice_set}
 use Rattle.grib_bits.specs.Bits.{bits}
 use Rattle.grib_bits.specs.Plain.{plain}
-use Rattle.grib_io.specs.declared.code.Code.{Code}
-use Rattle.grib_io.specs.declared.code.Code.TheVariants.{Present, Primary, Secondary}
-use Rattle.grib_io.specs.declared.fault.Reason.TheVariants.{DataTooShort, GroupWidth, GroupShape}
-use Rattle.grib_io.specs.Rows.{Row, row, first_place}
+use Rattle.grib_base.specs.declared.code.Code.{Code}
+use Rattle.grib_base.specs.declared.code.Code.TheVariants.{Present, Primary, Secondary}
+use Rattle.grib_base.specs.declared.fault.Reason.TheVariants.{DataTooShort, GroupWidth, GroupShape}
+use Rattle.grib_base.specs.Rows.{Row, row, first_place}
 use Rattle.grib_packing.specs.declared.group.Group.{Group}
 use Rattle.grib_packing.specs.declared.layout.Layout.{Layout}
 

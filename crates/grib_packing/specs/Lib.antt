@@ -9,3 +9,10 @@ pub mod Groupings
 pub mod Misfits
 pub mod Packed
 pub mod Span
+pub mod Representation
+pub mod Sections
+pub mod Unpacked
+pub mod Written
+pub mod Laws
+pub use Rattle.grib_bitmap.specs.Mask
+pub use Rattle.grib_base.specs.Faults

@@ -3,9 +3,9 @@
 use Rattle.std.specs.Prelude.{ℕ, not, cond, List, [], ◌∷◌, length, nat_lt, ◌==◌}
 use Rattle.grib_bits.specs.Binary32.{ieee_exponent}
 use Rattle.grib_bits.specs.Octets.{octets}
-use Rattle.grib_io.specs.declared.fault.Reason.{Reason}
-use Rattle.grib_io.specs.declared.fault.Reason.TheVariants.{SectionLength, PackingTemplate, Jpeg2000, PngPacked, Ccsds, ValueCount, ReferenceNotFinite, BitWidth}
-use Rattle.grib_io.specs.Rows.{Row, row}
+use Rattle.grib_base.specs.declared.fault.Reason.{Reason}
+use Rattle.grib_base.specs.declared.fault.Reason.TheVariants.{SectionLength, PackingTemplate, Jpeg2000, PngPacked, Ccsds, ValueCount, ReferenceNotFinite, BitWidth}
+use Rattle.grib_base.specs.Rows.{Row, row}
 use Rattle.grib2_sections.specs.Template.{Template, template, is_template, least_length}
 
 -- the packing templates of the profile, each with its least length in octets

@@ -1,6 +1,6 @@
 //! What a field holds: one entry for each grid point.
 
-use grib_io::List;
+use grib_base::List;
 
 /// A grid point. Its value Y follows from its scaled number X by Y * 10^D = R + X * 2^E (WMO-No. 306,
 /// Volume I.2, FM 92 GRIB edition 2, data representation template 5.0).

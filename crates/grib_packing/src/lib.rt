@@ -1,13 +1,21 @@
-//! Sections 5 and 7 as the packings share them: what a field holds, how its groups are laid out, and the
-//! definitions of what packed data mean.
+//! Sections 5 and 7 as the packings share them: what a field holds, how its groups are laid out, the
+//! definitions of what packed data mean, what each packing offers, and what all templates share of Section 5.
 #![tactic(auto)]
 
 mod column;
 mod group;
 mod layout;
+mod packing;
+mod representation;
 mod span;
+mod writing;
+mod written;
 
 pub use column::{Column, Point};
 pub use group::Group;
 pub use layout::Layout;
+pub use packing::Packing;
+pub use representation::{Simple, numbers_of, read_simple};
 pub use span::{Span, bit_length};
+pub use writing::{no_bitmap, octets_written, room_for, write_head, write_numbers};
+pub use written::{PackFault, Packed};

@@ -3,10 +3,10 @@
 ghost use Rattle.std.specs.Prelude.{◌≡◌, ℕ, ◌+◌, ◌<◌, ◌≤◌, ◌^◌, ◌∷◌, [], List, not, ◌&&◌, ◌==◌, cond, All};
 ghost use Rattle.grib_packing.specs.Groupings.{digits, width_of, reference_bits_of};
 ghost use Rattle.grib_packing.specs.Packed.{reference_of};
-ghost use Rattle.grib_io.specs.declared.code.Code as code_io;
+ghost use Rattle.grib_base.specs.declared.code.Code as code_io;
 ghost use Rattle.grib_packing.specs.Span.{IsBelow, IsSpan};
 
-use grib_io::Code;
+use grib_base::Code;
 
 /// What the width of a run of codes rests on.
 #[derive(Clone, Copy, Debug)]

@@ -3,11 +3,11 @@
 ghost use Rattle.std.specs.Prelude.{◌≡◌, ◌≤◌, IfOk};
 ghost use Rattle.std.specs.List.{list_any};
 ghost use Rattle.grib_packing.specs.Entries.{is_out_of_range};
-ghost use Rattle.grib_simple.specs.Written.{MayBePacked};
+ghost use Rattle.grib_packing.specs.Written.{MayBePacked};
 
 use crate::random::Random;
 use anyhow::{Result, ensure};
-use grib_io::List;
+use grib_base::List;
 use grib_packing::{Column, Point};
 use std::alloc::Global;
 

@@ -2,7 +2,7 @@
 //! that is wholly missing.
 
 ghost use Rattle.std.specs.Prelude.{IfOk};
-ghost use Rattle.grib_simple.specs.Written.{MayBePacked};
+ghost use Rattle.grib_packing.specs.Written.{MayBePacked};
 
 use crate::columns::column_of;
 use anyhow::{Result, ensure};

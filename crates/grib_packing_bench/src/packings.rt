@@ -2,15 +2,15 @@
 
 ghost use Rattle.std.specs.Prelude.{◌≡◌, IfOk};
 ghost use Rattle.grib_bits.specs.Octets.{StatesItself};
-ghost use Rattle.grib_simple.specs.Written.{MayBePacked};
+ghost use Rattle.grib_packing.specs.Written.{MayBePacked};
 
 use anyhow::{Result, anyhow, bail, ensure};
 use byteorder::{BigEndian, ByteOrder};
+use grib_base::Section;
 use grib_bitmap::{Mask, ones, read_mask};
 use grib_complex::{ComplexPacking, SpatialPacking, read_complex};
-use grib_io::Section;
-use grib_packing::Column;
-use grib_simple::{PackFault, Packed, Packing, SimplePacking, read_simple};
+use grib_packing::{Column, PackFault, Packed, Packing, read_simple};
+use grib_simple::SimplePacking;
 use std::alloc::Global;
 
 /// Of a large field, each so many octets one is looked at.

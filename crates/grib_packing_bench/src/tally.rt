@@ -1,14 +1,13 @@
 //! What became of some columns.
 
-ghost use Rattle.grib_simple.specs.Written.{MayBePacked};
+ghost use Rattle.grib_packing.specs.Written.{MayBePacked};
 
 use crate::columns::random_column;
 use crate::groups::group_bits;
 use crate::packings::{Way, are_same, pack, sum_with, unpack};
 use crate::random::Random;
 use anyhow::{Result, bail, ensure};
-use grib_packing::Column;
-use grib_simple::{PackFault, Packed};
+use grib_packing::{Column, PackFault, Packed};
 use std::alloc::Global;
 
 /// So many points a column has at most whose bits are counted.

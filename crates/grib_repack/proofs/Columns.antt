@@ -5,7 +5,7 @@ use Rattle.grib2_grids.specs.Grid.{grid_points}
 use Rattle.grib_packing.specs.declared.column.Column.{Column}
 use Rattle.grib_packing.specs.Entries.{entries_of, is_out_of_range}
 use Rattle.grib_packing.specs.Column.{points_with_mask}
-use Rattle.grib_simple.specs.Written.{MayBePacked}
+use Rattle.grib_packing.specs.Written.{MayBePacked}
 use Rattle.grib_packed.specs.Written.{HasWords}
 use Rattle.grib2_message.specs.Fields.{part_octets, field_mask, column_of}
 use Rattle.grib2_message.specs.Message.{FieldPasses}

@@ -9,9 +9,9 @@ use Rattle.grib_packing.specs.declared.column.Column.{Column}
 use Rattle.grib_packing.specs.Entries.{column_from}
 use Rattle.grib_packing.specs.Misfits.{Target, ToSimple, ToComplex, ToSpatial, Misfit, first_misfit}
 use Rattle.grib_packing.specs.Packed.{Packed as HasPacked}
-use Rattle.grib_simple.specs.declared.written.Packed.{Packed}
-use Rattle.grib_simple.specs.Laws.{UnpackTo}
-use Rattle.grib_simple.specs.Written.{MayBePacked, IsTarget}
+use Rattle.grib_packing.specs.declared.written.Packed.{Packed}
+use Rattle.grib_packing.specs.Laws.{UnpackTo}
+use Rattle.grib_packing.specs.Written.{MayBePacked, IsTarget}
 use Rattle.grib_packed.specs.Written.{HasWords, packed}
 use Rattle.grib2_message.specs.Fields.{field_count, part_octets, field_mask, column_of}
 use Rattle.grib2_message.specs.Message.{IsMessage, FieldPasses}

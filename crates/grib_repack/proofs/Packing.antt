@@ -6,9 +6,9 @@ use Rattle.std.proofs.lemmas.List.FromFn.{map-range_with_len_more}
 use Rattle.grib_packing.specs.declared.column.Column.{Column}
 use Rattle.grib_packing.specs.Misfits.{Target, Misfit, first_misfit}
 use Rattle.grib_packing.specs.Packed.{Packed as HasPacked}
-use Rattle.grib_simple.specs.declared.written.Packed.{Packed}
-use Rattle.grib_simple.specs.declared.written.PackFault.{PackFault}
-use Rattle.grib_simple.specs.Written.{IsPackFault}
+use Rattle.grib_packing.specs.declared.written.Packed.{Packed}
+use Rattle.grib_packing.specs.declared.written.PackFault.{PackFault}
+use Rattle.grib_packing.specs.Written.{IsPackFault}
 use Rattle.grib_packed.specs.Written.{packed}
 use Rattle.grib2_message.specs.Fields.{column_of}
 use Rattle.grib2_message.specs.Assembled.{IsShort}

@@ -6,8 +6,8 @@ use Rattle.std.specs.List.{range_with_len}
 use Rattle.grib_bits.specs.Octets.{octets}
 use Rattle.grib_packing.specs.Misfits as packing
 use Rattle.grib_packing.specs.Misfits.{Target, Misfit, first_misfit}
-use Rattle.grib_simple.specs.declared.written.Packed.{Packed}
-use Rattle.grib_simple.specs.Written.{IsTarget}
+use Rattle.grib_packing.specs.declared.written.Packed.{Packed}
+use Rattle.grib_packing.specs.Written.{IsTarget}
 use Rattle.grib_packed.specs.Written.{packed}
 use Rattle.grib2_message.specs.Fields.{field_count, part_octets, column_of}
 use Rattle.grib2_message.specs.Message.{IsMessage}

@@ -2,13 +2,13 @@
 
 ghost use Rattle.std.specs.Prelude.{◌≡◌, ℕ, Option, option_map};
 ghost use Rattle.grib_packing.specs.Misfits.{Misfit};
-ghost use Rattle.grib_simple.specs.Written.{IsPackFault};
+ghost use Rattle.grib_packing.specs.Written.{IsPackFault};
 ghost use Rattle.grib2_message.specs.Assembled.{IsAssembleFault};
 ghost use Rattle.grib_repack.specs.declared.fault.RepackFault.TheVariants.{Memory};
 ghost use Rattle.grib_repack.specs.Repacked.{in_field, length_misfit};
 ghost use Rattle.grib_repack.specs.Faults.{IsRepackFault};
 
-use grib_simple::PackFault;
+use grib_packing::PackFault;
 use grib2_message::AssembleFault;
 use std::alloc::AllocError;
 use thiserror::Error;

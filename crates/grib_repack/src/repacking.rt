@@ -2,18 +2,19 @@
 
 ghost use Rattle.std.specs.Prelude.{◌≡◌, ◌≤◌, None, MatchResult, All};
 ghost use Rattle.std.specs.List.{range_with_len};
-ghost use Rattle.grib_simple.specs.Written.{IsTarget};
+ghost use Rattle.grib_packing.specs.Written.{IsTarget};
 ghost use Rattle.grib2_message.specs.Assembled.{IsShort};
 ghost use Rattle.grib2_message.specs.Fields.{field_count};
 ghost use Rattle.grib_repack.specs.Repacked.{packed_field, packed_fields, repacked, field_misfit, misfit_among, repack_misfit};
 ghost use Rattle.grib_repack.specs.Faults.{target_of, IsRepackFault};
 
 use crate::{RepackFault, RepackTarget};
+use grib_bits::u8_at;
 use grib_complex::{ComplexPacking, SpatialPacking};
 use grib_packed::laws::one_packing_is_written;
-use grib_simple::{Packed, Packing, SimplePacking};
+use grib_packing::{Packed, Packing};
+use grib_simple::SimplePacking;
 use grib2_message::Message;
-use grib2_sections::u8_at;
 use std::alloc::Global;
 
 /// The message with the same fields, packed to the target: Sections 5, 6 and 7 of each field are written

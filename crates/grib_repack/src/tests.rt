@@ -1,11 +1,11 @@
 //! Messages are repacked to what was worked by hand from the tables of the manual and the rules of packing.
 
-ghost use Rattle.grib_simple.specs.Written.{IsTarget};
+ghost use Rattle.grib_packing.specs.Written.{IsTarget};
 ghost use Rattle.grib_repack.specs.Faults.{target_of};
 
 use crate::{RepackFault, RepackTarget, repack};
+use grib_bits::u8_at;
 use grib2_message::read_message;
-use grib2_sections::u8_at;
 use std::alloc::{AllocError, Global};
 use std::test::Fail;
 

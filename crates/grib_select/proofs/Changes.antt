@@ -3,9 +3,9 @@ use Rattle.std.proofs.Common.{◌≡◌, ◌≢◌, ℕ, ◌+◌, ◌-◌, ◌�
 use Rattle.std.specs.Option.{option_map_or}
 use Rattle.std.proofs.lemmas.Bool.{cases_eq}
 use Rattle.grib_bits.specs.Octets.{octets}
-use Rattle.grib_io.specs.Rows.{choose}
-use Rattle.grib2_sections.specs.Encoding.{octets_of}
-use Rattle.grib2_sections.proofs.Octets.{length-octets_of}
+use Rattle.grib_base.specs.Rows.{choose}
+use Rattle.grib_bits.specs.Encoding.{octets_of}
+use Rattle.grib_bits.proofs.Encoding.{length-octets_of}
 use Rattle.grib_keys.specs.declared.key.Key.{Key}
 use Rattle.grib_keys.specs.declared.key.Key.TheVariants.{Discipline, Scanning, La1, Lo1, EnsembleNumber}
 use Rattle.grib_keys.specs.declared.condition.Condition.{Condition}

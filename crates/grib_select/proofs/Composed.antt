@@ -1,6 +1,6 @@
 -- What is in the grammar is a message.
 use Rattle.std.proofs.Common.{ℕ, ◌+◌, ◌≤◌, List, [], length, sym, ap, ◌∙◌, append-nil, arith}
-use Rattle.grib_io.specs.Rows.{first_fault}
+use Rattle.grib_base.specs.Rows.{first_fault}
 use Rattle.grib2_sections.specs.Head.{head_rows}
 use Rattle.grib2_message.specs.Acceptance.{verdict_2, verdict_from}
 use Rattle.grib2_message.specs.Grammar.{Grammar2}

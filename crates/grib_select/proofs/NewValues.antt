@@ -4,8 +4,8 @@ use Rattle.std.proofs.lemmas.Bool.{cases_eq}
 use Rattle.grib_bits.specs.Bits.{bits, bits_of, signed}
 use Rattle.grib_bits.specs.Octets.{octets, octet_list, num_on, signed_octets}
 use Rattle.grib_bits.proofs.Signs.{signed-clear, signed-set}
-use Rattle.grib2_sections.specs.Encoding.{octets_of}
-use Rattle.grib2_sections.proofs.Octets.{length-octets_of, num_on-octets_of, bits-octets_of, pow_256}
+use Rattle.grib_bits.specs.Encoding.{octets_of}
+use Rattle.grib_bits.proofs.Encoding.{length-octets_of, num_on-octets_of, bits-octets_of, pow_256}
 use Rattle.grib_keys.specs.declared.key.Key.{Key}
 use Rattle.grib_keys.specs.declared.condition.Value.{Value}
 use Rattle.grib_keys.specs.declared.condition.Value.TheVariants.{Number, Missing}

@@ -5,7 +5,7 @@ use Rattle.std.specs.Prelude.{unsigned_abs, ◌↔◌}
 use Rattle.std.proofs.lemmas.Bool.{cases_lt}
 use Rattle.grib_bits.specs.Bits.{bits_of, signed}
 use Rattle.grib_bits.proofs.Signs.{signed-clear, signed-set}
-use Rattle.grib2_sections.proofs.Octets.{pow_256}
+use Rattle.grib_bits.proofs.Encoding.{pow_256}
 use Rattle.grib_select.specs.Changed.{signed_number, unsigned_number}
 
 -- 256 to the n is at most 2 to the 32 for up to four octets

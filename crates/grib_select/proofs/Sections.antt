@@ -4,12 +4,12 @@ use Rattle.std.specs.List.{concat}
 use Rattle.std.proofs.lemmas.Bool.{cases_eq}
 use Rattle.std.proofs.lemmas.List.{take_rest, drop_all}
 use borrow.Rule.Slice.PartMut.{put_mid, post_of}
-use Rattle.grib_io.specs.Rows.{first_fault}
+use Rattle.grib_base.specs.Rows.{first_fault}
 use Rattle.grib_packing.specs.Entries.{packing_fault}
-use Rattle.grib2_sections.specs.Encoding.{octets_of}
+use Rattle.grib_bits.specs.Encoding.{octets_of}
 use Rattle.grib2_sections.specs.Frame.{Placed, placed_at, section_number}
 use Rattle.grib2_sections.specs.Identification.{identification_rows}
-use Rattle.grib2_sections.proofs.Octets.{length-octets_of}
+use Rattle.grib_bits.proofs.Encoding.{length-octets_of}
 use Rattle.grib2_grids.specs.Grid.{grid_rows}
 use Rattle.grib2_products.specs.Product.{product_rows}
 use Rattle.grib2_message.specs.View.{points_in_force, section_count}

@@ -3,8 +3,8 @@ use Rattle.std.proofs.Common.{◌≡◌, ℕ, zero, suc, ◌+◌, ◌-◌, ◌*�
 use Rattle.std.specs.Prelude.{sum}
 use Rattle.std.specs.List.{range_with_len}
 use Rattle.grib_bits.specs.Octets.{octets, octet_list, num_on, StatesItself}
-use Rattle.grib_io.specs.declared.fault.Reason.TheVariants.{SectionLength, GridSource, GridTemplate, PointCount, ListShape, FieldCount, ProductTemplate}
-use Rattle.grib_io.specs.Rows.{Row, row}
+use Rattle.grib_base.specs.declared.fault.Reason.TheVariants.{SectionLength, GridSource, GridTemplate, PointCount, ListShape, FieldCount, ProductTemplate}
+use Rattle.grib_base.specs.Rows.{Row, row}
 use Rattle.grib2_sections.specs.Template.{is_template, least_length}
 use Rattle.grib2_sections.specs.Identification.{identification_rows}
 use Rattle.grib2_grids.specs.Grid.{grid_rows, grid_points, grid_template, grid_templates, list_octets, list_start, row_list, ni, nj, may_have_list}

@@ -3,7 +3,7 @@ use Rattle.std.proofs.Common.{◌≡◌, ◌≢◌, ℕ, zero, suc, ◌+◌, ◌
 use Rattle.std.specs.Prelude.{All, AllPairs, option_map}
 use Rattle.std.specs.List.{range_with_len}
 use Rattle.std.proofs.lemmas.Bool.{cases_eq, eqb-false}
-use Rattle.grib_io.specs.Rows.{choose}
+use Rattle.grib_base.specs.Rows.{choose}
 use Rattle.grib2_message.specs.Fields.{field_count, field_sections, part_octets}
 use Rattle.grib2_message.specs.Message.{IsMessage, FieldPasses}
 use Rattle.grib2_message.proofs.Along.{octets_along}

@@ -2,7 +2,7 @@
 use Rattle.std.proofs.Common.{◌≡◌, ◌≢◌, ℕ, ◌+◌, ◌-◌, ◌<◌, ◌≤◌, Bool, true, false, not, ◌||◌, ◌&&◌, ◌==◌, Option, Some, None, List, [], length, nat_lt, ◌⊎◌, inl, inr, refl, sym, ap, ◌∙◌, arith, subst, ltb-false, eqb-true, ltb-true, eq-eqb}
 use Rattle.std.specs.Option.{option_map_or}
 use Rattle.std.proofs.lemmas.Bool.{not-false, cases_eq}
-use Rattle.grib_io.specs.Rows.{Row, first_fault, or_then, choose}
+use Rattle.grib_base.specs.Rows.{Row, first_fault, or_then, choose}
 use Rattle.grib2_sections.specs.Template.{is_template, least_length}
 use Rattle.grib2_sections.specs.Identification.{identification_rows}
 use Rattle.grib2_grids.specs.Grid.{grid_rows, grid_points, grid_template, grid_templates}
@@ -12,7 +12,7 @@ use Rattle.grib2_products.specs.Product.{product_rows, product_template, product
 use Rattle.grib_packing.specs.Packing.{packing_template, packing_templates, packing_rows}
 use Rattle.grib_packing.specs.Complex.{complex_rows}
 use Rattle.grib_packing.specs.Entries.{packing_fault}
-use Rattle.grib_io.specs.declared.fault.Fault.{Fault}
+use Rattle.grib_base.specs.declared.fault.Fault.{Fault}
 use Rattle.grib_keys.specs.declared.key.Key.{Key}
 use Rattle.grib_keys.specs.declared.key.Key.TheVariants.{Discipline}
 use Rattle.grib_keys.specs.Keys.{Octets, row_of}

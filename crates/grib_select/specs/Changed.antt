@@ -3,8 +3,8 @@
 use Rattle.std.specs.Prelude.{◌≡◌, ℕ, ◌+◌, ◌-◌, ◌*◌, ◌^◌, Bool, cond, ◌&&◌, ◌==◌, nat_lt, is_none, Option, Some, None, unwrap_or, List, [], ◌∷◌, ◌++◌, length, take, drop, map, ℤ, pos, negsuc}
 use Rattle.std.specs.List.{concat, range_with_len}
 use Rattle.std.specs.Option.{option_map_or}
-use Rattle.grib_io.specs.Rows.{choose}
-use Rattle.grib2_sections.specs.Encoding.{octets_of}
+use Rattle.grib_base.specs.Rows.{choose}
+use Rattle.grib_bits.specs.Encoding.{octets_of}
 use Rattle.grib2_sections.specs.Frame.{section_number}
 use Rattle.grib2_sections.specs.Head.{end_mark}
 use Rattle.grib_keys.specs.declared.key.Key.{Key}

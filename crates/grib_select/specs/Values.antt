@@ -4,7 +4,7 @@ use Rattle.std.specs.Prelude.{◌≡◌, ℕ, ◌+◌, ◌-◌, ◌^◌, ◌≤�
 use Rattle.std.specs.List.{list_all}
 use Rattle.std.specs.Ordering.{int_eq}
 use Rattle.grib_bits.specs.Octets.{octets, signed_octets}
-use Rattle.grib_io.specs.Rows.{choose}
+use Rattle.grib_base.specs.Rows.{choose}
 use Rattle.grib_keys.specs.declared.key.Key.{Key}
 use Rattle.grib_keys.specs.declared.condition.Value.{Value}
 use Rattle.grib_keys.specs.declared.condition.Value.TheVariants.{Number, Missing}

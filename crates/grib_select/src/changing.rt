@@ -2,7 +2,7 @@
 
 ghost use Rattle.std.specs.Prelude.{◌≡◌, ◌≢◌, ◌++◌, None, Some, All, IsTrue, IfOk, OnOk, MatchOption, MatchResult};
 ghost use Rattle.grib_bits.specs.Octets.{StatesItself};
-ghost use Rattle.grib_io.specs.declared.fault.Fault.{Fault};
+ghost use Rattle.grib_base.specs.declared.fault.Fault.{Fault};
 ghost use Rattle.grib2_sections.specs.Frame.{End, Fails, Next, step_from, position_after};
 ghost use Rattle.grib_keys.specs.Keys.{can_set};
 ghost use Rattle.grib_select.specs.declared.changing.SetFault.TheVariants.{Memory};
@@ -13,7 +13,7 @@ use crate::number::new_number;
 use crate::place::section_of;
 use crate::value::{key_value, place_in};
 use byteorder::{BigEndian, ByteOrder};
-use grib_io::Section;
+use grib_base::Section;
 use grib_keys::{Condition, Key};
 use grib2_message::Message;
 use grib2_sections::Frame;

@@ -1,8 +1,9 @@
 //! Keys of whole messages. The octets and what they hold are worked by hand from the tables of the manual.
 
 use crate::{Condition, Key, SetFault, Value, key_value, matches, set_keys, single};
-use grib2_message::{Message, ReadFault, read_message};
-use grib2_sections::u8_at;
+use grib_base::ReadFault;
+use grib_bits::u8_at;
+use grib2_message::{Message, read_message};
 use std::alloc::{AllocError, Global};
 use std::test::Fail;
 

@@ -10,10 +10,9 @@ ghost use Rattle.grib_select.specs.Values.{key_value_of, HasKeys, value_at as va
 
 use crate::number::is_all_ones;
 use crate::place::{Place, is_signed, may_be_missing, place_of, section_of};
-use grib_bits::signed_of;
+use grib_bits::{signed_of, u16_at, uint_at};
 use grib_keys::{Key, Value};
 use grib2_message::Message;
-use grib2_sections::{u16_at, uint_at};
 
 /// The value that a key has in a field, counted from 1: the number at its place in the section that is in
 /// force for the field, or missing; `None` exactly where the template of the section has no such key.

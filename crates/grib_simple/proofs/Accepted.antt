@@ -1,7 +1,7 @@
 -- Lemmas on rows that do not fail.
 use Rattle.std.proofs.Common.{◌≡◌, ℕ, Bool, true, false, cond, eqb, Option, Some, None, List, [], ◌∷◌, length, refl, ap, ◌∙◌}
-use Rattle.grib_io.specs.Rows.{Row, first_fault, first_fault_at, located, or_then, choose}
-use Rattle.grib_io.specs.declared.fault.Fault.{Fault}
+use Rattle.grib_base.specs.Rows.{Row, first_fault, first_fault_at, located, or_then, choose}
+use Rattle.grib_base.specs.declared.fault.Fault.{Fault}
 use Rattle.grib_packing.specs.Complex.{complex_rows}
 use Rattle.grib_packing.specs.declared.column.Column.{Column}
 use Rattle.grib_packing.specs.declared.column.Point.{Point}

@@ -6,8 +6,8 @@ use Rattle.grib_bits.specs.Binary32.{ieee_exponent}
 use Rattle.grib_bits.specs.Bits.{bits}
 use Rattle.grib_bits.specs.Plain.{plain}
 use Rattle.grib_bits.proofs.OctetBits.{length-bits}
-use Rattle.grib_io.specs.declared.fault.Fault.{Fault}
-use Rattle.grib_io.specs.Rows.{first_fault, or_then, choose}
+use Rattle.grib_base.specs.declared.fault.Fault.{Fault}
+use Rattle.grib_base.specs.Rows.{first_fault, or_then, choose}
 use Rattle.grib2_sections.specs.Template.{is_template, least_length}
 use Rattle.grib_packing.specs.declared.column.Column.{Column}
 use Rattle.grib_packing.specs.declared.column.Point.{Point}
@@ -21,7 +21,7 @@ use Rattle.grib_packing.specs.Packing.{packing_template, packing_templates, pack
 use Rattle.grib_packing.specs.Simple.{plain_bits}
 use Rattle.grib_packing.proofs.Fields.{length-fields, length-padded8, plain-padded}
 use Rattle.grib_simple.specs.Survey.{is_too_wide}
-use Rattle.grib_simple.specs.Written.{MayBePacked}
+use Rattle.grib_packing.specs.Written.{MayBePacked}
 use Rattle.grib_simple.proofs.Accepted.{data_fault-simple, entries_of-simple, same_column}
 use Rattle.grib_simple.proofs.Fitting.{few_numbers, none_fail, number_back, parts_false, width_few, width_fits}
 

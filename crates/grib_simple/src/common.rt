@@ -3,7 +3,7 @@
 ghost use Rattle.std.specs.Prelude.{◌≡◌, ◌≤◌, length, replicate, true, false, MatchOption};
 ghost use Rattle.grib_packing.specs.declared.column.Point as point_packing;
 
-use crate::Point;
+use grib_packing::Point;
 
 /// The point that all points are, where they are all the same. It ends at the first that differs.
 pub fn common_point(points: &[Point]) -> Option<Point>

@@ -4,8 +4,8 @@ ghost use Rattle.std.specs.Prelude.{◌≡◌, ℕ, None, List};
 ghost use Rattle.grib_packing.specs.declared.column.Column as column_packing;
 ghost use Rattle.grib_packing.specs.Misfits.{ToSimple, first_misfit};
 ghost use Rattle.grib_packing.specs.Packed.{Packed as HasPacked};
-ghost use Rattle.grib_simple.specs.Laws.{UnpackTo};
-ghost use Rattle.grib_simple.specs.Written.{MayBePacked};
+ghost use Rattle.grib_packing.specs.Laws.{UnpackTo};
+ghost use Rattle.grib_packing.specs.Written.{MayBePacked};
 
 /// What is packed simply unpacks to the same column: where nothing of a column fails to fit, the sections
 /// of simple packing are accepted, and their column is the one that was packed.

@@ -1,30 +1,23 @@
-//! Columns of scaled numbers, the data representation section that all packings share, and simple
-//! packing: template 5.0.
+//! Simple packing: template 5.0.
 #![tactic(auto)]
 
 mod common;
 pub mod laws;
 mod numbers;
 mod packed;
-mod packing;
 #[cfg(test)]
 mod packing_tests;
 mod repeated;
-mod representation;
-mod sections;
 mod simple;
 mod survey;
 #[cfg(test)]
 mod tests;
 mod writing;
-mod written;
 
 pub use common::common_point;
-pub use grib_packing::{Column, Point};
+pub use grib_packing::{
+    Column, PackFault, Packed, Packing, Point, Simple, no_bitmap, octets_written, read_simple,
+    room_for, write_head, write_numbers,
+};
 pub use numbers::{masked_points, unpack_numbers, unpack_points};
-pub use packing::Packing;
-pub use representation::{Simple, read_simple};
-pub use sections::{octets_written, room_for, write_head, write_numbers};
 pub use simple::SimplePacking;
-pub use writing::no_bitmap;
-pub use written::{PackFault, Packed};

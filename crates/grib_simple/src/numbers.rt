@@ -8,10 +8,10 @@ ghost use Rattle.grib_packing.specs.Column.{points_with_mask};
 ghost use Rattle.grib_packing.specs.declared.column.Point.TheVariants.{Scaled};
 ghost use Rattle.grib_simple.specs.Part.{plain_from};
 
-use crate::Point;
 use byteorder::{BigEndian, ByteOrder};
 use grib_bitmap::{Mask, ones};
 use grib_bits::{get_bits, number_in_word};
+use grib_packing::Point;
 use std::alloc::{AllocError, Global};
 use std::simd::prelude::*;
 

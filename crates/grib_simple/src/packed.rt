@@ -2,13 +2,11 @@
 
 ghost use Rattle.std.specs.Prelude.{◌≡◌, ◌+◌, ◌*◌, ◌/◌, ◌≤◌, cond};
 ghost use Rattle.grib_packing.specs.Misfits.{ToSimple};
-ghost use Rattle.grib_simple.specs.Written.{IsPacked, MayBePacked};
+ghost use Rattle.grib_packing.specs.Written.{IsPacked, MayBePacked};
 
-use crate::sections::room_for;
 use crate::survey::Survey;
 use crate::writing::{bitmap_section, representation_section, values_section};
-use crate::{Column, PackFault, Packed};
-use grib_packing::bit_length;
+use grib_packing::{Column, PackFault, Packed, bit_length, room_for};
 use std::alloc::Global;
 
 /// Sections 5, 6 and 7 of a column: the numbers of the points that are not missing in the least bits,

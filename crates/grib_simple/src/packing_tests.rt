@@ -5,7 +5,7 @@ ghost use Rattle.std.specs.List.{list_any};
 ghost use Rattle.grib_packing.specs.Entries.{is_out_of_range};
 
 use super::*;
-use grib_io::List;
+use grib_base::List;
 use std::alloc::Global;
 use std::process::Abort;
 use std::test::Fail;

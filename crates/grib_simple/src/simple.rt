@@ -10,11 +10,9 @@ ghost use Rattle.grib_packing.specs.Misfits.{ToSimple};
 
 use crate::numbers::{masked_points, unpack_points};
 use crate::packed::pack_simply;
-use crate::packing::Packing;
-use crate::representation::numbers;
-use crate::{Column, PackFault, Packed, Point};
+use grib_base::{Fault, List, ReadFault, Reason, Section};
 use grib_bitmap::Mask;
-use grib_io::{Fault, List, Reason, Section, UnpackFault};
+use grib_packing::{Column, PackFault, Packed, Packing, Point, numbers_of};
 use std::alloc::{AllocError, Global};
 
 /// Simple packing: the numbers of the present points stand one after another, each in as many bits
@@ -33,21 +31,17 @@ impl Packing for SimplePacking {
         section5: &Section<'_>,
         mask: &Mask,
         section7: &Section<'_>,
-    ) -> Result<Column, UnpackFault> {
-        let simple = numbers(section5.octets);
+    ) -> Result<Column, ReadFault> {
+        let simple = numbers_of(section5.octets);
         let octets = section7.octets;
         let bits = u32::from(simple.bits);
         let room = (u64::from(simple.values) * u64::from(bits)).div_ceil(8);
         if octets.len() as u64 - 5 < room {
             let length = octets.len() as u64;
-            return Err(UnpackFault::Refused(Fault::at(
-                section7.start,
-                Reason::DataTooShort,
-                length,
-            )));
+            return Err(ReadFault::Refused(Fault::at(section7.start, Reason::DataTooShort, length)));
         }
         let Ok(points) = present_points(alloc, &octets[5..], bits, simple.values, mask) else {
-            return Err(UnpackFault::Memory);
+            return Err(ReadFault::Memory);
         };
         Ok(Column {
             reference: simple.reference,

@@ -5,11 +5,10 @@ ghost use Rattle.std.specs.Prelude.{◌≡◌, ◌+◌, ◌-◌, ◌^◌, ◌<�
 ghost use Rattle.grib_packing.specs.declared.column.Point as point_packing;
 ghost use Rattle.grib_packing.specs.Misfits.{ToSimple, first_misfit, is_outside};
 ghost use Rattle.grib_simple.specs.Survey.{IsSurvey, Surveys};
-ghost use Rattle.grib_simple.specs.Written.{IsPackFault};
+ghost use Rattle.grib_packing.specs.Written.{IsPackFault};
 
-use crate::Point;
 use crate::common::common_point;
-use crate::written::PackFault;
+use grib_packing::{PackFault, Point};
 
 /// The greatest number of simple packing, which has 48 bits at most.
 const MOST: u64 = (1 << 48) - 1;

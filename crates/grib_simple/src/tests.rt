@@ -6,9 +6,9 @@ ghost use Rattle.grib_bits.specs.Octets.{StatesItself};
 
 use super::*;
 use byteorder::{BigEndian, ByteOrder};
+use grib_base::{Fault, ReadFault, Reason, Section};
 use grib_bitmap::{Mask, ones, read_mask};
 use grib_bits::get_bits;
-use grib_io::{Fault, Reason, Section, UnpackFault};
 use std::alloc::{AllocError, Global};
 use std::process::Abort;
 use std::test::Fail;
@@ -209,7 +209,7 @@ fn unpacked_field(
     representation: &[u8],
     mask: &Mask,
     data: &[u8],
-) -> Result<Column, UnpackFault> {
+) -> Result<Column, ReadFault> {
     let section5 = section(rt, 5, 144, representation);
     let section7 = section(rt, 7, 171, data);
     let Ok(simple) = read_simple(&section5, mask.len()) else {
@@ -221,7 +221,7 @@ fn unpacked_field(
 }
 
 /// The column that was unpacked.
-fn column(rt: &impl Abort, unpacked: Result<Column, UnpackFault>) -> Column {
+fn column(rt: &impl Abort, unpacked: Result<Column, ReadFault>) -> Column {
     match unpacked {
         Ok(column) => column,
         Err(_) => panic!(rt; "the field is refused"),
@@ -288,7 +288,7 @@ fn numbers_of_no_bits_are_not_read(rt: HostRuntime) -> Result<(), Fail> {
     assert_eq!(rt; field.points.as_slice(), [Point::Scaled(0); 4].as_slice());
 
     let short = unpacked_field(&rt, rt.alloc(), &FIELD, &all, &[0, 0, 0, 8, 7, 0, 1, 2]);
-    let Err(UnpackFault::Refused(fault)) = short else {
+    let Err(ReadFault::Refused(fault)) = short else {
         panic!(rt; "the data are accepted");
     };
     assert_eq!(rt;

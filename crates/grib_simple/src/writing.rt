@@ -4,16 +4,14 @@ ghost use Rattle.std.specs.Prelude.{◌≡◌, ◌+◌, ◌*◌, ◌/◌, ◌^�
 ghost use Rattle.std.specs.List.{list_any};
 ghost use Rattle.grib_bits.specs.Bits.{bits_of, digit};
 ghost use Rattle.grib_packing.specs.Misfits.{is_missing as is_missing_point, is_missing2};
-ghost use Rattle.grib_packing.specs.Packed.{HasContents, HasNumbers, IsBitmap, fields, no_bitmap_section, present_bits, simple_numbers};
+ghost use Rattle.grib_packing.specs.Packed.{HasContents, HasNumbers, IsBitmap, fields, present_bits, simple_numbers};
 ghost use Rattle.grib_simple.specs.Survey.{IsSurvey};
 
 use crate::repeated::put_same;
-use crate::sections::{octets_written, write_head, write_numbers};
 use crate::survey::Survey;
-use crate::{Column, Point};
-use grib_bits::BitWriter;
-use grib_io::List;
-use grib2_sections::write_u8;
+use grib_base::List;
+use grib_bits::{BitWriter, write_u8};
+use grib_packing::{Column, Point, no_bitmap, octets_written, write_head, write_numbers};
 
 /// Section 5 of simple packing, in a writer that has room for its 21 octets (WMO-No. 306, Volume I.2, FM
 /// 92 GRIB edition 2, data representation template 5.0).
@@ -50,18 +48,6 @@ pub fn bitmap_section(points: &[Point], present: u32, missing: bool, room: BitWr
     } else {
         no_bitmap(room)
     }
-}
-
-/// Section 6 without a bitmap, in a writer that has room for its 6 octets.
-pub fn no_bitmap(mut room: BitWriter) -> List<u8>
-    requires none { room.bits ≡ [] }
-    requires room { 48 ≤ room.spare }
-    ensures section { result ≡ no_bitmap_section }
-    ensures has { HasContents 6 result (bits_of 8 255) }
-{
-    write_head(6, 6, &mut room);
-    write_u8(255, &mut room);
-    octets_written(room)
 }
 
 /// Section 6 with a bitmap, in a writer that has room for it.

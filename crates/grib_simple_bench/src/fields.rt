@@ -6,9 +6,10 @@ ghost use Rattle.grib_bits.specs.Octets.{StatesItself};
 use crate::runs::STEP;
 use anyhow::{Result, anyhow, ensure};
 use byteorder::{BigEndian, ByteOrder};
+use grib_base::Section;
 use grib_bitmap::{Mask, ones, read_mask};
-use grib_io::Section;
-use grib_simple::{Packing, Point, SimplePacking, read_simple};
+use grib_packing::{Packing, Point, read_simple};
+use grib_simple::SimplePacking;
 use std::alloc::{AllocError, Global};
 
 /// A field in simple packing: its Section 5, its mask and its Section 7.

@@ -2,7 +2,8 @@
 
 ghost use Rattle.std.specs.Prelude.{◌*◌, ◌≤◌, length, vec_len, IfOk};
 
-use grib_simple::{Point, unpack_numbers, unpack_points};
+use grib_packing::Point;
+use grib_simple::{unpack_numbers, unpack_points};
 use std::alloc::{AllocError, Global};
 
 /// Each so many numbers one is looked at.

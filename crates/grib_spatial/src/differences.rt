@@ -1,6 +1,6 @@
 //! Numbers as they are told by their differences.
 
-use grib_io::List;
+use grib_base::List;
 
 /// The spatial differences of numbers (WMO-No. 306, Volume I.2, FM 92 GRIB edition 2, data template
 /// 7.3, code table 5.6).

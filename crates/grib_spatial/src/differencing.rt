@@ -5,7 +5,7 @@ ghost use Rattle.grib_packing.specs.Differences.{difference_at, differences, les
 ghost use Rattle.grib_spatial.specs.Undoing.{read_with};
 
 use crate::differences::Differences;
-use grib_io::List;
+use grib_base::List;
 use std::alloc::{AllocError, Global};
 
 /// The spatial differences of order 1 or 2 of these numbers, with the least minimum (WMO-No. 306, Volume

@@ -3,7 +3,7 @@
 ghost use Rattle.std.specs.Prelude.{◌≡◌, ◌⊎◌, ◌^◌, ◌≤◌};
 
 use super::*;
-use grib_io::List;
+use grib_base::List;
 use std::test::Fail;
 
 #[test]

@@ -4,7 +4,7 @@ use Rattle.std.specs.Prelude.{slice_index}
 use Rattle.std.specs.List.{sum}
 use Rattle.std.proofs.lemmas.List.{get_or-drop}
 use Rattle.std.proofs.lemmas.List.Elements.{All-head, All-tail}
-use Rattle.grib_io.specs.declared.code.Code.{Code}
+use Rattle.grib_base.specs.declared.code.Code.{Code}
 use Rattle.grib_packing.specs.Groupings.{IsGrouping, cost_of, Chosen}
 use Rattle.grib_split.specs.Least.{IsHead, AreHeads, Follows}
 use Rattle.grib_split.proofs.Optimal.{Allowed, sum-cons, parts, code_parts, code_joined}

@@ -1,7 +1,7 @@
 -- First lengths of chosen groupings are choices that lengths can follow.
 use Rattle.std.proofs.Common.{◌≡◌, ℕ, ◌<◌, List, length, drop, arith, length-drop}
 use Rattle.std.specs.Prelude.{slice_index}
-use Rattle.grib_io.specs.declared.code.Code.{Code}
+use Rattle.grib_base.specs.declared.code.Code.{Code}
 use Rattle.grib_split.specs.Least.{AreHeads, AreChoices}
 use Rattle.grib_split.proofs.Optimal.{parts}
 

@@ -1,8 +1,8 @@
 -- Widths of runs, and what is kept of runs, with one code more.
 use Rattle.std.proofs.Common.{◌≡◌, ℕ, ◌+◌, ◌-◌, ◌^◌, ◌<◌, ◌≤◌, ◌⊎◌, inl, inr, min, max, Bool, true, false, cond, List, [], ◌∷◌, length, refl, sym, ap, ap₂, ◌∙◌, arith, eq-eqb, ne_eqb}
 use Rattle.std.specs.List.{list_any}
-use Rattle.grib_io.specs.declared.code.Code.{Code}
-use Rattle.grib_io.specs.declared.code.Code.TheVariants.{Present, Primary, Secondary}
+use Rattle.grib_base.specs.declared.code.Code.{Code}
+use Rattle.grib_base.specs.declared.code.Code.TheVariants.{Present, Primary, Secondary}
 use Rattle.grib_packing.specs.Groupings.{width_of, digits, greatest, smallest, present_codes, is_present, is_primary, is_secondary}
 use Rattle.grib_packing.proofs.Spans.{smallest-more, smallest-one, some_present, none_present, smallest_at_most, width_by, width_of-by}
 use Rattle.grib_packing.proofs.Digits.{digits-most, digits-mono}

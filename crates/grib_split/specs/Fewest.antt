@@ -1,6 +1,6 @@
 -- Groups of codes that take no bits beside the headers, as where all codes are the same.
 use Rattle.std.specs.Prelude.{◌≡◌, ℕ, ◌+◌, ◌-◌, ◌/◌, ◌%◌, List, ◌∷◌, take, drop, replicate}
-use Rattle.grib_io.specs.declared.code.Code.{Code}
+use Rattle.grib_base.specs.declared.code.Code.{Code}
 
 -- no run of the codes takes a bit
 abbrev pub TakesNone : (List Code → ℕ) → List Code → Type 0

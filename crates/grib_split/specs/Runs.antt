@@ -2,7 +2,7 @@
 use Rattle.std.specs.Prelude.{◌≡◌, ℕ, ◌+◌, ◌-◌, ◌*◌, ◌^◌, ◌%◌, ◌<◌, ◌≤◌, ◌⊎◌, cond, false, List, length, take, drop, slice_index}
 use Rattle.std.specs.List.{list_any}
 use Rattle.std.specs.Int.{bit_at}
-use Rattle.grib_io.specs.declared.code.Code.{Code}
+use Rattle.grib_base.specs.declared.code.Code.{Code}
 use Rattle.grib_packing.specs.Groupings.{width_of, greatest, smallest, present_codes, is_present, is_primary, is_secondary}
 use Rattle.grib_split.specs.declared.slots.Slots.{Slots}
 use Rattle.grib_split.specs.Least.{IsLeast}

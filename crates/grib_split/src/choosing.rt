@@ -8,7 +8,7 @@ ghost use Rattle.grib_split.specs.Least.{AreHeads, Best, with_first};
 ghost use Rattle.grib_split.specs.Runs.{Runs, Waits, Afters, after_of};
 
 use crate::slots::{Cheapest, Slots};
-use grib_io::Code;
+use grib_base::Code;
 
 /// The numbers that a grouping's cost rests on.
 #[derive(Clone, Copy, Debug, PartialEq, Eq)]

@@ -1,7 +1,7 @@
 //! The groups of codes that take no bits, as where all codes are the same.
 
 ghost use Rattle.std.specs.Prelude.{◌≡◌, ℕ, ◌≤◌, List, length, IfOk};
-ghost use Rattle.grib_io.specs.declared.code.Code as code_io;
+ghost use Rattle.grib_base.specs.declared.code.Code as code_io;
 ghost use Rattle.grib_packing.specs.Groupings.{Chosen};
 ghost use Rattle.grib_split.specs.Fewest.{TakesNone, fewest};
 

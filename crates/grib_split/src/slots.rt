@@ -2,11 +2,11 @@
 
 ghost use Rattle.std.specs.Prelude.{◌≡◌, ℕ, ◌+◌, ◌-◌, ◌*◌, ◌%◌, ◌^◌, ◌<◌, ◌≤◌, ◌∷◌, ◌≢◌, ◌⊎◌, List, min, max, replicate, slice_index, slice_set};
 ghost use Rattle.std.specs.Int.{bit_at};
-ghost use Rattle.grib_io.specs.declared.code.Code as code_io;
+ghost use Rattle.grib_base.specs.declared.code.Code as code_io;
 ghost use Rattle.grib_packing.specs.Span.{IsBelow};
 ghost use Rattle.grib_split.specs.Runs.{Tells, Told, Wide, Begun, Priced, PricedBut, length_to, SameNumbers, SameMarks, SameWidths};
 
-use grib_io::Code;
+use grib_base::Code;
 use grib_packing::bit_length;
 use std::simd::prelude::*;
 

@@ -4,7 +4,7 @@ ghost use Rattle.std.specs.Prelude.{◌≡◌, ◌<◌, ◌≤◌, vec_len, All,
 ghost use Rattle.grib_packing.specs.Span.{IsBelow};
 
 use super::*;
-use grib_io::Code;
+use grib_base::Code;
 use std::alloc::{AllocError, Global};
 use std::test::Fail;
 

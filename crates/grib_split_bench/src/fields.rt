@@ -3,7 +3,7 @@
 ghost use Rattle.std.specs.Prelude.{◌≡◌, ◌+◌, ◌<◌, ◌≤◌, ◌^◌, length, vec_len, All, IfOk};
 ghost use Rattle.grib_packing.specs.Span.{IsBelow};
 
-use grib_io::Code;
+use grib_base::Code;
 use grib_split::{Costs, least_choices};
 use std::alloc::{AllocError, Global};
 

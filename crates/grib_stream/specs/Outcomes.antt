@@ -1,7 +1,7 @@
 -- The outcomes of a run.
 use Rattle.std.specs.Prelude.{◌≡◌, ◌⊎◌, ℕ, Bool, true, false, not}
-use Rattle.grib_io.specs.declared.fault.Reason.{Reason}
-use Rattle.grib_io.specs.declared.fault.Reason.TheVariants.{Truncated}
+use Rattle.grib_base.specs.declared.fault.Reason.{Reason}
+use Rattle.grib_base.specs.declared.fault.Reason.TheVariants.{Truncated}
 use Rattle.grib_stream.specs.declared.outcome.Outcome.{Outcome}
 use Rattle.grib_stream.specs.declared.outcome.Outcome.TheVariants.{Done, Usage, Refused, Kept, ReadFault, WriteFault, ShelfFault, Memory, InputTooLong, NotBuilt}
 

@@ -1,6 +1,6 @@
 -- What is to be done with the messages of an input, as far as a run over them has to know it.
 use Rattle.std.specs.Prelude.{◌≡◌, ℕ, ◌*◌, ◌≤◌, true, false, List, [], ◌++◌, length, take}
-use Rattle.grib_io.specs.declared.fault.Fault.{Fault}
+use Rattle.grib_base.specs.declared.fault.Fault.{Fault}
 use Rattle.grib_stream.specs.declared.outcome.Outcome.{Outcome}
 use Rattle.grib_stream.specs.declared.outcome.Outcome.TheVariants.{NotBuilt}
 use Rattle.grib_stream.specs.declared.place.Place.{Place}

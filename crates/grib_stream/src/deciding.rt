@@ -11,7 +11,8 @@ ghost use Rattle.grib_stream.specs.declared.outcome.Outcome.TheVariants.{WriteFa
 use crate::outcome::Outcome;
 use crate::performer::{Performed, Performer, Whole};
 use crate::place::Place;
-use grib_io::{Fault, Reason, Refusal, Shelf, Sink};
+use grib_base::{Fault, Reason, Refusal};
+use grib_io::{Shelf, Sink};
 use std::alloc::Global;
 
 /// Octets for which nothing can be done yet.

@@ -3,7 +3,7 @@
 ghost use Rattle.std.specs.Prelude.{◌≡◌};
 ghost use Rattle.grib_stream.specs.Outcomes.{status_of};
 
-use grib_io::Refusal;
+use grib_base::Refusal;
 use grib_keys::Key;
 
 /// Why a message that is accepted cannot be changed as asked: what of it would be lost first. Fields are

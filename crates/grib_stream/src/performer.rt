@@ -12,7 +12,8 @@ ghost use Rattle.grib_stream.specs.declared.outcome.Outcome.TheVariants.{WriteFa
 
 use crate::outcome::Outcome;
 use crate::place::{Place, Totals};
-use grib_io::{Fault, Shelf, Sink};
+use grib_base::Fault;
+use grib_io::{Shelf, Sink};
 use std::alloc::Global;
 
 /// A message that was answered: its octets, its fields, and the octets of its result as far as they are

@@ -17,7 +17,8 @@ use crate::performer::Performer;
 use crate::place::{Place, Totals};
 use crate::searching::octets_before_mark;
 use crate::window::Window;
-use grib_io::{Refusal, Shelf, Sink, Source, Stop};
+use grib_base::Refusal;
+use grib_io::{Shelf, Sink, Source, Stop};
 use std::alloc::Global;
 
 /// Answers the messages of an input, of which no more than `limit` octets are answered. It answers what

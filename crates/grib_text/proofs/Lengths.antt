@@ -2,8 +2,8 @@
 use Rattle.std.proofs.Common.{◌≡◌, ℕ, ◌≤◌, Bool, true, false, cond, ◌||◌, Option, Some, None, List, [], ◌∷◌, length, ◌==◌, find, refl, sym, ap, ◌∙◌, arith, subst, ltb-false}
 use Rattle.std.specs.Option.{option_map_or}
 use Rattle.std.proofs.lemmas.Bool.{not-false}
-use Rattle.grib_io.specs.declared.fault.Fault.{Fault}
-use Rattle.grib_io.specs.Rows.{first_fault, or_then, choose}
+use Rattle.grib_base.specs.declared.fault.Fault.{Fault}
+use Rattle.grib_base.specs.Rows.{first_fault, or_then, choose}
 use Rattle.grib2_sections.specs.Template.{Template, is_template, least_length}
 use Rattle.grib2_message.specs.Product.{product_templates, product_template, product_rows}
 use Rattle.grib_packing.specs.Complex.{complex_rows}

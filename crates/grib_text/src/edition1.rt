@@ -9,8 +9,8 @@ ghost use Rattle.grib1_sections.specs.Acceptance.{grid, data_section, points_of,
 ghost use Rattle.grib_text.specs.Lines.{origin_of};
 ghost use Rattle.grib_text.specs.Lines1 as lines;
 
+use grib_bits::u8_at;
 use grib1_sections::{Key1, Message1};
-use grib2_sections::u8_at;
 use std::alloc::{AllocError, Global};
 use std::fmt;
 

@@ -7,8 +7,8 @@ ghost use Rattle.grib2_message.specs.Message.{FieldPasses};
 ghost use Rattle.grib_text.specs.Lines as lines;
 
 use crate::listed::{ListedField, field_line};
+use grib_bits::u8_at;
 use grib2_message::Message;
-use grib2_sections::u8_at;
 use std::alloc::{AllocError, Global};
 
 /// The line of a field, from 1, of the message with this number, from 1. The only error is want of memory.

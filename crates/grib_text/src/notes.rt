@@ -3,7 +3,7 @@
 ghost use Rattle.std.specs.Prelude.{◌≡◌, IfOk};
 ghost use Rattle.grib_text.specs.Notes as notes;
 
-use grib_io::Refusal;
+use grib_base::Refusal;
 use std::alloc::{AllocError, Global};
 
 /// The note on the refusal of a message: the octet that decides it, the reason and its detail. The

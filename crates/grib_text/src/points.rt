@@ -4,7 +4,7 @@ ghost use Rattle.std.specs.Prelude.{◌≡◌, ◌+◌, ◌<◌, ◌≤◌, [], 
 ghost use Rattle.std.specs.Fmt.{signed_decimal};
 ghost use Rattle.grib_text.specs.Lines as lines;
 
-use grib_simple::Point;
+use grib_packing::Point;
 use itoa::write_digits;
 use std::alloc::{AllocError, Global};
 

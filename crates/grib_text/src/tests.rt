@@ -2,12 +2,12 @@
 
 use super::*;
 use crate::listed::{ListedField, field_line};
+use grib_base::{Fault, Reason, Refusal};
+use grib_bits::u8_at;
 use grib_dyadic::Dyadic;
-use grib_io::{Fault, Reason, Refusal};
-use grib_simple::Point;
+use grib_packing::Point;
 use grib1_sections::read_message1;
 use grib2_message::read_message;
-use grib2_sections::u8_at;
 use std::alloc::Global;
 use std::test::Fail;
 

@@ -2,8 +2,8 @@
 
 ghost use Rattle.std.specs.Prelude.{◌≡◌, [], ◌++◌, codes, take, map, replicate};
 ghost use Rattle.std.specs.List.{range_with_len};
-ghost use Rattle.grib_io.specs.declared.fault.Reason.TheVariants.{Edition, GridType, PngPacked, ReferenceNotFinite};
-ghost use Rattle.grib_io.specs.Rows.{refusal};
+ghost use Rattle.grib_base.specs.declared.fault.Reason.TheVariants.{Edition, GridType, PngPacked, ReferenceNotFinite};
+ghost use Rattle.grib_base.specs.Rows.{refusal};
 ghost use Rattle.grib_stream.specs.declared.outcome.Cause.TheVariants.{EditionOne};
 ghost use Rattle.grib_repack.specs.declared.target.RepackTarget.TheVariants.{Simple};
 ghost use Rattle.grib_engine.specs.declared.job.Job.TheVariants.{Check, List, Dump, Set, Repack};

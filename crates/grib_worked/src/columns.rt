@@ -1,7 +1,7 @@
 //! What the fields of the worked messages hold.
 
 ghost use Rattle.std.specs.Prelude.{◌≡◌, [], ◌∷◌, negsuc, true, None, replicate};
-ghost use Rattle.grib_io.specs.declared.code.Code.TheVariants.{Present, Primary};
+ghost use Rattle.grib_base.specs.declared.code.Code.TheVariants.{Present, Primary};
 ghost use Rattle.grib_packing.specs.declared.column.Point.TheVariants.{Scaled, Missing, Missing2};
 ghost use Rattle.grib2_sections.specs.Verdict.{Accepted};
 ghost use Rattle.grib2_message.specs.Acceptance.{verdict_2};

@@ -1,8 +1,8 @@
 //! The lines that are printed of the worked messages.
 
 ghost use Rattle.std.specs.Prelude.{◌≡◌, ◌++◌, codes, pos, negsuc};
-ghost use Rattle.grib_io.specs.Rows.{refusal};
-ghost use Rattle.grib_io.specs.declared.fault.Reason.TheVariants.{ReferenceNotFinite};
+ghost use Rattle.grib_base.specs.Rows.{refusal};
+ghost use Rattle.grib_base.specs.declared.fault.Reason.TheVariants.{ReferenceNotFinite};
 ghost use Rattle.grib_dyadic.specs.Reference.{binary};
 ghost use Rattle.grib_text.specs.Lines.{check_line, total_line, list_line, reference_line, point_lines};
 ghost use Rattle.grib_text.specs.Notes.{refusal_note};

@@ -2,7 +2,7 @@
 
 ghost use Rattle.std.specs.Prelude.{◌≡◌, [], ◌∷◌, ◌++◌, ◌-◌, ◌^◌, pos, negsuc, None, Some};
 ghost use Rattle.grib_bits.specs.Bits.{bits};
-ghost use Rattle.grib_io.specs.declared.code.Code.TheVariants.{Present, Primary, Secondary};
+ghost use Rattle.grib_base.specs.declared.code.Code.TheVariants.{Present, Primary, Secondary};
 ghost use Rattle.grib_packing.specs.declared.column.Point.TheVariants.{Scaled, Missing, Missing2};
 ghost use Rattle.grib_packing.specs.Differences.{descriptors_of, difference_codes};
 ghost use Rattle.grib_packing.specs.Groupings.{reference_bits_of, width_bits_of, width_of, header_bits, cost_of};

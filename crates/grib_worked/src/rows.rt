@@ -1,8 +1,8 @@
 //! Rows that no other law meets first, each tried on a section or a message with one change.
 
 ghost use Rattle.std.specs.Prelude.{◌≡◌, ◌++◌, [], ◌∷◌, true, false, Some, None, take};
-ghost use Rattle.grib_io.specs.declared.fault.Reason.TheVariants.{TotalLength, SectionLength, SectionOrder, PointCount, ListShape, FieldCount, Jpeg2000, Ccsds, PackingTemplate, ValueCount, BitmapIndicator, BitmapSize, GroupWidth, GroupShape, DataTooShort, FirstValueSign, ScaledRange};
-ghost use Rattle.grib_io.specs.Rows.{refusal, first_fault, first_fault_at, located};
+ghost use Rattle.grib_base.specs.declared.fault.Reason.TheVariants.{TotalLength, SectionLength, SectionOrder, PointCount, ListShape, FieldCount, Jpeg2000, Ccsds, PackingTemplate, ValueCount, BitmapIndicator, BitmapSize, GroupWidth, GroupShape, DataTooShort, FirstValueSign, ScaledRange};
+ghost use Rattle.grib_base.specs.Rows.{refusal, first_fault, first_fault_at, located};
 ghost use Rattle.grib2_sections.specs.Verdict.{Refused};
 ghost use Rattle.grib2_sections.specs.Head.{head_rows};
 ghost use Rattle.grib2_sections.specs.Identification.{identification_rows};

@@ -1,8 +1,8 @@
 //! Streams of the worked messages among other octets.
 
 ghost use Rattle.std.specs.Prelude.{◌≡◌, [], ◌∷◌, ◌++◌, codes, take, replicate};
-ghost use Rattle.grib_io.specs.Rows.{refusal};
-ghost use Rattle.grib_io.specs.declared.fault.Reason.TheVariants.{Truncated, TotalLength};
+ghost use Rattle.grib_base.specs.Rows.{refusal};
+ghost use Rattle.grib_base.specs.declared.fault.Reason.TheVariants.{Truncated, TotalLength};
 ghost use Rattle.grib_stream.specs.Stream.{stream, stream_of, message_after, Over, Refusing};
 ghost use Rattle.grib_engine.specs.Tasks.{judge};
 ghost use Rattle.grib_worked.specs.Hex.{hex, put};

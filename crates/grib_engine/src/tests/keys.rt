@@ -6,7 +6,8 @@ ghost use Rattle.grib_engine.specs.Jobs.{IsJob};
 
 use super::{PLAIN, TWO_FIELDS};
 use crate::{Cause, Condition, Job, Kept, Key, Outcome, Value, serve};
-use grib_io::{CalmSink, CalmSource, List, MemoryShelf};
+use grib_base::List;
+use grib_io::{CalmSink, CalmSource, MemoryShelf};
 use std::alloc::{AllocError, Global};
 use std::test::Fail;
 

@@ -2,7 +2,8 @@
 
 use super::{PLAIN, TWO_FIELDS, stream};
 use crate::{Job, Name, Outcome, serve};
-use grib_io::{CalmSink, CalmSource, Fault, MemoryShelf, Reason, Refusal};
+use grib_base::{Fault, Reason, Refusal};
+use grib_io::{CalmSink, CalmSource, MemoryShelf};
 use std::alloc::{AllocError, Global};
 use std::process::Abort;
 use std::test::Fail;

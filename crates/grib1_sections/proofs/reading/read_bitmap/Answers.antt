@@ -1,5 +1,5 @@
 use Rattle.std.proofs.Common.{◌≡◌, true, false, None, sym, ap, ◌∙◌, arith}
-use Rattle.grib_io.specs.Rows.{first_fault, first_fault_at}
+use Rattle.grib_base.specs.Rows.{first_fault, first_fault_at}
 use Rattle.grib1_sections.specs.Frame.{frame_rows, section_at}
 use Rattle.grib1_sections.specs.Bitmap.{bitmap_rows}
 use Rattle.grib1_sections.specs.Acceptance.{has_bitmap}

@@ -1,5 +1,5 @@
 use Rattle.std.proofs.Common.{◌≡◌, ℕ, ◌≤◌, None, length, take, length-take-le, sym, ap, ap₂, ◌∙◌, subst, arith}
-use Rattle.grib_io.specs.Rows.{first_fault}
+use Rattle.grib_base.specs.Rows.{first_fault}
 use Rattle.grib2_sections.specs.Head.{total_length_1}
 use Rattle.grib2_sections.specs.Verdict.{Accepted}
 use Rattle.grib1_sections.specs.Frame.{end_rows, section_at}

@@ -1,6 +1,6 @@
 -- The rows are tried in three parts.
 use Rattle.std.proofs.Common.{take, drop, sym, ap, ◌∙◌}
-use Rattle.grib_io.specs.Rows.{located}
+use Rattle.grib_base.specs.Rows.{located}
 use Rattle.grib2_grids.specs.Grid.{grid_rows}
 use Rattle.grib2_grids.proofs.Parts.{second_failed, third_decides, refused}
 use Rattle.grib2_grids.proofs.reading.read_grid.Goals as goal

@@ -1,6 +1,6 @@
 use Rattle.std.proofs.Common.{◌≡◌, ◌*◌, ◌+◌, ◌^◌, ℕ, List, length, get_or, ap, ap₂, arith, subst, subst₂, ◌++◌}
-use Rattle.grib2_sections.specs.Encoding.{AddsOctets}
-use Rattle.grib2_sections.proofs.Octets.{AddsOctets-append}
+use Rattle.grib_bits.specs.Encoding.{AddsOctets}
+use Rattle.grib_bits.proofs.Encoding.{AddsOctets-append}
 use Rattle.grib2_grids.specs.Spelled.{template_of, written_length}
 use Rattle.grib2_grids.specs.Written.{SpelledHeader, header, template_octets, entry_octets}
 use Rattle.grib2_grids.proofs.Readable.{has_list, within, length-lt, row-lt, rows-lt, listed-lt}

@@ -1,7 +1,7 @@
 -- The octets of the numbers, one after another.
 use Rattle.std.proofs.Common.{ℕ, subst}
-use Rattle.grib2_sections.specs.Encoding.{AddsOctets}
-use Rattle.grib2_sections.proofs.Octets.{AddsOctets-append}
+use Rattle.grib_bits.specs.Encoding.{AddsOctets}
+use Rattle.grib_bits.proofs.Encoding.{AddsOctets-append}
 use Rattle.grib2_grids.specs.Written.{header}
 use Rattle.grib2_grids.proofs.writing.write_header.Goals as goal
 

@@ -1,7 +1,7 @@
 -- The octets of the numbers, one after another.
 use Rattle.std.proofs.Common.{◌++◌, sym}
-use Rattle.grib2_sections.specs.Encoding.{octets_of}
-use Rattle.grib2_sections.proofs.Octets.{AddsOctets-append}
+use Rattle.grib_bits.specs.Encoding.{octets_of}
+use Rattle.grib_bits.proofs.Encoding.{AddsOctets-append}
 use Rattle.grib2_grids.proofs.writing.write_lat_lon.Goals as goal
 
 pub returns-clause-octets : goal.returns-clause-octets

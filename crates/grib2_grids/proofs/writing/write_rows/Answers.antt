@@ -1,8 +1,8 @@
 use Rattle.std.proofs.Common.{◌≡◌, ℕ, List, length, take, ◌*◌, ◌+◌, ◌≤◌, subst, sym, ap, ◌∙◌, arith}
 use Rattle.std.proofs.Math.Nat.{mul-le-mul_left}
 use Rattle.std.proofs.lemmas.List.{length-take-le}
-use Rattle.grib2_sections.specs.Encoding.{octets_of, AddsOctets}
-use Rattle.grib2_sections.proofs.Octets.{AddsOctets-append}
+use Rattle.grib_bits.specs.Encoding.{octets_of, AddsOctets}
+use Rattle.grib_bits.proofs.Encoding.{AddsOctets-append}
 use Rattle.grib2_grids.specs.Written.{entry_octets}
 use Rattle.grib2_grids.proofs.Entries.{entry_octets-more, length-entry_octets}
 use Rattle.grib2_grids.proofs.writing.write_rows.Goals as goal

@@ -1,5 +1,5 @@
 use Rattle.std.proofs.Common.{take}
-use Rattle.grib2_sections.specs.Encoding.{AddsOctets}
+use Rattle.grib_bits.specs.Encoding.{AddsOctets}
 use Rattle.grib2_grids.specs.Written.{entry_octets}
 use Rattle.grib2_grids.proofs.writing.write_rows.Given as goal
 

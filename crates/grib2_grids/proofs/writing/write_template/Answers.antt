@@ -1,6 +1,6 @@
 -- The template is that of the arm.
 use Rattle.std.proofs.Common.{◌++◌}
-use Rattle.grib2_sections.proofs.Octets.{AddsOctets-append}
+use Rattle.grib_bits.proofs.Encoding.{AddsOctets-append}
 use Rattle.grib2_grids.specs.Written.{rotation_octets}
 use Rattle.grib2_grids.proofs.Variants.{octets_of_variant, spelled_by_variant}
 use Rattle.grib2_grids.proofs.writing.write_template.Goals as goal

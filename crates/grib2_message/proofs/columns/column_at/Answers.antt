@@ -1,5 +1,5 @@
 use Rattle.std.proofs.Common.{◌≡◌, length, None, sym, ap, ap₂, ◌∙◌, arith}
-use Rattle.grib_io.specs.Rows.{located}
+use Rattle.grib_base.specs.Rows.{located}
 use Rattle.grib_packing.specs.Entries.{packing_fault, data_fault, column_from}
 use Rattle.grib_packing.specs.Packing.{value_count}
 use Rattle.grib2_message.specs.View.{octets_in_force}

@@ -1,5 +1,5 @@
 use Rattle.std.proofs.Common.{◌≡◌, ℕ, ◌+◌, sym, ap, ap₂, ◌∙◌, subst, arith}
-use Rattle.grib_io.specs.Rows.{first_fault_at, located}
+use Rattle.grib_base.specs.Rows.{first_fault_at, located}
 use Rattle.grib2_products.specs.Product.{product_rows}
 use Rattle.grib_bitmap.specs.Mask.{bitmap_rows}
 use Rattle.grib_packing.specs.Entries.{packing_fault, data_fault}

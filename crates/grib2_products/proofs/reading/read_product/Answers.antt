@@ -1,6 +1,6 @@
 use Rattle.std.proofs.Common.{length, ap, ◌+◌, ◌∙◌}
 use Rattle.std.proofs.lemmas.List.FromFn.{length-map-range_with_len}
-use Rattle.grib_io.specs.Rows.{located}
+use Rattle.grib_base.specs.Rows.{located}
 use Rattle.grib2_products.specs.Product.{template_length, coordinate_count}
 use Rattle.grib2_products.proofs.Ranges.{word_at}
 use Rattle.grib2_products.proofs.reading.read_product.Goals as goal

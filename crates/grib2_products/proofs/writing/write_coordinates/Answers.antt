@@ -1,7 +1,7 @@
 use Rattle.std.proofs.Common.{ℕ, List, take, subst, sym, arith}
 use Rattle.std.proofs.lemmas.List.{length-take-le}
-use Rattle.grib2_sections.specs.Encoding.{AddsOctets}
-use Rattle.grib2_sections.proofs.Octets.{AddsOctets-append}
+use Rattle.grib_bits.specs.Encoding.{AddsOctets}
+use Rattle.grib_bits.proofs.Encoding.{AddsOctets-append}
 use Rattle.grib2_products.proofs.Ranges.{coordinate_octets-more, length-coordinate_octets}
 use Rattle.grib2_products.proofs.writing.write_coordinates.Goals as goal
 

@@ -1,6 +1,6 @@
 -- The octets of the numbers, one after another.
 use Rattle.std.proofs.Common.{sym}
-use Rattle.grib2_sections.proofs.Octets.{AddsOctets-append}
+use Rattle.grib_bits.proofs.Encoding.{AddsOctets-append}
 use Rattle.grib2_products.proofs.writing.write_ensemble.Goals as goal
 
 pub returns-clause-octets : goal.returns-clause-octets

@@ -1,9 +1,9 @@
 -- The octets of the numbers, one after another.
 use Rattle.std.proofs.Common.{List, ◌++◌, sym, subst}
-use Rattle.grib2_sections.specs.Encoding.{AddsOctets}
+use Rattle.grib_bits.specs.Encoding.{AddsOctets}
 use Rattle.grib2_products.specs.Written.{end_octets, specs_octets}
 use Rattle.grib2_products.specs.declared.templates.Spec.{Spec}
-use Rattle.grib2_sections.proofs.Octets.{AddsOctets-append}
+use Rattle.grib_bits.proofs.Encoding.{AddsOctets-append}
 use Rattle.grib2_products.proofs.writing.write_interval.Goals as goal
 
 pub returns-clause-octets : goal.returns-clause-octets

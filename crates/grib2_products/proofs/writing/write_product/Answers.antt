@@ -1,6 +1,6 @@
 use Rattle.std.proofs.Common.{◌≡◌, ◌*◌, ◌+◌, ℕ, List, ◌++◌, length, ap, arith, subst, subst₂}
-use Rattle.grib2_sections.specs.Encoding.{AddsOctets}
-use Rattle.grib2_sections.proofs.Octets.{AddsOctets-append}
+use Rattle.grib_bits.specs.Encoding.{AddsOctets}
+use Rattle.grib_bits.proofs.Encoding.{AddsOctets-append}
 use Rattle.grib2_products.specs.Spelled.{template_of, written_length}
 use Rattle.grib2_products.specs.Written.{SpelledHeader, header, template_octets, coordinate_octets}
 use Rattle.grib2_products.proofs.Readable.{count-lt, length-template_octets}

@@ -1,5 +1,5 @@
 use Rattle.std.proofs.Common.{take}
-use Rattle.grib2_sections.specs.Encoding.{AddsOctets}
+use Rattle.grib_bits.specs.Encoding.{AddsOctets}
 use Rattle.grib2_products.specs.Written.{specs_octets}
 use Rattle.grib2_products.proofs.writing.write_specs.Given as goal
 

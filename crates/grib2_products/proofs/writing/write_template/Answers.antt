@@ -1,6 +1,6 @@
 -- The template is that of the arm.
 use Rattle.std.proofs.Common.{◌++◌, length, ap, arith}
-use Rattle.grib2_sections.proofs.Octets.{AddsOctets-append}
+use Rattle.grib_bits.proofs.Encoding.{AddsOctets-append}
 use Rattle.grib2_products.specs.Written.{template_octets, ensemble_octets, end_octets, specs_octets}
 use Rattle.grib2_products.specs.declared.product.Product.{Product}
 use Rattle.grib2_products.proofs.Ranges.{length-specs_octets}

@@ -1,8 +1,8 @@
 -- The section is that of the numbers' octets, one after another.
 use Rattle.std.proofs.Common.{ℕ, List, ◌++◌, sym, refl, arith}
-use Rattle.grib2_sections.specs.Encoding.{octets_of}
+use Rattle.grib_bits.specs.Encoding.{octets_of}
 use Rattle.grib2_sections.specs.declared.identification.Identification.{Identification}
-use Rattle.grib2_sections.proofs.Octets.{AddsOctets-append, AddsOctets-whole}
+use Rattle.grib_bits.proofs.Encoding.{AddsOctets-append, AddsOctets-whole}
 use Rattle.grib2_sections.proofs.identification.write_identification.Goals as goal
 
 -- octets 1-12, 13-21

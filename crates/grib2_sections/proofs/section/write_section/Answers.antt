@@ -1,6 +1,6 @@
 -- The length, the number and the contents, one after another.
 use Rattle.std.proofs.Common.{◌∷◌, []}
-use Rattle.grib2_sections.proofs.Octets.{AddsOctets-append, AddsOctets-same, AddsOctets-whole, octets_of-one, StatesItself-section_of}
+use Rattle.grib_bits.proofs.Encoding.{AddsOctets-append, AddsOctets-same, AddsOctets-whole, octets_of-one, StatesItself-section_of}
 use Rattle.grib2_sections.proofs.section.write_section.Goals as goal
 
 pub returns : goal.returns

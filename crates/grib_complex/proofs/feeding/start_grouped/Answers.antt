@@ -1,9 +1,9 @@
 use Rattle.std.proofs.Common.{◌≡◌, ◌+◌, ◌*◌, ◌<◌, ◌≤◌, ℕ, Bool, true, false, cond, IsTrue, Option, Some, None, List, [], length, sym, ap, ◌∙◌, arith, inl, inr}
 use Rattle.std.proofs.lemmas.Bool.{cases_lt, lt-ltb}
 use Rattle.std.proofs.lemmas.List.{drop_all}
-use Rattle.grib_io.specs.declared.fault.Reason.TheVariants.{DataTooShort}
-use Rattle.grib_io.specs.declared.fault.Fault.{Fault}
-use Rattle.grib_io.specs.Rows.{refusal, first_fault}
+use Rattle.grib_base.specs.declared.fault.Reason.TheVariants.{DataTooShort}
+use Rattle.grib_base.specs.declared.fault.Fault.{Fault}
+use Rattle.grib_base.specs.Rows.{refusal, first_fault}
 use Rattle.grib_packing.specs.Groups.{list_octets, list_rows}
 use Rattle.grib_complex.specs.declared.keeping.Points.{Points}
 use Rattle.grib_complex.specs.declared.representation.Complex.{Complex}

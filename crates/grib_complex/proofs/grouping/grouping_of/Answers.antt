@@ -1,5 +1,5 @@
 use Rattle.std.proofs.Common.{◌≡◌, List, IfOk, replicate, sym, ap, ◌∙◌, subst}
-use Rattle.grib_io.specs.declared.code.Code.{Code}
+use Rattle.grib_base.specs.declared.code.Code.{Code}
 use Rattle.grib_packing.specs.Groupings.{Chosen, header_bits, runs, width_of}
 use Rattle.grib_groups.specs.Encoding.{AreMeasures}
 use Rattle.grib_complex.specs.FieldCodes.{codes_in}

@@ -1,6 +1,6 @@
 use Rattle.std.proofs.Common.{◌≡◌, ℕ, ◌+◌, ◌-◌, ◌≤◌, ◌<◌, List, length, get_or, All, ap, ap₂, sym, ◌∙◌, arith, subst, subst₂}
 use Rattle.std.proofs.lemmas.List.{get_or_read}
-use Rattle.grib_io.specs.declared.code.Code.{Code}
+use Rattle.grib_base.specs.declared.code.Code.{Code}
 use Rattle.grib_packing.specs.Groupings.{Chosen, digits, header_bits, length_bits, width_of, width_bits_of, reference_bits_of}
 use Rattle.grib_packing.specs.Span.{IsBelow}
 use Rattle.grib_packing.proofs.Bounds.{all_below, width_bits-few}

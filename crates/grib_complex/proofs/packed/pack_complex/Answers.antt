@@ -1,6 +1,6 @@
 use Rattle.std.proofs.Common.{◌≡◌, ℕ, List, length, map, nat_abs, All, None, ap, sym, ◌∙◌, subst, subst₂}
 use Rattle.std.proofs.lemmas.List.{length-map}
-use Rattle.grib_io.specs.declared.code.Code.{Code}
+use Rattle.grib_base.specs.declared.code.Code.{Code}
 use Rattle.grib_packing.specs.declared.column.Point.{Point}
 use Rattle.grib_packing.specs.Misfits.{ToComplex, first_misfit, scaled_numbers}
 use Rattle.grib_packing.specs.Span.{IsTold}

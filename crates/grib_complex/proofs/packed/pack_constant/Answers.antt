@@ -1,5 +1,5 @@
 use Rattle.std.proofs.Common.{◌≡◌, ℕ, List, Bool, length, replicate, false, cond, Some, None, All, sym, ap, ◌∙◌, subst, subst₂}
-use Rattle.grib_io.specs.declared.code.Code.{Code}
+use Rattle.grib_base.specs.declared.code.Code.{Code}
 use Rattle.grib_packing.specs.declared.column.Point.{Point}
 use Rattle.grib_packing.specs.Misfits.{ToSpatial, DifferenceRange, first_misfit, management_of, scaled_numbers, are_differences_out}
 use Rattle.grib_packing.specs.Span.{IsTold}

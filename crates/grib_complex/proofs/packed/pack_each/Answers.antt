@@ -1,6 +1,6 @@
 use Rattle.std.proofs.Common.{◌≡◌, ℕ, List, length, false, All, Bool, cond, Some, None, ap, sym, ◌∙◌, subst, subst₂}
 use Rattle.grib_packing.specs.Differences.{difference_codes}
-use Rattle.grib_io.specs.declared.code.Code.{Code}
+use Rattle.grib_base.specs.declared.code.Code.{Code}
 use Rattle.grib_packing.specs.declared.column.Point.{Point}
 use Rattle.grib_packing.specs.Misfits.{ToSpatial, DifferenceRange, first_misfit, management_of, scaled_numbers, are_differences_out}
 use Rattle.grib_packing.specs.Packed.{target_codes, placed_codes}

@@ -1,12 +1,12 @@
 use Rattle.std.proofs.Common.{◌≡◌, ◌⊎◌, ℕ, Bool, false, eqb, List, [], [], length, sym, ap, ◌∙◌, arith, subst, inl, inr}
 use Rattle.std.proofs.lemmas.Bool.{ne_eqb}
-use Rattle.grib_io.specs.Rows.{first_fault, located, choose}
+use Rattle.grib_base.specs.Rows.{first_fault, located, choose}
 use Rattle.grib_packing.specs.Column.{points_with_mask}
 use Rattle.grib_packing.specs.Entries.{complex_data_fault, complex_entries}
 use Rattle.grib_packing.specs.Packing.{packing_template}
 use Rattle.grib_packing.specs.Simple.{simple_rows, simple_entries}
 use Rattle.grib_simple.proofs.Accepted.{same_column}
-use Rattle.grib_simple.specs.Unpacked.{IsUnpackFault}
+use Rattle.grib_base.specs.Faults.{IsReadFault}
 use Rattle.grib_complex.specs.Kept.{ArePoints}
 use Rattle.grib_complex.proofs.packing.unpack.Goals as goal
 
@@ -20,7 +20,7 @@ returns-in-Err c =
     let s5 = c.args.section5.now.octets.now in
     let s7 = c.args.section7.now.octets.now in
     let grouped = not_simple (packing_template s5) c.requires.template in
-    subst (λ (b : Bool). IsUnpackFault (located c.args.section7.now.start (choose b (λ _. first_fault (simple_rows s5 (length s7))) (λ _. complex_data_fault s5 s7))) c.in-Err.fault) (sym grouped)
+    subst (λ (b : Bool). IsReadFault (located c.args.section7.now.start (choose b (λ _. first_fault (simple_rows s5 (length s7))) (λ _. complex_data_fault s5 s7))) c.in-Err.fault) (sym grouped)
     (c.in-Err.ensures s5 c.accepted_complex-complex.ensures.spelled)
 
 pub returns : goal.returns

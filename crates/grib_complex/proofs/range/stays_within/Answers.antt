@@ -1,7 +1,7 @@
 use Rattle.std.proofs.Common.{◌≡◌, ℕ, ◌+◌, ◌-◌, ◌*◌, min, ◌^◌, ◌≤◌, eqb, ℤ, nat_abs, to_z-of_z, SFits, w64, ap, sym, ◌∙◌, arith, inl, inr}
 use Rattle.std.proofs.lemmas.Int.{ints}
 use Rattle.std.proofs.lemmas.Bool.{cond-false, ne_eqb, leb-true}
-use Rattle.grib_io.specs.Rows.{first_place}
+use Rattle.grib_base.specs.Rows.{first_place}
 use Rattle.grib_packing.specs.Entries.{is_out_of_range}
 use Rattle.grib_packing.specs.Differences.{NoNumber}
 use Rattle.grib_packing.specs.Groups.{codes_from}

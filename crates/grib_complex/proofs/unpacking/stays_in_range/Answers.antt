@@ -1,6 +1,6 @@
 use Rattle.std.proofs.Common.{◌+◌, ◌*◌, drop, sym, ap, ◌∙◌}
 use Rattle.grib_bits.specs.Bits.{bits}
-use Rattle.grib_io.specs.Rows.{first_place}
+use Rattle.grib_base.specs.Rows.{first_place}
 use Rattle.grib_packing.specs.Entries.{is_out_of_range}
 use Rattle.grib_packing.specs.Groups.{list_octets}
 use Rattle.grib_complex.proofs.Outcome.{within_range, entries_by_table}

@@ -1,5 +1,5 @@
 use Rattle.std.proofs.Common.{ap, ◌∙◌}
-use Rattle.grib_io.specs.Rows.{located}
+use Rattle.grib_base.specs.Rows.{located}
 use Rattle.grib_packing.specs.Entries.{group_entries}
 use Rattle.grib_complex.proofs.Outcome.{entries_counted}
 use Rattle.grib_complex.proofs.unpacking.take_group_values.Goals as goal

@@ -1,6 +1,6 @@
 use Rattle.std.proofs.Common.{◌≡◌, ℕ, ◌+◌, ◌<◌, Some, sym, ap, ap₂, ◌∙◌, arith}
-use Rattle.grib_io.specs.declared.fault.Reason.TheVariants.{ScaledRange}
-use Rattle.grib_io.specs.Rows.{refusal, located, first_place}
+use Rattle.grib_base.specs.declared.fault.Reason.TheVariants.{ScaledRange}
+use Rattle.grib_base.specs.Rows.{refusal, located, first_place}
 use Rattle.grib_packing.specs.Entries.{group_entries, is_out_of_range}
 use Rattle.grib_complex.specs.declared.values.Values.{Values}
 use Rattle.grib_complex.proofs.Outcome.{numbers_with, known, within_range, beyond_range}

@@ -1,6 +1,6 @@
 use Rattle.std.proofs.Common.{ℕ, ◌++◌, ◌≤◌, List, length, All, sym, ap, ◌∙◌, arith, subst}
 use Rattle.std.proofs.lemmas.List.{length-replicate}
-use Rattle.grib_io.specs.declared.code.Code.{Code}
+use Rattle.grib_base.specs.declared.code.Code.{Code}
 use Rattle.grib_packing.specs.Groupings.{IsGrouping, runs, width_bits_of, reference_bits_of}
 use Rattle.grib_packing.specs.Packed.{group_parts}
 use Rattle.grib_packing.specs.Span.{IsTold}

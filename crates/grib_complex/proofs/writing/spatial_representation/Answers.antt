@@ -2,11 +2,11 @@ use Rattle.std.proofs.Common.{◌≡◌, ◌∷◌, ◌++◌, ℕ, List, length,
 use Rattle.grib_bits.specs.Bits.{bits}
 use Rattle.grib_bits.specs.Octets.{octets, StatesItself}
 use Rattle.grib_bits.proofs.OctetBits.{same_from_bits}
-use Rattle.grib2_sections.specs.Encoding.{octets_of, AddsOctets}
-use Rattle.grib2_sections.proofs.Octets.{AddsOctets-append}
+use Rattle.grib_bits.specs.Encoding.{octets_of, AddsOctets}
+use Rattle.grib_bits.proofs.Encoding.{AddsOctets-append}
 use Rattle.grib_packing.specs.Packed.{HasNumbers}
 use Rattle.grib_packing.proofs.Sections.{AreOctets-all, states_itself}
-use Rattle.grib_simple.specs.Sections.{number_octets}
+use Rattle.grib_packing.specs.Sections.{number_octets}
 use Rattle.grib_complex.specs.Written.{layout_octets}
 use Rattle.grib_complex.proofs.writing.spatial_representation.Goals as goal
 

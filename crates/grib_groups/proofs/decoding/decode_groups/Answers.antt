@@ -1,6 +1,6 @@
 use Rattle.std.proofs.Common.{◌++◌, List, length, ap, ap₂, ◌∙◌, arith}
 use Rattle.std.proofs.lemmas.List.{map-id}
-use Rattle.grib_io.specs.declared.code.Code.{Code}
+use Rattle.grib_base.specs.declared.code.Code.{Code}
 use Rattle.grib_groups.proofs.decoding.decode_groups.Goals as goal
 
 pub returns : goal.returns

@@ -1,7 +1,7 @@
 use Rattle.std.proofs.Common.{◌≡◌, ℕ, zero, suc, ◌+◌, ◌-◌, ◌<◌, ◌≤◌, ◌^◌, ◌++◌, ◌∷◌, [], List, Bool, length, map, take, replicate, All, refl, sym, ap, ap₂, ◌∙◌, arith, append_assoc}
 use Rattle.std.proofs.lemmas.List.Elements.{All-replicate, All-head}
 use Rattle.std.proofs.lemmas.List.{append-nil, length-append, take-replicate}
-use Rattle.grib_io.specs.declared.code.Code.{Code}
+use Rattle.grib_base.specs.declared.code.Code.{Code}
 use Rattle.grib_packing.specs.Groupings.{IsGrouping, runs, joined, length_bits, width_of, reference_bits_of}
 use Rattle.grib_packing.specs.Packed.{fields, padded, group_fields, group_parts, reference_of}
 use Rattle.grib_packing.specs.Span.{IsTold}

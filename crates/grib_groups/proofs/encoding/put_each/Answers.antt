@@ -1,5 +1,5 @@
 use Rattle.std.proofs.Common.{arith}
-use Rattle.grib_io.specs.declared.code.Code.TheVariants.{Primary}
+use Rattle.grib_base.specs.declared.code.Code.TheVariants.{Primary}
 use Rattle.grib_packing.specs.Packed.{packed_number}
 use Rattle.grib_groups.proofs.Parts.{code_more, code_room}
 use Rattle.grib_groups.proofs.encoding.put_each.Goals as goal

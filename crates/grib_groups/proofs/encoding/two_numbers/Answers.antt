@@ -1,5 +1,5 @@
 use Rattle.std.proofs.Common.{◌*◌, arith}
-use Rattle.grib_io.specs.declared.code.Code.TheVariants.{Primary}
+use Rattle.grib_base.specs.declared.code.Code.TheVariants.{Primary}
 use Rattle.grib_packing.specs.Packed.{packed_number}
 use Rattle.grib_groups.proofs.Joined.{two_joined, joined_fit}
 use Rattle.grib_groups.proofs.encoding.two_numbers.Goals as goal

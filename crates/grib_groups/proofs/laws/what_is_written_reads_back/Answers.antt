@@ -5,8 +5,8 @@ use Rattle.grib_bits.specs.Bits.{bits}
 use Rattle.grib_bits.specs.Plain.{plain}
 use Rattle.grib_bits.specs.Written.{padding}
 use Rattle.grib_bits.proofs.OctetBits.{length-bits}
-use Rattle.grib_io.specs.declared.code.Code.{Code}
-use Rattle.grib_io.specs.Rows.{first_place}
+use Rattle.grib_base.specs.declared.code.Code.{Code}
+use Rattle.grib_base.specs.Rows.{first_place}
 use Rattle.grib_packing.specs.declared.layout.Layout.{Layout}
 use Rattle.grib_packing.specs.Groups.{coded_lengths, codes_from, grouped, groups, groups_from, lengths, list_octets, packed_bits, reference_octets, references, width_octets, length_octets, widths}
 use Rattle.grib_packing.specs.Groupings.{digits, greatest, joined, present_codes, runs, width_of}

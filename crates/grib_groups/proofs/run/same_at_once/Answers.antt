@@ -1,5 +1,5 @@
 use Rattle.std.proofs.Common.{List, sym, subst, ◌∙◌, ap, replicate}
-use Rattle.grib_io.specs.declared.code.Code.{Code}
+use Rattle.grib_base.specs.declared.code.Code.{Code}
 use Rattle.grib_groups.specs.Taking.{code_by}
 use Rattle.grib_groups.proofs.CodeRuns.{plain_zeros}
 use Rattle.grib_groups.proofs.run.same_at_once.Goals as goal

@@ -1,6 +1,6 @@
 use Rattle.std.proofs.Common.{◌≡◌, ℕ, List, drop, length, subst, sym, ap, ◌∙◌}
 use Rattle.grib_bits.specs.Bits.{bits}
-use Rattle.grib_io.specs.declared.code.Code.{Code}
+use Rattle.grib_base.specs.declared.code.Code.{Code}
 use Rattle.grib_groups.specs.CodeRuns.{codes_in_words, limit_of}
 use Rattle.grib_groups.specs.Taking.{code_by}
 use Rattle.grib_groups.proofs.CodeRuns.{length-codes}

@@ -1,5 +1,5 @@
 use Rattle.std.proofs.Common.{ℕ, List, ◌++◌, ◌∙◌, ap}
-use Rattle.grib2_sections.specs.Encoding.{octets_of}
+use Rattle.grib_bits.specs.Encoding.{octets_of}
 use Rattle.grib_made.specs.Made.{made_identification, made_grid, made_product}
 use Rattle.grib_made.proofs.Joined.{added_5}
 use Rattle.grib_made.proofs.making.add_front.Goals as goal

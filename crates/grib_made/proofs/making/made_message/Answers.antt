@@ -3,8 +3,8 @@ use Rattle.std.specs.Prelude.{None, IfOk}
 use Rattle.grib_packing.specs.declared.column.Column.{Column}
 use Rattle.grib_packing.specs.declared.column.Point.{Point}
 use Rattle.grib_packing.specs.Misfits.{ToSimple, first_misfit}
-use Rattle.grib_simple.specs.Written.{MayBePacked}
-use Rattle.grib_simple.specs.declared.written.Packed.{Packed}
+use Rattle.grib_packing.specs.Written.{MayBePacked}
+use Rattle.grib_packing.specs.declared.written.Packed.{Packed}
 use Rattle.grib_made.specs.Points.{made_points}
 use Rattle.grib_made.specs.Made.{MayBeMade, message_with}
 use Rattle.grib_made.proofs.Fitting.{made_fits, made_may_be_packed}

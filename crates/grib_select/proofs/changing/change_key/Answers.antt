@@ -1,6 +1,6 @@
 use Rattle.std.proofs.Common.{◌≡◌, ℕ, ◌-◌, ◌^◌, ◌<◌, ◌++◌, Option, Some, None, unwrap_or, List, length, take, drop, sym, ap, ◌∙◌, subst, arith}
 use Rattle.std.specs.Prelude.{IfSome}
-use Rattle.grib2_sections.specs.Encoding.{octets_of}
+use Rattle.grib_bits.specs.Encoding.{octets_of}
 use Rattle.grib_select.specs.Values.{HasKeys}
 use Rattle.grib_select.specs.Changed.{key_octets, with_key}
 use Rattle.grib_select.proofs.Changes.{key_alike, ready, ready_stays, ready_keys}

@@ -1,5 +1,5 @@
 use Rattle.std.proofs.Common.{◌≡◌, ℕ, ◌≤◌, Bool, List, length, sym, ap, ◌∙◌, ne_eqb, subst}
-use Rattle.grib_io.specs.Rows.{choose}
+use Rattle.grib_base.specs.Rows.{choose}
 use Rattle.grib2_message.specs.Fields.{part_octets, field_bitmap}
 use Rattle.grib_select.specs.Single.{field_part}
 use Rattle.grib_select.proofs.Alone.{part_short}

@@ -1,5 +1,5 @@
 use Rattle.std.proofs.Common.{◌≡◌, ℕ, ◌+◌, ◌-◌, List, ◌++◌, take, sym, ap, ap₂, ◌∙◌, arith, append_assoc}
-use Rattle.grib2_sections.specs.Encoding.{octets_of}
+use Rattle.grib_bits.specs.Encoding.{octets_of}
 use Rattle.grib2_sections.specs.Head.{end_mark}
 use Rattle.grib_select.specs.Single.{field_part, first_parts}
 use Rattle.grib_select.proofs.Steps.{parts_more}

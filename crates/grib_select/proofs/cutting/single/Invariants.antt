@@ -1,5 +1,5 @@
 use Rattle.std.proofs.Common.{◌≡◌, ◌-◌, ◌++◌, take}
-use Rattle.grib2_sections.specs.Encoding.{octets_of}
+use Rattle.grib_bits.specs.Encoding.{octets_of}
 use Rattle.grib_select.specs.Single.{first_parts}
 use Rattle.grib_select.proofs.cutting.single.Given as goal
 

@@ -1,6 +1,6 @@
 use Rattle.std.proofs.Common.{ℕ, ◌+◌, ◌*◌, ◌==◌, sym, ap, ◌∙◌, arith}
 use Rattle.std.proofs.lemmas.Nat.{one_shl}
-use Rattle.grib2_sections.proofs.Octets.{pow_256}
+use Rattle.grib_bits.proofs.Encoding.{pow_256}
 use Rattle.grib_select.proofs.Numbers.{four_octets}
 use Rattle.grib_select.proofs.number.is_all_ones.Goals as goal
 

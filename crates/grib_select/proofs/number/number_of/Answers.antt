@@ -1,7 +1,7 @@
 use Rattle.std.proofs.Common.{◌≡◌, ℕ, ◌*◌, ◌<◌, Bool, cond, Some, sym, ap, ◌∙◌, arith, subst, w64, to_z, of_z, to_z-of_z}
 use Rattle.std.specs.Prelude.{IfSome}
 use Rattle.std.proofs.lemmas.Nat.{one_shl}
-use Rattle.grib2_sections.proofs.Octets.{pow_256}
+use Rattle.grib_bits.proofs.Encoding.{pow_256}
 use Rattle.grib_select.specs.Changed.{signed_number, unsigned_number}
 use Rattle.grib_select.proofs.Numbers.{signed_is, below_zero, too_great, unsigned_is}
 use Rattle.grib_select.proofs.number.number_of.Goals as goal

@@ -3,7 +3,7 @@ use Rattle.std.proofs.lemmas.Bool.{and_left, and_right}
 use Rattle.grib_bits.specs.Octets.{octets, signed_octets}
 use Rattle.grib_bits.specs.Bits.{bits_of, signed}
 use Rattle.grib_bits.proofs.OctetNumbers.{AreOctets-known, octets-lt, signed-octets}
-use Rattle.grib2_sections.proofs.Octets.{pow_256}
+use Rattle.grib_bits.proofs.Encoding.{pow_256}
 use Rattle.grib_keys.specs.declared.condition.Value.TheVariants.{Number, Missing}
 use Rattle.grib_keys.specs.Keys.{row_of}
 use Rattle.grib_select.specs.Values.{is_all_ones, octet_count}

@@ -1,7 +1,7 @@
 use Rattle.std.proofs.Common.{◌≡◌, ℕ, ◌+◌, ◌%◌, ◌<◌, take, drop, ap, ◌∙◌, arith}
 use Rattle.std.specs.Prelude.{slice_index}
 use Rattle.std.proofs.lemmas.Nat.Bits.{bit_at-zero}
-use Rattle.grib_io.specs.declared.code.Code.TheVariants.{Present}
+use Rattle.grib_base.specs.declared.code.Code.TheVariants.{Present}
 use Rattle.grib_packing.specs.Groupings.{width_of}
 use Rattle.grib_split.specs.Costs.{header_of}
 use Rattle.grib_split.specs.Runs.{Run, Runs, length_to, after_of}

@@ -1,8 +1,8 @@
 -- The rows of the frame, by the length and the number that were read.
 use Rattle.std.proofs.Common.{◌+◌, ℕ, refl, sym, ap, ◌∙◌, arith}
 use Rattle.grib_bits.proofs.OctetNumbers.{AreOctets-known}
-use Rattle.grib_io.specs.declared.fault.Reason.TheVariants.{SectionOrder}
-use Rattle.grib_io.specs.Rows.{refusal}
+use Rattle.grib_base.specs.declared.fault.Reason.TheVariants.{SectionOrder}
+use Rattle.grib_base.specs.Rows.{refusal}
 use Rattle.grib2_sections.proofs.Frames.{reads, read_fails_7, read_fails_8, read_passes, read_section, read_states, read_room}
 use Rattle.grib2_sections.proofs.frame.Frame.section.Goals as goal
 

@@ -1,6 +1,6 @@
 use Rattle.std.proofs.Common.{◌≡◌, ℕ, pos, List, replicate, sym, subst₂}
-use Rattle.grib_io.specs.declared.code.Code.{Code}
-use Rattle.grib_io.specs.declared.code.Code.TheVariants.{Primary, Secondary}
+use Rattle.grib_base.specs.declared.code.Code.{Code}
+use Rattle.grib_base.specs.declared.code.Code.TheVariants.{Primary, Secondary}
 use Rattle.grib_packing.specs.declared.column.Point.{Point}
 use Rattle.grib_packing.specs.declared.column.Point.TheVariants.{Missing, Missing2}
 use Rattle.grib_packing.specs.Differences.{Descriptors}

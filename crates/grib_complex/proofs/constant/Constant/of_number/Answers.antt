@@ -1,6 +1,6 @@
 use Rattle.std.proofs.Common.{rules, ◌≡◌, ◌==◌, cond, ℤ, ◌-◌, ◌^◌, pos, replicate, get_or, false, ap, sym, ◌∙◌, subst, to_z-of_z}
 use Rattle.std.proofs.lemmas.List.{get_or-replicate}
-use Rattle.grib_io.specs.declared.code.Code.TheVariants.{Present}
+use Rattle.grib_base.specs.declared.code.Code.TheVariants.{Present}
 use Rattle.grib_packing.specs.declared.column.Point.TheVariants.{Scaled}
 use Rattle.grib_packing.specs.Differences.{Descriptors}
 use Rattle.grib_packing.specs.Misfits.{is_outside}

@@ -1,8 +1,8 @@
 use Rattle.std.proofs.Common.{◌≡◌, ℕ, ◌+◌, ◌-◌, ◌*◌, ◌≤◌, Some, List, Bool, length, take, drop, min, eqb, [], sym, ap, ap₂, ◌∙◌, arith, subst, inl, inr}
 use Rattle.std.proofs.lemmas.Bool.{cond-true, eq-eqb}
 use Rattle.std.proofs.lemmas.List.{length-drop}
-use Rattle.grib_io.specs.declared.fault.Reason.TheVariants.{FirstValueSign, ScaledRange}
-use Rattle.grib_io.specs.Rows.{first_place, located, refusal}
+use Rattle.grib_base.specs.declared.fault.Reason.TheVariants.{FirstValueSign, ScaledRange}
+use Rattle.grib_base.specs.Rows.{first_place, located, refusal}
 use Rattle.grib_packing.specs.declared.group.Group.{Group}
 use Rattle.grib_packing.specs.Entries.{entries_of, group_entries, is_out_of_range}
 use Rattle.grib_packing.specs.Groups.{references, widths, lengths, groups, list_octets}

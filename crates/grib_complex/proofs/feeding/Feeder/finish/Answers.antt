@@ -1,6 +1,6 @@
 use Rattle.std.proofs.Common.{◌≡◌, ℕ, Some, Option, length, drop, sym, ap, ap₂, ◌∙◌, arith, subst}
-use Rattle.grib_io.specs.declared.fault.Reason.TheVariants.{ScaledRange}
-use Rattle.grib_io.specs.Rows.{refusal}
+use Rattle.grib_base.specs.declared.fault.Reason.TheVariants.{ScaledRange}
+use Rattle.grib_base.specs.Rows.{refusal}
 use Rattle.grib_packing.specs.Entries.{entries_of}
 use Rattle.grib_simple.proofs.Accepted.{same_column}
 use Rattle.grib_complex.specs.declared.feeding.State.{State}

@@ -2,7 +2,7 @@ use Rattle.std.proofs.Common.{◌≡◌, ℕ, ◌+◌, ◌-◌, length, ◌<◌,
 use Rattle.grib_bits.specs.Bits.{bits}
 use Rattle.grib_bits.specs.Plain.{plain}
 use Rattle.grib_bits.proofs.WordNumbers.{number-lt}
-use Rattle.grib_io.specs.declared.code.Code.{Code}
+use Rattle.grib_base.specs.declared.code.Code.{Code}
 use Rattle.grib_groups.specs.Taking.{code_by, number_of}
 use Rattle.grib_groups.specs.CodeRuns.{limit_of}
 use Rattle.grib_groups.proofs.Coded.{number_of-code_by}

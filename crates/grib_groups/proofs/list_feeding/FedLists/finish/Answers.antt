@@ -2,7 +2,7 @@ use Rattle.std.proofs.Common.{◌≡◌, ℕ, ◌+◌, ◌-◌, ◌*◌, ◌≤�
 use Rattle.std.proofs.lemmas.List.{length-map, length-set}
 use Rattle.grib_bits.specs.Bits.{bits}
 use Rattle.grib_bits.specs.Plain.{plain}
-use Rattle.grib_io.specs.declared.code.Code.{Code}
+use Rattle.grib_base.specs.declared.code.Code.{Code}
 use Rattle.grib_packing.specs.Groups.{reference_octets, width_octets, length_octets}
 use Rattle.grib_groups.specs.Lists.{ReferencesTook, WidthsTook, LengthsAre, LengthsTook, LengthAdded}
 use Rattle.grib_groups.specs.Feeding.{part, no_marks, plain_groups}

@@ -1,7 +1,7 @@
 use Rattle.std.proofs.Common.{◌≡◌, ◌+◌, ◌<◌, ◌≤◌, ℕ, suc, List, ◌∷◌, [], ◌++◌, length, take, get_or, subst, sym, ap, ◌∙◌, arith}
 use Rattle.std.proofs.Math.Seq.{take-suc}
 use Rattle.std.proofs.lemmas.List.{take_all}
-use Rattle.grib_io.specs.declared.code.Code.{Code}
+use Rattle.grib_base.specs.declared.code.Code.{Code}
 use Rattle.grib_packing.specs.declared.span.Span.{Span}
 use Rattle.grib_packing.specs.Span.{IsSpan}
 use Rattle.grib_packing.proofs.Spans.{small_run, span-behind}

@@ -1,5 +1,5 @@
 use Rattle.std.proofs.Common.{◌≡◌, ℕ, ◌<◌, List}
-use Rattle.grib_io.specs.declared.code.Code.{Code}
+use Rattle.grib_base.specs.declared.code.Code.{Code}
 use Rattle.grib_split.specs.Runs.{Told, PricedBut, SameNumbers, SameMarks}
 use Rattle.grib_split.proofs.slots.Slots.mend.Given as goal
 

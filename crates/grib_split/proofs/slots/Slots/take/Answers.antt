@@ -1,7 +1,7 @@
 use Rattle.std.proofs.Common.{◌-◌, ◌<◌, ◌∷◌, min, max, sym, ap, ◌∙◌, subst, arith}
 use Rattle.std.specs.Prelude.{slice_index}
-use Rattle.grib_io.specs.declared.code.Code.{Code}
-use Rattle.grib_io.specs.declared.code.Code.TheVariants.{Present, Primary, Secondary}
+use Rattle.grib_base.specs.declared.code.Code.{Code}
+use Rattle.grib_base.specs.declared.code.Code.TheVariants.{Present, Primary, Secondary}
 use Rattle.grib_packing.specs.Span.{IsBelow}
 use Rattle.grib_split.specs.Runs.{Told, Wide}
 use Rattle.grib_split.proofs.Widths.{tells_number, tells_primary, tells_secondary, tells_as, wide_number, wide_primary, wide_secondary}

@@ -1,7 +1,0 @@
-use Rattle.std.proofs.Common.{◌*◌, take}
-use Rattle.grib2_sections.specs.Encoding.{AddsOctets}
-use Rattle.grib2_sections.proofs.section.write_words.Given as goal
-
--- the words so far are written
-abbrev pub invariant-loop-word : goal.invariant-loop-word
-invariant-loop-word l = AddsOctets l.initial.out l.out (take (8 * l.word) l.octets)

@@ -1,0 +1,15 @@
+//! What all readers and writers of GRIB messages share: refusals and the rows that decide them, sections,
+//! codes and lists.
+#![tactic(auto)]
+
+mod code;
+mod fault;
+mod list;
+mod room;
+mod section;
+
+pub use code::Code;
+pub use fault::{Fault, ReadFault, Reason, Refusal};
+pub use list::List;
+pub use room::push_within;
+pub use section::Section;

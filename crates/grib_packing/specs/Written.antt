@@ -1,0 +1,39 @@
+-- What a packing may answer when it writes.
+use Rattle.std.specs.Prelude.{◌≡◌, ◌⊎◌, ℕ, ◌≤◌, false, Option, Some, None, Result, MatchResult, length, ◌==◌}
+use Rattle.std.specs.List.{list_any}
+use Rattle.grib_bits.specs.Binary32.{ieee_exponent}
+use Rattle.grib_packing.specs.declared.column.Column.{Column}
+use Rattle.grib_packing.specs.Entries.{is_out_of_range}
+use Rattle.grib_packing.specs.Misfits.{Target, ToSimple, ToComplex, ToSpatial, Misfit, first_misfit, SecondaryMissing as SecondaryMisfit, OutOfRange as RangeMisfit, DifferenceRange as DifferenceMisfit}
+use Rattle.grib_packing.specs.Packed.{Packed as HasPacked}
+use Rattle.grib_packing.specs.declared.written.Packed.{Packed}
+use Rattle.grib_packing.specs.declared.written.PackFault.{PackFault}
+use Rattle.grib_packing.specs.declared.written.PackFault.TheVariants.{SecondaryMissing, OutOfRange, DifferenceRange, Memory}
+
+-- The columns that a packing may be given: 1 to 33,554,432 points, scaled numbers within plus and minus
+-- 2 ^ 60, and a reference value that is finite.
+pub record MayBePacked (column : Column) : Type 0 where
+  pub some : 1 ≤ length column.points
+  pub few : length column.points ≤ 33554432
+  pub within : list_any is_out_of_range column.points ≡ false
+  pub finite : (ieee_exponent column.reference == 255) ≡ false
+
+-- differences are of order 1 or 2
+abbrev pub IsTarget : Target → Type 0
+IsTarget ToSimple = Unit {0}
+IsTarget ToComplex = Unit {0}
+IsTarget (ToSpatial order) = (order ≡ 1) ⊎ (order ≡ 2)
+
+-- the first misfit, or want of memory
+abbrev pub IsPackFault : Option Misfit → PackFault → Type 0
+IsPackFault expected (SecondaryMissing point) = expected ≡ Some (SecondaryMisfit point)
+IsPackFault expected (OutOfRange point) = expected ≡ Some (RangeMisfit point)
+IsPackFault expected DifferenceRange = expected ≡ Some DifferenceMisfit
+IsPackFault expected Memory = Unit {0}
+
+-- The sections of the packing exactly where nothing of the column fails to fit, else the first misfit.
+abbrev pub IsPacked : Target → Column → ℕ → Result Packed PackFault → Type 0
+IsPacked target column kind result =
+    MatchResult result
+    (λ packed. (first_misfit target column.points ≡ None) × HasPacked target column kind packed.section5 packed.section6 packed.section7)
+    (IsPackFault (first_misfit target column.points))

@@ -1,0 +1,55 @@
+//! What each packing of the numbers of a field offers.
+
+ghost use Rattle.std.specs.Prelude.{◌≡◌, ◌≤◌, ℕ, None, length};
+ghost use Rattle.grib_bits.specs.Octets.{StatesItself};
+ghost use Rattle.grib_bitmap.specs.Mask.{present_count};
+ghost use Rattle.grib_packing.specs.Entries.{packing_fault};
+ghost use Rattle.grib_packing.specs.Packing.{packing_template, value_count};
+ghost use Rattle.grib_packing.specs.Misfits.{Target};
+ghost use Rattle.grib_packing.specs.Unpacked.{IsUnpacked};
+ghost use Rattle.grib_packing.specs.Written.{IsPacked, IsTarget, MayBePacked};
+
+use crate::{Column, PackFault, Packed};
+use grib_base::{ReadFault, Section};
+use grib_bitmap::Mask;
+use std::alloc::Global;
+
+/// A packing of the numbers of a field (WMO-No. 306, Volume I.2, FM 92 GRIB edition 2, code table 5.0).
+pub trait Packing {
+    // the number of its data representation template
+    ghost template: { Self → ℕ };
+    // what it packs to
+    ghost target: { Self → Target };
+
+    /// The column of a field, from its Section 5, which is accepted and has this packing's template, its
+    /// mask, in which as many points are present as Section 5 has values, and its Section 7.
+    ///
+    /// # Errors
+    ///
+    /// Section 7 is refused by the first row of the profile that fails, or there is no memory.
+    fn unpack(
+        &self,
+        alloc: Global,
+        section5: &Section<'_>,
+        mask: &Mask,
+        section7: &Section<'_>,
+    ) -> Result<Column, ReadFault>
+        requires some { 1 ≤ length mask.now }
+        requires few { length mask.now ≤ 33554432 }
+        requires accepted { packing_fault section5.now.octets.now (length mask.now) ≡ None }
+        requires template { packing_template section5.now.octets.now ≡ template self.now }
+        requires values { present_count mask.now ≡ value_count section5.now.octets.now }
+        ensures { IsUnpacked section5.now.octets.now mask.now section7.now.start section7.now.octets.now result };
+
+    /// Sections 5, 6 and 7 of a column, whose original values were of the type `kind` (code table 5.1).
+    /// It takes the memory of the sections before it writes their first octet.
+    ///
+    /// # Errors
+    ///
+    /// Something of the column does not fit the packing, the first misfit being named, or there is no
+    /// memory.
+    fn pack(&self, alloc: Global, column: &Column, kind: u8) -> Result<Packed, PackFault>
+        requires target { IsTarget (target self.now) }
+        requires column { MayBePacked column.now }
+        ensures { IsPacked (target self.now) column.now kind result };
+}

@@ -1,0 +1,130 @@
+//! Section 5, the data representation section: what all packings share.
+
+ghost use Rattle.std.specs.Prelude.{◌≡◌, ◌==◌, ◌≤◌, length, not, cond, Some, None, MatchResult};
+ghost use Rattle.grib_bits.specs.Binary32.{ieee_exponent};
+ghost use Rattle.grib_bits.specs.Octets.{StatesItself};
+ghost use Rattle.grib_base.specs.Rows as rows;
+ghost use Rattle.grib_base.specs.Rows.{first_fault_at};
+ghost use Rattle.grib2_sections.specs.Template.{is_template, least_length as least};
+ghost use Rattle.grib_packing.specs.Packing as packing;
+ghost use Rattle.grib_packing.specs.Packing.{packing_rows, packing_templates};
+ghost use Rattle.grib_packing.specs.Representation.{Spelled};
+
+use byteorder::{BigEndian, ByteOrder};
+use grib_base::{Fault, Reason, Section};
+
+/// What Section 5 says in each template of the profile (WMO-No. 306, Volume I.2, FM 92 GRIB edition 2, data
+/// representation templates 5.0, 5.2 and 5.3).
+#[derive(Clone, Copy, Debug, PartialEq, Eq)]
+pub struct Simple {
+    /// The number of values that Section 7 gives: octets 6-9.
+    pub values: u32,
+    /// The data representation template (code table 5.0): octets 10-11.
+    pub template: u16,
+    /// The word of the reference value R: octets 12-15.
+    pub reference: u32,
+    /// The binary scale factor E, sign and magnitude: octets 16-17.
+    pub e: u16,
+    /// The decimal scale factor D, sign and magnitude: octets 18-19.
+    pub d: u16,
+    /// The bits of each packed number, or of each group reference: octet 20.
+    pub bits: u8,
+    /// The type of the original values (code table 5.1): octet 21.
+    pub kind: u8,
+}
+
+/// Reads of Section 5 what all templates share, where the grid has this many points. A refusal is that of
+/// the first row of the profile that fails: the section is too short, its template is not one of the
+/// profile, there are more values than points, the reference value is not finite, or the numbers are
+/// too wide.
+pub fn read_simple(section: &Section<'_>, points: u32) -> Result<Simple, Fault>
+    ensures { MatchResult result
+        (λ value. (first_fault_at section.now.start (packing_rows section.now.octets.now points) ≡ None)
+        × Spelled value section.now.octets.now)
+        (λ fault. first_fault_at section.now.start (packing_rows section.now.octets.now points)
+        ≡ Some fault) }
+{
+    let octets = section.octets;
+    let length = octets.len() as u64;
+    let start = section.start;
+    if length < 11 {
+        return Err(Fault::at(start, Reason::SectionLength, length));
+    }
+    let template = BigEndian::read_u16(&octets[9..]);
+    let Some(least) = least_length(template) else {
+        return Err(Fault::at(start + 9, template_reason(template), u64::from(template)));
+    };
+    if length < least {
+        return Err(Fault::at(start, Reason::SectionLength, length));
+    }
+    let simple = numbers_of(octets);
+    if simple.values > points {
+        return Err(Fault::at(start + 5, Reason::ValueCount, u64::from(simple.values)));
+    }
+    if !is_finite(simple.reference) {
+        return Err(Fault::at(
+            start + 11,
+            Reason::ReferenceNotFinite,
+            u64::from(simple.reference),
+        ));
+    }
+    if simple.bits > most_bits(template) {
+        return Err(Fault::at(start + 19, Reason::BitWidth, u64::from(simple.bits)));
+    }
+    Ok(simple)
+}
+
+/// The numbers that stand in the first 21 octets of a Section 5.
+pub fn numbers_of(octets: &[u8]) -> Simple
+    requires { 21 ≤ length octets.now }
+    ensures { Spelled result octets.now }
+{
+    Simple {
+        values: BigEndian::read_u32(&octets[5..]),
+        template: BigEndian::read_u16(&octets[9..]),
+        reference: BigEndian::read_u32(&octets[11..]),
+        e: BigEndian::read_u16(&octets[15..]),
+        d: BigEndian::read_u16(&octets[17..]),
+        bits: octets[19],
+        kind: octets[20],
+    }
+}
+
+/// The least length of a Section 5 with this template, in octets.
+fn least_length(template: u16) -> Option<u64>
+    ensures { result ≡ cond (is_template packing_templates template)
+        (Some (least packing_templates template)) None }
+{
+    match template {
+        0 => Some(21),
+        2 => Some(47),
+        3 => Some(49),
+        _ => None,
+    }
+}
+
+/// Why a template that is not of the profile is refused.
+fn template_reason(template: u16) -> Reason
+    ensures { result ≡ packing.template_reason template }
+{
+    match template {
+        40 => Reason::Jpeg2000,
+        41 => Reason::PngPacked,
+        42 => Reason::Ccsds,
+        _ => Reason::PackingTemplate,
+    }
+}
+
+/// Whether a binary32 word is neither infinite nor NaN.
+fn is_finite(word: u32) -> bool
+    ensures { result ≡ not (ieee_exponent word == 255) }
+{
+    word >> 23 & 255 != 255
+}
+
+/// The most bits of a number in this template.
+fn most_bits(template: u16) -> u8
+    ensures { result ≡ packing.most_bits template }
+{
+    if template == 0 { 48 } else { 32 }
+}

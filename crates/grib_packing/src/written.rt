@@ -1,0 +1,36 @@
+//! What a packing writes.
+
+ghost use Rattle.grib_packing.specs.declared.written.PackFault.TheVariants.{Memory};
+ghost use Rattle.std.specs.Prelude.{◌≡◌};
+
+use grib_base::List;
+use std::alloc::AllocError;
+
+/// Sections 5, 6 and 7 of a field, each whole: its length, its number and its contents.
+#[derive(Debug, Drop)]
+pub struct Packed {
+    pub section5: List<u8>,
+    pub section6: List<u8>,
+    pub section7: List<u8>,
+}
+
+/// Why a column is not packed. Points count from 1. Nothing is rounded or cut.
+#[derive(Clone, Copy, Debug, PartialEq, Eq)]
+pub enum PackFault {
+    /// This point is secondary missing, which the packing cannot tell.
+    SecondaryMissing(u32),
+    /// The scaled number of this point is negative or too great.
+    OutOfRange(u32),
+    /// A first value, the minimum or a code of the spatial differences has no place.
+    DifferenceRange,
+    /// Want of memory.
+    Memory,
+}
+
+impl From<AllocError> for PackFault {
+    ghost from_gives = { λ _ fault. fault ≡ Memory };
+
+    fn from(_error: AllocError) -> PackFault {
+        PackFault::Memory
+    }
+}
