@@ -11,8 +11,8 @@ ghost use Rattle.grib2_grids.specs.Spelled.{Spelled, SpelledTemplate, template_o
 use crate::row_list::read_list;
 use crate::rows::{check_head, check_list, check_points};
 use crate::templates::{Common, template};
-use crate::{Gaussian, Grid, GridSection, Lambert, LatLon, Mercator, Polar, ReadFault, Rotation};
-use grib_base::{List, Section};
+use crate::{Gaussian, Grid, GridSection, Lambert, LatLon, Mercator, Polar, Rotation};
+use grib_base::{List, ReadFault, Section};
 use grib_bits::{u8_at, u16_at, u32_at};
 use std::alloc::Global;
 

@@ -10,8 +10,8 @@ ghost use Rattle.grib2_products.specs.Spelled.{Spelled, SpelledTemplate, templat
 
 use crate::lists::{read_coordinates, read_specs};
 use crate::rows::check;
-use crate::{Ensemble, Instant, Interval, Product, ProductSection, ReadFault};
-use grib_base::{List, Section};
+use crate::{Ensemble, Instant, Interval, Product, ProductSection};
+use grib_base::{List, ReadFault, Section};
 use grib_bits::{u8_at, u16_at, u32_at};
 use std::alloc::{AllocError, Global};
 
