@@ -8,9 +8,9 @@ set -euo pipefail
 source "$(dirname "$0")/common.sh"
 most=${1:-33554432}
 often=${2:-40}
-build grib_bitmap_bench bitmap.rs runs 20000 3
+build bitmap.rs bitmap runs 20000 3
 
-ours() { "$top/crates/grib_bitmap_bench/out/grib_bitmap_bench" "$task" "$count" "$passes"; }
+ours() { "$bench" bitmap "$task" "$count" "$passes"; }
 theirs() { "$work/plain" "$task" "$count" "$passes"; }
 
 for task in read runs; do

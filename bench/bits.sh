@@ -8,9 +8,9 @@ set -euo pipefail
 source "$(dirname "$0")/common.sh"
 width=${1:-12}
 [[ $width =~ ^([0-9]|[12][0-9]|3[0-2])$ ]] || fail "the width is a number up to 32"
-build grib_bits_bench bits.rs unpack 12 3
+build bits.rs bits unpack 12 3
 
-ours() { "$top/crates/grib_bits_bench/out/grib_bits_bench" "$task" "$width" "$passes"; }
+ours() { "$bench" bits "$task" "$width" "$passes"; }
 theirs() { "$work/plain" "$task" "$width" "$passes"; }
 
 for task in unpack pack; do

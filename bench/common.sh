@@ -14,20 +14,23 @@ need() { # COMMAND [WHERE IT IS FROM]
   command -v "$1" >/dev/null || fail "$1 is not in PATH${2:+ ($2)}"
 }
 
-# Builds the program of a crate, by a run on these words.
-build_ours() { # CRATE WORD..
+# The program that does our work over and over, a word for each kind of work.
+bench=$top/crates/grib_bench/out/grib_bench
+
+# Builds it, by a run on these words.
+build_ours() { # WORD..
   need rt
-  (cd "$top/crates/$1" && rt run -- "${@:2}") >"$work/build.log" 2>&1 || {
+  (cd "$top/crates/grib_bench" && rt run -- "$@") >"$work/build.log" 2>&1 || {
     cat "$work/build.log" >&2
-    fail "$1 was not built"
+    fail "the measuring program was not built"
   }
 }
 
 # Builds it, and the same work in plain Rust.
-build() { # CRATE PLAIN WORD..
+build() { # PLAIN WORD..
   need rustc
-  build_ours "$1" "${@:3}"
-  rustc -O --edition 2024 "$top/bench/$2" -o "$work/plain" || fail "$2 was not built"
+  build_ours "${@:2}"
+  rustc -O --edition 2024 "$top/bench/$1" -o "$work/plain" || fail "$1 was not built"
 }
 
 # Stops unless the two print the same, and something.

@@ -10,15 +10,14 @@
 set -euo pipefail
 source "$(dirname "$0")/common.sh"
 most=${1:-16000000}
-build grib_complex_bench complex.rs column 1 8 10 1 5000 2
+build complex.rs complex column 1 8 10 1 5000 2
 
 # Memory that was given back is used again, so that it is touched for the first time once.
 export MALLOC_MMAP_MAX_=0 MALLOC_TRIM_THRESHOLD_=100000000000
 
-program="$top/crates/grib_complex_bench/out/grib_complex_bench"
-column() { "$program" column "$order" "$width" "$group" "$management" "$count" "$passes"; }
-accept() { "$program" accept "$order" "$width" "$group" "$management" "$count" "$passes"; }
-fed() { "$program" "$size" "$order" "$width" "$group" "$management" "$count" "$passes"; }
+column() { "$bench" complex column "$order" "$width" "$group" "$management" "$count" "$passes"; }
+accept() { "$bench" complex accept "$order" "$width" "$group" "$management" "$count" "$passes"; }
+fed() { "$bench" complex "$size" "$order" "$width" "$group" "$management" "$count" "$passes"; }
 plain() { "$work/plain" column "$order" "$width" "$group" "$management" "$count" "$passes"; }
 
 for order in 0 1 2; do

@@ -11,9 +11,9 @@ source "$(dirname "$0")/common.sh"
 width=${1:-12}
 count=${2:-16000000}
 [[ $width =~ ^([1-9]|1[0-9]|2[0-4])$ ]] || fail "the width is a number from 1 to 24"
-build_ours grib_groups_bench measured 1000 12
+build_ours groups measured 1000 12
 
-ours() { "$top/crates/grib_groups_bench/out/grib_groups_bench" "$task" "$count" "$width"; }
+ours() { "$bench" groups "$task" "$count" "$width"; }
 
 # All runs take turns, and the least time of each is kept, since others may use the machine.
 for ((round = 0; round < 7; round++)); do

@@ -13,10 +13,16 @@ set -euo pipefail
 source "$(dirname "$0")/common.sh"
 most=${1:-4000}
 columns=${2:-10000}
-build grib_packing_bench packing.rs columns 60 1
+build packing.rs columns 60 1
 
 field=0
-ours() { "$top/crates/grib_packing_bench/out/grib_packing_bench" "$task" "$size" "$which" "$field"; }
+ours() {
+  if [[ $task == columns ]]; then
+    "$bench" columns "$size" "$which"
+  else
+    "$bench" packing "$task" "$size" "$which" "$field"
+  fi
+}
 theirs() { "$work/plain" "$task" "$size" "$which" "$field"; }
 
 # Prints the time of theirs over that of ours for packing alone. All runs take turns, and the least time of
@@ -72,7 +78,7 @@ done
 
 # How much memory is taken beside the column: the most that is resident, less that where the field is made alone.
 resident() { # TASK
-  /usr/bin/time -f %M "$top/crates/grib_packing_bench/out/grib_packing_bench" "$1" "$most" "$which" "$field" 2>&1 >/dev/null
+  /usr/bin/time -f %M "$bench" packing "$1" "$most" "$which" "$field" 2>&1 >/dev/null
 }
 need /usr/bin/time
 field=0

@@ -10,9 +10,9 @@ set -euo pipefail
 source "$(dirname "$0")/common.sh"
 most=${1:-10000000}
 often=${2:-5}
-build grib_simple_bench simple.rs numbers 12 20000 3
+build simple.rs simple numbers 12 20000 3
 
-ours() { "$top/crates/grib_simple_bench/out/grib_simple_bench" "$task" "$bits" "$count" "$passes"; }
+ours() { "$bench" simple "$task" "$bits" "$count" "$passes"; }
 theirs() { "$work/plain" "$task" "$bits" "$count" "$passes"; }
 
 for task in numbers points masked; do

@@ -8,9 +8,9 @@
 set -euo pipefail
 source "$(dirname "$0")/common.sh"
 most=${1:-16000000}
-build grib_split_bench split.rs noise 1000 3
+build split.rs split noise 1000 3
 
-ours() { "$top/crates/grib_split_bench/out/grib_split_bench" "$task" "$count" "$passes"; }
+ours() { "$bench" split "$task" "$count" "$passes"; }
 theirs() { "$work/plain" "$task" "$count" "$passes"; }
 
 for task in differences smooth noise missing; do

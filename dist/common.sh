@@ -6,10 +6,14 @@ shipped_from=$top/dist/built-from       # the checksum of the sources, and the k
 built=$crate/out/grib                   # the same of a program that was built here
 built_here_from=$crate/out/grib.built
 
-# The checksum of the names and the contents of all that is built.
+# The checksum of the names and the contents of all that the program is built from.
 sources() (
-  cd "$top/" && find crates.txt HANDLES crates/*/src crates/*/specs crates/*/proofs -type f -print0 |
-    LC_ALL=C sort -z | xargs -0 sha256sum | sha256sum
+  cd "$top/" && mapfile -t names < <(crates_of_program) && ((${#names[@]} > 0)) && {
+    cat HANDLES
+    printf '%s\n' "${names[@]}" | LC_ALL=C sort | while read -r name; do grep "^$name[ :]" crates.txt; done
+    find "${names[@]/#/crates/}" -name out -prune -o -type f \( -path '*/src/*' -o -path '*/specs/*' -o -path '*/proofs/*' \) -print0 |
+      LC_ALL=C sort -z | xargs -0 sha256sum
+  } | sha256sum
 )
 
 # The identity of the kit, as `rt version` prints it, or nothing where `rt` is not in PATH.

@@ -28,6 +28,9 @@ impl Taker for Codes {
     ghost took = { CodesTook };
 
     fn take(mut self, code: Code) -> Codes {
+        if self.items.len() >= self.items.capacity() {
+            return self;
+        }
         push_within(&mut self.items, code);
         self
     }
@@ -71,9 +74,7 @@ pub fn decode_groups(
         × (codes.items ≡ grouped layout.now (drop (5 + skip) section7.now.octets.now)))
         (IsReadFault (first_fault_at section7.now.start (group_rows layout.now section7.now.octets.now skip count))) }
 {
-    let Ok(items) = Vec::with_capacity(alloc, count as usize) else {
-        return Err(ReadFault::Memory);
-    };
+    let items = Vec::with_capacity(alloc, count as usize)?;
     let codes = take_groups(alloc, layout, section7, skip, count, Codes { items })?;
     Ok(codes.items)
 }
@@ -154,9 +155,7 @@ pub fn read_groups(
 {
     let length = length_of(section7);
     let octets = &section7.octets[5 + skip as usize..];
-    let Ok(lists) = Lists::read(alloc, layout, octets, count) else {
-        return Err(ReadFault::Memory);
-    };
+    let lists = Lists::read(alloc, layout, octets, count)?;
     if let Some(fault) = lists.fault(layout, skip, length, section7.start) {
         return Err(ReadFault::Refused(fault));
     }

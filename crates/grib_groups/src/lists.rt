@@ -28,6 +28,9 @@ impl Taker for References {
     ghost took = { ReferencesTook };
 
     fn take(mut self, code: Code) -> References {
+        if self.items.len() >= self.items.capacity() {
+            return self;
+        }
         push_within(&mut self.items, number(code) as u32);
         self
     }
@@ -59,6 +62,9 @@ impl Taker for Widths {
     ghost took = { WidthsTook };
 
     fn take(mut self, code: Code) -> Widths {
+        if self.items.len() >= self.items.capacity() {
+            return self;
+        }
         let width = u64::from(self.reference) + number(code);
         self.too_wide = first_noted(self.too_wide, width > 32, self.items.len() as u64 + 1);
         push_within(&mut self.items, width.min(32) as u8);
@@ -94,6 +100,9 @@ impl Lengths {
     pub fn add(mut self, length: u64) -> Lengths
         ensures { LengthAdded self length result }
     {
+        if self.items.len() >= self.items.capacity() {
+            return self;
+        }
         if self.past > 0 || length > u64::from(self.rest) {
             self.past = first_noted(self.past, true, self.items.len() as u64 + 1);
             push_within(&mut self.items, 0);

@@ -1,5 +1,0 @@
-use Rattle.grib_complex.specs.Feeding.{IsFed}
-use Rattle.grib_complex_bench.proofs.work.fed_column.Given as goal
-
-abbrev pub invariant-loop-piece : goal.invariant-loop-piece
-invariant-loop-piece l = (goal.iterator-loop-piece).can_next l.piece-iterator × (goal.iterator-loop-piece).is_finite l.piece-iterator × IsFed l.feeder
