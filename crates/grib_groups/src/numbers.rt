@@ -14,7 +14,7 @@ use grib_bits::{BitWindow, get_bits};
 /// The packed numbers that are still to come: what is left of the current group, the index of the
 /// next one, and the bits that came already of the next number.
 #[derive(Debug, Drop)]
-pub struct Numbers {
+pub(crate) struct Numbers {
     current: Group,
     next: usize,
     pending: BitWindow,
@@ -22,7 +22,7 @@ pub struct Numbers {
 
 impl Numbers {
     /// The numbers of all groups of a table, after those of `first`.
-    pub fn start(first: Group) -> Numbers
+    pub(crate) fn start(first: Group) -> Numbers
         requires { first.width ≤ 48 }
         ensures current { result.current ≡ first }
         ensures next { result.next ≡ 0 }
@@ -36,7 +36,13 @@ impl Numbers {
     }
 
     /// Hands the codes of all numbers on that end in the next octets.
-    pub fn push<T: RunTaker>(&mut self, layout: &Layout, table: &Table, piece: &[u8], taker: T) -> T
+    pub(crate) fn push<T: RunTaker>(
+        &mut self,
+        layout: &Layout,
+        table: &Table,
+        piece: &[u8],
+        taker: T,
+    ) -> T
         requires read { CanRead T.Taker.limit layout.now table.now piece.now 0 }
         requires ready { IsReady T.Taker.limit self.old }
         ensures goes { Went T.Taker.took layout.now (left_of self.old (groups_in table.now)) (self.old.pending ++ bits_in piece.now) taker

@@ -5,10 +5,11 @@ use Rattle.grib_packing.specs.Span.{IsTold}
 use Rattle.grib_packing.proofs.Bounds.{references_fit, reference_bits-few, widths_fit, width_bits-few}
 use Rattle.grib_base.specs.declared.code.Code.{Code}
 use Rattle.grib_packing.specs.declared.layout.Layout.{Layout}
+use Rattle.grib_packing.proofs.Left.{even_after}
 use Rattle.grib_groups.specs.declared.measuring.Measure.{Measure}
 use Rattle.grib_groups.specs.Encoding.{AreGrouped, AreMeasures, LaysOut}
 use Rattle.grib_groups.proofs.Measures.{known-by}
-use Rattle.grib_groups.proofs.Parts.{even_after, four_parts, length-parts, parts-are}
+use Rattle.grib_groups.proofs.Parts.{four_parts, length-parts, parts-are}
 use Rattle.grib_groups.proofs.encoding.encode_measured_groups.Goals as goal
 
 -- the codes as they are grouped, by the numbers of the layout

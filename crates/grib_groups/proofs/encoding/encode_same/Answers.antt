@@ -6,7 +6,8 @@ use Rattle.grib_packing.specs.Groupings.{IsGrouping, runs, joined, length_bits, 
 use Rattle.grib_packing.specs.Packed.{fields, padded, group_fields, group_parts, reference_of}
 use Rattle.grib_packing.specs.Span.{IsTold}
 use Rattle.grib_packing.proofs.Bounds.{references_fit, reference_bits-few}
-use Rattle.grib_groups.proofs.Parts.{even_after, parts-are}
+use Rattle.grib_packing.proofs.Left.{even_after}
+use Rattle.grib_groups.proofs.Parts.{parts-are}
 use Rattle.grib_groups.proofs.Same.{references_same, no_numbers, no_bits, width_bits_same, reference_same}
 use Rattle.grib_groups.proofs.encoding.encode_same.Goals as goal
 

@@ -1,7 +1,7 @@
 use Rattle.std.proofs.Common.{arith}
 use Rattle.grib_packing.specs.Packed.{packed_number}
+use Rattle.grib_packing.proofs.Left.{left_none}
 use Rattle.grib_groups.proofs.Joined.{four_more, four_room, no_codes}
-use Rattle.grib_groups.proofs.Parts.{left_none}
 use Rattle.grib_groups.proofs.encoding.put_fours.Goals as goal
 
 pub put-requires-clause-room : goal.put-requires-clause-room

@@ -1,9 +1,10 @@
 use Rattle.std.proofs.Common.{◌++◌, arith, length, get_or, sym, ap, ◌∙◌}
 use Rattle.grib_packing.specs.Packed.{group_fields}
 use Rattle.grib_packing.proofs.Bounds.{all_below}
+use Rattle.grib_packing.proofs.Left.{left_padded}
 use Rattle.grib_groups.proofs.Measures.{known-here, known-next, measured-is, narrow}
 use Rattle.grib_groups.proofs.Packable.{packable}
-use Rattle.grib_groups.proofs.Parts.{told_run, told_after, left_padded, no_parts, grouping-within, grouping-next, part_more, part_room}
+use Rattle.grib_groups.proofs.Parts.{told_run, told_after, no_parts, grouping-within, grouping-next, part_more, part_room}
 use Rattle.grib_groups.proofs.encoding.put_numbers.Goals as goal
 
 pub split_at-requires : goal.split_at-requires
