@@ -8,7 +8,7 @@ ghost use Rattle.grib_base.specs.declared.code.Code.TheVariants.{Present};
 ghost use Rattle.grib_base.specs.Rows.{first_fault};
 ghost use Rattle.grib_groups.specs.Taking.{number_of};
 ghost use Rattle.grib_packing.specs.Groups.{list_octets, packed_bits, groups_from, octets_for, list_rows, references as all_references, widths as all_widths, lengths as all_lengths};
-ghost use Rattle.grib_groups.specs.Lists.{ListsAre, lists_fault, AreEmpty, WereRead, ReferencesTook, WidthsTook, LengthsTook, LengthAdded};
+ghost use Rattle.grib_groups.specs.Lists.{HasGroups, ListsAre, lists_fault, AreEmpty, WereRead, ReferencesTook, WidthsTook, LengthsTook, LengthAdded};
 ghost use Rattle.grib_groups.specs.Feeding.{no_marks};
 ghost use Rattle.grib_groups.specs.Laws.{references-none, references-more, widths-none, widths-more, lengths-none, lengths-more};
 
@@ -16,7 +16,7 @@ use crate::{FedLists, Layout, RunTaker, Table, Taker};
 use grib_base::{Code, Fault, Reason, push_within};
 use std::alloc::{AllocError, Global};
 
-/// The references that were read.
+/// The references that were read, for which there is memory. One without room is passed over.
 #[derive(Debug, Drop)]
 pub struct References {
     pub items: Vec<u32>,
@@ -47,7 +47,7 @@ impl RunTaker for References {
     }
 }
 
-/// The widths that were read, each the reference width and a coded width.
+/// The widths that were read, each the reference width and a coded width. One without room is passed over.
 #[derive(Debug, Drop)]
 pub struct Widths {
     pub items: Vec<u8>,
@@ -83,7 +83,8 @@ impl RunTaker for Widths {
     }
 }
 
-/// The lengths that were read, each the reference length and some increments.
+/// The lengths that were read, each the reference length and some increments. One without room is passed
+/// over.
 #[derive(Debug, Drop)]
 pub struct Lengths {
     pub items: Vec<u32>,
@@ -145,7 +146,7 @@ pub struct Lists {
 }
 
 impl Lists {
-    /// No group yet, with memory for all of them, of a field that has so many values.
+    /// No group yet, with memory for all of them, of a field that has `values` values.
     ///
     /// # Errors
     ///
@@ -186,10 +187,7 @@ impl Lists {
         octets: &[u8],
         values: u32,
     ) -> Result<Lists, AllocError>
-        requires references { layout.now.reference_bits ≤ 32 }
-        requires widths { layout.now.width_bits ≤ 32 }
-        requires lengths { layout.now.length_bits ≤ 32 }
-        requires groups { 1 ≤ layout.now.groups }
+        requires groups { HasGroups layout.now }
         requires short { length octets.now < 2 ^ 32 }
         requires within { list_octets layout.now ≤ length octets.now }
         ensures { IfOk result (λ lists. ListsAre layout.now values lists (all_references layout.now octets.now)

@@ -1,4 +1,4 @@
-use Rattle.std.proofs.Common.{◌≡◌, ℕ, ◌+◌, ◌∷◌, [], ◌++◌, length, min, cond, eqb, ltb, refl, ap, ap₂, ◌∙◌, arith, subst}
+use Rattle.std.proofs.Common.{◌≡◌, ℕ, ◌+◌, ◌∷◌, [], ◌++◌, length, min, cond, eqb, ltb, refl, ap, ap₂, ◌∙◌, subst}
 use Rattle.grib_groups.specs.Taking.{number_of}
 use Rattle.grib_groups.specs.Lists.{WidthsAre}
 use Rattle.grib_groups.proofs.Listing.{width_more}
