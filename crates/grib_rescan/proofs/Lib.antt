@@ -1,3 +1,4 @@
 mod Turns
 mod Runs
 mod Rows
+mod Corners

@@ -1,6 +1,7 @@
 -- The points of a grid in the order of scanning octet 0, all of them or those of a box.
 use Rattle.std.specs.Prelude.{ℕ, ◌+◌, ◌-◌, ◌<◌, ◌≤◌, List, map, slice_index_or}
 use Rattle.std.specs.List.{range_with_len, flat_map}
+use Rattle.grib_packing.specs.declared.column.Column.{Column}
 use Rattle.grib_packing.specs.declared.column.Point.{Point}
 use Rattle.grib_packing.specs.declared.column.Point.TheVariants.{Missing}
 use Rattle.grib_rescan.specs.declared.scanning.Scanning.{Scanning}
@@ -28,6 +29,13 @@ height area = area.j1 + 1 - area.j0
 -- the rows of a box from the north, where the points are in the order of scanning octet 0
 abbrev pub cropped_points : Area → ℕ → ℕ → List Point → List Point
 cropped_points area ni nj points = flat_map (row_of (scanning_of 0) ni nj points area.i0 (width area)) (range_with_len area.j0 (height area))
+
+-- a column with its points in another order, or with those of a box; R, E and D stay
+abbrev pub rescanned_column : Scanning → ℕ → ℕ → Column → Column
+rescanned_column scanning ni nj column = record column { points = rescanned_points scanning ni nj column.points }
+
+abbrev pub cropped_column : Area → ℕ → ℕ → Column → Column
+cropped_column area ni nj column = record column { points = cropped_points area ni nj column.points }
 
 -- the box lies in the grid, and has a point
 pub record IsBox (area : Area) (ni nj : ℕ) : Type 0 where

@@ -1,10 +1,15 @@
 //! Laws over the definitions.
 
-ghost use Rattle.std.specs.Prelude.{◌≡◌, ℕ, ◌+◌, ◌-◌, ◌*◌, ◌<◌, List, length};
+ghost use Rattle.std.specs.Prelude.{◌≡◌, ℕ, ◌+◌, ◌*◌, ◌<◌, List, length, [], ◌∷◌, pos, Some, None};
 ghost use Rattle.grib_packing.specs.declared.column.Point.{Point as Entry};
 ghost use Rattle.grib_rescan.specs.declared.scanning.Scanning.{Scanning as Order};
 ghost use Rattle.grib_rescan.specs.declared.points.Area.{Area as Rectangle};
 ghost use Rattle.grib_rescan.specs.Scanning.{scanning_of, place, point_at};
+ghost use Rattle.grib_packing.specs.declared.column.Point.TheVariants.{Scaled};
+ghost use Rattle.grib_rescan.specs.declared.cause.GridCause.TheVariants.{ScanMode, OutsideBox, Increments};
+ghost use Rattle.grib_rescan.specs.Sections.{rescanned_section, cropped_section};
+ghost use Rattle.grib_rescan.specs.Causes.{rescan_cause_of, crop_cause_of};
+ghost use Rattle.grib_rescan.specs.Worked.{north, south, west, east, grid, points_of, area_of};
 ghost use Rattle.grib_rescan.specs.Points.{point, width, height, rescanned_points, cropped_points};
 
 /// Each place of a grid has one point, and each point one place.
@@ -36,4 +41,28 @@ pub fn what_is_cropped_keeps_each_place()
     ensures places { (area : Rectangle) (ni nj i j : ℕ) (points : List Entry) → i < width area → j < height area
         → point (cropped_points area ni nj points) (j * width area + i)
         ≡ point points ((area.j0 + j) * ni + (area.i0 + i)) }
+{}
+
+/// A grid whose rows go from the south to the north, and one whose rows go from the east to the west and
+/// from the west to the east in turn.
+pub fn worked_orders()
+    ensures northward { rescanned_points (scanning_of 0x40) 2 2 (points_of 0 1 2 255) ≡ points_of 2 255 0 1 }
+    ensures in_turn { rescanned_points (scanning_of 0x90) 2 2 (points_of 0 1 2 255) ≡ points_of 1 0 2 255 }
+    ensures columns { rescanned_points (scanning_of 0x30) 2 2 (points_of 0 1 2 255) ≡ points_of 0 255 1 2 }
+    ensures south { rescanned_section (grid 4 2 2 south west north east 0x40) ≡ grid 4 2 2 north west south east 0 }
+    ensures east { rescanned_section (grid 4 2 2 north east south west 0x90) ≡ grid 4 2 2 north west south east 0 }
+    ensures none { rescan_cause_of (grid 4 2 2 north east south west 0x90) ≡ None }
+    ensures reserved { rescan_cause_of (grid 4 2 2 north west south east 0x08) ≡ Some ScanMode }
+{}
+
+/// The eastern column of a grid; a box that does not lie in it; a last point that the increments do not give.
+pub fn worked_boxes()
+    ensures points { cropped_points (area_of 1 1 0 1) 2 2 (points_of 0 1 2 255)
+        ≡ Scaled (pos 1) ∷ Scaled (pos 255) ∷ [] }
+    ensures section { cropped_section (area_of 1 1 0 1) (grid 4 2 2 north west south east 0)
+        ≡ grid 2 1 2 north east south east 0 }
+    ensures none { crop_cause_of (area_of 1 1 0 1) (grid 4 2 2 north west south east 0) ≡ None }
+    ensures outside { crop_cause_of (area_of 0 2 0 0) (grid 4 2 2 north west south east 0) ≡ Some OutsideBox }
+    ensures order { crop_cause_of (area_of 0 2 0 0) (grid 4 2 2 south west north east 0x40) ≡ Some ScanMode }
+    ensures increments { crop_cause_of (area_of 0 0 0 0) (grid 4 2 2 north west south west 0) ≡ Some Increments }
 {}
