@@ -22,7 +22,8 @@ use Rattle.grib1_sections.specs.Bitmap.{bitmap_rows, mask_of}
 use Rattle.grib1_sections.specs.Data.{data_rows}
 use Rattle.grib1_sections.specs.Acceptance.{section_fault, bitmap_fault, message_fault, verdict_1, has_bitmap, identification, grid, bitmap, data_section, grid_start, bitmap_start, data_start, end_start, points_of, values_of}
 use Rattle.grib2_sections.specs.Refused.{IsVerdict}
-use Rattle.grib1_sections.specs.Kept.{IsReadFault, Stands, HasBitmap, Keeps}
+use Rattle.grib_base.specs.Faults.{IsReadFault}
+use Rattle.grib1_sections.specs.Kept.{Stands, HasBitmap, Keeps}
 use Rattle.grib_base.specs.declared.fault.ReadFault.{ReadFault}
 use Rattle.grib_base.specs.declared.fault.ReadFault.TheVariants.{Refused, Memory}
 use Rattle.grib1_sections.proofs.Rows.{none_from_passes, none_accepted, some_first, some_later, some_refused, none_or}

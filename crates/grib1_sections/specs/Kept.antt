@@ -1,19 +1,11 @@
 -- What is known of the sections of a message while it is read, and after, for private functions.
-use Rattle.std.specs.Prelude.{◌≡◌, ℕ, ◌+◌, ◌≤◌, true, Option, Some, List, length}
+use Rattle.std.specs.Prelude.{◌≡◌, ℕ, ◌+◌, ◌≤◌, true, Option, List, length}
 use Rattle.grib_bits.specs.Octets.{octets}
-use Rattle.grib_base.specs.declared.fault.Fault.{Fault}
 use Rattle.grib2_sections.specs.Head.{total_length_1}
 use Rattle.grib1_sections.specs.Frame.{section_at}
 use Rattle.grib1_sections.specs.Grid.{lists_rows, list_place, lists_end}
 use Rattle.grib1_sections.specs.Message.{IsMessage1}
 use Rattle.grib1_sections.specs.Acceptance.{identification, grid, bitmap, data_section, points_of, values_of, data_start}
-use Rattle.grib_base.specs.declared.fault.ReadFault.{ReadFault}
-use Rattle.grib_base.specs.declared.fault.ReadFault.TheVariants.{Refused, Memory}
-
--- the refusal of the first row that fails; want of memory says nothing of the rows
-abbrev pub IsReadFault : Option Fault → ReadFault → Type 0
-IsReadFault expected (Refused fault) = expected ≡ Some fault
-IsReadFault expected Memory = Unit {0}
 
 -- s stands at octet q of a message, is at least so long, and four octets are left behind it
 pub record Stands (message : List ℕ) (q least : ℕ) (s : List ℕ) : Type 0 where

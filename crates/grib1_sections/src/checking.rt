@@ -11,7 +11,8 @@ ghost use Rattle.grib1_sections.specs.Grid as grid;
 ghost use Rattle.grib1_sections.specs.Grid.{grid_types, grid_rows, grid_points};
 ghost use Rattle.grib1_sections.specs.Bitmap.{bitmap_rows, mask_of};
 ghost use Rattle.grib1_sections.specs.Data.{data_rows};
-ghost use Rattle.grib1_sections.specs.Kept.{IsReadFault, HasRows};
+ghost use Rattle.grib_base.specs.Faults.{IsReadFault};
+ghost use Rattle.grib1_sections.specs.Kept.{HasRows};
 
 use crate::frame::{Placed, has_bit};
 use grib_base::{Fault, ReadFault, Reason};

@@ -10,7 +10,8 @@ ghost use Rattle.grib1_sections.specs.Data.{data_rows};
 ghost use Rattle.grib1_sections.specs.Acceptance.{verdict_1, has_bitmap, bitmap_fault, bitmap, bitmap_start, data_start, points_of, values_of, section_fault};
 ghost use Rattle.grib1_sections.specs.Message.{IsMessage1};
 ghost use Rattle.grib2_sections.specs.Refused.{IsVerdict};
-ghost use Rattle.grib1_sections.specs.Kept.{IsReadFault, Stands, HasBitmap};
+ghost use Rattle.grib_base.specs.Faults.{IsReadFault};
+ghost use Rattle.grib1_sections.specs.Kept.{Stands, HasBitmap};
 
 use crate::Message1;
 use crate::checking::{check_bitmap, check_data, check_grid, check_identification};

@@ -4,7 +4,6 @@
 mod grid;
 pub mod laws;
 mod reading;
-mod row_list;
 mod rows;
 mod templates;
 #[cfg(test)]

@@ -26,8 +26,7 @@ pub fn read_product(alloc: Global, section: &Section<'_>) -> Result<ProductSecti
     ensures rows { MatchResult result
         (λ value. (first_fault_at section.now.start (product_rows section.now.octets.now 1) ≡ None)
         × Spelled value section.now.octets.now)
-        (λ fault. IsRefusal fault
-        (first_fault_at section.now.start (product_rows section.now.octets.now 1))) }
+        (IsReadFault (first_fault_at section.now.start (product_rows section.now.octets.now 1))) }
     ensures memory { time_ranges section.now.octets.now ≡ 0
         → coordinate_count section.now.octets.now ≡ 0 → result ≢ Err ReadFault.Memory }
 {

@@ -1,14 +1,12 @@
 -- What is read of the three lists of groups.
-use Rattle.std.specs.Prelude.{◌≡◌, ℕ, ◌+◌, ◌*◌, ◌^◌, ◌<◌, ◌≤◌, List, [], ◌∷◌, ◌++◌, length, drop, map, nat_lt, not, ◌==◌, Option, Some, sum, vec_capacity}
+use Rattle.std.specs.Prelude.{◌≡◌, ℕ, ◌+◌, ◌*◌, ◌^◌, ◌<◌, ◌≤◌, List, [], ◌∷◌, ◌++◌, length, drop, map, nat_lt, not, ◌==◌, Option, None, sum, vec_capacity}
 use Rattle.std.specs.List.{All}
 use Rattle.grib_base.specs.declared.code.Code.{Code}
 use Rattle.grib_base.specs.declared.fault.Fault.{Fault}
 use Rattle.grib_base.specs.declared.fault.Reason.TheVariants.{GroupWidth, GroupShape, DataTooShort}
-use Rattle.grib_base.specs.Rows.{Row, row, first_place, first_fault_at}
+use Rattle.grib_base.specs.Rows.{Row, row, first_fault, first_place, first_fault_at}
 use Rattle.grib_packing.specs.declared.layout.Layout.{Layout}
-use Rattle.grib_packing.specs.Groups.{reference_octets, list_octets, packed_bits, groups, groups_from, first_past}
-use Rattle.grib_base.specs.declared.fault.ReadFault.{ReadFault}
-use Rattle.grib_base.specs.declared.fault.ReadFault.TheVariants.{Refused, Memory}
+use Rattle.grib_packing.specs.Groups.{reference_octets, list_octets, list_rows, packed_bits, groups, groups_from, first_past}
 use Rattle.grib_groups.specs.declared.decoding.Codes.{Codes}
 use Rattle.grib_groups.specs.declared.lists.References.{References}
 use Rattle.grib_groups.specs.declared.lists.Widths.{Widths}
@@ -18,7 +16,20 @@ use Rattle.grib_groups.specs.declared.table.Table.{Table}
 use Rattle.grib_groups.specs.Table.{groups_in, IsWhole, IsNarrow}
 use Rattle.grib_groups.specs.Taking.{number_of}
 
--- A list that has memory for so many items was added to.
+-- There are groups, and no number in their lists has more than 32 bits.
+pub record HasGroups (layout : Layout) : Type 0 where
+  pub references : layout.reference_bits ≤ 32
+  pub widths : layout.width_bits ≤ 32
+  pub lengths : layout.length_bits ≤ 32
+  pub groups : 1 ≤ layout.groups
+
+-- A Section 7 of l octets, of which some after the fifth are extra descriptors, has all octets of the lists.
+pub record HasLists (layout : Layout) (extra l : ℕ) : Type 0 where
+  pub layout_has : HasGroups layout
+  pub skip : extra ≤ 12
+  pub lists : first_fault (list_rows layout l extra) ≡ None
+
+-- Items were added to a list that has memory for as many as `memory`.
 pub record Grown {X : Type 0} (before : List X) (memory : ℕ) (added : List X) (after : List X) (memory_after : ℕ) : Type 0 where
   pub items : after ≡ before ++ added
   pub capacity : memory ≤ memory_after

@@ -8,7 +8,7 @@ ghost use Rattle.grib_base.specs.declared.code.Code.TheVariants.{Present};
 ghost use Rattle.grib_base.specs.Rows.{first_fault};
 ghost use Rattle.grib_groups.specs.Taking.{number_of};
 ghost use Rattle.grib_packing.specs.Groups.{list_octets, packed_bits, groups_from, octets_for, list_rows, references as all_references, widths as all_widths, lengths as all_lengths};
-ghost use Rattle.grib_groups.specs.Lists.{ListsAre, lists_fault, AreEmpty, WereRead, ReferencesTook, WidthsTook, LengthsTook, LengthAdded};
+ghost use Rattle.grib_groups.specs.Lists.{HasGroups, ListsAre, lists_fault, AreEmpty, WereRead, ReferencesTook, WidthsTook, LengthsTook, LengthAdded};
 ghost use Rattle.grib_groups.specs.Feeding.{no_marks};
 ghost use Rattle.grib_groups.specs.Laws.{references-none, references-more, widths-none, widths-more, lengths-none, lengths-more};
 
@@ -16,7 +16,7 @@ use crate::{FedLists, Layout, RunTaker, Table, Taker};
 use grib_base::{Code, Fault, Reason, push_within};
 use std::alloc::{AllocError, Global};
 
-/// The references that were read.
+/// The references that were read, for which there is memory. One without room is passed over.
 #[derive(Debug, Drop)]
 pub struct References {
     pub items: Vec<u32>,
@@ -28,6 +28,9 @@ impl Taker for References {
     ghost took = { ReferencesTook };
 
     fn take(mut self, code: Code) -> References {
+        if self.items.len() >= self.items.capacity() {
+            return self;
+        }
         push_within(&mut self.items, number(code) as u32);
         self
     }
@@ -44,7 +47,7 @@ impl RunTaker for References {
     }
 }
 
-/// The widths that were read, each the reference width and a coded width.
+/// The widths that were read, each the reference width and a coded width. One without room is passed over.
 #[derive(Debug, Drop)]
 pub struct Widths {
     pub items: Vec<u8>,
@@ -59,6 +62,9 @@ impl Taker for Widths {
     ghost took = { WidthsTook };
 
     fn take(mut self, code: Code) -> Widths {
+        if self.items.len() >= self.items.capacity() {
+            return self;
+        }
         let width = u64::from(self.reference) + number(code);
         self.too_wide = first_noted(self.too_wide, width > 32, self.items.len() as u64 + 1);
         push_within(&mut self.items, width.min(32) as u8);
@@ -77,7 +83,8 @@ impl RunTaker for Widths {
     }
 }
 
-/// The lengths that were read, each the reference length and some increments.
+/// The lengths that were read, each the reference length and some increments. One without room is passed
+/// over.
 #[derive(Debug, Drop)]
 pub struct Lengths {
     pub items: Vec<u32>,
@@ -94,6 +101,9 @@ impl Lengths {
     pub fn add(mut self, length: u64) -> Lengths
         ensures { LengthAdded self length result }
     {
+        if self.items.len() >= self.items.capacity() {
+            return self;
+        }
         if self.past > 0 || length > u64::from(self.rest) {
             self.past = first_noted(self.past, true, self.items.len() as u64 + 1);
             push_within(&mut self.items, 0);
@@ -136,7 +146,7 @@ pub struct Lists {
 }
 
 impl Lists {
-    /// No group yet, with memory for all of them, of a field that has so many values.
+    /// No group yet, with memory for all of them, of a field that has `values` values.
     ///
     /// # Errors
     ///
@@ -177,10 +187,7 @@ impl Lists {
         octets: &[u8],
         values: u32,
     ) -> Result<Lists, AllocError>
-        requires references { layout.now.reference_bits ≤ 32 }
-        requires widths { layout.now.width_bits ≤ 32 }
-        requires lengths { layout.now.length_bits ≤ 32 }
-        requires groups { 1 ≤ layout.now.groups }
+        requires groups { HasGroups layout.now }
         requires short { length octets.now < 2 ^ 32 }
         requires within { list_octets layout.now ≤ length octets.now }
         ensures { IfOk result (λ lists. ListsAre layout.now values lists (all_references layout.now octets.now)

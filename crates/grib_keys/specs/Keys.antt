@@ -3,13 +3,12 @@
 use Rattle.std.specs.Prelude.{ℕ, Bool, true, false, cond, ◌==◌, ◌+◌, Option, Some, None, List, [], ◌∷◌, codes}
 use Rattle.std.specs.List.{find, list_any}
 use Rattle.std.specs.Str.{bytes_eq}
+use Rattle.grib_keys.specs.declared.table.Octets.{Octets}
+use Rattle.grib_keys.specs.declared.table.Place.{Place}
+use Rattle.grib_keys.specs.declared.table.Place.TheVariants.{At, ScanningMode, FirstPoint, Member}
+use Rattle.grib_keys.specs.declared.table.Kind.{Kind}
 use Rattle.grib_keys.specs.declared.key.Key.{Key}
 use Rattle.grib_keys.specs.declared.key.Key.TheVariants.{Discipline, Centre, SubCentre, MasterTables, LocalTables, Significance, Year, Month, Day, Hour, Minute, Second, Status, DataType, EarthShape, Points, GridTemplate, Ni, Nj, Scanning, La1, Lo1, ProductTemplate, Category, Number, Process, Generator, TimeUnit, ForecastTime, Surface1, Surface1Scale, Surface1Value, EnsembleNumber, Packing, Bits}
-
--- the first and the last octet of a number
-pub record Octets : Type 0 where
-  pub first : ℕ
-  pub last : ℕ
 
 -- the octets of a number by the template of its section; none where the template has no such number.
 -- Sections 0 and 1 have no template, and theirs are the same for each number.
@@ -39,12 +38,14 @@ first_point here there template = cond (is_by_angles template) (at here (here + 
 abbrev pub ensemble_place : ℕ → Option Octets
 ensemble_place template = cond (is_of (1 ∷ 11 ∷ []) template) (at 36 36 template) None
 
--- a number with a sign has sign and magnitude; one that may be missing is missing where all its bits are 1
-pub record Kind : Type 0 where
-  pub is_signed : Bool
-  pub may_be_missing : Bool
-  pub can_set : Bool
+-- the octets of a number that stands at this place, by the template of its section
+abbrev pub octets_by : Place → ℕ → Option Octets
+octets_by (At octets) template = Some octets
+octets_by ScanningMode template = scanning_place template
+octets_by (FirstPoint here there) template = first_point here there template
+octets_by Member template = ensemble_place template
 
+-- a number with a sign has sign and magnitude; one that may be missing is missing where all its bits are 1
 abbrev pub unsigned : Kind
 unsigned = record { is_signed = false; may_be_missing = false; can_set = true }
 

@@ -1,8 +1,10 @@
 //! The keys of a field: their names, and which of them can be set.
 
-ghost use Rattle.std.specs.Prelude.{◌≡◌, Some};
-ghost use Rattle.grib_keys.specs.Keys.{name_of, can_set, key_named};
+ghost use Rattle.std.specs.Prelude.{◌≡◌, ℕ, Some};
+ghost use Rattle.grib_keys.specs.declared.table.Place.TheVariants.{At, FirstPoint};
+ghost use Rattle.grib_keys.specs.Keys.{row_of, octets_by, name_of, can_set, key_named};
 
+use crate::table::{Kind, Octets, Place, Row};
 use std::fmt;
 
 /// A number in the sections of a message of edition 2 that has a name on the command line.
@@ -92,47 +94,58 @@ impl Key {
         KEYS.iter().copied().find(|key| key.name() == name)
     }
 
+    /// The row of the key in the table of keys.
+    pub fn row(&self) -> Row
+        ensures name { result.name.now ≡ (row_of self.now).name }
+        ensures section { result.section ≡ (row_of self.now).section }
+        ensures place { (template : ℕ)
+            → octets_by result.place template ≡ (row_of self.now).place template }
+        ensures kind { result.kind ≡ (row_of self.now).kind }
+    {
+        match self {
+            Key::Discipline => row("discipline", 0, at(7, 7), UNSIGNED),
+            Key::Centre => row("centre", 1, at(6, 7), UNSIGNED),
+            Key::SubCentre => row("subCentre", 1, at(8, 9), UNSIGNED),
+            Key::MasterTables => row("masterTables", 1, at(10, 10), UNSIGNED),
+            Key::LocalTables => row("localTables", 1, at(11, 11), UNSIGNED),
+            Key::Significance => row("significance", 1, at(12, 12), UNSIGNED),
+            Key::Year => row("year", 1, at(13, 14), UNSIGNED),
+            Key::Month => row("month", 1, at(15, 15), UNSIGNED),
+            Key::Day => row("day", 1, at(16, 16), UNSIGNED),
+            Key::Hour => row("hour", 1, at(17, 17), UNSIGNED),
+            Key::Minute => row("minute", 1, at(18, 18), UNSIGNED),
+            Key::Second => row("second", 1, at(19, 19), UNSIGNED),
+            Key::Status => row("status", 1, at(20, 20), UNSIGNED),
+            Key::DataType => row("dataType", 1, at(21, 21), UNSIGNED),
+            Key::EarthShape => row("earthShape", 3, at(15, 15), UNSIGNED),
+            Key::Points => row("points", 3, at(7, 10), FIXED),
+            Key::GridTemplate => row("gridTemplate", 3, at(13, 14), FIXED),
+            Key::Ni => row("ni", 3, at(31, 34), FIXED_OR_MISSING),
+            Key::Nj => row("nj", 3, at(35, 38), FIXED_OR_MISSING),
+            Key::Scanning => row("scanning", 3, Place::ScanningMode, UNSIGNED),
+            Key::La1 => row("la1", 3, first_point(47, 39), SIGNED),
+            Key::Lo1 => row("lo1", 3, first_point(51, 43), UNSIGNED),
+            Key::ProductTemplate => row("productTemplate", 4, at(8, 9), FIXED),
+            Key::Category => row("category", 4, at(10, 10), UNSIGNED),
+            Key::Number => row("number", 4, at(11, 11), UNSIGNED),
+            Key::Process => row("process", 4, at(12, 12), UNSIGNED),
+            Key::Generator => row("generator", 4, at(14, 14), UNSIGNED),
+            Key::TimeUnit => row("timeUnit", 4, at(18, 18), UNSIGNED),
+            Key::ForecastTime => row("forecastTime", 4, at(19, 22), SIGNED),
+            Key::Surface1 => row("surface1", 4, at(23, 23), UNSIGNED_OR_MISSING),
+            Key::Surface1Scale => row("surface1Scale", 4, at(24, 24), SIGNED_OR_MISSING),
+            Key::Surface1Value => row("surface1Value", 4, at(25, 28), UNSIGNED_OR_MISSING),
+            Key::EnsembleNumber => row("ensembleNumber", 4, Place::Member, UNSIGNED),
+            Key::Packing => row("packing", 5, at(10, 11), FIXED),
+            Key::Bits => row("bits", 5, at(20, 20), FIXED),
+        }
+    }
+
     /// The name of the key, as a command line has it and as a note prints it.
     pub fn name(&self) -> &'static str
         ensures { result.now ≡ name_of self.now }
     {
-        match self {
-            Key::Discipline => "discipline",
-            Key::Centre => "centre",
-            Key::SubCentre => "subCentre",
-            Key::MasterTables => "masterTables",
-            Key::LocalTables => "localTables",
-            Key::Significance => "significance",
-            Key::Year => "year",
-            Key::Month => "month",
-            Key::Day => "day",
-            Key::Hour => "hour",
-            Key::Minute => "minute",
-            Key::Second => "second",
-            Key::Status => "status",
-            Key::DataType => "dataType",
-            Key::EarthShape => "earthShape",
-            Key::Points => "points",
-            Key::GridTemplate => "gridTemplate",
-            Key::Ni => "ni",
-            Key::Nj => "nj",
-            Key::Scanning => "scanning",
-            Key::La1 => "la1",
-            Key::Lo1 => "lo1",
-            Key::ProductTemplate => "productTemplate",
-            Key::Category => "category",
-            Key::Number => "number",
-            Key::Process => "process",
-            Key::Generator => "generator",
-            Key::TimeUnit => "timeUnit",
-            Key::ForecastTime => "forecastTime",
-            Key::Surface1 => "surface1",
-            Key::Surface1Scale => "surface1Scale",
-            Key::Surface1Value => "surface1Value",
-            Key::EnsembleNumber => "ensembleNumber",
-            Key::Packing => "packing",
-            Key::Bits => "bits",
-        }
+        self.row().name
     }
 
     /// Whether a message may get another number at the key. It may not where others are read or
@@ -140,17 +153,74 @@ impl Key {
     pub fn can_set(&self) -> bool
         ensures { result ≡ can_set self.now }
     {
-        !matches!(
-            self,
-            Key::Points
-                | Key::GridTemplate
-                | Key::Ni
-                | Key::Nj
-                | Key::ProductTemplate
-                | Key::Packing
-                | Key::Bits
-        )
+        self.row().kind.can_set
     }
+}
+
+/// A number without sign.
+const UNSIGNED: Kind = Kind {
+    is_signed: false,
+    may_be_missing: false,
+    can_set: true,
+};
+
+/// A number with a sign.
+const SIGNED: Kind = Kind {
+    is_signed: true,
+    ..UNSIGNED
+};
+
+/// A number without sign that may be missing.
+const UNSIGNED_OR_MISSING: Kind = Kind {
+    may_be_missing: true,
+    ..UNSIGNED
+};
+
+/// A number with a sign that may be missing.
+const SIGNED_OR_MISSING: Kind = Kind {
+    may_be_missing: true,
+    ..SIGNED
+};
+
+/// A number by which others are read or counted.
+const FIXED: Kind = Kind {
+    can_set: false,
+    ..UNSIGNED
+};
+
+/// A number by which others are read or counted, and that may be missing.
+const FIXED_OR_MISSING: Kind = Kind {
+    may_be_missing: true,
+    ..FIXED
+};
+
+/// The row with this name, section, place and kind.
+fn row(name: &'static str, section: u8, place: Place, kind: Kind) -> Row
+    ensures name { result.name.now ≡ name.now }
+    ensures section { result.section ≡ section }
+    ensures place { result.place ≡ place }
+    ensures kind { result.kind ≡ kind }
+{
+    Row {
+        name,
+        section,
+        place,
+        kind,
+    }
+}
+
+/// The octets from `first` to `last`, in every template.
+fn at(first: usize, last: usize) -> Place
+    ensures { result ≡ At (record { first = first; last = last }) }
+{
+    Place::At(Octets { first, last })
+}
+
+/// An angle of the first grid point, by the octets at which it begins.
+fn first_point(by_angles: u8, other: u8) -> Place
+    ensures { result ≡ FirstPoint by_angles other }
+{
+    Place::FirstPoint { by_angles, other }
 }
 
 impl fmt::Display for Key {

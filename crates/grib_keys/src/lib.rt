@@ -4,8 +4,10 @@
 mod condition;
 mod key;
 pub mod laws;
+mod table;
 #[cfg(test)]
 mod tests;
 
 pub use condition::{Condition, Value};
 pub use key::Key;
+pub use table::{Kind, Octets, Place, Row};

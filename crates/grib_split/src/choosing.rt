@@ -1,9 +1,8 @@
 //! The choice of the first group at each place, from the last code to the first.
 
-ghost use Rattle.std.specs.Prelude.{◌≡◌, ◌+◌, ◌^◌, ◌<◌, ◌≤◌, length, drop, All};
+ghost use Rattle.std.specs.Prelude.{◌≡◌, ◌+◌, ◌<◌, length, drop};
 ghost use Rattle.grib_packing.specs.Groupings.{width_of};
-ghost use Rattle.grib_packing.specs.Span.{IsBelow};
-ghost use Rattle.grib_split.specs.Costs.{header_of};
+ghost use Rattle.grib_split.specs.Costs.{CanSplit, header_of};
 ghost use Rattle.grib_split.specs.Least.{AreHeads, Best, with_first};
 ghost use Rattle.grib_split.specs.Runs.{Runs, Waits, Afters, after_of};
 
@@ -25,12 +24,7 @@ pub struct Costs {
 /// that place on: of the groupings into runs of 1 to 64 codes that take the fewest bits, the first one,
 /// where the first length that differs decides and the smaller stands first. It takes no memory.
 pub fn least_choices(codes: &[Code], costs: &Costs, choices: &mut [u8])
-    requires some { 1 ≤ length codes.now }
-    requires most { length codes.now ≤ 33554432 }
-    requires reserved { costs.now.reserved ≤ 2 }
-    requires references { costs.now.reference_bits ≤ 32 }
-    requires widths { costs.now.width_bits ≤ 6 }
-    requires codes { All (IsBelow costs.now.reserved) codes.now }
+    requires split { CanSplit costs.now codes.now }
     requires same { length choices.old ≡ length codes.now }
     ensures { AreHeads (header_of costs.now) (width_of costs.now.reserved) codes.now choices.new }
 {
@@ -49,12 +43,8 @@ pub fn least_choices(codes: &[Code], costs: &Costs, choices: &mut [u8])
 /// Goes on by the code at place `at`, and gives the best first group and the least cost from there on.
 #[inline]
 fn best_at(slots: &mut Slots, codes: &[Code], at: usize, costs: &Costs) -> Cheapest
+    requires split { CanSplit costs.now codes.now }
     requires place { at < length codes.now }
-    requires most { length codes.now ≤ 33554432 }
-    requires reserved { costs.now.reserved ≤ 2 }
-    requires references { costs.now.reference_bits ≤ 32 }
-    requires widths { costs.now.width_bits ≤ 6 }
-    requires codes { All (IsBelow costs.now.reserved) codes.now }
     requires runs { Waits costs.now.reserved codes.now at slots.old }
     requires after { Afters (header_of costs.now) costs.now.reserved codes.now at slots.old }
     ensures runs { Runs costs.now.reserved codes.now at slots.new }

@@ -1,9 +1,8 @@
 //! The chosen grouping as a whole.
 
-ghost use Rattle.std.specs.Prelude.{◌≡◌, ◌≤◌, length, All, IfOk};
+ghost use Rattle.std.specs.Prelude.{◌≡◌, length, IfOk};
 ghost use Rattle.grib_packing.specs.Groupings.{Chosen, width_of};
-ghost use Rattle.grib_packing.specs.Span.{IsBelow};
-ghost use Rattle.grib_split.specs.Costs.{header_of};
+ghost use Rattle.grib_split.specs.Costs.{CanSplit, header_of};
 
 use crate::choosing::{Costs, least_choices};
 use crate::lengths::lengths_of;
@@ -17,12 +16,7 @@ use std::alloc::{AllocError, Global};
 ///
 /// There is no memory for a choice for each code, or for the lengths.
 pub fn chosen_lengths(alloc: Global, codes: &[Code], costs: &Costs) -> Result<Vec<u32>, AllocError>
-    requires some { 1 ≤ length codes.now }
-    requires most { length codes.now ≤ 33554432 }
-    requires reserved { costs.now.reserved ≤ 2 }
-    requires references { costs.now.reference_bits ≤ 32 }
-    requires widths { costs.now.width_bits ≤ 6 }
-    requires codes { All (IsBelow costs.now.reserved) codes.now }
+    requires split { CanSplit costs.now codes.now }
     ensures { IfOk result (λ lengths.
         Chosen (header_of costs.now) (width_of costs.now.reserved) codes.now lengths.items) }
 {
@@ -30,19 +24,14 @@ pub fn chosen_lengths(alloc: Global, codes: &[Code], costs: &Costs) -> Result<Ve
     lengths_by(alloc, codes, costs, &mut choices)
 }
 
-/// The same, with room for a choice for each code.
+/// The lengths of the groups that are chosen for these codes, with room for a choice for each code.
 fn lengths_by(
     alloc: Global,
     codes: &[Code],
     costs: &Costs,
     choices: &mut [u8],
 ) -> Result<Vec<u32>, AllocError>
-    requires some { 1 ≤ length codes.now }
-    requires most { length codes.now ≤ 33554432 }
-    requires reserved { costs.now.reserved ≤ 2 }
-    requires references { costs.now.reference_bits ≤ 32 }
-    requires widths { costs.now.width_bits ≤ 6 }
-    requires codes { All (IsBelow costs.now.reserved) codes.now }
+    requires split { CanSplit costs.now codes.now }
     requires room { length choices.old ≡ length codes.now }
     ensures { IfOk result (λ lengths.
         Chosen (header_of costs.now) (width_of costs.now.reserved) codes.now lengths.items) }

@@ -7,7 +7,7 @@ ghost use Rattle.grib_split.specs.Fewest.{TakesNone, fewest};
 
 use std::alloc::{AllocError, Global};
 
-/// The lengths of the groups that are chosen for so many codes of which no run takes a bit: as few groups
+/// The lengths of the groups that are chosen for `count` codes of which no run takes a bit: as few groups
 /// as there can be, of 64 codes each but the first.
 ///
 /// # Errors

@@ -5,8 +5,8 @@ ghost use Rattle.grib_split.specs.Least.{Follows, AreChoices};
 
 use std::alloc::{AllocError, Global};
 
-/// The lengths of groups that follow the choices: the first choice, the choice at the place behind so many
-/// codes, and so on to the end.
+/// The lengths of groups that follow the choices: the first choice, the choice at the place after as
+/// many codes, and so on to the end.
 ///
 /// # Errors
 ///

@@ -21,11 +21,11 @@ returns c =
     let rs = references layout octets in
     let ws = widths layout octets in
     let ls = lengths layout octets in
-    let lists = c.in-Ok.lists in
+    let lists = c.in_ok-lists.lists in
     let table = c.into_table.result in
-    let are = subst (λ (os : List ℕ). ListsAre layout count lists (references layout os) (widths layout os) (lengths layout os)) same c.in-Ok.ensures in
+    let are = subst (λ (os : List ℕ). ListsAre layout count lists (references layout os) (widths layout os) (lengths layout os)) same c.in_ok-lists.ensures in
     let none = ap (λ (n : ℕ). lists_fault layout start c.args.skip n count rs ws ls) (sym c.length_of-length.ensures)
-    ∙ sym (c.fault.ensures count rs ws ls c.ranges.count.fits are) ∙ c.in_default-fault.is in
+    ∙ sym (c.fault.ensures count rs ws ls c.ranges.count.fits are) ∙ c.in_default.is in
     let fit = fit_from layout start c.args.skip (length s7) count rs ws ls none in
     let same_groups = groups_are layout c.args.skip (length s7) count lists table rs ws ls are fit c.into_table.ensures.references c.into_table.ensures.widths c.into_table.ensures.lengths in (
       none,

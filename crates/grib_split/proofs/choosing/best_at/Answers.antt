@@ -1,27 +1,30 @@
-use Rattle.std.proofs.Common.{◌≡◌, ℕ, ◌+◌, ◌%◌, ◌<◌, take, drop, ap, ◌∙◌, arith}
+use Rattle.std.proofs.Common.{◌≡◌, ℕ, ◌+◌, ◌%◌, ◌<◌, ◌≤◌, take, drop, ap, ◌∙◌, arith}
 use Rattle.std.specs.Prelude.{slice_index}
 use Rattle.std.proofs.lemmas.Nat.Bits.{bit_at-zero}
 use Rattle.grib_base.specs.declared.code.Code.TheVariants.{Present}
 use Rattle.grib_packing.specs.Groupings.{width_of}
 use Rattle.grib_split.specs.Costs.{header_of}
-use Rattle.grib_split.specs.Runs.{Run, Runs, length_to, after_of}
+use Rattle.grib_split.specs.Runs.{Run, Runs, Afters, length_to, after_of}
 use Rattle.grib_split.proofs.Kept.{told_same}
 use Rattle.grib_split.proofs.Going.{runs_by, told_small, after_at, told_taken, priced_taken, afters_same, best_same, costing, first_cost, best_by}
 use Rattle.grib_split.proofs.choosing.best_at.Goals as goal
+use Rattle.grib_split.proofs.choosing.best_at.Goals.{After-cheapest-best}
 
 pub mend-requires-clause-small : goal.mend-requires-clause-small
 mend-requires-clause-small c place within =
     let q = c.requires in
     let told = told_taken c.args.costs.now.reserved c.args.codes.now c.args.at (Present 0) c.args.slots.now c.take-places.new.self q.place q.runs c.take-places.ensures.told in
-    told_small c.args.costs.now.reserved c.args.codes.now c.args.at (length_to c.args.at place) place c.take-places.new.self q.reserved q.codes (told place within)
+    told_small c.args.costs.now.reserved c.args.codes.now c.args.at (length_to c.args.at place) place c.take-places.new.self q.split.reserved q.split.codes (told place within)
 
 pub mend-requires-clause-after : goal.mend-requires-clause-after
 mend-requires-clause-after c place within =
-    let a = after_at c.args.costs.now c.args.codes.now c.args.at place c.args.slots.now c.requires.references c.requires.widths c.requires.most c.requires.after within in
+    let q = c.requires in
+    let a = after_at c.args.costs.now c.args.codes.now c.args.at place c.args.slots.now q.split.references q.split.widths q.split.most q.after within in
     omega (arith, a, ap (λ xs. slice_index xs place) c.take-places.ensures.after)
 
-pub returns-clause-runs : goal.returns-clause-runs
-returns-clause-runs c =
+-- the runs that begin with the code are right again
+mended_runs : (c : After-cheapest-best) → Runs c.args.costs.now.reserved c.args.codes.now c.args.at c.mend.new.self
+mended_runs c =
     let q = c.requires in
     let t = c.take-places.ensures in
     let costs = c.args.costs.now in
@@ -30,132 +33,57 @@ returns-clause-runs c =
     let taken = c.take-places.new.self in
     let mended = c.mend.new.self in
     let told = told_taken costs.reserved codes at (Present 0) c.args.slots.now taken q.place q.runs t.told in
-    let priced = priced_taken costs.reserved codes at c.take-places.result (Present 0) c.args.slots.now taken q.place q.reserved q.codes q.runs
+    let priced = priced_taken costs.reserved codes at c.take-places.result (Present 0) c.args.slots.now taken q.place q.split.reserved q.split.codes q.runs
     t.wide t.cost t.width t.limit t.after in
     let run : (p : ℕ) → p < 64 → Run costs.reserved mended p (length_to at p) (take (length_to at p) (drop at codes)) = λ p within. record {
       told = told_same taken mended p (take (length_to at p) (drop at codes)) c.mend.ensures.numbers c.mend.ensures.marks (told p within);
       priced = c.mend.ensures.priced (λ p. take (length_to at p) (drop at codes)) told priced p within (bit_at-zero p);
     } in
-    let runs : Runs costs.reserved codes at mended = runs_by costs.reserved codes at mended run in
-    runs
+    runs_by costs.reserved codes at mended run
+
+-- what comes after them stays
+after_stays : (c : After-cheapest-best) → c.mend.new.self.after ≡ c.args.slots.now.after
+after_stays c = c.mend.ensures.after ∙ c.take-places.ensures.after
+
+mended_afters : (c : After-cheapest-best) → Afters (header_of c.args.costs.now) c.args.costs.now.reserved c.args.codes.now c.args.at c.mend.new.self
+mended_afters c = afters_same (header_of c.args.costs.now) c.args.costs.now.reserved c.args.codes.now c.args.at c.args.slots.now c.mend.new.self (after_stays c) c.requires.after
+
+-- the least cost leaves room for a header
+least_cost : (c : After-cheapest-best) → c.cheapest-best.result.cost ≤ 1476395040
+least_cost c =
+    let q = c.requires in
+    let at = c.args.at in
+    let one = first_cost c.args.costs.now c.args.codes.now at c.mend.new.self q.place q.split.most q.split.references q.split.widths (mended_afters c) (mended_runs c) in
+    omega (arith, one, c.cheapest-best.ensures.least ((at + 1) % 64) (omega arith))
 
 pub overflow_add-result : goal.overflow_add-result
-overflow_add-result c =
-    let q = c.requires in
-    let t = c.take-places.ensures in
-    let costs = c.args.costs.now in
-    let codes = c.args.codes.now in
-    let at = c.args.at in
-    let taken = c.take-places.new.self in
-    let mended = c.mend.new.self in
-    let told = told_taken costs.reserved codes at (Present 0) c.args.slots.now taken q.place q.runs t.told in
-    let priced = priced_taken costs.reserved codes at c.take-places.result (Present 0) c.args.slots.now taken q.place q.reserved q.codes q.runs
-    t.wide t.cost t.width t.limit t.after in
-    let run : (p : ℕ) → p < 64 → Run costs.reserved mended p (length_to at p) (take (length_to at p) (drop at codes)) = λ p within. record {
-      told = told_same taken mended p (take (length_to at p) (drop at codes)) c.mend.ensures.numbers c.mend.ensures.marks (told p within);
-      priced = c.mend.ensures.priced (λ p. take (length_to at p) (drop at codes)) told priced p within (bit_at-zero p);
-    } in
-    let runs : Runs costs.reserved codes at mended = runs_by costs.reserved codes at mended run in
-    let after : mended.after ≡ c.args.slots.now.after = c.mend.ensures.after ∙ t.after in
-    let afters = afters_same (header_of costs) costs.reserved codes at c.args.slots.now mended after q.after in
-    let best = c.cheapest-best.ensures in
-    let one = first_cost costs codes at mended q.place q.most q.references q.widths afters runs in
-    let low = best.least ((at + 1) % 64) (omega arith) in
-    record { fits = omega (arith, one, low, q.references, q.widths) }
+overflow_add-result c = record { fits = omega (arith, least_cost (goal.at.overflow_add-result c).After-cheapest-best, c.requires.split.references, c.requires.split.widths) }
 
 pub overflow_add-result-2 : goal.overflow_add-result-2
-overflow_add-result-2 c =
-    let q = c.requires in
-    let t = c.take-places.ensures in
-    let costs = c.args.costs.now in
-    let codes = c.args.codes.now in
-    let at = c.args.at in
-    let taken = c.take-places.new.self in
-    let mended = c.mend.new.self in
-    let told = told_taken costs.reserved codes at (Present 0) c.args.slots.now taken q.place q.runs t.told in
-    let priced = priced_taken costs.reserved codes at c.take-places.result (Present 0) c.args.slots.now taken q.place q.reserved q.codes q.runs
-    t.wide t.cost t.width t.limit t.after in
-    let run : (p : ℕ) → p < 64 → Run costs.reserved mended p (length_to at p) (take (length_to at p) (drop at codes)) = λ p within. record {
-      told = told_same taken mended p (take (length_to at p) (drop at codes)) c.mend.ensures.numbers c.mend.ensures.marks (told p within);
-      priced = c.mend.ensures.priced (λ p. take (length_to at p) (drop at codes)) told priced p within (bit_at-zero p);
-    } in
-    let runs : Runs costs.reserved codes at mended = runs_by costs.reserved codes at mended run in
-    let after : mended.after ≡ c.args.slots.now.after = c.mend.ensures.after ∙ t.after in
-    let afters = afters_same (header_of costs) costs.reserved codes at c.args.slots.now mended after q.after in
-    let best = c.cheapest-best.ensures in
-    let one = first_cost costs codes at mended q.place q.most q.references q.widths afters runs in
-    let low = best.least ((at + 1) % 64) (omega arith) in
-    record { fits = omega (arith, one, low, q.references, q.widths) }
+overflow_add-result-2 c = record { fits = omega (arith, least_cost (goal.at.overflow_add-result-2 c).After-cheapest-best, c.requires.split.references, c.requires.split.widths) }
 
 pub overflow_add-result-3 : goal.overflow_add-result-3
-overflow_add-result-3 c =
-    let q = c.requires in
-    let t = c.take-places.ensures in
-    let costs = c.args.costs.now in
-    let codes = c.args.codes.now in
-    let at = c.args.at in
-    let taken = c.take-places.new.self in
-    let mended = c.mend.new.self in
-    let told = told_taken costs.reserved codes at (Present 0) c.args.slots.now taken q.place q.runs t.told in
-    let priced = priced_taken costs.reserved codes at c.take-places.result (Present 0) c.args.slots.now taken q.place q.reserved q.codes q.runs
-    t.wide t.cost t.width t.limit t.after in
-    let run : (p : ℕ) → p < 64 → Run costs.reserved mended p (length_to at p) (take (length_to at p) (drop at codes)) = λ p within. record {
-      told = told_same taken mended p (take (length_to at p) (drop at codes)) c.mend.ensures.numbers c.mend.ensures.marks (told p within);
-      priced = c.mend.ensures.priced (λ p. take (length_to at p) (drop at codes)) told priced p within (bit_at-zero p);
-    } in
-    let runs : Runs costs.reserved codes at mended = runs_by costs.reserved codes at mended run in
-    let after : mended.after ≡ c.args.slots.now.after = c.mend.ensures.after ∙ t.after in
-    let afters = afters_same (header_of costs) costs.reserved codes at c.args.slots.now mended after q.after in
-    let best = c.cheapest-best.ensures in
-    let one = first_cost costs codes at mended q.place q.most q.references q.widths afters runs in
-    let low = best.least ((at + 1) % 64) (omega arith) in
-    record { fits = omega (arith, one, low, q.references, q.widths) }
+overflow_add-result-3 c = record { fits = omega (arith, least_cost (goal.at.overflow_add-result-3 c).After-cheapest-best, c.requires.split.references, c.requires.split.widths) }
+
+pub returns-clause-runs : goal.returns-clause-runs
+returns-clause-runs c = mended_runs (goal.at.returns-clause-runs c).After-cheapest-best
 
 pub returns-clause-best : goal.returns-clause-best
 returns-clause-best c =
     let q = c.requires in
-    let t = c.take-places.ensures in
     let costs = c.args.costs.now in
-    let codes = c.args.codes.now in
     let at = c.args.at in
-    let taken = c.take-places.new.self in
     let mended = c.mend.new.self in
-    let told = told_taken costs.reserved codes at (Present 0) c.args.slots.now taken q.place q.runs t.told in
-    let priced = priced_taken costs.reserved codes at c.take-places.result (Present 0) c.args.slots.now taken q.place q.reserved q.codes q.runs
-    t.wide t.cost t.width t.limit t.after in
-    let run : (p : ℕ) → p < 64 → Run costs.reserved mended p (length_to at p) (take (length_to at p) (drop at codes)) = λ p within. record {
-      told = told_same taken mended p (take (length_to at p) (drop at codes)) c.mend.ensures.numbers c.mend.ensures.marks (told p within);
-      priced = c.mend.ensures.priced (λ p. take (length_to at p) (drop at codes)) told priced p within (bit_at-zero p);
-    } in
-    let runs : Runs costs.reserved codes at mended = runs_by costs.reserved codes at mended run in
-    let after : mended.after ≡ c.args.slots.now.after = c.mend.ensures.after ∙ t.after in
-    let afters = afters_same (header_of costs) costs.reserved codes at c.args.slots.now mended after q.after in
     let best = c.cheapest-best.ensures in
-    best_same (header_of costs) (width_of costs.reserved) (drop at codes) at c.cheapest-best.result.length c.args.slots.now mended after
-    (best_by costs codes at c.cheapest-best.result.length c.cheapest-best.result.cost mended q.place q.most q.references q.widths afters runs
+    best_same (header_of costs) (width_of costs.reserved) (drop at c.args.codes.now) at c.cheapest-best.result.length c.args.slots.now mended (after_stays (goal.at.returns-clause-best c).After-cheapest-best)
+    (best_by costs c.args.codes.now at c.cheapest-best.result.length c.cheapest-best.result.cost mended q.place q.split.most q.split.references q.split.widths (mended_afters (goal.at.returns-clause-best c).After-cheapest-best) (mended_runs (goal.at.returns-clause-best c).After-cheapest-best)
     best.some best.most best.cost best.least best.first)
 
 pub returns-clause-cost : goal.returns-clause-cost
 returns-clause-cost c =
-    let q = c.requires in
-    let t = c.take-places.ensures in
-    let costs = c.args.costs.now in
-    let codes = c.args.codes.now in
-    let at = c.args.at in
-    let taken = c.take-places.new.self in
-    let mended = c.mend.new.self in
-    let told = told_taken costs.reserved codes at (Present 0) c.args.slots.now taken q.place q.runs t.told in
-    let priced = priced_taken costs.reserved codes at c.take-places.result (Present 0) c.args.slots.now taken q.place q.reserved q.codes q.runs
-    t.wide t.cost t.width t.limit t.after in
-    let run : (p : ℕ) → p < 64 → Run costs.reserved mended p (length_to at p) (take (length_to at p) (drop at codes)) = λ p within. record {
-      told = told_same taken mended p (take (length_to at p) (drop at codes)) c.mend.ensures.numbers c.mend.ensures.marks (told p within);
-      priced = c.mend.ensures.priced (λ p. take (length_to at p) (drop at codes)) told priced p within (bit_at-zero p);
-    } in
-    let runs : Runs costs.reserved codes at mended = runs_by costs.reserved codes at mended run in
-    let after : mended.after ≡ c.args.slots.now.after = c.mend.ensures.after ∙ t.after in
-    let afters = afters_same (header_of costs) costs.reserved codes at c.args.slots.now mended after q.after in
     let best = c.cheapest-best.ensures in
+    let at = c.args.at in
     let n = c.cheapest-best.result.length in
-    let is = costing costs.reserved codes at mended runs n best.some best.most in
-    let same : after_of mended at n ≡ after_of c.args.slots.now at n = ap (λ xs. slice_index xs ((at + n) % 64)) after in
+    let is = costing c.args.costs.now.reserved c.args.codes.now at c.mend.new.self (mended_runs (goal.at.returns-clause-cost c).After-cheapest-best) n best.some best.most in
+    let same : after_of c.mend.new.self at n ≡ after_of c.args.slots.now at n = ap (λ xs. slice_index xs ((at + n) % 64)) (after_stays (goal.at.returns-clause-cost c).After-cheapest-best) in
     omega (arith, is, same, best.cost)
