@@ -4,8 +4,6 @@
 mod checking;
 mod column;
 mod contents;
-#[cfg(test)]
-mod contents_tests;
 mod fault;
 mod frame;
 mod key;
@@ -13,8 +11,6 @@ pub mod laws;
 mod lists;
 mod message;
 mod reading;
-#[cfg(test)]
-mod tests;
 
 pub use fault::ReadFault1;
 pub use key::Key1;

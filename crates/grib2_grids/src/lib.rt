@@ -7,8 +7,6 @@ mod reading;
 mod row_list;
 mod rows;
 mod templates;
-#[cfg(test)]
-mod tests;
 mod writing;
 
 pub use grid::{Grid, GridFault, GridSection};

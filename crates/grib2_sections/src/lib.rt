@@ -8,8 +8,6 @@ mod number;
 mod reading;
 mod refusing;
 mod section;
-#[cfg(test)]
-mod tests;
 
 pub use frame::Frame;
 pub use identification::{Identification, read_identification, write_identification};

@@ -3,8 +3,6 @@
 
 mod mask;
 mod section;
-#[cfg(test)]
-mod tests;
 mod words;
 
 pub use mask::{Mask, Run, ones, write_mask};

@@ -6,8 +6,6 @@
 
 mod field;
 mod sign;
-#[cfg(test)]
-mod tests;
 mod window;
 mod writer;
 

@@ -18,8 +18,6 @@ mod printing;
 mod reading;
 mod serving;
 mod splitting;
-#[cfg(test)]
-mod tests;
 mod writing;
 
 pub use answering::{Answered, answer_message};

@@ -147,30 +147,3 @@ pub enum UnpackFault {
     /// Want of memory.
     Memory,
 }
-
-#[cfg(test)]
-mod tests {
-    use super::*;
-    use std::test::Fail;
-
-    #[test]
-    fn reasons_have_their_numbers(rt: HostRuntime) {
-        let table = [
-            (Reason::Truncated, 1),
-            (Reason::BitmapIndicator, 16),
-            (Reason::DataTooShort, 27),
-            (Reason::ExtraFlags, 37),
-        ];
-        for (reason, number) in table {
-            assert_eq!(rt; reason.number(), number);
-        }
-    }
-
-    #[test]
-    fn reason_prints_its_name(rt: HostRuntime) -> Result<(), Fail> {
-        let reason = Reason::GridTemplate;
-        let printed = format!(in rt.alloc(); "{reason}")?;
-        assert_eq!(rt; printed.as_str(), "GridTemplate");
-        Ok(())
-    }
-}

@@ -33,16 +33,3 @@ impl<T> List<T> {
         self.items.as_slice()
     }
 }
-
-#[cfg(test)]
-mod tests {
-    use super::*;
-    use std::test::Fail;
-
-    #[test]
-    fn list_has_its_items_in_order(rt: HostRuntime) -> Result<(), Fail> {
-        let list = List::of([3u8, 1, 2].to_vec(rt.alloc())?);
-        assert_eq!(rt; list.as_slice(), [3u8, 1, 2].as_slice());
-        Ok(())
-    }
-}

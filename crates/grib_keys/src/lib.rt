@@ -4,8 +4,6 @@
 mod condition;
 mod key;
 pub mod laws;
-#[cfg(test)]
-mod tests;
 
 pub use condition::{Condition, Value};
 pub use key::Key;

@@ -7,15 +7,11 @@ pub mod laws;
 mod numbers;
 mod packed;
 mod packing;
-#[cfg(test)]
-mod packing_tests;
 mod repeated;
 mod representation;
 mod sections;
 mod simple;
 mod survey;
-#[cfg(test)]
-mod tests;
 mod writing;
 mod written;
 
