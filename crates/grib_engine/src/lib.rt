@@ -27,5 +27,6 @@ pub use grib_select::{Condition, Key, Value};
 pub use grib_stream::{Cause, Kept, Outcome, Place, Totals};
 pub use job::{Conditions, Job};
 pub use name::Name;
+pub use performing::Answering;
 pub use reading::Held;
 pub use serving::serve;
