@@ -1,7 +1,8 @@
 //! Expected codes are those of worked messages, or from Python, which cuts the digits of one whole number.
 
+use crate::given::section;
 use byteorder::{BigEndian, ByteOrder};
-use grib_base::{Code, Fault, ReadFault, Reason, Section};
+use grib_base::{Code, Fault, ReadFault, Reason};
 use grib_groups::{Layout, decode_groups, lists_fit};
 use std::alloc::Global;
 use std::process::Abort;
@@ -37,17 +38,13 @@ fn decoded(
     skip: u32,
     count: u32,
 ) -> Result<Vec<Code>, ReadFault> {
+    let section = section(rt, 7, 100, octets);
     assert!(rt; octets.len() >= 5);
     let length = BigEndian::read_u32(octets);
     assert!(rt; length as usize == octets.len());
     assert!(rt; layout.groups >= 1 && layout.reference_bits <= 32 && skip <= 12);
     assert!(rt; layout.width_bits <= 32 && layout.length_bits <= 32);
     assert!(rt; lists_fit(layout, length, skip));
-    let section = Section {
-        number: octets[4],
-        start: 100,
-        octets,
-    };
     decode_groups(alloc, layout, &section, skip, count)
 }
 
