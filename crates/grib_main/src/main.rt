@@ -5,20 +5,13 @@ ghost use Rattle.std.specs.Prelude.{◌≡◌, ◌≢◌};
 ghost use Rattle.std.specs.IoError.{error_kind};
 ghost use Rattle.std.specs.declared.io.ErrorKind.TheVariants.{OutOfMemory};
 
+use grib_cli::run;
 use grib_engine::Outcome;
 use grib_io::{FileShelf, ReadSource, WriteSink};
 use std::process::ExitCode;
 use std::{env, io};
 
-mod running;
-#[cfg(test)]
-mod tests;
-mod words;
-
-pub use running::run;
-pub use words::{JobFault, job_of};
-
-/// The exit status where the words can't be fetched, for another cause than want of memory.
+/// The exit status where the words can't be fetched, for another cause than that there is no memory.
 const NO_WORDS: u8 = 11;
 
 fn main(rt: HostRuntime) -> ExitCode {
