@@ -12,14 +12,10 @@ mod keeping;
 pub mod laws;
 mod packed;
 mod packing;
-#[cfg(test)]
-mod packing_tests;
 mod range;
 mod representation;
 mod runs;
 mod telling;
-#[cfg(test)]
-mod tests;
 mod told_codes;
 mod unpacking;
 mod values;

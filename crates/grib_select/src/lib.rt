@@ -8,8 +8,6 @@ pub mod laws;
 mod matching;
 mod number;
 mod place;
-#[cfg(test)]
-mod tests;
 mod value;
 
 pub use changing::{SetFault, set_keys};
