@@ -10,7 +10,6 @@ ghost use Rattle.grib_select.specs.Values.{HasKeys};
 ghost use Rattle.grib_select.specs.Changed.{with_key, with_changes, with_keys, change_fault, set_fault, IsSetFault};
 
 use crate::number::new_number;
-use crate::place::section_of;
 use crate::value::{key_value, place_in};
 use byteorder::{BigEndian, ByteOrder};
 use grib_base::Section;
@@ -29,7 +28,7 @@ pub enum SetFault {
     /// The template of this field lacks the key; it is the first such field.
     #[error("field {field} has no {key}")]
     KeyAbsent { field: u32, key: Key },
-    /// Want of memory.
+    /// There is no memory.
     #[error("out of memory")]
     Memory,
 }
@@ -163,12 +162,12 @@ fn change_key(section: &mut [u8], number: u8, change: &Condition)
     ensures changed { section.new ≡ with_key change.now number section.old }
     ensures keys { HasKeys number section.new }
 {
-    if section_of(change.key) != number {
+    if change.key.row().section != number {
         return;
     }
     let Some(place) = place_in(section, change.key) else {
         return;
     };
     let raw = new_number(change).unwrap_or(0);
-    BigEndian::write_uint(&mut section[place.first - 1..], raw, place.size);
+    BigEndian::write_uint(&mut section[place.first - 1..], raw, place.count());
 }

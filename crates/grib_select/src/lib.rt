@@ -7,7 +7,6 @@ mod cutting;
 pub mod laws;
 mod matching;
 mod number;
-mod place;
 #[cfg(test)]
 mod tests;
 mod value;
