@@ -7,3 +7,4 @@ pub mod Writing
 pub mod WordNumbers
 pub mod Encoding
 pub mod Counted
+pub mod Listed

@@ -4,3 +4,4 @@ pub mod Plain
 pub mod Binary32
 pub mod Written
 pub mod Encoding
+pub mod Listed

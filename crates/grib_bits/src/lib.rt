@@ -6,6 +6,7 @@
 
 mod copying;
 mod field;
+mod list;
 mod number;
 mod reading;
 mod sign;
@@ -16,6 +17,7 @@ mod writer;
 
 pub use copying::write_octets;
 pub use field::{get_bits, number_in_word};
+pub use list::{read_list, write_list};
 pub use number::{write_number, write_u8, write_u16, write_u32};
 pub use reading::{u8_at, u16_at, u32_at, uint_at};
 pub use sign::{raw_of, signed_of};

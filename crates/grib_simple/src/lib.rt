@@ -20,4 +20,4 @@ pub use grib_packing::{
     room_for, write_head, write_numbers,
 };
 pub use numbers::{masked_points, unpack_numbers, unpack_points};
-pub use simple::SimplePacking;
+pub use simple::{SimplePacking, check_simple, is_too_short, unpack_simple};
