@@ -21,7 +21,7 @@ use Rattle.grib_keys.specs.declared.condition.Condition.{Condition}
 use Rattle.grib_keys.specs.Keys.{row_of}
 use Rattle.grib_keys.specs.declared.table.Octets.{Octets}
 use Rattle.grib_select.specs.Values.{template_of, octet_count, HasKeys, IsWithin}
-use Rattle.grib_select.specs.Changed.{new_number, put, put_number, with_key, with_changes, changed}
+use Rattle.grib_select.specs.Changed.{new_number, put_number, with_key, with_changes, changed}
 use Rattle.grib_select.proofs.Changes.{with_key_here}
 use Rattle.grib_select.proofs.Within.{has_keys, identification_within, grid_within, product_within, packing_within}
 

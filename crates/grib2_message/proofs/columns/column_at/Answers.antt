@@ -1,4 +1,4 @@
-use Rattle.std.proofs.Common.{◌≡◌, length, None, sym, ap, ◌∙◌, arith}
+use Rattle.std.proofs.Common.{◌≡◌, length, None, ap, ◌∙◌, arith}
 use Rattle.grib_base.specs.Rows.{located}
 use Rattle.grib_packing.specs.Entries.{data_fault, column_from}
 use Rattle.grib2_message.specs.View.{octets_in_force}

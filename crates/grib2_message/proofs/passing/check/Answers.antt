@@ -1,4 +1,4 @@
-use Rattle.std.proofs.Common.{◌≡◌, ℕ, sym, ap, ◌∙◌, subst, arith}
+use Rattle.std.proofs.Common.{ℕ, sym, ap, ◌∙◌, arith}
 use Rattle.std.proofs.lemmas.Result.{err_from_is_err_and}
 use Rattle.grib_base.specs.Rows.{located}
 use Rattle.grib_packing.specs.Entries.{packing_fault}
@@ -31,9 +31,10 @@ returns-then-section-eq5 c = λ before h comes fields.
     let below = comes_below m before section.number section.start s comes (omega (arith, c.if-section-eq5.true)) in
     let points = c.points.ensures before h (omega (arith, below, c.if-section-eq5.true)) in
     let is = fault_by_number m before section.number section.start s comes 5 c.if-section-eq5.true ∙ ap (λ (n : ℕ). located section.start (packing_fault s n)) (sym points) in
-    let read = c.in_ok-representation.ensures in
-    (is ∙ ap (located section.start) read.0,
-    representation_read m before section.number section.start s comes c.in_ok-representation.representation c.if-section-eq5.true read.1)
+    let read = c.in_ok-representation.ensures in (
+      is ∙ ap (located section.start) read.0,
+      representation_read m before section.number section.start s comes c.in_ok-representation.representation c.if-section-eq5.true read.1,
+    )
 
 pub returns-in_err-check_other : goal.returns-in_err-check_other
 returns-in_err-check_other c = λ before h comes fields.
@@ -42,6 +43,7 @@ returns-in_err-check_other c = λ before h comes fields.
 
 pub returns : goal.returns
 returns c = λ before h comes fields.
-    let section = c.args.section.now in
-    (c.in_ok-check_other.ensures before h comes fields,
-    representation_kept c.args.octets.now before section.number section.start section.octets.now comes c.args.places.now h c.if-section-eq5.false)
+    let section = c.args.section.now in (
+      c.in_ok-check_other.ensures before h comes fields,
+      representation_kept c.args.octets.now before section.number section.start section.octets.now comes c.args.places.now h c.if-section-eq5.false,
+    )

@@ -2,7 +2,7 @@ use Rattle.std.proofs.Common.{◌≡◌, ℕ, Option, Some, None, List, length, 
 use Rattle.std.specs.Prelude.{IfSome}
 use Rattle.grib_keys.specs.declared.key.Key.{Key}
 use Rattle.grib_keys.specs.declared.table.Octets.{Octets}
-use Rattle.grib_keys.specs.Keys.{octets_by, row_of}
+use Rattle.grib_keys.specs.Keys.{row_of}
 use Rattle.grib_select.specs.Values.{template_of, octet_count, HasKeys, IsWithin}
 use Rattle.grib_select.specs.Changed.{key_octets}
 use Rattle.grib_select.proofs.Changes.{shape_tells}
@@ -21,8 +21,8 @@ sized key s (Some p) is = (shape_tells key (template_of (row_of key).section s) 
 
 pub returns-clause-place : goal.returns-clause-place
 returns-clause-place c =
-    c.octets.ensures ∙ c.row.ensures.place c.template_of.result
-    ∙ ap (row_of c.args.key).place (c.template_of.ensures ∙ ap (λ (n : ℕ). template_of n c.args.section.now) c.row.ensures.section)
+    c.octets.ensures ∙ c.row-row.ensures.place c.template_of.result
+    ∙ ap (row_of c.args.key).place (c.template_of.ensures ∙ ap (λ (n : ℕ). template_of n c.args.section.now) c.row-row.ensures.section)
 
 pub returns-clause-within : goal.returns-clause-within
 returns-clause-within c = within c.args.key c.args.section.now c.octets.result c.requires (returns-clause-place c)
