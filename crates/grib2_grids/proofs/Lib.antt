@@ -1,8 +1,8 @@
-pub mod Entries
 pub mod Lists
-pub mod Parts
 pub mod Passing
 pub mod Readable
 pub mod Rebuilt
+pub mod ByTemplate
 pub mod Unique
 pub mod Variants
+pub mod Writable

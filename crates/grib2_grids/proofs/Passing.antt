@@ -1,56 +1,68 @@
--- Rows that all pass, and what their tests tell.
-use Rattle.std.proofs.Common.{◌≡◌, ℕ, ◌<◌, ◌≤◌, Bool, true, false, not, cond, ◌&&◌, ◌||◌, eqb, nat_lt, List, [], ◌∷◌, refl, arith}
-use Rattle.std.specs.Prelude.{Option, Some, None}
+-- What the tests of the rows say of the numbers.
+use Rattle.std.proofs.Common.{◌≡◌, ℕ, ◌+◌, ◌<◌, ◌≤◌, Bool, true, false, not, ◌&&◌, ◌||◌, ◌⊎◌, eqb, nat_lt, refl, ap, ap₂, ◌∙◌, arith, inl, inr, le-ltb, ltb-false, eqb-true, eq-eqb, ne_eqb}
+use Rattle.std.proofs.lemmas.Bool.{cases_lt}
 use Rattle.std.proofs.lemmas.Bool.Decides.{nat_tests}
-use Rattle.grib_base.specs.declared.fault.Fault.{Fault}
-use Rattle.grib_base.specs.Rows.{Row, first_fault}
+use Rattle.grib2_grids.specs.Grid.{may_have_list}
 
--- no row fails
-abbrev pub AllPass : List Row → Type 0
-AllPass [] = Unit {0}
-AllPass (r ∷ rows) = (r.fails ≡ false) × AllPass rows
+-- ---- a row on sections with a list alone
 
-passes : (b : Bool) (x : Fault) (rest : Option Fault) → cond b (Some x) rest ≡ None → (b ≡ false) × (rest ≡ None)
-passes true x rest h = cc
-passes false x rest h = (refl, h)
-
-pub AllPass-from_none : (rows : List Row) → first_fault rows ≡ None → AllPass rows
-AllPass-from_none [] h = tt
-AllPass-from_none (r ∷ rows) h =
-    let both = passes r.fails r.fault (first_fault rows) h in
-    (both.0, AllPass-from_none rows both.1)
-
-skip : (b : Bool) (x : Fault) (rest : Option Fault) → b ≡ false → rest ≡ None → cond b (Some x) rest ≡ None
-skip true x rest h last = cc
-skip false x rest h last = last
-
-pub none_from-AllPass : (rows : List Row) → AllPass rows → first_fault rows ≡ None
-none_from-AllPass [] h = refl
-none_from-AllPass (r ∷ rows) h = skip r.fails r.fault (first_fault rows) h.0 (none_from-AllPass rows h.1)
-
--- ---- tests of numbers
-
-pub le-from_test : (a b : ℕ) → nat_lt a b ≡ false → b ≤ a
-le-from_test a b h = grind (arith, nat_tests)
-
-pub test-from_le : (a b : ℕ) → b ≤ a → nat_lt a b ≡ false
-test-from_le a b h = grind (arith, nat_tests)
-
-pub at_most : (size : ℕ) (b : Bool) → (nat_lt 4 size || b) ≡ false → size ≤ 4
-at_most size b h = grind (arith, nat_tests)
-
--- a row on sections with a list alone
 pub listed_test : (size : ℕ) (b : Bool) → (not (eqb size 0) && b) ≡ false → 0 < size → b ≡ false
 listed_test size b h some = grind (arith, nat_tests)
 
 pub test_listed : (size : ℕ) (b : Bool) → (0 < size → b ≡ false) → (not (eqb size 0) && b) ≡ false
 test_listed size b h = grind (arith, nat_tests)
 
--- the second of two tests
-pub or_right : (a b : Bool) → (a || b) ≡ false → b ≡ false
-or_right true b h = cc
-or_right false b h = h
+-- and on those without one
+pub plain_test : (size : ℕ) (b : Bool) → (not (not (eqb size 0)) && b) ≡ false → size ≡ 0 → b ≡ false
+plain_test size b h none = grind (arith, nat_tests)
+
+pub test_plain : (size : ℕ) (b : Bool) → (size ≡ 0 → b ≡ false) → (not (not (eqb size 0)) && b) ≡ false
+test_plain size b h = grind (arith, nat_tests)
 
 pub not_false : (b : Bool) → not b ≡ false → b ≡ true
 not_false true h = refl
 not_false false h = cc
+
+-- ---- the tests of each row, and back
+
+pub points_test : (n : ℕ) → (eqb n 0 || nat_lt 33554432 n) ≡ false → (1 ≤ n) × (n ≤ 33554432)
+points_test n h = (grind (arith, nat_tests), grind (arith, nat_tests))
+
+pub test_points : (n : ℕ) → 1 ≤ n → n ≤ 33554432 → (eqb n 0 || nat_lt 33554432 n) ≡ false
+test_points n some few = grind (arith, nat_tests)
+
+pub meaning_test : (size n : ℕ) → (not (eqb size 0) && not (eqb n 1) && not (eqb n 2)) ≡ false → 0 < size → (n ≡ 1) ⊎ (n ≡ 2)
+meaning_test size n h some = grind (arith, nat_tests)
+
+test_one : (size n : ℕ) → n ≡ 1 → (not (eqb size 0) && not (eqb n 1) && not (eqb n 2)) ≡ false
+test_one size n e = grind (arith, nat_tests)
+
+test_two : (size n : ℕ) → n ≡ 2 → (not (eqb size 0) && not (eqb n 1) && not (eqb n 2)) ≡ false
+test_two size n e = grind (arith, nat_tests)
+
+test_no_list : (size n : ℕ) → size ≡ 0 → (not (eqb size 0) && not (eqb n 1) && not (eqb n 2)) ≡ false
+test_no_list size n e = grind (arith, nat_tests)
+
+pub test_meaning : (size n : ℕ) → (0 < size → (n ≡ 1) ⊎ (n ≡ 2)) → (not (eqb size 0) && not (eqb n 1) && not (eqb n 2)) ≡ false
+test_meaning size n h = elim (cases_lt 0 size) [
+  | inl some ↦ elim (h some) [ inl e ↦ test_one size n e | inr e ↦ test_two size n e ]
+  | inr none ↦ test_no_list size n (omega arith)
+]
+
+pub octets_test : (size : ℕ) (b : Bool) → (nat_lt 4 size || (not (eqb size 0) && not b)) ≡ false → (size ≤ 4) × (0 < size → b ≡ true)
+octets_test size b h = (grind (arith, nat_tests), λ some. grind (arith, nat_tests))
+
+pub test_octets : (size : ℕ) (b : Bool) → size ≤ 4 → (0 < size → b ≡ true) → (nat_lt 4 size || (not (eqb size 0) && not b)) ≡ false
+test_octets size b word h = grind (arith, nat_tests)
+
+pub count_test : (n : ℕ) → (eqb n 0 || eqb n 4294967295) ≡ false → n < 4294967296 → (1 ≤ n) × (n < 4294967295)
+count_test n h fits = (grind (arith, nat_tests), grind (arith, nat_tests))
+
+pub test_count : (n : ℕ) → 1 ≤ n → n < 4294967295 → (eqb n 0 || eqb n 4294967295) ≡ false
+test_count n some known = grind (arith, nat_tests)
+
+pub same_test : (a b : ℕ) → not (eqb a b) ≡ false → a ≡ b
+same_test a b h = grind (arith, nat_tests)
+
+pub test_same : (a b : ℕ) → a ≡ b → not (eqb a b) ≡ false
+test_same a b e = grind (arith, nat_tests)

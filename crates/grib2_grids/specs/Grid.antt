@@ -1,8 +1,9 @@
 -- Section 3, the grid definition section (WMO-No. 306, Volume I.2, FM 92 GRIB edition 2, grid definition
 -- templates 3.0, 3.1, 3.10, 3.20, 3.30 and 3.40).
-use Rattle.std.specs.Prelude.{ℕ, ◌+◌, ◌-◌, ◌*◌, ◌/◌, min, Bool, not, cond, ◌&&◌, ◌||◌, List, [], ◌∷◌, length, map, nat_lt, ◌==◌, sum}
-use Rattle.std.specs.List.{list_any, range_with_len}
+use Rattle.std.specs.Prelude.{ℕ, ◌+◌, ◌-◌, ◌*◌, ◌/◌, min, Bool, not, cond, ◌&&◌, ◌||◌, List, [], ◌∷◌, length, nat_lt, ◌==◌, sum}
+use Rattle.std.specs.List.{list_any}
 use Rattle.grib_bits.specs.Octets.{octets}
+use Rattle.grib_bits.specs.Listed.{numbers_at}
 use Rattle.grib_base.specs.declared.fault.Reason.TheVariants.{SectionLength, GridSource, GridTemplate, PointCount, ListShape}
 use Rattle.grib_base.specs.Rows.{Row, row}
 use Rattle.grib2_sections.specs.Template.{Template, template, is_template, least_length}
@@ -43,7 +44,7 @@ row_list s =
     let size = list_octets s in
     let f = list_start s in
     let stand = (length s + 1 - f) / size in
-    map (λ j. octets s (f + j * size) (f + j * size + size - 1)) (range_with_len 0 (cond (size == 0) 0 (min (nj s) stand)))
+    numbers_at s f size (cond (size == 0) 0 (min (nj s) stand))
 
 -- whether the template may have a list of rows
 abbrev pub may_have_list : ℕ → Bool

@@ -5,6 +5,7 @@ use Rattle.grib_bits.specs.Octets.{octets, StatesItself}
 use Rattle.grib_base.specs.Rows.{first_fault}
 use Rattle.grib2_sections.specs.Template.{least_length}
 use Rattle.grib2_grids.specs.Grid.{grid_templates, grid_rows, row_list}
+use Rattle.grib2_grids.specs.declared.templates.Common.{Common}
 use Rattle.grib2_grids.specs.declared.templates.LatLon.{LatLon}
 use Rattle.grib2_grids.specs.declared.templates.Rotation.{Rotation}
 use Rattle.grib2_grids.specs.declared.templates.Mercator.{Mercator}
@@ -15,21 +16,61 @@ use Rattle.grib2_grids.specs.declared.grid.Grid.{Grid}
 use Rattle.grib2_grids.specs.declared.grid.Grid.TheVariants as grid
 use Rattle.grib2_grids.specs.declared.grid.GridSection.{GridSection}
 
--- what all six templates share
-pub record SpelledCommon (shape radius_scale radius major_scale major minor_scale minor ni nj : ℕ) (s : List ℕ) : Type 0 where
-  pub shape_octets : shape ≡ octets s 15 15
-  pub radius_scale_octets : radius_scale ≡ octets s 16 16
-  pub radius_octets : radius ≡ octets s 17 20
-  pub major_scale_octets : major_scale ≡ octets s 21 21
-  pub major_octets : major ≡ octets s 22 25
-  pub minor_scale_octets : minor_scale ≡ octets s 26 26
-  pub minor_octets : minor ≡ octets s 27 30
-  pub ni_octets : ni ≡ octets s 31 34
-  pub nj_octets : nj ≡ octets s 35 38
+-- octets 15-38, which all six templates share
+pub record SpelledCommon (v : Common) (s : List ℕ) : Type 0 where
+  pub shape : v.shape ≡ octets s 15 15
+  pub radius_scale : v.radius_scale ≡ octets s 16 16
+  pub radius : v.radius ≡ octets s 17 20
+  pub major_scale : v.major_scale ≡ octets s 21 21
+  pub major : v.major ≡ octets s 22 25
+  pub minor_scale : v.minor_scale ≡ octets s 26 26
+  pub minor : v.minor ≡ octets s 27 30
+  pub ni : v.ni ≡ octets s 31 34
+  pub nj : v.nj ≡ octets s 35 38
+
+-- The numbers of a template at these octets.
+abbrev pub lat_lon_common : LatLon → Common
+lat_lon_common v = record {
+  shape = v.shape;
+  radius_scale = v.radius_scale;
+  radius = v.radius;
+  major_scale = v.major_scale;
+  major = v.major;
+  minor_scale = v.minor_scale;
+  minor = v.minor;
+  ni = v.ni;
+  nj = v.nj;
+}
+
+abbrev pub mercator_common : Mercator → Common
+mercator_common v = record {
+  shape = v.shape;
+  radius_scale = v.radius_scale;
+  radius = v.radius;
+  major_scale = v.major_scale;
+  major = v.major;
+  minor_scale = v.minor_scale;
+  minor = v.minor;
+  ni = v.ni;
+  nj = v.nj;
+}
+
+abbrev pub polar_common : Polar → Common
+polar_common v = record {
+  shape = v.shape;
+  radius_scale = v.radius_scale;
+  radius = v.radius;
+  major_scale = v.major_scale;
+  major = v.major;
+  minor_scale = v.minor_scale;
+  minor = v.minor;
+  ni = v.ni;
+  nj = v.nj;
+}
 
 -- template 3.0, latitude and longitude
 pub record SpelledLatLon (v : LatLon) (s : List ℕ) : Type 0 where
-  pub common : SpelledCommon v.shape v.radius_scale v.radius v.major_scale v.major v.minor_scale v.minor v.ni v.nj s
+  pub common : SpelledCommon (lat_lon_common v) s
   pub basic : v.basic ≡ octets s 39 42
   pub subdivisions : v.subdivisions ≡ octets s 43 46
   pub la1 : v.la1 ≡ octets s 47 50
@@ -49,7 +90,7 @@ pub record SpelledRotation (v : Rotation) (s : List ℕ) : Type 0 where
 
 -- template 3.10, Mercator
 pub record SpelledMercator (v : Mercator) (s : List ℕ) : Type 0 where
-  pub common : SpelledCommon v.shape v.radius_scale v.radius v.major_scale v.major v.minor_scale v.minor v.ni v.nj s
+  pub common : SpelledCommon (mercator_common v) s
   pub la1 : v.la1 ≡ octets s 39 42
   pub lo1 : v.lo1 ≡ octets s 43 46
   pub flags : v.flags ≡ octets s 47 47
@@ -63,7 +104,7 @@ pub record SpelledMercator (v : Mercator) (s : List ℕ) : Type 0 where
 
 -- template 3.20, polar stereographic
 pub record SpelledPolar (v : Polar) (s : List ℕ) : Type 0 where
-  pub common : SpelledCommon v.shape v.radius_scale v.radius v.major_scale v.major v.minor_scale v.minor v.ni v.nj s
+  pub common : SpelledCommon (polar_common v) s
   pub la1 : v.la1 ≡ octets s 39 42
   pub lo1 : v.lo1 ≡ octets s 43 46
   pub flags : v.flags ≡ octets s 47 47
@@ -74,36 +115,59 @@ pub record SpelledPolar (v : Polar) (s : List ℕ) : Type 0 where
   pub centre : v.centre ≡ octets s 64 64
   pub scanning : v.scanning ≡ octets s 65 65
 
--- template 3.30, Lambert conformal
+-- template 3.30, Lambert conformal, begins with the octets of template 3.20
+abbrev pub lambert_polar : Lambert → Polar
+lambert_polar v = record {
+  shape = v.shape;
+  radius_scale = v.radius_scale;
+  radius = v.radius;
+  major_scale = v.major_scale;
+  major = v.major;
+  minor_scale = v.minor_scale;
+  minor = v.minor;
+  ni = v.ni;
+  nj = v.nj;
+  la1 = v.la1;
+  lo1 = v.lo1;
+  flags = v.flags;
+  lad = v.lad;
+  lov = v.lov;
+  dx = v.dx;
+  dy = v.dy;
+  centre = v.centre;
+  scanning = v.scanning;
+}
+
 pub record SpelledLambert (v : Lambert) (s : List ℕ) : Type 0 where
-  pub common : SpelledCommon v.shape v.radius_scale v.radius v.major_scale v.major v.minor_scale v.minor v.ni v.nj s
-  pub la1 : v.la1 ≡ octets s 39 42
-  pub lo1 : v.lo1 ≡ octets s 43 46
-  pub flags : v.flags ≡ octets s 47 47
-  pub lad : v.lad ≡ octets s 48 51
-  pub lov : v.lov ≡ octets s 52 55
-  pub dx : v.dx ≡ octets s 56 59
-  pub dy : v.dy ≡ octets s 60 63
-  pub centre : v.centre ≡ octets s 64 64
-  pub scanning : v.scanning ≡ octets s 65 65
+  pub polar : SpelledPolar (lambert_polar v) s
   pub latin1 : v.latin1 ≡ octets s 66 69
   pub latin2 : v.latin2 ≡ octets s 70 73
   pub pole_la : v.pole_la ≡ octets s 74 77
   pub pole_lo : v.pole_lo ≡ octets s 78 81
 
--- template 3.40, Gaussian latitude and longitude
-pub record SpelledGaussian (v : Gaussian) (s : List ℕ) : Type 0 where
-  pub common : SpelledCommon v.shape v.radius_scale v.radius v.major_scale v.major v.minor_scale v.minor v.ni v.nj s
-  pub basic : v.basic ≡ octets s 39 42
-  pub subdivisions : v.subdivisions ≡ octets s 43 46
-  pub la1 : v.la1 ≡ octets s 47 50
-  pub lo1 : v.lo1 ≡ octets s 51 54
-  pub flags : v.flags ≡ octets s 55 55
-  pub la2 : v.la2 ≡ octets s 56 59
-  pub lo2 : v.lo2 ≡ octets s 60 63
-  pub di : v.di ≡ octets s 64 67
-  pub n : v.n ≡ octets s 68 71
-  pub scanning : v.scanning ≡ octets s 72 72
+-- template 3.40, Gaussian latitude and longitude, is template 3.0 with n in place of dj
+abbrev pub gaussian_lat_lon : Gaussian → LatLon
+gaussian_lat_lon v = record {
+  shape = v.shape;
+  radius_scale = v.radius_scale;
+  radius = v.radius;
+  major_scale = v.major_scale;
+  major = v.major;
+  minor_scale = v.minor_scale;
+  minor = v.minor;
+  ni = v.ni;
+  nj = v.nj;
+  basic = v.basic;
+  subdivisions = v.subdivisions;
+  la1 = v.la1;
+  lo1 = v.lo1;
+  flags = v.flags;
+  la2 = v.la2;
+  lo2 = v.lo2;
+  di = v.di;
+  dj = v.n;
+  scanning = v.scanning;
+}
 
 -- the number of a grid's template
 abbrev pub template_of : Grid → ℕ
@@ -114,6 +178,15 @@ template_of (grid.Polar v) = 20
 template_of (grid.Lambert v) = 30
 template_of (grid.Gaussian v) = 40
 
+-- the numbers that all templates share
+abbrev pub common_of : Grid → Common
+common_of (grid.LatLon v) = lat_lon_common v
+common_of (grid.Rotated v r) = lat_lon_common v
+common_of (grid.Mercator v) = mercator_common v
+common_of (grid.Polar v) = polar_common v
+common_of (grid.Lambert v) = polar_common (lambert_polar v)
+common_of (grid.Gaussian v) = lat_lon_common (gaussian_lat_lon v)
+
 -- the octets of a grid's template
 abbrev pub SpelledTemplate : Grid → List ℕ → Type 0
 SpelledTemplate (grid.LatLon v) s = SpelledLatLon v s
@@ -121,7 +194,7 @@ SpelledTemplate (grid.Rotated v r) s = SpelledLatLon v s × SpelledRotation r s
 SpelledTemplate (grid.Mercator v) s = SpelledMercator v s
 SpelledTemplate (grid.Polar v) s = SpelledPolar v s
 SpelledTemplate (grid.Lambert v) s = SpelledLambert v s
-SpelledTemplate (grid.Gaussian v) s = SpelledGaussian v s
+SpelledTemplate (grid.Gaussian v) s = SpelledLatLon (gaussian_lat_lon v) s
 
 -- the value has the numbers of the section; octet 6 says that the grid is that of octets 13-14
 pub record Spelled (value : GridSection) (s : List ℕ) : Type 0 where

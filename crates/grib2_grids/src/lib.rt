@@ -4,11 +4,8 @@
 mod grid;
 pub mod laws;
 mod reading;
-mod row_list;
 mod rows;
 mod templates;
-#[cfg(test)]
-mod tests;
 mod writing;
 
 pub use grib_base::ReadFault as GridFault;

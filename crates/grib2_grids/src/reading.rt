@@ -1,20 +1,19 @@
 //! Reading Section 3.
 
-ghost use Rattle.std.specs.Prelude.{◌≡◌, ◌≢◌, ◌≤◌, length, Some, None, Err, MatchResult};
+ghost use Rattle.std.specs.Prelude.{◌≡◌, ◌≢◌, ◌^◌, ◌<◌, ◌≤◌, length, vec_len, Some, None, Err, MatchResult, IfOk, IsOk};
 ghost use Rattle.grib_bits.specs.Octets.{octets as octets_of};
 ghost use Rattle.grib_base.specs.Rows.{first_fault_at};
-ghost use Rattle.grib2_grids.specs.Grid.{grid_rows, list_octets};
-ghost use Rattle.grib2_grids.specs.Whole.{IsWhole};
+ghost use Rattle.grib2_grids.specs.Grid.{grid_rows, list_octets, row_list};
+ghost use Rattle.grib2_grids.specs.Whole.{IsWhole, HasList};
 ghost use Rattle.grib_base.specs.Faults.{IsReadFault};
-ghost use Rattle.grib2_grids.specs.Spelled.{Spelled, SpelledTemplate, template_of, SpelledCommon, SpelledLatLon, SpelledRotation, SpelledMercator, SpelledPolar, SpelledLambert, SpelledGaussian};
+ghost use Rattle.grib2_grids.specs.Spelled.{Spelled, SpelledTemplate, template_of, SpelledCommon, SpelledLatLon, SpelledRotation, SpelledMercator, SpelledPolar, SpelledLambert, gaussian_lat_lon};
 
-use crate::row_list::read_list;
-use crate::rows::{check_head, check_list, check_points};
+use crate::rows::{check_head, check_list, check_points, list_start};
 use crate::templates::{Common, template};
 use crate::{Gaussian, Grid, GridSection, Lambert, LatLon, Mercator, Polar, Rotation};
 use grib_base::{List, ReadFault, Section};
-use grib_bits::{u8_at, u16_at, u32_at};
-use std::alloc::Global;
+use grib_bits::{read_list, u8_at, u16_at, u32_at};
+use std::alloc::{AllocError, Global};
 
 /// Reads Section 3.
 ///
@@ -33,7 +32,7 @@ pub fn read_grid(alloc: Global, section: &Section<'_>) -> Result<GridSection, Re
     let octets = section.octets;
     check_head(section)?;
     check_list(section)?;
-    let rows = read_list(alloc, octets)?;
+    let rows = read_rows(alloc, octets)?;
     check_points(section, rows.as_slice())?;
     Ok(GridSection {
         points: u32_at(octets, 7),
@@ -42,6 +41,28 @@ pub fn read_grid(alloc: Global, section: &Section<'_>) -> Result<GridSection, Re
         rows: List::of(rows),
         grid: read_template(octets),
     })
+}
+
+/// The list of rows, empty where octet 11 is 0.
+fn read_rows(alloc: Global, octets: &[u8]) -> Result<Vec<u32>, AllocError>
+    requires long { 65 ≤ length octets.now }
+    requires list { HasList octets.now }
+    ensures rows { IfOk result (λ rows. rows.items ≡ row_list octets.now) }
+    ensures few { IfOk result (λ rows. vec_len rows < 2 ^ 32) }
+    ensures memory { list_octets octets.now ≡ 0 → IsOk result }
+{
+    let size = u8_at(octets, 11);
+    if size == 0 {
+        return Ok(Vec::new(alloc));
+    }
+    let first = list_start(u16_at(octets, 13));
+    read_list(
+        alloc,
+        octets,
+        first,
+        usize::from(size),
+        u32_at(octets, 35) as usize,
+    )
 }
 
 /// The template, by its number in octets 13-14.
@@ -63,8 +84,7 @@ fn read_template(octets: &[u8]) -> Grid
 /// Octets 15 to 38, which all templates share.
 fn read_common(octets: &[u8]) -> Common
     requires { 38 ≤ length octets.now }
-    ensures { SpelledCommon result.shape result.radius_scale result.radius result.major_scale
-        result.major result.minor_scale result.minor result.ni result.nj octets.now }
+    ensures { SpelledCommon result octets.now }
 {
     Common {
         shape: u8_at(octets, 15),
@@ -150,7 +170,7 @@ fn read_polar(octets: &[u8]) -> Polar
     })
 }
 
-/// Template 3.30.
+/// Template 3.30: the octets of template 3.20, and its own.
 fn read_lambert(octets: &[u8]) -> Lambert
     requires { 81 ≤ length octets.now }
     ensures { SpelledLambert result octets.now }
@@ -173,10 +193,10 @@ fn read_lambert(octets: &[u8]) -> Lambert
     })
 }
 
-/// Template 3.40.
+/// Template 3.40: template 3.0 with n in place of dj.
 fn read_gaussian(octets: &[u8]) -> Gaussian
     requires { 72 ≤ length octets.now }
-    ensures { SpelledGaussian result octets.now }
+    ensures { SpelledLatLon (gaussian_lat_lon result) octets.now }
 {
     let lat_lon = read_lat_lon(octets);
     template!(Gaussian, lat_lon, {

@@ -1,32 +1,35 @@
 //! Writing Section 3.
 
-ghost use Rattle.std.specs.Prelude.{◌≡◌, ℕ, ◌*◌, ◌%◌, ◌^◌, ◌<◌, ◌≤◌, List, ◌++◌, length, slice_index};
+ghost use Rattle.std.specs.Prelude.{◌≡◌, ℕ, ◌*◌, ◌%◌, ◌≤◌, List, ◌++◌, length};
 ghost use Rattle.grib_bits.specs.Encoding.{AddsOctets};
 ghost use Rattle.grib2_grids.specs.declared.templates.LatLon.{LatLon};
 ghost use Rattle.grib2_sections.specs.Template.{least_length};
 ghost use Rattle.grib2_grids.specs.Grid.{grid_templates};
-ghost use Rattle.grib2_grids.specs.Spelled.{IsSectionOf, written_length, template_of, SpelledTemplate, SpelledCommon, SpelledLatLon, SpelledRotation, SpelledMercator, SpelledPolar, SpelledLambert, SpelledGaussian};
-ghost use Rattle.grib2_grids.specs.Written.{header, SpelledHeader, template_octets, entry_octets, common_octets, lat_lon_octets, rotation_octets, mercator_octets, polar_octets, lambert_octets, gaussian_lat_lon};
+ghost use Rattle.grib2_grids.specs.Spelled.{IsSectionOf, written_length, template_of, SpelledTemplate, SpelledCommon, SpelledLatLon, SpelledRotation, SpelledMercator, SpelledPolar, SpelledLambert, gaussian_lat_lon};
+ghost use Rattle.grib2_grids.specs.Writable.{IsWritable};
+ghost use Rattle.grib2_grids.specs.Written.{header, SpelledHeader, section_of_grid, template_octets, common_octets, lat_lon_octets, rotation_octets, mercator_octets, polar_octets, lambert_octets};
 
 use crate::templates::{Common, common_of, template};
 use crate::{Gaussian, Grid, GridSection, Lambert, LatLon, Mercator, Polar, Rotation};
-use grib_bits::{BitWriter, write_number, write_u8, write_u16, write_u32};
+use grib_bits::{BitWriter, write_list, write_u8, write_u16, write_u32};
 
-/// Writes Section 3 without surplus, as the value was read, so that reading the octets gives the
-/// value again. The writer has the memory already.
+/// Writes Section 3 without surplus. Reading the octets gives the value again. What `read_grid` answers
+/// can be written, and so can each other value that has the same shape. The writer has the memory already.
 pub fn write_grid(value: &GridSection, out: &mut BitWriter)
     requires whole { length out.old.bits % 8 ≡ 0 }
-    requires readable { (section : List ℕ) × IsSectionOf value.now section }
+    requires writable { IsWritable value.now }
     requires room { 8 * written_length value.now ≤ out.old.spare }
-    ensures { (section : List ℕ) × IsSectionOf value.now section
-        × (length section ≡ written_length value.now) × AddsOctets out.old out.new section }
+    ensures section { IsSectionOf value.now (section_of_grid value.now) }
+    ensures length { length (section_of_grid value.now) ≡ written_length value.now }
+    ensures octets { AddsOctets out.old out.new (section_of_grid value.now) }
+    ensures whole { length out.new.bits % 8 ≡ 0 }
 {
     let rows = value.rows.as_slice();
     let size = u32::from(value.list_octets);
     let length = template_length(&value.grid) + size * rows.len() as u32;
     write_header(length, value, out);
     write_template(&value.grid, out);
-    write_rows(rows, size, out);
+    write_list(rows, size, out);
 }
 
 /// The least length of a section with this template, in octets.
@@ -73,29 +76,13 @@ fn write_header(length: u32, value: &GridSection, out: &mut BitWriter)
     write_u16(template_number(&value.grid), out);
 }
 
-/// The list of rows, with `size` octets for each.
-fn write_rows(rows: &[u32], size: u32, out: &mut BitWriter)
-    requires word { size ≤ 4 }
-    requires fit { (k : ℕ) → k < length rows.now → slice_index rows.now k < 256 ^ size }
-    requires room { 8 * (size * length rows.now) ≤ out.old.spare }
-    ensures { AddsOctets out.old out.new (entry_octets size rows.now) }
-{
-    for row in rows {
-        write_number(u64::from(*row), size, out);
-    }
-}
-
 /// Octets 15 to 38, which all templates share.
 fn write_common(value: Common, out: &mut BitWriter)
     requires { 192 ≤ out.old.spare }
-    ensures octets { AddsOctets out.old out.new (common_octets value.shape value.radius_scale
-        value.radius value.major_scale value.major value.minor_scale value.minor value.ni value.nj) }
+    ensures octets { AddsOctets out.old out.new (common_octets value) }
     ensures spelled { (l points list_octets list_meaning template : ℕ) (rest : List ℕ)
-        → SpelledCommon value.shape value.radius_scale value.radius value.major_scale value.major
-        value.minor_scale value.minor value.ni value.nj
-        (header l points list_octets list_meaning template ++ common_octets value.shape
-        value.radius_scale value.radius value.major_scale value.major value.minor_scale value.minor
-        value.ni value.nj ++ rest) }
+        → SpelledCommon value (header l points list_octets list_meaning template
+        ++ common_octets value ++ rest) }
 {
     write_u8(value.shape, out);
     write_u8(value.radius_scale, out);
@@ -214,7 +201,7 @@ fn write_gaussian(value: &Gaussian, out: &mut BitWriter)
     requires { 464 ≤ out.old.spare }
     ensures octets { AddsOctets out.old out.new (lat_lon_octets (gaussian_lat_lon value.now)) }
     ensures spelled { (l points list_octets list_meaning template : ℕ) (rest : List ℕ)
-        → SpelledGaussian value.now (header l points list_octets list_meaning template
+        → SpelledLatLon (gaussian_lat_lon value.now) (header l points list_octets list_meaning template
         ++ lat_lon_octets (gaussian_lat_lon value.now) ++ rest) }
 {
     let lat_lon = template!(LatLon, value, {

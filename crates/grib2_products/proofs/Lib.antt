@@ -1,5 +1,5 @@
+pub mod ByTemplate
 pub mod Ranges
-pub mod Passing
 pub mod Readable
 pub mod Rebuilt
 pub mod Unique

@@ -1,57 +1,12 @@
--- Lemmas on numbers and time ranges that stand one after another.
+-- Lemmas on time ranges that stand one after another.
 use Rattle.std.proofs.Common.{◌≡◌, ℕ, zero, suc, ◌+◌, ◌-◌, ◌*◌, ◌^◌, ◌<◌, ◌≤◌, List, [], ◌∷◌, ◌++◌, length, map, take, drop, get_or, refl, sym, ap, ap₂, ◌∙◌, arith, append_assoc, subst}
 use Rattle.std.proofs.lemmas.List.{length-append, take_more, drop_at, drop-drop}
-use Rattle.std.proofs.lemmas.List.FromFn.{map-range_with_len_more, get_or-map-range_with_len}
-use Rattle.std.specs.List.{range_with_len}
+use Rattle.std.proofs.lemmas.List.FromFn.{fill_by_all}
 use Rattle.grib_bits.specs.Octets.{num_on, octets}
-use Rattle.grib_bits.proofs.OctetBits.{AreOctets}
-use Rattle.grib_bits.proofs.OctetNumbers.{octets-lt}
-use Rattle.grib_bits.specs.Encoding.{octets_of}
-use Rattle.grib_bits.proofs.Encoding.{octets-within, num_on-octets_of}
-use Rattle.grib2_products.specs.Spelled.{spec_at}
-use Rattle.grib2_products.specs.Written.{spec_octets, specs_octets, coordinate_octets}
+use Rattle.grib_bits.proofs.Encoding.{num_on-octets_of}
+use Rattle.grib2_products.specs.Spelled.{spec_at, specs_at}
+use Rattle.grib2_products.specs.Written.{SpecFits, spec_octets, specs_octets}
 use Rattle.grib2_products.specs.declared.templates.Spec.{Spec}
-
--- one item more
-pub one_more : {X : Type 0} (f : ℕ → X) (k : ℕ) (item : X) (items new : List X) → items ≡ map f (range_with_len 0 k) → item ≡ f k → new ≡ items ++ item ∷ []
-    → new ≡ map f (range_with_len 0 (k + 1))
-one_more f k item items new before is_item is_new =
-    is_new ∙ ap₂ (λ xs x. xs ++ x ∷ []) before is_item ∙ sym (map-range_with_len_more f 0 k k (omega arith))
-
--- ---- coordinate values that are written
-
--- the number of the four octets with index k from octet f on
-abbrev pub word_at : List ℕ → ℕ → ℕ → ℕ
-word_at s f k = octets s (f + 4 * k) (f + 4 * k + 3)
-
-pub coordinate_octets-append : (xs ys : List ℕ) → coordinate_octets (xs ++ ys) ≡ coordinate_octets xs ++ coordinate_octets ys
-coordinate_octets-append [] ys = refl
-coordinate_octets-append (x ∷ xs) ys =
-    ap (λ (zs : List ℕ). octets_of 4 x ++ zs) (coordinate_octets-append xs ys)
-
-pub coordinate_octets-more : (words : List ℕ) (k : ℕ) → k < length words → coordinate_octets (take (k + 1) words) ≡ coordinate_octets (take k words) ++ octets_of 4 (get_or words k 0)
-coordinate_octets-more words k within =
-    ap coordinate_octets (take_more words k 0 within) ∙ coordinate_octets-append (take k words) (get_or words k 0 ∷ [])
-
-pub length-coordinate_octets : (words : List ℕ) → length (coordinate_octets words) ≡ 4 * length words
-length-coordinate_octets [] = refl
-length-coordinate_octets (x ∷ words) = omega (arith, length-coordinate_octets words)
-
-pub word_at-behind : (front words : List ℕ) (f k : ℕ) → f ≡ length front + 1 → ((k : ℕ) → k < length words → get_or words k 0 < 2 ^ 32) → k < length words
-    → word_at (front ++ coordinate_octets words) f k ≡ get_or words k 0
-word_at-behind front [] f k is_place fit within = absurd (omega arith)
-word_at-behind front (x ∷ words) f zero is_place fit within =
-    let first : f + 4 * 0 ≡ length front + 1 = omega arith in
-    let last : f + 4 * 0 + 3 ≡ length front + length (octets_of 4 x) = omega arith in
-    octets-within front (octets_of 4 x) (coordinate_octets words) _ _ first last ∙ num_on-octets_of 4 x (fit 0 (omega arith))
-word_at-behind front (x ∷ words) f (suc k) is_place fit within =
-    let longer = front ++ octets_of 4 x in
-    let place : f + 4 ≡ length longer + 1 = omega (arith, length-append front (octets_of 4 x)) in
-    let rest = word_at-behind longer words (f + 4) k place (λ j h. fit (suc j) (omega arith)) (omega arith) in
-    let first : f + 4 * suc k ≡ f + 4 + 4 * k = omega arith in
-    let joined : front ++ (octets_of 4 x ++ coordinate_octets words) ≡ longer ++ coordinate_octets words = sym (append_assoc front (octets_of 4 x) (coordinate_octets words)) in
-    ap (λ (zs : List ℕ). octets zs (f + 4 * suc k) (f + 4 * suc k + 3)) joined
-    ∙ ap (λ (n : ℕ). octets (longer ++ coordinate_octets words) n (n + 3)) first ∙ rest
 
 -- ---- time ranges
 
@@ -65,23 +20,15 @@ octets-behind front xs i j first last is_i is_j counted =
     ∙ ap (drop (first - 1)) (drop_at front xs (length front) refl) in
     ap₂ (λ (n : ℕ) (zs : List ℕ). num_on 0 (take n zs)) count rest
 
--- the numbers of a time range fit their octets
-pub record SpecFits (v : Spec) : Type 0 where
-  pub process : v.process < 256
-  pub increment_type : v.increment_type < 256
-  pub unit : v.unit < 256
-  pub length : v.length < 2 ^ 32
-  pub increment_unit : v.increment_unit < 256
-  pub increment : v.increment < 2 ^ 32
-
-pub SpecFits-spec_at : (s : List ℕ) (p : ℕ) → AreOctets s → 1 ≤ p → p + 11 ≤ length s → SpecFits (spec_at s p)
-SpecFits-spec_at s p known counted within = record {
-  process = octets-lt s p p 1 known (omega arith) (omega arith) (omega arith);
-  increment_type = octets-lt s (p + 1) (p + 1) 1 known (omega arith) (omega arith) (omega arith);
-  unit = octets-lt s (p + 2) (p + 2) 1 known (omega arith) (omega arith) (omega arith);
-  length = octets-lt s (p + 3) (p + 6) 4 known (omega arith) (omega arith) (omega arith);
-  increment_unit = octets-lt s (p + 7) (p + 7) 1 known (omega arith) (omega arith) (omega arith);
-  increment = octets-lt s (p + 8) (p + 11) 4 known (omega arith) (omega arith) (omega arith);
+-- what `get_or` gives past the end of a list of time ranges
+abbrev pub no_spec : Spec
+no_spec = record {
+  process = 0;
+  increment_type = 0;
+  unit = 0;
+  length = 0;
+  increment_unit = 0;
+  increment = 0;
 }
 
 abbrev spec_of : ℕ → ℕ → ℕ → ℕ → ℕ → ℕ → Spec
@@ -139,10 +86,9 @@ spec_at-behind front after (x ∷ specs) f (suc k) d is_place fit within =
     let joined : front ++ (spec_octets x ++ (specs_octets specs ++ after)) ≡ longer ++ (specs_octets specs ++ after) = sym (append_assoc front (spec_octets x) (specs_octets specs ++ after)) in
     ap (λ (zs : List ℕ). spec_at zs (f + 12 * suc k)) joined ∙ ap (λ (p : ℕ). spec_at (longer ++ (specs_octets specs ++ after)) p) first ∙ rest
 
--- the time ranges of a section fit their octets
-pub specs_fit : (s : List ℕ) (first n : ℕ) (specs : List Spec) (d : Spec) → AreOctets s → 1 ≤ first → first + 12 * n ≤ length s + 1
-    → specs ≡ map (λ k. spec_at s (first + 12 * k)) (range_with_len 0 n) → (k : ℕ) → k < n → SpecFits (get_or specs k d)
-specs_fit s first n specs d known counted within are k below =
-    let here : get_or specs k d ≡ spec_at s (first + 12 * k) =
-    ap (λ (xs : List Spec). get_or xs k d) are ∙ get_or-map-range_with_len (λ (k : ℕ). spec_at s (first + 12 * k)) 0 n k k d below (omega arith) in
-    subst SpecFits (sym here) (SpecFits-spec_at s (first + 12 * k) known (omega arith) (omega arith))
+-- they are read again as they were written
+pub specs_at-behind : (front after : List ℕ) (specs : List Spec) (first : ℕ) (d : Spec) → ((k : ℕ) → k < length specs → SpecFits (get_or specs k d)) → first ≡ length front + 1
+    → specs ≡ specs_at (front ++ (specs_octets specs ++ after)) first (length specs)
+specs_at-behind front after specs first d fits place =
+    fill_by_all (λ (k : ℕ). spec_at (front ++ (specs_octets specs ++ after)) (first + 12 * k)) specs (length specs) d refl
+    (λ k below. sym (spec_at-behind front after specs first k d place fits below))

@@ -1,7 +1,6 @@
 -- A section has one value.
-use Rattle.std.proofs.Common.{◌≡◌, ℕ, ◌+◌, ◌*◌, List, map, sym, ap, ◌∙◌, arith}
-use Rattle.std.specs.List.{range_with_len}
-use Rattle.grib2_products.specs.Spelled.{Spelled, SpelledTemplate, SpelledInstant, SpelledEnsemble, SpelledInterval, spec_at, template_of}
+use Rattle.std.proofs.Common.{◌≡◌, ℕ, ◌+◌, ◌*◌, List, sym, ap, ◌∙◌, arith}
+use Rattle.grib2_products.specs.Spelled.{Spelled, SpelledTemplate, SpelledInstant, SpelledEnsemble, SpelledInterval, specs_at, template_of}
 use Rattle.grib2_products.specs.declared.templates.Instant.{Instant}
 use Rattle.grib2_products.specs.declared.templates.Ensemble.{Ensemble}
 use Rattle.grib2_products.specs.declared.templates.Interval.{Interval}
@@ -38,7 +37,7 @@ same_ensemble v w s h g = λ i. record {
 same_interval : (v w : Interval) (b : ℕ) (s : List ℕ) → SpelledInterval v b s → SpelledInterval w b s → v ≡ w
 same_interval v w b s h g =
     let count = h.end.n ∙ sym g.end.n in
-    let specs = h.specs ∙ ap (λ (n : ℕ). map (λ k. spec_at s (b + 12 + 12 * k)) (range_with_len 0 n)) count ∙ sym g.specs in
+    let specs = h.specs ∙ ap (specs_at s (b + 12)) count ∙ sym g.specs in
     λ i. record {
       year = (h.end.year ∙ sym g.end.year) i;
       month = (h.end.month ∙ sym g.end.month) i;

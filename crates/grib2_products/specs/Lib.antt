@@ -3,3 +3,4 @@ pub mod Spelled
 pub use Rattle.grib_base.specs.Faults
 pub mod Whole
 pub mod Written
+pub mod Writable

@@ -3,6 +3,7 @@
 use Rattle.std.specs.Prelude.{◌≡◌, ℕ, ◌+◌, ◌*◌, ◌<◌, List, All, length, map, None}
 use Rattle.std.specs.List.{range_with_len}
 use Rattle.grib_bits.specs.Octets.{octets, StatesItself}
+use Rattle.grib_bits.specs.Listed.{numbers_at}
 use Rattle.grib_base.specs.Rows.{first_fault}
 use Rattle.grib2_sections.specs.Template.{least_length}
 use Rattle.grib2_products.specs.Product.{product_rows, product_templates, template_length, coordinate_count}
@@ -49,6 +50,10 @@ spec_at s p = record {
   increment = octets s (p + 8) (p + 11);
 }
 
+-- n time ranges from octet p on
+abbrev pub specs_at : List ℕ → ℕ → ℕ → List Spec
+specs_at s p n = map (λ k. spec_at s (p + 12 * k)) (range_with_len 0 n)
+
 -- an interval that begins at octet b, octet 35 of template 4.8 and octet 38 of template 4.11: its end, and
 -- the number of its time ranges
 pub record SpelledEnd (v : Interval) (b : ℕ) (s : List ℕ) : Type 0 where
@@ -61,10 +66,10 @@ pub record SpelledEnd (v : Interval) (b : ℕ) (s : List ℕ) : Type 0 where
   pub n : v.n ≡ octets s (b + 7) (b + 7)
   pub missing : v.missing ≡ octets s (b + 8) (b + 11)
 
--- the same, and the time ranges
+-- an interval that begins at octet b: its end, and its time ranges
 pub record SpelledInterval (v : Interval) (b : ℕ) (s : List ℕ) : Type 0 where
   pub end : SpelledEnd v b s
-  pub specs : v.specs ≡ map (λ k. spec_at s (b + 12 + 12 * k)) (range_with_len 0 v.n)
+  pub specs : v.specs ≡ specs_at s (b + 12) v.n
 
 -- the number of a product's template
 abbrev pub template_of : Product → ℕ
@@ -82,9 +87,7 @@ SpelledTemplate (product.EnsembleInterval v e i) s = SpelledInstant v s × Spell
 
 -- the coordinate values: as many as octets 6-7 say, of four octets each, after the template
 abbrev pub coordinate_list : List ℕ → List ℕ
-coordinate_list s =
-    let f = template_length s + 1 in
-    map (λ k. octets s (f + 4 * k) (f + 4 * k + 3)) (range_with_len 0 (coordinate_count s))
+coordinate_list s = numbers_at s (template_length s + 1) 4 (coordinate_count s)
 
 -- the value has the numbers of the section
 pub record Spelled (value : ProductSection) (s : List ℕ) : Type 0 where

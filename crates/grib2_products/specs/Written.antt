@@ -1,12 +1,14 @@
 -- The octets of Section 4 as they are written, part after part.
-use Rattle.std.specs.Prelude.{◌≡◌, ℕ, List, [], ◌∷◌, ◌++◌}
+use Rattle.std.specs.Prelude.{◌≡◌, ℕ, ◌^◌, ◌<◌, List, [], ◌∷◌, ◌++◌, length}
 use Rattle.grib_bits.specs.Octets.{octets}
 use Rattle.grib_bits.specs.Encoding.{octets_of}
-use Rattle.grib2_products.specs.Spelled.{SpelledInstant, SpelledEnsemble, SpelledEnd}
+use Rattle.grib_bits.specs.Listed.{numbers_octets}
+use Rattle.grib2_products.specs.Spelled.{template_of, written_length}
 use Rattle.grib2_products.specs.declared.templates.Instant.{Instant}
 use Rattle.grib2_products.specs.declared.templates.Ensemble.{Ensemble}
 use Rattle.grib2_products.specs.declared.templates.Interval.{Interval}
 use Rattle.grib2_products.specs.declared.templates.Spec.{Spec}
+use Rattle.grib2_products.specs.declared.product.ProductSection.{ProductSection}
 use Rattle.grib2_products.specs.declared.product.Product.{Product}
 use Rattle.grib2_products.specs.declared.product.Product.TheVariants as product
 
@@ -14,7 +16,7 @@ use Rattle.grib2_products.specs.declared.product.Product.TheVariants as product
 abbrev pub header : ℕ → ℕ → ℕ → List ℕ
 header l count template = octets_of 4 l ++ octets_of 1 4 ++ octets_of 2 count ++ octets_of 2 template
 
--- the same numbers, by their octets
+-- the numbers of octets 1-9, by their octets
 pub record SpelledHeader (l count template : ℕ) (s : List ℕ) : Type 0 where
   pub length_octets : l ≡ octets s 1 4
   pub number_octets : 4 ≡ octets s 5 5
@@ -39,6 +41,15 @@ end_octets v =
     octets_of 2 v.year ++ octets_of 1 v.month ++ octets_of 1 v.day ++ octets_of 1 v.hour ++ octets_of 1 v.minute
     ++ octets_of 1 v.second ++ octets_of 1 v.n ++ octets_of 4 v.missing
 
+-- the numbers of a time range fit their octets
+pub record SpecFits (v : Spec) : Type 0 where
+  pub process : v.process < 256
+  pub increment_type : v.increment_type < 256
+  pub unit : v.unit < 256
+  pub length : v.length < 2 ^ 32
+  pub increment_unit : v.increment_unit < 256
+  pub increment : v.increment < 2 ^ 32
+
 -- a time range
 abbrev pub spec_octets : Spec → List ℕ
 spec_octets v =
@@ -56,14 +67,8 @@ template_octets (product.Ensemble v e) = instant_octets v ++ ensemble_octets e
 template_octets (product.Interval v i) = instant_octets v ++ (end_octets i ++ specs_octets i.specs)
 template_octets (product.EnsembleInterval v e i) = instant_octets v ++ ensemble_octets e ++ (end_octets i ++ specs_octets i.specs)
 
--- the template's numbers, but for the time ranges
-abbrev pub SpelledFixed : Product → List ℕ → Type 0
-SpelledFixed (product.Instant v) s = SpelledInstant v s
-SpelledFixed (product.Ensemble v e) s = SpelledInstant v s × SpelledEnsemble e s
-SpelledFixed (product.Interval v i) s = SpelledInstant v s × SpelledEnd i 35 s
-SpelledFixed (product.EnsembleInterval v e i) s = SpelledInstant v s × SpelledEnsemble e s × SpelledEnd i 38 s
-
--- coordinate values, of four octets each
-abbrev pub coordinate_octets : List ℕ → List ℕ
-coordinate_octets [] = []
-coordinate_octets (word ∷ words) = octets_of 4 word ++ coordinate_octets words
+-- the section of a value: its template, its time ranges and its coordinate values, and no more
+abbrev pub section_of_product : ProductSection → List ℕ
+section_of_product value =
+    header (written_length value) (length value.coordinates) (template_of value.product)
+    ++ template_octets value.product ++ numbers_octets 4 value.coordinates

@@ -1,15 +1,13 @@
 //! The lists of time ranges and of coordinate values.
 
-ghost use Rattle.std.specs.Prelude.{◌≡◌, ◌+◌, ◌*◌, ◌≤◌, length, map, IfOk, IsOk};
-ghost use Rattle.std.specs.List.{range_with_len};
-ghost use Rattle.grib_bits.specs.Octets.{octets as octets_of};
+ghost use Rattle.std.specs.Prelude.{◌≡◌, ◌+◌, ◌*◌, ◌≤◌, length, IfOk, IsOk};
 ghost use Rattle.grib2_products.specs.Product.{coordinate_count};
 ghost use Rattle.grib2_products.specs.Whole.{IsWhole};
-ghost use Rattle.grib2_products.specs.Spelled.{spec_at, coordinate_list};
+ghost use Rattle.grib2_products.specs.Spelled.{spec_at, specs_at, coordinate_list};
 
 use crate::Spec;
 use crate::rows::coordinate_start;
-use grib_bits::{u8_at, u16_at, u32_at};
+use grib_bits::{read_list, u8_at, u16_at, u32_at};
 use std::alloc::{AllocError, Global};
 
 /// The `count` time ranges from octet `first` on. The memory is taken once; for none, none is.
@@ -21,8 +19,7 @@ pub(crate) fn read_specs(
 ) -> Result<Vec<Spec>, AllocError>
     requires counted { 1 ≤ first }
     requires within { first + 12 * count ≤ length octets.now + 1 }
-    ensures specs { IfOk result (λ specs. specs.items
-        ≡ map (λ k. spec_at octets.now (first + 12 * k)) (range_with_len 0 count)) }
+    ensures specs { IfOk result (λ specs. specs.items ≡ specs_at octets.now first count) }
     ensures memory { count ≡ 0 → IsOk result }
 {
     let mut specs = Vec::new(alloc);
@@ -58,31 +55,12 @@ pub(crate) fn read_coordinates(alloc: Global, octets: &[u8]) -> Result<Vec<u32>,
     ensures coordinates { IfOk result (λ words. words.items ≡ coordinate_list octets.now) }
     ensures memory { coordinate_count octets.now ≡ 0 → IsOk result }
 {
-    read_words(alloc, octets, coordinate_start(octets), u16_at(octets, 6))
-}
-
-/// The `count` numbers of four octets each from octet `first` on. The memory is taken once; for
-/// none, none is.
-fn read_words(
-    alloc: Global,
-    octets: &[u8],
-    first: usize,
-    count: u16,
-) -> Result<Vec<u32>, AllocError>
-    requires counted { 1 ≤ first }
-    requires within { first + 4 * count ≤ length octets.now + 1 }
-    ensures words { IfOk result (λ words. words.items
-        ≡ map (λ k. octets_of octets.now (first + 4 * k) (first + 4 * k + 3))
-        (range_with_len 0 count)) }
-    ensures memory { count ≡ 0 → IsOk result }
-{
-    let mut words = Vec::new(alloc);
-    if count == 0 {
-        return Ok(words);
-    }
-    words.reserve(usize::from(count))?;
-    for k in 0..usize::from(count) {
-        words.push(u32_at(octets, first + 4 * k))?;
-    }
-    Ok(words)
+    let count = u16_at(octets, 6);
+    read_list(
+        alloc,
+        octets,
+        coordinate_start(octets),
+        4,
+        usize::from(count),
+    )
 }

@@ -1,25 +1,30 @@
 //! Writing Section 4.
 
-ghost use Rattle.std.specs.Prelude.{◌≡◌, ℕ, ◌+◌, ◌*◌, ◌%◌, ◌≤◌, List, ◌++◌, length};
+ghost use Rattle.std.specs.Prelude.{◌≡◌, ℕ, ◌+◌, ◌*◌, ◌%◌, ◌^◌, ◌<◌, ◌≤◌, List, ◌++◌, length, slice_index};
 ghost use Rattle.grib_bits.specs.Encoding.{AddsOctets};
+ghost use Rattle.grib_bits.specs.Listed.{numbers_octets};
 ghost use Rattle.grib2_sections.specs.Template.{least_length};
 ghost use Rattle.grib2_products.specs.declared.templates.Instant.{Instant};
 ghost use Rattle.grib2_products.specs.declared.templates.Ensemble.{Ensemble};
 ghost use Rattle.grib2_products.specs.Product.{product_templates};
-ghost use Rattle.grib2_products.specs.Spelled.{IsSectionOf, written_length, template_of, range_count, SpelledInstant, SpelledEnsemble, SpelledEnd};
-ghost use Rattle.grib2_products.specs.Written.{header, SpelledHeader, template_octets, SpelledFixed, instant_octets, ensemble_octets, end_octets, spec_octets, specs_octets, coordinate_octets};
+ghost use Rattle.grib2_products.specs.Spelled.{IsSectionOf, written_length, template_of, range_count, specs_at, SpelledInstant, SpelledEnsemble, SpelledInterval, SpelledTemplate};
+ghost use Rattle.grib2_products.specs.Writable.{CountsRanges, IsWritable};
+ghost use Rattle.grib2_products.specs.Written.{header, SpelledHeader, section_of_product, template_octets, instant_octets, ensemble_octets, end_octets, SpecFits, spec_octets, specs_octets};
 
 use crate::{Ensemble, Instant, Interval, Product, ProductSection, Spec};
-use grib_bits::{BitWriter, write_u8, write_u16, write_u32};
+use grib_bits::{BitWriter, write_list, write_u8, write_u16, write_u32};
 
-/// Writes Section 4 without surplus, as the value was read, so that reading the octets gives the
-/// value again. The writer has the memory already.
+/// Writes Section 4 without surplus. Reading the octets gives the value again. What `read_product` answers
+/// can be written, and so can each other value whose time ranges and coordinate values are counted. The
+/// writer has the memory already.
 pub fn write_product(value: &ProductSection, out: &mut BitWriter)
     requires whole { length out.old.bits % 8 ≡ 0 }
-    requires readable { (section : List ℕ) × IsSectionOf value.now section }
+    requires writable { IsWritable value.now }
     requires room { 8 * written_length value.now ≤ out.old.spare }
-    ensures { (section : List ℕ) × IsSectionOf value.now section
-        × (length section ≡ written_length value.now) × AddsOctets out.old out.new section }
+    ensures section { IsSectionOf value.now (section_of_product value.now) }
+    ensures length { length (section_of_product value.now) ≡ written_length value.now }
+    ensures octets { AddsOctets out.old out.new (section_of_product value.now) }
+    ensures whole { length out.new.bits % 8 ≡ 0 }
 {
     let coordinates = value.coordinates.as_slice();
     let count = coordinates.len() as u16;
@@ -70,9 +75,10 @@ fn write_header(length: u32, count: u16, template: u16, out: &mut BitWriter)
 
 /// The template, from octet 10 on.
 fn write_template(value: &Product, out: &mut BitWriter)
-    requires { 8 * length (template_octets value.now) ≤ out.old.spare }
+    requires counted { CountsRanges value.now }
+    requires room { 8 * length (template_octets value.now) ≤ out.old.spare }
     ensures octets { AddsOctets out.old out.new (template_octets value.now) }
-    ensures spelled { (l count template : ℕ) (rest : List ℕ) → SpelledFixed value.now
+    ensures spelled { (l count template : ℕ) (rest : List ℕ) → SpelledTemplate value.now
         (header l count template ++ template_octets value.now ++ rest) }
 {
     match value {
@@ -132,14 +138,15 @@ fn write_ensemble(value: &Ensemble, out: &mut BitWriter)
 
 /// An interval, which begins at octet 35 in template 4.8 and at octet 38 in template 4.11.
 fn write_interval(value: &Interval, out: &mut BitWriter)
-    requires { 96 + 8 * (12 * length value.now.specs) ≤ out.old.spare }
+    requires counted { length value.now.specs ≡ value.now.n }
+    requires room { 96 + 8 * (12 * length value.now.specs) ≤ out.old.spare }
     ensures octets { AddsOctets out.old out.new
         (end_octets value.now ++ specs_octets value.now.specs) }
     ensures at_35 { (l count template : ℕ) (v : Instant) (rest : List ℕ)
-        → SpelledEnd value.now 35 (header l count template ++ instant_octets v
+        → SpelledInterval value.now 35 (header l count template ++ instant_octets v
         ++ (end_octets value.now ++ specs_octets value.now.specs) ++ rest) }
     ensures at_38 { (l count template : ℕ) (v : Instant) (e : Ensemble) (rest : List ℕ)
-        → SpelledEnd value.now 38 (header l count template ++ instant_octets v
+        → SpelledInterval value.now 38 (header l count template ++ instant_octets v
         ++ ensemble_octets e ++ (end_octets value.now ++ specs_octets value.now.specs) ++ rest) }
 {
     write_u16(value.year, out);
@@ -156,7 +163,9 @@ fn write_interval(value: &Interval, out: &mut BitWriter)
 /// The time ranges, of 12 octets each.
 fn write_specs(specs: &[Spec], out: &mut BitWriter)
     requires { 8 * (12 * length specs.now) ≤ out.old.spare }
-    ensures { AddsOctets out.old out.new (specs_octets specs.now) }
+    ensures octets { AddsOctets out.old out.new (specs_octets specs.now) }
+    ensures again { (front rest : List ℕ) (first : ℕ) → first ≡ length front + 1
+        → specs.now ≡ specs_at (front ++ (specs_octets specs.now ++ rest)) first (length specs.now) }
 {
     for spec in specs {
         write_spec(spec, out);
@@ -166,7 +175,8 @@ fn write_specs(specs: &[Spec], out: &mut BitWriter)
 /// A time range.
 fn write_spec(value: &Spec, out: &mut BitWriter)
     requires { 96 ≤ out.old.spare }
-    ensures { AddsOctets out.old out.new (spec_octets value.now) }
+    ensures octets { AddsOctets out.old out.new (spec_octets value.now) }
+    ensures fits { SpecFits value.now }
 {
     write_u8(value.process, out);
     write_u8(value.increment_type, out);
@@ -179,9 +189,8 @@ fn write_spec(value: &Spec, out: &mut BitWriter)
 /// The coordinate values, of four octets each.
 fn write_coordinates(words: &[u32], out: &mut BitWriter)
     requires { 8 * (4 * length words.now) ≤ out.old.spare }
-    ensures { AddsOctets out.old out.new (coordinate_octets words.now) }
+    ensures octets { AddsOctets out.old out.new (numbers_octets 4 words.now) }
+    ensures fit { (k : ℕ) → k < length words.now → slice_index words.now k < 256 ^ 4 }
 {
-    for word in words {
-        write_u32(*word, out);
-    }
+    write_list(words, 4, out);
 }

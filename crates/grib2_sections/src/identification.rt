@@ -1,10 +1,10 @@
 //! Section 1, the identification section.
 
-ghost use Rattle.std.specs.Prelude.{◌≡◌, ℕ, ◌%◌, ◌≤◌, List, length, Some, None, MatchResult};
+ghost use Rattle.std.specs.Prelude.{◌≡◌, ◌%◌, ◌≤◌, length, Some, None, MatchResult};
 ghost use Rattle.grib_bits.specs.Octets.{StatesItself};
 ghost use Rattle.grib_base.specs.Rows.{first_fault_at};
 ghost use Rattle.grib_bits.specs.Encoding.{AddsOctets};
-ghost use Rattle.grib2_sections.specs.Identification.{identification_rows, Spelled};
+ghost use Rattle.grib2_sections.specs.Identification.{identification_rows, section_of_identification, Spelled};
 
 use byteorder::{BigEndian, ByteOrder};
 use grib_base::{Fault, Reason, Section};
@@ -68,12 +68,14 @@ pub fn read_identification(section: &Section<'_>) -> Result<Identification, Faul
     })
 }
 
-/// Writes a whole Section 1 of 21 octets that has these numbers.
+/// Writes a whole Section 1 of 21 octets. Reading the octets gives the value again.
 pub fn write_identification(value: &Identification, out: &mut BitWriter)
     requires whole { length out.old.bits % 8 ≡ 0 }
     requires room { 168 ≤ out.old.spare }
-    ensures section { (section : List ℕ) × StatesItself 1 section × (length section ≡ 21)
-        × Spelled value.now section × AddsOctets out.old out.new section }
+    ensures itself { StatesItself 1 (section_of_identification value.now) }
+    ensures length { length (section_of_identification value.now) ≡ 21 }
+    ensures spelled { Spelled value.now (section_of_identification value.now) }
+    ensures octets { AddsOctets out.old out.new (section_of_identification value.now) }
     ensures whole { length out.new.bits % 8 ≡ 0 }
 {
     write_u32(21, out);

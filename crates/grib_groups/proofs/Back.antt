@@ -1,30 +1,27 @@
 -- What is written as groups reads back.
-use Rattle.std.proofs.Common.{◌≡◌, ℕ, suc, ◌+◌, ◌-◌, ◌*◌, ◌/◌, ◌^◌, ◌<◌, ◌≤◌, inl, inr, Bool, false, List, [], ◌∷◌, ◌++◌, length, take, drop, map, get_or, All, refl, sym, ap, ap₂, ◌∙◌, arith, append_assoc, mod-eq_of_lt, mul_comm, add-mul, take-append-drop, replicate, cond, Some, None, nat_lt, le-ltb}
+use Rattle.std.proofs.Common.{◌≡◌, ℕ, suc, ◌+◌, ◌-◌, ◌*◌, ◌^◌, ◌<◌, ◌≤◌, inl, inr, Bool, false, List, [], ◌∷◌, ◌++◌, length, take, drop, map, get_or, All, refl, sym, ap, ap₂, ◌∙◌, arith, append_assoc, mul_comm, take-append-drop, cond, Some, None, nat_lt, le-ltb}
 use Rattle.std.specs.List.{list_any}
-use Rattle.std.proofs.lemmas.List.{length-append, length-replicate, length-map, take_at, drop_at, length-take-le, length-drop}
+use Rattle.std.proofs.lemmas.List.{length-append, length-map, drop_at, length-take-le, length-drop}
 use Rattle.std.proofs.lemmas.List.Elements.{All-head, All-tail, All-take, All-drop, All-map, All-weaker}
 use Rattle.std.proofs.lemmas.Bool.{cases_lt}
 use Rattle.std.proofs.lemmas.Nat.{pow_pos}
-use Rattle.grib_bits.specs.Bits.{bits, bits_of, num}
+use Rattle.grib_bits.specs.Bits.{num}
 use Rattle.grib_bits.specs.Plain.{plain}
-use Rattle.grib_bits.specs.Written.{padding}
 use Rattle.grib_base.specs.declared.fault.Fault.{Fault}
 use Rattle.grib_base.specs.Rows.{first_place}
 use Rattle.grib_base.proofs.Places.{NoneOf, first_place-none}
+use Rattle.grib_packing.proofs.Fields.{length-fields, plain-add, plain-fields}
 use Rattle.grib_groups.proofs.Taken.{packed_bits-cons}
-use Rattle.grib_bits.proofs.Numbers.{length-bits_of, num-bits_of}
-use Rattle.grib_bits.proofs.OctetBits.{length-bits, drop-bits}
 use Rattle.grib_base.specs.declared.code.Code.{Code}
 use Rattle.grib_base.specs.declared.code.Code.TheVariants.{Present, Primary, Secondary}
 use Rattle.grib_packing.specs.declared.layout.Layout.{Layout}
 use Rattle.grib_packing.specs.declared.group.Group.{Group}
-use Rattle.grib_packing.specs.Groups.{code_of, codes_from, groups_from, octets_for, packed_bits}
+use Rattle.grib_packing.specs.Groups.{code_of, codes_from, groups_from, packed_bits}
 use Rattle.grib_packing.specs.Groupings.{width_of, greatest, smallest, present_codes, is_present, is_primary, is_secondary, runs, joined, IsGrouping}
-use Rattle.grib_packing.specs.Packed.{reference_of, packed_number, fields, padded, group_fields}
+use Rattle.grib_packing.specs.Packed.{reference_of, packed_number, fields, group_fields}
 use Rattle.grib_packing.specs.Span.{IsTold}
 use Rattle.grib_packing.proofs.Spans.{small_run}
 use Rattle.grib_packing.proofs.Bounds.{IsWithin, within_all, all_below, greatest-within}
-use Rattle.grib_groups.proofs.Plain.{plain-add}
 use Rattle.grib_groups.proofs.Parts.{sum-more}
 use Rattle.grib_groups.proofs.Packable.{packable, group_fields-some, group_fields-none}
 use Rattle.grib_groups.proofs.Marks.{wide_back, same_back}
@@ -32,27 +29,8 @@ use Rattle.grib_groups.specs.Encoding.{IsPackable}
 
 -- ---- numbers of one width
 
-pub length-fields : (w : ℕ) (ns : List ℕ) → length (fields w ns) ≡ length ns * w
-length-fields w [] = omega arith
-length-fields w (n ∷ ns) = omega (arith, length-append (bits_of w n) (fields w ns), length-bits_of w n, length-fields w ns, add-mul 1 (length ns) w)
-
 plain_one : (xs : List Bool) (w : ℕ) → plain xs w 1 ≡ num (take w xs) ∷ []
 plain_one xs w = let none : 0 * w ≡ 0 = omega arith in ap (λ (k : ℕ). num (take w (drop k xs)) ∷ []) none
-
-pub plain-fields : (w : ℕ) (ns : List ℕ) (after : List Bool) → All (λ n. n < 2 ^ w) ns → plain (fields w ns ++ after) w (length ns) ≡ ns
-plain-fields w [] after each = refl
-plain-fields w (n ∷ ns) after each =
-    let here : n < 2 ^ w = All-head (λ m. m < 2 ^ w) n ns each in
-    let rest = fields w ns ++ after in
-    let split : fields w (n ∷ ns) ++ after ≡ bits_of w n ++ rest = append_assoc (bits_of w n) (fields w ns) after in
-    let more : suc (length ns) ≡ 1 + length ns = omega arith in
-    let long : length (bits_of w n) ≡ w * 1 = omega (arith, length-bits_of w n) in
-    let first : num (take w (bits_of w n ++ rest)) ≡ n =
-    ap num (take_at (bits_of w n) rest w (length-bits_of w n)) ∙ num-bits_of w n ∙ mod-eq_of_lt here in
-    ap₂ (λ (xs : List Bool) (k : ℕ). plain xs w k) split more
-    ∙ plain-add (bits_of w n ++ rest) w 1 (length ns)
-    ∙ ap₂ ◌++◌ (plain_one (bits_of w n ++ rest) w ∙ ap (λ (m : ℕ). m ∷ []) first)
-    (ap (λ (xs : List Bool). plain xs w (length ns)) (drop_at (bits_of w n) rest (w * 1) long) ∙ plain-fields w ns after (All-tail (λ m. m < 2 ^ w) n ns each))
 
 -- numbers of no bits
 same_codes : (f : ℕ → Code) (xs : List Bool) (run : List Code) → All (λ code. f 0 ≡ code) run → map f (plain xs 0 (length run)) ≡ run
@@ -195,24 +173,6 @@ module _ (layout : Layout) (few : layout.management ≤ 2) where
       )
 
 -- ---- the parts, at their octets
-
-pub length-padded8 : (xs : List Bool) → length (padded xs) ≡ 8 * ((length xs + 7) / 8)
-length-padded8 xs = omega (arith, length-append xs (replicate (padding xs) false), length-replicate (padding xs) false)
-
-pub padded_octets : (w count : ℕ) (ns : List ℕ) → count ≡ length ns → length (padded (fields w ns)) ≡ 8 * octets_for w count
-padded_octets w count ns is =
-    let product : count * w ≡ length ns * w = ap (λ (n : ℕ). n * w) is in
-    omega (arith, length-padded8 (fields w ns), length-fields w ns, product)
-
-pub plain-padded : (w count : ℕ) (ns : List ℕ) (after : List Bool) → count ≡ length ns → All (λ n. n < 2 ^ w) ns → plain (padded (fields w ns) ++ after) w count ≡ ns
-plain-padded w count ns after is each =
-    ap₂ (λ (xs : List Bool) (m : ℕ). plain xs w m) (append_assoc (fields w ns) (replicate (padding (fields w ns)) false) after) is
-    ∙ plain-fields w ns (replicate (padding (fields w ns)) false ++ after) each
-
-pub segment : (octets : List ℕ) (before rest : List Bool) (n : ℕ) → bits octets ≡ before ++ rest → length before ≡ 8 * n → bits (drop n octets) ≡ rest
-segment octets before rest n is long =
-    let within : n ≤ length octets = omega (arith, length-bits octets, ap length is, length-append before rest, long) in
-    sym (drop-bits n octets within) ∙ ap (drop (8 * n)) is ∙ drop_at before rest (8 * n) long
 
 pub first_part : (o a b c d r : List Bool) → o ≡ (((a ++ b) ++ c) ++ d) ++ r → o ≡ a ++ (b ++ (c ++ (d ++ r)))
 first_part o a b c d r is = is ∙ simp append_assoc

@@ -4,8 +4,8 @@ use Rattle.std.proofs.lemmas.List.{append-nil, drop-drop, length-map, nil_from_l
 use Rattle.grib_bits.specs.Bits.{num}
 use Rattle.grib_bits.specs.Plain.{plain}
 use Rattle.grib_base.specs.declared.code.Code.{Code}
+use Rattle.grib_packing.proofs.Fields.{length-plain, plain-add}
 use Rattle.grib_groups.specs.CodeRuns.{Passed}
-use Rattle.grib_groups.proofs.Plain.{length-plain, plain-add}
 
 -- one number, and then those after it
 pub plain_first : (bits : List Bool) (at width count : ℕ) → 1 ≤ count

@@ -13,8 +13,8 @@ use Rattle.grib_base.specs.declared.code.Code.TheVariants.{Present, Primary, Sec
 use Rattle.grib_packing.specs.Groupings.{is_present}
 use Rattle.grib_packing.specs.Packed.{fields}
 use Rattle.grib_packing.specs.Span.{IsTold}
+use Rattle.grib_packing.proofs.Left.{Left, left_more, left_room}
 use Rattle.grib_groups.specs.Encoding.{IsNumber, IsPackable}
-use Rattle.grib_groups.proofs.Parts.{Left, left_more, left_room}
 
 -- ---- a group without marks
 

@@ -3,11 +3,11 @@ use Rattle.std.proofs.Common.{◌≡◌, ℕ, ◌+◌, ◌-◌, ◌*◌, ◌≤�
 use Rattle.std.proofs.lemmas.List.{length-map, map-append, set_at}
 use Rattle.grib_bits.specs.Plain.{plain, plain_at}
 use Rattle.grib_base.specs.declared.code.Code.TheVariants.{Present}
+use Rattle.grib_packing.proofs.Fields.{plain_more, length-plain}
 use Rattle.grib_groups.specs.declared.lists.References.{References}
 use Rattle.grib_groups.specs.declared.lists.Widths.{Widths}
 use Rattle.grib_groups.specs.declared.lists.Lengths.{Lengths}
 use Rattle.grib_groups.specs.Lists.{ReferencesTook, WidthsAre, WidthsTook, LengthsAre, LengthsTook, LengthAdded}
-use Rattle.grib_groups.proofs.Plain.{plain_more, length-plain}
 use Rattle.grib_groups.proofs.Coded.{numbers_present, widths_present, lengths_present}
 
 pub references_read : (before after : References) (ns : List ℕ) → before.items.items ≡ [] → length ns ≤ vec_capacity before.items → ReferencesTook before (map Present ns) after

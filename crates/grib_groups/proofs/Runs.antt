@@ -1,4 +1,5 @@
 -- Lemmas on runs of numbers, taken one after another.
+use Rattle.grib_packing.proofs.Fields.{plain_more, plain_at-drop, plain-add}
 use Rattle.std.proofs.Common.{◌≡◌, ℕ, zero, suc, ◌+◌, ◌*◌, ◌/◌, ◌^◌, ◌<◌, ◌≤◌, Bool, List, [], ◌∷◌, ◌++◌, take, drop, map, refl, sym, ap, ap₂, ◌∙◌, arith, pow_mono, subst, add-mul, mul_comm}
 use Rattle.std.proofs.Math.Nat.{mul-le-mul_right}
 use Rattle.std.proofs.lemmas.List.{drop-drop, map-append}
@@ -6,7 +7,6 @@ use Rattle.grib_bits.specs.Bits.{bits, num}
 use Rattle.grib_bits.specs.Plain.{plain, plain_at}
 use Rattle.grib_bits.proofs.WordNumbers.{number-lt}
 use Rattle.grib_base.specs.declared.code.Code.{Code}
-use Rattle.grib_groups.proofs.Plain.{plain_more, plain_at-drop, plain-add}
 
 -- ---- places
 

@@ -9,8 +9,9 @@ use Rattle.grib_base.specs.declared.code.Code.{Code}
 use Rattle.grib_packing.specs.declared.group.Group.{Group}
 use Rattle.grib_packing.specs.declared.layout.Layout.{Layout}
 use Rattle.grib_packing.specs.Groups.{code_of, codes_from, packed_bits}
+use Rattle.grib_packing.proofs.Fields.{plain-add, length-plain}
 use Rattle.grib_groups.specs.Taking.{values, Taken}
-use Rattle.grib_groups.proofs.Plain.{plain-add, plain-append, length-plain}
+use Rattle.grib_groups.proofs.Plain.{plain-append}
 
 pub values-cons : (group : Group) (groups : List Group) → values (group ∷ groups) ≡ group.count + values groups
 values-cons group groups = sum_by-cons (λ (g : Group). g.count) group groups
@@ -53,7 +54,7 @@ taken_then {layout} {groups} {left} {after} {bits} {rest} {last} {codes} {more_c
   };
 }
 
--- the same with more bits behind
+-- what was taken, with more bits behind
 pub taken_on : {layout : Layout} {groups left : List Group} {bits rest : List Bool} {codes : List Code} (behind : List Bool)
     → Taken layout groups bits codes left rest → Taken layout groups (bits ++ behind) codes left (rest ++ behind)
 taken_on {layout} {groups} {left} {bits} {rest} {codes} behind taken = record {

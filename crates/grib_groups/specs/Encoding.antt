@@ -1,10 +1,11 @@
 -- What groups are written from.
-use Rattle.std.specs.Prelude.{◌≡◌, ℕ, ◌+◌, ◌-◌, ◌^◌, ◌<◌, ◌≤◌, None, Bool, cond, ◌==◌, List, [], ◌∷◌, length, drop, get_or, map, sum, All, IsTrue}
+use Rattle.std.specs.Prelude.{◌≡◌, ℕ, ◌+◌, ◌-◌, ◌^◌, ◌<◌, ◌≤◌, None, Bool, cond, ◌==◌, List, [], ◌∷◌, ◌++◌, length, drop, get_or, map, sum, All, IsTrue}
+use Rattle.grib_bits.specs.Written.{Written}
 use Rattle.grib_base.specs.declared.code.Code.{Code}
 use Rattle.grib_base.specs.declared.code.Code.TheVariants.{Present, Primary, Secondary}
 use Rattle.grib_base.specs.Rows.{first_fault}
 use Rattle.grib_packing.specs.declared.layout.Layout.{Layout}
-use Rattle.grib_packing.specs.Groupings.{IsGrouping, is_present, length_bits, reference_bits_of, width_bits_of, width_of}
+use Rattle.grib_packing.specs.Groupings.{IsGrouping, is_present, length_bits, reference_bits_of, runs, width_bits_of, width_of}
 use Rattle.grib_packing.specs.Packed.{fields, packed_number, reference_of}
 use Rattle.grib_packing.specs.Groups.{group_rows, grouped, lengths, list_rows, widths}
 use Rattle.grib_packing.specs.Span.{IsTold}
@@ -19,6 +20,21 @@ IsPackable width reference Secondary = Unit {0}
 -- and it is no mark
 abbrev pub IsNumber : ℕ → ℕ → Code → Type 0
 IsNumber width reference code = IsTrue (is_present code) × IsPackable width reference code
+
+-- the codes of a group of this width and reference, none of which is a mark
+pub record AreNumbers (width reference : ℕ) (run : List Code) : Type 0 where
+  pub some : 1 ≤ width
+  pub few : width ≤ 32
+  pub codes : All (IsNumber width reference) run
+
+-- their packed numbers, one after another
+abbrev pub packed_fields : ℕ → ℕ → List Code → List Bool
+packed_fields width reference run = fields width (map (packed_number width reference) run)
+
+-- these bits were written behind what stood there, into memory that was spare
+pub record AddsBits (before now : Written) (added : List Bool) : Type 0 where
+  pub bits : now.bits ≡ before.bits ++ added
+  pub spare : now.spare + length added ≡ before.spare
 
 -- the reference, where references have b bits, and the width of a run, where k codes are reserved
 pub record IsMeasure (k b : ℕ) (measure : Measure) (run : List Code) : Type 0 where
@@ -35,6 +51,15 @@ abbrev pub AreMeasures : ℕ → ℕ → List Measure → List (List Code) → T
 AreMeasures k b measures [] = Unit {0}
 AreMeasures k b [] (run ∷ groups) = Unit {0}
 AreMeasures k b (measure ∷ measures) (run ∷ groups) = IsMeasure k b measure run × AreMeasures k b measures groups
+
+-- Codes, of which k are reserved for missing points, are written as groups of these lengths with references of b
+-- bits, and of the first groups these references and widths are known.
+pub record AreGrouped (k b : ℕ) (field : List Code) (lengths : List ℕ) (measures : List Measure) : Type 0 where
+  pub few : b ≤ 32
+  pub reserved : k ≤ 2
+  pub grouping : IsGrouping (length field) lengths
+  pub codes : All (IsTold k) field
+  pub known : AreMeasures k b measures (runs lengths field)
 
 -- the layout of codes that are written as groups of these lengths
 pub record LaysOut (layout : Layout) (codes : List Code) (lengths : List ℕ) : Type 0 where

@@ -44,7 +44,7 @@ pub trait CodeRun {
 
 /// Numbers of one width, each of which begins where eight octets are left.
 #[derive(Debug, Drop)]
-pub struct WordRun<'a> {
+pub(crate) struct WordRun<'a> {
     coding: Coding,
     octets: &'a [u8],
     /// The bits before the next number.
@@ -56,7 +56,13 @@ pub struct WordRun<'a> {
 impl<'a> WordRun<'a> {
     /// `count` numbers after the first `place` bits of `octets`.
     #[inline(always)]
-    pub fn new(coding: Coding, octets: &'a [u8], place: u64, width: u32, count: u32) -> WordRun<'a>
+    pub(crate) fn new(
+        coding: Coding,
+        octets: &'a [u8],
+        place: u64,
+        width: u32,
+        count: u32,
+    ) -> WordRun<'a>
         requires some { 1 ≤ width }
         requires width { width ≤ 48 }
         requires reference { coding.reference < 2 ^ 32 }
@@ -102,9 +108,9 @@ impl CodeRun for WordRun<'_> {
     }
 }
 
-/// The same code several times.
+/// One code several times.
 #[derive(Debug, Drop)]
-pub struct SameRun {
+pub(crate) struct SameRun {
     code: Code,
     /// What its number is below.
     limit: u64,
@@ -112,9 +118,9 @@ pub struct SameRun {
 }
 
 impl SameRun {
-    /// This code so many times.
+    /// This code `count` times.
     #[inline(always)]
-    pub fn new(code: Code, limit: u64, count: u32) -> SameRun
+    pub(crate) fn new(code: Code, limit: u64, count: u32) -> SameRun
         requires { number_of code < limit }
         ensures codes { same_codes result ≡ replicate count code }
         ensures limit { result.limit ≡ limit }

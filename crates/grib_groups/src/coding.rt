@@ -10,7 +10,7 @@ use grib_base::Code;
 /// What the packed numbers of one group mean: a code, unless they are one of the marks. A mark that
 /// no number is has all bits set.
 #[derive(Clone, Copy, Debug)]
-pub struct Coding {
+pub(crate) struct Coding {
     reference: u64,
     primary: u64,
     secondary: u64,
@@ -20,7 +20,7 @@ impl Coding {
     /// The meaning of the numbers of a group. A group of width 0 has the number 0 alone, and the
     /// reference says whether it is a mark.
     #[inline(always)]
-    pub fn of(layout: &Layout, group: Group) -> Coding
+    pub(crate) fn of(layout: &Layout, group: Group) -> Coding
         requires width { group.width ≤ 48 }
         requires bits { layout.now.reference_bits ≤ 48 }
         ensures codes { (n : ℕ) → n < 2 ^ group.width → code_by result n ≡ code_of layout.now group n }
@@ -46,7 +46,7 @@ impl Coding {
         }
     }
 
-    /// The same for a group of width 0 with this reference.
+    /// The meaning of the number 0 of a group of width 0 with this reference.
     fn of_one(layout: &Layout, reference: u32) -> Coding
         requires bits { layout.now.reference_bits ≤ 48 }
         ensures codes { code_by result 0 ≡ code_of layout.now (record { reference = reference; width = 0; count = 0 }) 0 }
@@ -70,9 +70,9 @@ impl Coding {
         }
     }
 
-    /// What the numbers of codes are below, where packed numbers have so many bits.
+    /// What the numbers of codes are below, where packed numbers have `width` bits.
     #[inline(always)]
-    pub fn limit(self, width: u32) -> u64
+    pub(crate) fn limit(self, width: u32) -> u64
         requires width { width ≤ 48 }
         requires small { self.reference < 2 ^ 32 }
         ensures { result ≡ self.reference + 2 ^ width }
@@ -82,7 +82,7 @@ impl Coding {
 
     /// The code of a packed number.
     #[inline(always)]
-    pub fn code(self, number: u64) -> Code
+    pub(crate) fn code(self, number: u64) -> Code
         requires { self.reference + number < 2 ^ 64 }
         ensures { result ≡ code_by self number }
     {

@@ -1,12 +1,11 @@
 //! The codes of a whole Section 7.
 
 ghost use Rattle.std.specs.Prelude.{◌≡◌, ℕ, ◌+◌, ◌*◌, ◌^◌, ◌≤◌, ◌<◌, length, drop, None, MatchResult, vec_len};
-ghost use Rattle.grib_bits.specs.Octets.{StatesItself};
-ghost use Rattle.grib_base.specs.Rows.{first_fault, first_fault_at};
-ghost use Rattle.grib_packing.specs.Groups.{grouped, group_rows, list_rows};
+ghost use Rattle.grib_base.specs.Rows.{first_fault_at};
+ghost use Rattle.grib_packing.specs.Groups.{grouped, group_rows};
 ghost use Rattle.grib_groups.specs.Taking.{values};
 ghost use Rattle.grib_groups.specs.Table.{groups_in};
-ghost use Rattle.grib_groups.specs.Lists.{CodesTook, GroupsRead};
+ghost use Rattle.grib_groups.specs.Lists.{CodesTook, GroupsRead, HasLists};
 ghost use Rattle.grib_base.specs.Faults.{IsReadFault};
 ghost use Rattle.grib_groups.specs.Laws.{codes-none, codes-more};
 
@@ -16,7 +15,7 @@ use byteorder::{BigEndian, ByteOrder};
 use grib_base::{Code, ReadFault, Section, push_within};
 use std::alloc::Global;
 
-/// Codes one after another, for which there is memory.
+/// Codes one after another, for which there is memory. One without room is passed over.
 #[derive(Debug, Drop)]
 struct Codes {
     items: Vec<Code>,
@@ -63,23 +62,18 @@ pub fn decode_groups(
     skip: u32,
     count: u32,
 ) -> Result<Vec<Code>, ReadFault>
-    requires references { layout.now.reference_bits ≤ 32 }
-    requires widths { layout.now.width_bits ≤ 32 }
-    requires lengths { layout.now.length_bits ≤ 32 }
-    requires groups { 1 ≤ layout.now.groups }
-    requires skip { skip ≤ 12 }
-    requires lists { first_fault (list_rows layout.now (length section7.now.octets.now) skip) ≡ None }
-    ensures { MatchResult result
-        (λ codes. (first_fault_at section7.now.start (group_rows layout.now section7.now.octets.now skip count) ≡ None)
+    requires lists { HasLists layout.now skip (length section7.now.octets.now) }
+    ensures { let expected = first_fault_at section7.now.start (group_rows layout.now section7.now.octets.now skip count) in MatchResult result
+        (λ codes. (expected ≡ None)
         × (codes.items ≡ grouped layout.now (drop (5 + skip) section7.now.octets.now)))
-        (IsReadFault (first_fault_at section7.now.start (group_rows layout.now section7.now.octets.now skip count))) }
+        (IsReadFault expected) }
 {
     let items = Vec::with_capacity(alloc, count as usize)?;
     let codes = take_groups(alloc, layout, section7, skip, count, Codes { items })?;
     Ok(codes.items)
 }
 
-/// Hands the codes of all values of such a section on, in their order.
+/// Hands the codes of all values of a Section 7 with groups on, in their order.
 ///
 /// # Errors
 ///
@@ -92,24 +86,19 @@ pub fn take_groups<T: RunTaker + Drop>(
     count: u32,
     taker: T,
 ) -> Result<T, ReadFault>
-    requires references { layout.now.reference_bits ≤ 32 }
-    requires widths { layout.now.width_bits ≤ 32 }
-    requires lengths { layout.now.length_bits ≤ 32 }
-    requires groups { 1 ≤ layout.now.groups }
-    requires skip { skip ≤ 12 }
-    requires lists { first_fault (list_rows layout.now (length section7.now.octets.now) skip) ≡ None }
+    requires lists { HasLists layout.now skip (length section7.now.octets.now) }
     requires limit { 2 ^ 33 ≤ T.Taker.limit }
-    ensures { MatchResult result
-        (λ after. (first_fault_at section7.now.start (group_rows layout.now section7.now.octets.now skip count) ≡ None)
+    ensures { let expected = first_fault_at section7.now.start (group_rows layout.now section7.now.octets.now skip count) in MatchResult result
+        (λ after. (expected ≡ None)
         × T.Taker.took taker (grouped layout.now (drop (5 + skip) section7.now.octets.now)) after
         × (length (grouped layout.now (drop (5 + skip) section7.now.octets.now)) ≡ count))
-        (IsReadFault (first_fault_at section7.now.start (group_rows layout.now section7.now.octets.now skip count))) }
+        (IsReadFault expected) }
 {
     let table = read_groups(alloc, layout, section7, skip, count)?;
     Ok(take_codes(layout, section7, skip, table, taker))
 }
 
-/// Hands the codes of all values of such a section on, of which the groups were read.
+/// Hands the codes of all values of a Section 7 on, of which the groups were read.
 pub fn take_codes<T: RunTaker>(
     layout: &Layout,
     section7: &Section<'_>,
@@ -129,7 +118,7 @@ pub fn take_codes<T: RunTaker>(
     Fed::groups(*layout, table, taker).push(numbers).finish()
 }
 
-/// The groups of such a section, which has all bits of their packed numbers.
+/// The groups of a Section 7, which has all bits of their packed numbers.
 ///
 /// # Errors
 ///
@@ -141,17 +130,12 @@ pub fn read_groups(
     skip: u32,
     count: u32,
 ) -> Result<Table, ReadFault>
-    requires references { layout.now.reference_bits ≤ 32 }
-    requires widths { layout.now.width_bits ≤ 32 }
-    requires lengths { layout.now.length_bits ≤ 32 }
-    requires groups { 1 ≤ layout.now.groups }
-    requires skip { skip ≤ 12 }
-    requires lists { first_fault (list_rows layout.now (length section7.now.octets.now) skip) ≡ None }
-    ensures { MatchResult result
-        (λ table. (first_fault_at section7.now.start (group_rows layout.now section7.now.octets.now skip count) ≡ None)
+    requires lists { HasLists layout.now skip (length section7.now.octets.now) }
+    ensures { let expected = first_fault_at section7.now.start (group_rows layout.now section7.now.octets.now skip count) in MatchResult result
+        (λ table. (expected ≡ None)
         × GroupsRead layout.now section7.now.octets.now skip table
         × (values (groups_in table) ≡ count))
-        (IsReadFault (first_fault_at section7.now.start (group_rows layout.now section7.now.octets.now skip count))) }
+        (IsReadFault expected) }
 {
     let length = length_of(section7);
     let octets = &section7.octets[5 + skip as usize..];

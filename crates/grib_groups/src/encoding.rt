@@ -1,13 +1,13 @@
 //! Groups written.
 
-ghost use Rattle.std.specs.Prelude.{◌≡◌, ◌+◌, ◌-◌, ◌*◌, ◌%◌, ◌^◌, ◌<◌, ◌≤◌, ◌++◌, length, take, drop, get_or, map, replicate, All};
+ghost use Rattle.std.specs.Prelude.{◌≡◌, ◌+◌, ◌-◌, ◌*◌, ◌%◌, ◌^◌, ◌<◌, ◌≤◌, length, take, drop, get_or, map, replicate, All};
 ghost use Rattle.std.specs.List.{list_all};
 ghost use Rattle.grib_bits.specs.Bits.{bits_of};
 ghost use Rattle.grib_base.specs.declared.code.Code.TheVariants.{Primary};
-ghost use Rattle.grib_packing.specs.Groupings.{IsGrouping, is_present, joined, length_bits, reference_bits_of, runs, width_bits_of, width_of};
+ghost use Rattle.grib_packing.specs.Groupings.{is_present, joined, length_bits, runs, width_of};
 ghost use Rattle.grib_packing.specs.Packed.{fields, group_fields, group_parts, packed_number, padded, reference_of};
-ghost use Rattle.grib_packing.specs.Span.{IsTold, IsBelow};
-ghost use Rattle.grib_groups.specs.Encoding.{AreMeasures, IsNumber, IsPackable, measured_fields};
+ghost use Rattle.grib_packing.specs.Span.{IsTold};
+ghost use Rattle.grib_groups.specs.Encoding.{AddsBits, AreGrouped, AreMeasures, AreNumbers, IsNumber, IsPackable, LaysOut, measured_fields, packed_fields};
 
 use crate::Layout;
 use crate::measuring::{Measure, later_measures, next_measure};
@@ -20,23 +20,17 @@ use grib_packing::Span;
 /// I.2, FM 92 GRIB edition 2, data template 7.2). The layout tells the bits of a reference and of a width
 /// and how many codes are reserved for missing points. It takes no memory.
 pub fn encode_groups(codes: &[Code], lengths: &[u32], layout: &Layout, out: &mut BitWriter)
-    requires management { layout.now.management ≤ 2 }
-    requires references { layout.now.reference_bits ≡ reference_bits_of layout.now.management codes.now }
-    requires widths { layout.now.width_bits ≡ width_bits_of layout.now.management codes.now }
-    requires lengths { layout.now.length_bits ≡ length_bits }
-    requires grouping { IsGrouping (length codes.now) lengths.now }
+    requires lays_out { LaysOut layout.now codes.now lengths.now }
     requires most { length codes.now ≤ 33554432 }
-    requires codes { All (IsTold layout.now.management) codes.now }
     requires whole { length out.old.bits % 8 ≡ 0 }
     requires room { length (group_parts layout.now.management codes.now lengths.now) ≤ out.old.spare }
-    ensures bits { out.new.bits ≡ out.old.bits ++ group_parts layout.now.management codes.now lengths.now }
-    ensures spare { out.new.spare + length (group_parts layout.now.management codes.now lengths.now) ≡ out.old.spare }
+    ensures { AddsBits out.old out.new (group_parts layout.now.management codes.now lengths.now) }
 {
     encode_measured_groups(codes, lengths, &[], layout, out);
 }
 
-/// Writes the same, where the references and widths of the first groups are known: the codes of these groups
-/// are read once, and those of the others three times.
+/// Writes codes as groups as [`encode_groups`] does, where the references and widths of the first groups are
+/// known: the codes of these groups are read once, and those of the others three times.
 pub fn encode_measured_groups(
     codes: &[Code],
     lengths: &[u32],
@@ -44,18 +38,12 @@ pub fn encode_measured_groups(
     layout: &Layout,
     out: &mut BitWriter,
 )
-    requires management { layout.now.management ≤ 2 }
-    requires references { layout.now.reference_bits ≡ reference_bits_of layout.now.management codes.now }
-    requires widths { layout.now.width_bits ≡ width_bits_of layout.now.management codes.now }
-    requires lengths { layout.now.length_bits ≡ length_bits }
-    requires grouping { IsGrouping (length codes.now) lengths.now }
+    requires lays_out { LaysOut layout.now codes.now lengths.now }
     requires most { length codes.now ≤ 33554432 }
-    requires codes { All (IsTold layout.now.management) codes.now }
     requires known { AreMeasures layout.now.management layout.now.reference_bits known.now (runs lengths.now codes.now) }
     requires whole { length out.old.bits % 8 ≡ 0 }
     requires room { length (group_parts layout.now.management codes.now lengths.now) ≤ out.old.spare }
-    ensures bits { out.new.bits ≡ out.old.bits ++ group_parts layout.now.management codes.now lengths.now }
-    ensures spare { out.new.spare + length (group_parts layout.now.management codes.now lengths.now) ≡ out.old.spare }
+    ensures { AddsBits out.old out.new (group_parts layout.now.management codes.now lengths.now) }
 {
     let reserved = u32::from(layout.management);
     let bits = u32::from(layout.reference_bits);
@@ -66,19 +54,14 @@ pub fn encode_measured_groups(
     put_numbers(codes, lengths, known, reserved, bits, out);
 }
 
-/// Writes so many codes that are all the same as groups of these lengths, as [`encode_groups`] does. Such
+/// Writes `count` codes that are all the same as groups of these lengths, as [`encode_groups`] does. Such
 /// groups have one reference, and no packed numbers.
 pub fn encode_same(code: Code, count: u32, lengths: &[u32], layout: &Layout, out: &mut BitWriter)
-    requires management { layout.now.management ≤ 2 }
-    requires references { layout.now.reference_bits ≡ reference_bits_of layout.now.management (replicate count code) }
-    requires lengths { layout.now.length_bits ≡ length_bits }
+    requires lays_out { LaysOut layout.now (replicate count code) lengths.now }
     requires some { 1 ≤ count }
-    requires grouping { IsGrouping count lengths.now }
-    requires code { IsTold layout.now.management code }
     requires whole { length out.old.bits % 8 ≡ 0 }
     requires room { length (group_parts layout.now.management (replicate count code) lengths.now) ≤ out.old.spare }
-    ensures bits { out.new.bits ≡ out.old.bits ++ group_parts layout.now.management (replicate count code) lengths.now }
-    ensures spare { out.new.spare + length (group_parts layout.now.management (replicate count code) lengths.now) ≡ out.old.spare }
+    ensures { AddsBits out.old out.new (group_parts layout.now.management (replicate count code) lengths.now) }
 {
     let bits = u32::from(layout.reference_bits);
     put_same(Span::of(&[code]).reference(bits), bits, lengths, out);
@@ -91,8 +74,7 @@ fn put_same(reference: u64, bits: u32, lengths: &[u32], out: &mut BitWriter)
     requires fits { reference < 2 ^ bits }
     requires whole { length out.old.bits % 8 ≡ 0 }
     requires room { length (padded (fields bits (map (λ l. reference) lengths.now))) ≤ out.old.spare }
-    ensures bits { out.new.bits ≡ out.old.bits ++ padded (fields bits (map (λ l. reference) lengths.now)) }
-    ensures spare { out.new.spare + length (padded (fields bits (map (λ l. reference) lengths.now))) ≡ out.old.spare }
+    ensures { AddsBits out.old out.new (padded (fields bits (map (λ l. reference) lengths.now))) }
 {
     for _length in lengths {
         out.put(reference, bits);
@@ -109,16 +91,11 @@ fn put_references(
     bits: u32,
     out: &mut BitWriter,
 )
-    requires few { bits ≤ 32 }
-    requires reserved { reserved ≤ 2 }
-    requires grouping { IsGrouping (length codes.now) lengths.now }
-    requires codes { All (IsBelow reserved) codes.now }
-    requires known { AreMeasures reserved bits known.now (runs lengths.now codes.now) }
+    requires grouped { AreGrouped reserved bits codes.now lengths.now known.now }
     requires fits { All (λ run. reference_of bits run < 2 ^ bits) (runs lengths.now codes.now) }
     requires whole { length out.old.bits % 8 ≡ 0 }
     requires room { length (padded (fields bits (map (reference_of bits) (runs lengths.now codes.now)))) ≤ out.old.spare }
-    ensures bits { out.new.bits ≡ out.old.bits ++ padded (fields bits (map (reference_of bits) (runs lengths.now codes.now))) }
-    ensures spare { out.new.spare + length (padded (fields bits (map (reference_of bits) (runs lengths.now codes.now)))) ≡ out.old.spare }
+    ensures { AddsBits out.old out.new (padded (fields bits (map (reference_of bits) (runs lengths.now codes.now)))) }
 {
     let mut rest = codes;
     let mut told = known;
@@ -132,7 +109,7 @@ fn put_references(
     out.align();
 }
 
-/// Writes the width of each group, in so many bits.
+/// Writes the width of each group in `bits` bits.
 fn put_widths(
     codes: &[Code],
     lengths: &[u32],
@@ -143,16 +120,11 @@ fn put_widths(
     out: &mut BitWriter,
 )
     requires few { bits ≤ 64 }
-    requires references { reference_bits ≤ 32 }
-    requires reserved { reserved ≤ 2 }
-    requires grouping { IsGrouping (length codes.now) lengths.now }
-    requires codes { All (IsBelow reserved) codes.now }
-    requires known { AreMeasures reserved reference_bits known.now (runs lengths.now codes.now) }
+    requires grouped { AreGrouped reserved reference_bits codes.now lengths.now known.now }
     requires fits { All (λ run. width_of reserved run < 2 ^ bits) (runs lengths.now codes.now) }
     requires whole { length out.old.bits % 8 ≡ 0 }
     requires room { length (padded (fields bits (map (width_of reserved) (runs lengths.now codes.now)))) ≤ out.old.spare }
-    ensures bits { out.new.bits ≡ out.old.bits ++ padded (fields bits (map (width_of reserved) (runs lengths.now codes.now))) }
-    ensures spare { out.new.spare + length (padded (fields bits (map (width_of reserved) (runs lengths.now codes.now)))) ≡ out.old.spare }
+    ensures { AddsBits out.old out.new (padded (fields bits (map (width_of reserved) (runs lengths.now codes.now)))) }
 {
     let mut rest = codes;
     let mut told = known;
@@ -171,8 +143,7 @@ fn put_lengths(lengths: &[u32], out: &mut BitWriter)
     requires each { All (λ l. (1 ≤ l) × (l ≤ 64)) lengths.now }
     requires whole { length out.old.bits % 8 ≡ 0 }
     requires room { length (padded (fields length_bits (map (λ l. l - 1) lengths.now))) ≤ out.old.spare }
-    ensures bits { out.new.bits ≡ out.old.bits ++ padded (fields length_bits (map (λ l. l - 1) lengths.now)) }
-    ensures spare { out.new.spare + length (padded (fields length_bits (map (λ l. l - 1) lengths.now))) ≡ out.old.spare }
+    ensures { AddsBits out.old out.new (padded (fields length_bits (map (λ l. l - 1) lengths.now))) }
 {
     for length in lengths {
         out.put(u64::from(*length) - 1, 6);
@@ -189,15 +160,10 @@ fn put_numbers(
     bits: u32,
     out: &mut BitWriter,
 )
-    requires few { bits ≤ 32 }
-    requires reserved { reserved ≤ 2 }
-    requires grouping { IsGrouping (length codes.now) lengths.now }
-    requires codes { All (IsTold reserved) codes.now }
-    requires known { AreMeasures reserved bits known.now (runs lengths.now codes.now) }
+    requires grouped { AreGrouped reserved bits codes.now lengths.now known.now }
     requires whole { length out.old.bits % 8 ≡ 0 }
     requires room { length (padded (joined (map (group_fields reserved bits) (runs lengths.now codes.now)))) ≤ out.old.spare }
-    ensures bits { out.new.bits ≡ out.old.bits ++ padded (joined (map (group_fields reserved bits) (runs lengths.now codes.now))) }
-    ensures spare { out.new.spare + length (padded (joined (map (group_fields reserved bits) (runs lengths.now codes.now)))) ≡ out.old.spare }
+    ensures { AddsBits out.old out.new (padded (joined (map (group_fields reserved bits) (runs lengths.now codes.now)))) }
 {
     let mut rest = codes;
     let mut told = known;
@@ -217,8 +183,7 @@ fn put_group(run: &[Code], measure: Measure, reserved: u32, out: &mut BitWriter)
     requires told { All (IsTold reserved) run.now }
     requires codes { 1 ≤ measure.width → All (IsPackable measure.width measure.reference) run.now }
     requires room { length (measured_fields measure run.now) ≤ out.old.spare }
-    ensures bits { out.new.bits ≡ out.old.bits ++ measured_fields measure run.now }
-    ensures spare { out.new.spare + length (measured_fields measure run.now) ≡ out.old.spare }
+    ensures { AddsBits out.old out.new (measured_fields measure run.now) }
 {
     if measure.width == 0 {
         return;
@@ -251,12 +216,9 @@ fn has_no_mark(run: &[Code], reserved: u32) -> bool
 /// Writes the packed numbers of a group of this width and reference that has no mark: four at once where they
 /// fit a word, since joining them takes fewer steps than writing each.
 fn put_present(run: &[Code], width: u32, reference: u64, out: &mut BitWriter)
-    requires some { 1 ≤ width }
-    requires few { width ≤ 32 }
-    requires codes { All (IsNumber width reference) run.now }
-    requires room { length (fields width (map (packed_number width reference) run.now)) ≤ out.old.spare }
-    ensures bits { out.new.bits ≡ out.old.bits ++ fields width (map (packed_number width reference) run.now) }
-    ensures spare { out.new.spare + length (fields width (map (packed_number width reference) run.now)) ≡ out.old.spare }
+    requires numbers { AreNumbers width reference run.now }
+    requires room { length (packed_fields width reference run.now) ≤ out.old.spare }
+    ensures { AddsBits out.old out.new (packed_fields width reference run.now) }
 {
     if width > 16 {
         put_each(run, width, reference, out);
@@ -267,18 +229,16 @@ fn put_present(run: &[Code], width: u32, reference: u64, out: &mut BitWriter)
     put_each(rest, width, reference, out);
 }
 
-/// Writes them four at once. The scale is 2 to the width.
+/// Writes the packed numbers of a group that has no mark four at once. The scale is 2 to the width.
 // Not inlined: LLVM would turn products by the scale into shifts by a variable count, which take more steps.
 #[inline(never)]
 fn put_fours(run: &[Code], width: u32, scale: u64, reference: u64, out: &mut BitWriter)
+    requires numbers { AreNumbers width reference run.now }
     requires fours { length run.now % 4 ≡ 0 }
-    requires some { 1 ≤ width }
     requires few { width ≤ 16 }
     requires scale { scale ≡ 2 ^ width }
-    requires codes { All (IsNumber width reference) run.now }
-    requires room { length (fields width (map (packed_number width reference) run.now)) ≤ out.old.spare }
-    ensures bits { out.new.bits ≡ out.old.bits ++ fields width (map (packed_number width reference) run.now) }
-    ensures spare { out.new.spare + length (fields width (map (packed_number width reference) run.now)) ≡ out.old.spare }
+    requires room { length (packed_fields width reference run.now) ≤ out.old.spare }
+    ensures { AddsBits out.old out.new (packed_fields width reference run.now) }
 {
     for done in 0..run.len() / 4 {
         let four = four_numbers(run, 4 * done, width, scale, reference);
@@ -286,14 +246,11 @@ fn put_fours(run: &[Code], width: u32, scale: u64, reference: u64, out: &mut Bit
     }
 }
 
-/// Writes them one by one.
+/// Writes the packed numbers of a group that has no mark one by one.
 fn put_each(run: &[Code], width: u32, reference: u64, out: &mut BitWriter)
-    requires some { 1 ≤ width }
-    requires few { width ≤ 32 }
-    requires codes { All (IsNumber width reference) run.now }
-    requires room { length (fields width (map (packed_number width reference) run.now)) ≤ out.old.spare }
-    ensures bits { out.new.bits ≡ out.old.bits ++ fields width (map (packed_number width reference) run.now) }
-    ensures spare { out.new.spare + length (fields width (map (packed_number width reference) run.now)) ≡ out.old.spare }
+    requires numbers { AreNumbers width reference run.now }
+    requires room { length (packed_fields width reference run.now) ≤ out.old.spare }
+    ensures { AddsBits out.old out.new (packed_fields width reference run.now) }
 {
     for done in 0..run.len() {
         out.put(number_at(run, done, width, reference), width);
@@ -303,12 +260,11 @@ fn put_each(run: &[Code], width: u32, reference: u64, out: &mut BitWriter)
 /// The packed numbers of four codes from this place on, as one number.
 #[inline(always)]
 fn four_numbers(run: &[Code], at: usize, width: u32, scale: u64, reference: u64) -> u64
-    requires some { 1 ≤ width }
+    requires numbers { AreNumbers width reference run.now }
     requires few { width ≤ 16 }
     requires scale { scale ≡ 2 ^ width }
     requires within { at + 4 ≤ length run.now }
-    requires codes { All (IsNumber width reference) run.now }
-    ensures are { bits_of (4 * width) result ≡ fields width (map (packed_number width reference) (take 4 (drop at run.now))) }
+    ensures are { bits_of (4 * width) result ≡ packed_fields width reference (take 4 (drop at run.now)) }
     ensures fits { result < 2 ^ (4 * width) }
 {
     let first = two_numbers(run, at, width, scale, reference);
@@ -318,12 +274,11 @@ fn four_numbers(run: &[Code], at: usize, width: u32, scale: u64, reference: u64)
 /// The packed numbers of two codes from this place on, as one number.
 #[inline(always)]
 fn two_numbers(run: &[Code], at: usize, width: u32, scale: u64, reference: u64) -> u64
-    requires some { 1 ≤ width }
+    requires numbers { AreNumbers width reference run.now }
     requires few { width ≤ 16 }
     requires scale { scale ≡ 2 ^ width }
     requires within { at + 2 ≤ length run.now }
-    requires codes { All (IsNumber width reference) run.now }
-    ensures are { bits_of (2 * width) result ≡ fields width (map (packed_number width reference) (take 2 (drop at run.now))) }
+    ensures are { bits_of (2 * width) result ≡ packed_fields width reference (take 2 (drop at run.now)) }
     ensures fits { result < 2 ^ (2 * width) }
 {
     let first = number_at(run, at, width, reference);
@@ -349,9 +304,8 @@ fn put_codes(run: &[Code], width: u32, reference: u64, out: &mut BitWriter)
     requires some { 1 ≤ width }
     requires few { width ≤ 32 }
     requires codes { All (IsPackable width reference) run.now }
-    requires room { length (fields width (map (packed_number width reference) run.now)) ≤ out.old.spare }
-    ensures bits { out.new.bits ≡ out.old.bits ++ fields width (map (packed_number width reference) run.now) }
-    ensures spare { out.new.spare + length (fields width (map (packed_number width reference) run.now)) ≡ out.old.spare }
+    requires room { length (packed_fields width reference run.now) ≤ out.old.spare }
+    ensures { AddsBits out.old out.new (packed_fields width reference run.now) }
 {
     for code in run {
         out.put(packed(*code, width, reference), width);

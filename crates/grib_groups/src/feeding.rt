@@ -9,7 +9,8 @@ ghost use Rattle.grib_groups.specs.Table.{groups_in, IsWhole, IsNarrow};
 ghost use Rattle.grib_groups.specs.Feeding.{IsFeedable, WasFed, no_marks, plain_groups, part};
 
 use crate::lists::plain_layout;
-use crate::{Group, Layout, Numbers, RunTaker, Table};
+use crate::numbers::Numbers;
+use crate::{Group, Layout, RunTaker, Table};
 use std::alloc::Global;
 
 /// Packed numbers, as their octets come, and what takes their codes.
@@ -44,7 +45,7 @@ impl<T: RunTaker> Fed<T> {
         }
     }
 
-    /// So many numbers of `bits` bits, none of which is a mark and of which no octet came yet.
+    /// `count` numbers of `bits` bits, none of which is a mark and of which no octet came yet.
     pub fn list(alloc: Global, bits: u8, count: u32, taker: T) -> Fed<T>
         requires width { bits ≤ 48 }
         requires limit { 2 ^ bits ≤ T.Taker.limit }
@@ -105,7 +106,7 @@ impl<T: RunTaker> Fed<T> {
 }
 
 /// The octets of a piece that belong to a part of a section, which has `size` octets after the first
-/// `from`, where so many octets of the section came before the piece.
+/// `from`, where `before` octets of the section came before the piece.
 pub fn part_of(piece: &[u8], before: u64, from: u64, size: u64) -> &[u8]
     requires short { length piece.now < 2 ^ 32 }
     requires end { from + size < 2 ^ 63 }
@@ -118,7 +119,7 @@ pub fn part_of(piece: &[u8], before: u64, from: u64, size: u64) -> &[u8]
     &piece[first as usize..last as usize]
 }
 
-/// The octets of a piece that stand after the first `from` octets of a section, where so many octets of the
+/// The octets of a piece that stand after the first `from` octets of a section, where `before` octets of the
 /// section came before the piece.
 pub fn rest_of(piece: &[u8], before: u64, from: u64) -> &[u8]
     ensures rest { (octets : List ℕ) → length octets ≡ before → drop from (octets ++ piece.now) ≡ drop from octets ++ result.now }

@@ -5,8 +5,6 @@ mod code_run;
 mod coding;
 mod decoding;
 mod encoding;
-#[cfg(test)]
-mod encoding_tests;
 mod feeding;
 pub mod laws;
 mod list_feeding;
@@ -16,10 +14,8 @@ mod numbers;
 mod run;
 mod table;
 mod taker;
-#[cfg(test)]
-mod tests;
 
-pub use code_run::{CodeRun, SameRun, WordRun};
+pub use code_run::CodeRun;
 pub use decoding::{decode_groups, read_groups, take_codes, take_groups};
 pub use encoding::{encode_groups, encode_measured_groups, encode_same};
 pub use feeding::{Fed, part_of, rest_of};
@@ -29,6 +25,5 @@ pub use lists::{
     Lengths, Lists, References, Widths, lists_fit, octets_of, octets_of_lists, plain_layout,
 };
 pub use measuring::{Measure, later_measures, measures_of, next_measure};
-pub use numbers::Numbers;
 pub use table::Table;
 pub use taker::{RunTaker, Taker, take_each};

@@ -2,7 +2,7 @@
 
 ghost use Rattle.std.specs.Prelude.{◌≡◌, ℕ, ◌+◌, ◌*◌, ◌^◌, ◌<◌, ◌≤◌, List, [], ◌++◌, length, IfOk};
 ghost use Rattle.grib_packing.specs.Groups.{list_octets, references as all_references, widths as all_widths, lengths as all_lengths};
-ghost use Rattle.grib_groups.specs.Lists.{ListsAre};
+ghost use Rattle.grib_groups.specs.Lists.{HasGroups, ListsAre};
 ghost use Rattle.grib_groups.specs.Feeding.{AreFeedable, ListsFed};
 
 use crate::Layout;
@@ -20,16 +20,13 @@ pub struct FedLists {
 }
 
 impl FedLists {
-    /// The lists of a field that has so many values. No octet came yet.
+    /// The lists of a field that has `values` values. No octet came yet.
     ///
     /// # Errors
     ///
     /// There is no memory for the groups.
     pub fn start(alloc: Global, layout: &Layout, values: u32) -> Result<FedLists, AllocError>
-        requires references { layout.now.reference_bits ≤ 32 }
-        requires widths { layout.now.width_bits ≤ 32 }
-        requires lengths { layout.now.length_bits ≤ 32 }
-        requires groups { 1 ≤ layout.now.groups }
+        requires groups { HasGroups layout.now }
         ensures feedable { IfOk result AreFeedable }
         ensures fed { IfOk result (ListsFed layout.now values []) }
     {
@@ -46,7 +43,7 @@ impl FedLists {
         })
     }
 
-    /// Reads what the next octets hold of the lists, where so many octets came before, counted from the
+    /// Reads what the next octets hold of the lists, where `before` octets came before, counted from the
     /// first list on. Octets after the lists are passed over.
     pub fn push(self, layout: &Layout, before: u64, piece: &[u8]) -> FedLists
         requires feedable { AreFeedable self }

@@ -19,8 +19,8 @@ pub struct Measure {
 }
 
 impl Measure {
-    /// That of a group with these codes, where so many codes are reserved for missing points and a reference
-    /// has so many bits.
+    /// The measure of a group with these codes, where `reserved` codes are kept for missing points and a
+    /// reference has `bits` bits.
     pub fn of(run: &[Code], reserved: u32, bits: u32) -> Measure
         requires reserved { reserved ≤ 2 }
         requires few { bits ≤ 32 }
@@ -36,7 +36,7 @@ impl Measure {
     }
 }
 
-/// Those of the groups of these lengths.
+/// The measures of the groups of these lengths.
 ///
 /// # Errors
 ///
@@ -65,7 +65,7 @@ pub fn measures_of(
     Ok(measures)
 }
 
-/// That of the next group, the first of those that are known, if there is one.
+/// The measure of the next group: the first of those that are known, if there is one.
 pub fn next_measure(known: &[Measure], run: &[Code], reserved: u32, bits: u32) -> Measure
     requires reserved { reserved ≤ 2 }
     requires few { bits ≤ 32 }
@@ -79,7 +79,7 @@ pub fn next_measure(known: &[Measure], run: &[Code], reserved: u32, bits: u32) -
     }
 }
 
-/// Those that are known of the groups after the next one.
+/// The measures that are known of the groups after the next one.
 pub fn later_measures(known: &[Measure]) -> &[Measure]
     ensures { result.now ≡ drop 1 known.now }
 {

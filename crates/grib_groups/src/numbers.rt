@@ -3,8 +3,8 @@
 ghost use Rattle.std.specs.Prelude.{◌≡◌, ◌⊎◌, ℕ, ◌+◌, ◌-◌, ◌*◌, ◌^◌, ◌<◌, ◌≤◌, List, [], ◌++◌, length, drop, vec_len};
 ghost use Rattle.grib_bits.specs.Bits.{bits as bits_in};
 ghost use Rattle.grib_groups.specs.Taking.{values};
-ghost use Rattle.grib_groups.specs.Table.{groups_in, IsWhole, IsNarrow};
-ghost use Rattle.grib_groups.specs.Going.{left_of, IsReadable, IsShort, IsReady, Went};
+ghost use Rattle.grib_groups.specs.Table.{groups_in};
+ghost use Rattle.grib_groups.specs.Going.{left_of, CanRead, IsReadable, IsReadTo, IsShort, IsReady, Went};
 
 use crate::coding::Coding;
 use crate::run::{take_at_once, take_numbers};
@@ -14,7 +14,7 @@ use grib_bits::{BitWindow, get_bits};
 /// The packed numbers that are still to come: what is left of the current group, the index of the
 /// next one, and the bits that came already of the next number.
 #[derive(Debug, Drop)]
-pub struct Numbers {
+pub(crate) struct Numbers {
     current: Group,
     next: usize,
     pending: BitWindow,
@@ -22,7 +22,7 @@ pub struct Numbers {
 
 impl Numbers {
     /// The numbers of all groups of a table, after those of `first`.
-    pub fn start(first: Group) -> Numbers
+    pub(crate) fn start(first: Group) -> Numbers
         requires { first.width ≤ 48 }
         ensures current { result.current ≡ first }
         ensures next { result.next ≡ 0 }
@@ -36,12 +36,14 @@ impl Numbers {
     }
 
     /// Hands the codes of all numbers on that end in the next octets.
-    pub fn push<T: RunTaker>(&mut self, layout: &Layout, table: &Table, piece: &[u8], taker: T) -> T
-        requires bits { layout.now.reference_bits ≤ 48 }
-        requires whole { IsWhole table.now }
-        requires narrow { IsNarrow table.now }
-        requires limit { 0 < vec_len table.now.lengths → 2 ^ 33 ≤ T.Taker.limit }
-        requires short { length piece.now < 2 ^ 32 }
+    pub(crate) fn push<T: RunTaker>(
+        &mut self,
+        layout: &Layout,
+        table: &Table,
+        piece: &[u8],
+        taker: T,
+    ) -> T
+        requires read { CanRead T.Taker.limit layout.now table.now piece.now 0 }
         requires ready { IsReady T.Taker.limit self.old }
         ensures goes { Went T.Taker.took layout.now (left_of self.old (groups_in table.now)) (self.old.pending ++ bits_in piece.now) taker
             (left_of self.new (groups_in table.now)) self.new.pending result }
@@ -98,14 +100,9 @@ impl Numbers {
         mut at: u64,
         mut taker: T,
     ) -> T
-        requires bits { layout.now.reference_bits ≤ 48 }
-        requires whole { IsWhole table.now }
-        requires narrow { IsNarrow table.now }
-        requires limit { 0 < vec_len table.now.lengths → 2 ^ 33 ≤ T.Taker.limit }
-        requires short { length piece.now < 2 ^ 32 }
+        requires read { CanRead T.Taker.limit layout.now table.now piece.now at }
         requires readable { IsReadable T.Taker.limit self.old.current }
         requires pending { self.old.pending ≡ [] }
-        requires within { at ≤ 8 * length piece.now }
         ensures goes { Went T.Taker.took layout.now (left_of self.old (groups_in table.now)) (drop at (bits_in piece.now)) taker
             (left_of self.new (groups_in table.now)) self.new.pending result }
         ensures ready { IsReady T.Taker.limit self.new }
@@ -129,15 +126,10 @@ impl Numbers {
         mut at: u64,
         mut taker: T,
     ) -> T
-        requires bits { layout.now.reference_bits ≤ 48 }
-        requires whole { IsWhole table.now }
-        requires narrow { IsNarrow table.now }
-        requires limit { 0 < vec_len table.now.lengths → 2 ^ 33 ≤ T.Taker.limit }
-        requires short { length piece.now < 2 ^ 32 }
+        requires read { CanRead T.Taker.limit layout.now table.now piece.now at }
         requires readable { IsReadable T.Taker.limit self.old.current }
         requires none { self.old.current.count ≡ 0 }
         requires pending { self.old.pending ≡ [] }
-        requires within { at ≤ 8 * length piece.now }
         ensures goes { Went T.Taker.took layout.now (left_of self.old (groups_in table.now)) (drop at (bits_in piece.now)) taker
             (left_of self.new (groups_in table.now)) self.new.pending result }
         ensures ready { IsReady T.Taker.limit self.new }
@@ -163,21 +155,13 @@ impl Numbers {
         at: &mut u64,
         taker: T,
     ) -> T
-        requires bits { layout.now.reference_bits ≤ 48 }
-        requires whole { IsWhole table.now }
-        requires narrow { IsNarrow table.now }
-        requires limit { 0 < vec_len table.now.lengths → 2 ^ 33 ≤ T.Taker.limit }
-        requires short { length piece.now < 2 ^ 32 }
+        requires read { CanRead T.Taker.limit layout.now table.now piece.now at.old }
         requires readable { IsReadable T.Taker.limit self.old.current }
         requires none { self.old.current.count ≡ 0 }
-        requires within { at.old ≤ 8 * length piece.now }
         ensures goes { Went T.Taker.took layout.now (left_of self.old (groups_in table.now)) (drop at.old (bits_in piece.now)) taker
             (left_of self.new (groups_in table.now)) (drop at.new (bits_in piece.now)) result }
-        ensures readable { IsReadable T.Taker.limit self.new.current }
+        ensures to { IsReadTo T.Taker.limit piece.now self.old self.new at.new }
         ensures next { self.new.next ≡ self.old.next + 1 ⊎ vec_len table.now.lengths ≤ self.new.next }
-        ensures pending { self.new.pending ≡ self.old.pending }
-        ensures within { at.new ≤ 8 * length piece.now }
-        ensures no_more { 0 < self.new.current.count → 8 * length piece.now < at.new + self.new.current.width }
     {
         if self.next >= table.len() {
             return taker;
@@ -199,13 +183,8 @@ impl Numbers {
         at: &mut u64,
         mut taker: T,
     ) -> T
-        requires bits { layout.now.reference_bits ≤ 48 }
-        requires whole { IsWhole table.now }
-        requires narrow { IsNarrow table.now }
-        requires limit { 0 < vec_len table.now.lengths → 2 ^ 33 ≤ T.Taker.limit }
-        requires short { length piece.now < 2 ^ 32 }
+        requires read { CanRead T.Taker.limit layout.now table.now piece.now at.old }
         requires none { self.old.current.count ≡ 0 }
-        requires within { at.old ≤ 8 * length piece.now }
         ensures goes { Went T.Taker.took layout.now (left_of self.old (groups_in table.now)) (drop at.old (bits_in piece.now)) taker
             (left_of self.new (groups_in table.now)) (drop at.new (bits_in piece.now)) result }
         ensures current { self.new.current ≡ self.old.current }
@@ -239,11 +218,8 @@ impl Numbers {
         requires within { at.old ≤ 8 * length piece.now }
         ensures goes { (groups : _) → Went T.Taker.took layout.now (left_of self.old groups) (drop at.old (bits_in piece.now)) taker
             (left_of self.new groups) (drop at.new (bits_in piece.now)) result }
-        ensures readable { IsReadable T.Taker.limit self.new.current }
+        ensures to { IsReadTo T.Taker.limit piece.now self.old self.new at.new }
         ensures next { self.new.next ≡ self.old.next }
-        ensures pending { self.new.pending ≡ self.old.pending }
-        ensures within { at.new ≤ 8 * length piece.now }
-        ensures no_more { 0 < self.new.current.count → 8 * length piece.now < at.new + self.new.current.width }
     {
         let group = self.current;
         let width = u32::from(group.width);

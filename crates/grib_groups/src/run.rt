@@ -6,13 +6,14 @@ ghost use Rattle.grib_bits.specs.Plain.{plain};
 ghost use Rattle.grib_packing.specs.Groups.{code_of};
 ghost use Rattle.grib_groups.specs.Taking.{code_by};
 
+use crate::code_run::{SameRun, WordRun};
 use crate::coding::Coding;
-use crate::{Group, Layout, RunTaker, SameRun, Taker, WordRun, take_each};
+use crate::{Group, Layout, RunTaker, Taker, take_each};
 use grib_bits::get_bits;
 
 /// Takes `count` numbers of a group, which stand after the first `at` bits of `octets`.
 #[inline(always)]
-pub fn take_numbers<T: Taker>(
+pub(crate) fn take_numbers<T: Taker>(
     layout: &Layout,
     group: Group,
     octets: &[u8],
@@ -43,7 +44,7 @@ pub fn take_numbers<T: Taker>(
 
 /// Takes all numbers of a group at once, each of which begins where eight octets are left.
 #[inline(always)]
-pub fn take_at_once<T: RunTaker>(
+pub(crate) fn take_at_once<T: RunTaker>(
     layout: &Layout,
     group: Group,
     octets: &[u8],

@@ -29,7 +29,7 @@ pub trait Taker {
 
 /// What takes the codes of a run at once, where it is ready for them.
 pub trait RunTaker: Taker + Sized {
-    // It takes so many codes below a limit at once.
+    // It takes this many codes below a limit at once.
     ghost ready: { Self → ℕ → ℕ → Type 0 } = { λ _ _ _. Unit {0} };
 
     /// Whether it takes `count` codes below `limit` at once.

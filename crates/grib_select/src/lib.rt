@@ -7,8 +7,6 @@ mod cutting;
 pub mod laws;
 mod matching;
 mod number;
-#[cfg(test)]
-mod tests;
 mod value;
 
 pub use changing::{SetFault, set_keys};

@@ -2,7 +2,7 @@
 use Rattle.std.proofs.Common.{take, drop, sym, ap, ◌∙◌}
 use Rattle.grib_base.specs.Rows.{located}
 use Rattle.grib2_grids.specs.Grid.{grid_rows}
-use Rattle.grib2_grids.proofs.Parts.{second_failed, third_decides, refused}
+use Rattle.grib_base.proofs.Passing.{second_failed, third_decides, refused}
 use Rattle.grib2_grids.proofs.reading.read_grid.Goals as goal
 
 pub returns-in_err-check_list-clause-rows : goal.returns-in_err-check_list-clause-rows

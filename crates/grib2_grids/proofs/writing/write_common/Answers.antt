@@ -18,13 +18,13 @@ returns-clause-octets c = AddsOctets-append (AddsOctets-append (AddsOctets-appen
 pub returns-clause-spelled : goal.returns-clause-spelled
 returns-clause-spelled c = λ l points list_octets list_meaning template rest.
     record {
-      shape_octets = sym c.write_u8.ensures.number;
-      radius_scale_octets = sym c.write_u8-2.ensures.number;
-      radius_octets = sym c.write_u32.ensures.number;
-      major_scale_octets = sym c.write_u8-3.ensures.number;
-      major_octets = sym c.write_u32-2.ensures.number;
-      minor_scale_octets = sym c.write_u8-4.ensures.number;
-      minor_octets = sym c.write_u32-3.ensures.number;
-      ni_octets = sym c.write_u32-4.ensures.number;
-      nj_octets = sym c.write_u32-5.ensures.number;
+      shape = sym c.write_u8.ensures.number;
+      radius_scale = sym c.write_u8-2.ensures.number;
+      radius = sym c.write_u32.ensures.number;
+      major_scale = sym c.write_u8-3.ensures.number;
+      major = sym c.write_u32-2.ensures.number;
+      minor_scale = sym c.write_u8-4.ensures.number;
+      minor = sym c.write_u32-3.ensures.number;
+      ni = sym c.write_u32-4.ensures.number;
+      nj = sym c.write_u32-5.ensures.number;
     }

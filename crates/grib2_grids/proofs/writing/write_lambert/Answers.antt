@@ -15,18 +15,8 @@ returns-clause-octets c = AddsOctets-append (AddsOctets-append (AddsOctets-appen
 pub returns-clause-spelled : goal.returns-clause-spelled
 returns-clause-spelled c = λ l points list_octets list_meaning template rest.
     let v = c.args.value.now in
-    let polar = c.write_polar.ensures.spelled l points list_octets list_meaning template (octets_of 4 v.latin1 ++ octets_of 4 v.latin2 ++ octets_of 4 v.pole_la ++ octets_of 4 v.pole_lo ++ rest) in
     record {
-      common = polar.common;
-      la1 = polar.la1;
-      lo1 = polar.lo1;
-      flags = polar.flags;
-      lad = polar.lad;
-      lov = polar.lov;
-      dx = polar.dx;
-      dy = polar.dy;
-      centre = polar.centre;
-      scanning = polar.scanning;
+      polar = c.write_polar.ensures.spelled l points list_octets list_meaning template (octets_of 4 v.latin1 ++ octets_of 4 v.latin2 ++ octets_of 4 v.pole_la ++ octets_of 4 v.pole_lo ++ rest);
       latin1 = sym c.write_u32.ensures.number;
       latin2 = sym c.write_u32-2.ensures.number;
       pole_la = sym c.write_u32-3.ensures.number;

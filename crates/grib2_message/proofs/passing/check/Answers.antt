@@ -21,7 +21,7 @@ returns-in_err-representation c = λ before h comes fields.
     let points = c.points.ensures before h (omega (arith, below, c.if-section-eq5.true)) in
     let is = fault_by_number m before section.number section.start s comes 5 c.if-section-eq5.true ∙ ap (λ (n : ℕ). located section.start (packing_fault s n)) (sym points) in
     let p = err_from_is_err_and c.from_residual.result c.from_residual.ensures.1 in
-    rw (p.1, p.2, is) c.in_err-representation.ensures
+    rw (p.1, p.2) (is ∙ c.in_err-representation.ensures)
 
 pub returns-then-section-eq5 : goal.returns-then-section-eq5
 returns-then-section-eq5 c = λ before h comes fields.

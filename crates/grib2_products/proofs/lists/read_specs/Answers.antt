@@ -1,6 +1,6 @@
 use Rattle.std.proofs.Common.{◌+◌, ◌*◌, ℕ}
+use Rattle.grib_bits.proofs.Listed.{one_more}
 use Rattle.grib2_products.specs.Spelled.{spec_at}
-use Rattle.grib2_products.proofs.Ranges.{one_more}
 use Rattle.grib2_products.proofs.lists.read_specs.Goals as goal
 
 pub loop-k-preserved : goal.loop-k-preserved

@@ -1,7 +1,8 @@
 -- The octets of the numbers, one after another.
-use Rattle.std.proofs.Common.{List, ◌++◌, sym, subst}
+use Rattle.std.proofs.Common.{◌≡◌, ◌+◌, ℕ, List, ◌++◌, ◌∙◌, length, refl, sym, ap, arith, subst}
 use Rattle.grib_bits.specs.Encoding.{AddsOctets}
-use Rattle.grib2_products.specs.Written.{end_octets, specs_octets}
+use Rattle.grib2_products.specs.Spelled.{specs_at}
+use Rattle.grib2_products.specs.Written.{header, instant_octets, ensemble_octets, end_octets, specs_octets}
 use Rattle.grib2_products.specs.declared.templates.Spec.{Spec}
 use Rattle.grib_bits.proofs.Encoding.{AddsOctets-append}
 use Rattle.grib2_products.proofs.writing.write_interval.Goals as goal
@@ -19,30 +20,44 @@ returns-clause-octets c =
     c.write_u8-5.ensures.octets)
     c.write_u8-6.ensures.octets)
     c.write_u32.ensures.octets)
-    c.write_specs.ensures)
+    c.write_specs.ensures.octets)
 
 pub returns-clause-at_35 : goal.returns-clause-at_35
 returns-clause-at_35 c = λ l count template v rest.
+    let i = c.args.value.now in
+    let front = header l count template ++ instant_octets v ++ end_octets i in
+    let Again : List Spec → Type 0 = λ specs. specs ≡ specs_at (front ++ (specs_octets specs ++ rest)) (35 + 12) (length specs) in
+    let again = subst Again c.as_slice.ensures (c.write_specs.ensures.again front rest (35 + 12) refl) in
     record {
-      year = sym c.write_u16.ensures.number;
-      month = sym c.write_u8.ensures.number;
-      day = sym c.write_u8-2.ensures.number;
-      hour = sym c.write_u8-3.ensures.number;
-      minute = sym c.write_u8-4.ensures.number;
-      second = sym c.write_u8-5.ensures.number;
-      n = sym c.write_u8-6.ensures.number;
-      missing = sym c.write_u32.ensures.number;
+      end = record {
+        year = sym c.write_u16.ensures.number;
+        month = sym c.write_u8.ensures.number;
+        day = sym c.write_u8-2.ensures.number;
+        hour = sym c.write_u8-3.ensures.number;
+        minute = sym c.write_u8-4.ensures.number;
+        second = sym c.write_u8-5.ensures.number;
+        n = sym c.write_u8-6.ensures.number;
+        missing = sym c.write_u32.ensures.number;
+      };
+      specs = again ∙ ap (specs_at (front ++ (specs_octets i.specs ++ rest)) (35 + 12)) c.requires.counted;
     }
 
 pub returns-clause-at_38 : goal.returns-clause-at_38
 returns-clause-at_38 c = λ l count template v e rest.
+    let i = c.args.value.now in
+    let front = header l count template ++ instant_octets v ++ ensemble_octets e ++ end_octets i in
+    let Again : List Spec → Type 0 = λ specs. specs ≡ specs_at (front ++ (specs_octets specs ++ rest)) (38 + 12) (length specs) in
+    let again = subst Again c.as_slice.ensures (c.write_specs.ensures.again front rest (38 + 12) refl) in
     record {
-      year = sym c.write_u16.ensures.number;
-      month = sym c.write_u8.ensures.number;
-      day = sym c.write_u8-2.ensures.number;
-      hour = sym c.write_u8-3.ensures.number;
-      minute = sym c.write_u8-4.ensures.number;
-      second = sym c.write_u8-5.ensures.number;
-      n = sym c.write_u8-6.ensures.number;
-      missing = sym c.write_u32.ensures.number;
+      end = record {
+        year = sym c.write_u16.ensures.number;
+        month = sym c.write_u8.ensures.number;
+        day = sym c.write_u8-2.ensures.number;
+        hour = sym c.write_u8-3.ensures.number;
+        minute = sym c.write_u8-4.ensures.number;
+        second = sym c.write_u8-5.ensures.number;
+        n = sym c.write_u8-6.ensures.number;
+        missing = sym c.write_u32.ensures.number;
+      };
+      specs = again ∙ ap (specs_at (front ++ (specs_octets i.specs ++ rest)) (38 + 12)) c.requires.counted;
     }

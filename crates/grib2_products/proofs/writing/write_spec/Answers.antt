@@ -2,8 +2,8 @@
 use Rattle.grib_bits.proofs.Encoding.{AddsOctets-append}
 use Rattle.grib2_products.proofs.writing.write_spec.Goals as goal
 
-pub returns : goal.returns
-returns c = AddsOctets-append (AddsOctets-append (AddsOctets-append (AddsOctets-append (AddsOctets-append
+pub returns-clause-octets : goal.returns-clause-octets
+returns-clause-octets c = AddsOctets-append (AddsOctets-append (AddsOctets-append (AddsOctets-append (AddsOctets-append
     c.write_u8.ensures.octets
     c.write_u8-2.ensures.octets)
     c.write_u8-3.ensures.octets)

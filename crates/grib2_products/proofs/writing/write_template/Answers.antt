@@ -1,18 +1,19 @@
 -- The template is that of the arm.
-use Rattle.std.proofs.Common.{◌++◌, length, ap, arith}
+use Rattle.std.proofs.Common.{◌++◌, length, ap, arith, subst}
 use Rattle.grib_bits.proofs.Encoding.{AddsOctets-append}
+use Rattle.grib2_products.specs.Writable.{CountsRanges}
 use Rattle.grib2_products.specs.Written.{template_octets, ensemble_octets, end_octets, specs_octets}
 use Rattle.grib2_products.specs.declared.product.Product.{Product}
 use Rattle.grib2_products.proofs.Ranges.{length-specs_octets}
 use Rattle.grib2_products.proofs.Variants.{octets_of_variant, spelled_by_variant}
 use Rattle.grib2_products.proofs.writing.write_template.Goals as goal
 
-pub write_interval-requires : goal.write_interval-requires
-write_interval-requires c =
+pub write_interval-requires-clause-room : goal.write_interval-requires-clause-room
+write_interval-requires-clause-room c =
     omega (arith, ap (λ (p : Product). length (template_octets p)) c.in-Interval.is, length-specs_octets c.in-Interval.interval.specs, c.write_instant-in-Interval.ensures.octets.spare)
 
-pub write_interval-requires-in-EnsembleInterval : goal.write_interval-requires-in-EnsembleInterval
-write_interval-requires-in-EnsembleInterval c =
+pub write_interval-requires-in-EnsembleInterval-clause-room : goal.write_interval-requires-in-EnsembleInterval-clause-room
+write_interval-requires-in-EnsembleInterval-clause-room c =
     omega (
       arith,
       ap (λ (p : Product). length (template_octets p)) c.in-EnsembleInterval.is,
@@ -20,6 +21,12 @@ write_interval-requires-in-EnsembleInterval c =
       c.write_instant-in-EnsembleInterval.ensures.octets.spare,
       c.write_ensemble-in-EnsembleInterval.ensures.octets.spare,
     )
+
+pub write_interval-requires-clause-counted : goal.write_interval-requires-clause-counted
+write_interval-requires-clause-counted c = subst CountsRanges c.in-Interval.is c.requires.counted
+
+pub write_interval-requires-in-EnsembleInterval-clause-counted : goal.write_interval-requires-in-EnsembleInterval-clause-counted
+write_interval-requires-in-EnsembleInterval-clause-counted c = subst CountsRanges c.in-EnsembleInterval.is c.requires.counted
 
 pub returns-in-Instant-clause-octets : goal.returns-in-Instant-clause-octets
 returns-in-Instant-clause-octets c = octets_of_variant _ _ c.in-Instant.is _ _ c.write_instant.ensures.octets

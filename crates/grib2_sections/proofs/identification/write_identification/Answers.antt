@@ -1,19 +1,7 @@
 -- The section is that of the numbers' octets, one after another.
-use Rattle.std.proofs.Common.{ℕ, List, ◌++◌, sym, refl, arith}
-use Rattle.grib_bits.specs.Encoding.{octets_of}
-use Rattle.grib2_sections.specs.declared.identification.Identification.{Identification}
+use Rattle.std.proofs.Common.{sym, refl, arith}
 use Rattle.grib_bits.proofs.Encoding.{AddsOctets-append, AddsOctets-whole}
 use Rattle.grib2_sections.proofs.identification.write_identification.Goals as goal
-
--- octets 1-12, 13-21
-abbrev front : Identification → List ℕ
-front value = octets_of 4 21 ++ octets_of 1 1 ++ octets_of 2 value.centre ++ octets_of 2 value.sub_centre
-    ++ octets_of 1 value.master ++ octets_of 1 value.local ++ octets_of 1 value.significance
-
-abbrev section : Identification → List ℕ
-section value = front value ++ octets_of 2 value.year ++ octets_of 1 value.month ++ octets_of 1 value.day
-    ++ octets_of 1 value.hour ++ octets_of 1 value.minute ++ octets_of 1 value.second
-    ++ octets_of 1 value.status ++ octets_of 1 value.data_type
 
 pub returns : goal.returns
 returns c =
@@ -35,26 +23,23 @@ returns c =
     c.write_u8-10.ensures.octets)
     c.write_u8-11.ensures.octets
     in record {
-      section = (
-        section c.args.value.now,
-        record { length_stands = refl; least = omega arith; number_stands = refl },
-        refl,
-        record {
-          centre = sym c.write_u16.ensures.number;
-          sub_centre = sym c.write_u16-2.ensures.number;
-          master = sym c.write_u8-2.ensures.number;
-          local = sym c.write_u8-3.ensures.number;
-          significance = sym c.write_u8-4.ensures.number;
-          year = sym c.write_u16-3.ensures.number;
-          month = sym c.write_u8-5.ensures.number;
-          day = sym c.write_u8-6.ensures.number;
-          hour = sym c.write_u8-7.ensures.number;
-          minute = sym c.write_u8-8.ensures.number;
-          second = sym c.write_u8-9.ensures.number;
-          status = sym c.write_u8-10.ensures.number;
-          data_type = sym c.write_u8-11.ensures.number;
-        },
-        written,
-      );
+      itself = record { length_stands = refl; least = omega arith; number_stands = refl };
+      length = refl;
+      spelled = record {
+        centre = sym c.write_u16.ensures.number;
+        sub_centre = sym c.write_u16-2.ensures.number;
+        master = sym c.write_u8-2.ensures.number;
+        local = sym c.write_u8-3.ensures.number;
+        significance = sym c.write_u8-4.ensures.number;
+        year = sym c.write_u16-3.ensures.number;
+        month = sym c.write_u8-5.ensures.number;
+        day = sym c.write_u8-6.ensures.number;
+        hour = sym c.write_u8-7.ensures.number;
+        minute = sym c.write_u8-8.ensures.number;
+        second = sym c.write_u8-9.ensures.number;
+        status = sym c.write_u8-10.ensures.number;
+        data_type = sym c.write_u8-11.ensures.number;
+      };
+      octets = written;
       whole = AddsOctets-whole written c.requires.whole;
     }

@@ -1,7 +1,7 @@
 use Rattle.std.proofs.Common.{arith}
 use Rattle.grib_packing.specs.Packed.{packed_number}
+use Rattle.grib_packing.proofs.Left.{left_none}
 use Rattle.grib_groups.proofs.Joined.{four_more, four_room, no_codes}
-use Rattle.grib_groups.proofs.Parts.{left_none}
 use Rattle.grib_groups.proofs.encoding.put_fours.Goals as goal
 
 pub put-requires-clause-room : goal.put-requires-clause-room
@@ -14,12 +14,7 @@ loop-done-preserved c =
     four_more c.args.width (packed_number c.args.width c.args.reference) c.args.run.now c.loop-done.done c.args.out.now c.loop-done.out c.put.new.self _ c.four_numbers-four.result
     c.four_numbers-four.ensures.are c.loop-done.invariant c.put.ensures.bits c.put.ensures.spare
 
-pub returns-clause-bits : goal.returns-clause-bits
-returns-clause-bits c =
-    (left_none c.args.out.now c.loop-done.out _ _
-    (no_codes c.args.width (packed_number c.args.width c.args.reference) c.args.run.now c.loop-done.done (omega arith)) c.loop-done.invariant).0
-
-pub returns-clause-spare : goal.returns-clause-spare
-returns-clause-spare c =
-    (left_none c.args.out.now c.loop-done.out _ _
-    (no_codes c.args.width (packed_number c.args.width c.args.reference) c.args.run.now c.loop-done.done (omega arith)) c.loop-done.invariant).1
+pub returns : goal.returns
+returns c =
+    let ended = left_none c.args.out.now c.loop-done.out _ _ (no_codes c.args.width (packed_number c.args.width c.args.reference) c.args.run.now c.loop-done.done (omega arith)) c.loop-done.invariant in
+    record { bits = ended.0; spare = ended.1 }

@@ -1,6 +1,6 @@
 use Rattle.std.proofs.Common.{◌*◌, drop, map}
 use Rattle.grib_packing.specs.Packed.{fields, packed_number}
-use Rattle.grib_groups.proofs.Parts.{Left}
+use Rattle.grib_packing.proofs.Left.{Left}
 use Rattle.grib_groups.proofs.encoding.put_fours.Given as goal
 
 abbrev pub invariant-loop-done : goal.invariant-loop-done

@@ -1,7 +1,7 @@
 use Rattle.std.proofs.Common.{◌-◌, drop, map}
 use Rattle.grib_packing.specs.Groupings.{length_bits}
 use Rattle.grib_packing.specs.Packed.{fields}
-use Rattle.grib_groups.proofs.Parts.{Left}
+use Rattle.grib_packing.proofs.Left.{Left}
 use Rattle.grib_groups.proofs.encoding.put_lengths.Given as goal
 
 abbrev pub invariant-loop-length : goal.invariant-loop-length

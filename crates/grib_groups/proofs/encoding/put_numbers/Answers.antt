@@ -1,9 +1,10 @@
 use Rattle.std.proofs.Common.{◌++◌, arith, length, get_or, sym, ap, ◌∙◌}
 use Rattle.grib_packing.specs.Packed.{group_fields}
 use Rattle.grib_packing.proofs.Bounds.{all_below}
+use Rattle.grib_packing.proofs.Left.{left_padded}
 use Rattle.grib_groups.proofs.Measures.{known-here, known-next, measured-is, narrow}
 use Rattle.grib_groups.proofs.Packable.{packable}
-use Rattle.grib_groups.proofs.Parts.{told_run, told_after, left_padded, no_parts, grouping-within, grouping-next, part_more, part_room}
+use Rattle.grib_groups.proofs.Parts.{told_run, told_after, no_parts, grouping-within, grouping-next, part_more, part_room}
 use Rattle.grib_groups.proofs.encoding.put_numbers.Goals as goal
 
 pub split_at-requires : goal.split_at-requires
@@ -23,13 +24,13 @@ put_group-requires-clause-told c = told_run c.args.reserved c.loop-length.rest.n
 pub put_group-requires-clause-few : goal.put_group-requires-clause-few
 put_group-requires-clause-few c =
     let below = all_below c.args.reserved _ (told_run c.args.reserved c.loop-length.rest.now c.split_at.result.0.now _ c.split_at.ensures.front c.loop-length.invariant.codes) in
-    narrow c.args.reserved c.args.bits c.next_measure-measure.result c.split_at.result.0.now c.next_measure-measure.ensures c.requires.reserved below
+    narrow c.args.reserved c.args.bits c.next_measure-measure.result c.split_at.result.0.now c.next_measure-measure.ensures c.requires.grouped.reserved below
 
 pub put_group-requires-clause-codes : goal.put_group-requires-clause-codes
 put_group-requires-clause-codes c some =
     let below = all_below c.args.reserved _ (told_run c.args.reserved c.loop-length.rest.now c.split_at.result.0.now _ c.split_at.ensures.front c.loop-length.invariant.codes) in
     packable c.args.reserved c.args.bits c.next_measure-measure.result.width c.next_measure-measure.result.reference c.split_at.result.0.now c.next_measure-measure.ensures.width c.next_measure-measure.ensures.reference
-    some c.requires.reserved below
+    some c.requires.grouped.reserved below
 
 pub put_group-requires-clause-room : goal.put_group-requires-clause-room
 put_group-requires-clause-room c =
@@ -56,14 +57,9 @@ loop-length-preserved c =
           c.split_at.ensures.front c.split_at.ensures.back c.loop-length.invariant.written (c.put_group.ensures.bits ∙ ap (λ xs. c.loop-length.out.bits ++ xs) (sym is)) (omega (arith, c.put_group.ensures.spare, ap length is));
     }
 
-pub returns-clause-bits : goal.returns-clause-bits
-returns-clause-bits c =
-    (left_padded c.args.out.now c.loop-length.out c.align.new.self _ _
+pub returns : goal.returns
+returns c =
+    let ended = left_padded c.args.out.now c.loop-length.out c.align.new.self _ _
     (no_parts (group_fields c.args.reserved c.args.bits) c.args.lengths.now c.loop-length.length-index c.loop-length.rest.now (omega arith))
-    c.loop-length.invariant.written c.requires.whole c.align.ensures.bits c.align.ensures.spare).bits
-
-pub returns-clause-spare : goal.returns-clause-spare
-returns-clause-spare c =
-    (left_padded c.args.out.now c.loop-length.out c.align.new.self _ _
-    (no_parts (group_fields c.args.reserved c.args.bits) c.args.lengths.now c.loop-length.length-index c.loop-length.rest.now (omega arith))
-    c.loop-length.invariant.written c.requires.whole c.align.ensures.bits c.align.ensures.spare).spare
+    c.loop-length.invariant.written c.requires.whole c.align.ensures.bits c.align.ensures.spare in
+    record { bits = ended.bits; spare = ended.spare }

@@ -16,17 +16,15 @@ put_each-requires-2-clause-room c =
     let parts = parts_joined c.args.width (packed_number c.args.width c.args.reference) c.args.run.now c.split_at.result.0.now c.split_at.result.1.now _ c.split_at.ensures.front c.split_at.ensures.back in
     omega (arith, c.requires.room, ap length parts, length-append (fields c.args.width (map f c.split_at.result.0.now)) (fields c.args.width (map f c.split_at.result.1.now)), c.put_fours.ensures.spare)
 
-pub returns-clause-bits : goal.returns-clause-bits
-returns-clause-bits c =
+pub returns : goal.returns
+returns c =
     let f = packed_number c.args.width c.args.reference in
     let parts = parts_joined c.args.width (packed_number c.args.width c.args.reference) c.args.run.now c.split_at.result.0.now c.split_at.result.1.now _ c.split_at.ensures.front c.split_at.ensures.back in
-    c.put_each-2.ensures.bits
-    ∙ ap (λ xs. xs ++ fields c.args.width (map f c.split_at.result.1.now)) c.put_fours.ensures.bits
-    ∙ append_assoc c.args.out.now.bits (fields c.args.width (map f c.split_at.result.0.now)) (fields c.args.width (map f c.split_at.result.1.now))
-    ∙ ap (λ xs. c.args.out.now.bits ++ xs) (sym parts)
-
-pub returns-clause-spare : goal.returns-clause-spare
-returns-clause-spare c =
-    let f = packed_number c.args.width c.args.reference in
-    let parts = parts_joined c.args.width (packed_number c.args.width c.args.reference) c.args.run.now c.split_at.result.0.now c.split_at.result.1.now _ c.split_at.ensures.front c.split_at.ensures.back in
-    omega (arith, ap length parts, length-append (fields c.args.width (map f c.split_at.result.0.now)) (fields c.args.width (map f c.split_at.result.1.now)), c.put_fours.ensures.spare, c.put_each-2.ensures.spare)
+    record {
+      bits =
+          c.put_each-2.ensures.bits
+          ∙ ap (λ xs. xs ++ fields c.args.width (map f c.split_at.result.1.now)) c.put_fours.ensures.bits
+          ∙ append_assoc c.args.out.now.bits (fields c.args.width (map f c.split_at.result.0.now)) (fields c.args.width (map f c.split_at.result.1.now))
+          ∙ ap (λ xs. c.args.out.now.bits ++ xs) (sym parts);
+      spare = omega (arith, ap length parts, length-append (fields c.args.width (map f c.split_at.result.0.now)) (fields c.args.width (map f c.split_at.result.1.now)), c.put_fours.ensures.spare, c.put_each-2.ensures.spare);
+    }

@@ -3,7 +3,8 @@ use Rattle.grib_bits.specs.Bits.{bits_of}
 use Rattle.grib_bits.specs.Written.{Written}
 use Rattle.grib_bits.proofs.Numbers.{length-bits_of}
 use Rattle.grib_packing.specs.Packed.{fields, padded}
-use Rattle.grib_groups.proofs.Parts.{Left, left_more, left_room, drop-next, padded-more}
+use Rattle.grib_packing.proofs.Left.{Left, left_more, left_room, padded-more}
+use Rattle.grib_groups.proofs.Parts.{drop-next}
 use Rattle.grib_groups.proofs.encoding.put_same.Goals as goal
 
 next_same : (b r : ℕ) (lengths : List ℕ) (i : ℕ) → i < length lengths

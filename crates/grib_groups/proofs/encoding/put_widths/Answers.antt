@@ -1,14 +1,16 @@
 use Rattle.std.proofs.Common.{◌^◌, ◌<◌, ◌∙◌, arith, length, get_or}
 use Rattle.grib_packing.specs.Groupings.{width_of}
+use Rattle.grib_packing.proofs.Bounds.{all_below}
+use Rattle.grib_packing.proofs.Left.{left_padded}
 use Rattle.grib_groups.proofs.Measures.{known-here, known-next}
-use Rattle.grib_groups.proofs.Parts.{below_run, below_after, left_padded, no_fields, grouping-within, grouping-next, fits-next, fits-here, field_more, field_room}
+use Rattle.grib_groups.proofs.Parts.{told_run, told_after, no_fields, grouping-within, grouping-next, fits-next, fits-here, field_more, field_room}
 use Rattle.grib_groups.proofs.encoding.put_widths.Goals as goal
 
 pub split_at-requires : goal.split_at-requires
 split_at-requires c = grouping-within c.args.lengths.now c.loop-length.length-index (omega arith) (length c.loop-length.rest.now) c.loop-length.invariant.grouping
 
 pub next_measure-measure-requires-clause-codes : goal.next_measure-measure-requires-clause-codes
-next_measure-measure-requires-clause-codes c = below_run c.args.reserved c.loop-length.rest.now c.split_at.result.0.now _ c.split_at.ensures.front c.loop-length.invariant.codes
+next_measure-measure-requires-clause-codes c = all_below c.args.reserved _ (told_run c.args.reserved c.loop-length.rest.now c.split_at.result.0.now _ c.split_at.ensures.front c.loop-length.invariant.codes)
 
 pub next_measure-measure-requires-clause-known : goal.next_measure-measure-requires-clause-known
 next_measure-measure-requires-clause-known c =
@@ -34,7 +36,7 @@ loop-length-preserved c =
     let after = c.split_at.result.1.now in
     record {
       grouping = grouping-next lengths i (omega arith) rest after c.split_at.ensures.back c.loop-length.invariant.grouping;
-      codes = below_after c.args.reserved rest after (get_or lengths i 0) c.split_at.ensures.back c.loop-length.invariant.codes;
+      codes = told_after c.args.reserved rest after (get_or lengths i 0) c.split_at.ensures.back c.loop-length.invariant.codes;
       known =
           known-next c.args.reserved c.args.reference_bits lengths i (omega arith) c.loop-length.told.now c.later_measures-told.result.now rest after c.later_measures-told.ensures c.split_at.ensures.back
           c.loop-length.invariant.known;
@@ -44,14 +46,9 @@ loop-length-preserved c =
           c.split_at.ensures.front c.split_at.ensures.back (c.from.ensures ∙ c.next_measure-measure.ensures.width) c.loop-length.invariant.written c.put.ensures.bits c.put.ensures.spare;
     }
 
-pub returns-clause-bits : goal.returns-clause-bits
-returns-clause-bits c =
-    (left_padded c.args.out.now c.loop-length.out c.align.new.self _ _
+pub returns : goal.returns
+returns c =
+    let ended = left_padded c.args.out.now c.loop-length.out c.align.new.self _ _
     (no_fields (width_of c.args.reserved) c.args.bits c.args.lengths.now c.loop-length.length-index c.loop-length.rest.now (omega arith))
-    c.loop-length.invariant.written c.requires.whole c.align.ensures.bits c.align.ensures.spare).bits
-
-pub returns-clause-spare : goal.returns-clause-spare
-returns-clause-spare c =
-    (left_padded c.args.out.now c.loop-length.out c.align.new.self _ _
-    (no_fields (width_of c.args.reserved) c.args.bits c.args.lengths.now c.loop-length.length-index c.loop-length.rest.now (omega arith))
-    c.loop-length.invariant.written c.requires.whole c.align.ensures.bits c.align.ensures.spare).spare
+    c.loop-length.invariant.written c.requires.whole c.align.ensures.bits c.align.ensures.spare in
+    record { bits = ended.bits; spare = ended.spare }

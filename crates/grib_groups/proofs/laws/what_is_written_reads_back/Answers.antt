@@ -14,9 +14,11 @@ use Rattle.grib_packing.specs.Packed.{fields, group_fields, group_parts, padded,
 use Rattle.grib_packing.proofs.Spans.{small_run}
 use Rattle.grib_packing.proofs.Digits.{digits-lt}
 use Rattle.grib_packing.proofs.Bounds.{all_below, references_fit, widths_few, widths_fit}
+use Rattle.grib_packing.proofs.Left.{padded-more}
+use Rattle.grib_packing.proofs.Fields.{padded_octets, plain-padded, segment}
 use Rattle.grib_groups.specs.Encoding.{LaysOut}
-use Rattle.grib_groups.proofs.Parts.{padded-more, parts-are}
-use Rattle.grib_groups.proofs.Back.{bits_back, coded_back, coded_lt, codes_back, first_part, length-runs, no_row, no_rows, no_wide, padded_octets, plain-padded, plus_none, second_part, segment, third_part}
+use Rattle.grib_groups.proofs.Parts.{parts-are}
+use Rattle.grib_groups.proofs.Back.{bits_back, coded_back, coded_lt, codes_back, first_part, length-runs, no_row, no_rows, no_wide, plus_none, second_part, third_part}
 use Rattle.grib_groups.proofs.laws.what_is_written_reads_back.Goals as goal
 
 module _ (layout : Layout) (codes : List Code) (ns : List ℕ) (octets : List ℕ) (after : List Bool) (laid : LaysOut layout codes ns)

@@ -4,10 +4,10 @@ use Rattle.grib_bits.specs.Bits.{bits}
 use Rattle.grib_bits.specs.Plain.{plain}
 use Rattle.grib_base.specs.declared.code.Code.{Code}
 use Rattle.grib_packing.specs.Groups.{reference_octets, width_octets, length_octets}
+use Rattle.grib_packing.proofs.Fields.{length-plain}
 use Rattle.grib_groups.specs.Lists.{ReferencesTook, WidthsTook, LengthsAre, LengthsTook, LengthAdded}
 use Rattle.grib_groups.specs.Feeding.{part, no_marks, plain_groups}
 use Rattle.grib_groups.proofs.Pieces.{part_enough, part_codes}
-use Rattle.grib_groups.proofs.Plain.{length-plain}
 use Rattle.grib_groups.proofs.Reading.{references_read, widths_read, lengths_read, last_set}
 use Rattle.grib_groups.proofs.list_feeding.FedLists.finish.Goals as goal
 

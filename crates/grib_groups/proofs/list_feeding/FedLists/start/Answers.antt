@@ -6,7 +6,7 @@ use Rattle.grib_groups.proofs.Pieces.{no_part}
 use Rattle.grib_groups.proofs.list_feeding.FedLists.start.Goals as goal
 
 pub list-requires-3-clause-limit : goal.list-requires-3-clause-limit
-list-requires-3-clause-limit c = pow_mono c.requires.lengths
+list-requires-3-clause-limit c = pow_mono c.requires.groups.lengths
 
 pub returns-clause-fed : goal.returns-clause-fed
 returns-clause-fed c =

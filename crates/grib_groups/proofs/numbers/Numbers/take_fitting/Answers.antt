@@ -12,11 +12,11 @@ use Rattle.grib_groups.proofs.numbers.Numbers.take_fitting.Goals.{After-keep_res
 is_short : (g : _) (c : After-keep_rest g) → IsShort (record c.take_some-taker.new.self { pending = c.keep_rest.new.pending })
 is_short g c = record {
   some = omega arith;
-  short = omega (arith, ap length c.keep_rest.ensures, length-drop c.take_some-taker.new.at (bits c.args.piece.now), length-bits c.args.piece.now, c.take_some-taker.ensures.no_more);
+  short = omega (arith, ap length c.keep_rest.ensures, length-drop c.take_some-taker.new.at (bits c.args.piece.now), length-bits c.args.piece.now, c.take_some-taker.ensures.to.no_more);
 }
 
 pub returns-then-self-gt0-clause-ready : goal.returns-then-self-gt0-clause-ready
-returns-then-self-gt0-clause-ready g c = record { readable = c.take_some-taker.ensures.readable; pending = λ _. is_short g c }
+returns-then-self-gt0-clause-ready g c = record { readable = c.take_some-taker.ensures.to.readable; pending = λ _. is_short g c }
 
 pub returns-then-self-gt0-clause-waits : goal.returns-then-self-gt0-clause-waits
 returns-then-self-gt0-clause-waits g c = λ _. is_short g c

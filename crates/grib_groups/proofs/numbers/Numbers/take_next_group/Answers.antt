@@ -13,11 +13,11 @@ take_some-requires-clause-readable g c =
     let next = c.args.self.now.next in
     let group = c.group-self.result in
     let width : group.width ≡ slice_index c.args.table.now.widths.items next = ap (λ (gr : Group). gr.width) c.group-self.ensures.group in
-    let narrow : group.width ≤ 32 = omega (arith, width, narrow_at c.args.table.now c.requires.whole next c.requires.narrow (omega arith)) in
+    let narrow : group.width ≤ 32 = omega (arith, width, narrow_at c.args.table.now c.requires.read.whole next c.requires.read.narrow (omega arith)) in
     let power : 2 ^ group.width ≤ 2 ^ 32 = pow_mono narrow in
     record {
       width = omega arith;
-      below = omega (arith, power, c.group-self.ensures.reference, c.requires.limit (omega arith));
+      below = omega (arith, power, c.group-self.ensures.reference, c.requires.read.limit (omega arith));
     }
 
 pub returns-clause-goes : goal.returns-clause-goes
@@ -32,6 +32,6 @@ returns-clause-goes g c =
     let next = c.args.self.now.next in
     let here = drop c.args.at.now (bits c.args.piece.now) in
     let following : drop next groups ≡ c.group-self.result ∷ drop (next + 1) groups =
-    groups_from_index table c.requires.whole next (omega arith) ∙ ap (λ (group : Group). group ∷ drop (next + 1) groups) (sym c.group-self.ensures.group) in
+    groups_from_index table c.requires.read.whole next (omega arith) ∙ ap (λ (group : Group). group ∷ drop (next + 1) groups) (sym c.group-self.ensures.group) in
     let advanced = subst (λ (gs : List Group). Taken layout (current ∷ drop next groups) here [] gs here) following (taken_next layout current (drop next groups) here c.requires.none) in
     went_then took none more layout (went_same took none more layout _ _ here here c.args.taker advanced) (c.take_some.ensures.goes groups)

@@ -24,10 +24,10 @@ loop-self-preserved g c =
     record {
       went = went_then took none more layout c.loop-self.invariant.went
           (went_then took none more layout c.take_ready_groups-taker.ensures.goes c.take_next_group-taker.ensures.goes);
-      readable = c.take_next_group-taker.ensures.readable;
-      pending = c.take_next_group-taker.ensures.pending ∙ c.take_ready_groups-taker.ensures.pending ∙ c.loop-self.invariant.pending;
-      within = c.take_next_group-taker.ensures.within;
-      no_more = c.take_next_group-taker.ensures.no_more;
+      readable = c.take_next_group-taker.ensures.to.readable;
+      pending = c.take_next_group-taker.ensures.to.pending ∙ c.take_ready_groups-taker.ensures.pending ∙ c.loop-self.invariant.pending;
+      within = c.take_next_group-taker.ensures.to.within;
+      no_more = c.take_next_group-taker.ensures.to.no_more;
     }
 
 -- where the loop ended at a group with no values left, it was the last
@@ -37,7 +37,7 @@ no_values g c =
     let next = c.loop-self.self.next in
     elim c.loop-self-test.branch [
       | then-loop-self-test+else-self-len w ↦
-          let past = no_groups table c.requires.whole next (omega (arith, w.if-self-len.false, w.len.ensures)) in
+          let past = no_groups table c.requires.read.whole next (omega (arith, w.if-self-len.false, w.len.ensures)) in
           values-cons c.loop-self.self.current (drop next (groups_in table))
           ∙ ap (λ (gs : List Group). c.loop-self.self.current.count + values gs) past
           ∙ omega (arith, c.if-self-eq0.true)

@@ -15,18 +15,18 @@ is_ready-requires g c =
     let next = c.loop-self.self.next in
     let group = c.group-group.result in
     let width : group.width ≡ slice_index c.args.table.now.widths.items next = ap (λ (gr : Group). gr.width) c.group-group.ensures.group in
-    let narrow : group.width ≤ 32 = omega (arith, width, narrow_at c.args.table.now c.requires.whole next c.requires.narrow (omega arith)) in
+    let narrow : group.width ≤ 32 = omega (arith, width, narrow_at c.args.table.now c.requires.read.whole next c.requires.read.narrow (omega arith)) in
     let power : 2 ^ group.width ≤ 2 ^ 32 = pow_mono narrow in
-    omega (arith, power, c.limit_of.ensures, c.group-group.ensures.reference, c.requires.limit (omega arith))
+    omega (arith, power, c.limit_of.ensures, c.group-group.ensures.reference, c.requires.read.limit (omega arith))
 
 pub take_at_once-taker-requires-clause-limit : goal.take_at_once-taker-requires-clause-limit
 take_at_once-taker-requires-clause-limit g c =
     let next = c.loop-self.self.next in
     let group = c.group-group.result in
     let width : group.width ≡ slice_index c.args.table.now.widths.items next = ap (λ (gr : Group). gr.width) c.group-group.ensures.group in
-    let narrow : group.width ≤ 32 = omega (arith, width, narrow_at c.args.table.now c.requires.whole next c.requires.narrow (omega arith)) in
+    let narrow : group.width ≤ 32 = omega (arith, width, narrow_at c.args.table.now c.requires.read.whole next c.requires.read.narrow (omega arith)) in
     let power : 2 ^ group.width ≤ 2 ^ 32 = pow_mono narrow in
-    omega (arith, power, c.group-group.ensures.reference, c.requires.limit (omega arith))
+    omega (arith, power, c.group-group.ensures.reference, c.requires.read.limit (omega arith))
 
 pub loop-self-preserved : goal.loop-self-preserved
 loop-self-preserved g c =
@@ -48,7 +48,7 @@ loop-self-preserved g c =
     let empty : current.count ≡ 0 = ap (λ (gr : Group). gr.count) c.loop-self.invariant.current ∙ c.requires.none in
     let size : c.from.result * c.from-in-loop-self.result ≡ group.count * group.width = ap₂ (λ (m n : ℕ). m * n) c.from.ensures c.from-in-loop-self.ensures in
     let following : drop next groups ≡ group ∷ rest =
-    groups_from_index table c.requires.whole next (omega arith) ∙ ap (λ (gr : Group). gr ∷ rest) (sym c.group-group.ensures.group) in
+    groups_from_index table c.requires.read.whole next (omega arith) ∙ ap (λ (gr : Group). gr ∷ rest) (sym c.group-group.ensures.group) in
     let here = drop at all in
     let there = drop end all in
     let left : Group = record group { count = 0 } in
