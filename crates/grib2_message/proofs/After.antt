@@ -53,14 +53,14 @@ module _ (m : List ℕ) (before : List Placed) (number start : ℕ) (s : List �
 
   -- ---- what the Section 5 in force says
 
-  -- that of this one, which was read
+  -- where it is this section, which was read
   pub representation_read : (representation : Representation) → number ≡ 5 → Represents representation s
       → KeepsRepresentation (Some representation) (section_in_force 5 (placed_at start s ∷ before))
   representation_read representation five h =
       subst (λ (o : Option Placed). KeepsRepresentation (Some representation) o)
       (sym (in_force_same (placed_at start s) before 5 (comes.itself.number_stands ∙ five))) h
 
-  -- that of the last one before, where this is another section
+  -- where this is another section, what the last Section 5 before it says
   pub representation_kept : (places : Places) → HasPlaces m before places → number ≢ 5
       → KeepsRepresentation places.representation (section_in_force 5 (placed_at start s ∷ before))
   representation_kept places h other =

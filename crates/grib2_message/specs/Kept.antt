@@ -94,7 +94,7 @@ pub record AreSound (before : List Placed) : Type 0 where
   pub counted : section_count 4 before ≡ section_count 7 before + begun (last_number before)
   pub few : section_count 4 before ≤ 4096
 
--- the rows on an earlier bitmap that is to be taken again, for so many points
+-- the rows on an earlier bitmap that is to be taken again, for this number of points
 abbrev pub earlier_fault : ℕ → Option (List Bool) → Option Fault
 earlier_fault points earlier =
     let earlier_length = length (unwrap_or earlier []) in

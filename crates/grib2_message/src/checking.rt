@@ -39,7 +39,7 @@ pub(crate) fn check_grid(alloc: Global, section: &Section<'_>) -> Result<(), Rea
     Ok(())
 }
 
-/// Tries the rows of a Section 4 that stands after so many fields.
+/// Tries the rows of a Section 4 that stands after this number of fields.
 pub(crate) fn check_product(
     alloc: Global,
     fields: usize,
@@ -59,8 +59,8 @@ pub(crate) fn check_product(
     Ok(())
 }
 
-/// Tries the rows of a Section 6, where the grid in force has so many points and Section 5 so many
-/// values, after the last Section 6 with bits of its own. Memory is taken only for bits of its own.
+/// Tries the rows of a Section 6, where the grid in force has this number of points and Section 5 this number
+/// of values, after the last Section 6 with bits of its own. Memory is taken only for bits of its own.
 pub(crate) fn check_bitmap(
     alloc: Global,
     section: &Section<'_>,

@@ -19,8 +19,8 @@ use std::alloc::Global;
 /// The indicator of a Section 6 with bits of its own (code table 6.0).
 const OWN_BITS: u8 = 0;
 
-/// Tries the rows of the contents of the next section, after so many fields, and gives what the last Section 5
-/// says after it.
+/// Tries the rows of the contents of the next section, which stands after this number of fields, and gives what
+/// the last Section 5 says after it.
 pub(crate) fn check(
     alloc: Global,
     octets: &[u8],
@@ -49,7 +49,8 @@ pub(crate) fn check(
     Ok(places.representation)
 }
 
-/// Tries the rows of the contents of the next section, which is no Section 5, after so many fields.
+/// Tries the rows of the contents of the next section, which stands after this number of fields and is no
+/// Section 5.
 fn check_other(
     alloc: Global,
     octets: &[u8],

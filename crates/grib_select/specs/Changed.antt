@@ -105,7 +105,7 @@ abbrev pub set_fault : List ℕ → List Condition → Option SetFault
 set_fault message [] = None
 set_fault message (change ∷ changes) = or_later (change_fault message change) (λ _. set_fault message changes)
 
--- a fault is this one; want of memory says nothing of it
+-- a fault is this one; where there is no memory, nothing is said of it
 abbrev pub IsSetFault : Option SetFault → SetFault → Type 0
 IsSetFault expected (KeyRange key) = expected ≡ Some (KeyRange key)
 IsSetFault expected (KeyAbsent field key) = expected ≡ Some (KeyAbsent field key)

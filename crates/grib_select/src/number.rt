@@ -63,7 +63,7 @@ fn unless_missing(kind: Kind, octets: u32, number: Option<u64>) -> Option<u64>
     Some(raw)
 }
 
-/// Whether all bits of a number of so many octets are 1.
+/// Whether all bits of a number of this many octets are 1.
 pub(crate) fn is_all_ones(number: u64, octets: u32) -> bool
     requires few { octets ≤ 4 }
     requires fits { number < 256 ^ octets }
@@ -72,7 +72,7 @@ pub(crate) fn is_all_ones(number: u64, octets: u32) -> bool
     number + 1 == 1 << (8 * octets)
 }
 
-/// The number that so many octets make where they hold `x`, with a sign or without.
+/// The number that this many octets make where they hold `x`, with a sign or without.
 fn number_of(x: i64, is_signed: bool, octets: u32) -> Option<u64>
     requires some { 1 ≤ octets }
     requires few { octets ≤ 4 }
