@@ -1,5 +1,5 @@
 -- Values that can be written.
-use Rattle.std.proofs.Common.{◌≡◌, ℕ, ◌+◌, ◌*◌, ◌<◌, ◌≤◌, List, [], length, ap, ap₂, arith}
+use Rattle.std.proofs.Common.{◌≡◌, ℕ, ◌*◌, ◌≤◌, List, [], length, ap₂, arith}
 use Rattle.grib2_grids.specs.Spelled.{common_of}
 use Rattle.grib2_grids.specs.Writable.{IsWritable}
 use Rattle.grib2_grids.specs.declared.grid.GridSection.{GridSection}

@@ -1,5 +1,5 @@
 -- Which values of Section 3 can be written: those that a section has which no row of the profile refuses.
-use Rattle.std.specs.Prelude.{◌≡◌, ℕ, ◌*◌, ◌^◌, ◌<◌, ◌≤◌, ◌⊎◌, true, [], All, length, sum}
+use Rattle.std.specs.Prelude.{◌≡◌, ◌*◌, ◌^◌, ◌<◌, ◌≤◌, ◌⊎◌, true, [], All, length, sum}
 use Rattle.grib2_grids.specs.Grid.{may_have_list}
 use Rattle.grib2_grids.specs.Spelled.{template_of, common_of, written_length}
 use Rattle.grib2_grids.specs.declared.grid.GridSection.{GridSection}
