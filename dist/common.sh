@@ -1,6 +1,6 @@
 # What `grib`, install.sh and the scripts beside this page share. Each sets `top`, the folder of the
 # repository, and has a function `fail` that ends it.
-crate=$top/crates/grib_cli
+crate=$top/crates/grib_main
 shipped=$top/dist/grib-x86_64-linux-gnu # the program as it is shipped, and what it was built from:
 shipped_from=$top/dist/built-from       # the checksum of the sources, and the kit
 built=$crate/out/grib                   # the same of a program that was built here
@@ -34,7 +34,7 @@ crates_of_program() {
       for (i = 1; i <= count; i++) add(names[i])
       print name
     }
-    END { add("grib_cli") }' "$top/crates.txt"
+    END { add("grib_main") }' "$top/crates.txt"
 }
 
 # Says which crate is being proved, by what the kit says on standard input.
@@ -72,7 +72,7 @@ build_here() {
   rm -f "$built_here_from"
   build_program
   trap 'rm -f "$built.$$"' EXIT
-  cp "$crate/out/grib_cli" "$built.$$" && mv -fT "$built.$$" "$built" && echo "$sources $kit" >"$built_here_from" ||
+  cp "$crate/out/grib_main" "$built.$$" && mv -fT "$built.$$" "$built" && echo "$sources $kit" >"$built_here_from" ||
     fail "cannot write to $crate/out"
 }
 

@@ -1,7 +1,6 @@
 -- A section has one value.
 use Rattle.std.proofs.Common.{◌≡◌, ℕ, List, sym, ap, ◌∙◌, arith}
-use Rattle.grib2_grids.specs.Spelled.{Spelled, SpelledTemplate, SpelledCommon, SpelledLatLon, SpelledRotation, SpelledMercator, SpelledPolar, SpelledLambert, lambert_polar, gaussian_lat_lon, template_of}
-use Rattle.grib2_grids.specs.declared.templates.Common.{Common}
+use Rattle.grib2_grids.specs.Spelled.{Spelled, SpelledTemplate, SpelledLatLon, SpelledRotation, SpelledMercator, SpelledPolar, SpelledLambert, lambert_polar, gaussian_lat_lon, template_of}
 use Rattle.grib2_grids.specs.declared.templates.LatLon.{LatLon}
 use Rattle.grib2_grids.specs.declared.templates.Rotation.{Rotation}
 use Rattle.grib2_grids.specs.declared.templates.Mercator.{Mercator}
@@ -149,41 +148,12 @@ same_gaussian v w s h g = ap gaussian_of (same_lat_lon (gaussian_lat_lon v) (gau
 -- grids with templates of one number
 same_grid : (v w : Grid) (s : List ℕ) → template_of v ≡ template_of w → SpelledTemplate v s → SpelledTemplate w s → v ≡ w
 same_grid (grid.LatLon v) (grid.LatLon w) s e h g = ap grid.LatLon (same_lat_lon v w s h g)
-same_grid (grid.LatLon v) (grid.Rotated w r) s e h g = absurd (omega arith)
-same_grid (grid.LatLon v) (grid.Mercator w) s e h g = absurd (omega arith)
-same_grid (grid.LatLon v) (grid.Polar w) s e h g = absurd (omega arith)
-same_grid (grid.LatLon v) (grid.Lambert w) s e h g = absurd (omega arith)
-same_grid (grid.LatLon v) (grid.Gaussian w) s e h g = absurd (omega arith)
-same_grid (grid.Rotated v q) (grid.LatLon w) s e h g = absurd (omega arith)
 same_grid (grid.Rotated v q) (grid.Rotated w r) s e h g = λ i. grid.Rotated (same_lat_lon v w s h.0 g.0 i) (same_rotation q r s h.1 g.1 i)
-same_grid (grid.Rotated v q) (grid.Mercator w) s e h g = absurd (omega arith)
-same_grid (grid.Rotated v q) (grid.Polar w) s e h g = absurd (omega arith)
-same_grid (grid.Rotated v q) (grid.Lambert w) s e h g = absurd (omega arith)
-same_grid (grid.Rotated v q) (grid.Gaussian w) s e h g = absurd (omega arith)
-same_grid (grid.Mercator v) (grid.LatLon w) s e h g = absurd (omega arith)
-same_grid (grid.Mercator v) (grid.Rotated w r) s e h g = absurd (omega arith)
 same_grid (grid.Mercator v) (grid.Mercator w) s e h g = ap grid.Mercator (same_mercator v w s h g)
-same_grid (grid.Mercator v) (grid.Polar w) s e h g = absurd (omega arith)
-same_grid (grid.Mercator v) (grid.Lambert w) s e h g = absurd (omega arith)
-same_grid (grid.Mercator v) (grid.Gaussian w) s e h g = absurd (omega arith)
-same_grid (grid.Polar v) (grid.LatLon w) s e h g = absurd (omega arith)
-same_grid (grid.Polar v) (grid.Rotated w r) s e h g = absurd (omega arith)
-same_grid (grid.Polar v) (grid.Mercator w) s e h g = absurd (omega arith)
 same_grid (grid.Polar v) (grid.Polar w) s e h g = ap grid.Polar (same_polar v w s h g)
-same_grid (grid.Polar v) (grid.Lambert w) s e h g = absurd (omega arith)
-same_grid (grid.Polar v) (grid.Gaussian w) s e h g = absurd (omega arith)
-same_grid (grid.Lambert v) (grid.LatLon w) s e h g = absurd (omega arith)
-same_grid (grid.Lambert v) (grid.Rotated w r) s e h g = absurd (omega arith)
-same_grid (grid.Lambert v) (grid.Mercator w) s e h g = absurd (omega arith)
-same_grid (grid.Lambert v) (grid.Polar w) s e h g = absurd (omega arith)
 same_grid (grid.Lambert v) (grid.Lambert w) s e h g = ap grid.Lambert (same_lambert v w s h g)
-same_grid (grid.Lambert v) (grid.Gaussian w) s e h g = absurd (omega arith)
-same_grid (grid.Gaussian v) (grid.LatLon w) s e h g = absurd (omega arith)
-same_grid (grid.Gaussian v) (grid.Rotated w r) s e h g = absurd (omega arith)
-same_grid (grid.Gaussian v) (grid.Mercator w) s e h g = absurd (omega arith)
-same_grid (grid.Gaussian v) (grid.Polar w) s e h g = absurd (omega arith)
-same_grid (grid.Gaussian v) (grid.Lambert w) s e h g = absurd (omega arith)
 same_grid (grid.Gaussian v) (grid.Gaussian w) s e h g = ap grid.Gaussian (same_gaussian v w s h g)
+same_grid v w s e h g = absurd (omega arith)
 
 pub same_section : (value other : GridSection) (s : List ℕ) → Spelled value s → Spelled other s → value ≡ other
 same_section value other s h g =

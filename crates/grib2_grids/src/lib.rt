@@ -6,8 +6,6 @@ pub mod laws;
 mod reading;
 mod rows;
 mod templates;
-#[cfg(test)]
-mod tests;
 mod writing;
 
 pub use grib_base::ReadFault as GridFault;

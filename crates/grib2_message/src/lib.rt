@@ -2,8 +2,6 @@
 #![tactic(auto)]
 
 mod assembling;
-#[cfg(test)]
-mod assembling_tests;
 mod checking;
 mod columns;
 mod fault;
@@ -12,8 +10,6 @@ mod message;
 mod passing;
 mod places;
 mod reading;
-#[cfg(test)]
-mod tests;
 
 pub use fault::AssembleFault;
 pub use grib_base::ReadFault;

@@ -7,8 +7,6 @@ mod product;
 mod reading;
 mod rows;
 mod templates;
-#[cfg(test)]
-mod tests;
 mod writing;
 
 pub use grib_base::ReadFault as ProductFault;

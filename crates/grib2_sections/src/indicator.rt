@@ -63,38 +63,3 @@ pub fn read_head(octets: &[u8]) -> Result<Head, Fault>
         total,
     })
 }
-
-#[cfg(test)]
-mod tests {
-    use super::*;
-
-    #[test]
-    fn reads_edition_2(rt: HostRuntime) {
-        let head = Head {
-            edition: 2,
-            discipline: 10,
-            total: 183,
-        };
-        assert_eq!(rt; read_head(b"GRIB\0\0\x0a\x02\0\0\0\0\0\0\0\xb7"), Ok(head));
-    }
-
-    #[test]
-    fn reads_edition_1(rt: HostRuntime) {
-        let head = Head {
-            edition: 1,
-            discipline: 0,
-            total: 344,
-        };
-        assert_eq!(rt; read_head(b"GRIB\0\x01\x58\x01"), Ok(head));
-    }
-
-    #[test]
-    fn refuses_another_edition(rt: HostRuntime) {
-        let fault = Fault {
-            octet: 8,
-            reason: Reason::Edition,
-            detail: 3,
-        };
-        assert_eq!(rt; read_head(b"GRIB\0\0\0\x03"), Err(fault));
-    }
-}

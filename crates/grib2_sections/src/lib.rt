@@ -6,8 +6,6 @@ mod identification;
 mod indicator;
 mod refusing;
 mod section;
-#[cfg(test)]
-mod tests;
 
 pub use frame::Frame;
 pub use identification::{Identification, read_identification, write_identification};

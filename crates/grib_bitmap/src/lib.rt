@@ -3,8 +3,6 @@
 
 mod mask;
 mod section;
-#[cfg(test)]
-mod tests;
 mod words;
 
 pub use grib_base::ReadFault as MaskFault;

@@ -10,8 +10,6 @@ mod list;
 mod number;
 mod reading;
 mod sign;
-#[cfg(test)]
-mod tests;
 mod window;
 mod writer;
 

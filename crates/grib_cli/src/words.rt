@@ -14,8 +14,6 @@ use std::alloc::{AllocError, Global};
 mod asking;
 mod command;
 pub mod laws;
-#[cfg(test)]
-mod tests;
 mod values;
 
 use asking::job_of_command;

@@ -6,25 +6,23 @@ mod constant;
 mod descriptors;
 mod differencing;
 mod feeding;
+mod field;
 mod grouping;
 mod keeping;
 pub mod laws;
 mod packed;
 mod packing;
-#[cfg(test)]
-mod packing_tests;
 mod range;
 mod representation;
 mod runs;
 mod telling;
-#[cfg(test)]
-mod tests;
 mod told_codes;
 mod unpacking;
 mod values;
 mod writing;
 
 pub use feeding::Feeder;
+pub use field::Representation;
 pub use grib_groups::Layout;
 pub use keeping::{Keeper, Nothing, Points};
 pub use packing::{ComplexPacking, SpatialPacking};

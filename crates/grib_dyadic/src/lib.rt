@@ -11,6 +11,3 @@ mod word;
 
 pub use dyadic::Dyadic;
 pub use ieee::NotFinite;
-
-#[cfg(test)]
-mod tests;

@@ -18,8 +18,6 @@ mod printing;
 mod reading;
 mod serving;
 mod splitting;
-#[cfg(test)]
-mod tests;
 mod writing;
 
 pub use answering::{Answered, answer_message};
@@ -29,5 +27,6 @@ pub use grib_select::{Condition, Key, Value};
 pub use grib_stream::{Cause, Kept, Outcome, Place, Totals};
 pub use job::{Conditions, Job};
 pub use name::Name;
+pub use performing::Answering;
 pub use reading::Held;
 pub use serving::serve;

@@ -18,7 +18,7 @@ const LEAST: u64 = 12;
 
 /// A job that is to answer the messages of an input.
 #[derive(Debug, Drop)]
-pub(crate) struct Answering<'a> {
+pub struct Answering<'a> {
     pub job: &'a Job,
     pub ghost target_stands: { has_target job.now ≡ true },
     pub ghost changes_stand: { CanChange job.now },

@@ -5,8 +5,6 @@ mod code_run;
 mod coding;
 mod decoding;
 mod encoding;
-#[cfg(test)]
-mod encoding_tests;
 mod feeding;
 pub mod laws;
 mod list_feeding;
@@ -16,8 +14,6 @@ mod numbers;
 mod run;
 mod table;
 mod taker;
-#[cfg(test)]
-mod tests;
 
 pub use code_run::CodeRun;
 pub use decoding::{decode_groups, read_groups, take_codes, take_groups};

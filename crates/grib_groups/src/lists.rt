@@ -1,6 +1,6 @@
 //! The three lists of groups, as they are read.
 
-ghost use Rattle.std.specs.Prelude.{List, length, map, sum, None, ◌↔◌, IsTrue, IfOk, ◌*◌, ◌≡◌, ℕ, ◌+◌, ◌^◌, ◌<◌, ◌≤◌, ◌∷◌, [], ◌++◌, vec_len, vec_capacity, cond, ◌==◌};
+ghost use Rattle.std.specs.Prelude.{List, length, map, sum, None, ◌↔◌, IsTrue, IfOk, ◌*◌, ◌≡◌, ℕ, ◌+◌, ◌^◌, ◌<◌, ◌≤◌, ◌∷◌, [], ◌++◌, vec_len, vec_capacity};
 ghost use Rattle.std.specs.List.{All};
 ghost use Rattle.grib_bits.specs.Bits.{bits as bits_in};
 ghost use Rattle.grib_bits.specs.Plain.{plain};
@@ -8,15 +8,15 @@ ghost use Rattle.grib_base.specs.declared.code.Code.TheVariants.{Present};
 ghost use Rattle.grib_base.specs.Rows.{first_fault};
 ghost use Rattle.grib_groups.specs.Taking.{number_of};
 ghost use Rattle.grib_packing.specs.Groups.{list_octets, packed_bits, groups_from, octets_for, list_rows, references as all_references, widths as all_widths, lengths as all_lengths};
-ghost use Rattle.grib_groups.specs.Lists.{HasGroups, ListsAre, lists_fault, AreEmpty, WereRead, ReferencesTook, WidthsTook, LengthsTook, LengthAdded};
+ghost use Rattle.grib_groups.specs.Lists.{HasGroups, ListsAre, lists_fault, AreEmpty, WereRead, ReferencesRoom, ReferencesTook, WidthsRoom, WidthsTook, LengthsRoom, LengthsTook, LengthAdded, noted_first};
 ghost use Rattle.grib_groups.specs.Feeding.{no_marks};
-ghost use Rattle.grib_groups.specs.Laws.{references-none, references-more, widths-none, widths-more, lengths-none, lengths-more};
+ghost use Rattle.grib_groups.specs.Laws.{references-none, references-more, widths-none, widths-more, lengths-none, lengths-more, references-fewer, references-room, widths-fewer, widths-room, lengths-fewer, lengths-room};
 
 use crate::{FedLists, Layout, RunTaker, Table, Taker};
 use grib_base::{Code, Fault, Reason, push_within};
 use std::alloc::{AllocError, Global};
 
-/// The references that were read, for which there is memory. One without room is passed over.
+/// The references that were read, for which there is memory.
 #[derive(Debug, Drop)]
 pub struct References {
     pub items: Vec<u32>,
@@ -25,12 +25,11 @@ pub struct References {
 impl Taker for References {
     ghost limit = { 2 ^ 32 };
 
+    ghost room = { ReferencesRoom };
+
     ghost took = { ReferencesTook };
 
     fn take(mut self, code: Code) -> References {
-        if self.items.len() >= self.items.capacity() {
-            return self;
-        }
         push_within(&mut self.items, number(code) as u32);
         self
     }
@@ -38,6 +37,10 @@ impl Taker for References {
     ghost none = { references-none };
 
     ghost more = { references-more };
+
+    ghost fewer = { references-fewer };
+
+    ghost room_after = { references-room };
 }
 
 impl RunTaker for References {
@@ -47,24 +50,23 @@ impl RunTaker for References {
     }
 }
 
-/// The widths that were read, each the reference width and a coded width. One without room is passed over.
+/// The widths that were read, each the reference width and a coded width.
 #[derive(Debug, Drop)]
 pub struct Widths {
     pub items: Vec<u8>,
     reference: u8,
-    /// The number, from 1, of the first width over 32, or 0.
-    too_wide: u64,
+    /// The number, from 1, of the first width over 32.
+    too_wide: Option<u64>,
 }
 
 impl Taker for Widths {
     ghost limit = { 2 ^ 32 };
 
+    ghost room = { WidthsRoom };
+
     ghost took = { WidthsTook };
 
     fn take(mut self, code: Code) -> Widths {
-        if self.items.len() >= self.items.capacity() {
-            return self;
-        }
         let width = u64::from(self.reference) + number(code);
         self.too_wide = first_noted(self.too_wide, width > 32, self.items.len() as u64 + 1);
         push_within(&mut self.items, width.min(32) as u8);
@@ -74,6 +76,10 @@ impl Taker for Widths {
     ghost none = { widths-none };
 
     ghost more = { widths-more };
+
+    ghost fewer = { widths-fewer };
+
+    ghost room_after = { widths-room };
 }
 
 impl RunTaker for Widths {
@@ -83,8 +89,7 @@ impl RunTaker for Widths {
     }
 }
 
-/// The lengths that were read, each the reference length and some increments. One without room is passed
-/// over.
+/// The lengths that were read, each the reference length and some increments.
 #[derive(Debug, Drop)]
 pub struct Lengths {
     pub items: Vec<u32>,
@@ -92,19 +97,17 @@ pub struct Lengths {
     increment: u8,
     /// How many values are left for further groups.
     rest: u32,
-    /// The number, from 1, of the first group that is longer than that, or 0.
-    past: u64,
+    /// The number, from 1, of the first group that is longer than that.
+    past: Option<u64>,
 }
 
 impl Lengths {
     /// Adds the length of the next group.
     pub fn add(mut self, length: u64) -> Lengths
+        requires { LengthsRoom self 1 }
         ensures { LengthAdded self length result }
     {
-        if self.items.len() >= self.items.capacity() {
-            return self;
-        }
-        if self.past > 0 || length > u64::from(self.rest) {
+        if self.past.is_some() || length > u64::from(self.rest) {
             self.past = first_noted(self.past, true, self.items.len() as u64 + 1);
             push_within(&mut self.items, 0);
             return self;
@@ -118,6 +121,8 @@ impl Lengths {
 impl Taker for Lengths {
     ghost limit = { 2 ^ 32 };
 
+    ghost room = { LengthsRoom };
+
     ghost took = { LengthsTook };
 
     fn take(self, code: Code) -> Lengths {
@@ -128,6 +133,10 @@ impl Taker for Lengths {
     ghost none = { lengths-none };
 
     ghost more = { lengths-more };
+
+    ghost fewer = { lengths-fewer };
+
+    ghost room_after = { lengths-room };
 }
 
 impl RunTaker for Lengths {
@@ -162,14 +171,14 @@ impl Lists {
             widths: Widths {
                 items: Vec::with_capacity(alloc, groups)?,
                 reference: layout.width_reference,
-                too_wide: 0,
+                too_wide: None,
             },
             lengths: Lengths {
                 items: Vec::with_capacity(alloc, groups)?,
                 reference: layout.length_reference,
                 increment: layout.length_increment,
                 rest: values,
-                past: 0,
+                past: None,
             },
         })
     }
@@ -208,13 +217,13 @@ impl Lists {
         ensures { (values : ℕ) (references widths lengths : List ℕ) → values < 2 ^ 32 → ListsAre layout.now values self.now references widths lengths
             → result ≡ lists_fault layout.now start skip length values references widths lengths }
     {
-        if self.widths.too_wide > 0 {
+        if let Some(group) = self.widths.too_wide {
             let before = u64::from(5 + skip) + octets_of(layout.reference_bits, layout.groups);
             let place = start + before;
-            return Some(Fault::at(place, Reason::GroupWidth, self.widths.too_wide));
+            return Some(Fault::at(place, Reason::GroupWidth, group));
         }
-        if self.lengths.past > 0 {
-            return Some(Fault::at(start, Reason::GroupShape, self.lengths.past));
+        if let Some(group) = self.lengths.past {
+            return Some(Fault::at(start, Reason::GroupShape, group));
         }
         if self.lengths.rest > 0 {
             let groups = u64::from(layout.groups);
@@ -319,10 +328,14 @@ fn number(code: Code) -> u64
     }
 }
 
-/// The place that was noted before, else this one where it is to be noted, else 0.
+/// The place that was noted before, else this one where it is to be noted.
 #[inline]
-fn first_noted(before: u64, here: bool, place: u64) -> u64
-    ensures { result ≡ cond (before == 0) (cond here place 0) before }
+fn first_noted(before: Option<u64>, here: bool, place: u64) -> Option<u64>
+    ensures { result ≡ noted_first before here place }
 {
-    if before == 0 && here { place } else { before }
+    match before {
+        Some(earlier) => Some(earlier),
+        None if here => Some(place),
+        None => None,
+    }
 }

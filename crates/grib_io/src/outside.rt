@@ -13,9 +13,6 @@ ghost use Rattle.grib_io.specs.Shelves.{Held, OthersStay, Stays, Turns, ReadsAt,
 
 use std::alloc::AllocError;
 
-#[cfg(test)]
-mod tests;
-
 /// The object failed, as a device does.
 #[derive(Clone, Copy, Debug, PartialEq, Eq)]
 pub struct Failed;

@@ -5,8 +5,6 @@ mod condition;
 mod key;
 pub mod laws;
 mod table;
-#[cfg(test)]
-mod tests;
 
 pub use condition::{Condition, Value};
 pub use key::Key;

@@ -5,8 +5,6 @@ pub mod laws;
 mod making;
 mod points;
 mod summary;
-#[cfg(test)]
-mod tests;
 
 pub use making::made_message;
 pub use summary::{Summary, made_summary};

@@ -8,8 +8,6 @@ pub mod laws;
 mod number;
 mod row;
 mod table;
-#[cfg(test)]
-mod tests;
 
 pub use fault::TableFault;
 pub use row::Target;

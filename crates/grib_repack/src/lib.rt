@@ -5,8 +5,6 @@ mod fault;
 pub mod laws;
 mod repacking;
 mod target;
-#[cfg(test)]
-mod tests;
 
 pub use fault::RepackFault;
 pub use repacking::repack;

@@ -7,9 +7,6 @@ mod cutting;
 pub mod laws;
 mod matching;
 mod number;
-mod place;
-#[cfg(test)]
-mod tests;
 mod value;
 
 pub use changing::{SetFault, set_keys};

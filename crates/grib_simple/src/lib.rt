@@ -5,13 +5,9 @@ mod common;
 pub mod laws;
 mod numbers;
 mod packed;
-#[cfg(test)]
-mod packing_tests;
 mod repeated;
 mod simple;
 mod survey;
-#[cfg(test)]
-mod tests;
 mod writing;
 
 pub use common::common_point;

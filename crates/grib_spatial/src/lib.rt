@@ -6,8 +6,6 @@ mod differencing;
 pub mod laws;
 mod running;
 mod steady;
-#[cfg(test)]
-mod tests;
 mod undoing;
 
 pub use differences::Differences;

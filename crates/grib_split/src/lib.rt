@@ -7,8 +7,6 @@ mod fewest;
 pub mod laws;
 mod lengths;
 mod slots;
-#[cfg(test)]
-mod tests;
 
 pub use choosing::{Costs, least_choices};
 pub use chosen::chosen_lengths;

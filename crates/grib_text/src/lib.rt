@@ -11,8 +11,6 @@ mod notes;
 mod points;
 mod products;
 mod references;
-#[cfg(test)]
-mod tests;
 mod times;
 
 pub use counts::{check_line, total_line};

@@ -1,0 +1,55 @@
+//! The command `grib`: standard input, output and error, and the files, around the top call.
+#![tactic(auto)]
+
+ghost use Rattle.std.specs.Prelude.{◌≡◌, ◌≢◌};
+ghost use Rattle.std.specs.IoError.{error_kind};
+ghost use Rattle.std.specs.declared.io.ErrorKind.TheVariants.{OutOfMemory};
+
+use grib_cli::run;
+use grib_engine::Outcome;
+use grib_io::{FileShelf, ReadSource, WriteSink};
+use std::process::ExitCode;
+use std::{env, io};
+
+/// The exit status where the words can't be fetched, for another cause than that there is no memory.
+const NO_WORDS: u8 = 11;
+
+fn main(rt: HostRuntime) -> ExitCode {
+    let words = match fetch_words(&rt) {
+        Ok(words) => words,
+        Err(error) => return ExitCode::from(status_of(&error)),
+    };
+    let mut input = ReadSource::new(rt.stdin());
+    let mut output = WriteSink::new(rt.stdout());
+    let mut notes = WriteSink::new(rt.stderr());
+    let mut shelf = FileShelf::new(&rt);
+    let outcome = run(
+        rt.alloc(),
+        words.as_slice(),
+        &mut input,
+        &mut output,
+        &mut notes,
+        &mut shelf,
+    );
+    ExitCode::from(outcome.status())
+}
+
+/// The words after the program's name.
+fn fetch_words(rt: &HostRuntime) -> io::Result<Vec<String>> {
+    let mut words = Vec::new(rt.alloc());
+    for word in env::args(rt)?.skip(1) {
+        words.push(word)?;
+    }
+    Ok(words)
+}
+
+/// The exit status where the words can't be fetched.
+fn status_of(error: &io::Error) -> u8
+    ensures memory { error_kind error.now ≡ OutOfMemory → result ≡ 8 }
+    ensures other { error_kind error.now ≢ OutOfMemory → result ≡ 11 }
+{
+    match error.kind() {
+        io::ErrorKind::OutOfMemory => Outcome::Memory.status(),
+        _ => NO_WORDS,
+    }
+}

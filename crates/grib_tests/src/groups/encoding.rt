@@ -1,0 +1,125 @@
+//! Expected octets are those of worked messages.
+
+use grib_base::Code;
+use grib_bits::BitWriter;
+use grib_groups::{Layout, encode_groups, encode_measured_groups, measures_of};
+use std::test::Fail;
+
+const PRIMARY: Code = Code::Primary;
+
+const SECONDARY: Code = Code::Secondary;
+
+/// The layout of the first worked message.
+const LAYOUT: Layout = Layout {
+    groups: 1,
+    reference_bits: 3,
+    width_reference: 0,
+    width_bits: 2,
+    length_reference: 1,
+    length_increment: 1,
+    last_length: 3,
+    length_bits: 6,
+    management: 1,
+};
+
+#[test]
+fn a_primary_missing_value(rt: HostRuntime) -> Result<(), Fail> {
+    let codes = [Code::Present(5), PRIMARY, Code::Present(6)];
+    let mut out = BitWriter::new(rt.alloc());
+    out.reserve(32)?;
+    encode_groups(&codes, &[3], &LAYOUT, &mut out);
+    let octets = out.into_octets();
+    assert_eq!(rt; octets.as_slice(), [0xa0, 0x80, 0x08, 0x34].as_slice());
+    Ok(())
+}
+
+#[test]
+fn marks_alone(rt: HostRuntime) -> Result<(), Fail> {
+    let codes = [PRIMARY, SECONDARY, PRIMARY, SECONDARY];
+    let mut out = BitWriter::new(rt.alloc());
+    out.reserve(32)?;
+    let layout = Layout {
+        reference_bits: 2,
+        width_bits: 1,
+        last_length: 4,
+        management: 2,
+        ..LAYOUT
+    };
+    encode_groups(&codes, &[4], &layout, &mut out);
+    let octets = out.into_octets();
+    assert_eq!(rt; octets.as_slice(), [0x00, 0x80, 0x0c, 0xa0].as_slice());
+    Ok(())
+}
+
+#[test]
+fn a_number_that_would_be_all_ones(rt: HostRuntime) -> Result<(), Fail> {
+    let codes = [
+        Code::Present(7),
+        PRIMARY,
+        Code::Present(7),
+        Code::Present(7),
+    ];
+    let mut out = BitWriter::new(rt.alloc());
+    out.reserve(32)?;
+    let layout = Layout {
+        reference_bits: 4,
+        width_bits: 1,
+        last_length: 4,
+        management: 1,
+        ..LAYOUT
+    };
+    encode_groups(&codes, &[4], &layout, &mut out);
+    let octets = out.into_octets();
+    assert_eq!(rt; octets.as_slice(), [0x70, 0x80, 0x0c, 0x40].as_slice());
+    Ok(())
+}
+
+#[test]
+fn a_group_of_width_0_with_known_references_and_widths(rt: HostRuntime) -> Result<(), Fail> {
+    let codes = [
+        Code::Present(0),
+        Code::Present(0),
+        Code::Present(16),
+        Code::Present(11),
+    ];
+    let mut out = BitWriter::new(rt.alloc());
+    out.reserve(48)?;
+    let layout = Layout {
+        reference_bits: 5,
+        width_bits: 3,
+        last_length: 2,
+        management: 0,
+        groups: 2,
+        ..LAYOUT
+    };
+    let known = measures_of(rt.alloc(), &codes, &[2, 2], 0, 5)?;
+    encode_measured_groups(&codes, &[2, 2], &known, &layout, &mut out);
+    let octets = out.into_octets();
+    let expected = [0x02, 0xc0, 0x0c, 0x04, 0x10, 0xa0];
+    assert_eq!(rt; octets.as_slice(), expected.as_slice());
+    Ok(())
+}
+
+#[test]
+fn numbers_of_eight_bits(rt: HostRuntime) -> Result<(), Fail> {
+    let codes = [
+        Code::Present(6),
+        Code::Present(126),
+        Code::Present(65),
+        Code::Present(171),
+    ];
+    let mut out = BitWriter::new(rt.alloc());
+    out.reserve(56)?;
+    let layout = Layout {
+        reference_bits: 8,
+        width_bits: 4,
+        last_length: 4,
+        management: 0,
+        ..LAYOUT
+    };
+    encode_groups(&codes, &[4], &layout, &mut out);
+    let octets = out.into_octets();
+    let expected = [0x06, 0x80, 0x0c, 0x00, 0x78, 0x3b, 0xa5];
+    assert_eq!(rt; octets.as_slice(), expected.as_slice());
+    Ok(())
+}

@@ -1,0 +1,39 @@
+//! Tests of the crates up to the packings, and of decimals, over their public calls alone, a module for each crate. What a
+//! contract says for every input is not tried again: expected values are from outside, worked by hand or
+//! made by another program.
+#![tactic(auto)]
+
+#[cfg(test)]
+mod base;
+#[cfg(test)]
+mod bitmap;
+#[cfg(test)]
+mod bits;
+#[cfg(test)]
+mod complex;
+#[cfg(test)]
+mod decimal;
+#[cfg(test)]
+mod dyadic;
+#[cfg(test)]
+mod given;
+#[cfg(test)]
+mod grids;
+#[cfg(test)]
+mod groups;
+#[cfg(test)]
+mod keys;
+#[cfg(test)]
+mod outside;
+#[cfg(test)]
+mod params;
+#[cfg(test)]
+mod products;
+#[cfg(test)]
+mod sections;
+#[cfg(test)]
+mod simple;
+#[cfg(test)]
+mod spatial;
+#[cfg(test)]
+mod split;

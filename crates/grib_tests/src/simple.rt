@@ -1,0 +1,325 @@
+//! Expected numbers are from Python, which cuts the digits of one whole number; fields and refusals are
+//! those of worked messages.
+
+use crate::given::section;
+use grib_base::{Fault, ReadFault, Reason};
+use grib_bitmap::{Mask, ones, read_mask};
+use grib_bits::get_bits;
+use grib_packing::{Column, Packing, Point, Simple, read_simple};
+use grib_simple::{SimplePacking, unpack_numbers, unpack_points};
+use std::alloc::{AllocError, Global};
+use std::process::Abort;
+use std::test::Fail;
+
+mod packing;
+
+/// Octets made with Python's random numbers.
+const OCTETS: [u8; 60] = [
+    0xdc, 0x61, 0x8e, 0x6a, 0xd2, 0xc2, 0x12, 0x1d, 0xb7, 0x25, 0x81, 0x90, 0xd4, 0x64, 0xd4, 0x1f,
+    0x87, 0x19, 0x90, 0xa9, 0x8e, 0xcc, 0x8e, 0x72, 0xe3, 0xa3, 0x04, 0xfc, 0x86, 0x94, 0x64, 0x1e,
+    0xcd, 0x63, 0x15, 0x47, 0x8c, 0x88, 0xc8, 0x53, 0xc5, 0x9f, 0x5e, 0xb0, 0xb8, 0x38, 0x12, 0x71,
+    0x74, 0x4a, 0x77, 0xfe, 0x72, 0x0a, 0x3e, 0x60, 0x73, 0x1a, 0xa6, 0x6c,
+];
+
+/// The numbers of the first `length` octets, for which it is seen first that they are there.
+fn unpacked(
+    rt: &impl Abort,
+    alloc: Global,
+    length: usize,
+    bits: u32,
+    count: u32,
+) -> Result<Vec<u64>, AllocError> {
+    assert!(rt; length <= 60 && bits <= 48);
+    let octets = &OCTETS[..length];
+    assert!(rt; u64::from(bits) * u64::from(count) <= 8 * octets.len() as u64);
+    unpack_numbers(alloc, octets, bits, count)
+}
+
+#[test]
+fn numbers_stand_one_after_another(rt: HostRuntime) -> Result<(), Fail> {
+    let single = [1, 1, 0, 1, 1, 1, 0, 0, 0, 1, 1, 0, 0, 0, 0, 1, 1, 0, 0];
+    assert_eq!(rt;
+        unpacked(&rt, rt.alloc(), 10, 1, 19)?.as_slice(),
+        single.as_slice()
+    );
+    let seven = [
+        0x6e, 0x18, 0x31, 0x66, 0x56, 0x4b, 0x04, 0x12, 0x0e, 0x6d, 0x64, 0x58, 0x0c, 0x43, 0x28,
+        0x64, 0x6a,
+    ];
+    assert_eq!(rt;
+        unpacked(&rt, rt.alloc(), 15, 7, 17)?.as_slice(),
+        seven.as_slice()
+    );
+    let twelve = [
+        0xdc6, 0x18e, 0x6ad, 0x2c2, 0x121, 0xdb7, 0x258, 0x190, 0xd46, 0x4d4, 0x1f8, 0x719, 0x90a,
+    ];
+    assert_eq!(rt;
+        unpacked(&rt, rt.alloc(), 20, 12, 13)?.as_slice(),
+        twelve.as_slice()
+    );
+    let widest = [
+        0xdc618e6ad2c2,
+        0x121db7258190,
+        0xd464d41f8719,
+        0x90a98ecc8e72,
+        0xe3a304fc8694,
+        0x641ecd631547,
+        0x8c88c853c59f,
+        0x5eb0b8381271,
+        0x744a77fe720a,
+        0x3e60731aa66c,
+    ];
+    assert_eq!(rt;
+        unpacked(&rt, rt.alloc(), 60, 48, 10)?.as_slice(),
+        widest.as_slice()
+    );
+    Ok(())
+}
+
+#[test]
+fn few_octets_and_no_bits(rt: HostRuntime) -> Result<(), Fail> {
+    assert_eq!(rt;
+        unpacked(&rt, rt.alloc(), 0, 0, 3)?.as_slice(),
+        [0, 0, 0].as_slice()
+    );
+    assert_eq!(rt;
+        unpacked(&rt, rt.alloc(), 60, 0, 2)?.as_slice(),
+        [0, 0].as_slice()
+    );
+    assert!(rt; unpacked(&rt, rt.alloc(), 60, 48, 0)?.is_empty());
+    let sixteen = [0xdc61, 0x8e6a, 0xd2c2];
+    assert_eq!(rt;
+        unpacked(&rt, rt.alloc(), 6, 16, 3)?.as_slice(),
+        sixteen.as_slice()
+    );
+    Ok(())
+}
+
+/// Looks at each number, and at each point, beside the number of its bits.
+fn each_is_cut(
+    rt: &impl Abort,
+    alloc: Global,
+    octets: &[u8],
+    bits: u32,
+    count: u32,
+) -> Result<(), AllocError> {
+    assert!(rt; bits <= 48 && octets.len() <= 120);
+    assert!(rt; u64::from(bits) * u64::from(count) <= 8 * octets.len() as u64);
+    let numbers = unpack_numbers(alloc, octets, bits, count)?;
+    let points = unpack_points(alloc, octets, bits, count)?;
+    assert!(rt; numbers.len() == count as usize && points.len() == count as usize);
+    for index in 0..count {
+        let at = u64::from(index) * u64::from(bits);
+        assert!(rt; at + u64::from(bits) <= 8 * octets.len() as u64);
+        let number = get_bits(octets, at, bits);
+        assert!(rt; number <= 65535);
+        assert_eq!(rt; numbers[index as usize], number);
+        assert_eq!(rt; points[index as usize], Point::Scaled(number as i64));
+    }
+    Ok(())
+}
+
+#[test]
+fn numbers_of_whole_octets(rt: HostRuntime) -> Result<(), Fail> {
+    let mut octets = OCTETS.to_vec(rt.alloc())?;
+    octets.extend_from_slice(&OCTETS)?;
+    for bits in [8, 16] {
+        for count in 0..41 {
+            each_is_cut(&rt, rt.alloc(), &octets, bits, count)?;
+        }
+    }
+    Ok(())
+}
+
+/// A Section 7.
+const DATA: [u8; 11] = [0, 0, 0, 11, 7, 0x00, 0x1a, 0xbc, 0xff, 0xf0, 0x00];
+
+#[test]
+fn points_of_half_octets(rt: HostRuntime) -> Result<(), Fail> {
+    let points = unpack_points(rt.alloc(), &DATA[5..8], 4, 5)?;
+    let expected = [0, 0, 1, 10, 11].map(Point::Scaled);
+    assert_eq!(rt; points.as_slice(), expected.as_slice());
+    Ok(())
+}
+
+/// What stands in a Section 5 that begins at octet 144.
+fn read(rt: &impl Abort, octets: &[u8], points: u32) -> Result<Simple, Fault> {
+    read_simple(&section(rt, 5, 144, octets), points)
+}
+
+/// A Section 5 of template 5.0: four values of 8 bits, with R = -118.625, E = -3 and D = 1.
+const FIELD: [u8; 21] = [
+    0, 0, 0, 21, 5, 0, 0, 0, 4, 0, 0, 0xc2, 0xed, 0x40, 0x00, 0x80, 0x03, 0x00, 0x01, 8, 0,
+];
+
+/// The same, of three values.
+const THREE: [u8; 21] = [
+    0, 0, 0, 21, 5, 0, 0, 0, 3, 0, 0, 0xc2, 0xed, 0x40, 0x00, 0x80, 0x03, 0x00, 0x01, 8, 0,
+];
+
+#[test]
+fn section_5_has_its_numbers(rt: HostRuntime) {
+    let simple = Simple {
+        values: 4,
+        template: 0,
+        reference: 0xc2ed4000,
+        e: 0x8003,
+        d: 1,
+        bits: 8,
+        kind: 0,
+    };
+    assert_eq!(rt; read(&rt, &FIELD, 4), Ok(simple));
+    let mut changed = FIELD;
+    changed[10] = 41;
+    let Err(fault) = read(&rt, &changed, 4) else {
+        panic!(rt; "template 5.41 is accepted");
+    };
+    assert_eq!(rt;
+        (fault.octet, fault.reason, fault.detail),
+        (153, Reason::PngPacked, 41)
+    );
+}
+
+/// The column of a field in simple packing, for which it is seen first that Section 5 is accepted. Section
+/// 7 begins at octet 171.
+fn unpacked_field(
+    rt: &impl Abort,
+    alloc: Global,
+    representation: &[u8],
+    mask: &Mask,
+    data: &[u8],
+) -> Result<Column, ReadFault> {
+    let section5 = section(rt, 5, 144, representation);
+    let section7 = section(rt, 7, 171, data);
+    let Ok(simple) = read_simple(&section5, mask.len()) else {
+        panic!(rt; "the representation is refused");
+    };
+    assert!(rt; simple.template == 0 && simple.values == ones(mask));
+    assert!(rt; mask.len() >= 1 && mask.len() <= 33_554_432);
+    SimplePacking.unpack(alloc, &section5, mask, &section7)
+}
+
+/// The column that was unpacked.
+fn column(rt: &impl Abort, unpacked: Result<Column, ReadFault>) -> Column {
+    match unpacked {
+        Ok(column) => column,
+        Err(_) => panic!(rt; "the field is refused"),
+    }
+}
+
+/// The mask of a Section 6.
+fn mask_of(
+    rt: &impl Abort,
+    alloc: Global,
+    octets: &[u8],
+    points: u32,
+    values: u32,
+    earlier: Option<&Mask>,
+) -> Mask {
+    match read_mask(alloc, &section(rt, 6, 165, octets), points, values, earlier) {
+        Ok(mask) => mask,
+        Err(_) => panic!(rt; "the bitmap is refused"),
+    }
+}
+
+#[test]
+fn fields_of_a_message_with_a_bitmap(rt: HostRuntime) {
+    let mask = mask_of(&rt, rt.alloc(), &[0, 0, 0, 7, 6, 0, 0xb0], 4, 3, None);
+    let first = column(
+        &rt,
+        unpacked_field(&rt, rt.alloc(), &THREE, &mask, &[0, 0, 0, 8, 7, 0, 1, 2]),
+    );
+    let points = [
+        Point::Scaled(0),
+        Point::Missing,
+        Point::Scaled(1),
+        Point::Scaled(2),
+    ];
+    assert_eq!(rt; first.points.as_slice(), points.as_slice());
+    assert_eq!(rt;
+        (first.reference, first.e, first.d),
+        (0xc2ed4000, 0x8003, 1)
+    );
+
+    let again = mask_of(&rt, rt.alloc(), &[0, 0, 0, 6, 6, 254], 4, 3, Some(&mask));
+    let second = column(
+        &rt,
+        unpacked_field(&rt, rt.alloc(), &THREE, &again, &[0, 0, 0, 8, 7, 3, 4, 5]),
+    );
+    let points = [
+        Point::Scaled(3),
+        Point::Missing,
+        Point::Scaled(4),
+        Point::Scaled(5),
+    ];
+    assert_eq!(rt; second.points.as_slice(), points.as_slice());
+}
+
+#[test]
+fn numbers_of_no_bits_are_not_read(rt: HostRuntime) -> Result<(), Fail> {
+    let mut constant = FIELD;
+    constant[19] = 0;
+    let all = Mask::all(rt.alloc(), 4)?;
+    let field = column(
+        &rt,
+        unpacked_field(&rt, rt.alloc(), &constant, &all, &[0, 0, 0, 5, 7]),
+    );
+    assert_eq!(rt; field.points.as_slice(), [Point::Scaled(0); 4].as_slice());
+
+    let short = unpacked_field(&rt, rt.alloc(), &FIELD, &all, &[0, 0, 0, 8, 7, 0, 1, 2]);
+    let Err(ReadFault::Refused(fault)) = short else {
+        panic!(rt; "the data are accepted");
+    };
+    assert_eq!(rt;
+        (fault.octet, fault.reason, fault.detail),
+        (171, Reason::DataTooShort, 8)
+    );
+    Ok(())
+}
+
+/// A Section 6 with runs of 5, 70, 1, 64, 3, 1, 2 and 47 points, left out and present in turn.
+const RUNS: [u8; 31] = [
+    0, 0, 0, 31, 6, 0, 0x07, 0xff, 0xff, 0xff, 0xff, 0xff, 0xff, 0xff, 0xff, 0xef, 0xff, 0xff,
+    0xff, 0xff, 0xff, 0xff, 0xff, 0xf1, 0x3f, 0xff, 0xff, 0xff, 0xff, 0xff, 0x80,
+];
+
+#[test]
+fn wide_numbers_of_a_long_mask(rt: HostRuntime) -> Result<(), Fail> {
+    let mask = mask_of(&rt, rt.alloc(), &RUNS, 193, 182, None);
+    // The k-th number, of 40 bits, is 2^39 + k.
+    let mut representation = THREE;
+    representation[8] = 182;
+    representation[19] = 40;
+    let mut data = [0, 0, 0x03, 0x93, 7].to_vec(rt.alloc())?;
+    for k in 0..182u8 {
+        data.extend_from_slice(&[0x80, 0, 0, 0, k])?;
+    }
+    let field = column(
+        &rt,
+        unpacked_field(&rt, rt.alloc(), &representation, &mask, &data),
+    );
+    let mut points = field.points.as_slice().iter().copied();
+    let mut number = 1i64 << 39;
+    for (length, present) in [
+        (5, false),
+        (70, true),
+        (1, false),
+        (64, true),
+        (3, false),
+        (1, true),
+        (2, false),
+        (47, true),
+    ] {
+        for _ in 0..length {
+            let expected = if present {
+                Point::Scaled(number)
+            } else {
+                Point::Missing
+            };
+            assert_eq!(rt; points.next(), Some(expected));
+            number = number.wrapping_add(i64::from(present));
+        }
+    }
+    assert_eq!(rt; points.next(), None);
+    Ok(())
+}

@@ -1,0 +1,124 @@
+//! Messages with other Sections 5, 6 and 7, worked by hand from the tables of the manual.
+
+ghost use Rattle.std.specs.Prelude.{◌≡◌, ◌<◌, ◌^◌, length, vec_len, All, IfOk};
+ghost use Rattle.grib2_message.specs.Assembled.{IsShort};
+
+use super::holds;
+use crate::worked::{
+    FIRST_VALUES, FOUR_NUMBERS, FOUR_VALUES, GRID, IDENTIFICATION, NO_BITMAP, OWN_BITMAP, PLAIN,
+    PRODUCT, SECOND_VALUES, THREE_NUMBERS, TWO_FIELDS, message_of, read,
+};
+use grib_base::List;
+use grib_packing::{Packed, Point};
+use grib2_message::AssembleFault;
+use std::alloc::{AllocError, Global};
+use std::test::Fail;
+
+/// The part of a field.
+fn part(
+    alloc: Global,
+    section5: &[u8],
+    section6: &[u8],
+    section7: Vec<u8>,
+) -> Result<Packed, AllocError>
+    requires short_5 { length section5.now < 2 ^ 32 }
+    requires short_6 { length section6.now < 2 ^ 32 }
+    requires short_7 { vec_len section7 < 2 ^ 32 }
+    ensures { IfOk result IsShort }
+{
+    Ok(Packed {
+        section5: List::of(section5.to_vec(alloc)?),
+        section6: List::of(section6.to_vec(alloc)?),
+        section7: List::of(section7),
+    })
+}
+
+/// So many octets, each 0.
+fn zeros(alloc: Global, count: usize) -> Result<Vec<u8>, AllocError>
+    ensures { IfOk result (λ octets. vec_len octets ≡ count) }
+{
+    vec![in alloc; 0u8; count]
+}
+
+/// A message with these parts; want of memory stands for octets that are no message of so many fields.
+fn assembled(alloc: Global, octets: &[u8], parts: &[Packed]) -> Result<Vec<u8>, AssembleFault>
+    requires { All IsShort parts.now }
+{
+    let Ok(message) = read(alloc, octets) else {
+        return Err(AssembleFault::Memory);
+    };
+    if message.fields() as usize != parts.len() {
+        return Err(AssembleFault::Memory);
+    }
+    message.assemble(alloc, parts)
+}
+
+#[test]
+fn own_parts_give_the_message_again(rt: HostRuntime) -> Result<(), Fail> {
+    let parts = [part(
+        rt.alloc(),
+        FOUR_NUMBERS,
+        NO_BITMAP,
+        FOUR_VALUES.to_vec(rt.alloc())?,
+    )?];
+    let Ok(again) = assembled(rt.alloc(), &PLAIN, &parts) else {
+        return Err(Fail::from("not put together"));
+    };
+    assert_eq!(rt; again.as_slice(), PLAIN.as_slice());
+    Ok(())
+}
+
+#[test]
+fn each_field_has_its_part(rt: HostRuntime) -> Result<(), Fail> {
+    let parts = [
+        part(
+            rt.alloc(),
+            FOUR_NUMBERS,
+            NO_BITMAP,
+            FOUR_VALUES.to_vec(rt.alloc())?,
+        )?,
+        part(
+            rt.alloc(),
+            THREE_NUMBERS,
+            OWN_BITMAP,
+            SECOND_VALUES.to_vec(rt.alloc())?,
+        )?,
+    ];
+    let Ok(other) = assembled(rt.alloc(), &TWO_FIELDS, &parts) else {
+        return Err(Fail::from("not put together"));
+    };
+    let after = [
+        IDENTIFICATION,
+        GRID,
+        PRODUCT,
+        FOUR_NUMBERS,
+        NO_BITMAP,
+        FOUR_VALUES,
+        PRODUCT,
+        THREE_NUMBERS,
+        OWN_BITMAP,
+        SECOND_VALUES,
+    ];
+    let expected = message_of(rt.alloc(), 253, &after)?;
+    assert_eq!(rt; other.as_slice(), expected.as_slice());
+    let Ok(read_again) = read(rt.alloc(), other.as_slice()) else {
+        return Err(Fail::from("refused"));
+    };
+    let points = [
+        Point::Scaled(3),
+        Point::Missing,
+        Point::Scaled(4),
+        Point::Scaled(5),
+    ];
+    assert!(rt; holds(rt.alloc(), &read_again, 2, &points)?);
+    Ok(())
+}
+
+#[test]
+fn messages_are_not_too_long(rt: HostRuntime) -> Result<(), Fail> {
+    let values = zeros(rt.alloc(), 268_435_283)?;
+    let parts = [part(rt.alloc(), FOUR_NUMBERS, NO_BITMAP, values)?];
+    let fault = assembled(rt.alloc(), &PLAIN, &parts).err();
+    assert_eq!(rt; fault, Some(AssembleFault::TooLong(268_435_457)));
+    Ok(())
+}
