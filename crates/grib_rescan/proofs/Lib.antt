@@ -2,3 +2,5 @@ mod Turns
 mod Runs
 mod Rows
 mod Corners
+mod Octets
+mod Kept

@@ -1,6 +1,6 @@
 -- Section 3 of a grid of latitude and longitude (WMO-No. 306, Volume I.2, FM 92 GRIB edition 2, grid
 -- definition template 3.0), in the order of scanning octet 0, and that of a box.
-use Rattle.std.specs.Prelude.{◌≡◌, ℕ, ◌+◌, ◌-◌, ◌*◌, ◌%◌, ◌^◌, ◌≤◌, Bool, not, cond, ◌&&◌, List, [], ◌∷◌, ◌++◌, length, take, drop, int_lt, ◌==◌, ℤ, pos, nat_abs, ◌-ℤ◌}
+use Rattle.std.specs.Prelude.{◌≡◌, ℕ, ◌+◌, ◌-◌, ◌*◌, ◌%◌, ◌^◌, ◌<◌, ◌≤◌, ◌⊎◌, Bool, not, cond, ◌&&◌, List, [], ◌∷◌, ◌++◌, length, take, drop, int_lt, ◌==◌, ℤ, pos, nat_abs, ◌-ℤ◌}
 use Rattle.std.specs.Ordering.{int_eq}
 use Rattle.grib_bits.specs.Octets.{octets, octet_list, signed_octets}
 use Rattle.grib_bits.specs.Encoding.{octets_of}
@@ -81,3 +81,7 @@ has_columns s = longitude_at s (octets s 31 34 - 1) == octets s 60 63 % 36000000
 
 abbrev pub has_steps : List ℕ → Bool
 has_steps s = has_known_steps s && has_rows s && has_columns s
+
+-- the octets from `first` to `last` are none of those from `low` to `high`
+abbrev pub AreApart : ℕ → ℕ → ℕ → ℕ → Type 0
+AreApart first last low high = (last < low) ⊎ (high < first)
