@@ -9,7 +9,7 @@ use Rattle.grib_bits.proofs.Encoding.{length-octets_of, num_on-octets_of, bits-o
 use Rattle.grib_rescan.specs.declared.points.Area.{Area}
 use Rattle.grib_rescan.specs.Points.{width, height}
 use Rattle.grib_rescan.specs.Sections.{with_octets, with_size, with_sign, latitude_at, longitude_at, cropped_section, AreApart}
-use Rattle.grib_rescan.proofs.Octets.{IsLong, still_long, elsewhere, there}
+use Rattle.grib_rescan.proofs.Octets.{IsLong, still_long, same_length, elsewhere, there}
 
 -- La1, Lo1, La2 and Lo2
 abbrev pub corners : List ℕ → List ℕ → List ℕ → List ℕ → List ℕ → List ℕ
@@ -38,6 +38,13 @@ module _ (la1 lo1 la2 lo2 s : List ℕ) (long : IsLong s) (four : AreCorners la1
 
   pub corners-long : IsLong (corners la1 lo1 la2 lo2 s)
   corners-long = still_long 60 4 lo2 (with_octets 56 la2 (with_octets 51 lo1 (with_octets 47 la1 s))) four.lo2_octets (omega arith) (omega arith) long_3
+
+  pub corners-length : length (corners la1 lo1 la2 lo2 s) ≡ length s
+  corners-length =
+      same_length 60 4 lo2 (with_octets 56 la2 (with_octets 51 lo1 (with_octets 47 la1 s))) four.lo2_octets (omega arith) (omega arith) long_3
+      ∙ same_length 56 4 la2 (with_octets 51 lo1 (with_octets 47 la1 s)) four.la2_octets (omega arith) (omega arith) long_2
+      ∙ same_length 51 4 lo1 (with_octets 47 la1 s) four.lo1_octets (omega arith) (omega arith) long_1
+      ∙ same_length 47 4 la1 s four.la1_octets (omega arith) (omega arith) long
 
   -- octets that are those of no corner
   pub corners-elsewhere : (a last : ℕ) → 1 ≤ a → AreApart a last 47 54 → AreApart a last 56 63 → octet_list (corners la1 lo1 la2 lo2 s) a last ≡ octet_list s a last
@@ -127,6 +134,10 @@ module _ (s : List ℕ) (long : 72 ≤ length s) (up w : Bool) where
   pub new-scanning : octets (with_octets 72 (0 ∷ []) (exchanged up w s)) 72 72 ≡ 0
   new-scanning = ap (num_on 0) (there 72 1 (0 ∷ []) (exchanged up w s) 72 refl (omega arith) (omega arith) last_long refl)
 
+  pub rescanned-length : length (with_octets 72 (0 ∷ []) (exchanged up w s)) ≡ length s
+  rescanned-length =
+      same_length 72 1 (0 ∷ []) (exchanged up w s) refl (omega arith) (omega arith) last_long ∙ corners-length _ _ _ _ s is_long are_corners
+
   pub as_before : (a last : ℕ) → 1 ≤ a → AreApart a last 47 54 → AreApart a last 56 63 → AreApart a last 72 72
       → octet_list (with_octets 72 (0 ∷ []) (exchanged up w s)) a last ≡ octet_list s a last
   as_before a last some firsts lasts scanning =
@@ -148,6 +159,12 @@ module _ (points ni nj : ℕ) (s : List ℕ) (long : IsLong s) where
 
   sizes-long : IsLong (sizes points ni nj s)
   sizes-long = still_long 35 4 (octets_of 4 nj) (with_octets 31 (octets_of 4 ni) (with_octets 7 (octets_of 4 points) s)) (length-octets_of 4 nj) (omega arith) (omega arith) sized_2
+
+  sizes-length : length (sizes points ni nj s) ≡ length s
+  sizes-length =
+      same_length 35 4 (octets_of 4 nj) (with_octets 31 (octets_of 4 ni) (with_octets 7 (octets_of 4 points) s)) (length-octets_of 4 nj) (omega arith) (omega arith) sized_2
+      ∙ same_length 31 4 (octets_of 4 ni) (with_octets 7 (octets_of 4 points) s) (length-octets_of 4 ni) (omega arith) (omega arith) sized_1
+      ∙ same_length 7 4 (octets_of 4 points) s (length-octets_of 4 points) (omega arith) (omega arith) long
 
   sizes-points : octet_list (sizes points ni nj s) 7 10 ≡ octets_of 4 points
   sizes-points =
@@ -200,6 +217,11 @@ module _ (area : Area) (s : List ℕ) (long : 72 ≤ length s) where
     la2_octets = length-octets_of 4 (with_sign (latitude_at s area.j1));
     lo2_octets = length-octets_of 4 (longitude_at s area.i1);
   }
+
+  pub box-length : length (cropped_section area s) ≡ length s
+  box-length =
+      corners-length _ _ _ _ (with_size area s) sized box_corners
+      ∙ sizes-length (height area * width area) (width area) (height area) s whole
 
   pub box-points : height area * width area < 2 ^ 32 → octets (cropped_section area s) 7 10 ≡ height area * width area
   box-points small =

@@ -4,3 +4,4 @@ mod Rows
 mod Corners
 mod Octets
 mod Kept
+mod Accepted

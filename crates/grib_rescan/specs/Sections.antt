@@ -20,6 +20,16 @@ pub record HasTemplate (s : List ℕ) : Type 0 where
   pub least : 14 ≤ length s
   pub points : octets s 13 14 ≡ 0 → octets s 11 11 ≡ 0 → HasPoints s
 
+-- a Section 3 of template 3.0 without a list of rows, which no row of the profile refuses
+pub record IsLatLon (s : List ℕ) : Type 0 where
+  pub long : 72 ≤ length s
+  pub source : octets s 6 6 ≡ 0
+  pub template : octets s 13 14 ≡ 0
+  pub list : octets s 11 11 ≡ 0
+  pub some : 1 ≤ octets s 7 10
+  pub few : octets s 7 10 ≤ 33554432
+  pub product : octets s 31 34 * octets s 35 38 ≡ octets s 7 10
+
 -- these octets in place of those from `first` on, counted from 1
 abbrev pub with_octets : ℕ → List ℕ → List ℕ → List ℕ
 with_octets first octets s = take (first - 1) s ++ (octets ++ drop (first - 1 + length octets) s)

@@ -8,10 +8,12 @@ ghost use Rattle.grib_rescan.specs.Scanning.{scanning_of, place, point_at};
 ghost use Rattle.grib_packing.specs.declared.column.Point.TheVariants.{Scaled};
 ghost use Rattle.grib_rescan.specs.declared.cause.GridCause.TheVariants.{ScanMode, OutsideBox, Increments};
 ghost use Rattle.grib_bits.specs.Octets.{octets, signed_octets, octet_list};
-ghost use Rattle.grib_rescan.specs.Sections.{rescanned_section, cropped_section, latitude_at, longitude_at, AreApart};
+ghost use Rattle.grib_base.specs.Rows.{first_fault};
+ghost use Rattle.grib2_grids.specs.Grid.{grid_rows};
+ghost use Rattle.grib_rescan.specs.Sections.{rescanned_section, cropped_section, latitude_at, longitude_at, AreApart, IsLatLon};
 ghost use Rattle.grib_rescan.specs.Causes.{rescan_cause_of, crop_cause_of};
 ghost use Rattle.grib_rescan.specs.Worked.{north, south, west, east, grid, points_of, area_of};
-ghost use Rattle.grib_rescan.specs.Points.{point, width, height, rescanned_points, cropped_points};
+ghost use Rattle.grib_rescan.specs.Points.{IsBox, point, width, height, rescanned_points, cropped_points};
 
 /// Each place of a grid has one point, and each point one place.
 pub fn a_place_has_one_point()
@@ -79,6 +81,14 @@ pub fn what_a_cropped_grid_says()
     ensures others { (area : Rectangle) (s : List ℕ) → 72 ≤ length s → (first last : ℕ) → 1 ≤ first
         → AreApart first last 7 10 → AreApart first last 31 38 → AreApart first last 47 54
         → AreApart first last 56 63 → octet_list (cropped_section area s) first last ≡ octet_list s first last }
+{}
+
+/// No row refuses the new Section 3, where none refuses that of the grid.
+pub fn a_new_grid_is_accepted()
+    ensures accepted { (s : List ℕ) → IsLatLon s → first_fault (grid_rows s) ≡ None }
+    ensures rescanned { (s : List ℕ) → IsLatLon s → IsLatLon (rescanned_section s) }
+    ensures cropped { (area : Rectangle) (s : List ℕ) → IsLatLon s → IsBox area (octets s 31 34) (octets s 35 38)
+        → IsLatLon (cropped_section area s) }
 {}
 
 /// A grid whose rows go from the south to the north, and one whose rows go from the east to the west and
