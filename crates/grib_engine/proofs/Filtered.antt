@@ -1,5 +1,6 @@
 -- The fields of a message that are written, one after another.
-use Rattle.std.proofs.Common.{◌≡◌, ℕ, zero, suc, ◌∷◌, ◌&&◌, ◌+◌, ◌-◌, ◌<◌, ◌≤◌, Bool, true, false, List, [], ◌++◌, length, sym, ap, ◌∙◌, subst, arith, append_assoc, append-nil, length-append, Ok}
+use Rattle.std.proofs.Common.{◌≡◌, ℕ, zero, suc, ◌∷◌, ◌&&◌, ◌+◌, ◌-◌, ◌<◌, ◌≤◌, Bool, true, false, List, [], ◌++◌, length, sym, ap, ◌∙◌, subst, arith, append_assoc, append-nil, length-append, Ok, Err, IfOk}
+use Rattle.std.specs.declared.result.Result.{Result}
 use Rattle.std.specs.List.{list_all, range_with_len}
 use Rattle.std.specs.declared.option.Option.{Option}
 use Rattle.std.specs.Io.KnownBytes.{Appends}
@@ -85,3 +86,9 @@ pub texts_whole : {E : Type 0} (a b : Option (List ℕ)) (text : ℕ → List �
 texts_whole a b text k n count is told =
     let all : Appends a b (texts_from text n 1) = subst (λ m. Appends a b (texts_from text m 1)) is told in
     record { whole = all; front = (texts_from text n 1, [], sym (append-nil (texts_from text n 1)), all) }
+
+-- as a message of its own a field has no more octets than a message may have
+pub few_written : {E : Type 0} (result : Result ℕ E) (shown octets : List ℕ) → shown ≡ octets → length octets ≤ 268435456
+    → IfOk result (λ count. count ≡ length shown) → IfOk result (λ count. count ≤ 268435456)
+few_written (Ok count) shown octets is few counts = let same = ap length is in omega (arith, counts)
+few_written (Err e) shown octets is few counts = tt

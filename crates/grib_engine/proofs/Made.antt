@@ -92,9 +92,6 @@ pub gives_same : (octets octets_now note note_now : List ℕ) (result : Outcome)
 gives_same octets octets_now note note_now result a b same_octets same_note gives =
     subst (λ n. Gives (writing octets_now n) result a b) same_note (subst (λ o. Gives (writing o note) result a b) same_octets gives)
 
-pub front_same : (a b : Option (List ℕ)) (note note_now : List ℕ) → note ≡ note_now → NotesFront a b note Done → NotesFront a b note_now Done
-front_same a b note note_now same front = subst (λ n. NotesFront a b n Done) same front
-
 -- after a fault of writing nothing is noted
 pub front_at_fault : (a b : Option (List ℕ)) (note : List ℕ) → NotesFront a b note WriteFault → NotesFront a b note Done
 front_at_fault a b note (inl own) = inl (front_of_nothing a b note own)

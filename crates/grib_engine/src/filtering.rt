@@ -1,13 +1,12 @@
 //! The fields of a message that fulfil conditions.
 
 ghost use Rattle.std.specs.Prelude.{◌≡◌, ◌≤◌, length, IfOk};
-ghost use Rattle.grib_io.specs.Outside.{CountsStops};
 ghost use Rattle.grib2_message.specs.Fields.{field_count};
 ghost use Rattle.grib2_message.specs.Message.{IsMessage};
-ghost use Rattle.grib_engine.specs.Pending.{Writes};
+ghost use Rattle.grib_engine.specs.Pending.{WritesTo};
 ghost use Rattle.grib_engine.specs.Tasks.{texts_from, all_fulfil, single_if, filtered};
 
-use crate::writing::write_whole;
+use crate::writing::write_counted;
 use grib_io::{Sink, Stop};
 use grib_select::{Condition, matches, single};
 use grib2_message::Message;
@@ -21,17 +20,15 @@ pub(crate) fn write_filtered<T: Sink>(
     message: &Message<'_>,
     output: &mut T,
 ) -> Result<u64, Stop>
-    ensures octets { Writes result (T.contents output.old) (T.contents output.new)
+    ensures writes { WritesTo T.contents T.faults result output.old output.new
         (filtered conditions.now message.now) }
     ensures count { IfOk result (λ written. written ≡ length (filtered conditions.now message.now)) }
-    ensures counted { CountsStops result (T.faults output.old) (T.faults output.new) }
 {
     let octets = message.octets();
     if !all_match(message, conditions) {
         return write_matching(alloc, conditions, message, output);
     }
-    write_whole(output, octets)?;
-    Ok(message.length())
+    write_counted(output, octets)
 }
 
 /// Whether each field fulfils the conditions.
@@ -54,11 +51,10 @@ fn write_matching<T: Sink>(
     output: &mut T,
 ) -> Result<u64, Stop>
     requires { IsMessage message.now }
-    ensures octets { Writes result (T.contents output.old) (T.contents output.new)
+    ensures writes { WritesTo T.contents T.faults result output.old output.new
         (texts_from (single_if conditions.now message.now) (field_count message.now) 1) }
     ensures count { IfOk result (λ written. written
         ≡ length (texts_from (single_if conditions.now message.now) (field_count message.now) 1)) }
-    ensures counted { CountsStops result (T.faults output.old) (T.faults output.new) }
 {
     let mut written = 0u64;
     let count = message.fields();
@@ -79,16 +75,14 @@ fn write_if_matching<T: Sink>(
     requires message { IsMessage message.now }
     requires first { 1 ≤ field }
     requires last { field ≤ field_count message.now }
-    ensures octets { Writes result (T.contents output.old) (T.contents output.new)
+    ensures writes { WritesTo T.contents T.faults result output.old output.new
         (single_if conditions.now message.now field) }
     ensures count { IfOk result (λ written. written ≡ length (single_if conditions.now message.now field)) }
     ensures few { IfOk result (λ written. written ≤ 268435456) }
-    ensures counted { CountsStops result (T.faults output.old) (T.faults output.new) }
 {
     if !matches(message, field, conditions) {
         return Ok(0);
     }
     let octets = single(alloc, message, field)?;
-    write_whole(output, octets.as_slice())?;
-    Ok(octets.len() as u64)
+    write_counted(output, octets.as_slice())
 }
