@@ -1,5 +1,5 @@
 use Rattle.std.proofs.Common.{rules, sym, ap, ◌∙◌}
-use Rattle.grib_stream.specs.declared.outcome.Outcome.TheVariants.{Kept}
+use Rattle.grib_stream.specs.declared.outcome.Outcome.TheVariants.{Kept, Refused, Usage}
 use Rattle.grib_engine.specs.Outcomes.{note_with}
 use Rattle.grib_engine.proofs.Noted.{noted_with}
 use Rattle.grib_engine.proofs.closing.close_with_note.Goals as goal
@@ -62,7 +62,9 @@ returns-in-Ok-clause-ends g c = record {
   one_of = search rules;
   fault = search rules;
   none_counted = search rules;
-  noted = search rules;
+  noted =
+      noted_with _ _ _ c.args.done.now (Refused c.in-Refused.refusal) c.close.result c.close.ensures.one_of
+      (c.as_slice.ensures.value ∙ c.in-Ok.ensures) c.close.ensures.noted;
   noted_front = search rules;
   settles = search rules;
   unfinished = search rules;
@@ -73,7 +75,9 @@ returns-in-Ok-usage_note-clause-ends g c = record {
   one_of = search rules;
   fault = search rules;
   none_counted = search rules;
-  noted = search rules;
+  noted =
+      noted_with _ _ _ c.args.done.now (Usage c.in-Usage.word) c.close-in-Ok-usage_note.result c.close-in-Ok-usage_note.ensures.one_of
+      (c.as_slice-in-Ok-usage_note.ensures.value ∙ c.in-Ok-usage_note.ensures) c.close-in-Ok-usage_note.ensures.noted;
   noted_front = search rules;
   settles = search rules;
   unfinished = search rules;
