@@ -51,7 +51,7 @@ pub(crate) fn ending_note(alloc: Global, job: &Job, totals: &Totals) -> Result<V
     }
 }
 
-/// The octets and the fields of a message, of whose result so many octets are counted.
+/// The octets and the fields of a message, of whose result this many octets are counted.
 pub(crate) fn counted(held: &Held<'_>, written: u64) -> Whole
     ensures octets { result.octets ≡ length (held_octets held.now) }
     ensures fields { result.fields ≡ tasks.fields_of (held_octets held.now) }

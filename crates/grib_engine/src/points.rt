@@ -9,7 +9,7 @@ use grib_io::{Sink, Stop};
 use grib_packing::Point;
 use grib_text::append_point_line;
 
-/// From so many octets on a buffer is passed on.
+/// From this many octets on a buffer is passed on.
 const FULL: usize = 65_536;
 
 /// The octets of lines that are gathered before they are passed on, and room for some lines more.

@@ -11,8 +11,8 @@ returns-in-Ok-kept_note-clause-ends g c = record {
   none_counted = search rules;
   noted =
       noted_with _ _ _ c.args.done.now (Kept c.in-Kept.kept) c.close-in-Ok-kept_note.result c.close-in-Ok-kept_note.ensures.one_of
-    (c.as_slice-in-Ok-kept_note.ensures.value ∙ c.in-Ok-kept_note.ensures)
-    c.close-in-Ok-kept_note.ensures.noted;
+      (c.as_slice-in-Ok-kept_note.ensures.value ∙ c.in-Ok-kept_note.ensures)
+      c.close-in-Ok-kept_note.ensures.noted;
   noted_front = search rules;
   settles = search rules;
   unfinished = search rules;
@@ -25,7 +25,7 @@ returns-in-ReadFault-clause-ends g c = record {
   none_counted = search rules;
   noted =
       noted_with _ _ _ c.args.done.now c.args.outcome c.close-in-ReadFault.result c.close-in-ReadFault.ensures.one_of
-    (sym (ap (note_with c.args.done.now) c.in-ReadFault.is)) c.close-in-ReadFault.ensures.noted;
+      (sym (ap (note_with c.args.done.now) c.in-ReadFault.is)) c.close-in-ReadFault.ensures.noted;
   noted_front = search rules;
   settles = search rules;
   unfinished = search rules;
@@ -38,7 +38,7 @@ returns-in-ShelfFault-clause-ends g c = record {
   none_counted = search rules;
   noted =
       noted_with _ _ _ c.args.done.now c.args.outcome c.close-in-ShelfFault.result c.close-in-ShelfFault.ensures.one_of
-    (sym (ap (note_with c.args.done.now) c.in-ShelfFault.is)) c.close-in-ShelfFault.ensures.noted;
+      (sym (ap (note_with c.args.done.now) c.in-ShelfFault.is)) c.close-in-ShelfFault.ensures.noted;
   noted_front = search rules;
   settles = search rules;
   unfinished = search rules;
@@ -51,7 +51,7 @@ returns-in-InputTooLong-clause-ends g c = record {
   none_counted = search rules;
   noted =
       noted_with _ _ _ c.args.done.now c.args.outcome c.close-in-InputTooLong.result c.close-in-InputTooLong.ensures.one_of
-    (sym (ap (note_with c.args.done.now) c.in-InputTooLong.is)) c.close-in-InputTooLong.ensures.noted;
+      (sym (ap (note_with c.args.done.now) c.in-InputTooLong.is)) c.close-in-InputTooLong.ensures.noted;
   noted_front = search rules;
   settles = search rules;
   unfinished = search rules;

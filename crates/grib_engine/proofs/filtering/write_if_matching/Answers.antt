@@ -8,13 +8,13 @@ use Rattle.grib_engine.proofs.filtering.write_if_matching.Goals as goal
 pub returns-clause-writes : goal.returns-clause-writes
 returns-clause-writes g c =
     subst (WritesTo g.T.Sink.contents g.T.Sink.faults c.write_counted.result _ _)
-    (c.as_slice.ensures.value ∙ (c.in_ok-octets.ensures ∙ sym (is_single c.args.conditions.now c.args.message.now c.args.field (sym c.if-not-matches.ensures.answer))))
+    (c.as_slice.ensures.value ∙ (c.in_ok-octets.ensures ∙ sym (is_single c.args.conditions.now c.args.message.now c.args.field (sym c.if-not-is_matching.ensures))))
     c.write_counted.ensures.writes
 
 pub returns-clause-count : goal.returns-clause-count
 returns-clause-count g c =
     subst (λ octets. IfOk c.write_counted.result (λ count. count ≡ length octets))
-    (c.as_slice.ensures.value ∙ (c.in_ok-octets.ensures ∙ sym (is_single c.args.conditions.now c.args.message.now c.args.field (sym c.if-not-matches.ensures.answer))))
+    (c.as_slice.ensures.value ∙ (c.in_ok-octets.ensures ∙ sym (is_single c.args.conditions.now c.args.message.now c.args.field (sym c.if-not-is_matching.ensures))))
     c.write_counted.ensures.count
 
 pub returns-clause-few : goal.returns-clause-few

@@ -28,10 +28,10 @@ pub returns : goal.returns
 returns g c = record {
   octets =
       subst
-        (λ text. WritesAllBut c.append_dump.result (g.T.Sink.contents c.args.output.now) (g.T.Sink.contents c.append_dump.new.output) (c.args.lines.now.items ++ text)
-        c.append_dump.new.lines.items)
-        (dump_is c.args.message.now c.args.number c.args.field c.in_ok-column.column c.as_slice.result.now c.reference_of-reference.result
-        c.in_ok-column.ensures.column (c.as_slice.ensures.value ∙ c.in_ok-listed.ensures) c.reference_of-reference.ensures)
-        c.append_dump.ensures.octets;
+      (λ text. WritesAllBut c.append_dump.result (g.T.Sink.contents c.args.output.now) (g.T.Sink.contents c.append_dump.new.output) (c.args.lines.now.items ++ text)
+      c.append_dump.new.lines.items)
+      (dump_is c.args.message.now c.args.number c.args.field c.in_ok-column.column c.as_slice.result.now c.reference_of-reference.result
+      c.in_ok-column.ensures.column (c.as_slice.ensures.value ∙ c.in_ok-listed.ensures) c.reference_of-reference.ensures)
+      c.append_dump.ensures.octets;
   counted = search rules;
 }

@@ -6,7 +6,7 @@ pub returns : goal.returns
 returns g c = record {
   octets =
       pending_written c.write_whole.result _ _ _ _ _ c.as_slice.result.now
-        (from_empty _ _ c.in_ok-lines.lines.items _ _ c.in_ok-lines.ensures.items c.in_ok-append_fields.ensures.octets.whole) c.as_slice.ensures.value
-        c.write_whole.ensures.writes.octets;
+      (from_empty _ _ c.in_ok-lines.lines.items _ _ c.in_ok-lines.ensures.items c.in_ok-append_fields.ensures.octets.whole) c.as_slice.ensures.value
+      c.write_whole.ensures.writes.octets;
   counted = search rules;
 }
