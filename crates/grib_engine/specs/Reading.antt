@@ -25,7 +25,7 @@ pub record Holds (octets : List ℕ) (held : Held) : Type 0 where
   pub message : held_octets held ≡ take (length (held_octets held)) octets
   pub accepted : IsHeld held
 
--- why there is no message; want of memory says nothing of them
+-- why there is no message; no memory says nothing of them
 abbrev pub IsUnread : List ℕ → Unread → Type 0
 IsUnread octets (Refused fault) = judge octets ≡ Faulty fault
 IsUnread octets Memory = Unit {0}

@@ -1,13 +1,12 @@
 //! The end of a run: its note, and what a lower layer holds back.
 
-ghost use Rattle.std.specs.Prelude.{◌≡◌, ◌≢◌, ◌<◌, ◌⊎◌, true, false, OnOk, MatchResult};
+ghost use Rattle.std.specs.Prelude.{◌≡◌, ◌≢◌, ◌⊎◌, true, false, OnOk, MatchResult};
 ghost use Rattle.std.specs.Io.KnownBytes.{Appends, Keeps};
 ghost use Rattle.grib_io.specs.Outside.{AppendsFront};
-ghost use Rattle.grib_engine.specs.Closing.{settled_after, Unfinished};
+ghost use Rattle.grib_engine.specs.Closing.{EndsRun, settled_after, Unfinished};
 ghost use Rattle.grib_stream.specs.Outcomes.{is_cut_short};
 ghost use Rattle.grib_stream.specs.Faults.{OneCounted};
-ghost use Rattle.grib_engine.specs.Counts.{Calm, CountsEither};
-ghost use Rattle.grib_engine.specs.Outcomes.{note_with, NotesFront};
+ghost use Rattle.grib_engine.specs.Counts.{NoneCounted, CountsEither};
 ghost use Rattle.grib_engine.specs.Pending.{Writes};
 ghost use Rattle.grib_stream.specs.declared.outcome.Outcome.TheVariants.{WriteFault, Memory};
 
@@ -35,8 +34,8 @@ pub fn close<T: Sink, N: Sink>(
     ensures fault { outcome ≢ WriteFault → result ≡ WriteFault
         → OneCounted (T.faults output.old) (T.faults output.new)
         (N.faults notes.old) (N.faults notes.new) }
-    ensures calm { result ≢ WriteFault
-        → Calm (T.faults output.old) (T.faults output.new)
+    ensures none_counted { result ≢ WriteFault
+        → NoneCounted (T.faults output.old) (T.faults output.new)
         (N.faults notes.old) (N.faults notes.new) }
     ensures noted { is_cut_short result ≡ false
         → Appends (N.contents notes.old) (N.contents notes.new) note.now }
@@ -66,7 +65,7 @@ pub fn close<T: Sink, N: Sink>(
 }
 
 /// Ends a run with the note of its outcome, which is `done` where the outcome is Done. Where there is no
-/// memory for the note, the outcome is want of memory.
+/// memory for the note, the outcome is Memory.
 pub fn close_with_note<T: Sink, N: Sink>(
     alloc: Global,
     outcome: Outcome,
@@ -74,25 +73,11 @@ pub fn close_with_note<T: Sink, N: Sink>(
     output: &mut T,
     notes: &mut N,
 ) -> Outcome
-    ensures one_of { (result ≡ outcome) ⊎ ((result ≡ WriteFault) ⊎ (result ≡ Memory)) }
+    ensures ends { EndsRun T.contents T.faults T.settled N.contents N.faults N.settled
+        outcome done.now result output.old output.new notes.old notes.new }
     ensures after_fault { outcome ≡ WriteFault
         → (result ≡ WriteFault) × (output.new ≡ output.old) × (notes.new ≡ notes.old) }
-    ensures fault { outcome ≢ WriteFault → result ≡ WriteFault
-        → OneCounted (T.faults output.old) (T.faults output.new)
-        (N.faults notes.old) (N.faults notes.new) }
-    ensures calm { result ≢ WriteFault
-        → Calm (T.faults output.old) (T.faults output.new)
-        (N.faults notes.old) (N.faults notes.new) }
-    ensures noted { is_cut_short result ≡ false
-        → Appends (N.contents notes.old) (N.contents notes.new) (note_with done.now result) }
-    ensures noted_front { NotesFront (N.contents notes.old) (N.contents notes.new) done.now outcome }
-    ensures settled { is_cut_short result ≡ false
-        → (T.settled output.new ≡ true) × (N.settled notes.new ≡ true) }
     ensures output_kept { Keeps (T.contents output.old) (T.contents output.new) }
-
-    // Where the output fails, the notes are not finished after it.
-    ensures unfinished { T.faults output.old < T.faults output.new
-        → Unfinished (N.settled notes.old) (N.settled notes.new) }
 {
     match outcome {
         Outcome::Refused(refusal) => match refusal_note(alloc, &refusal) {
@@ -123,7 +108,7 @@ fn settle<T: Sink, N: Sink>(note: &[u8], output: &mut T, notes: &mut N) -> Resul
     ensures settled { OnOk result ((T.settled output.new ≡ true) × (N.settled notes.new ≡ true)) }
     ensures output_kept { Keeps (T.contents output.old) (T.contents output.new) }
     ensures counted { MatchResult result
-        (λ _. Calm (T.faults output.old) (T.faults output.new)
+        (λ _. NoneCounted (T.faults output.old) (T.faults output.new)
         (N.faults notes.old) (N.faults notes.new))
         (λ stop. CountsEither stop (T.faults output.old) (T.faults output.new)
         (N.faults notes.old) (N.faults notes.new)) }
