@@ -1,5 +1,5 @@
 -- What is answered while a message is read.
-use Rattle.std.proofs.Common.{◌≡◌, ℕ, ◌+◌, ◌≤◌, true, false, Bool, cond, Option, Some, None, List, [], ◌∷◌, ◌++◌, length, take, map, sum, refl, sym, ap, ap₂, ◌∙◌, arith, subst, le-ltb, eq-eqb}
+use Rattle.std.proofs.Common.{◌≡◌, ℕ, ◌+◌, ◌≤◌, true, false, cond, Option, Some, None, List, length, take, map, sum, sym, ap, ap₂, ◌∙◌, arith, subst, le-ltb, eq-eqb}
 use Rattle.std.specs.Prelude.{Result, Ok, Err, IsErrAnd, MatchResult}
 use Rattle.std.specs.List.{range_with_len}
 use Rattle.std.proofs.lemmas.Bool.{not_from_true}
@@ -7,7 +7,7 @@ use Rattle.std.proofs.lemmas.List.FromFn.{map-range_with_len_more}
 use Rattle.std.proofs.lemmas.List.Sums.{sum_by_push}
 use Rattle.grib_bits.specs.Octets.{octets}
 use Rattle.grib_base.specs.declared.fault.Fault.{Fault}
-use Rattle.grib_base.specs.Rows.{Row, first_fault, first_fault_at, choose, located}
+use Rattle.grib_base.specs.Rows.{first_fault, choose}
 use Rattle.grib2_sections.specs.Verdict as verdicts
 use Rattle.grib2_sections.specs.Verdict.{Verdict}
 use Rattle.grib2_sections.specs.declared.indicator.Head.{Head}
@@ -23,10 +23,11 @@ use Rattle.grib1_sections.specs.Data.{data_rows}
 use Rattle.grib1_sections.specs.Acceptance.{section_fault, bitmap_fault, message_fault, verdict_1, has_bitmap, identification, grid, bitmap, data_section, grid_start, bitmap_start, data_start, end_start, points_of, values_of}
 use Rattle.grib2_sections.specs.Refused.{IsVerdict}
 use Rattle.grib_base.specs.Faults.{IsReadFault}
-use Rattle.grib1_sections.specs.Kept.{Stands, HasBitmap, Keeps}
+use Rattle.grib1_sections.specs.Known.{Stands, HasBitmap, HasSections}
 use Rattle.grib_base.specs.declared.fault.ReadFault.{ReadFault}
 use Rattle.grib_base.specs.declared.fault.ReadFault.TheVariants.{Refused, Memory}
-use Rattle.grib1_sections.proofs.Rows.{none_from_passes, none_accepted, some_first, some_later, some_refused, none_or}
+use Rattle.grib_base.proofs.Passing.{none_from_passes}
+use Rattle.grib1_sections.proofs.Rows.{none_accepted, some_first, some_later, some_refused, none_or}
 use Rattle.grib1_sections.proofs.Places.{grid_start-is, bitmap_start-is, data_start-flagged, data_start-plain, end_start-is, bitmap-flagged, bitmap-plain, same_identification, same_grid, same_bitmap, same_data, same_points, same_values}
 use Rattle.grib1_sections.proofs.Agreeing.{agree_front}
 use Rattle.grib1_sections.proofs.Fronts.{accepted_parts, accepted_states, accepted_there, front_is_message}
@@ -38,31 +39,7 @@ use Rattle.grib1_sections.proofs.Parts.{parts_inside, from_end, from_data, from_
 pub sum_more : (f : ℕ → ℕ) (n : ℕ) → sum (map f (range_with_len 0 (n + 1))) ≡ sum (map f (range_with_len 0 n)) + f n
 sum_more f n = ap sum (map-range_with_len_more f 0 n n (omega arith)) ∙ sum_by_push (λ x. x) (map f (range_with_len 0 n)) (f n)
 
--- ---- rows that are tried in parts
-
-skip_none : (b : Bool) (x : Fault) (rest more last : Option Fault) → cond b (Some x) rest ≡ None → (rest ≡ None → more ≡ last) → cond b (Some x) more ≡ last
-skip_none true x rest more last h go = cc
-skip_none false x rest more last h go = go h
-
--- where no row of the first part fails, the second decides
-first_passed : (xs ys : List Row) → first_fault xs ≡ None → first_fault (xs ++ ys) ≡ first_fault ys
-first_passed [] ys h = refl
-first_passed (r ∷ xs) ys h = skip_none r.fails r.fault (first_fault xs) (first_fault (xs ++ ys)) (first_fault ys) h (first_passed xs ys)
-
-keep_some : (start : ℕ) (b : Bool) (x f : Fault) (rest more : Option Fault) → located start (cond b (Some x) rest) ≡ Some f
-    → (located start rest ≡ Some f → located start more ≡ Some f) → located start (cond b (Some x) more) ≡ Some f
-keep_some start true x f rest more h go = h
-keep_some start false x f rest more h go = go h
-
--- a row of the first part that fails decides
-first_failed : (start : ℕ) (xs ys : List Row) (f : Fault) → first_fault_at start xs ≡ Some f → first_fault_at start (xs ++ ys) ≡ Some f
-first_failed start [] ys f h = cc
-first_failed start (r ∷ xs) ys f h = keep_some start r.fails r.fault f (first_fault xs) (first_fault (xs ++ ys)) h (first_failed start xs ys f)
-
-pub second_failed : (start : ℕ) (first second third : List Row) (f : Fault) → first_fault first ≡ None → first_fault_at start second ≡ Some f
-    → first_fault_at start (first ++ (second ++ third)) ≡ Some f
-second_failed start first second third f passed h =
-    ap (located start) (first_passed first (second ++ third) passed) ∙ first_failed start second third f h
+-- ---- the first rows of Section 2
 
 pub two_passed : (s : List ℕ) (t least : ℕ) → t ≡ grid_type s → is_template grid_types t ≡ true → least ≡ least_length grid_types t → least ≤ length s
     → first_fault (take 2 (grid_rows s)) ≡ None
@@ -83,19 +60,19 @@ refused_at P (Err e) first fault h is = is ∙ ap Some (sym h)
 pub refused : {V : Type 0} (P : V → Type 0) (r : Result V ReadFault) (verdict : Verdict) (fault : Fault)
     → IsErrAnd r (λ e. e ≡ Refused fault) → verdict ≡ verdicts.Refused fault → MatchResult r P (IsVerdict verdict)
 refused P (Ok v) verdict fault h is = absurd h
-refused P (Err e) verdict fault h is = let Told : ReadFault → Type 0 = IsVerdict verdict in subst Told (sym h) is
+refused P (Err e) verdict fault h is = let Says : ReadFault → Type 0 = IsVerdict verdict in subst Says (sym h) is
 
-told : (verdict : Verdict) (found : Option Fault) (e : ReadFault) → ((fault : Fault) → found ≡ Some fault → verdict ≡ verdicts.Refused fault)
+verdict_from_fault : (verdict : Verdict) (found : Option Fault) (e : ReadFault) → ((fault : Fault) → found ≡ Some fault → verdict ≡ verdicts.Refused fault)
     → IsReadFault found e → IsVerdict verdict e
-told verdict found (Refused fault) h is = h fault is
-told verdict found Memory h is = tt
+verdict_from_fault verdict found (Refused fault) h is = h fault is
+verdict_from_fault verdict found Memory h is = tt
 
 pub passed_on : {V : Type 0} (P : V → Type 0) (r : Result V ReadFault) (verdict : Verdict) (found : Option Fault) (read : ReadFault)
     → IsErrAnd r (λ e. e ≡ read) → ((fault : Fault) → found ≡ Some fault → verdict ≡ verdicts.Refused fault)
     → IsReadFault found read → MatchResult r P (IsVerdict verdict)
 passed_on P (Ok v) verdict found read h says is = absurd h
 passed_on P (Err e) verdict found read h says is =
-    let Told : ReadFault → Type 0 = IsVerdict verdict in subst Told (sym h) (told verdict found read says is)
+    let Says : ReadFault → Type 0 = IsVerdict verdict in subst Says (sym h) (verdict_from_fault verdict found read says is)
 
 -- ---- the first refusal of a message
 
@@ -213,7 +190,7 @@ head_total m head first e =
 pub keeps_front : (m s1 s2 s4 : List ℕ) (s3 : Option (List ℕ)) (points values total : ℕ)
     → take 4 m ≡ indicator → edition m ≡ 1 → verdict_1 m ≡ verdicts.Accepted total
     → s1 ≡ identification m → s2 ≡ grid m → s3 ≡ bitmap m → s4 ≡ data_section m → points ≡ points_of m → values ≡ values_of m
-    → Keeps (take total m) s1 s2 s3 s4 points values
+    → HasSections (take total m) s1 s2 s3 s4 points values
 keeps_front m s1 s2 s4 s3 points values total starts first e is_1 is_2 is_3 is_4 counted present =
     let p = accepted_parts m total first e in
     let i = parts_inside total m p (omega (arith, accepted_states m total e)) in

@@ -17,7 +17,7 @@ use Rattle.grib1_sections.specs.Grammar.{IsBitmap}
 use Rattle.grib1_sections.specs.Acceptance.{bitmap, points_of}
 use Rattle.grib1_sections.specs.Message.{SectionsPass}
 use Rattle.grib1_sections.specs.Column.{column_from, entries_of}
-use Rattle.grib1_sections.proofs.Rows.{passes_from_none}
+use Rattle.grib_base.proofs.Passing.{passes_from_none}
 
 -- a point with a number
 abbrev pub scaled : ℕ → Point

@@ -19,7 +19,8 @@ use Rattle.grib1_sections.specs.Data.{data_rows}
 use Rattle.grib1_sections.specs.Acceptance.{message_fault, verdict_1, has_bitmap, identification, grid, bitmap, data_section, grid_start, bitmap_start, data_start, end_start, points_of, values_of}
 use Rattle.grib1_sections.specs.Grammar.{Sections, IsSection, IsBitmap, joined_sections, Grammar1}
 use Rattle.grib1_sections.specs.Message.{IsMessage1, SectionsPass}
-use Rattle.grib1_sections.proofs.Rows.{none_accepted, passes_from_none}
+use Rattle.grib_base.proofs.Passing.{passes_from_none}
+use Rattle.grib1_sections.proofs.Rows.{none_accepted}
 use Rattle.grib1_sections.proofs.Places.{grid_start-is, bitmap_start-is, data_start-flagged, data_start-plain, end_start-is, bitmap-flagged, bitmap-plain}
 use Rattle.grib1_sections.proofs.Parts.{Whole, Parts, parts_inside, none_from_parts}
 use Rattle.grib1_sections.proofs.Stays.{accepted_stays}

@@ -8,11 +8,11 @@ use Rattle.grib2_sections.specs.Template.{Template, is_template, least_length}
 use Rattle.grib1_sections.specs.Grid.{grid_types, grid_type, nv, list_place, nj, lists_rows, has_list, row_count, lists_end, grid_rows}
 use Rattle.grib1_sections.specs.Coordinates.{coordinate_count}
 use Rattle.grib1_sections.specs.Held.{HoldsLists}
-use Rattle.grib1_sections.proofs.Rows.{passes_from_none, second_fails}
+use Rattle.grib_base.proofs.Passing.{passes_from_none, second_fails}
 
 -- ---- the least length
 
--- each type has at least so many octets
+-- each type has at least `bound` octets
 abbrev AreAtLeast : ℕ → List Template → Type 0
 AreAtLeast bound [] = Unit {0}
 AreAtLeast bound (t ∷ types) = (bound ≤ t.least) × AreAtLeast bound types

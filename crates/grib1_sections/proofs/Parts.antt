@@ -12,7 +12,8 @@ use Rattle.grib1_sections.specs.Grid.{grid_rows}
 use Rattle.grib1_sections.specs.Bitmap.{bitmap_rows}
 use Rattle.grib1_sections.specs.Data.{data_rows}
 use Rattle.grib1_sections.specs.Acceptance.{or_else, section_fault, bitmap_fault, sections_fault, message_fault, has_bitmap, grid_start, bitmap_start, data_start, end_start, points_of, values_of}
-use Rattle.grib1_sections.proofs.Rows.{passes_from_none, none_from_passes, second_fails, or_none, none_or, none-located, located-none}
+use Rattle.grib_base.proofs.Passing.{passes_from_none, none_from_passes, second_fails, none-located, located-none}
+use Rattle.grib1_sections.proofs.Rows.{or_none, none_or}
 use Rattle.grib1_sections.proofs.Agreeing.{Inside}
 use Rattle.grib1_sections.proofs.Places.{BitmapInside, grid_start-is, bitmap_start-is, data_start-flagged, data_start-plain, end_start-is}
 

@@ -13,7 +13,8 @@ use Rattle.grib1_sections.specs.Grid.{grid_rows}
 use Rattle.grib1_sections.specs.Bitmap.{bitmap_rows}
 use Rattle.grib1_sections.specs.Data.{data_rows}
 use Rattle.grib1_sections.specs.Acceptance.{or_else, section_fault, bitmap_fault, sections_fault, message_fault, verdict_1, has_bitmap, grid_start, bitmap_start, data_start, end_start, points_of, values_of}
-use Rattle.grib1_sections.proofs.Rows.{or_none, passes_from_none, accepted_none, none_accepted, refused_some, some_refused}
+use Rattle.grib_base.proofs.Passing.{passes_from_none}
+use Rattle.grib1_sections.proofs.Rows.{or_none, accepted_none, none_accepted, refused_some, some_refused}
 use Rattle.grib1_sections.proofs.Agreeing.{Agree, Inside, agree_more, same_octets, same_section}
 use Rattle.grib1_sections.proofs.Places.{GridInside, BitmapInside, same_flag, same_grid_start, same_bitmap_start, same_points, same_data_start, same_values, same_end_start, grid_start-is, bitmap_start-is, data_start-flagged, data_start-plain, end_start-is}
 use Rattle.grib1_sections.proofs.Parts.{bitmap_whole, head_first, from_end, from_data, from_bitmap, from_grid, from_first}
@@ -24,12 +25,12 @@ abbrev pub IsTruncated : Option Fault → Type 0
 IsTruncated None = ⊥
 IsTruncated (Some fault) = fault.reason ≡ Truncated
 
-abbrev pub Kept : Option Fault → Option Fault → Type 0
-Kept fault later = IsTruncated fault ⊎ (later ≡ fault)
+abbrev pub StaysUnlessCut : Option Fault → Option Fault → Type 0
+StaysUnlessCut fault later = IsTruncated fault ⊎ (later ≡ fault)
 
 -- a row that asks for more
-cut_row : (a b : Bool) (f g : Fault) (x y : Option Fault) → f.reason ≡ Truncated → (a ≡ false → (b ≡ false) × Kept x y)
-    → Kept (cond a (Some f) x) (cond b (Some g) y)
+cut_row : (a b : Bool) (f g : Fault) (x y : Option Fault) → f.reason ≡ Truncated → (a ≡ false → (b ≡ false) × StaysUnlessCut x y)
+    → StaysUnlessCut (cond a (Some f) x) (cond b (Some g) y)
 cut_row true b f g x y cut later = inl cut
 cut_row false b f g x y cut later =
     let both = later refl in
@@ -37,18 +38,18 @@ cut_row false b f g x y cut later =
     rw off both.1
 
 -- any other row
-kept_row : (a b : Bool) (f g : Fault) (x y : Option Fault) → b ≡ a → g ≡ f → (a ≡ false → Kept x y)
-    → Kept (cond a (Some f) x) (cond b (Some g) y)
+kept_row : (a b : Bool) (f g : Fault) (x y : Option Fault) → b ≡ a → g ≡ f → (a ≡ false → StaysUnlessCut x y)
+    → StaysUnlessCut (cond a (Some f) x) (cond b (Some g) y)
 kept_row true b f g x y same fault later = inr (rw same (ap Some fault))
 kept_row false b f g x y same fault later = rw same (later refl)
 
-kept_as : (fault later same : Option Fault) → Kept fault later → same ≡ later → Kept fault same
+kept_as : (fault later same : Option Fault) → StaysUnlessCut fault later → same ≡ later → StaysUnlessCut fault same
 kept_as fault later same (inl cut) e = inl cut
 kept_as fault later same (inr kept) e = inr (e ∙ kept)
 
 -- one refusal after another
-or_kept : (first first' : Option Fault) (later later' : Unit {0} → Option Fault) → Kept first first'
-    → (first ≡ None → Kept (later tt) (later' tt)) → Kept (or_else first later) (or_else first' later')
+or_kept : (first first' : Option Fault) (later later' : Unit {0} → Option Fault) → StaysUnlessCut first first'
+    → (first ≡ None → StaysUnlessCut (later tt) (later' tt)) → StaysUnlessCut (or_else first later) (or_else first' later')
 or_kept (Some fault) first' later later' (inl cut) h = inl cut
 or_kept (Some fault) first' later later' (inr e) h = inr (rw e)
 or_kept None first' later later' (inl cut) h = absurd cut
@@ -57,7 +58,7 @@ or_kept None first' later later' (inr e) h = rw e (h refl)
 -- ---- one section
 
 frame_kept : (n : ℕ) (u w : List ℕ) (q least : ℕ) → n ≡ length u → Agree n u w → 1 ≤ q → total_length_1 w ≡ total_length_1 u
-    → Kept (first_fault (frame_rows u q least)) (first_fault (frame_rows w q least))
+    → StaysUnlessCut (first_fault (frame_rows u q least)) (first_fault (frame_rows w q least))
 frame_kept n u w q least size h low total =
     cut_row (nat_lt (length u) (q + 2)) (nat_lt (length w) (q + 2)) _ _ _ _ refl (λ pass.
     let there : q + 2 ≤ n = omega (arith, size, ltb-false (length u) (q + 2) pass) in
@@ -92,7 +93,7 @@ inside n u q least rows size low some e =
     frame_inside n u q least size low some (or_none (first_fault (frame_rows u q least)) (λ _. first_fault_at q (rows (section_at u q))) e).0
 
 section_kept : (n : ℕ) (u w : List ℕ) (q least : ℕ) (rows : List ℕ → List Row) → n ≡ length u → Agree n u w → 1 ≤ q → 1 ≤ least
-    → total_length_1 w ≡ total_length_1 u → Kept (section_fault u q least rows) (section_fault w q least rows)
+    → total_length_1 w ≡ total_length_1 u → StaysUnlessCut (section_fault u q least rows) (section_fault w q least rows)
 section_kept n u w q least rows size h low some total =
     or_kept (first_fault (frame_rows u q least)) (first_fault (frame_rows w q least))
     (λ _. first_fault_at q (rows (section_at u q))) (λ _. first_fault_at q (rows (section_at w q)))
@@ -103,7 +104,7 @@ section_kept n u w q least rows size h low some total =
 -- ---- the whole message
 
 end_kept : (n : ℕ) (u w : List ℕ) (q : ℕ) → n ≡ length u → Agree n u w → 1 ≤ q → total_length_1 w ≡ total_length_1 u
-    → Kept (first_fault (end_rows u q)) (first_fault (end_rows w q))
+    → StaysUnlessCut (first_fault (end_rows u q)) (first_fault (end_rows w q))
 end_kept n u w q size h low total =
     cut_row (nat_lt (length u) (q + 3)) (nat_lt (length w) (q + 3)) _ _ _ _ refl (λ pass.
     let there : q + 3 ≤ n = omega (arith, size, ltb-false (length u) (q + 3) pass) in
@@ -117,7 +118,7 @@ end_kept n u w q size h low total =
     ))
 
 bitmap_kept_by : (n : ℕ) (u w : List ℕ) (b : Bool) → has_bitmap u ≡ b → n ≡ length u → Agree n u w → GridInside n u → 1 ≤ bitmap_start u
-    → total_length_1 w ≡ total_length_1 u → Kept (bitmap_fault u) (bitmap_fault w)
+    → total_length_1 w ≡ total_length_1 u → StaysUnlessCut (bitmap_fault u) (bitmap_fault w)
 bitmap_kept_by n u w true e size h i low total =
     let on : has_bitmap w ≡ true = same_flag n u w h i.first ∙ e in
     let start : bitmap_start w ≡ bitmap_start u = same_bitmap_start n u w h i in
@@ -142,7 +143,7 @@ start_after m true e low = omega (arith, data_start-flagged m e, low)
 start_after m false e low = omega (arith, data_start-plain m e, low)
 
 -- what comes after Section 0
-sections_kept : (n : ℕ) (u w : List ℕ) → n ≡ length u → Agree n u w → total_length_1 w ≡ total_length_1 u → Kept (sections_fault u) (sections_fault w)
+sections_kept : (n : ℕ) (u w : List ℕ) → n ≡ length u → Agree n u w → total_length_1 w ≡ total_length_1 u → StaysUnlessCut (sections_fault u) (sections_fault w)
 sections_kept n u w size h total =
     or_kept (section_fault u 9 28 identification_rows) (section_fault w 9 28 identification_rows) (from_grid u) (from_grid w)
     (section_kept n u w 9 28 identification_rows size h (omega arith) (omega arith) total) (λ pass_1.
@@ -181,11 +182,11 @@ is_off : (e : ℕ) (b : Bool) → e ≡ 1 → (e == 2 && b) ≡ false
 is_off e b first = and_left (e == 2) b (ne_eqb e 2 (λ same. omega arith))
 
 -- a row that does not refuse either
-passed_row : (a b : Bool) (f g : Fault) (x y : Option Fault) → a ≡ false → b ≡ false → Kept x y → Kept (cond a (Some f) x) (cond b (Some g) y)
+passed_row : (a b : Bool) (f g : Fault) (x y : Option Fault) → a ≡ false → b ≡ false → StaysUnlessCut x y → StaysUnlessCut (cond a (Some f) x) (cond b (Some g) y)
 passed_row true b f g x y off_a off_b later = cc
 passed_row false b f g x y off_a off_b later = rw off_b later
 
-head_kept : (n : ℕ) (u w : List ℕ) → n ≡ length u → Agree n u w → edition u ≡ 1 → Kept (first_fault (head_rows u)) (first_fault (head_rows w))
+head_kept : (n : ℕ) (u w : List ℕ) → n ≡ length u → Agree n u w → edition u ≡ 1 → StaysUnlessCut (first_fault (head_rows u)) (first_fault (head_rows w))
 head_kept n u w size h first =
     cut_row (nat_lt (length u) 8) (nat_lt (length w) 8) _ _ _ _ refl (λ pass.
     let eight : 8 ≤ n = omega (arith, size, ltb-false (length u) 8 pass) in
@@ -203,21 +204,21 @@ head_kept n u w size h first =
     ))
 
 -- what is said of a front is said of the whole, unless it asks for more
-pub message_kept : (n : ℕ) (u w : List ℕ) → n ≡ length u → Agree n u w → edition u ≡ 1 → Kept (message_fault u) (message_fault w)
+pub message_kept : (n : ℕ) (u w : List ℕ) → n ≡ length u → Agree n u w → edition u ≡ 1 → StaysUnlessCut (message_fault u) (message_fault w)
 message_kept n u w size h first =
     or_kept (first_fault (head_rows u)) (first_fault (head_rows w)) (from_first u) (from_first w) (head_kept n u w size h first) (λ passed.
     let p = head_first u first passed in
     sections_kept n u w size h (same_octets n u w 5 7 h (omega arith) (omega arith) (omega (arith, size, p.0))))
 
 -- so a refusal that asks for no more stays, and an acceptance
-stays : (found later : Option Fault) (fault : Fault) → Kept found later → found ≡ Some fault → fault.reason ≢ Truncated → later ≡ Some fault
+stays : (found later : Option Fault) (fault : Fault) → StaysUnlessCut found later → found ≡ Some fault → fault.reason ≢ Truncated → later ≡ Some fault
 stays (Some found) later fault (inl cut) e whole =
     let same : found ≡ fault = cc in
     absurd (whole (sym (ap (λ f. f.reason) same) ∙ cut))
 stays (Some found) later fault (inr kept) e whole = kept ∙ e
 stays None later fault h e whole = cc
 
-stays_none : (found later : Option Fault) → Kept found later → found ≡ None → later ≡ None
+stays_none : (found later : Option Fault) → StaysUnlessCut found later → found ≡ None → later ≡ None
 stays_none (Some found) later h e = cc
 stays_none None later (inl cut) e = absurd cut
 stays_none None later (inr kept) e = kept

@@ -11,7 +11,7 @@ use Rattle.grib_base.specs.Rows.{Row, row}
 abbrev pub bitmap_number : List ℕ → ℕ
 bitmap_number s = octets s 5 6
 
--- rows B3.1 and B3.2, where the grid has so many points
+-- rows B3.1 and B3.2, where the grid has `points` points
 abbrev pub bitmap_rows : ℕ → List ℕ → List Row
 bitmap_rows points s =
     let l = length s in
@@ -19,7 +19,7 @@ bitmap_rows points s =
     ∷ row (nat_lt (8 * l) (points + 48)) 1 BitmapSize l  -- B3.2
     ∷ []
 
--- which of so many grid points are present, by this Section 3 or without one
+-- which of this number of grid points are present, by this Section 3 or without one
 abbrev pub mask_of : Option (List ℕ) → ℕ → List Bool
 mask_of None points = replicate points true
 mask_of (Some s) points = take points (bits (drop 6 s))

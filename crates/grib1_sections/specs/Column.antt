@@ -17,7 +17,7 @@ use Rattle.grib_packing.specs.declared.column.Column.{Column}
 use Rattle.grib1_sections.specs.Data.{bit_width}
 use Rattle.grib1_sections.specs.Acceptance.{identification, mask, data_section}
 
--- the entries of so many present points: the plain numbers from octet 12 of Section 4 on
+-- the entries of the points that are present, of this number: the plain numbers from octet 12 of Section 4 on
 abbrev pub entries_of : List ℕ → ℕ → List Point
 entries_of s4 values = map (λ x. Scaled (pos x)) (plain (bits (drop 11 s4)) (bit_width s4) values)
 

@@ -14,7 +14,7 @@ data_flags s = octets s 4 4
 abbrev pub bit_width : List ℕ → ℕ
 bit_width s = octets s 11 11
 
--- rows B4.1 to B4.5, where so many points are present
+-- rows B4.1 to B4.5, where `present` points are present
 abbrev pub data_rows : ℕ → List ℕ → List Row
 data_rows present s =
     let l = length s in

@@ -18,7 +18,7 @@ pub record Sections : Type 0 where
   pub bitmap : Option (List ℕ)
   pub data_section : List ℕ
 
--- the octets begin with their length, are at least so many, and pass these rows
+-- the octets begin with their length, are at least `least`, and pass these rows
 pub record IsSection (least : ℕ) (rows : List ℕ → List Row) (s : List ℕ) : Type 0 where
   pub length_stands : section_length s ≡ length s
   pub long : least ≤ length s

@@ -1,8 +1,9 @@
 -- Section 2, the grid description section (WMO-No. 306, Volume I.2, FM 92 GRIB edition 1, code table 6:
 -- 0 latitude and longitude, 1 Mercator, 3 Lambert, 4 Gaussian, 5 polar stereographic).
-use Rattle.std.specs.Prelude.{ℕ, ◌+◌, ◌-◌, ◌*◌, Bool, not, cond, ◌&&◌, ◌||◌, List, [], ◌∷◌, length, map, nat_lt, ◌==◌, sum}
-use Rattle.std.specs.List.{list_any, range_with_len}
+use Rattle.std.specs.Prelude.{ℕ, ◌+◌, ◌-◌, ◌*◌, Bool, not, cond, ◌&&◌, ◌||◌, List, [], ◌∷◌, length, nat_lt, ◌==◌, sum}
+use Rattle.std.specs.List.{list_any}
 use Rattle.grib_bits.specs.Octets.{octets}
+use Rattle.grib_bits.specs.Listed.{numbers_at}
 use Rattle.grib_base.specs.declared.fault.Reason.TheVariants.{SectionLength, GridType, PointCount, ListShape}
 use Rattle.grib_base.specs.Rows.{Row, row}
 use Rattle.grib2_sections.specs.Template.{Template, template, is_template, least_length}
@@ -42,9 +43,7 @@ row_count s = cond (lists_rows s) (nj s) 0
 
 -- the list of rows: numbers of two octets each, after NV words of four octets
 abbrev pub row_list : List ℕ → List ℕ
-row_list s =
-    let first = list_place s + 4 * nv s in
-    map (λ j. octets s (first + 2 * j) (first + 2 * j + 1)) (range_with_len 0 (row_count s))
+row_list s = numbers_at s (list_place s + 4 * nv s) 2 (row_count s)
 
 -- the last octet of the lists
 abbrev pub lists_end : List ℕ → ℕ

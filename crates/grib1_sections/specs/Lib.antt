@@ -7,7 +7,7 @@ pub mod Acceptance
 pub mod Grammar
 pub mod Message
 pub use Rattle.grib2_sections.specs.Refused
-pub mod Kept
+pub mod Known
 pub mod Keys
 pub mod Coordinates
 pub mod Column

@@ -1,8 +1,7 @@
 //! The rows of the profile that decide whether a section is accepted.
 
-ghost use Rattle.std.specs.Prelude.{◌≡◌, ◌+◌, ◌-◌, ◌*◌, ◌≤◌, ◌<◌, ◌^◌, true, false, length, map, sum, take, drop, Some, None, MatchResult, MatchOption, OnOk};
-ghost use Rattle.std.specs.List.{range_with_len};
-ghost use Rattle.grib_bits.specs.Octets.{octets as octets_of};
+ghost use Rattle.std.specs.Prelude.{◌≡◌, ◌+◌, ◌-◌, ◌*◌, ◌≤◌, ◌<◌, ◌^◌, true, false, length, sum, take, drop, Some, None, MatchResult, MatchOption, OnOk};
+ghost use Rattle.grib_bits.specs.Listed.{numbers_at};
 ghost use Rattle.grib_base.specs.Rows.{first_fault, first_fault_at};
 ghost use Rattle.grib2_sections.specs.Template.{is_template, least_length as least_of};
 ghost use Rattle.grib_bitmap.specs.Mask.{present_count};
@@ -12,7 +11,7 @@ ghost use Rattle.grib1_sections.specs.Grid.{grid_types, grid_rows, grid_points};
 ghost use Rattle.grib1_sections.specs.Bitmap.{bitmap_rows, mask_of};
 ghost use Rattle.grib1_sections.specs.Data.{data_rows};
 ghost use Rattle.grib_base.specs.Faults.{IsReadFault};
-ghost use Rattle.grib1_sections.specs.Kept.{HasRows};
+ghost use Rattle.grib1_sections.specs.Known.{HasRows};
 
 use crate::frame::{Placed, has_bit};
 use grib_base::{Fault, ReadFault, Reason};
@@ -50,7 +49,7 @@ fn least_length(grid_type: u8) -> Option<usize>
     }
 }
 
-/// Tries the rows of Section 2. It has so many points.
+/// Tries the rows of Section 2. The answer is its number of points.
 pub(crate) fn check_grid(section: &Placed<'_>) -> Result<u32, Fault>
     requires start { section.now.start < 2 ^ 63 }
     requires long { 6 ≤ length section.now.octets.now }
@@ -161,8 +160,7 @@ fn sum_rows(octets: &[u8], first: usize, count: u16) -> u64
     requires counted { 1 ≤ first }
     requires near { first < 2 ^ 16 }
     requires within { first - 1 + 2 * count ≤ length octets.now }
-    ensures { result ≡ sum (map (λ j. octets_of octets.now (first + 2 * j) (first + 2 * j + 1))
-        (range_with_len 0 count)) }
+    ensures { result ≡ sum (numbers_at octets.now first 2 count) }
 {
     let mut points = 0u64;
     for row in 0..count as usize {
@@ -171,7 +169,7 @@ fn sum_rows(octets: &[u8], first: usize, count: u16) -> u64
     points
 }
 
-/// Tries the rows of Section 3, where the grid has so many points. So many of them are present.
+/// Tries the rows of Section 3, where the grid has `points` points. The answer is how many are present.
 pub(crate) fn check_bitmap(
     alloc: Global,
     section: &Placed<'_>,
@@ -205,7 +203,7 @@ pub(crate) fn check_bitmap(
     Ok(ones(&mask))
 }
 
-/// Tries the rows of Section 4, where so many points are present.
+/// Tries the rows of Section 4, where `present` points are present.
 pub(crate) fn check_data(section: &Placed<'_>, present: u32) -> Result<(), Fault>
     requires start { section.now.start < 2 ^ 63 }
     requires long { 11 ≤ length section.now.octets.now }

@@ -18,7 +18,7 @@ use grib_packing::{Column, Point};
 use grib_simple::{masked_points, unpack_points};
 use std::alloc::{AllocError, Global};
 
-/// The column of a grid of so many points, by Section 1, Section 3, where there is one, and Section 4.
+/// The column of a grid of `points` points, by Section 1, Section 3, where there is one, and Section 4.
 pub(crate) fn read_column(
     alloc: Global,
     section1: &[u8],
@@ -46,7 +46,7 @@ pub(crate) fn read_column(
 }
 
 /// The points of a grid with this Section 3, or all of them without one: each that is present takes the
-/// next of the numbers of so many bits in these octets.
+/// next of the numbers of `bits` bits each in these octets.
 fn read_points(
     alloc: Global,
     section3: Option<&[u8]>,

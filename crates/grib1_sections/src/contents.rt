@@ -29,9 +29,9 @@ impl<'a> Message1<'a> {
     {
         read_column(
             alloc,
-            there(self, 1),
+            present_section(self, 1),
             self.section(3),
-            there(self, 4),
+            present_section(self, 4),
             self.points(),
         )
     }
@@ -41,7 +41,7 @@ impl<'a> Message1<'a> {
         ensures number { result ≡ key1_of self.now key }
         ensures small { result < 2 ^ 16 }
     {
-        number_of(there(self, 1), key)
+        number_of(present_section(self, 1), key)
     }
 
     /// The number of points of each row of a grid whose rows differ in length; else empty.
@@ -52,7 +52,7 @@ impl<'a> Message1<'a> {
     pub fn rows1(&self, alloc: Global) -> Result<Vec<u32>, AllocError>
         ensures { IfOk result (λ rows. rows.items ≡ row_list (grid self.now)) }
     {
-        read_rows(alloc, there(self, 2))
+        read_rows(alloc, present_section(self, 2))
     }
 
     /// The vertical coordinates, words of the IBM single form; empty where there are none.
@@ -63,12 +63,12 @@ impl<'a> Message1<'a> {
     pub fn coordinates1(&self, alloc: Global) -> Result<Vec<u32>, AllocError>
         ensures { IfOk result (λ words. words.items ≡ coordinate_list (grid self.now)) }
     {
-        read_coordinates(alloc, there(self, 2))
+        read_coordinates(alloc, present_section(self, 2))
     }
 }
 
 /// The section with this number, 1, 2 or 4, which each message has.
-fn there<'a>(message: &Message1<'a>, number: u8) -> &'a [u8]
+fn present_section<'a>(message: &Message1<'a>, number: u8) -> &'a [u8]
     requires low { 1 ≤ number }
     requires high { number ≤ 4 }
     requires present { number ≢ 3 }

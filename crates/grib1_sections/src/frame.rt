@@ -5,7 +5,7 @@ ghost use Rattle.grib_base.specs.Rows as rows;
 ghost use Rattle.grib_base.specs.Rows.{first_fault};
 ghost use Rattle.grib2_sections.specs.Head.{total_length_1};
 ghost use Rattle.grib1_sections.specs.Frame.{frame_rows, end_rows, bit};
-ghost use Rattle.grib1_sections.specs.Kept.{Stands};
+ghost use Rattle.grib1_sections.specs.Known.{Stands};
 
 use grib_base::{Fault, Reason};
 use grib_bits::{u32_at, uint_at};

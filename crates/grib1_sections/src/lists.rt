@@ -1,13 +1,11 @@
 //! The lists of Section 2: vertical coordinates, and the numbers of points of the rows.
 
-ghost use Rattle.std.specs.Prelude.{◌≡◌, ◌+◌, ◌-◌, ◌*◌, ◌≤◌, length, map, IfOk};
-ghost use Rattle.std.specs.List.{range_with_len};
-ghost use Rattle.grib_bits.specs.Octets.{octets as octets_of};
+ghost use Rattle.std.specs.Prelude.{◌≡◌, ◌≤◌, length, IfOk};
 ghost use Rattle.grib1_sections.specs.Grid.{row_list};
 ghost use Rattle.grib1_sections.specs.Coordinates.{coordinate_count as count_of, coordinate_list};
 ghost use Rattle.grib1_sections.specs.Held.{HoldsLists};
 
-use grib_bits::{u8_at, u16_at, u32_at};
+use grib_bits::{read_list, u8_at, u16_at};
 use std::alloc::{AllocError, Global};
 
 /// Octet 5 where no list stands.
@@ -21,11 +19,11 @@ pub(crate) fn read_coordinates(alloc: Global, section2: &[u8]) -> Result<Vec<u32
     requires { HoldsLists section2.now }
     ensures { IfOk result (λ words. words.items ≡ coordinate_list section2.now) }
 {
-    let count = coordinate_count(section2);
+    let count = usize::from(coordinate_count(section2));
     if count == 0 {
         return Ok(Vec::new(alloc));
     }
-    read_words(alloc, section2, usize::from(u8_at(section2, 5)), count)
+    read_list(alloc, section2, usize::from(u8_at(section2, 5)), 4, count)
 }
 
 /// The number of points of each row of this Section 2, for a grid whose rows differ in length; else
@@ -38,7 +36,8 @@ pub(crate) fn read_rows(alloc: Global, section2: &[u8]) -> Result<Vec<u32>, Allo
         return Ok(Vec::new(alloc));
     }
     let first = usize::from(u8_at(section2, 5)) + 4 * usize::from(u8_at(section2, 4));
-    read_pairs(alloc, section2, first, u16_at(section2, 9))
+    let count = usize::from(u16_at(section2, 9));
+    read_list(alloc, section2, first, 2, count)
 }
 
 /// How many vertical coordinates stand in this Section 2.
@@ -50,39 +49,4 @@ fn coordinate_count(section2: &[u8]) -> u8
         return 0;
     }
     u8_at(section2, 4)
-}
-
-/// The `count` words of four octets each from octet `first` on. The memory is taken once.
-fn read_words(alloc: Global, octets: &[u8], first: usize, count: u8) -> Result<Vec<u32>, AllocError>
-    requires counted { 1 ≤ first }
-    requires within { first + 4 * count ≤ length octets.now + 1 }
-    ensures { IfOk result (λ words. words.items
-        ≡ map (λ k. octets_of octets.now (first + 4 * k) (first + 4 * k + 3))
-        (range_with_len 0 count)) }
-{
-    let mut words = Vec::with_capacity(alloc, usize::from(count))?;
-    for k in 0..usize::from(count) {
-        words.push(u32_at(octets, first + 4 * k))?;
-    }
-    Ok(words)
-}
-
-/// The `count` numbers of two octets each from octet `first` on. The memory is taken once.
-fn read_pairs(
-    alloc: Global,
-    octets: &[u8],
-    first: usize,
-    count: u16,
-) -> Result<Vec<u32>, AllocError>
-    requires counted { 1 ≤ first }
-    requires within { first + 2 * count ≤ length octets.now + 1 }
-    ensures { IfOk result (λ numbers. numbers.items
-        ≡ map (λ j. octets_of octets.now (first + 2 * j) (first + 2 * j + 1))
-        (range_with_len 0 count)) }
-{
-    let mut numbers = Vec::with_capacity(alloc, usize::from(count))?;
-    for j in 0..usize::from(count) {
-        numbers.push(u32::from(u16_at(octets, first + 2 * j)))?;
-    }
-    Ok(numbers)
 }

@@ -3,7 +3,7 @@
 ghost use Rattle.std.specs.Prelude.{◌≡◌, ◌≤◌, length, None, Some, MatchOption, option_copied};
 ghost use Rattle.grib1_sections.specs.Acceptance.{points_of, values_of};
 ghost use Rattle.grib1_sections.specs.Message.{IsMessage1, SectionsPass, section_of};
-ghost use Rattle.grib1_sections.specs.Kept.{Keeps};
+ghost use Rattle.grib1_sections.specs.Known.{HasSections};
 
 use std::marker::Model;
 
@@ -22,19 +22,19 @@ pub struct Message1<'a> {
 
 impl<'a> Model for Message1<'a> {
     ghost use Rattle.std.specs.Prelude.{List, ℕ, option_copied};
-    ghost use Rattle.grib1_sections.specs.Kept.{Keeps};
+    ghost use Rattle.grib1_sections.specs.Known.{HasSections};
 
     ghost Value = { List ℕ };
 
     ghost view = { λ message. message.octets.now };
 
-    ghost invariant = { λ message. Keeps message.octets.now message.identification.now
+    ghost invariant = { λ message. HasSections message.octets.now message.identification.now
         message.grid.now (option_copied message.bitmap) message.«data».now message.points
         message.values };
 }
 
 impl<'a> Message1<'a> {
-    /// The message of these octets, with these sections, so many grid points, and so many that are
+    /// The message of these octets, with these sections and numbers of grid points and of those that are
     /// present.
     pub(crate) fn of(
         octets: &'a [u8],
@@ -45,7 +45,7 @@ impl<'a> Message1<'a> {
         points: u32,
         values: u32,
     ) -> Message1<'a>
-        requires { Keeps octets.now identification.now grid.now (option_copied bitmap)
+        requires { HasSections octets.now identification.now grid.now (option_copied bitmap)
             «data».now points values }
         ensures { result ≡ octets.now }
     {

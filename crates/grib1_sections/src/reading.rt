@@ -11,7 +11,7 @@ ghost use Rattle.grib1_sections.specs.Acceptance.{verdict_1, has_bitmap, bitmap_
 ghost use Rattle.grib1_sections.specs.Message.{IsMessage1};
 ghost use Rattle.grib2_sections.specs.Refused.{IsVerdict};
 ghost use Rattle.grib_base.specs.Faults.{IsReadFault};
-ghost use Rattle.grib1_sections.specs.Kept.{Stands, HasBitmap};
+ghost use Rattle.grib1_sections.specs.Known.{Stands, HasBitmap};
 
 use crate::Message1;
 use crate::checking::{check_bitmap, check_data, check_grid, check_identification};
@@ -102,7 +102,7 @@ fn flags_bitmap(identification: &[u8]) -> bool
 }
 
 /// Reads Section 3, where it is flagged, of a message of `total` octets. It begins at octet `start`, and
-/// the grid has so many points.
+/// the grid has `points` points.
 fn read_bitmap<'a>(
     alloc: Global,
     octets: &'a [u8],
@@ -139,8 +139,8 @@ fn read_bitmap<'a>(
     })
 }
 
-/// Reads Section 4, which begins at octet `start` of a message of `total` octets, where so many points
-/// are present.
+/// Reads Section 4, which begins at octet `start` of a message of `total` octets, where `present`
+/// points are present.
 fn read_data(octets: &[u8], total: u64, start: usize, present: u32) -> Result<Placed<'_>, Fault>
     requires counted { 1 ≤ start }
     requires within { start ≤ length octets.now + 1 }

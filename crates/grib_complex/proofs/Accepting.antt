@@ -1,17 +1,18 @@
 -- Lemmas on a Section 5 that is accepted.
-use Rattle.std.proofs.Common.{◌≡◌, ℕ, ◌⊎◌, Bool, true, false, not, ◌&&◌, eqb, Option, Some, None, List, [], ◌∷◌, refl, ap, ◌∙◌, arith, inl, inr}
+use Rattle.std.proofs.Common.{◌≡◌, ℕ, ◌≤◌, ◌⊎◌, Bool, true, false, not, ◌&&◌, eqb, Option, Some, None, List, [], ◌∷◌, refl, sym, ap, ◌∙◌, arith, inl, inr}
 use Rattle.std.proofs.lemmas.Bool.{cond-false, eq-eqb, ne_eqb, ltb-false, cases_eq}
 use Rattle.grib_base.specs.declared.fault.Fault.{Fault}
 use Rattle.grib_base.specs.Rows.{Row, first_fault, first_fault_at, located, or_then, choose}
 use Rattle.grib_packing.specs.Complex.{complex_rows, layout_of, difference_order, extra_octets}
-use Rattle.grib_packing.specs.Packing.{packing_rows, packing_template, most_bits, bit_width}
+use Rattle.grib_packing.specs.Packing.{packing_rows, packing_template, packing_templates, most_bits, bit_width}
+use Rattle.grib2_sections.specs.Template.{is_template}
 use Rattle.grib_packing.specs.Entries.{packing_fault}
 use Rattle.grib_simple.proofs.Accepted.{passed}
 use Rattle.grib_complex.specs.declared.representation.Complex.{Complex}
 use Rattle.grib_complex.specs.Representation.{Spelled}
 use Rattle.grib_complex.specs.Descriptors.{IsAccepted}
 
-none_located : (start : ℕ) (o : Option Fault) → located start o ≡ None → o ≡ None
+pub none_located : (start : ℕ) (o : Option Fault) → located start o ≡ None → o ≡ None
 none_located start None none = refl
 none_located start (Some f) none = absurd (cc)
 
@@ -79,3 +80,37 @@ packing_none s points none = front (first_fault (packing_rows s points)) (λ _. 
   front : (o : Option Fault) (later : Unit {0} → List Row) → or_then o later ≡ None → o ≡ None
   front None later h = refl
   front (Some f) later h = absurd (cc)
+
+-- ---- the packing of an accepted section
+
+apart : {P : Type 0} → false ≡ true → P
+apart wrong = absurd (cc)
+
+module _ (s : List ℕ) (points : ℕ) (passes : first_fault (packing_rows s points) ≡ None) where
+  -- numbers of simple packing have 48 bits at most
+  pub simple_bits : packing_template s ≡ 0 → bit_width s ≤ 48
+  simple_bits simple =
+      let p = all_pass (packing_rows s points) passes in
+      omega (arith, ltb-false (most_bits (packing_template s)) (bit_width s) p.1.1.1.1.1.0, ap most_bits simple)
+
+  module _ (other : packing_template s ≡ 0 → ⊥) where
+    -- a section of another template is one of complex packing
+    pub complex_template : (packing_template s ≡ 2) ⊎ (packing_template s ≡ 3)
+    complex_template =
+        let t = packing_template s in
+        let p = all_pass (packing_rows s points) passes in
+        elim (cases_eq 2 t) [
+          | inl two ↦ inl (sym two)
+          | inr not_two ↦ elim (cases_eq 3 t) [
+            | inl three ↦ inr (sym three)
+            | inr not_three ↦
+                let none : is_template packing_templates t ≡ false = rw (ne_eqb 0 t (λ zero. other (sym zero)), ne_eqb 2 t not_two, ne_eqb 3 t not_three) refl in
+                apart (sym p.1.0 ∙ ap not none)
+          ]
+        ]
+
+    -- and the rows of complex packing decide
+    pub fault_complex : packing_fault s points ≡ first_fault (complex_rows s)
+    fault_complex =
+        ap (λ (f : Option Fault). or_then f (λ _. choose (eqb (packing_template s) 0) (λ _. []) (λ _. complex_rows s))) passes
+        ∙ ap (λ (b : Bool). first_fault (choose b (λ _. []) (λ _. complex_rows s))) (ne_eqb (packing_template s) 0 other)

@@ -18,3 +18,4 @@ pub mod Back
 pub mod ByDifferences
 pub mod AllTheSame
 pub mod AtOnce
+pub mod Represented

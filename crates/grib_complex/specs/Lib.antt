@@ -9,3 +9,4 @@ pub mod Feeding
 pub mod Written
 pub mod FieldCodes
 pub mod Constant
+pub mod Field

@@ -1,6 +1,6 @@
 //! A Section 7 that is read as its octets come.
 
-ghost use Rattle.std.specs.Prelude.{◌≡◌, ◌⊎◌, ℕ, ◌+◌, ◌-◌, ◌*◌, ◌^◌, ◌<◌, ◌≤◌, Bool, Some, None, List, [], ◌++◌, length as length_of, take, drop, IfOk, MatchResult};
+ghost use Rattle.std.specs.Prelude.{◌≡◌, ℕ, ◌+◌, ◌-◌, ◌*◌, ◌^◌, ◌<◌, ◌≤◌, Bool, Some, None, List, [], ◌++◌, length as length_of, take, drop, IfOk, MatchResult};
 ghost use Rattle.grib_bits.specs.Octets.{StatesItself};
 ghost use Rattle.grib_bitmap.specs.Mask.{present_count};
 ghost use Rattle.grib_base.specs.Rows.{located};
@@ -10,19 +10,22 @@ ghost use Rattle.grib_packing.specs.Packing.{packing_template, value_count};
 ghost use Rattle.grib_packing.specs.Representation as shared;
 ghost use Rattle.grib_complex.specs.Representation.{Spelled};
 ghost use Rattle.grib_complex.specs.Descriptors.{IsAccepted};
+ghost use Rattle.grib_complex.specs.Field.{Represents};
 ghost use Rattle.grib_complex.specs.Kept.{ArePoints};
 ghost use Rattle.grib_complex.specs.declared.feeding.State.TheVariants.{Begins};
 ghost use Rattle.grib_complex.specs.Feeding.{BeginningAgrees, StateAgrees, Agrees, IsFed, IsFedState, IsWholeBeginning, octets_left};
 
 use crate::descriptors::{running, signed_first_value};
+use crate::field::Representation;
 use crate::keeping::Points;
-use crate::representation::{Complex, accepted_complex};
+use crate::representation::Complex;
 use crate::telling::Teller;
 use crate::values::Values;
 use grib_base::{Fault, List, Reason, Section};
 use grib_bitmap::Mask;
 use grib_groups::{Fed, FedLists, lists_fit, octets_of_lists, part_of, rest_of};
-use grib_packing::{Column, Simple, read_simple};
+use grib_packing::{Column, Simple};
+use grib_simple::is_too_short;
 use std::alloc::{AllocError, Global};
 
 /// Reads the column of a field as the octets of its Section 7 come, in any pieces (WMO-No. 306, Volume I.2,
@@ -84,12 +87,12 @@ impl Feeder {
         ensures agrees { IfOk result (Agrees section5.now.octets.now mask start length []) }
         ensures fed { IfOk result IsFed }
     {
-        let count = mask.len();
-        let Ok(simple) = read_simple(section5, count) else {
+        let Ok(representation) = Representation::read(section5, mask.len()) else {
             unreachable!();
         };
+        let simple = representation.shared();
         let points = Points::start(alloc, mask)?;
-        let state = start_state(alloc, section5, count, points, start, length)?;
+        let state = start_state(alloc, &representation, points, start, length)?;
         Ok(Feeder {
             simple,
             start,
@@ -167,40 +170,35 @@ impl Feeder {
 /// Before the first octet of a Section 7.
 fn start_state(
     alloc: Global,
-    section5: &Section<'_>,
-    count: u32,
+    representation: &Representation,
     points: Points,
     start: u64,
     length: u32,
 ) -> Result<State, AllocError>
-    requires accepted { packing_fault section5.now.octets.now count ≡ None }
+    requires read { (s5 : List ℕ) × Represents representation.now s5 × (present_count points.mask.value ≡ value_count s5) }
     requires low { 1 ≤ start }
     requires high { start ≤ 268435456 }
     requires least { 5 ≤ length }
     requires points { ArePoints points.mask.value [] points }
-    requires values { present_count points.mask.value ≡ value_count section5.now.octets.now }
-    ensures { IfOk result (λ state. StateAgrees section5.now.octets.now points.mask.value start length [] (Some state)) }
+    ensures { (s5 : List ℕ) → Represents representation.now s5
+        → IfOk result (λ state. StateAgrees s5 points.mask.value start length [] (Some state)) }
 {
-    let Ok(simple) = read_simple(section5, count) else {
-        unreachable!();
-    };
-    if simple.template == 0 {
-        return Ok(start_plain(alloc, &simple, points, start, length));
+    match representation {
+        Representation::Simple(simple) => Ok(start_plain(alloc, *simple, points, start, length)),
+        Representation::Complex(complex) => start_grouped(alloc, *complex, points, start, length),
     }
-    start_grouped(alloc, section5, count, points, start, length)
 }
 
 /// Before the first octet of simple packing: the numbers of all values are one group.
-fn start_plain(alloc: Global, simple: &Simple, points: Points, start: u64, length: u32) -> State
+fn start_plain(alloc: Global, simple: Simple, points: Points, start: u64, length: u32) -> State
     requires low { 1 ≤ start }
     requires high { start ≤ 268435456 }
     requires least { 5 ≤ length }
-    requires width { simple.now.bits ≤ 48 }
-    ensures { (s5 : List ℕ) (mask : List Bool) → shared.Spelled simple.now s5 → packing_template s5 ≡ 0 → ArePoints mask [] points → present_count mask ≡ value_count s5
+    requires width { simple.bits ≤ 48 }
+    ensures { (s5 : List ℕ) (mask : List Bool) → shared.Spelled simple s5 → packing_template s5 ≡ 0 → ArePoints mask [] points → present_count mask ≡ value_count s5
         → StateAgrees s5 mask start length [] (Some result) }
 {
-    let bits = u64::from(simple.values) * u64::from(simple.bits);
-    if 8 * u64::from(length) < bits + 40 {
+    if is_too_short(&simple, u64::from(length)) {
         return State::Refused(Fault::at(start, Reason::DataTooShort, u64::from(length)));
     }
     let values = Values {
@@ -213,22 +211,21 @@ fn start_plain(alloc: Global, simple: &Simple, points: Points, start: u64, lengt
 /// Before the first octet of complex packing. Where there are no groups, each value is a number of no bits.
 fn start_grouped(
     alloc: Global,
-    section5: &Section<'_>,
-    count: u32,
+    complex: Complex,
     points: Points,
     start: u64,
     length: u32,
 ) -> Result<State, AllocError>
-    requires accepted { packing_fault section5.now.octets.now count ≡ None }
-    requires template { (packing_template section5.now.octets.now ≡ 2) ⊎ (packing_template section5.now.octets.now ≡ 3) }
+    requires accepted { IsAccepted complex }
+    requires spelled { (s5 : List ℕ) × Spelled complex s5 }
+    requires values { present_count points.mask.value ≡ complex.simple.values }
     requires low { 1 ≤ start }
     requires high { start ≤ 268435456 }
     requires least { 5 ≤ length }
     requires points { ArePoints points.mask.value [] points }
-    requires values { present_count points.mask.value ≡ value_count section5.now.octets.now }
-    ensures { IfOk result (λ state. StateAgrees section5.now.octets.now points.mask.value start length [] (Some state)) }
+    ensures { (s5 : List ℕ) → Spelled complex s5
+        → IfOk result (λ state. StateAgrees s5 points.mask.value start length [] (Some state)) }
 {
-    let complex = accepted_complex(section5, count);
     let count = complex.simple.values;
     if complex.layout.groups == 0 {
         let values = Values {

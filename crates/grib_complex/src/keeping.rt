@@ -83,7 +83,7 @@ impl Points {
     {
         let mut points = self.skip_missing();
         points.left = points.left.saturating_sub(1);
-        push_within(&mut points.points, point);
+        push_in_room(&mut points.points, point);
         points
     }
 
@@ -144,7 +144,7 @@ impl Keeper for Points {
     fn keep_within(self, point: Point) -> Points {
         let mut points = self;
         points.left -= 1;
-        push_within(&mut points.points, point);
+        push_in_room(&mut points.points, point);
         points
     }
 
@@ -193,6 +193,17 @@ fn push_missing(points: &mut Vec<Point>, count: u32)
     ensures capacity { vec_capacity points.old ≤ vec_capacity points.new }
 {
     for _index in 0..count {
-        push_within(points, Point::Missing);
+        push_in_room(points, Point::Missing);
+    }
+}
+
+/// Adds a point where there is memory for it, as there is for each point of the mask.
+#[inline(always)]
+fn push_in_room(points: &mut Vec<Point>, point: Point)
+    ensures items { vec_len points.old < vec_capacity points.old → points.new.items ≡ points.old.items ++ point ∷ [] }
+    ensures capacity { vec_capacity points.old ≤ vec_capacity points.new }
+{
+    if points.len() < points.capacity() {
+        push_within(points, point);
     }
 }

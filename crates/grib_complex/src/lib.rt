@@ -6,6 +6,7 @@ mod constant;
 mod descriptors;
 mod differencing;
 mod feeding;
+mod field;
 mod grouping;
 mod keeping;
 pub mod laws;
@@ -21,6 +22,7 @@ mod values;
 mod writing;
 
 pub use feeding::Feeder;
+pub use field::Representation;
 pub use grib_groups::Layout;
 pub use keeping::{Keeper, Nothing, Points};
 pub use packing::{ComplexPacking, SpatialPacking};

@@ -1,16 +1,15 @@
 //! Complex packing, with and without spatial differencing.
 
-ghost use Rattle.std.specs.Prelude.{◌≡◌, ◌⊎◌, ◌≤◌, None, length};
-ghost use Rattle.grib_bits.specs.Octets.{StatesItself};
+ghost use Rattle.std.specs.Prelude.{◌≡◌, ◌⊎◌, ℕ, List as Octets};
 ghost use Rattle.grib_bitmap.specs.Mask.{present_count};
-ghost use Rattle.grib_packing.specs.Entries.{packing_fault};
 ghost use Rattle.grib_packing.specs.Misfits.{ToComplex, ToSpatial};
-ghost use Rattle.grib_packing.specs.Packing.{packing_template, value_count};
 ghost use Rattle.grib_packing.specs.Unpacked.{IsUnpacked};
+ghost use Rattle.grib_complex.specs.Descriptors.{IsAccepted};
+ghost use Rattle.grib_complex.specs.Representation.{Spelled};
 
 use crate::keeping::Points;
 use crate::packed::{pack_complex, pack_spatial};
-use crate::representation::accepted_complex;
+use crate::representation::{Complex, accepted_complex};
 use crate::unpacking::take_complex_values;
 use grib_base::{List, ReadFault, Section};
 use grib_bitmap::Mask;
@@ -34,7 +33,8 @@ impl Packing for ComplexPacking {
         mask: &Mask,
         section7: &Section<'_>,
     ) -> Result<Column, ReadFault> {
-        unpack(alloc, section5, mask, section7)
+        let complex = accepted_complex(section5, mask.len());
+        unpack_complex(alloc, &complex, mask, section7)
     }
 
     fn pack(&self, alloc: Global, column: &Column, kind: u8) -> Result<Packed, PackFault> {
@@ -72,7 +72,8 @@ impl Packing for SpatialPacking {
         mask: &Mask,
         section7: &Section<'_>,
     ) -> Result<Column, ReadFault> {
-        unpack(alloc, section5, mask, section7)
+        let complex = accepted_complex(section5, mask.len());
+        unpack_complex(alloc, &complex, mask, section7)
     }
 
     fn pack(&self, alloc: Global, column: &Column, kind: u8) -> Result<Packed, PackFault> {
@@ -80,29 +81,25 @@ impl Packing for SpatialPacking {
     }
 }
 
-/// The column of a field of either template.
-fn unpack(
+/// The column of a field of either template, from the numbers of its Section 5, its mask and its Section 7.
+///
+/// # Errors
+///
+/// Section 7 is refused by the first row of the profile that fails, or there is no memory.
+pub fn unpack_complex(
     alloc: Global,
-    section5: &Section<'_>,
+    complex: &Complex,
     mask: &Mask,
     section7: &Section<'_>,
 ) -> Result<Column, ReadFault>
-    requires accepted { packing_fault section5.now.octets.now (length mask.now) ≡ None }
-    requires template { (packing_template section5.now.octets.now ≡ 2) ⊎ (packing_template section5.now.octets.now ≡ 3) }
-    requires values { present_count mask.now ≡ value_count section5.now.octets.now }
-    ensures { IsUnpacked section5.now.octets.now mask.now section7.now.start section7.now.octets.now result }
+    requires accepted { IsAccepted complex.now }
+    requires values { present_count mask.now ≡ complex.now.simple.values }
+    ensures { (s5 : Octets ℕ) → Spelled complex.now s5
+        → IsUnpacked s5 mask.now section7.now.start section7.now.octets.now result }
 {
-    let complex = accepted_complex(section5, mask.len());
-    let Ok(mask) = mask.copy(alloc) else {
-        return Err(ReadFault::Memory);
-    };
-    let Ok(points) = Points::start(alloc, mask) else {
-        return Err(ReadFault::Memory);
-    };
-    let points = match take_complex_values(alloc, &complex, section7, points) {
-        Ok(points) => points,
-        Err(fault) => return Err(fault),
-    };
+    let mask = mask.copy(alloc)?;
+    let points = Points::start(alloc, mask)?;
+    let points = take_complex_values(alloc, complex, section7, points)?;
     Ok(Column {
         reference: complex.simple.reference,
         e: complex.simple.e,

@@ -59,6 +59,21 @@ pub fn read_complex(section: &Section<'_>, points: u32) -> Result<Complex, Fault
         ≡ Some fault) }
 {
     let simple = read_simple(section, points)?;
+    complex_of(simple, section)
+}
+
+/// Reads what Section 5 says of complex packing beside what all templates share, by the rows of the profile
+/// for templates 5.2 and 5.3.
+pub fn complex_of(simple: Simple, section: &Section<'_>) -> Result<Complex, Fault>
+    requires simple { shared.Spelled simple section.now.octets.now }
+    requires length { 47 ≤ length section.now.octets.now }
+    requires spatial { packing_template section.now.octets.now ≡ 3 → 49 ≤ length section.now.octets.now }
+    ensures { MatchResult result
+        (λ value. (first_fault_at section.now.start (complex_rows section.now.octets.now) ≡ None)
+        × Spelled value section.now.octets.now)
+        (λ fault. first_fault_at section.now.start (complex_rows section.now.octets.now)
+        ≡ Some fault) }
+{
     let complex = numbers(simple, section.octets);
     let start = section.start;
     let layout = complex.layout;
@@ -102,7 +117,7 @@ pub fn read_complex(section: &Section<'_>, points: u32) -> Result<Complex, Fault
     Ok(complex)
 }
 
-/// The same of a section that is accepted.
+/// What a Section 5 says of complex packing that is accepted.
 pub fn accepted_complex(section: &Section<'_>, points: u32) -> Complex
     requires accepted { packing_fault section.now.octets.now points ≡ None }
     requires template { (packing_template section.now.octets.now ≡ 2) ⊎ (packing_template section.now.octets.now ≡ 3) }

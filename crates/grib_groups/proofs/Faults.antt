@@ -10,7 +10,7 @@ use Rattle.grib_packing.specs.Groups.{reference_octets, list_octets, packed_bits
 use Rattle.grib_groups.specs.declared.lists.Lists.{Lists}
 use Rattle.grib_groups.specs.declared.table.Table.{Table}
 use Rattle.grib_groups.specs.Table.{groups_in}
-use Rattle.grib_groups.specs.Lists.{ListsAre, lists_fault}
+use Rattle.grib_groups.specs.Lists.{IsNoted, ListsAre, lists_fault}
 
 -- the refusal of three rows
 abbrev fault_by : ℕ → Bool → Bool → Bool → Fault → Fault → Fault → Option Fault
@@ -79,14 +79,21 @@ fit_from layout start skip l values references widths lengths none =
       enough = ltb-false (8 * l) needed parts.2;
     }
 
+-- nothing is noted where no place is
+no_place : (noted : Option ℕ) → ((place : ℕ) → noted ≡ Some place → ⊥) → noted ≡ None
+no_place None none = refl
+no_place (Some place) none = absurd (none place refl)
+
+noted_some : (noted : Option ℕ) (place is_place : ℕ) → noted ≡ Some place → IsNoted noted is_place → is_place ≡ 0 → ⊥
+noted_some None place is_place is are none = cc
+noted_some (Some n) place is_place is are none = omega (arith, are.0, are.1, none)
+
 -- the groups of lists that fit
 pub groups_are : (layout : Layout) (skip l values : ℕ) (lists : Lists) (table : Table) (references widths lengths : List ℕ) → ListsAre layout values lists references widths lengths
     → Fit layout skip l values references widths lengths → table.references ≡ lists.references.items → table.widths ≡ lists.widths.items → table.lengths ≡ lists.lengths.items
     → groups_in table ≡ groups_from references widths lengths
 groups_are layout skip l values lists table references widths lengths are fit is_references is_widths is_lengths =
-    let not_past : lists.lengths.past ≡ 0 = elim (cases_lt 0 lists.lengths.past) [
-      | inl past ↦ absurd (omega (arith, are.lengths_are.over past, fit.right))
-      | inr none ↦ omega arith
-    ] in
-    ap₂ (λ (rs ws : List ℕ). groups_from rs ws table.lengths.items) (ap (λ v. v.items) is_references ∙ are.references_are) (ap (λ v. v.items) is_widths ∙ are.widths_are.items (are.widths_are.place ∙ fit.narrow))
+    let not_past = no_place lists.lengths.past (λ place is. omega (arith, are.lengths_are.over place is, fit.right)) in
+    let not_wide = no_place lists.widths.too_wide (λ place is. noted_some lists.widths.too_wide place _ is are.widths_are.place fit.narrow) in
+    ap₂ (λ (rs ws : List ℕ). groups_from rs ws table.lengths.items) (ap (λ v. v.items) is_references ∙ are.references_are) (ap (λ v. v.items) is_widths ∙ are.widths_are.items not_wide)
     ∙ ap (groups_from references widths) (ap (λ v. v.items) is_lengths ∙ are.lengths_are.items not_past)

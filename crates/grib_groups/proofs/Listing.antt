@@ -1,57 +1,45 @@
 -- Lemmas on the lists of groups as they are read.
-use Rattle.std.proofs.Common.{◌≡◌, ℕ, ◌+◌, ◌<◌, ◌≤◌, Bool, cond, ltb, eqb, List, [], ◌∷◌, ◌++◌, length, min, sym, ap, ap₂, ◌∙◌, arith, inl, inr, subst}
+use Rattle.std.proofs.Common.{◌≡◌, ℕ, ◌+◌, ◌<◌, ◌≤◌, Bool, cond, ltb, Option, Some, None, List, [], ◌∷◌, ◌++◌, length, min, refl, sym, ap, ap₂, ◌∙◌, arith, inl, inr, subst}
 use Rattle.std.specs.List.{All}
-use Rattle.std.proofs.lemmas.Bool.{cases_lt, lt-ltb, le-ltb, cond-true, cond-false, eq-eqb, ne_eqb}
+use Rattle.std.proofs.lemmas.Bool.{cases_lt, lt-ltb, le-ltb}
 use Rattle.std.proofs.lemmas.List.{length_push}
 use Rattle.std.proofs.lemmas.List.Elements.{All-push}
+use Rattle.grib_base.specs.Rows.{first_place}
 use Rattle.grib_groups.specs.declared.lists.Widths.{Widths}
-use Rattle.grib_groups.specs.Lists.{WidthsAre}
+use Rattle.grib_groups.specs.Lists.{IsNoted, WidthsAre, noted_first}
 use Rattle.grib_groups.proofs.Places.{place_there, place_nowhere, place_before}
 
--- what `first_noted` answers
-noted_before : (before place : ℕ) (here : Bool) → 0 < before → cond (eqb before 0) (cond here place 0) before ≡ before
-noted_before before place here some = cond-false (eqb before 0) (cond here place 0) before (ne_eqb before 0 (λ none. omega arith))
+-- with one width more, the first over 32
+noted_more : (before : Option ℕ) (read : List ℕ) (width : ℕ) → IsNoted before (first_place (λ w. ltb 32 w) read)
+    → IsNoted (noted_first before (ltb 32 width) (length read + 1)) (first_place (λ w. ltb 32 w) (read ++ width ∷ []))
+noted_more (Some place) read width is = (is.0, is.1 ∙ sym (place_before (λ w. ltb 32 w) read width (omega (arith, is.0, is.1))))
+noted_more None read width is =
+    let test = λ (w : ℕ). ltb 32 w in
+    let P : Bool → Type 0 = λ b. IsNoted (cond b (Some (length read + 1)) None) (first_place test (read ++ width ∷ [])) in
+    elim (cases_lt 32 width) [
+      | inl over ↦ let wide = lt-ltb 32 width over in subst P (sym wide) (omega arith, sym (place_there test read width is wide))
+      | inr within ↦ let narrow = le-ltb 32 width within in subst P (sym narrow) (place_nowhere test read width is narrow)
+    ]
 
-noted_here : (before place : ℕ) (here : Bool) → before ≡ 0 → cond (eqb before 0) (cond here place 0) before ≡ cond here place 0
-noted_here before place here none = cond-true (eqb before 0) (cond here place 0) before (eq-eqb before 0 none)
+-- where none is noted, there was none before and this width is none
+none_noted : (before : Option ℕ) (place width : ℕ) → noted_first before (ltb 32 width) place ≡ None → (before ≡ None) × (width ≤ 32)
+none_noted (Some earlier) place width none = absurd (cc)
+none_noted None place width none = elim (cases_lt 32 width) [
+  | inl over ↦ let wide : Some place ≡ None = sym (ap (λ (b : Bool). cond b (Some place) None) (lt-ltb 32 width over)) ∙ none in absurd (cc)
+  | inr within ↦ (refl, within)
+]
 
 -- one width more
-pub width_more : (before after : Widths) (read : List ℕ) (width noted : ℕ) → WidthsAre before read → after.items.items ≡ before.items.items ++ min width 32 ∷ []
-    → noted ≡ cond (eqb before.too_wide 0) (cond (ltb 32 width) (length before.items.items + 1) 0) before.too_wide → after.too_wide ≡ noted → WidthsAre after (read ++ width ∷ [])
-width_more before after read width noted are is_items is_noted is_wide =
-    let test = λ (w : ℕ). ltb 32 w in
-    let long : length after.items.items ≡ length (read ++ width ∷ []) = omega (arith, ap length is_items, length_push before.items.items (min width 32), length_push read width, are.long) in
-    let narrow = subst (λ (xs : List ℕ). All (λ (w : ℕ). w ≤ 32) xs) (sym is_items) (All-push (λ (w : ℕ). w ≤ 32) before.items.items (min width 32) are.narrow (omega arith)) in
-    let place_is = is_wide ∙ is_noted in
-    elim (cases_lt 0 before.too_wide) [
-      | inl some ↦
-          let wide : after.too_wide ≡ before.too_wide = place_is ∙ noted_before before.too_wide (length before.items.items + 1) (ltb 32 width) some in
-          record {
-            long = long;
-            items = λ none. absurd (omega arith);
-            place = wide ∙ are.place ∙ sym (place_before test read width (omega (arith, are.place)));
-            narrow = narrow;
-          }
-      | inr no_earlier ↦
-          let none : before.too_wide ≡ 0 = omega arith in
-          let noted_is = place_is ∙ noted_here before.too_wide (length before.items.items + 1) (ltb 32 width) none in
-          elim (cases_lt 32 width) [
-            | inl over ↦
-                let wide : after.too_wide ≡ length before.items.items + 1 = noted_is ∙ cond-true (ltb 32 width) (length before.items.items + 1) 0 (lt-ltb 32 width over) in
-                record {
-                  long = long;
-                  items = λ nowhere. absurd (omega arith);
-                  place = wide ∙ omega (arith, are.long, place_there test read width (sym are.place ∙ none) (lt-ltb 32 width over));
-                  narrow = narrow;
-                }
-            | inr within ↦
-                let wide : after.too_wide ≡ 0 = noted_is ∙ cond-false (ltb 32 width) (length before.items.items + 1) 0 (le-ltb 32 width within) in
-                let kept : min width 32 ≡ width = omega arith in
-                record {
-                  long = long;
-                  items = λ nowhere. is_items ∙ ap₂ (λ xs x. xs ++ x ∷ []) (are.items none) kept;
-                  place = wide ∙ sym (place_nowhere test read width (sym are.place ∙ none) (le-ltb 32 width within));
-                  narrow = narrow;
-                }
-          ]
-    ]
+pub width_more : (before after : Widths) (read : List ℕ) (width : ℕ) → WidthsAre before read → after.items.items ≡ before.items.items ++ min width 32 ∷ []
+    → after.too_wide ≡ noted_first before.too_wide (ltb 32 width) (length before.items.items + 1) → WidthsAre after (read ++ width ∷ [])
+width_more before after read width are is_items is_noted =
+    let here = is_noted ∙ ap (λ (n : ℕ). noted_first before.too_wide (ltb 32 width) (n + 1)) are.long in
+    record {
+      long = omega (arith, ap length is_items, length_push before.items.items (min width 32), length_push read width, are.long);
+      items = λ none.
+          let nowhere = none_noted before.too_wide (length read + 1) width (sym here ∙ none) in
+          let kept : min width 32 ≡ width = omega (arith, nowhere.1) in
+          is_items ∙ ap₂ (λ xs x. xs ++ x ∷ []) (are.items nowhere.0) kept;
+      place = subst (λ (o : Option ℕ). IsNoted o (first_place (λ w. ltb 32 w) (read ++ width ∷ []))) (sym here) (noted_more before.too_wide read width are.place);
+      narrow = subst (λ (xs : List ℕ). All (λ (w : ℕ). w ≤ 32) xs) (sym is_items) (All-push (λ (w : ℕ). w ≤ 32) before.items.items (min width 32) are.narrow (omega arith));
+    }

@@ -1,5 +1,5 @@
 -- What is read of the three lists of groups.
-use Rattle.std.specs.Prelude.{◌≡◌, ℕ, ◌+◌, ◌*◌, ◌^◌, ◌<◌, ◌≤◌, List, [], ◌∷◌, ◌++◌, length, drop, map, nat_lt, not, ◌==◌, Option, None, sum, vec_capacity}
+use Rattle.std.specs.Prelude.{◌≡◌, ℕ, ◌+◌, ◌*◌, ◌^◌, ◌<◌, ◌≤◌, List, [], ◌∷◌, ◌++◌, length, drop, map, nat_lt, not, ◌==◌, Bool, cond, Option, Some, None, sum, vec_capacity}
 use Rattle.std.specs.List.{All}
 use Rattle.grib_base.specs.declared.code.Code.{Code}
 use Rattle.grib_base.specs.declared.fault.Fault.{Fault}
@@ -39,11 +39,21 @@ ReferencesTook before codes after =
     length before.items.items + length codes ≤ vec_capacity before.items
     → Grown before.items.items (vec_capacity before.items) (map number_of codes) after.items.items (vec_capacity after.items)
 
+-- the place that was noted before, else this one where it is to be noted
+abbrev pub noted_first : Option ℕ → Bool → ℕ → Option ℕ
+noted_first (Some before) here place = Some before
+noted_first None here place = cond here (Some place) None
+
+-- a place from 1 on is noted, and none for 0
+abbrev pub IsNoted : Option ℕ → ℕ → Type 0
+IsNoted None place = place ≡ 0
+IsNoted (Some noted) place = (1 ≤ noted) × (noted ≡ place)
+
 -- These widths were read: they are kept, or the first of them that is over 32 is known.
 pub record WidthsAre (widths : Widths) (read : List ℕ) : Type 0 where
   pub long : length widths.items.items ≡ length read
-  pub items : widths.too_wide ≡ 0 → widths.items.items ≡ read
-  pub place : widths.too_wide ≡ first_place (λ width. nat_lt 32 width) read
+  pub items : widths.too_wide ≡ None → widths.items.items ≡ read
+  pub place : IsNoted widths.too_wide (first_place (λ width. nat_lt 32 width) read)
   pub narrow : All (λ width. width ≤ 32) widths.items.items
 
 abbrev pub coded_widths : ℕ → List Code → List ℕ
@@ -58,11 +68,11 @@ pub record WidthsTook (before : Widths) (codes : List Code) (after : Widths) : T
 -- takes their sum past the values is known.
 pub record LengthsAre (values : ℕ) (lengths : Lengths) (read : List ℕ) : Type 0 where
   pub long : length lengths.items.items ≡ length read
-  pub items : lengths.past ≡ 0 → lengths.items.items ≡ read
-  pub rest : lengths.past ≡ 0 → sum read + lengths.rest ≡ values
-  pub so_far : lengths.past ≡ 0 → (more : List ℕ) → first_past values 0 (read ++ more) ≡ first_past lengths.rest (length read) more
-  pub over : 0 < lengths.past → values < sum read
-  pub past : 0 < lengths.past → (more : List ℕ) → first_past values 0 (read ++ more) ≡ lengths.past
+  pub items : lengths.past ≡ None → lengths.items.items ≡ read
+  pub rest : lengths.past ≡ None → sum read + lengths.rest ≡ values
+  pub so_far : lengths.past ≡ None → (more : List ℕ) → first_past values 0 (read ++ more) ≡ first_past lengths.rest (length read) more
+  pub over : (place : ℕ) → lengths.past ≡ Some place → values < sum read
+  pub past : (place : ℕ) → lengths.past ≡ Some place → (more : List ℕ) → first_past values 0 (read ++ more) ≡ place
 
 abbrev pub coded_lengths_by : ℕ → ℕ → List Code → List ℕ
 coded_lengths_by reference increment codes = map (λ code. reference + increment * number_of code) codes

@@ -1,6 +1,6 @@
 //! The three lists of groups, as they are read.
 
-ghost use Rattle.std.specs.Prelude.{List, length, map, sum, None, ◌↔◌, IsTrue, IfOk, ◌*◌, ◌≡◌, ℕ, ◌+◌, ◌^◌, ◌<◌, ◌≤◌, ◌∷◌, [], ◌++◌, vec_len, vec_capacity, cond, ◌==◌};
+ghost use Rattle.std.specs.Prelude.{List, length, map, sum, None, ◌↔◌, IsTrue, IfOk, ◌*◌, ◌≡◌, ℕ, ◌+◌, ◌^◌, ◌<◌, ◌≤◌, ◌∷◌, [], ◌++◌, vec_len, vec_capacity};
 ghost use Rattle.std.specs.List.{All};
 ghost use Rattle.grib_bits.specs.Bits.{bits as bits_in};
 ghost use Rattle.grib_bits.specs.Plain.{plain};
@@ -8,7 +8,7 @@ ghost use Rattle.grib_base.specs.declared.code.Code.TheVariants.{Present};
 ghost use Rattle.grib_base.specs.Rows.{first_fault};
 ghost use Rattle.grib_groups.specs.Taking.{number_of};
 ghost use Rattle.grib_packing.specs.Groups.{list_octets, packed_bits, groups_from, octets_for, list_rows, references as all_references, widths as all_widths, lengths as all_lengths};
-ghost use Rattle.grib_groups.specs.Lists.{HasGroups, ListsAre, lists_fault, AreEmpty, WereRead, ReferencesTook, WidthsTook, LengthsTook, LengthAdded};
+ghost use Rattle.grib_groups.specs.Lists.{HasGroups, ListsAre, lists_fault, AreEmpty, WereRead, ReferencesTook, WidthsTook, LengthsTook, LengthAdded, noted_first};
 ghost use Rattle.grib_groups.specs.Feeding.{no_marks};
 ghost use Rattle.grib_groups.specs.Laws.{references-none, references-more, widths-none, widths-more, lengths-none, lengths-more};
 
@@ -52,8 +52,8 @@ impl RunTaker for References {
 pub struct Widths {
     pub items: Vec<u8>,
     reference: u8,
-    /// The number, from 1, of the first width over 32, or 0.
-    too_wide: u64,
+    /// The number, from 1, of the first width over 32.
+    too_wide: Option<u64>,
 }
 
 impl Taker for Widths {
@@ -92,8 +92,8 @@ pub struct Lengths {
     increment: u8,
     /// How many values are left for further groups.
     rest: u32,
-    /// The number, from 1, of the first group that is longer than that, or 0.
-    past: u64,
+    /// The number, from 1, of the first group that is longer than that.
+    past: Option<u64>,
 }
 
 impl Lengths {
@@ -104,7 +104,7 @@ impl Lengths {
         if self.items.len() >= self.items.capacity() {
             return self;
         }
-        if self.past > 0 || length > u64::from(self.rest) {
+        if self.past.is_some() || length > u64::from(self.rest) {
             self.past = first_noted(self.past, true, self.items.len() as u64 + 1);
             push_within(&mut self.items, 0);
             return self;
@@ -162,14 +162,14 @@ impl Lists {
             widths: Widths {
                 items: Vec::with_capacity(alloc, groups)?,
                 reference: layout.width_reference,
-                too_wide: 0,
+                too_wide: None,
             },
             lengths: Lengths {
                 items: Vec::with_capacity(alloc, groups)?,
                 reference: layout.length_reference,
                 increment: layout.length_increment,
                 rest: values,
-                past: 0,
+                past: None,
             },
         })
     }
@@ -208,13 +208,13 @@ impl Lists {
         ensures { (values : ℕ) (references widths lengths : List ℕ) → values < 2 ^ 32 → ListsAre layout.now values self.now references widths lengths
             → result ≡ lists_fault layout.now start skip length values references widths lengths }
     {
-        if self.widths.too_wide > 0 {
+        if let Some(group) = self.widths.too_wide {
             let before = u64::from(5 + skip) + octets_of(layout.reference_bits, layout.groups);
             let place = start + before;
-            return Some(Fault::at(place, Reason::GroupWidth, self.widths.too_wide));
+            return Some(Fault::at(place, Reason::GroupWidth, group));
         }
-        if self.lengths.past > 0 {
-            return Some(Fault::at(start, Reason::GroupShape, self.lengths.past));
+        if let Some(group) = self.lengths.past {
+            return Some(Fault::at(start, Reason::GroupShape, group));
         }
         if self.lengths.rest > 0 {
             let groups = u64::from(layout.groups);
@@ -319,10 +319,14 @@ fn number(code: Code) -> u64
     }
 }
 
-/// The place that was noted before, else this one where it is to be noted, else 0.
+/// The place that was noted before, else this one where it is to be noted.
 #[inline]
-fn first_noted(before: u64, here: bool, place: u64) -> u64
-    ensures { result ≡ cond (before == 0) (cond here place 0) before }
+fn first_noted(before: Option<u64>, here: bool, place: u64) -> Option<u64>
+    ensures { result ≡ noted_first before here place }
 {
-    if before == 0 && here { place } else { before }
+    match before {
+        Some(earlier) => Some(earlier),
+        None if here => Some(place),
+        None => None,
+    }
 }

@@ -1,8 +1,9 @@
 -- Numbers are told again by their differences.
-use Rattle.std.proofs.Common.{◌≡◌, ◌⊎◌, ℕ, zero, suc, ◌+◌, ◌-◌, ◌<◌, ◌≤◌, List, [], ◌∷◌, length, get_or, ℤ, pos, nat_abs, ◌+ℤ◌, ◌-ℤ◌, ◌≤ℤ◌, refl, ap, sym, ◌∙◌, arith, le-ltb, subst}
+use Rattle.std.proofs.Common.{◌≡◌, ℕ, zero, suc, ◌+◌, ◌-◌, ◌<◌, ◌≤◌, List, [], ◌∷◌, length, get_or, ℤ, pos, nat_abs, ◌+ℤ◌, ◌-ℤ◌, ◌≤ℤ◌, refl, ap, sym, ◌∙◌, arith, le-ltb, subst}
 use Rattle.std.proofs.lemmas.Int.{ints}
 use Rattle.std.proofs.lemmas.List.FromFn.{get_or-map-range_with_len, length-map-range_with_len}
 use Rattle.grib_packing.specs.Differences.{Differenced, difference_at, differences, lesser, least, least_of, descriptors_of, code_at, difference_codes}
+use Rattle.grib_spatial.specs.Order.{IsOrder}
 
 -- the lesser of two is at most each
 lesser-left : (x y : ℤ) → lesser x y ≤ℤ x
@@ -46,7 +47,7 @@ code_and_minimum order xs k from within =
     let late : code_at order xs k ≡ nat_abs (d -ℤ m) = rw (le-ltb k order from) refl in
     ap (λ n. pos n +ℤ m) (code ∙ late) ∙ above d m low
 
-pub told_of : (order : ℕ) (xs : List ℤ) → (order ≡ 1) ⊎ (order ≡ 2)
+pub told_of : (order : ℕ) (xs : List ℤ) → IsOrder order
     → Differenced order (descriptors_of order xs).first (descriptors_of order xs).second (descriptors_of order xs).minimum (difference_codes order xs) xs
 told_of order xs known = record {
   as_long = sym (length-map-range_with_len (code_at order xs) 0 (length xs));

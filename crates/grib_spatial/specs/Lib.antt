@@ -1,3 +1,4 @@
+pub mod Order
 pub mod Running
 pub mod Follows
 pub mod Reach

@@ -3,17 +3,17 @@ use Rattle.std.specs.Prelude.{◌≡◌, ℕ, ◌+◌, ◌*◌, ◌^◌, ◌≤�
 use Rattle.grib_packing.specs.Differences.{Descriptors, Last, NoNumber, One, Two}
 use Rattle.grib_spatial.specs.Running.{Run}
 
--- after this number, by so many steps of at most this length
+-- after this number, by `count` steps of at most this length
 abbrev pub reach_by : ℤ → ℕ → ℕ → ℕ
 reach_by last step count = nat_abs last + count * step
 
--- after these two numbers, by so many codes that each make a difference of at most this size: the step
+-- after these two numbers, by `count` codes that each make a difference of at most this size: the step
 -- itself of order 1, and what a step is longer than the one before of order 2
 abbrev pub reach_of : ℕ → ℤ → ℤ → ℕ → ℕ → ℕ
 reach_of order before last size count =
     cond (order == 1) (reach_by last size count) (reach_by last (nat_abs (last -ℤ before) + count * size) count)
 
--- All first values were told, and by their reach so many codes below the limit lead to no number outside
+-- All first values were told, and by their reach `count` codes below the limit lead to no number outside
 -- plus and minus 2 ^ 60.
 abbrev pub IsSteadyAfter : Descriptors → Last → ℕ → ℕ → Type 0
 IsSteadyAfter d NoNumber count limit = ⊥

@@ -20,7 +20,7 @@ number_by order difference before last =
 abbrev pub after_code : Run → ℕ → Run
 after_code run code = record { told = run.told; last = last_after run.told run.last (next_of run code) }
 
--- a run that so many more codes below the limit cannot lead out of the range
+-- a run that a number of further codes below the limit cannot lead out of the range
 pub record SteadyRun : Type 0 where
   pub run : Run
   pub left : ℕ

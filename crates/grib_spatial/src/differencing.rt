@@ -1,8 +1,9 @@
 //! The differences of numbers.
 
-ghost use Rattle.std.specs.Prelude.{◌≡◌, ◌⊎◌, ◌+◌, ◌-◌, ◌^◌, ◌<◌, ◌≤◌, pos, ◌+ℤ◌, ◌-ℤ◌, ◌*ℤ◌, nat_abs, length, All, IfOk};
+ghost use Rattle.std.specs.Prelude.{◌≡◌, ◌+◌, ◌-◌, ◌^◌, ◌<◌, ◌≤◌, pos, ◌+ℤ◌, ◌-ℤ◌, ◌*ℤ◌, nat_abs, length, All, IfOk};
 ghost use Rattle.grib_packing.specs.Differences.{difference_at, differences, lesser, least, descriptors_of, code_at, difference_codes};
 ghost use Rattle.grib_spatial.specs.Undoing.{read_with};
+ghost use Rattle.grib_spatial.specs.Order.{IsOrder};
 
 use crate::differences::Differences;
 use grib_base::List;
@@ -16,7 +17,7 @@ use std::alloc::{AllocError, Global};
 ///
 /// There is no memory for the codes.
 pub fn difference(alloc: Global, values: &[i64], order: u8) -> Result<Differences, AllocError>
-    requires order { (order ≡ 1) ⊎ (order ≡ 2) }
+    requires order { IsOrder order }
     requires values { All (λ x. nat_abs x ≤ 2 ^ 60) values.now }
     ensures told { IfOk result (λ told. read_with order told ≡ descriptors_of order values.now) }
     ensures codes { IfOk result (λ told. told.codes ≡ difference_codes order values.now) }
@@ -39,7 +40,7 @@ pub fn difference(alloc: Global, values: &[i64], order: u8) -> Result<Difference
 /// The difference of the number at a place with those before it.
 #[inline]
 fn difference_of(values: &[i64], order: usize, place: usize) -> i64
-    requires order { (order ≡ 1) ⊎ (order ≡ 2) }
+    requires order { IsOrder order }
     requires values { All (λ x. nat_abs x ≤ 2 ^ 60) values.now }
     requires from { order ≤ place }
     requires within { place < length values.now }
@@ -67,7 +68,7 @@ fn second_difference(x: i64, y: i64, z: i64) -> i64
 
 /// The least difference, 0 where there is none.
 fn least_difference(values: &[i64], order: usize) -> i64
-    requires order { (order ≡ 1) ⊎ (order ≡ 2) }
+    requires order { IsOrder order }
     requires values { All (λ x. nat_abs x ≤ 2 ^ 60) values.now }
     ensures is { result ≡ least (differences order values.now) }
     ensures small { nat_abs result ≤ 2 ^ 62 }
@@ -97,7 +98,7 @@ fn codes_above(
     order: usize,
     minimum: i64,
 ) -> Result<Vec<u64>, AllocError>
-    requires order { (order ≡ 1) ⊎ (order ≡ 2) }
+    requires order { IsOrder order }
     requires values { All (λ x. nat_abs x ≤ 2 ^ 60) values.now }
     requires minimum { minimum ≡ least (differences order values.now) }
     ensures { IfOk result (λ codes. codes.items ≡ difference_codes order values.now) }
@@ -112,7 +113,7 @@ fn codes_above(
 /// How far the difference at a place is above the minimum, and 0 for the first `order` places.
 #[inline]
 fn code_above(values: &[i64], order: usize, place: usize, minimum: i64) -> u64
-    requires order { (order ≡ 1) ⊎ (order ≡ 2) }
+    requires order { IsOrder order }
     requires values { All (λ x. nat_abs x ≤ 2 ^ 60) values.now }
     requires minimum { minimum ≡ least (differences order values.now) }
     requires within { place < length values.now }

@@ -1,8 +1,9 @@
 //! Numbers that are undone one after another.
 
-ghost use Rattle.std.specs.Prelude.{◌≡◌, ◌⊎◌, ◌^◌, ◌<◌, ◌≤◌, true, false, pos, ◌+ℤ◌, ◌-ℤ◌, ◌*ℤ◌, nat_abs, IfOk, OnOk, OnErr};
+ghost use Rattle.std.specs.Prelude.{◌≡◌, ◌^◌, ◌<◌, ◌≤◌, true, false, pos, ◌+ℤ◌, ◌-ℤ◌, ◌*ℤ◌, nat_abs, IfOk, OnOk, OnErr};
 ghost use Rattle.grib_packing.specs.Differences.{NoNumber, is_beyond};
 ghost use Rattle.grib_spatial.specs.Running.{next_of, after_code, number_by};
+ghost use Rattle.grib_spatial.specs.Order.{IsOrder};
 
 use std::marker::Model;
 
@@ -28,9 +29,10 @@ pub struct Running {
 }
 
 impl Model for Running {
-    ghost use Rattle.std.specs.Prelude.{◌≡◌, ◌⊎◌, ◌^◌, ◌≤◌, nat_abs};
+    ghost use Rattle.std.specs.Prelude.{◌≡◌, ◌^◌, ◌≤◌, nat_abs};
     ghost use Rattle.grib_packing.specs.Differences.{Descriptors, NoNumber, One, Two};
     ghost use Rattle.grib_spatial.specs.Running.{Run};
+    ghost use Rattle.grib_spatial.specs.Order.{IsOrder};
     ghost use Rattle.grib_spatial.specs.Follows.{last_of};
 
     ghost Value = { Run };
@@ -40,7 +42,7 @@ impl Model for Running {
       last = last_of r.told r.before r.last;
     } };
 
-    ghost invariant = { λ r. ((r.order ≡ 1) ⊎ (r.order ≡ 2))
+    ghost invariant = { λ r. IsOrder r.order
         × (nat_abs r.first ≤ 2 ^ 31) × (nat_abs r.second ≤ 2 ^ 31) × (nat_abs r.minimum ≤ 2 ^ 31)
         × (r.told ≤ r.order) × (nat_abs r.before ≤ 2 ^ 60) × (nat_abs r.last ≤ 2 ^ 60) };
 }
@@ -49,7 +51,7 @@ impl Running {
     /// A run of no numbers so far, of differences of this order, with these first values and this
     /// overall minimum.
     pub fn new(order: u8, first: i64, second: i64, minimum: i64) -> Running
-        requires order { (order ≡ 1) ⊎ (order ≡ 2) }
+        requires order { IsOrder order }
         requires first { nat_abs first ≤ 2 ^ 31 }
         requires second { nat_abs second ≤ 2 ^ 31 }
         requires minimum { nat_abs minimum ≤ 2 ^ 31 }

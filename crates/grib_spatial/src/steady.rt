@@ -1,6 +1,6 @@
 //! Numbers that cannot leave the range for a while.
 
-ghost use Rattle.std.specs.Prelude.{◌≡◌, ◌⊎◌, ℕ, ◌+◌, ◌*◌, ◌^◌, ◌<◌, ◌≤◌, true, false, nat_abs, ◌-ℤ◌, IfSome};
+ghost use Rattle.std.specs.Prelude.{◌≡◌, ℕ, ◌+◌, ◌*◌, ◌^◌, ◌<◌, ◌≤◌, true, false, nat_abs, ◌-ℤ◌, IfSome};
 ghost use Rattle.grib_packing.specs.Differences.{One, Two, is_beyond};
 ghost use Rattle.grib_spatial.specs.Running.{next_of, after_code};
 ghost use Rattle.grib_spatial.specs.Reach.{reach_by, reach_of, IsSteady};
@@ -8,8 +8,8 @@ ghost use Rattle.grib_spatial.specs.Reach.{reach_by, reach_of, IsSteady};
 use crate::running::{Running, number_after};
 use std::marker::Model;
 
-/// Undoes spatial differences as [`Running`] does, where the first values were told, and so many more
-/// codes below a limit can lead to no number outside plus and minus 2^60: no number has to be tested.
+/// Undoes spatial differences as [`Running`] does, where the first values were told, and a number of
+/// further codes below a limit can lead to no number outside plus and minus 2^60: no number has to be tested.
 #[derive(Debug, Drop)]
 pub struct Steady {
     order: u64,
@@ -25,9 +25,10 @@ pub struct Steady {
 }
 
 impl Model for Steady {
-    ghost use Rattle.std.specs.Prelude.{◌≡◌, ◌⊎◌, ◌+◌, ◌^◌, ◌≤◌, nat_abs};
+    ghost use Rattle.std.specs.Prelude.{◌≡◌, ◌+◌, ◌^◌, ◌≤◌, nat_abs};
     ghost use Rattle.grib_packing.specs.Differences.{Descriptors, NoNumber, One, Two};
     ghost use Rattle.grib_spatial.specs.Running.{Run, SteadyRun};
+    ghost use Rattle.grib_spatial.specs.Order.{IsOrder};
     ghost use Rattle.grib_spatial.specs.Follows.{last_of};
     ghost use Rattle.grib_spatial.specs.Reach.{reach_of};
 
@@ -42,7 +43,7 @@ impl Model for Steady {
       limit = s.limit;
     } };
 
-    ghost invariant = { λ s. ((s.order ≡ 1) ⊎ (s.order ≡ 2))
+    ghost invariant = { λ s. IsOrder s.order
         × (nat_abs s.first ≤ 2 ^ 31) × (nat_abs s.second ≤ 2 ^ 31) × (nat_abs s.minimum ≤ 2 ^ 31)
         × (s.limit ≤ 2 ^ 49) × (nat_abs s.before ≤ 2 ^ 60)
         × (reach_of s.order s.before s.last (s.limit + nat_abs s.minimum) s.left ≤ 2 ^ 60) };

@@ -1,8 +1,9 @@
 //! Differences that are undone whole.
 
-ghost use Rattle.std.specs.Prelude.{◌≡◌, ◌⊎◌, ◌^◌, ◌<◌, ◌≤◌, nat_abs, length, All, MatchResult};
+ghost use Rattle.std.specs.Prelude.{◌≡◌, ◌^◌, ◌<◌, ◌≤◌, nat_abs, length, All, MatchResult};
 ghost use Rattle.grib_packing.specs.Differences.{undone};
 ghost use Rattle.grib_spatial.specs.Undoing.{read_with, first_beyond, Names};
+ghost use Rattle.grib_spatial.specs.Order.{IsOrder};
 
 use crate::differences::Differences;
 use crate::running::Running;
@@ -13,7 +14,7 @@ use std::alloc::Global;
 pub enum UndoFault {
     /// A number is outside plus and minus 2^60: the place, from 1, of the first that is.
     ScaledRange(u32),
-    /// Want of memory.
+    /// There is no memory.
     Memory,
 }
 
@@ -24,7 +25,7 @@ pub enum UndoFault {
 ///
 /// A number is outside plus and minus 2^60, or there is no memory for the numbers.
 pub fn undo(alloc: Global, differences: &Differences, order: u8) -> Result<Vec<i64>, UndoFault>
-    requires order { (order ≡ 1) ⊎ (order ≡ 2) }
+    requires order { IsOrder order }
     requires count { length differences.now.codes ≤ 33554432 }
     requires codes { All (λ code. code < 2 ^ 33) differences.now.codes }
     requires first { nat_abs differences.now.first ≤ 2 ^ 31 }

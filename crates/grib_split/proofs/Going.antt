@@ -10,7 +10,7 @@ use Rattle.grib_packing.specs.Span.{IsBelow}
 use Rattle.grib_packing.proofs.Spans.{small_run}
 use Rattle.grib_split.specs.declared.choosing.Costs.{Costs}
 use Rattle.grib_split.specs.declared.slots.Slots.{Slots}
-use Rattle.grib_split.specs.Costs.{header_of}
+use Rattle.grib_split.specs.Costs.{CanSplit, header_of}
 use Rattle.grib_split.specs.Least as least
 use Rattle.grib_split.specs.Least.{IsLeast, with_first}
 use Rattle.grib_split.specs.Runs.{Run, Runs, Waits, After, Afters, after_of, Wide, Priced, PricedBut, Told, length_to, SameNumbers, SameMarks, SameWidths}
@@ -71,36 +71,35 @@ fits_more l w a old most few small is = let m : l * w ≤ 64 * 32 = mul-le-mul m
 either : (a b : ℕ) → (a ≤ b) ⊎ (b < a)
 either a b = grind arith
 
-pub after_small : (costs : Costs) (codes : List Code) (from after : ℕ) → costs.reference_bits ≤ 32 → costs.width_bits ≤ 6 → length codes ≤ 33554432
-    → After (header_of costs) costs.reserved codes from after → after ≤ 2147483648
-after_small costs codes from after references widths most a = elim (either from (length codes)) [
-  | inl some ↦ let b = cost_bound costs (drop from codes) after references widths (omega (arith, length-drop from codes)) (a.some some) in omega (arith, b)
+pub after_small : (costs : Costs) (codes : List Code) (from after : ℕ) → CanSplit costs codes → After (header_of costs) costs.reserved codes from after → after ≤ 2147483648
+after_small costs codes from after split a = elim (either from (length codes)) [
+  | inl some ↦ let b = cost_bound costs (drop from codes) after split.references split.widths (omega (arith, split.most, length-drop from codes)) (a.some some) in omega (arith, b)
   | inr none ↦ omega (arith, a.none none)
 ]
 
-pub after_at : (costs : Costs) (codes : List Code) (at p : ℕ) (slots : Slots) → costs.reference_bits ≤ 32 → costs.width_bits ≤ 6 → length codes ≤ 33554432
-    → Afters (header_of costs) costs.reserved codes at slots → p < 64 → slice_index slots.after p ≤ 2147483648
-after_at costs codes at p slots references widths most afters within =
+pub after_at : (costs : Costs) (codes : List Code) (at p : ℕ) (slots : Slots) → CanSplit costs codes → Afters (header_of costs) costs.reserved codes at slots → p < 64
+    → slice_index slots.after p ≤ 2147483648
+after_at costs codes at p slots split afters within =
     let l = length_to at p in
     let P : ℕ → Type 0 = λ n. slice_index slots.after n ≤ 2147483648 in
-    subst P (back at p within) (after_small costs codes (at + l) (after_of slots at l) references widths most (afters l (length_some at p) (length_most at p)))
+    subst P (back at p within) (after_small costs codes (at + l) (after_of slots at l) split (afters l (length_some at p) (length_most at p)))
 
 -- ---- the runs whose costs count one code more
 
 abbrev pub Longer : ℕ → List Code → ℕ → Slots → Type 0
 Longer k codes at slots = (l : ℕ) → 1 ≤ l → l ≤ 64 → Run k slots ((at + l) % 64) (suc l) (take l (drop at codes))
 
-pub longer : (costs : Costs) (codes : List Code) (at : ℕ) (a b : Slots) → costs.reference_bits ≤ 32 → costs.width_bits ≤ 6 → length codes ≤ 33554432
+pub longer : (costs : Costs) (codes : List Code) (at : ℕ) (a b : Slots) → CanSplit costs codes
     → ((p : ℕ) → p < 64 → slice_index a.cost p + slice_index a.width p < 2 ^ 32 → slice_index b.cost p ≡ slice_index a.cost p + slice_index a.width p)
     → SameNumbers a b → SameMarks a b → SameWidths a b → b.after ≡ a.after
     → Afters (header_of costs) costs.reserved codes at a → Runs costs.reserved codes at a → Longer costs.reserved codes at b
-longer costs codes at a b references widths most cost numbers marks same same_after afters runs l some few =
+longer costs codes at a b split cost numbers marks same same_after afters runs l some few =
     let k = costs.reserved in
     let p = (at + l) % 64 in
     let run = take l (drop at codes) in
     let r = runs l some few in
     let w = slice_index a.width p in
-    let small = after_small costs codes (at + l) (after_of a at l) references widths most (afters l some few) in
+    let small = after_small costs codes (at + l) (after_of a at l) split (afters l some few) in
     let is = cost p (omega arith) (fits_more l w (slice_index a.after p) (slice_index a.cost p) few r.priced.wide.few small r.priced.cost) in
     let more : slice_index b.cost p ≡ suc l * w + slice_index a.after p = omega (arith, is, r.priced.cost, suc-mul l w) in
     record {
@@ -123,22 +122,22 @@ costing k codes at slots r l some most =
     let p = (r l some most).priced in p.cost ∙ ap (λ w. l * w + after_of slots at l) p.wide.is
 
 -- the cost of the run of one code
-pub first_cost : (costs : Costs) (codes : List Code) (at : ℕ) (slots : Slots) → at < length codes → length codes ≤ 33554432
-    → costs.reference_bits ≤ 32 → costs.width_bits ≤ 6 → Afters (header_of costs) costs.reserved codes at slots → Runs costs.reserved codes at slots
+pub first_cost : (costs : Costs) (codes : List Code) (at : ℕ) (slots : Slots) → at < length codes → CanSplit costs codes
+    → Afters (header_of costs) costs.reserved codes at slots → Runs costs.reserved codes at slots
     → slice_index slots.cost ((at + 1) % 64) ≤ 1476395040
-first_cost costs codes at slots place most references widths afters r =
+first_cost costs codes at slots place split afters r =
     let p = (r 1 (omega arith) (omega arith)).priced in
-    let b = cost_bound costs (drop (at + 1) codes) (after_of slots at 1) references widths (omega (arith, length-drop (at + 1) codes)) ((afters 1 (omega arith) (omega arith)).some (omega arith)) in
+    let b = cost_bound costs (drop (at + 1) codes) (after_of slots at 1) split.references split.widths (omega (arith, split.most, length-drop (at + 1) codes)) ((afters 1 (omega arith) (omega arith)).some (omega arith)) in
     omega (arith, p.cost, p.wide.few, b)
 
-pub best_by : (costs : Costs) (codes : List Code) (at n cost : ℕ) (slots : Slots) → at < length codes → length codes ≤ 33554432
-    → costs.reference_bits ≤ 32 → costs.width_bits ≤ 6 → Afters (header_of costs) costs.reserved codes at slots → Runs costs.reserved codes at slots
+pub best_by : (costs : Costs) (codes : List Code) (at n cost : ℕ) (slots : Slots) → at < length codes → CanSplit costs codes
+    → Afters (header_of costs) costs.reserved codes at slots → Runs costs.reserved codes at slots
     → 1 ≤ n → n ≤ 64 → slice_index slots.cost ((at + n) % 64) ≡ cost → ((p : ℕ) → p < 64 → cost ≤ slice_index slots.cost p)
     → ((l : ℕ) → 1 ≤ l → l < n → cost < slice_index slots.cost ((at + l) % 64))
     → least.Best (header_of costs) (width_of costs.reserved) (drop at codes) (after_of slots at) n
-best_by costs codes at n cost slots place most references widths afters r some within is low first =
+best_by costs codes at n cost slots place split afters r some within is low first =
     let each = costing costs.reserved codes at slots r in
-    let one = first_cost costs codes at slots place most references widths afters r in
+    let one = first_cost costs codes at slots place split afters r in
     let place_of : (l : ℕ) → (at + l) % 64 < 64 = λ l. omega arith in
     record {
       some = some;

@@ -1,6 +1,7 @@
 //! Numbers of worked messages and their differences, and numbers that leave the range.
 
-ghost use Rattle.std.specs.Prelude.{◌≡◌, ◌⊎◌, ◌^◌, ◌≤◌};
+ghost use Rattle.std.specs.Prelude.{◌≡◌, ◌^◌, ◌≤◌};
+ghost use Rattle.grib_spatial.specs.Order.{IsOrder};
 
 use grib_base::List;
 use grib_spatial::{Differences, Running, difference, undo};
@@ -104,7 +105,7 @@ fn numbers_are_undone_steadily(rt: HostRuntime) {
 
 /// Whether so many codes below a limit keep numbers within the range, after first values of 0.
 fn is_steady(order: u8, told: u8, count: u32, limit: u64) -> bool
-    requires order { (order ≡ 1) ⊎ (order ≡ 2) }
+    requires order { IsOrder order }
     requires limit { limit ≤ 2 ^ 49 }
 {
     let mut running = Running::new(order, 0, 0, 0);

@@ -1,4 +1,5 @@
-use Rattle.std.proofs.Common.{◌≡◌, ◌+◌, ◌*◌, ◌^◌, ◌≤◌, ℕ, sym, ap₂, ◌∙◌, arith, pow_mono}
+use Rattle.std.proofs.Common.{◌≡◌, ◌+◌, ◌*◌, ◌^◌, ◌≤◌, ℕ, sym, ◌∙◌, arith, pow_mono}
+use Rattle.std.proofs.lemmas.Bool.{ltb-false}
 use Rattle.grib_complex.specs.declared.keeping.Points.{Points}
 use Rattle.grib_complex.specs.declared.values.Values.{Values}
 use Rattle.grib_complex.proofs.Starting.{starts_plain, plain_entries, plain_passes}
@@ -6,16 +7,15 @@ use Rattle.grib_complex.proofs.feeding.start_plain.Goals as goal
 
 pub list-requires-clause-limit : goal.list-requires-clause-limit
 list-requires-clause-limit c =
-    let power : 2 ^ c.args.simple.now.bits ≤ 2 ^ 48 = pow_mono c.requires.width in
+    let power : 2 ^ c.args.simple.bits ≤ 2 ^ 48 = pow_mono c.requires.width in
     omega arith
 
 pub returns : goal.returns
 returns c = λ s5 mask spelled zero points count.
-    let w = c.args.simple.now.bits in
-    let n = c.args.simple.now.values in
+    let w = c.args.simple.bits in
+    let n = c.args.simple.values in
     let first : Values Points = record { teller = c.start.result; keeper = c.args.points } in
-    let product : c.from.result * c.from-2.result ≡ n * w = ap₂ (λ (i j : ℕ). i * j) c.from.ensures c.from-2.ensures in
-    let enough : n * w + 40 ≤ 8 * c.args.length = omega (arith, product, c.from-3.ensures, c.if-from-bits.false) in
+    let enough : n * w + 40 ≤ 8 * c.args.length = omega (arith, c.from.ensures, ltb-false (8 * c.from.result) (n * w + 40) (sym c.is_too_short.ensures ∙ c.if-is_too_short.false)) in
     starts_plain s5 mask c.args.start c.args.length w n first c.list.result c.list.ensures.feedable c.list.ensures.fed c.start.ensures.running c.start.ensures.nothing points
-    (omega (arith, c.from.ensures, c.fits-simple)) (spelled.values ∙ sym count) (omega (arith, enough))
+    (omega arith) (spelled.values ∙ sym count) (omega (arith, enough))
     (plain_entries s5 zero w n spelled.bits spelled.values) (plain_passes s5 zero c.args.length w n spelled.bits spelled.values enough)

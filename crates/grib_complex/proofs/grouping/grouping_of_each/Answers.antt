@@ -18,17 +18,22 @@ widths_are : (k reserved bits from width : ℕ) (codes : List Code) → reserved
 widths_are k reserved bits from width codes same is_bits is_from is_width =
     is_bits ∙ ap digits (is_from ∙ is_width ∙ ap (λ (j : ℕ). width_of j codes) same)
 
-pub chosen_lengths-requires-clause-widths : goal.chosen_lengths-requires-clause-widths
-chosen_lengths-requires-clause-widths c =
+pub chosen_lengths-requires : goal.chosen_lengths-requires
+chosen_lengths-requires c =
     let k = c.args.management in
     let codes = c.args.codes.now in
-    width_bits-few k c.bit_length.result codes
-    (widths_are k c.from-reserved.result c.bit_length.result c.from.result c.width.result codes c.from-reserved.ensures c.bit_length.ensures.is c.from.ensures (c.width.ensures.is codes c.of-span.ensures.span))
-    c.requires.few c.requires.codes
-
-pub chosen_lengths-requires-clause-codes : goal.chosen_lengths-requires-clause-codes
-chosen_lengths-requires-clause-codes c =
-    subst (λ (j : ℕ). All (IsBelow j) c.args.codes.now) (sym c.from-reserved.ensures) (all_below c.args.management c.args.codes.now c.requires.codes)
+    record {
+      split = record {
+        some = c.requires.some;
+        most = c.requires.most;
+        reserved = omega (arith, c.from-reserved.ensures, c.requires.few);
+        references = c.reference_bits.ensures.few;
+        widths = width_bits-few k c.bit_length.result codes
+            (widths_are k c.from-reserved.result c.bit_length.result c.from.result c.width.result codes c.from-reserved.ensures c.bit_length.ensures.is c.from.ensures (c.width.ensures.is codes c.of-span.ensures.span))
+            c.requires.few c.requires.codes;
+        codes = subst (λ (j : ℕ). All (IsBelow j) codes) (sym c.from-reserved.ensures) (all_below k codes c.requires.codes);
+      };
+    }
 
 pub measures_of-requires-clause-codes : goal.measures_of-requires-clause-codes
 measures_of-requires-clause-codes c =

@@ -19,7 +19,7 @@ mend-requires-clause-small c place within =
 pub mend-requires-clause-after : goal.mend-requires-clause-after
 mend-requires-clause-after c place within =
     let q = c.requires in
-    let a = after_at c.args.costs.now c.args.codes.now c.args.at place c.args.slots.now q.split.references q.split.widths q.split.most q.after within in
+    let a = after_at c.args.costs.now c.args.codes.now c.args.at place c.args.slots.now q.split q.after within in
     omega (arith, a, ap (λ xs. slice_index xs place) c.take-places.ensures.after)
 
 -- the runs that begin with the code are right again
@@ -53,7 +53,7 @@ least_cost : (c : After-cheapest-best) → c.cheapest-best.result.cost ≤ 14763
 least_cost c =
     let q = c.requires in
     let at = c.args.at in
-    let one = first_cost c.args.costs.now c.args.codes.now at c.mend.new.self q.place q.split.most q.split.references q.split.widths (mended_afters c) (mended_runs c) in
+    let one = first_cost c.args.costs.now c.args.codes.now at c.mend.new.self q.place q.split (mended_afters c) (mended_runs c) in
     omega (arith, one, c.cheapest-best.ensures.least ((at + 1) % 64) (omega arith))
 
 pub overflow_add-result : goal.overflow_add-result
@@ -76,7 +76,7 @@ returns-clause-best c =
     let mended = c.mend.new.self in
     let best = c.cheapest-best.ensures in
     best_same (header_of costs) (width_of costs.reserved) (drop at c.args.codes.now) at c.cheapest-best.result.length c.args.slots.now mended (after_stays (goal.at.returns-clause-best c).After-cheapest-best)
-    (best_by costs c.args.codes.now at c.cheapest-best.result.length c.cheapest-best.result.cost mended q.place q.split.most q.split.references q.split.widths (mended_afters (goal.at.returns-clause-best c).After-cheapest-best) (mended_runs (goal.at.returns-clause-best c).After-cheapest-best)
+    (best_by costs c.args.codes.now at c.cheapest-best.result.length c.cheapest-best.result.cost mended q.place q.split (mended_afters (goal.at.returns-clause-best c).After-cheapest-best) (mended_runs (goal.at.returns-clause-best c).After-cheapest-best)
     best.some best.most best.cost best.least best.first)
 
 pub returns-clause-cost : goal.returns-clause-cost

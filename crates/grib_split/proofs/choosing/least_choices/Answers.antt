@@ -52,7 +52,7 @@ best_at-best-requires-clause-runs c =
     let new = c.begin.new.self in
     let same = same_but old new ((at + 1) % 64) _ _ _ _ _ _ _ _ b.least b.greatest b.primary b.secondary b.width b.limit b.cost b.after in
     let P : ℕ → Type 0 = λ m. Longer costs.reserved codes m old in
-    let longer_runs = longer costs codes (n - c.loop-done.done) c.loop-done.slots old q.references q.widths q.most t.cost t.numbers t.marks t.widths t.after i.afters i.runs in
+    let longer_runs = longer costs codes (n - c.loop-done.done) c.loop-done.slots old q t.cost t.numbers t.marks t.widths t.after i.afters i.runs in
     waits_begun costs.reserved codes at c.loop-done.cost old new b.here same (subst P (one_before n c.loop-done.done c.loop-done-test.true) longer_runs)
 
 pub best_at-best-requires-clause-after : goal.best_at-best-requires-clause-after

@@ -31,7 +31,7 @@ pub record HasBitmap (message : List ℕ) (s : Option (List ℕ)) (present after
   pub room : after + 3 ≤ total_length_1 message
 
 -- what a message keeps of its sections
-pub record Keeps (message s1 s2 : List ℕ) (s3 : Option (List ℕ)) (s4 : List ℕ) (points values : ℕ) : Type 0 where
+pub record HasSections (message s1 s2 : List ℕ) (s3 : Option (List ℕ)) (s4 : List ℕ) (points values : ℕ) : Type 0 where
   pub accepted : IsMessage1 message
   pub identification_is : s1 ≡ identification message
   pub grid_is : s2 ≡ grid message

@@ -1,0 +1,110 @@
+//! What Section 5 says of a field, by its packing.
+
+ghost use Rattle.std.specs.Prelude.{◌≡◌, ℕ, List, None, Some, MatchResult};
+ghost use Rattle.grib_base.specs.Faults.{AreTried};
+ghost use Rattle.grib_base.specs.Rows.{located};
+ghost use Rattle.grib_bitmap.specs.Mask.{present_count};
+ghost use Rattle.grib_packing.specs.Entries.{packing_fault, data_fault};
+ghost use Rattle.grib_packing.specs.Packing.{value_count};
+ghost use Rattle.grib_packing.specs.Representation.{Spelled};
+ghost use Rattle.grib_packing.specs.Unpacked.{IsUnpacked};
+ghost use Rattle.grib_complex.specs.Field.{Represents};
+
+use crate::keeping::Nothing;
+use crate::packing::unpack_complex;
+use crate::representation::{Complex, complex_of};
+use crate::unpacking::take_complex_values;
+use grib_base::{Fault, ReadFault, Section};
+use grib_bitmap::Mask;
+use grib_packing::{Column, Simple, read_simple};
+use grib_simple::{check_simple, unpack_simple};
+use std::alloc::Global;
+
+/// What Section 5 says of a field, by its packing (WMO-No. 306, Volume I.2, FM 92 GRIB edition 2, code table
+/// 5.0). It is read once, and then checks and unpacks the field's Section 7.
+#[derive(Clone, Copy, Debug, PartialEq, Eq)]
+pub enum Representation {
+    /// Simple packing: template 5.0.
+    Simple(Simple),
+    /// Complex packing, without or with spatial differencing: templates 5.2 and 5.3.
+    Complex(Complex),
+}
+
+impl Representation {
+    /// Reads a Section 5, where the grid has this many points.
+    ///
+    /// # Errors
+    ///
+    /// The refusal of the first row of the profile that fails.
+    pub fn read(section5: &Section<'_>, points: u32) -> Result<Representation, Fault>
+        ensures { MatchResult result
+            (λ value. (packing_fault section5.now.octets.now points ≡ None)
+            × Represents value section5.now.octets.now)
+            (λ fault. located section5.now.start (packing_fault section5.now.octets.now points) ≡ Some fault) }
+    {
+        let simple = read_simple(section5, points)?;
+        if simple.template == 0 {
+            return Ok(Representation::Simple(simple));
+        }
+        let complex = complex_of(simple, section5)?;
+        Ok(Representation::Complex(complex))
+    }
+
+    /// What all templates share.
+    pub fn shared(&self) -> Simple
+        ensures { (s5 : List ℕ) → Represents self.now s5 → Spelled result s5 }
+    {
+        match self {
+            Representation::Simple(simple) => *simple,
+            Representation::Complex(complex) => complex.simple,
+        }
+    }
+
+    /// The number of values that Section 7 gives.
+    pub fn values(&self) -> u32
+        ensures { (s5 : List ℕ) → Represents self.now s5 → result ≡ value_count s5 }
+    {
+        self.shared().values
+    }
+
+    /// Tries the rows of the field's Section 7. No column is made.
+    ///
+    /// # Errors
+    ///
+    /// The refusal of the first row of the profile that fails, or there is no memory.
+    pub fn check_data(&self, alloc: Global, section7: &Section<'_>) -> Result<(), ReadFault>
+        requires { (s5 : List ℕ) × Represents self.now s5 }
+        ensures { (s5 : List ℕ) → Represents self.now s5
+            → AreTried (located section7.now.start (data_fault s5 section7.now.octets.now)) result }
+    {
+        match self {
+            Representation::Simple(simple) => check_simple(simple, section7)?,
+            Representation::Complex(complex) => {
+                take_complex_values(alloc, complex, section7, Nothing)?;
+            }
+        }
+        Ok(())
+    }
+
+    /// The column of the field, from its mask, in which as many points are present as Section 7 has values,
+    /// and its Section 7.
+    ///
+    /// # Errors
+    ///
+    /// Section 7 is refused by the first row of the profile that fails, or there is no memory.
+    pub fn unpack(
+        &self,
+        alloc: Global,
+        mask: &Mask,
+        section7: &Section<'_>,
+    ) -> Result<Column, ReadFault>
+        requires { (s5 : List ℕ) × Represents self.now s5 × (present_count mask.now ≡ value_count s5) }
+        ensures { (s5 : List ℕ) → Represents self.now s5
+            → IsUnpacked s5 mask.now section7.now.start section7.now.octets.now result }
+    {
+        match self {
+            Representation::Simple(simple) => unpack_simple(alloc, simple, mask, section7),
+            Representation::Complex(complex) => unpack_complex(alloc, complex, mask, section7),
+        }
+    }
+}
