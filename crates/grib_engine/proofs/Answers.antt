@@ -1,9 +1,10 @@
 -- What comes of a message.
-use Rattle.std.proofs.Common.{◌≡◌, ◌≢◌, ◌⊎◌, IfOk, Ok, Err, ℕ, true, false, Bool, ◌||◌, ◌==◌, None, Some, Option, List, [], length, refl, sym, ap, ◌∙◌, subst, inl, inr, eqb-true}
+use Rattle.std.proofs.Common.{◌≡◌, ◌≢◌, ◌⊎◌, IfOk, Ok, Err, ℕ, true, false, Bool, ◌||◌, ◌==◌, Some, Option, List, [], length, refl, sym, ap, ◌∙◌, subst, inl, inr, eqb-true}
 use Rattle.grib_packing.specs.Written.{IsTarget}
 use Rattle.std.specs.declared.result.Result.{Result}
 use Rattle.std.proofs.lemmas.Bool.{false≢true}
-use Rattle.grib_io.specs.Outside.{AppendsFront}
+use Rattle.std.specs.Io.KnownBytes.{Appends}
+use Rattle.grib_io.specs.Outside.{AppendsFront, CountsStop}
 use Rattle.grib_io.specs.Shelves.{Held}
 use Rattle.grib_io.specs.declared.outside.Stop.{Stop}
 use Rattle.grib_io.specs.declared.outside.Stop.TheVariants as Stops
@@ -21,8 +22,8 @@ use Rattle.grib_select.specs.Changed.{IsSetFault, set_fault, with_keys}
 use Rattle.grib_select.specs.declared.changing.SetFault.{SetFault}
 use Rattle.grib_select.specs.declared.changing.SetFault.TheVariants as unset
 use Rattle.grib_engine.specs.declared.answering.Answered.{Answered}
-use Rattle.grib_engine.specs.declared.answering.Answered.TheVariants.{WriteFault, ShelfFault}
-use Rattle.grib_engine.specs.Answering.{Answers, AnswersMessage, AnswersByOutput, AnswersByShelf, acts_given, answered_by, answered_unset, answered_printed, answered_written}
+use Rattle.grib_engine.specs.declared.answering.Answered.TheVariants.{Whole, WriteFault, ShelfFault}
+use Rattle.grib_engine.specs.Answering.{Answers, AnswersMessage, AnswersByOutput, AnswersByShelf, acts_given, answered_by, answered_unset, answered_printed, answered_stopped, answered_written}
 use Rattle.grib_engine.specs.Pending.{WritesTo}
 use Rattle.grib_engine.specs.Jobs.{is_target, uses_shelf}
 use Rattle.grib_engine.specs.Parts.{parts_of, puts_all, octets_within}
@@ -95,49 +96,42 @@ module _ {Sink : Type 0} (contents : Sink → Option (List ℕ)) (faults : Sink 
   front_given given text a b names is front =
       subst (DidFront (world (contents a) names) (world (contents b) names)) (sym is) (did_write_front (contents a) (contents b) names text front)
 
-  -- a message that was printed
-  printing : {T : Type 0} (result : Result T Stop) (m : ℕ) (given : Given) (text : List ℕ) (a b : Sink) → given ≡ Gives (writes text) 0
-      → WritesTo contents faults result a b text → AnswersByOutput contents faults (answered_printed result) m given a b
-  printing (Ok x) m given text a b is wrote = record {
-    answers = λ names. (writes text, is, did_write (contents a) (contents b) names text wrote.octets.whole);
+  -- a text was written whole
+  whole : (count m : ℕ) (given : Given) (text : List ℕ) (a b : Sink) → given ≡ Gives (writes text) count → Appends (contents a) (contents b) text
+      → faults b ≡ faults a → AnswersByOutput contents faults (Whole count) m given a b
+  whole count m given text a b is appended stays = record {
+    answers = λ names. (writes text, is, did_write (contents a) (contents b) names text appended);
     write_fault = λ no. absurd (cc no);
-    write_stays = λ other. wrote.counted;
-    unshelved = λ no. cc;
-  }
-  printing (Err Stops.Failed) m given text a b is wrote = record {
-    answers = λ names. front_given given text a b names (ap acts_given is) wrote.octets.front;
-    write_fault = λ same. wrote.counted;
-    write_stays = λ other. absurd (other refl);
-    unshelved = λ no. cc;
-  }
-  printing (Err Stops.Memory) m given text a b is wrote = record {
-    answers = λ names. front_given given text a b names (ap acts_given is) wrote.octets.front;
-    write_fault = λ no. absurd (cc no);
-    write_stays = λ other. wrote.counted;
+    write_stays = λ other. stays;
     unshelved = λ no. cc;
   }
 
-  -- one of which octets were written, and counted
-  writing : (result : Result ℕ Stop) (m : ℕ) (given : Given) (text : List ℕ) (a b : Sink) → given ≡ given_whole text
-      → IfOk result (λ count. count ≡ length text) → WritesTo contents faults result a b text → AnswersByOutput contents faults (answered_written result) m given a b
-  writing (Ok count) m given text a b is counts wrote = record {
-    answers = λ names. (writes text, is ∙ ap (Gives (writes text)) (sym counts), did_write (contents a) (contents b) names text wrote.octets.whole);
-    write_fault = λ no. absurd (cc no);
-    write_stays = λ other. wrote.counted;
-    unshelved = λ no. cc;
-  }
-  writing (Err Stops.Failed) m given text a b is counts wrote = record {
-    answers = λ names. front_given given text a b names (ap acts_given is) wrote.octets.front;
-    write_fault = λ same. wrote.counted;
+  -- or the output stopped within it
+  cut : (stop : Stop) (m : ℕ) (given : Given) (text : List ℕ) (a b : Sink) → acts_given given ≡ writes text → AppendsFront (contents a) (contents b) text
+      → CountsStop stop (faults a) (faults b) → AnswersByOutput contents faults (answered_stopped stop) m given a b
+  cut Stops.Failed m given text a b is front counted = record {
+    answers = λ names. front_given given text a b names is front;
+    write_fault = λ same. counted;
     write_stays = λ other. absurd (other refl);
     unshelved = λ no. cc;
   }
-  writing (Err Stops.Memory) m given text a b is counts wrote = record {
-    answers = λ names. front_given given text a b names (ap acts_given is) wrote.octets.front;
+  cut Stops.Memory m given text a b is front counted = record {
+    answers = λ names. front_given given text a b names is front;
     write_fault = λ no. absurd (cc no);
-    write_stays = λ other. wrote.counted;
+    write_stays = λ other. counted;
     unshelved = λ no. cc;
   }
+
+  printing : {T : Type 0} (result : Result T Stop) (m : ℕ) (given : Given) (text : List ℕ) (a b : Sink) → given ≡ Gives (writes text) 0
+      → WritesTo contents faults result a b text → AnswersByOutput contents faults (answered_printed result) m given a b
+  printing (Ok x) m given text a b is wrote = whole 0 m given text a b is wrote.octets.whole wrote.counted
+  printing (Err stop) m given text a b is wrote = cut stop m given text a b (ap acts_given is) wrote.octets.front wrote.counted
+
+  writing : (result : Result ℕ Stop) (m : ℕ) (given : Given) (text : List ℕ) (a b : Sink) → given ≡ given_whole text
+      → IfOk result (λ count. count ≡ length text) → WritesTo contents faults result a b text → AnswersByOutput contents faults (answered_written result) m given a b
+  writing (Ok count) m given text a b is counts wrote =
+      whole count m given text a b (is ∙ ap (Gives (writes text)) (sym counts)) wrote.octets.whole wrote.counted
+  writing (Err stop) m given text a b is counts wrote = cut stop m given text a b (ap acts_given is) wrote.octets.front wrote.counted
 
   -- a message that is kept, or for which there is no memory
   faulting : (fault : RepackFault) (misfits : Option RepackMisfit) (m : ℕ) (octets : List ℕ) (a : Sink) → IsRepackFault misfits fault

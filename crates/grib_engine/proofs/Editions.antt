@@ -10,11 +10,10 @@ use Rattle.grib_stream.specs.Acts.{World, DidFront}
 use Rattle.grib_stream.specs.Outcomes.{is_cut_within}
 use Rattle.grib_stream.specs.Performed.{EndsWith}
 use Rattle.grib_stream.specs.Task.{Given, Gives, Ends, next_given, next_judged, next_of, acts_of}
-use Rattle.grib_engine.specs.declared.answering.Answered.{Answered}
 use Rattle.grib_engine.specs.declared.job.Job.{Job}
 use Rattle.grib_engine.specs.declared.reading.Held.{Held}
 use Rattle.grib_engine.specs.declared.reading.Held.TheVariants.{One, Two}
-use Rattle.grib_engine.specs.Answering.{Answers, acts_given}
+use Rattle.grib_engine.specs.Answering.{acts_given}
 use Rattle.grib_engine.specs.EditionOne.{given_1}
 use Rattle.grib_engine.specs.Reading.{held_octets, Holds}
 use Rattle.grib_engine.specs.Tasks.{fields_of, given_2, given, task}

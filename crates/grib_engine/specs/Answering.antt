@@ -44,17 +44,20 @@ answered_unset (unset.KeyRange key) = Kept (causes.KeyRange key)
 answered_unset (unset.KeyAbsent field key) = Kept (causes.KeyAbsent field key)
 answered_unset unset.Memory = Memory
 
+-- what comes of a message within whose result the output stopped
+abbrev pub answered_stopped : Stop → Answered
+answered_stopped stops.Failed = WriteFault
+answered_stopped stops.Memory = Memory
+
 -- what comes of a message of which a text was to be printed
 abbrev pub answered_printed : {T : Type 0} → Result T Stop → Answered
 answered_printed (Ok done) = Whole 0
-answered_printed (Err stops.Failed) = WriteFault
-answered_printed (Err stops.Memory) = Memory
+answered_printed (Err stop) = answered_stopped stop
 
 -- what comes of a message of which octets were to be written and counted
 abbrev pub answered_written : Result ℕ Stop → Answered
 answered_written (Ok count) = Whole count
-answered_written (Err stops.Failed) = WriteFault
-answered_written (Err stops.Memory) = Memory
+answered_written (Err stop) = answered_stopped stop
 
 -- What answering message m does to the output and to the shelf, of which a job uses one. The fault by which it ends
 -- is counted, and no other.

@@ -5,7 +5,7 @@ ghost use Rattle.grib_repack.specs.Repacked.{repacked, repack_misfit};
 ghost use Rattle.grib_repack.specs.Faults.{target_of};
 ghost use Rattle.grib_keys.specs.Keys.{can_set};
 ghost use Rattle.grib_select.specs.Changed.{with_keys, set_fault};
-ghost use Rattle.grib_engine.specs.Answering.{AnswersMessage, AnswersByOutput, answered_by, answered_unset, answered_printed, answered_written};
+ghost use Rattle.grib_engine.specs.Answering.{AnswersMessage, AnswersByOutput, answered_by, answered_unset, answered_printed, answered_stopped, answered_written};
 ghost use Rattle.grib_engine.specs.Jobs.{CanChange, is_target, has_target, uses_shelf};
 ghost use Rattle.grib_engine.specs.Reading.{held_octets};
 ghost use Rattle.grib_engine.specs.Tasks.{given, given_2, given_unless, given_set};
@@ -106,8 +106,7 @@ pub(crate) fn printed(text: Result<(), Stop>) -> Answered
 {
     match text {
         Ok(()) => Answered::Whole(0),
-        Err(Stop::Failed) => Answered::WriteFault,
-        Err(Stop::Memory) => Answered::Memory,
+        Err(stop) => stopped(stop),
     }
 }
 
@@ -117,7 +116,17 @@ fn written(octets: Result<u64, Stop>) -> Answered
 {
     match octets {
         Ok(count) => Answered::Whole(count),
-        Err(stop) => printed(Err(stop)),
+        Err(stop) => stopped(stop),
+    }
+}
+
+/// What came of a message within whose result the output stopped.
+fn stopped(stop: Stop) -> Answered
+    ensures { result ≡ answered_stopped stop }
+{
+    match stop {
+        Stop::Failed => Answered::WriteFault,
+        Stop::Memory => Answered::Memory,
     }
 }
 

@@ -6,33 +6,30 @@ use Rattle.grib_engine.proofs.dumping.append_dump.Goals as goal
 
 pub returns-in_err-numbers : goal.returns-in_err-numbers
 returns-in_err-numbers g c = record {
-  octets =
-      record { whole = search rules; front = front_none _ _ };
+  octets = record { whole = search rules; front = front_none _ _ };
   counted = search rules;
 }
 
 pub returns-in_err-append_text : goal.returns-in_err-append_text
 returns-in_err-append_text g c = record {
-  octets =
-      record {
-        whole = on_refused _ _ c.from_residual-in_err-append_text.ensures.0;
-        front = one_refused _ _ c.args.lines.now.items c.args.listed.now c.in_ok-numbers.numbers.items (point_lines 1 c.args.column.now.points) _
-            (dumped_is c.args.listed.now c.in_ok-numbers.numbers.items c.args.reference.now c.args.column.now c.args.column.now.points c.in_ok-numbers.ensures refl)
-            c.append_text.ensures.octets.front;
-      };
+  octets = record {
+    whole = on_refused _ _ c.from_residual-in_err-append_text.ensures.0;
+    front = one_refused _ _ c.args.lines.now.items c.args.listed.now c.in_ok-numbers.numbers.items (point_lines 1 c.args.column.now.points) _
+        (dumped_is c.args.listed.now c.in_ok-numbers.numbers.items c.args.reference.now c.args.column.now c.args.column.now.points c.in_ok-numbers.ensures refl)
+        c.append_text.ensures.octets.front;
+  };
   counted = search rules;
 }
 
 pub returns-in_err-append_text-2 : goal.returns-in_err-append_text-2
 returns-in_err-append_text-2 g c = record {
-  octets =
-      record {
-        whole = on_refused _ _ c.from_residual-in_err-append_text-2.ensures.0;
-        front = two_refused _ _ _ c.args.lines.now.items c.args.listed.now c.append_text.new.lines.items c.as_slice.result.now (point_lines 1 c.args.column.now.points) _
-            (dumped_is c.args.listed.now c.as_slice.result.now c.args.reference.now c.args.column.now c.args.column.now.points
-            (c.as_slice.ensures.value ∙ c.in_ok-numbers.ensures) refl)
-            c.in_ok-append_text.ensures.octets.whole c.append_text-2.ensures.octets.front;
-      };
+  octets = record {
+    whole = on_refused _ _ c.from_residual-in_err-append_text-2.ensures.0;
+    front = two_refused _ _ _ c.args.lines.now.items c.args.listed.now c.append_text.new.lines.items c.as_slice.result.now (point_lines 1 c.args.column.now.points) _
+        (dumped_is c.args.listed.now c.as_slice.result.now c.args.reference.now c.args.column.now c.args.column.now.points
+        (c.as_slice.ensures.value ∙ c.in_ok-numbers.ensures) refl)
+        c.in_ok-append_text.ensures.octets.whole c.append_text-2.ensures.octets.front;
+  };
   counted = search rules;
 }
 

@@ -7,35 +7,31 @@ use Rattle.grib_engine.proofs.edition_one.write_dumped.Goals as goal
 
 pub returns-in_err-column : goal.returns-in_err-column
 returns-in_err-column g c = record {
-  octets =
-      record { whole = search rules; front = front_none _ _ };
+  octets = record { whole = search rules; front = front_none _ _ };
   counted = search rules;
 }
 
 pub returns-in_err-listed : goal.returns-in_err-listed
 returns-in_err-listed g c = record {
-  octets =
-      record { whole = search rules; front = front_none _ _ };
+  octets = record { whole = search rules; front = front_none _ _ };
   counted = search rules;
 }
 
 pub returns-in_err-lines : goal.returns-in_err-lines
 returns-in_err-lines g c = record {
-  octets =
-      record { whole = search rules; front = front_none _ _ };
+  octets = record { whole = search rules; front = front_none _ _ };
   counted = search rules;
 }
 
 pub returns-in_err-append_dump : goal.returns-in_err-append_dump
 returns-in_err-append_dump g c = record {
-  octets =
-      record {
-        whole = on_refused _ _ c.from_residual-in_err-append_dump.ensures.0;
-        front = subst (AppendsFront (g.T.Sink.contents c.args.output.now) (g.T.Sink.contents c.append_dump.new.output))
-            (dump_is_1 c.args.message.now c.args.number c.in_ok-column.column c.as_slice.result.now c.from_ibm-reference.result c.in_ok-column.ensures.column
-            (c.as_slice.ensures.value ∙ c.in_ok-listed.ensures) c.from_ibm-reference.ensures.value)
-            (front_from_empty _ _ c.in_ok-lines.lines.items _ c.in_ok-lines.ensures.items c.append_dump.ensures.octets.front);
-      };
+  octets = record {
+    whole = on_refused _ _ c.from_residual-in_err-append_dump.ensures.0;
+    front = subst (AppendsFront (g.T.Sink.contents c.args.output.now) (g.T.Sink.contents c.append_dump.new.output))
+        (dump_is_1 c.args.message.now c.args.number c.in_ok-column.column c.as_slice.result.now c.from_ibm-reference.result c.in_ok-column.ensures.column
+        (c.as_slice.ensures.value ∙ c.in_ok-listed.ensures) c.from_ibm-reference.ensures.value)
+        (front_from_empty _ _ c.in_ok-lines.lines.items _ c.in_ok-lines.ensures.items c.append_dump.ensures.octets.front);
+  };
   counted = search rules;
 }
 

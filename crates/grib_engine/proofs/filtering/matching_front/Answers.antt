@@ -1,5 +1,4 @@
-use Rattle.std.proofs.Common.{◌≡◌, ℕ, sym, subst, arith}
-use Rattle.grib2_message.specs.Fields.{field_count}
+use Rattle.std.proofs.Common.{sym, arith}
 use Rattle.grib_engine.proofs.Filtered.{front_one_more}
 use Rattle.grib_engine.proofs.filtering.matching_front.Goals as goal
 

@@ -5,12 +5,11 @@ use Rattle.grib_engine.proofs.filtering.write_matching.Goals as goal
 
 pub returns-in_err-written-clause-writes : goal.returns-in_err-written-clause-writes
 returns-in_err-written-clause-writes g c = record {
-  octets =
-      record {
-        whole = search rules;
-        front = text_refused _ _ _ (single_if c.args.conditions.now c.args.message.now) c.loop-index.index _ _ (omega arith) (omega arith)
-            c.loop-index.invariant.appended c.write_if_matching.ensures.writes.octets.front;
-      };
+  octets = record {
+    whole = search rules;
+    front = text_refused _ _ _ (single_if c.args.conditions.now c.args.message.now) c.loop-index.index _ _ (omega arith) (omega arith)
+        c.loop-index.invariant.appended c.write_if_matching.ensures.writes.octets.front;
+  };
   counted = search rules;
 }
 

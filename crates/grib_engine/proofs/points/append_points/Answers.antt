@@ -5,13 +5,12 @@ use Rattle.grib_engine.proofs.points.append_points.Goals as goal
 
 pub returns-in_err-append_point : goal.returns-in_err-append_point
 returns-in_err-append_point g c = record {
-  octets =
-      record {
-        whole = search rules;
-        front = line_refused _ _ _ c.args.lines.now.items c.loop-index.lines.items c.args.points.now c.loop-index.index _
-            (take_more c.args.points.now c.loop-index.index _ c.loop-index-test.true) (omega (arith, c.loop-index-test.true)) c.loop-index.invariant.appended
-            c.append_point.ensures.octets.front;
-      };
+  octets = record {
+    whole = search rules;
+    front = line_refused _ _ _ c.args.lines.now.items c.loop-index.lines.items c.args.points.now c.loop-index.index _
+        (take_more c.args.points.now c.loop-index.index _ c.loop-index-test.true) (omega (arith, c.loop-index-test.true)) c.loop-index.invariant.appended
+        c.append_point.ensures.octets.front;
+  };
   counted = search rules;
 }
 

@@ -7,8 +7,7 @@ use Rattle.grib_engine.proofs.printing.append_dumped.Goals as goal
 
 pub returns-in_err-column : goal.returns-in_err-column
 returns-in_err-column g c = record {
-  octets =
-      record { whole = search rules; front = front_none _ _ };
+  octets = record { whole = search rules; front = front_none _ _ };
   counted = search rules;
 }
 
@@ -19,8 +18,7 @@ reference_of-reference-requires g c = record {
 
 pub returns-in_err-listed : goal.returns-in_err-listed
 returns-in_err-listed g c = record {
-  octets =
-      record { whole = search rules; front = front_none _ _ };
+  octets = record { whole = search rules; front = front_none _ _ };
   counted = search rules;
 }
 

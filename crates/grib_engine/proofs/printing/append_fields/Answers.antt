@@ -5,12 +5,11 @@ use Rattle.grib_engine.proofs.printing.append_fields.Goals as goal
 
 pub returns-in_err-append_field : goal.returns-in_err-append_field
 returns-in_err-append_field g c = record {
-  octets =
-      record {
-        whole = search rules;
-        front = field_refused _ _ _ c.args.lines.now.items c.loop-index.lines.items (field_text c.args.job.now c.args.message.now c.args.number) c.loop-index.index _ _ (omega arith) (omega arith)
-            c.loop-index.invariant.appended c.append_field.ensures.octets.front;
-      };
+  octets = record {
+    whole = search rules;
+    front = field_refused _ _ _ c.args.lines.now.items c.loop-index.lines.items (field_text c.args.job.now c.args.message.now c.args.number) c.loop-index.index _ _ (omega arith) (omega arith)
+        c.loop-index.invariant.appended c.append_field.ensures.octets.front;
+  };
   counted = search rules;
 }
 

@@ -4,11 +4,10 @@ use Rattle.grib_engine.proofs.writing.write_whole.Goals as goal
 
 pub returns-in_err-written-clause-writes : goal.returns-in_err-written-clause-writes
 returns-in_err-written-clause-writes g c = record {
-  octets =
-      record {
-        whole = search rules;
-        front = written_front _ _ _ c.args.piece.now c.loop-written.written c.loop-written.invariant.appended c.in_err-written.ensures.octets;
-      };
+  octets = record {
+    whole = search rules;
+    front = written_front _ _ _ c.args.piece.now c.loop-written.written c.loop-written.invariant.appended c.in_err-written.ensures.octets;
+  };
   counted = search rules;
 }
 
