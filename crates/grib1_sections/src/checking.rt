@@ -14,7 +14,7 @@ ghost use Rattle.grib_base.specs.Faults.{IsReadFault};
 ghost use Rattle.grib1_sections.specs.Known.{HasRows};
 
 use crate::frame::{Placed, has_bit};
-use grib_base::{Fault, ReadFault, Reason};
+use grib_base::{Fault, MOST_POINTS, ReadFault, Reason};
 use grib_bitmap::{Mask, ones};
 use grib_bits::{u8_at, u16_at};
 use std::alloc::Global;
@@ -68,7 +68,7 @@ pub(crate) fn check_grid(section: &Placed<'_>) -> Result<u32, Fault>
     }
     check_lists(section, least)?;
     let points = count_points(octets);
-    if points == 0 || points > 33_554_432 {
+    if points == 0 || points > u64::from(MOST_POINTS) {
         return Err(section.refusal(7, Reason::PointCount, points));
     }
     Ok(points as u32)

@@ -1,6 +1,7 @@
 //! What a message tells: its column, the numbers of Section 1 and the lists of Section 2.
 
 ghost use Rattle.std.specs.Prelude.{◌≡◌, ◌≢◌, ◌<◌, ◌≤◌, ◌^◌, length, Some, IfOk};
+ghost use Rattle.grib_base.specs.Limits.{most_points};
 ghost use Rattle.grib1_sections.specs.Acceptance.{grid};
 ghost use Rattle.grib1_sections.specs.Grid.{row_list};
 ghost use Rattle.grib1_sections.specs.Coordinates.{coordinate_list};
@@ -25,7 +26,7 @@ impl<'a> Message1<'a> {
     pub fn column1(&self, alloc: Global) -> Result<Column, AllocError>
         ensures column { IfOk result (λ column. column ≡ column1_of self.now) }
         ensures some { IfOk result (λ column. 1 ≤ length column.points) }
-        ensures few { IfOk result (λ column. length column.points ≤ 33554432) }
+        ensures few { IfOk result (λ column. length column.points ≤ most_points) }
     {
         read_column(
             alloc,

@@ -1,6 +1,7 @@
 //! A message that was read.
 
 ghost use Rattle.std.specs.Prelude.{◌≡◌, ◌≤◌, length, None, Some, MatchOption, option_copied};
+ghost use Rattle.grib_base.specs.Limits.{most_points};
 ghost use Rattle.grib1_sections.specs.Acceptance.{points_of, values_of};
 ghost use Rattle.grib1_sections.specs.Message.{IsMessage1, SectionsPass, section_of};
 ghost use Rattle.grib1_sections.specs.Known.{HasSections};
@@ -80,7 +81,7 @@ impl<'a> Message1<'a> {
     pub fn points(&self) -> u32
         ensures points { result ≡ points_of self.now }
         ensures some { 1 ≤ result }
-        ensures few { result ≤ 33554432 }
+        ensures few { result ≤ most_points }
     {
         self.points
     }

@@ -1,5 +1,5 @@
 -- A section that is written from a value has the value again.
-use Rattle.std.proofs.Common.{◌≡◌, ℕ, ◌+◌, ◌-◌, ◌*◌, ◌^◌, ◌<◌, ◌≤◌, true, false, not, ◌||◌, ◌⊎◌, eqb, nat_lt, cond, List, [], ◌++◌, length, get_or, sum, All, refl, sym, ap, ap₂, ◌∙◌, arith, inl, inr, le-ltb}
+use Rattle.std.proofs.Common.{◌≡◌, ℕ, ◌+◌, ◌-◌, ◌*◌, ◌^◌, ◌<◌, ◌≤◌, true, false, not, ◌||◌, ◌⊎◌, eqb, cond, ◌++◌, length, get_or, sum, All, refl, sym, ap, ap₂, ◌∙◌, arith, inl, inr, le-ltb}
 use Rattle.std.proofs.lemmas.Bool.{cases_lt}
 use Rattle.std.proofs.lemmas.List.{length-append}
 use Rattle.std.proofs.lemmas.List.Elements.{All-get_or}

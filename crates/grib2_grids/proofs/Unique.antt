@@ -1,7 +1,6 @@
 -- A section has one value.
 use Rattle.std.proofs.Common.{◌≡◌, ℕ, List, sym, ap, ◌∙◌, arith}
-use Rattle.grib2_grids.specs.Spelled.{Spelled, SpelledTemplate, SpelledCommon, SpelledLatLon, SpelledRotation, SpelledMercator, SpelledPolar, SpelledLambert, lambert_polar, gaussian_lat_lon, template_of}
-use Rattle.grib2_grids.specs.declared.templates.Common.{Common}
+use Rattle.grib2_grids.specs.Spelled.{Spelled, SpelledTemplate, SpelledLatLon, SpelledRotation, SpelledMercator, SpelledPolar, SpelledLambert, lambert_polar, gaussian_lat_lon, template_of}
 use Rattle.grib2_grids.specs.declared.templates.LatLon.{LatLon}
 use Rattle.grib2_grids.specs.declared.templates.Rotation.{Rotation}
 use Rattle.grib2_grids.specs.declared.templates.Mercator.{Mercator}

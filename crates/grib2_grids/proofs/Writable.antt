@@ -1,5 +1,6 @@
 -- Values that can be written.
-use Rattle.std.proofs.Common.{◌≡◌, ℕ, ◌+◌, ◌*◌, ◌<◌, ◌≤◌, List, [], length, ap, ap₂, arith}
+use Rattle.std.proofs.Common.{◌≡◌, ℕ, ◌*◌, ◌≤◌, List, [], length, ap₂, arith}
+use Rattle.grib_base.specs.Limits.{most_points}
 use Rattle.grib2_grids.specs.Spelled.{common_of}
 use Rattle.grib2_grids.specs.Writable.{IsWritable}
 use Rattle.grib2_grids.specs.declared.grid.GridSection.{GridSection}
@@ -7,7 +8,7 @@ use Rattle.grib2_grids.proofs.ByTemplate.{least-small}
 
 -- a value without a list of rows whose number of points is that of its grid
 pub writable_plain : (value : GridSection) → value.list_octets ≡ 0 → value.rows ≡ [] → (common_of value.grid).ni * (common_of value.grid).nj ≡ value.points
-    → 1 ≤ value.points → value.points ≤ 33554432 → IsWritable value
+    → 1 ≤ value.points → value.points ≤ most_points → IsWritable value
 writable_plain value none no_rows product some few = record {
   some = some;
   few = few;

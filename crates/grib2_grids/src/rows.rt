@@ -8,7 +8,7 @@ ghost use Rattle.grib2_grids.specs.Grid as grid;
 ghost use Rattle.grib2_grids.specs.Grid.{grid_rows, grid_templates, row_list};
 ghost use Rattle.grib2_grids.specs.Whole.{IsWhole, HasList};
 
-use grib_base::{Fault, Reason, Section};
+use grib_base::{Fault, MOST_POINTS, Reason, Section};
 use grib_bits::{u8_at, u16_at, u32_at};
 
 /// The least length in octets of a section with this template, if the profile has it.
@@ -58,7 +58,7 @@ pub(crate) fn check_head(section: &Section<'_>) -> Result<(), Fault>
         return Err(section.fault_at(1, Reason::SectionLength, length as u64));
     }
     let points = u32_at(octets, 7);
-    if points == 0 || points > 33_554_432 {
+    if points == 0 || points > MOST_POINTS {
         return Err(section.fault_at(7, Reason::PointCount, u64::from(points)));
     }
     Ok(())

@@ -1,5 +1,5 @@
 -- What is known of each template.
-use Rattle.std.proofs.Common.{◌≡◌, ℕ, ◌+◌, ◌*◌, not, false, eqb, cond, List, length, map, refl, ap, ◌∙◌, arith}
+use Rattle.std.proofs.Common.{◌≡◌, ℕ, ◌+◌, ◌*◌, not, false, eqb, cond, List, length, refl, ap, ◌∙◌, arith}
 use Rattle.std.proofs.lemmas.List.FromFn.{length-map-range_with_len}
 use Rattle.grib_bits.specs.Octets.{octets}
 use Rattle.grib2_sections.specs.Template.{least_length, is_template}

@@ -1,5 +1,5 @@
 -- A value that a section has which passes the rows can be written.
-use Rattle.std.proofs.Common.{◌≡◌, ℕ, ◌+◌, ◌^◌, ◌<◌, ◌≤◌, List, length, arith, ltb-false}
+use Rattle.std.proofs.Common.{◌≡◌, ℕ, ◌≤◌, List, length, arith, ltb-false}
 use Rattle.std.specs.Prelude.{None}
 use Rattle.grib_bits.specs.Octets.{StatesItself}
 use Rattle.grib_bits.proofs.OctetBits.{AreOctets}

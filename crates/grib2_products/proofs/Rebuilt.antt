@@ -1,5 +1,5 @@
 -- A section that is written from a value has the value again.
-use Rattle.std.proofs.Common.{◌≡◌, ℕ, ◌+◌, ◌*◌, ◌^◌, ◌<◌, ◌≤◌, not, List, ◌++◌, length, get_or, All, refl, sym, ap, ap₂, ◌∙◌, arith, le-ltb}
+use Rattle.std.proofs.Common.{◌≡◌, ℕ, ◌+◌, ◌*◌, ◌^◌, ◌<◌, ◌≤◌, not, ◌++◌, length, get_or, All, refl, sym, ap, ap₂, ◌∙◌, arith, le-ltb}
 use Rattle.std.proofs.lemmas.List.{length-append}
 use Rattle.std.specs.Prelude.{None}
 use Rattle.grib_bits.specs.Listed.{numbers_at, numbers_octets}
@@ -8,7 +8,7 @@ use Rattle.grib_base.specs.Rows.{first_fault}
 use Rattle.grib_base.proofs.Passing.{none_from_passes}
 use Rattle.grib2_sections.specs.Template.{least_length, is_template}
 use Rattle.grib2_products.specs.Product.{product_rows, product_templates, product_template, product_length, template_length}
-use Rattle.grib2_products.specs.Spelled.{IsSectionOf, Spelled, SpelledTemplate, template_of, range_count, coordinate_list, written_length}
+use Rattle.grib2_products.specs.Spelled.{IsSectionOf, SpelledTemplate, template_of, range_count, coordinate_list, written_length}
 use Rattle.grib2_products.specs.Writable.{IsWritable}
 use Rattle.grib2_products.specs.Written.{SpelledHeader, header, template_octets, section_of_product}
 use Rattle.grib2_products.specs.declared.product.ProductSection.{ProductSection}

@@ -1,5 +1,5 @@
 -- A section has one value.
-use Rattle.std.proofs.Common.{◌≡◌, ℕ, ◌+◌, ◌*◌, List, sym, ap, ◌∙◌, arith}
+use Rattle.std.proofs.Common.{◌≡◌, ℕ, ◌+◌, List, sym, ap, ◌∙◌, arith}
 use Rattle.grib2_products.specs.Spelled.{Spelled, SpelledTemplate, SpelledInstant, SpelledEnsemble, SpelledInterval, specs_at, template_of}
 use Rattle.grib2_products.specs.declared.templates.Instant.{Instant}
 use Rattle.grib2_products.specs.declared.templates.Ensemble.{Ensemble}

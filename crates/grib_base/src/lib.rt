@@ -4,12 +4,14 @@
 
 mod code;
 mod fault;
+mod limits;
 mod list;
 mod room;
 mod section;
 
 pub use code::Code;
 pub use fault::{Fault, ReadFault, Reason, Refusal};
+pub use limits::{MOST_OCTETS, MOST_POINTS};
 pub use list::List;
 pub use room::push_within;
 pub use section::Section;

@@ -9,9 +9,10 @@ use Rattle.grib_packing.specs.Packed.{reference_of, group_fields, group_parts}
 use Rattle.grib_packing.proofs.Bounds.{all_below, width_bits-few}
 use Rattle.grib_packing.proofs.Digits.{digits-most}
 use Rattle.grib_packing.proofs.Spans.{small_run}
+use Rattle.grib_packing.proofs.Fields.{padded_octets, length-padded8}
 use Rattle.grib_groups.specs.Encoding.{LaysOut}
 use Rattle.grib_groups.proofs.Parts.{drop-next, sum-more, length-parts}
-use Rattle.grib_groups.proofs.Back.{length-group, length-runs, padded_octets, length-padded8}
+use Rattle.grib_groups.proofs.Back.{length-group, length-runs}
 
 -- the bits of one run
 pub run_bits : (k b : ℕ) (run : List Code) → k ≤ 2 → length (group_fields k b run) ≡ length run * width_of k run

@@ -1,4 +1,5 @@
 -- Lemmas on numbers that stay within the range, whatever their codes are.
+use Rattle.grib_packing.proofs.Fields.{plain_more}
 use Rattle.std.proofs.Common.{◌≡◌, ℕ, zero, suc, ◌+◌, ◌-◌, ◌*◌, ◌^◌, ◌<◌, ◌≤◌, ◌⊎◌, max, min, Bool, true, false, cond, not, ◌&&◌, eqb, List, [], ◌∷◌, ◌++◌, length, drop, map, ℤ, pos, nat_abs, ◌+ℤ◌, ◌-ℤ◌, ◌*ℤ◌, refl, sym, ap, ◌∙◌, arith, le-ltb, mul_comm, add-mul, subst, inl, inr}
 use Rattle.std.proofs.Math.Nat.{mul-le-mul_left}
 use Rattle.std.proofs.lemmas.Bool.{cond-true, cond-false, eq-eqb, ne_eqb}
@@ -16,7 +17,6 @@ use Rattle.grib_packing.specs.declared.layout.Layout.{Layout}
 use Rattle.grib_packing.specs.Differences.{Descriptors, NoNumber, One, Two, is_beyond}
 use Rattle.grib_packing.specs.Entries.{is_out_of_range}
 use Rattle.grib_packing.specs.Groups.{code_of, codes_from, marked}
-use Rattle.grib_groups.proofs.Plain.{plain_more}
 use Rattle.grib_bits.proofs.WordNumbers.{number-lt}
 use Rattle.grib_complex.specs.Told.{After, told}
 use Rattle.grib_complex.specs.Range.{stretch, reach}

@@ -15,11 +15,11 @@ use Rattle.grib_packing.specs.Entries.{data_fault, entries_of, group_data_fault,
 use Rattle.grib_packing.specs.Groups.{list_octets, list_rows}
 use Rattle.grib_packing.specs.Packing.{packing_template, value_count, bit_width}
 use Rattle.grib_packing.specs.Simple.{plain_bits, simple_rows, simple_entries}
+use Rattle.grib_packing.proofs.Fields.{plain-add}
 use Rattle.grib_groups.specs.declared.feeding.Fed.{Fed}
 use Rattle.grib_groups.specs.Feeding.{AreFeedable, IsFeedable, ListsFed, WasFed, no_marks, plain_groups}
 use Rattle.grib_groups.specs.Taking.{values}
 use Rattle.grib_groups.proofs.Pieces.{plain_codes, plain_packed}
-use Rattle.grib_groups.proofs.Plain.{plain-add}
 use Rattle.grib_groups.proofs.Taken.{values-cons}
 use Rattle.grib_complex.specs.declared.keeping.Points.{Points}
 use Rattle.grib_complex.specs.declared.values.Values.{Values}

@@ -1,8 +1,8 @@
 -- The list that the section has as a whole is the list of rows.
-use Rattle.std.proofs.Common.{◌≡◌, ◌<◌, ◌*◌, eqb, cond, List, ℕ, subst, ap, ap₂, ◌∙◌, arith}
+use Rattle.std.proofs.Common.{◌≡◌, ◌<◌, eqb, cond, List, ℕ, subst, ap, ◌∙◌, arith}
 use Rattle.std.specs.Prelude.{IfOk}
-use Rattle.grib2_grids.specs.Grid.{list_start, list_octets, nj}
-use Rattle.grib2_grids.proofs.Lists.{row_list-whole, list_start-some}
+use Rattle.grib2_grids.specs.Grid.{list_start, list_octets}
+use Rattle.grib2_grids.proofs.Lists.{row_list-whole}
 use Rattle.grib2_grids.proofs.reading.read_rows.Goals as goal
 
 pub returns-clause-rows : goal.returns-clause-rows

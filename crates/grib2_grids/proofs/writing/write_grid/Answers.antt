@@ -1,5 +1,5 @@
 -- The octets of the parts, one after another, are those of the section.
-use Rattle.std.proofs.Common.{◌≡◌, ◌*◌, ◌+◌, ◌^◌, ◌<◌, ℕ, List, length, get_or, ap, ap₂, arith, subst, subst₂, ◌++◌}
+use Rattle.std.proofs.Common.{◌≡◌, ◌*◌, ◌+◌, ◌^◌, ℕ, List, length, get_or, ap, ap₂, arith, subst, subst₂, ◌++◌}
 use Rattle.grib_bits.specs.Encoding.{AddsOctets}
 use Rattle.grib_bits.specs.Listed.{numbers_octets}
 use Rattle.grib_bits.proofs.Encoding.{AddsOctets-append, AddsOctets-whole}

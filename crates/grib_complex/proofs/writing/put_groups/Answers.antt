@@ -1,25 +1,15 @@
-use Rattle.std.proofs.Common.{ℕ, ◌++◌, ◌≤◌, List, length, All, sym, ap, ◌∙◌, arith, subst}
+use Rattle.std.proofs.Common.{ℕ, ◌++◌, ◌≤◌, List, length, sym, ap, ◌∙◌, arith, subst}
 use Rattle.std.proofs.lemmas.List.{length-replicate}
 use Rattle.grib_base.specs.declared.code.Code.{Code}
-use Rattle.grib_packing.specs.Groupings.{IsGrouping, runs, width_bits_of, reference_bits_of}
+use Rattle.grib_packing.specs.Groupings.{runs}
 use Rattle.grib_packing.specs.Packed.{group_parts}
-use Rattle.grib_packing.specs.Span.{IsTold}
 use Rattle.grib_complex.specs.FieldCodes.{codes_in}
-use Rattle.grib_groups.specs.Encoding.{AreMeasures}
-use Rattle.grib_complex.proofs.AllTheSame.{told_one}
+use Rattle.grib_groups.specs.Encoding.{AreMeasures, LaysOut}
 use Rattle.grib_complex.proofs.writing.put_groups.Goals as goal
 
-pub encode_measured_groups-requires-clause-references : goal.encode_measured_groups-requires-clause-references
-encode_measured_groups-requires-clause-references c =
-    c.requires.lays_out.reference_bits ∙ ap (reference_bits_of c.args.layout.now.management) (ap codes_in c.in-Each.is ∙ sym c.deref.ensures.value)
-
-pub encode_measured_groups-requires-clause-widths : goal.encode_measured_groups-requires-clause-widths
-encode_measured_groups-requires-clause-widths c =
-    c.requires.lays_out.width_bits ∙ ap (width_bits_of c.args.layout.now.management) (ap codes_in c.in-Each.is ∙ sym c.deref.ensures.value)
-
-pub encode_measured_groups-requires-clause-codes : goal.encode_measured_groups-requires-clause-codes
-encode_measured_groups-requires-clause-codes c =
-    subst (λ (cs : List Code). All (IsTold c.args.layout.now.management) cs) (ap codes_in c.in-Each.is ∙ sym c.deref.ensures.value) c.requires.lays_out.codes_are_told
+pub encode_measured_groups-requires-clause-lays_out : goal.encode_measured_groups-requires-clause-lays_out
+encode_measured_groups-requires-clause-lays_out c =
+    subst (λ (cs : List Code). LaysOut c.args.layout.now cs c.args.lengths.now) (ap codes_in c.in-Each.is ∙ sym c.deref.ensures.value) c.requires.lays_out
 
 pub encode_measured_groups-requires-clause-known : goal.encode_measured_groups-requires-clause-known
 encode_measured_groups-requires-clause-known c =
@@ -29,20 +19,12 @@ pub encode_measured_groups-requires-clause-room : goal.encode_measured_groups-re
 encode_measured_groups-requires-clause-room c =
     subst (λ (cs : List Code). length (group_parts c.args.layout.now.management cs c.args.lengths.now) ≤ c.args.out.now.spare) (ap codes_in c.in-Each.is ∙ sym c.deref.ensures.value) c.requires.room
 
-pub encode_same-requires-clause-references : goal.encode_same-requires-clause-references
-encode_same-requires-clause-references c = c.requires.lays_out.reference_bits ∙ ap (reference_bits_of c.args.layout.now.management) (ap codes_in c.in-Same.is)
+pub encode_same-requires-clause-lays_out : goal.encode_same-requires-clause-lays_out
+encode_same-requires-clause-lays_out c =
+    subst (λ (cs : List Code). LaysOut c.args.layout.now cs c.args.lengths.now) (ap codes_in c.in-Same.is) c.requires.lays_out
 
 pub encode_same-requires-clause-some : goal.encode_same-requires-clause-some
 encode_same-requires-clause-some c = omega (arith, ap length (ap codes_in c.in-Same.is), length-replicate c.in-Same.count c.in-Same.code, c.requires.some)
-
-pub encode_same-requires-clause-grouping : goal.encode_same-requires-clause-grouping
-encode_same-requires-clause-grouping c =
-    subst (λ (n : ℕ). IsGrouping n c.args.lengths.now) (ap length (ap codes_in c.in-Same.is) ∙ length-replicate c.in-Same.count c.in-Same.code) c.requires.lays_out.grouping
-
-pub encode_same-requires-clause-code : goal.encode_same-requires-clause-code
-encode_same-requires-clause-code c =
-    told_one c.args.layout.now.management c.in-Same.count c.in-Same.code (omega (arith, ap length (ap codes_in c.in-Same.is), length-replicate c.in-Same.count c.in-Same.code, c.requires.some))
-    (subst (λ (cs : List Code). All (IsTold c.args.layout.now.management) cs) (ap codes_in c.in-Same.is) c.requires.lays_out.codes_are_told)
 
 pub encode_same-requires-clause-room : goal.encode_same-requires-clause-room
 encode_same-requires-clause-room c =
