@@ -7,9 +7,11 @@ use Rattle.grib_base.specs.Rows.{first_fault}
 use Rattle.grib2_sections.specs.Frame.{Placed, placed_at, section_at, section_number}
 use Rattle.grib_bitmap.specs.Mask.{bitmap_indicator, bitmap_rows, own_mask}
 use Rattle.grib_packing.specs.Packing.{value_count}
-use Rattle.grib2_message.specs.View.{last_number, octets_in_force, points_in_force, earlier_bitmap, first_octets, earlier_mask}
+use Rattle.grib_complex.specs.Field.{Represents}
+use Rattle.grib_complex.specs.declared.field.Representation.{Representation}
+use Rattle.grib2_message.specs.View.{last_number, section_in_force, octets_in_force, points_in_force, earlier_bitmap, first_octets, earlier_mask}
 use Rattle.grib2_message.specs.Acceptance.{section_fault}
-use Rattle.grib2_message.specs.Kept.{StandsAt, ArePlaced, start_in_force, KeepsBitmap, IsEarlier, HasPlaces, Comes}
+use Rattle.grib2_message.specs.Kept.{StandsAt, ArePlaced, start_in_force, KeepsRepresentation, KeepsBitmap, IsEarlier, HasPlaces, Comes}
 use Rattle.grib2_message.specs.declared.places.Bitmap.{Bitmap}
 use Rattle.grib2_message.specs.declared.places.Places.{Places}
 use Rattle.grib2_message.proofs.InForce.{in_force_same, in_force_other}
@@ -49,13 +51,32 @@ module _ (m : List ℕ) (before : List Placed) (number start : ℕ) (s : List �
         ∙ sym (ap (λ (o : Option Placed). option_map_or (λ t. t.start) o 0) (in_force_other (placed_at start s) before k elsewhere))
   ]
 
+  -- ---- what the Section 5 in force says
+
+  -- where it is this section, which was read
+  pub representation_read : (representation : Representation) → number ≡ 5 → Represents representation s
+      → KeepsRepresentation (Some representation) (section_in_force 5 (placed_at start s ∷ before))
+  representation_read representation five h =
+      subst (λ (o : Option Placed). KeepsRepresentation (Some representation) o)
+      (sym (in_force_same (placed_at start s) before 5 (comes.itself.number_stands ∙ five))) h
+
+  -- where this is another section, what the last Section 5 before it says
+  pub representation_kept : (places : Places) → HasPlaces m before places → number ≢ 5
+      → KeepsRepresentation places.representation (section_in_force 5 (placed_at start s ∷ before))
+  representation_kept places h other =
+      subst (λ (o : Option Placed). KeepsRepresentation places.representation o)
+      (sym (in_force_other (placed_at start s) before 5 (λ e. other (sym comes.itself.number_stands ∙ e)))) h.representation
+
+  -- ---- all that is kept
+
   pub places_after : (places after : Places) → HasPlaces m before places → section_fault before (placed_at start s) ≡ None
-      → after.starts ≡ set places.starts number start → KeepsBitmap m after.bitmap (earlier_mask (placed_at start s ∷ before))
+      → after.starts ≡ set places.starts number start → KeepsRepresentation after.representation (section_in_force 5 (placed_at start s ∷ before)) → KeepsBitmap m after.bitmap (earlier_mask (placed_at start s ∷ before))
       → IsEarlier m after.bitmap (placed_at start s ∷ before) → HasPlaces m (placed_at start s ∷ before) after
-  places_after places after h accepted is bitmap earlier = record {
+  places_after places after h accepted is representation bitmap earlier = record {
     eight = ap length is ∙ length-set places.starts number start ∙ h.eight;
     starts = λ k low. ap (λ (xs : List ℕ). get_or xs k 0) is ∙ starts_after places.starts h.eight h.starts k low;
     placed = comes_placed h.placed;
+    representation = representation;
     bitmap = bitmap;
     earlier = earlier;
     sound = sound_after (placed_at start s) before h.sound comes_follows accepted;

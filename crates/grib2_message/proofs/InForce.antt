@@ -6,8 +6,10 @@ use Rattle.grib2_sections.specs.Frame.{Placed, placed_at, section_at, section_nu
 use Rattle.grib2_sections.proofs.Frames.{states_itself}
 use Rattle.grib_base.specs.Rows.{choose}
 use Rattle.grib_bitmap.specs.Mask.{bitmap_indicator}
-use Rattle.grib2_message.specs.View.{section_in_force, octets_in_force, earlier_bitmap, first_octets, own_bitmap}
-use Rattle.grib2_message.specs.Kept.{StandsAt, ArePlaced, HasPlaces}
+use Rattle.grib_complex.specs.Field.{Represents}
+use Rattle.grib_complex.specs.declared.field.Representation.{Representation}
+use Rattle.grib2_message.specs.View.{last_number, section_in_force, octets_in_force, earlier_bitmap, first_octets, own_bitmap}
+use Rattle.grib2_message.specs.Kept.{StandsAt, ArePlaced, KeepsRepresentation, HasPlaces}
 use Rattle.grib2_message.specs.declared.places.Places.{Places}
 
 -- a section that stands at its place states its own length and number
@@ -85,6 +87,27 @@ pub none_in_force : (m : List ℕ) (before : List Placed) (places : Places) (num
     → get_or places.starts number 0 ≡ 0 → section_in_force number before ≡ None
 none_in_force m before places number h low none =
     none_by_start m number (section_in_force number before) (λ t e. found m number before t h.placed e) (sym (h.starts number low) ∙ none)
+
+-- ---- what the Section 5 in force says
+
+read_of : (o : Option Representation) (p : Option Placed) (representation : Representation) → KeepsRepresentation o p → o ≡ Some representation
+    → Represents representation (option_map_or (λ s. s.octets) p [])
+read_of None p representation kept is = cc
+read_of (Some x) None representation kept is = absurd kept
+read_of (Some x) (Some s) representation kept is = (let e : x ≡ representation = cc in subst (λ (y : Representation). Represents y s.octets) e kept)
+
+pub represents : (m : List ℕ) (before : List Placed) (places : Places) (representation : Representation) → HasPlaces m before places
+    → places.representation ≡ Some representation → Represents representation (octets_in_force 5 before)
+represents m before places representation h is = read_of places.representation (section_in_force 5 before) representation h.representation is
+
+none_read : (o : Option Representation) (p : Option Placed) → KeepsRepresentation o p → IsSome p → o ≡ None → ⊥
+none_read None None kept some is = cc
+none_read None (Some s) kept some is = kept
+none_read (Some x) p kept some is = cc
+
+pub is_read : (m : List ℕ) (before : List Placed) (places : Places) → HasPlaces m before places → 5 ≤ last_number before → places.representation ≡ None → ⊥
+is_read m before places h within is =
+    none_read places.representation (section_in_force 5 before) h.representation (h.sound.present 5 (omega arith) within (λ e. absurd (omega arith))) is
 
 -- ---- after one more section
 

@@ -27,7 +27,7 @@ use Rattle.grib2_message.proofs.Placing.{placed_from}
 use Rattle.grib2_message.proofs.Sound.{none_located, fault_of, mask_here, mask_kept, points_kept, count_same, count_other}
 use Rattle.grib2_message.proofs.Ways.{up_here, up_more, up_other}
 
--- the same number, and the same octets but in Sections 5, 6 and 7
+-- t has the number of s, and in Sections 1 to 4 its octets
 pub record Fits (s t : Placed) : Type 0 where
   pub numbered : section_number t.octets ≡ section_number s.octets
   pub kept : section_number s.octets ≤ 4 → t.octets ≡ s.octets

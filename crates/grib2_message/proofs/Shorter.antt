@@ -95,6 +95,7 @@ module _ (u m : List ℕ) (total : ℕ) (front : IsFront u m) (long : length u �
     eight = h.eight;
     starts = h.starts;
     placed = placed_alone before h.placed;
+    representation = h.representation;
     bitmap = keeps_alone places.bitmap _ h.bitmap;
     earlier = earlier_alone places.bitmap _ before h.bitmap h.earlier;
     sound = h.sound;

@@ -48,7 +48,7 @@ pub record IsShort (part : Packed) : Type 0 where
   pub short_6 : length part.section6 < 2 ^ 32
   pub short_7 : length part.section7 < 2 ^ 32
 
--- why no message of this length is put together; want of memory says nothing of it
+-- why no message of this length is put together; where there is no memory, nothing is said of it
 abbrev pub IsAssembleFault : ℕ → AssembleFault → Type 0
 IsAssembleFault total (TooLong n) = (n ≡ total) × (268435456 < n)
 IsAssembleFault total Memory = Unit {0}

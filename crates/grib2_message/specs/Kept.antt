@@ -14,6 +14,8 @@ use Rattle.grib2_products.specs.Product.{product_rows}
 use Rattle.grib_bitmap.specs.Mask.{bitmap_indicator, bitmap_rows, mask_of, own_mask, present_count}
 use Rattle.grib_packing.specs.Packing.{value_count}
 use Rattle.grib_packing.specs.Entries.{packing_fault, data_fault}
+use Rattle.grib_complex.specs.Field.{Represents}
+use Rattle.grib_complex.specs.declared.field.Representation.{Representation}
 use Rattle.grib2_message.specs.View.{last_number, section_in_force, octets_in_force, points_in_force, earlier_bitmap, first_octets, earlier_mask, mask_in_force, section_count}
 use Rattle.grib2_message.specs.Fields.{field_sections, field_count}
 use Rattle.grib2_message.specs.Message.{IsMessage}
@@ -53,6 +55,13 @@ KeepsBitmap message None (Some mask) = ⊥
 KeepsBitmap message (Some bitmap) None = ⊥
 KeepsBitmap message (Some bitmap) (Some mask) = IsBitmap message bitmap mask
 
+-- what the Section 5 in force says is kept, where there is one
+abbrev pub KeepsRepresentation : Option Representation → Option Placed → Type 0
+KeepsRepresentation None None = Unit {0}
+KeepsRepresentation None (Some s) = ⊥
+KeepsRepresentation (Some representation) None = ⊥
+KeepsRepresentation (Some representation) (Some s) = Represents representation s.octets
+
 -- it is the earlier bitmap, where one is kept
 abbrev pub IsEarlier : List ℕ → Option Bitmap → List Placed → Type 0
 IsEarlier message None before = Unit {0}
@@ -85,7 +94,7 @@ pub record AreSound (before : List Placed) : Type 0 where
   pub counted : section_count 4 before ≡ section_count 7 before + begun (last_number before)
   pub few : section_count 4 before ≤ 4096
 
--- the rows on an earlier bitmap that is to be taken again, for so many points
+-- the rows on an earlier bitmap that is to be taken again, for this number of points
 abbrev pub earlier_fault : ℕ → Option (List Bool) → Option Fault
 earlier_fault points earlier =
     let earlier_length = length (unwrap_or earlier []) in
@@ -99,6 +108,7 @@ pub record HasPlaces (message : List ℕ) (before : List Placed) (places : Place
   pub eight : length places.starts ≡ 8
   pub starts : (k : ℕ) → k < 8 → get_or places.starts k 0 ≡ start_in_force k before
   pub placed : ArePlaced message before
+  pub representation : KeepsRepresentation places.representation (section_in_force 5 before)
   pub bitmap : KeepsBitmap message places.bitmap (earlier_mask before)
   pub earlier : IsEarlier message places.bitmap before
   pub sound : AreSound before

@@ -1,7 +1,6 @@
 //! Putting a message together with other Sections 5, 6 and 7.
 
 ghost use Rattle.std.specs.Prelude.{◌≡◌, ◌≢◌, ◌++◌, ◌==◌, cond, length, drop, All, IfOk, MatchOption};
-ghost use Rattle.grib_bits.specs.Octets.{StatesItself};
 ghost use Rattle.grib_base.specs.declared.fault.Fault.{Fault};
 ghost use Rattle.grib2_sections.specs.Frame.{End, Fails, Next, step_from, position_after};
 ghost use Rattle.grib2_message.specs.Assembled as definitions;
@@ -69,7 +68,6 @@ fn next_section<'a>(frame: &mut Frame, octets: &'a [u8]) -> Option<Section<'a>>
     requires { (fault : Fault) → step_from octets.now frame.old ≢ Fails fault }
     ensures { MatchOption result (step_from octets.now frame.old ≡ End)
         (λ section. (step_from octets.now frame.old ≡ Next section.octets.now)
-        × StatesItself section.number section.octets.now
         × (section.start ≡ frame.old.place)
         × (frame.new ≡ position_after frame.old section.octets.now)) }
 {

@@ -1,22 +1,18 @@
 //! The rows of the profile that decide whether a section is accepted.
 
-ghost use Rattle.std.specs.Prelude.{◌≡◌, ◌+◌, ◌*◌, ◌≤◌, ◌==◌, nat_lt, not, List, [], ◌∷◌, Bool, Option, None, length, unwrap_or, MatchResult};
-ghost use Rattle.grib_bits.specs.Octets.{StatesItself};
+ghost use Rattle.std.specs.Prelude.{◌≡◌, ◌+◌, ◌==◌, not, List, [], ◌∷◌, Bool, Option, None, unwrap_or, MatchResult};
 ghost use Rattle.grib_base.specs.Rows.{first_fault, first_fault_at, located, row};
 ghost use Rattle.grib2_grids.specs.Grid.{grid_rows};
 ghost use Rattle.grib2_products.specs.Product.{product_rows};
 ghost use Rattle.grib_bitmap.specs.Mask.{bitmap_rows, present_count};
-ghost use Rattle.grib_packing.specs.Entries.{packing_fault, data_fault};
 ghost use Rattle.grib2_sections.specs.Identification.{identification_rows};
-ghost use Rattle.grib_base.specs.declared.fault.Reason.TheVariants.{ValueCount, DataTooShort};
+ghost use Rattle.grib_base.specs.declared.fault.Reason.TheVariants.{ValueCount};
 ghost use Rattle.grib2_message.specs.Kept.{TellsBitmap, earlier_fault};
 ghost use Rattle.grib_base.specs.Faults.{AreTried, IsReadFault};
 
 use crate::places::Bitmap;
 use grib_base::{Fault, ReadFault, Reason, Section};
 use grib_bitmap::read_mask;
-use grib_complex::{Nothing, read_complex, take_values};
-use grib_packing::read_simple;
 use grib2_grids::read_grid;
 use grib2_products::read_product;
 use grib2_sections::read_identification;
@@ -43,7 +39,7 @@ pub(crate) fn check_grid(alloc: Global, section: &Section<'_>) -> Result<(), Rea
     Ok(())
 }
 
-/// Tries the rows of a Section 4 that stands after so many fields.
+/// Tries the rows of a Section 4 that stands after this number of fields.
 pub(crate) fn check_product(
     alloc: Global,
     fields: usize,
@@ -63,20 +59,8 @@ pub(crate) fn check_product(
     Ok(())
 }
 
-/// Tries the rows of a Section 5, where the grid in force has so many points.
-pub(crate) fn check_representation(section: &Section<'_>, points: u32) -> Result<(), ReadFault>
-    ensures { AreTried (located section.now.start
-        (packing_fault section.now.octets.now points)) result }
-{
-    let simple = read_simple(section, points)?;
-    if simple.template != 0 {
-        read_complex(section, points)?;
-    }
-    Ok(())
-}
-
-/// Tries the rows of a Section 6, where the grid in force has so many points and Section 5 so many
-/// values, after the last Section 6 with bits of its own. Memory is taken only for bits of its own.
+/// Tries the rows of a Section 6, where the grid in force has this number of points and Section 5 this number
+/// of values, after the last Section 6 with bits of its own. Memory is taken only for bits of its own.
 pub(crate) fn check_bitmap(
     alloc: Global,
     section: &Section<'_>,
@@ -136,43 +120,6 @@ fn check_count(section: &Section<'_>, present: u32, values: u32) -> Result<(), R
             Reason::ValueCount,
             u64::from(present),
         )));
-    }
-    Ok(())
-}
-
-/// Tries the rows of a Section 7 that belongs to this Section 5, which is accepted for so many points. No
-/// column is made.
-pub(crate) fn check_values(
-    alloc: Global,
-    section5: &Section<'_>,
-    points: u32,
-    section7: &Section<'_>,
-) -> Result<(), ReadFault>
-    requires accepted { packing_fault section5.now.octets.now points ≡ None }
-    ensures { AreTried (located section7.now.start
-        (data_fault section5.now.octets.now section7.now.octets.now)) result }
-{
-    let Ok(simple) = read_simple(section5, points) else {
-        unreachable!();
-    };
-    if simple.template == 0 {
-        return check_plain(section7, simple.values, simple.bits);
-    }
-    take_values(alloc, section5, points, section7, Nothing)?;
-    Ok(())
-}
-
-/// Tries the row of a Section 7 with so many plain numbers of so many bits.
-fn check_plain(section: &Section<'_>, values: u32, bits: u8) -> Result<(), ReadFault>
-    requires least { 5 ≤ length section.now.octets.now }
-    ensures { AreTried (located section.now.start (first_fault
-        (row (nat_lt (8 * length section.now.octets.now) (values * bits + 40)) 1 DataTooShort
-        (length section.now.octets.now) ∷ []))) result }
-{
-    let length = section.octets.len() as u64;
-    let least = (u64::from(values) * u64::from(bits)).div_ceil(8);
-    if length < 5 + least {
-        return Err(ReadFault::Refused(Fault::at(section.start, Reason::DataTooShort, length)));
     }
     Ok(())
 }

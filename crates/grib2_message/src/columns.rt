@@ -1,12 +1,10 @@
 //! The column of a field.
 
-ghost use Rattle.std.specs.Prelude.{◌≡◌, ◌≤◌, length, ◌≤◌, List, None, length, IfOk};
-ghost use Rattle.grib_bits.specs.Octets.{StatesItself};
+ghost use Rattle.std.specs.Prelude.{◌≡◌, ◌≤◌, List, None, length, IfOk};
 ghost use Rattle.grib_base.specs.Rows.{first_fault};
 ghost use Rattle.grib_bitmap.specs.Mask.{bitmap_rows, mask_of, present_count};
-ghost use Rattle.grib_packing.specs.Entries.{packing_fault, column_from};
+ghost use Rattle.grib_packing.specs.Entries.{column_from};
 ghost use Rattle.grib_packing.specs.Packing.{value_count};
-ghost use Rattle.grib_packing.specs.Unpacked.{IsUnpacked};
 ghost use Rattle.grib2_sections.specs.Frame.{Placed};
 ghost use Rattle.grib2_message.specs.View as definitions;
 ghost use Rattle.grib2_message.specs.View.{octets_in_force, points_in_force, mask_in_force};
@@ -15,10 +13,8 @@ ghost use Rattle.grib2_message.specs.Kept.{IsField};
 use crate::places::{Places, section_from};
 use grib_base::{ReadFault, Section};
 use grib_bitmap::{Mask, read_mask};
-use grib_bits::{u8_at, u16_at};
-use grib_complex::{ComplexPacking, SpatialPacking};
-use grib_packing::{Column, Packing};
-use grib_simple::SimplePacking;
+use grib_bits::u8_at;
+use grib_packing::Column;
 use std::alloc::{AllocError, Global};
 
 /// The indicator of a Section 6 that repeats an earlier bitmap (code table 6.0).
@@ -35,34 +31,14 @@ pub(crate) fn column_at(alloc: Global, octets: &[u8], places: &Places) -> Result
     ensures few { (before : List Placed) → IsField octets.now before places.now → IfOk result
         (λ column. length column.points ≤ 33554432) }
 {
-    let section5 = places.section(octets, 5);
-    let section7 = places.section(octets, 7);
+    let Some(representation) = places.representation else {
+        unreachable!();
+    };
     let mask = mask_at(alloc, octets, places)?;
-    match unpack(alloc, &section5, &mask, &section7) {
+    match representation.unpack(alloc, &mask, &places.section(octets, 7)) {
         Ok(column) => Ok(column),
         Err(ReadFault::Memory) => Err(AllocError),
         Err(ReadFault::Refused(_)) => unreachable!(),
-    }
-}
-
-/// The column of a Section 5, which is accepted, of any template, its mask and its Section 7.
-fn unpack(
-    alloc: Global,
-    section5: &Section<'_>,
-    mask: &Mask,
-    section7: &Section<'_>,
-) -> Result<Column, ReadFault>
-    requires some { 1 ≤ length mask.now }
-    requires few { length mask.now ≤ 33554432 }
-    requires accepted { packing_fault section5.now.octets.now (length mask.now) ≡ None }
-    requires values { present_count mask.now ≡ value_count section5.now.octets.now }
-    ensures { IsUnpacked section5.now.octets.now mask.now section7.now.start
-        section7.now.octets.now result }
-{
-    match u16_at(section5.octets, 10) {
-        0 => SimplePacking.unpack(alloc, section5, mask, section7),
-        2 => ComplexPacking.unpack(alloc, section5, mask, section7),
-        _ => SpatialPacking::new(1).unpack(alloc, section5, mask, section7),
     }
 }
 
@@ -90,7 +66,7 @@ pub(crate) fn own_bitmap<'a>(octets: &'a [u8], places: &Places) -> Section<'a>
     requires { (before : List Placed) × IsField octets.now before places.now }
     ensures octets { (before : List Placed) → IsField octets.now before places.now
         → result.octets.now ≡ definitions.own_bitmap before }
-    ensures itself { StatesItself 6 result.octets.now }
+    ensures number { result.number ≡ 6 }
 {
     let section = places.section(octets, 6);
     if u8_at(section.octets, 6) != REPEATS {

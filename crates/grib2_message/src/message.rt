@@ -1,7 +1,6 @@
 //! A message that was read.
 
 ghost use Rattle.std.specs.Prelude.{◌≡◌, ◌≢◌, ◌≤◌, length, None, Some, MatchOption, MatchResult, IfOk, All};
-ghost use Rattle.grib_bits.specs.Octets.{StatesItself};
 ghost use Rattle.grib2_sections.specs.Frame.{placed_at};
 ghost use Rattle.grib2_message.specs.Fields as definitions;
 ghost use Rattle.grib2_message.specs.Fields.{field_count, part_octets, field_bitmap, column_of};
@@ -84,8 +83,7 @@ impl<'a> Message<'a> {
             (λ found. (definitions.part self.now field section
             ≡ Some (placed_at found.start found.octets.now))
             × (found.octets.now ≡ part_octets self.now field section)
-            × (found.number ≡ section) × StatesItself section found.octets.now
-            × (1 ≤ found.start) × (found.start ≤ 268435456)) }
+            × (found.number ≡ section)) }
         ensures present { section ≢ 2 → result ≢ None }
         ensures passes { FieldPasses self.now field }
     {
@@ -102,7 +100,7 @@ impl<'a> Message<'a> {
         requires first { 1 ≤ field }
         requires last { field ≤ field_count self.now }
         ensures octets { result.octets.now ≡ field_bitmap self.now field }
-        ensures itself { StatesItself 6 result.octets.now }
+        ensures number { result.number ≡ 6 }
     {
         let places = &self.fields[field as usize - 1];
         own_bitmap(self.octets, places)

@@ -1,14 +1,14 @@
 //! Where the sections in force stand in a message.
 
-ghost use Rattle.std.specs.Prelude.{◌≡◌, ◌≤◌, ◌<◌, IsSome, List, ℕ, get_or, []};
-ghost use Rattle.grib_bits.specs.Octets.{StatesItself};
+ghost use Rattle.std.specs.Prelude.{◌≡◌, ◌≤◌, ◌<◌, List, ℕ, get_or, []};
 ghost use Rattle.grib_packing.specs.Packing.{value_count};
 ghost use Rattle.grib2_sections.specs.Frame.{Placed, section_at};
-ghost use Rattle.grib2_message.specs.View.{last_number, section_in_force, octets_in_force, points_in_force};
+ghost use Rattle.grib2_message.specs.View.{last_number, octets_in_force, points_in_force};
 ghost use Rattle.grib2_message.specs.Kept.{StandsAt, HasPlaces};
 
 use grib_base::Section;
 use grib_bits::u32_at;
+use grib_complex::Representation;
 
 /// The last Section 6 with bits of its own.
 #[derive(Clone, Copy, Debug)]
@@ -27,6 +27,8 @@ pub(crate) struct Bitmap {
 pub(crate) struct Places {
     /// By the number of the section, the octet at which the last one with this number begins, or 0.
     pub starts: [u32; 8],
+    /// What the last Section 5 says.
+    pub representation: Option<Representation>,
     pub bitmap: Option<Bitmap>,
 }
 
@@ -37,6 +39,7 @@ impl Places {
     {
         Places {
             starts: [0; 8],
+            representation: None,
             bitmap: None,
         }
     }
@@ -49,9 +52,6 @@ impl Places {
             → result.octets.now ≡ octets_in_force number before }
         ensures start { result.start ≡ get_or self.now.starts number 0 }
         ensures number { result.number ≡ number }
-        ensures itself { StatesItself number result.octets.now }
-        ensures low { 1 ≤ result.start }
-        ensures high { result.start ≤ 268435456 }
     {
         section_from(octets, self.starts[number as usize], number)
     }
@@ -83,7 +83,6 @@ pub(crate) fn section_from(octets: &[u8], start: u32, number: u8) -> Section<'_>
     ensures octets { result.octets.now ≡ section_at octets.now start }
     ensures start { result.start ≡ start }
     ensures number { result.number ≡ number }
-    ensures itself { StatesItself number result.octets.now }
 {
     let length = u32_at(octets, start as usize);
     let before = start as usize - 1;

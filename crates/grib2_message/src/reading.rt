@@ -51,8 +51,8 @@ fn read_fields(alloc: Global, octets: &[u8], total: u64) -> Result<Vec<Places>, 
     let mut places = Places::new();
     let mut frame = Frame::new(total);
     while let Some(section) = frame.next(octets)? {
-        check(alloc, octets, &places, fields.len(), &section)?;
-        places = go_past(octets, &places, &section);
+        let representation = check(alloc, octets, &places, fields.len(), &section)?;
+        places = go_past(octets, &places, &section, representation);
         if section.number == 7 {
             let Ok(()) = fields.push(places) else {
                 return Err(ReadFault::Memory);

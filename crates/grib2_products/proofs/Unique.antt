@@ -53,21 +53,10 @@ same_interval v w b s h g =
 -- products with templates of one number
 same_product : (v w : Product) (s : List ℕ) → template_of v ≡ template_of w → SpelledTemplate v s → SpelledTemplate w s → v ≡ w
 same_product (product.Instant v) (product.Instant w) s same h g = λ i. product.Instant (same_instant v w s h g i)
-same_product (product.Instant v) (product.Ensemble w f) s same h g = absurd (omega arith)
-same_product (product.Instant v) (product.Interval w k) s same h g = absurd (omega arith)
-same_product (product.Instant v) (product.EnsembleInterval w f k) s same h g = absurd (omega arith)
-same_product (product.Ensemble v e) (product.Instant w) s same h g = absurd (omega arith)
 same_product (product.Ensemble v e) (product.Ensemble w f) s same h g = λ i. product.Ensemble (same_instant v w s h.0 g.0 i) (same_ensemble e f s h.1 g.1 i)
-same_product (product.Ensemble v e) (product.Interval w k) s same h g = absurd (omega arith)
-same_product (product.Ensemble v e) (product.EnsembleInterval w f k) s same h g = absurd (omega arith)
-same_product (product.Interval v j) (product.Instant w) s same h g = absurd (omega arith)
-same_product (product.Interval v j) (product.Ensemble w f) s same h g = absurd (omega arith)
 same_product (product.Interval v j) (product.Interval w k) s same h g = λ i. product.Interval (same_instant v w s h.0 g.0 i) (same_interval j k 35 s h.1 g.1 i)
-same_product (product.Interval v j) (product.EnsembleInterval w f k) s same h g = absurd (omega arith)
-same_product (product.EnsembleInterval v e j) (product.Instant w) s same h g = absurd (omega arith)
-same_product (product.EnsembleInterval v e j) (product.Ensemble w f) s same h g = absurd (omega arith)
-same_product (product.EnsembleInterval v e j) (product.Interval w k) s same h g = absurd (omega arith)
 same_product (product.EnsembleInterval v e j) (product.EnsembleInterval w f k) s same h g = λ i. product.EnsembleInterval (same_instant v w s h.0 g.0 i) (same_ensemble e f s h.1 g.1 i) (same_interval j k 38 s h.2 g.2 i)
+same_product v w s e h g = absurd (omega arith)
 
 pub same_section : (value other : ProductSection) (s : List ℕ) → Spelled value s → Spelled other s → value ≡ other
 same_section value other s h g =

@@ -36,6 +36,10 @@ impl<K: Keeper> Taker for Values<K> {
     ghost none = { values-none K.kept K.none };
 
     ghost more = { values-more K.kept K.more };
+
+    ghost fewer = { λ _ _ _ _ _. tt };
+
+    ghost room_after = { λ _ _ _ _ _ _. tt };
 }
 
 impl<K: Keeper> RunTaker for Values<K> {
@@ -91,6 +95,10 @@ impl<K: Keeper> Taker for Plain<K> {
     ghost none = { plain-none K.kept K.none };
 
     ghost more = { plain-more K.kept K.more };
+
+    ghost fewer = { λ _ _ _ _ _. tt };
+
+    ghost room_after = { λ _ _ _ _ _ _. tt };
 }
 
 impl<K: Keeper> RunTaker for Plain<K> {

@@ -9,7 +9,7 @@ use Rattle.grib_base.specs.declared.code.Code.{Code}
 use Rattle.grib_packing.specs.declared.group.Group.{Group}
 use Rattle.grib_packing.specs.declared.layout.Layout.{Layout}
 use Rattle.grib_packing.specs.Groups.{code_of}
-use Rattle.grib_groups.specs.Taking.{Taken}
+use Rattle.grib_groups.specs.Taking.{Taken, values}
 use Rattle.grib_groups.specs.Going.{Went}
 use Rattle.grib_groups.proofs.Taken.{taken_run, taken_then}
 
@@ -87,3 +87,14 @@ module _ {S : Type 0} (took : S → List Code → S → Type 0) (none : (taker :
     taken = taken_then first.taken second.taken;
     passed = more before between after first.codes second.codes first.passed second.passed;
   }
+
+-- ---- room for the codes that are left
+
+module _ {S : Type 0} (took : S → List Code → S → Type 0) (room : S → ℕ → Type 0) (room_after : (before after : S) (codes : List Code) (n : ℕ) → took before codes after → room before (length codes + n) → room after n) where
+  pub room_left : {layout : Layout} {groups left : List Group} {bits rest : List Bool} {before after : S} → Went took layout groups bits before left rest after → room before (values groups) → room after (values left)
+  room_left {left = left} {before = before} {after = after} went enough = room_after before after went.codes (values left) went.passed (subst (room before) went.taken.counted enough)
+
+  pub room_beside : {layout : Layout} {groups left : List Group} {bits rest : List Bool} {before after : S} → Went took layout groups bits before left rest after → (n : ℕ) → room before (values groups + n) → room after (values left + n)
+  room_beside {groups = groups} {left = left} {before = before} {after = after} went n enough =
+      let parts : values groups + n ≡ length went.codes + (values left + n) = omega (arith, went.taken.counted) in
+      room_after before after went.codes (values left + n) went.passed (subst (room before) parts enough)

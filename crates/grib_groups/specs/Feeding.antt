@@ -9,8 +9,9 @@ use Rattle.grib_groups.specs.declared.feeding.Fed.{Fed}
 use Rattle.grib_groups.specs.declared.list_feeding.FedLists.{FedLists}
 use Rattle.grib_groups.specs.declared.lists.Lists.{Lists}
 use Rattle.grib_groups.specs.Table.{groups_in, IsWhole, IsNarrow}
+use Rattle.grib_groups.specs.Taking.{values}
 use Rattle.grib_groups.specs.Going.{left_of, IsReady, Went}
-use Rattle.grib_groups.specs.Lists.{ReferencesTook, WidthsTook, LengthsTook, AreEmpty}
+use Rattle.grib_groups.specs.Lists.{ReferencesRoom, ReferencesTook, WidthsRoom, WidthsTook, LengthsRoom, LengthsTook, AreEmpty}
 
 -- `size` octets after the first `from`, as far as they go
 abbrev pub part : ℕ → ℕ → List ℕ → List ℕ
@@ -42,17 +43,24 @@ pub record IsFeedable {S : Type 0} (limit : ℕ) (fed : Fed S) : Type 0 where
   pub below : 0 < vec_len fed.table.lengths → 2 ^ 33 ≤ limit
   pub ready : IsReady limit fed.numbers
 
+-- What takes the codes has room for those that are still to come, and for n more.
+abbrev pub HasRoom : {S : Type 0} → (S → ℕ → Type 0) → Fed S → ℕ → Type 0
+HasRoom room fed n = room fed.taker (values (left_of fed.numbers (groups_in fed.table)) + n)
+
 -- These octets of the numbers of some groups came: the codes of the numbers that end in them went to
 -- what takes them, which was at `start`, and the bits behind them are kept.
 pub record WasFed {S : Type 0} (took : S → List Code → S → Type 0) (layout : Layout) (groups : List Group) (start : S) (octets : List ℕ) (fed : Fed S) : Type 0 where
   pub layout_is : fed.layout ≡ layout
   pub went : Went took layout groups (bits octets) start (left_of fed.numbers (groups_in fed.table)) fed.numbers.pending fed.taker
 
--- To each of the three lists octets can be fed.
+-- To each of the three lists octets can be fed. The last length comes after the others.
 pub record AreFeedable (fed : FedLists) : Type 0 where
   pub references : IsFeedable (2 ^ 32) fed.references
   pub widths : IsFeedable (2 ^ 32) fed.widths
   pub lengths : IsFeedable (2 ^ 32) fed.lengths
+  pub reference_room : HasRoom ReferencesRoom fed.references 0
+  pub width_room : HasRoom WidthsRoom fed.widths 0
+  pub length_room : HasRoom LengthsRoom fed.lengths 1
 
 -- These octets came from the first list on: each list was fed those that are its own. The length of the
 -- last group is not read.

@@ -7,7 +7,7 @@ use Rattle.grib_groups.specs.declared.lists.References.{References}
 use Rattle.grib_groups.specs.declared.lists.Widths.{Widths}
 use Rattle.grib_groups.specs.declared.lists.Lengths.{Lengths}
 use Rattle.grib_groups.specs.Taking.{number_of}
-use Rattle.grib_groups.specs.Lists.{Grown, CodesTook, ReferencesTook, WidthsAre, WidthsTook, coded_widths, LengthsAre, LengthsTook, coded_lengths_by}
+use Rattle.grib_groups.specs.Lists.{Grown, CodesTook, ReferencesTook, WidthsAre, WidthsTook, coded_widths, LengthsAre, LengthsTook, coded_lengths_by, ReferencesRoom, CodesRoom, WidthsRoom, LengthsRoom}
 
 -- ---- a list that grows
 
@@ -49,6 +49,7 @@ pub widths-none : (taker : Widths) → WidthsTook taker [] taker
 widths-none taker = record {
   reference = refl;
   capacity = omega arith;
+  long = λ room. omega arith;
   read = λ read room are. subst (λ (xs : List ℕ). WidthsAre taker xs) (sym (append-nil read)) are;
 }
 
@@ -57,6 +58,9 @@ pub widths-more : (before between after : Widths) (codes more_codes : List Code)
 widths-more before between after codes more_codes first second = record {
   reference = second.reference ∙ first.reference;
   capacity = omega (arith, first.capacity, second.capacity);
+  long = λ room.
+      let one = first.long (omega (arith, length-append codes more_codes)) in
+      omega (arith, one, second.long (omega (arith, one, length-append codes more_codes, first.capacity)), length-append codes more_codes);
   read = λ read room are.
       let one = coded_widths before.reference codes in
       let both : (read ++ one) ++ coded_widths between.reference more_codes ≡ read ++ coded_widths before.reference (codes ++ more_codes) =
@@ -72,6 +76,7 @@ widths-more before between after codes more_codes first second = record {
 pub lengths-none : (taker : Lengths) → LengthsTook taker [] taker
 lengths-none taker = record {
   same = record { reference = refl; increment = refl; capacity = omega arith };
+  long = λ room. omega arith;
   read = λ values read room are. subst (λ (xs : List ℕ). LengthsAre values taker xs) (sym (append-nil read)) are;
 }
 
@@ -83,6 +88,9 @@ lengths-more before between after codes more_codes first second = record {
     increment = second.same.increment ∙ first.same.increment;
     capacity = omega (arith, first.same.capacity, second.same.capacity);
   };
+  long = λ room.
+      let one = first.long (omega (arith, length-append codes more_codes)) in
+      omega (arith, one, second.long (omega (arith, one, length-append codes more_codes, first.same.capacity)), length-append codes more_codes);
   read = λ values read room are.
       let code_length = λ (code : Code). before.reference + before.increment * number_of code in
       let one = map code_length codes in
@@ -95,3 +103,35 @@ lengths-more before between after codes more_codes first second = record {
       omega (arith, length-append read one, length-map codes code_length, length-append codes more_codes, first.same.capacity) in
       subst (λ (xs : List ℕ). LengthsAre values after xs) both (second.read values (read ++ one) room_after here);
 }
+
+-- ---- room
+
+pub references-fewer : (taker : References) (n m : ℕ) → n ≤ m → ReferencesRoom taker m → ReferencesRoom taker n
+references-fewer taker n m fewer room = omega arith
+
+pub references-room : (before after : References) (codes : List Code) (n : ℕ) → ReferencesTook before codes after → ReferencesRoom before (length codes + n) → ReferencesRoom after n
+references-room before after codes n took room =
+    let grown = took (omega arith) in
+    omega (arith, grown.capacity, ap length grown.items, length-append before.items.items (map number_of codes), length-map codes number_of)
+
+pub codes-fewer : (taker : Codes) (n m : ℕ) → n ≤ m → CodesRoom taker m → CodesRoom taker n
+codes-fewer taker n m fewer room = omega arith
+
+pub codes-room : (before after : Codes) (codes : List Code) (n : ℕ) → CodesTook before codes after → CodesRoom before (length codes + n) → CodesRoom after n
+codes-room before after codes n took room =
+    let grown = took (omega arith) in
+    omega (arith, grown.capacity, ap length grown.items, length-append before.items.items (map (λ (code : Code). code) codes), length-map codes (λ (code : Code). code))
+
+pub widths-fewer : (taker : Widths) (n m : ℕ) → n ≤ m → WidthsRoom taker m → WidthsRoom taker n
+widths-fewer taker n m fewer room = omega arith
+
+pub widths-room : (before after : Widths) (codes : List Code) (n : ℕ) → WidthsTook before codes after → WidthsRoom before (length codes + n) → WidthsRoom after n
+widths-room before after codes n took room =
+    omega (arith, took.capacity, took.long (omega arith))
+
+pub lengths-fewer : (taker : Lengths) (n m : ℕ) → n ≤ m → LengthsRoom taker m → LengthsRoom taker n
+lengths-fewer taker n m fewer room = omega arith
+
+pub lengths-room : (before after : Lengths) (codes : List Code) (n : ℕ) → LengthsTook before codes after → LengthsRoom before (length codes + n) → LengthsRoom after n
+lengths-room before after codes n took room =
+    omega (arith, took.same.capacity, took.long (omega arith))

@@ -34,6 +34,10 @@ pub record Grown {X : Type 0} (before : List X) (memory : ℕ) (added : List X) 
   pub items : after ≡ before ++ added
   pub capacity : memory ≤ memory_after
 
+-- there is memory for n further references
+abbrev pub ReferencesRoom : References → ℕ → Type 0
+ReferencesRoom references n = length references.items.items + n ≤ vec_capacity references.items
+
 abbrev pub ReferencesTook : References → List Code → References → Type 0
 ReferencesTook before codes after =
     length before.items.items + length codes ≤ vec_capacity before.items
@@ -56,12 +60,17 @@ pub record WidthsAre (widths : Widths) (read : List ℕ) : Type 0 where
   pub place : IsNoted widths.too_wide (first_place (λ width. nat_lt 32 width) read)
   pub narrow : All (λ width. width ≤ 32) widths.items.items
 
+-- there is memory for n further widths
+abbrev pub WidthsRoom : Widths → ℕ → Type 0
+WidthsRoom widths n = length widths.items.items + n ≤ vec_capacity widths.items
+
 abbrev pub coded_widths : ℕ → List Code → List ℕ
 coded_widths reference codes = map (λ code. reference + number_of code) codes
 
 pub record WidthsTook (before : Widths) (codes : List Code) (after : Widths) : Type 0 where
   pub reference : after.reference ≡ before.reference
   pub capacity : vec_capacity before.items ≤ vec_capacity after.items
+  pub long : WidthsRoom before (length codes) → length after.items.items ≡ length before.items.items + length codes
   pub read : (read : List ℕ) → length read + length codes ≤ vec_capacity before.items → WidthsAre before read → WidthsAre after (read ++ coded_widths before.reference codes)
 
 -- These lengths were read, where the field has this many values: they are kept, or the first group that
@@ -74,6 +83,10 @@ pub record LengthsAre (values : ℕ) (lengths : Lengths) (read : List ℕ) : Typ
   pub over : (place : ℕ) → lengths.past ≡ Some place → values < sum read
   pub past : (place : ℕ) → lengths.past ≡ Some place → (more : List ℕ) → first_past values 0 (read ++ more) ≡ place
 
+-- there is memory for n further lengths
+abbrev pub LengthsRoom : Lengths → ℕ → Type 0
+LengthsRoom lengths n = length lengths.items.items + n ≤ vec_capacity lengths.items
+
 abbrev pub coded_lengths_by : ℕ → ℕ → List Code → List ℕ
 coded_lengths_by reference increment codes = map (λ code. reference + increment * number_of code) codes
 
@@ -85,10 +98,12 @@ pub record SameCoding (before after : Lengths) : Type 0 where
 
 pub record LengthAdded (before : Lengths) (added : ℕ) (after : Lengths) : Type 0 where
   pub same : SameCoding before after
+  pub long : length after.items.items ≡ length before.items.items + 1
   pub read : (values : ℕ) (read : List ℕ) → length read + 1 ≤ vec_capacity before.items → LengthsAre values before read → LengthsAre values after (read ++ added ∷ [])
 
 pub record LengthsTook (before : Lengths) (codes : List Code) (after : Lengths) : Type 0 where
   pub same : SameCoding before after
+  pub long : LengthsRoom before (length codes) → length after.items.items ≡ length before.items.items + length codes
   pub read : (values : ℕ) (read : List ℕ) → length read + length codes ≤ vec_capacity before.items → LengthsAre values before read
       → LengthsAre values after (read ++ coded_lengths_by before.reference before.increment codes)
 
@@ -133,6 +148,10 @@ lists_rows layout skip l values references widths lengths =
 
 abbrev pub lists_fault : Layout → ℕ → ℕ → ℕ → ℕ → List ℕ → List ℕ → List ℕ → Option Fault
 lists_fault layout start skip l values references widths lengths = first_fault_at start (lists_rows layout skip l values references widths lengths)
+
+-- there is memory for n further codes
+abbrev pub CodesRoom : Codes → ℕ → Type 0
+CodesRoom codes n = length codes.items.items + n ≤ vec_capacity codes.items
 
 abbrev pub CodesTook : Codes → List Code → Codes → Type 0
 CodesTook before codes after =

@@ -5,9 +5,9 @@ ghost use Rattle.grib_base.specs.Rows.{first_fault_at};
 ghost use Rattle.grib_packing.specs.Groups.{grouped, group_rows};
 ghost use Rattle.grib_groups.specs.Taking.{values};
 ghost use Rattle.grib_groups.specs.Table.{groups_in};
-ghost use Rattle.grib_groups.specs.Lists.{CodesTook, GroupsRead, HasLists};
+ghost use Rattle.grib_groups.specs.Lists.{CodesRoom, CodesTook, GroupsRead, HasLists};
 ghost use Rattle.grib_base.specs.Faults.{IsReadFault};
-ghost use Rattle.grib_groups.specs.Laws.{codes-none, codes-more};
+ghost use Rattle.grib_groups.specs.Laws.{codes-none, codes-more, codes-fewer, codes-room};
 
 use crate::lists::{Lists, octets_of_lists};
 use crate::{Fed, Layout, RunTaker, Table, Taker};
@@ -15,7 +15,7 @@ use byteorder::{BigEndian, ByteOrder};
 use grib_base::{Code, ReadFault, Section, push_within};
 use std::alloc::Global;
 
-/// Codes one after another, for which there is memory. One without room is passed over.
+/// Codes one after another, for which there is memory.
 #[derive(Debug, Drop)]
 struct Codes {
     items: Vec<Code>,
@@ -24,12 +24,11 @@ struct Codes {
 impl Taker for Codes {
     ghost limit = { 2 ^ 33 };
 
+    ghost room = { CodesRoom };
+
     ghost took = { CodesTook };
 
     fn take(mut self, code: Code) -> Codes {
-        if self.items.len() >= self.items.capacity() {
-            return self;
-        }
         push_within(&mut self.items, code);
         self
     }
@@ -37,6 +36,10 @@ impl Taker for Codes {
     ghost none = { codes-none };
 
     ghost more = { codes-more };
+
+    ghost fewer = { codes-fewer };
+
+    ghost room_after = { codes-room };
 }
 
 impl RunTaker for Codes {
@@ -88,6 +91,7 @@ pub fn take_groups<T: RunTaker + Drop>(
 ) -> Result<T, ReadFault>
     requires lists { HasLists layout.now skip (length section7.now.octets.now) }
     requires limit { 2 ^ 33 ≤ T.Taker.limit }
+    requires room { T.Taker.room taker count }
     ensures { let expected = first_fault_at section7.now.start (group_rows layout.now section7.now.octets.now skip count) in MatchResult result
         (λ after. (expected ≡ None)
         × T.Taker.took taker (grouped layout.now (drop (5 + skip) section7.now.octets.now)) after
@@ -110,6 +114,7 @@ pub fn take_codes<T: RunTaker>(
     requires skip { skip ≤ 12 }
     requires read { GroupsRead layout.now section7.now.octets.now skip table }
     requires limit { 2 ^ 33 ≤ T.Taker.limit }
+    requires room { T.Taker.room taker (values (groups_in table)) }
     ensures took { T.Taker.took taker (grouped layout.now (drop (5 + skip) section7.now.octets.now)) result }
     ensures count { length (grouped layout.now (drop (5 + skip) section7.now.octets.now)) ≡ values (groups_in table) }
 {

@@ -5,8 +5,9 @@ ghost use Rattle.grib_bits.specs.Bits.{bits as bits_in};
 ghost use Rattle.grib_packing.specs.declared.group.Group.{Group as group_of_numbers};
 ghost use Rattle.grib_packing.specs.declared.layout.Layout.{Layout as layout_of_numbers};
 ghost use Rattle.grib_packing.specs.Groups.{codes_from, packed_bits};
+ghost use Rattle.grib_groups.specs.Taking.{values};
 ghost use Rattle.grib_groups.specs.Table.{groups_in, IsWhole, IsNarrow};
-ghost use Rattle.grib_groups.specs.Feeding.{IsFeedable, WasFed, no_marks, plain_groups, part};
+ghost use Rattle.grib_groups.specs.Feeding.{HasRoom, IsFeedable, WasFed, no_marks, plain_groups, part};
 
 use crate::lists::plain_layout;
 use crate::numbers::Numbers;
@@ -30,6 +31,7 @@ impl<T: RunTaker> Fed<T> {
         requires narrow { IsNarrow table }
         requires limit { 2 ^ 33 ≤ T.Taker.limit }
         ensures feedable { IsFeedable T.Taker.limit result }
+        ensures room { (n : ℕ) → T.Taker.room taker (values (groups_in table) + n) → HasRoom T.Taker.room result n }
         ensures fed { WasFed T.Taker.took layout (groups_in table) taker [] result }
     {
         let nothing = Group {
@@ -50,6 +52,7 @@ impl<T: RunTaker> Fed<T> {
         requires width { bits ≤ 48 }
         requires limit { 2 ^ bits ≤ T.Taker.limit }
         ensures feedable { IsFeedable T.Taker.limit result }
+        ensures room { (n : ℕ) → T.Taker.room taker (count + n) → HasRoom T.Taker.room result n }
         ensures fed { WasFed T.Taker.took no_marks (plain_groups bits count) taker [] result }
     {
         let all = Group {
@@ -68,8 +71,10 @@ impl<T: RunTaker> Fed<T> {
     /// Hands the codes of all numbers on that end in the next octets.
     pub fn push(self, piece: &[u8]) -> Fed<T>
         requires feedable { IsFeedable T.Taker.limit self }
+        requires room { HasRoom T.Taker.room self 0 }
         requires short { length piece.now < 2 ^ 32 }
         ensures feedable { IsFeedable T.Taker.limit result }
+        ensures room { (n : ℕ) → HasRoom T.Taker.room self n → HasRoom T.Taker.room result n }
         ensures fed { (layout : layout_of_numbers) (groups : List group_of_numbers) (start : _) (octets : List ℕ)
             → WasFed T.Taker.took layout groups start octets self → WasFed T.Taker.took layout groups start (octets ++ piece.now) result }
     {
@@ -90,8 +95,10 @@ impl<T: RunTaker> Fed<T> {
 
     /// What took the codes, once the octets of all numbers came.
     pub fn finish(self) -> T
-        requires { IsFeedable T.Taker.limit self }
-        ensures { (layout : layout_of_numbers) (groups : List group_of_numbers) (start : _) (octets : List ℕ)
+        requires feedable { IsFeedable T.Taker.limit self }
+        requires room { HasRoom T.Taker.room self 0 }
+        ensures room { (n : ℕ) → HasRoom T.Taker.room self n → T.Taker.room result n }
+        ensures took { (layout : layout_of_numbers) (groups : List group_of_numbers) (start : _) (octets : List ℕ)
             → WasFed T.Taker.took layout groups start octets self → packed_bits groups ≤ 8 * length octets
             → T.Taker.took start (codes_from layout groups (bits_in octets)) result }
     {

@@ -8,15 +8,15 @@ ghost use Rattle.grib_base.specs.declared.code.Code.TheVariants.{Present};
 ghost use Rattle.grib_base.specs.Rows.{first_fault};
 ghost use Rattle.grib_groups.specs.Taking.{number_of};
 ghost use Rattle.grib_packing.specs.Groups.{list_octets, packed_bits, groups_from, octets_for, list_rows, references as all_references, widths as all_widths, lengths as all_lengths};
-ghost use Rattle.grib_groups.specs.Lists.{HasGroups, ListsAre, lists_fault, AreEmpty, WereRead, ReferencesTook, WidthsTook, LengthsTook, LengthAdded, noted_first};
+ghost use Rattle.grib_groups.specs.Lists.{HasGroups, ListsAre, lists_fault, AreEmpty, WereRead, ReferencesRoom, ReferencesTook, WidthsRoom, WidthsTook, LengthsRoom, LengthsTook, LengthAdded, noted_first};
 ghost use Rattle.grib_groups.specs.Feeding.{no_marks};
-ghost use Rattle.grib_groups.specs.Laws.{references-none, references-more, widths-none, widths-more, lengths-none, lengths-more};
+ghost use Rattle.grib_groups.specs.Laws.{references-none, references-more, widths-none, widths-more, lengths-none, lengths-more, references-fewer, references-room, widths-fewer, widths-room, lengths-fewer, lengths-room};
 
 use crate::{FedLists, Layout, RunTaker, Table, Taker};
 use grib_base::{Code, Fault, Reason, push_within};
 use std::alloc::{AllocError, Global};
 
-/// The references that were read, for which there is memory. One without room is passed over.
+/// The references that were read, for which there is memory.
 #[derive(Debug, Drop)]
 pub struct References {
     pub items: Vec<u32>,
@@ -25,12 +25,11 @@ pub struct References {
 impl Taker for References {
     ghost limit = { 2 ^ 32 };
 
+    ghost room = { ReferencesRoom };
+
     ghost took = { ReferencesTook };
 
     fn take(mut self, code: Code) -> References {
-        if self.items.len() >= self.items.capacity() {
-            return self;
-        }
         push_within(&mut self.items, number(code) as u32);
         self
     }
@@ -38,6 +37,10 @@ impl Taker for References {
     ghost none = { references-none };
 
     ghost more = { references-more };
+
+    ghost fewer = { references-fewer };
+
+    ghost room_after = { references-room };
 }
 
 impl RunTaker for References {
@@ -47,7 +50,7 @@ impl RunTaker for References {
     }
 }
 
-/// The widths that were read, each the reference width and a coded width. One without room is passed over.
+/// The widths that were read, each the reference width and a coded width.
 #[derive(Debug, Drop)]
 pub struct Widths {
     pub items: Vec<u8>,
@@ -59,12 +62,11 @@ pub struct Widths {
 impl Taker for Widths {
     ghost limit = { 2 ^ 32 };
 
+    ghost room = { WidthsRoom };
+
     ghost took = { WidthsTook };
 
     fn take(mut self, code: Code) -> Widths {
-        if self.items.len() >= self.items.capacity() {
-            return self;
-        }
         let width = u64::from(self.reference) + number(code);
         self.too_wide = first_noted(self.too_wide, width > 32, self.items.len() as u64 + 1);
         push_within(&mut self.items, width.min(32) as u8);
@@ -74,6 +76,10 @@ impl Taker for Widths {
     ghost none = { widths-none };
 
     ghost more = { widths-more };
+
+    ghost fewer = { widths-fewer };
+
+    ghost room_after = { widths-room };
 }
 
 impl RunTaker for Widths {
@@ -83,8 +89,7 @@ impl RunTaker for Widths {
     }
 }
 
-/// The lengths that were read, each the reference length and some increments. One without room is passed
-/// over.
+/// The lengths that were read, each the reference length and some increments.
 #[derive(Debug, Drop)]
 pub struct Lengths {
     pub items: Vec<u32>,
@@ -99,11 +104,9 @@ pub struct Lengths {
 impl Lengths {
     /// Adds the length of the next group.
     pub fn add(mut self, length: u64) -> Lengths
+        requires { LengthsRoom self 1 }
         ensures { LengthAdded self length result }
     {
-        if self.items.len() >= self.items.capacity() {
-            return self;
-        }
         if self.past.is_some() || length > u64::from(self.rest) {
             self.past = first_noted(self.past, true, self.items.len() as u64 + 1);
             push_within(&mut self.items, 0);
@@ -118,6 +121,8 @@ impl Lengths {
 impl Taker for Lengths {
     ghost limit = { 2 ^ 32 };
 
+    ghost room = { LengthsRoom };
+
     ghost took = { LengthsTook };
 
     fn take(self, code: Code) -> Lengths {
@@ -128,6 +133,10 @@ impl Taker for Lengths {
     ghost none = { lengths-none };
 
     ghost more = { lengths-more };
+
+    ghost fewer = { lengths-fewer };
+
+    ghost room_after = { lengths-room };
 }
 
 impl RunTaker for Lengths {

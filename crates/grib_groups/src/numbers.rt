@@ -44,6 +44,7 @@ impl Numbers {
         taker: T,
     ) -> T
         requires read { CanRead T.Taker.limit layout.now table.now piece.now 0 }
+        requires room { T.Taker.room taker (values (left_of self.old (groups_in table.now))) }
         requires ready { IsReady T.Taker.limit self.old }
         ensures goes { Went T.Taker.took layout.now (left_of self.old (groups_in table.now)) (self.old.pending ++ bits_in piece.now) taker
             (left_of self.new (groups_in table.now)) self.new.pending result }
@@ -74,6 +75,7 @@ impl Numbers {
         requires bits { layout.now.reference_bits ≤ 48 }
         requires readable { IsReadable T.Taker.limit self.old.current }
         requires count { 0 < self.old.current.count }
+        requires room { T.Taker.room taker 1 }
         requires missing { length self.old.pending + missing ≡ self.old.current.width }
         requires within { missing ≤ 8 * length piece.now }
         ensures goes { (groups : _) → Went T.Taker.took layout.now (left_of self.old groups) (self.old.pending ++ bits_in piece.now) taker
@@ -101,6 +103,7 @@ impl Numbers {
         mut taker: T,
     ) -> T
         requires read { CanRead T.Taker.limit layout.now table.now piece.now at }
+        requires room { T.Taker.room taker (values (left_of self.old (groups_in table.now))) }
         requires readable { IsReadable T.Taker.limit self.old.current }
         requires pending { self.old.pending ≡ [] }
         ensures goes { Went T.Taker.took layout.now (left_of self.old (groups_in table.now)) (drop at (bits_in piece.now)) taker
@@ -127,6 +130,7 @@ impl Numbers {
         mut taker: T,
     ) -> T
         requires read { CanRead T.Taker.limit layout.now table.now piece.now at }
+        requires room { T.Taker.room taker (values (left_of self.old (groups_in table.now))) }
         requires readable { IsReadable T.Taker.limit self.old.current }
         requires none { self.old.current.count ≡ 0 }
         requires pending { self.old.pending ≡ [] }
@@ -156,6 +160,7 @@ impl Numbers {
         taker: T,
     ) -> T
         requires read { CanRead T.Taker.limit layout.now table.now piece.now at.old }
+        requires room { T.Taker.room taker (values (left_of self.old (groups_in table.now))) }
         requires readable { IsReadable T.Taker.limit self.old.current }
         requires none { self.old.current.count ≡ 0 }
         ensures goes { Went T.Taker.took layout.now (left_of self.old (groups_in table.now)) (drop at.old (bits_in piece.now)) taker
@@ -184,6 +189,7 @@ impl Numbers {
         mut taker: T,
     ) -> T
         requires read { CanRead T.Taker.limit layout.now table.now piece.now at.old }
+        requires room { T.Taker.room taker (values (left_of self.old (groups_in table.now))) }
         requires none { self.old.current.count ≡ 0 }
         ensures goes { Went T.Taker.took layout.now (left_of self.old (groups_in table.now)) (drop at.old (bits_in piece.now)) taker
             (left_of self.new (groups_in table.now)) (drop at.new (bits_in piece.now)) result }
@@ -215,6 +221,7 @@ impl Numbers {
         requires bits { layout.now.reference_bits ≤ 48 }
         requires short { length piece.now < 2 ^ 32 }
         requires readable { IsReadable T.Taker.limit self.old.current }
+        requires room { T.Taker.room taker self.old.current.count }
         requires within { at.old ≤ 8 * length piece.now }
         ensures goes { (groups : _) → Went T.Taker.took layout.now (left_of self.old groups) (drop at.old (bits_in piece.now)) taker
             (left_of self.new groups) (drop at.new (bits_in piece.now)) result }

@@ -24,6 +24,7 @@ pub(crate) fn take_numbers<T: Taker>(
     requires width { group.width ≤ 48 }
     requires bits { layout.now.reference_bits ≤ 48 }
     requires limit { group.reference + 2 ^ group.width ≤ T.limit }
+    requires room { T.room taker count }
     requires short { length octets.now < 2 ^ 32 }
     requires within { at + count * group.width ≤ 8 * length octets.now }
     ensures { T.took taker (map (code_of layout.now group) (plain (drop at (bits_in octets.now)) group.width count)) result }
@@ -54,6 +55,7 @@ pub(crate) fn take_at_once<T: RunTaker>(
     requires width { group.width ≤ 48 }
     requires bits { layout.now.reference_bits ≤ 48 }
     requires limit { group.reference + 2 ^ group.width ≤ T.Taker.limit }
+    requires room { T.Taker.room taker group.count }
     requires short { length octets.now < 2 ^ 32 }
     requires within { at + group.count * group.width + 64 ≤ 8 * length octets.now }
     requires ready { T.RunTaker.ready taker group.count (group.reference + 2 ^ group.width) }
@@ -71,6 +73,7 @@ pub(crate) fn take_at_once<T: RunTaker>(
 #[inline(always)]
 fn same_at_once<T: RunTaker>(coding: Coding, count: u32, taker: T) -> T
     requires limit { coding.reference + 1 ≤ T.Taker.limit }
+    requires room { T.Taker.room taker count }
     requires reference { coding.reference < 2 ^ 32 }
     requires ready { T.RunTaker.ready taker count (coding.reference + 1) }
     ensures { (xs : _) → T.Taker.took taker (map (code_by coding) (plain xs 0 count)) result }
@@ -92,6 +95,7 @@ fn words_at_once<T: RunTaker>(
     requires some { 1 ≤ width }
     requires width { width ≤ 48 }
     requires limit { coding.reference + 2 ^ width ≤ T.Taker.limit }
+    requires room { T.Taker.room taker count }
     requires reference { coding.reference < 2 ^ 32 }
     requires short { length octets.now < 2 ^ 32 }
     requires within { 0 < count → at + count * width + 64 ≤ 8 * length octets.now + width }
@@ -106,6 +110,7 @@ fn words_at_once<T: RunTaker>(
 #[inline(always)]
 fn take_same<T: Taker>(coding: Coding, count: u32, taker: T) -> T
     requires limit { coding.reference + 1 ≤ T.limit }
+    requires room { T.room taker count }
     requires reference { coding.reference < 2 ^ 32 }
     ensures { (xs : _) → T.took taker (map (code_by coding) (plain xs 0 count)) result }
 {
@@ -146,6 +151,7 @@ fn take_from_words<T: Taker>(
     requires some { 1 ≤ width }
     requires width { width ≤ 48 }
     requires limit { coding.reference + 2 ^ width ≤ T.limit }
+    requires room { T.room taker count }
     requires reference { coding.reference < 2 ^ 32 }
     requires short { length octets.now < 2 ^ 32 }
     requires within { 0 < count → at + count * width + 64 ≤ 8 * length octets.now + width }
@@ -166,6 +172,7 @@ fn take_from_end<T: Taker>(
 ) -> T
     requires width { width ≤ 48 }
     requires limit { coding.reference + 2 ^ width ≤ T.limit }
+    requires room { T.room taker count }
     requires reference { coding.reference < 2 ^ 32 }
     requires short { length octets.now < 2 ^ 32 }
     requires within { at + count * width ≤ 8 * length octets.now }

@@ -1,6 +1,6 @@
 //! What takes codes on.
 
-ghost use Rattle.std.specs.Prelude.{◌≡◌, ℕ, ◌<◌, ◌≤◌, true, List, [], ◌∷◌, ◌++◌, length};
+ghost use Rattle.std.specs.Prelude.{◌≡◌, ℕ, ◌+◌, ◌<◌, ◌≤◌, true, List, [], ◌∷◌, ◌++◌, length};
 ghost use Rattle.grib_base.specs.declared.code.Code.{Code};
 ghost use Rattle.grib_groups.specs.Taking.{number_of};
 
@@ -13,18 +13,27 @@ pub trait Taker {
     // Codes are below this.
     ghost limit: { ℕ };
 
+    // It has room for this many further codes.
+    ghost room: { Self → ℕ → Type 0 } = { λ _ _. Unit {0} };
+
     // Where codes are taken one after another, it goes from one state to another.
     ghost took: { Self → List Code → Self → Type 0 };
 
     /// Takes the next code.
     fn take(self, code: Code) -> Self
-        requires { number_of code < limit }
+        requires below { number_of code < limit }
+        requires room { room self 1 }
         ensures { took self (code ∷ []) result };
 
     ghost none: { (taker : Self) → took taker [] taker };
 
     ghost more: { (before between after : Self) (codes more_codes : List Code) → took before codes between → took between more_codes after
         → took before (codes ++ more_codes) after };
+
+    ghost fewer: { (taker : Self) (n m : ℕ) → n ≤ m → room taker m → room taker n };
+
+    ghost room_after: { (before after : Self) (codes : List Code) (n : ℕ) → took before codes after → room before (length codes + n)
+        → room after n };
 }
 
 /// What takes the codes of a run at once, where it is ready for them.
@@ -42,6 +51,7 @@ pub trait RunTaker: Taker + Sized {
     fn take_run<R: CodeRun + Drop>(self, run: R) -> Self
         requires stands { R.stands run }
         requires limit { R.limit run ≤ Self.limit }
+        requires room { Self.room self (length (R.codes run)) }
         requires ready { ready self (length (R.codes run)) (R.limit run) }
         ensures { Self.took self (R.codes run) result }
     {
@@ -54,6 +64,7 @@ pub trait RunTaker: Taker + Sized {
 pub fn take_each<R: CodeRun + Drop, T: Taker>(mut run: R, mut taker: T) -> T
     requires stands { R.stands run }
     requires limit { R.limit run ≤ T.limit }
+    requires room { T.room taker (length (R.codes run)) }
     ensures { T.took taker (R.codes run) result }
 {
     for _index in 0..run.count() {

@@ -110,7 +110,7 @@ fn join(alloc: Global, ni: u32, nj: u32, parts: &Packed) -> Result<Vec<u8>, Allo
     Ok(message)
 }
 
-/// Adds Sections 0, 1, 3 and 4 of a message of so many octets.
+/// Adds Sections 0, 1, 3 and 4 of a message of this many octets.
 fn add_front(total: u64, ni: u32, nj: u32, message: &mut Vec<u8>) -> Result<(), AllocError>
     requires few_columns { ni ≤ 4096 }
     requires few_rows { nj ≤ 4096 }

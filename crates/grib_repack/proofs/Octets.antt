@@ -22,7 +22,7 @@ number_few xs w each few =
     let power : 2 ^ length (bits xs) ≤ 2 ^ w = pow_mono count in
     omega (arith, value, none, num-lt (bits xs), power)
 
--- that of the octets `first` to `last`
+-- the number that octets `first` to `last` make
 pub octets_few : (s : List ℕ) (first last w : ℕ) → All (λ octet. octet < 256) s → 8 * (last + 1 - first) ≤ w → octets s first last < 2 ^ w
 octets_few s first last w each few =
     let part = take (last + 1 - first) (drop (first - 1) s) in

@@ -167,7 +167,7 @@ true_or_false : (b : Bool) → (b ≡ true) ⊎ (b ≡ false)
 true_or_false true = inl refl
 true_or_false false = inr refl
 
--- each template has at least so many octets
+-- each template has at least this number of octets
 abbrev AreAtLeast : ℕ → List Template → Type 0
 AreAtLeast bound [] = Unit {0}
 AreAtLeast bound (t ∷ templates) = (bound ≤ t.least) × AreAtLeast bound templates

@@ -13,7 +13,7 @@ target_of Simple = ToSimple
 target_of Complex = ToComplex
 target_of (Spatial order) = ToSpatial order
 
--- the first misfit; want of memory says nothing of it
+-- the first misfit; where there is no memory, nothing is said of it
 abbrev pub IsRepackFault : Option RepackMisfit → RepackFault → Type 0
 IsRepackFault expected (SecondaryMissing field point) = expected ≡ Some (misfits.SecondaryMissing field point)
 IsRepackFault expected (OutOfRange field point) = expected ≡ Some (misfits.OutOfRange field point)

@@ -21,7 +21,7 @@ kind_of message i = octets (part_octets message i 5) 21 21
 abbrev pub packed_field : Target → List ℕ → ℕ → Packed
 packed_field target message i = packed target (column_of message i) (kind_of message i)
 
--- those of each field; fields count from 1
+-- Sections 5, 6 and 7 of each field; fields count from 1
 abbrev pub packed_fields : Target → List ℕ → List Packed
 packed_fields target message = map (packed_field target message) (range_with_len 1 (field_count message))
 

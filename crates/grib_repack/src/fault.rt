@@ -28,7 +28,7 @@ pub enum RepackFault {
     /// The new message would have this many octets, which are more than 268,435,456.
     #[error("the message would have {0} octets")]
     OutputTooLong(u64),
-    /// Want of memory.
+    /// There is no memory.
     #[error("out of memory")]
     Memory,
 }

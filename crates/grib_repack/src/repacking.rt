@@ -83,7 +83,7 @@ fn pack_fields<P: Packing>(
     Ok(packed)
 }
 
-/// Those of one field, counted from 1.
+/// Sections 5, 6 and 7 of one field, counted from 1.
 fn pack_field<P: Packing>(
     alloc: Global,
     message: &Message<'_>,

@@ -9,12 +9,13 @@ use Rattle.grib_bits.proofs.Encoding.{length-octets_of}
 use Rattle.grib_keys.specs.declared.key.Key.{Key}
 use Rattle.grib_keys.specs.declared.key.Key.TheVariants.{Discipline, Scanning, La1, Lo1, EnsembleNumber}
 use Rattle.grib_keys.specs.declared.condition.Condition.{Condition}
-use Rattle.grib_keys.specs.Keys.{Octets, row_of, can_set, at, is_of, is_by_angles}
-use Rattle.grib_select.specs.Values.{template_of, octet_count, HasKeys}
+use Rattle.grib_keys.specs.declared.table.Octets.{Octets}
+use Rattle.grib_keys.specs.Keys.{row_of, can_set, at, is_of, is_by_angles}
+use Rattle.grib_select.specs.Values.{template_of, octet_count, HasKeys, IsWithin}
 use Rattle.grib_select.specs.Changed.{key_octets, new_number, put, put_number, with_key, with_changes}
 use Rattle.grib_select.proofs.Puts.{length-put, put-before, put-behind}
 use Rattle.grib_select.proofs.Stand.{outside, is_fixed, AreAlike, alike_self, alike_then, alike_octets}
-use Rattle.grib_select.proofs.Within.{IsWithin, KeysWithin, or_parts_true, and_first, and_second}
+use Rattle.grib_select.proofs.Within.{KeysWithin, or_parts_true, and_first, and_second}
 
 -- ---- the keys that can be set stand where nothing else is read
 

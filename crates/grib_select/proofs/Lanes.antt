@@ -6,7 +6,8 @@ use Rattle.std.specs.Option.{option_map_or}
 use Rattle.std.specs.Str.{bytes_eq}
 use Rattle.grib_keys.specs.declared.key.Key.{Key}
 use Rattle.grib_keys.specs.declared.key.Key.TheVariants.{Discipline, Scanning, La1, Lo1, EnsembleNumber}
-use Rattle.grib_keys.specs.Keys.{Octets, row_of, can_set, name_of, keys, at, is_of, is_by_angles}
+use Rattle.grib_keys.specs.declared.table.Octets.{Octets}
+use Rattle.grib_keys.specs.Keys.{row_of, can_set, name_of, keys, at, is_of, is_by_angles}
 use Rattle.grib_select.proofs.Changes.{not_true}
 use Rattle.grib_select.proofs.Within.{or_parts_true, and_first, and_second}
 

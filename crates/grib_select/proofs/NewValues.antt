@@ -10,7 +10,9 @@ use Rattle.grib_keys.specs.declared.key.Key.{Key}
 use Rattle.grib_keys.specs.declared.condition.Value.{Value}
 use Rattle.grib_keys.specs.declared.condition.Value.TheVariants.{Number, Missing}
 use Rattle.grib_keys.specs.declared.condition.Condition.{Condition}
-use Rattle.grib_keys.specs.Keys.{Octets, Kind, row_of, can_set}
+use Rattle.grib_keys.specs.declared.table.Octets.{Octets}
+use Rattle.grib_keys.specs.declared.table.Kind.{Kind}
+use Rattle.grib_keys.specs.Keys.{row_of, can_set}
 use Rattle.std.specs.Prelude.{option_map}
 use Rattle.grib_select.specs.Values.{template_of, octet_count, is_all_ones, value_at, value_in}
 use Rattle.grib_select.specs.Changed.{signed_number, unsigned_number, number_of, unless_missing, number_for, new_number, put_number, with_key, with_changes}

@@ -19,10 +19,9 @@ use Rattle.grib_keys.specs.declared.key.Key.{Key}
 use Rattle.grib_keys.specs.declared.key.Key.TheVariants.{Discipline}
 use Rattle.grib_keys.specs.declared.condition.Condition.{Condition}
 use Rattle.grib_keys.specs.Keys.{row_of}
-use Rattle.grib_select.specs.declared.place.Place.{Place}
-use Rattle.grib_select.specs.Places.{octets_of_place}
-use Rattle.grib_select.specs.Values.{template_of, octet_count, HasKeys}
-use Rattle.grib_select.specs.Changed.{new_number, put, put_number, with_key, with_changes, changed}
+use Rattle.grib_keys.specs.declared.table.Octets.{Octets}
+use Rattle.grib_select.specs.Values.{template_of, octet_count, HasKeys, IsWithin}
+use Rattle.grib_select.specs.Changed.{new_number, put_number, with_key, with_changes, changed}
 use Rattle.grib_select.proofs.Changes.{with_key_here}
 use Rattle.grib_select.proofs.Within.{has_keys, identification_within, grid_within, product_within, packing_within}
 
@@ -77,27 +76,28 @@ section_keys before p n is low high none =
 
 -- ---- a change as it is written
 
-pub put_is : (change : Condition) (number : ℕ) (s : List ℕ) (p : Place) (ys : List ℕ) → (row_of change.key).section ≡ number
-    → Some (octets_of_place p) ≡ (row_of change.key).place (template_of (row_of change.key).section s)
-    → 1 ≤ p.first → 1 ≤ p.size → p.first + p.size ≤ length s + 1
-    → ys ≡ octets_of p.size (unwrap_or (new_number change) 0) ++ drop p.size (take (length s - (p.first - 1)) (drop (p.first - 1) s))
+pub put_is : (change : Condition) (number : ℕ) (s : List ℕ) (p : Octets) (ys : List ℕ) → (row_of change.key).section ≡ number
+    → Some p ≡ (row_of change.key).place (template_of (row_of change.key).section s) → IsWithin (length s) p
+    → ys ≡ octets_of (octet_count p) (unwrap_or (new_number change) 0) ++ drop (octet_count p) (take (length s - (p.first - 1)) (drop (p.first - 1) s))
     → put_mid (p.first - 1) (length s - (p.first - 1)) s ys ≡ with_key change number s
-put_is change number s p ys section place low some within is =
+put_is change number s p ys section place within is =
     let a = p.first - 1 in
     let k = length s - a in
-    let n = p.size in
+    let n = octet_count p in
+    let low : 1 ≤ p.first = within.low in
+    let some : p.first ≤ p.last = within.some in
+    let high : p.last ≤ length s = within.high in
+    let count : n ≡ p.last + 1 - p.first = refl in
     let raw = unwrap_or (new_number change) 0 in
     let xs = octets_of n raw in
     let long : length xs ≡ n = length-octets_of n raw in
     let rest : drop n (take k (drop a s)) ≡ drop (a + length xs) s =
     ap (drop n) (take_rest s a) ∙ drop-drop n a s ∙ ap (λ (j : ℕ). drop j s) (let e : a + n ≡ a + length xs = omega arith in e) in
     let none : post_of a k s ≡ [] = drop_all k (drop a s) (omega (arith, length-drop a s)) in
-    let count : n ≡ octet_count (octets_of_place p) = omega arith in
-    let there : (row_of change.key).place (template_of number s) ≡ Some (octets_of_place p) =
+    let there : (row_of change.key).place (template_of number s) ≡ Some p =
     ap (λ (j : ℕ). (row_of change.key).place (template_of j s)) (sym section) ∙ sym place in
     ap₂ (λ (zs ws : List ℕ). take a s ++ (zs ++ ws)) (is ∙ ap (λ (zs : List ℕ). xs ++ zs) rest) none
     ∙ ap (λ (zs : List ℕ). take a s ++ zs) (append-nil (xs ++ drop (a + length xs) s))
-    ∙ ap (λ (j : ℕ). put s p.first (octets_of j raw)) count
     ∙ sym (with_key_here change number s section ∙ ap (put_number change s) there)
 
 -- ---- sections as they are written

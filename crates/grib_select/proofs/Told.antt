@@ -12,7 +12,8 @@ use Rattle.grib_keys.specs.declared.key.Key.{Key}
 use Rattle.grib_keys.specs.declared.key.Key.TheVariants.{Discipline}
 use Rattle.grib_keys.specs.declared.condition.Condition.{Condition}
 use Rattle.grib_keys.specs.declared.condition.Value.{Value}
-use Rattle.grib_keys.specs.Keys.{Octets, row_of}
+use Rattle.grib_keys.specs.declared.table.Octets.{Octets}
+use Rattle.grib_keys.specs.Keys.{row_of}
 use Rattle.grib_select.specs.declared.changing.SetFault.{SetFault}
 use Rattle.grib_select.specs.declared.changing.SetFault.TheVariants.{KeyRange, KeyAbsent}
 use Rattle.grib_select.specs.Values.{key_section, template_of, value_at, value_in, key_value_of}

@@ -15,9 +15,10 @@ use Rattle.grib_packing.specs.Entries.{packing_fault}
 use Rattle.grib_base.specs.declared.fault.Fault.{Fault}
 use Rattle.grib_keys.specs.declared.key.Key.{Key}
 use Rattle.grib_keys.specs.declared.key.Key.TheVariants.{Discipline}
-use Rattle.grib_keys.specs.Keys.{Octets, row_of}
+use Rattle.grib_keys.specs.declared.table.Octets.{Octets}
+use Rattle.grib_keys.specs.Keys.{row_of}
 use Rattle.grib2_message.proofs.Passed.{passes_from_none}
-use Rattle.grib_select.specs.Values.{template_of, octet_count, HasKeys}
+use Rattle.grib_select.specs.Values.{template_of, octet_count, HasKeys, IsWithin}
 
 -- ---- the places of the keys, template by template
 
@@ -109,12 +110,6 @@ product_keys_within t e key =
     (λ e3. by_template P 11 t _ e3 (product_11 key) (λ e4. cc))))
 
 -- ---- what the test tells of a place
-
-pub record IsWithin (l : ℕ) (place : Octets) : Type 0 where
-  pub low : 1 ≤ place.first
-  pub high : place.last ≤ l
-  pub some : place.first ≤ place.last
-  pub few : place.last + 1 ≤ place.first + 4
 
 pub and_first : (a b : Bool) → (a && b) ≡ true → a ≡ true
 and_first true b e = refl

@@ -11,7 +11,9 @@ use Rattle.grib_keys.specs.declared.key.Key.{Key}
 use Rattle.grib_keys.specs.declared.condition.Value.{Value}
 use Rattle.grib_keys.specs.declared.condition.Value.TheVariants.{Number, Missing}
 use Rattle.grib_keys.specs.declared.condition.Condition.{Condition}
-use Rattle.grib_keys.specs.Keys.{Octets, Kind, row_of}
+use Rattle.grib_keys.specs.declared.table.Octets.{Octets}
+use Rattle.grib_keys.specs.declared.table.Kind.{Kind}
+use Rattle.grib_keys.specs.Keys.{row_of}
 use Rattle.grib2_message.specs.Fields.{sections_of, field_count}
 use Rattle.grib_select.specs.Values.{octet_count, is_all_ones, template_of, key_value_of}
 use Rattle.grib_select.specs.declared.changing.SetFault.{SetFault}
@@ -58,7 +60,7 @@ new_number change = number_for (row_of change.key).kind (key_octets change.key) 
 abbrev pub put : List ℕ → ℕ → List ℕ → List ℕ
 put s first octets = take (first - 1) s ++ (octets ++ drop (first - 1 + length octets) s)
 
--- the same with the new number of a key, if it has the place of the key
+-- a section with the new number of a key, if it has the place of the key
 abbrev pub put_number : Condition → List ℕ → Option Octets → List ℕ
 put_number change s None = s
 put_number change s (Some place) = put s place.first (octets_of (octet_count place) (unwrap_or (new_number change) 0))
@@ -103,7 +105,7 @@ abbrev pub set_fault : List ℕ → List Condition → Option SetFault
 set_fault message [] = None
 set_fault message (change ∷ changes) = or_later (change_fault message change) (λ _. set_fault message changes)
 
--- a fault is this one; want of memory says nothing of it
+-- a fault is this one; where there is no memory, nothing is said of it
 abbrev pub IsSetFault : Option SetFault → SetFault → Type 0
 IsSetFault expected (KeyRange key) = expected ≡ Some (KeyRange key)
 IsSetFault expected (KeyAbsent field key) = expected ≡ Some (KeyAbsent field key)

@@ -9,7 +9,9 @@ use Rattle.grib_keys.specs.declared.key.Key.{Key}
 use Rattle.grib_keys.specs.declared.condition.Value.{Value}
 use Rattle.grib_keys.specs.declared.condition.Value.TheVariants.{Number, Missing}
 use Rattle.grib_keys.specs.declared.condition.Condition.{Condition}
-use Rattle.grib_keys.specs.Keys.{Octets, Kind, row_of}
+use Rattle.grib_keys.specs.declared.table.Octets.{Octets}
+use Rattle.grib_keys.specs.declared.table.Kind.{Kind}
+use Rattle.grib_keys.specs.Keys.{row_of}
 use Rattle.grib2_message.specs.Fields.{part_octets}
 
 -- the section with this number that is in force for field i; Section 0 is the same for all fields
@@ -66,6 +68,13 @@ fulfils message i condition = is_value (key_value_of message i condition.key) co
 -- whether field i has every key with its value
 abbrev pub fulfils_all : List ℕ → ℕ → List Condition → Bool
 fulfils_all message i conditions = list_all (fulfils message i) conditions
+
+-- a place within the first l octets of a section, of 1 to 4 octets
+pub record IsWithin (l : ℕ) (place : Octets) : Type 0 where
+  pub low : 1 ≤ place.first
+  pub high : place.last ≤ l
+  pub some : place.first ≤ place.last
+  pub few : place.last + 1 ≤ place.first + 4
 
 -- each key that the template of a section with this number has stands within the section
 abbrev pub HasKeys : ℕ → List ℕ → Type 0

@@ -1,7 +1,6 @@
 //! Messages with other values of some keys.
 
 ghost use Rattle.std.specs.Prelude.{◌≡◌, ◌≢◌, ◌++◌, None, Some, All, IsTrue, IfOk, OnOk, MatchOption, MatchResult};
-ghost use Rattle.grib_bits.specs.Octets.{StatesItself};
 ghost use Rattle.grib_base.specs.declared.fault.Fault.{Fault};
 ghost use Rattle.grib2_sections.specs.Frame.{End, Fails, Next, step_from, position_after};
 ghost use Rattle.grib_keys.specs.Keys.{can_set};
@@ -10,7 +9,6 @@ ghost use Rattle.grib_select.specs.Values.{HasKeys};
 ghost use Rattle.grib_select.specs.Changed.{with_key, with_changes, with_keys, change_fault, set_fault, IsSetFault};
 
 use crate::number::new_number;
-use crate::place::section_of;
 use crate::value::{key_value, place_in};
 use byteorder::{BigEndian, ByteOrder};
 use grib_base::Section;
@@ -29,7 +27,7 @@ pub enum SetFault {
     /// The template of this field lacks the key; it is the first such field.
     #[error("field {field} has no {key}")]
     KeyAbsent { field: u32, key: Key },
-    /// Want of memory.
+    /// There is no memory.
     #[error("out of memory")]
     Memory,
 }
@@ -118,7 +116,6 @@ fn next_section<'a>(frame: &mut Frame, octets: &'a [u8]) -> Option<Section<'a>>
     requires { (fault : Fault) → step_from octets.now frame.old ≢ Fails fault }
     ensures { MatchOption result (step_from octets.now frame.old ≡ End)
         (λ section. (step_from octets.now frame.old ≡ Next section.octets.now)
-        × StatesItself section.number section.octets.now
         × (section.start ≡ frame.old.place)
         × (frame.new ≡ position_after frame.old section.octets.now)) }
 {
@@ -163,12 +160,12 @@ fn change_key(section: &mut [u8], number: u8, change: &Condition)
     ensures changed { section.new ≡ with_key change.now number section.old }
     ensures keys { HasKeys number section.new }
 {
-    if section_of(change.key) != number {
+    if change.key.row().section != number {
         return;
     }
     let Some(place) = place_in(section, change.key) else {
         return;
     };
     let raw = new_number(change).unwrap_or(0);
-    BigEndian::write_uint(&mut section[place.first - 1..], raw, place.size);
+    BigEndian::write_uint(&mut section[place.first - 1..], raw, place.count());
 }

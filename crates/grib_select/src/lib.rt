@@ -7,7 +7,6 @@ mod cutting;
 pub mod laws;
 mod matching;
 mod number;
-mod place;
 mod value;
 
 pub use changing::{SetFault, set_keys};

@@ -1,14 +1,12 @@
 //! The numbers that the octets of keys make.
 
 ghost use Rattle.std.specs.Prelude.{◌≡◌, ◌*◌, ◌^◌, ◌<◌, ◌≤◌, ◌==◌, IfSome};
-ghost use Rattle.grib_keys.specs.Keys.{row_of};
 ghost use Rattle.grib_select.specs.Values.{is_all_ones as all_ones};
 ghost use Rattle.grib_select.specs.Changed as definitions;
 ghost use Rattle.grib_select.specs.Changed.{key_octets};
 
-use crate::place::{is_signed, may_be_missing, place_of};
 use grib_bits::raw_of;
-use grib_keys::{Condition, Key, Value};
+use grib_keys::{Condition, Key, Kind, Value};
 
 /// The number that the octets of the key are to make, `None` where the value does not fit.
 pub(crate) fn new_number(change: &Condition) -> Option<u64>
@@ -16,10 +14,11 @@ pub(crate) fn new_number(change: &Condition) -> Option<u64>
     ensures fits { IfSome result (λ raw. raw < 256 ^ key_octets change.now.key) }
 {
     let key = change.key;
+    let kind = key.row().kind;
     let octets = octets_of(key);
     match change.value {
-        Value::Number(x) => unless_missing(key, octets, number_of(x, is_signed(key), octets)),
-        Value::Missing => missing(key, octets),
+        Value::Number(x) => unless_missing(kind, octets, number_of(x, kind.is_signed, octets)),
+        Value::Missing => missing(kind, octets),
     }
 }
 
@@ -29,42 +28,42 @@ fn octets_of(key: Key) -> u32
     ensures some { 1 ≤ result }
     ensures few { result ≤ 4 }
 {
-    let Some(place) = place_of(key, 1) else {
+    let Some(place) = key.row().place.octets(1) else {
         unreachable!();
     };
-    place.size as u32
+    place.count() as u32
 }
 
-/// The number of all ones, where it means that the number of the key is missing.
-fn missing(key: Key, octets: u32) -> Option<u64>
+/// The number of all ones, where it means that a number of this kind is missing.
+fn missing(kind: Kind, octets: u32) -> Option<u64>
     requires some { 1 ≤ octets }
     requires few { octets ≤ 4 }
-    ensures number { result ≡ definitions.missing_number (row_of key).kind octets }
+    ensures number { result ≡ definitions.missing_number kind octets }
     ensures fits { IfSome result (λ raw. raw < 256 ^ octets) }
 {
-    if may_be_missing(key) {
+    if kind.may_be_missing {
         Some((1 << (8 * octets)) - 1)
     } else {
         None
     }
 }
 
-/// The number, unless it means that the number of the key is missing.
-fn unless_missing(key: Key, octets: u32, number: Option<u64>) -> Option<u64>
+/// The number, unless it means that a number of this kind is missing.
+fn unless_missing(kind: Kind, octets: u32, number: Option<u64>) -> Option<u64>
     requires some { 1 ≤ octets }
     requires few { octets ≤ 4 }
     requires fits { IfSome number (λ raw. raw < 256 ^ octets) }
-    ensures number { result ≡ definitions.unless_missing (row_of key).kind.may_be_missing octets number }
+    ensures number { result ≡ definitions.unless_missing kind.may_be_missing octets number }
     ensures fits { IfSome result (λ raw. raw < 256 ^ octets) }
 {
     let raw = number?;
-    if may_be_missing(key) && is_all_ones(raw, octets) {
+    if kind.may_be_missing && is_all_ones(raw, octets) {
         return None;
     }
     Some(raw)
 }
 
-/// Whether all bits of a number of so many octets are 1.
+/// Whether all bits of a number of this many octets are 1.
 pub(crate) fn is_all_ones(number: u64, octets: u32) -> bool
     requires few { octets ≤ 4 }
     requires fits { number < 256 ^ octets }
@@ -73,7 +72,7 @@ pub(crate) fn is_all_ones(number: u64, octets: u32) -> bool
     number + 1 == 1 << (8 * octets)
 }
 
-/// The number that so many octets make where they hold `x`, with a sign or without.
+/// The number that this many octets make where they hold `x`, with a sign or without.
 fn number_of(x: i64, is_signed: bool, octets: u32) -> Option<u64>
     requires some { 1 ≤ octets }
     requires few { octets ≤ 4 }

@@ -1,17 +1,15 @@
 //! The values of keys.
 
-ghost use Rattle.std.specs.Prelude.{◌≡◌, ◌≢◌, ◌+◌, ◌≤◌, length, option_map, IfSome};
+ghost use Rattle.std.specs.Prelude.{◌≡◌, ◌≢◌, ◌≤◌, length, IfSome};
 ghost use Rattle.grib_keys.specs.Keys.{row_of};
 ghost use Rattle.grib2_message.specs.Fields.{field_count};
-ghost use Rattle.grib_select.specs.Places.{octets_of_place};
 ghost use Rattle.grib_select.specs.Changed.{key_octets};
 ghost use Rattle.grib_select.specs.Values as definitions;
-ghost use Rattle.grib_select.specs.Values.{key_value_of, HasKeys, value_at as value_at_place};
+ghost use Rattle.grib_select.specs.Values.{key_value_of, HasKeys, IsWithin, octet_count};
 
 use crate::number::is_all_ones;
-use crate::place::{Place, is_signed, may_be_missing, place_of, section_of};
 use grib_bits::{signed_of, u16_at, uint_at};
-use grib_keys::{Key, Value};
+use grib_keys::{Key, Kind, Octets, Value};
 use grib2_message::Message;
 
 /// The value that a key has in a field, counted from 1: the number at its place in the section that is in
@@ -21,9 +19,10 @@ pub fn key_value(message: &Message<'_>, field: u32, key: Key) -> Option<Value>
     requires last { field ≤ field_count message.now }
     ensures { result ≡ key_value_of message.now field key }
 {
-    let section = key_section(message, field, section_of(key));
+    let row = key.row();
+    let section = key_section(message, field, row.section);
     let place = place_in(section, key)?;
-    Some(value_at(key, section, &place))
+    Some(value_at(row.kind, section, &place))
 }
 
 /// The section with this number, 0, 1, 3, 4 or 5, that is in force for a field.
@@ -58,32 +57,30 @@ fn template_of(number: u8, section: &[u8]) -> u16
 }
 
 /// Where the key stands in a section with its number, `None` where the template of the section lacks it.
-pub(crate) fn place_in(section: &[u8], key: Key) -> Option<Place>
+pub(crate) fn place_in(section: &[u8], key: Key) -> Option<Octets>
     requires { HasKeys (row_of key).section section.now }
-    ensures place { option_map octets_of_place result
+    ensures place { result
         ≡ (row_of key).place (definitions.template_of (row_of key).section section.now) }
-    ensures within { IfSome result (λ p. (1 ≤ p.first) × (1 ≤ p.size) × (p.size ≤ 4)
-        × (p.first + p.size ≤ length section.now + 1)) }
-    ensures size { IfSome result (λ p. p.size ≡ key_octets key) }
+    ensures within { IfSome result (λ place. IsWithin (length section.now) place) }
+    ensures size { IfSome result (λ place. octet_count place ≡ key_octets key) }
 {
-    place_of(key, template_of(section_of(key), section))
+    let row = key.row();
+    row.place.octets(template_of(row.section, section))
 }
 
-/// The value of the key at this place of its section.
-fn value_at(key: Key, section: &[u8], place: &Place) -> Value
-    requires first { 1 ≤ place.now.first }
-    requires some { 1 ≤ place.now.size }
-    requires word { place.now.size ≤ 4 }
-    requires within { place.now.first + place.now.size ≤ length section.now + 1 }
-    ensures { result ≡ value_at_place (row_of key).kind section.now (octets_of_place place.now) }
+/// The value of a key of this kind at this place of its section.
+fn value_at(kind: Kind, section: &[u8], place: &Octets) -> Value
+    requires { IsWithin (length section.now) place.now }
+    ensures { result ≡ definitions.value_at kind section.now place.now }
 {
-    let raw = uint_at(section, place.first, place.size);
-    let size = place.size as u32;
-    if may_be_missing(key) && is_all_ones(u64::from(raw), size) {
+    let count = place.count();
+    let raw = uint_at(section, place.first, count);
+    let octets = count as u32;
+    if kind.may_be_missing && is_all_ones(u64::from(raw), octets) {
         return Value::Missing;
     }
-    if is_signed(key) {
-        return Value::Number(signed_of(u64::from(raw), 8 * size));
+    if kind.is_signed {
+        return Value::Number(signed_of(u64::from(raw), 8 * octets));
     }
     Value::Number(i64::from(raw))
 }

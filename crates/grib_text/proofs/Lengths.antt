@@ -11,7 +11,7 @@ use Rattle.grib_packing.specs.Entries.{packing_fault}
 use Rattle.grib_packing.specs.Packing.{packing_templates, packing_template, packing_rows}
 use Rattle.grib2_message.proofs.Passed.{passes_from_none}
 
--- each template has at least so many octets
+-- each template has at least this number of octets
 abbrev AreAtLeast : ℕ → List Template → Type 0
 AreAtLeast bound [] = Unit {0}
 AreAtLeast bound (t ∷ templates) = (bound ≤ t.least) × AreAtLeast bound templates

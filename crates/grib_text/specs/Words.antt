@@ -7,7 +7,7 @@ use Rattle.grib_bits.specs.Bits.{bits_of, signed}
 abbrev pub filled_decimal : ℕ → ℕ → List ℕ
 filled_decimal width n = replicate (width - length (decimal n)) 48 ++ decimal n
 
--- the same with sign: the `-` (45) of a negative number stands first, and counts
+-- the digits of a number with sign: the `-` (45) of a negative number stands first, and counts
 abbrev pub filled_signed_decimal : ℕ → ℤ → List ℕ
 filled_signed_decimal width (pos n) = filled_decimal width n
 filled_signed_decimal width (negsuc n) = 45 ∷ filled_decimal (width - 1) (n + 1)

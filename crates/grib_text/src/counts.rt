@@ -6,7 +6,7 @@ ghost use Rattle.grib_text.specs.Lines as lines;
 use std::alloc::{AllocError, Global};
 
 /// The line of the message with this number, from 1: it begins after `at` octets of the input, is of
-/// this edition and `total` octets long, and has this many fields. The only error is want of memory.
+/// this edition and `total` octets long, and has this many fields. The only error is that there is no memory.
 pub fn check_line(
     alloc: Global,
     number: u64,
@@ -24,7 +24,7 @@ pub fn check_line(
 }
 
 /// The last line: how many messages and fields were read, and how many octets stand in no message.
-/// The only error is want of memory.
+/// The only error is that there is no memory.
 pub fn total_line(
     alloc: Global,
     messages: u64,

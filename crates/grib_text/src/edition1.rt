@@ -14,7 +14,7 @@ use grib1_sections::{Key1, Message1};
 use std::alloc::{AllocError, Global};
 use std::fmt;
 
-/// The line of the message with this number, from 1. The only error is want of memory.
+/// The line of the message with this number, from 1. The only error is that there is no memory.
 pub fn list_line1(alloc: Global, message: &Message1<'_>, number: u64) -> Result<Vec<u8>, AllocError>
     ensures { IfOk result (λ line. line.items ≡ lines.list_line1 message.now number) }
 {

@@ -24,8 +24,8 @@ pub struct ListedField<'a> {
     pub representation: &'a [u8],
 }
 
-/// The line of this field, from 1, of the message with this number, from 1. The only error is want of
-/// memory.
+/// The line of this field, from 1, of the message with this number, from 1. The only error is that there
+/// is no memory.
 pub fn field_line(
     alloc: Global,
     number: u64,

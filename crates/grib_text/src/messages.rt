@@ -11,7 +11,7 @@ use grib_bits::u8_at;
 use grib2_message::Message;
 use std::alloc::{AllocError, Global};
 
-/// The line of a field, from 1, of the message with this number, from 1. The only error is want of memory.
+/// The line of a field, from 1, of the message with this number, from 1. The only error is that there is no memory.
 pub fn list_line(
     alloc: Global,
     message: &Message<'_>,

@@ -7,7 +7,7 @@ use grib_base::Refusal;
 use std::alloc::{AllocError, Global};
 
 /// The note on the refusal of a message: the octet that decides it, the reason and its detail. The
-/// only error is want of memory.
+/// only error is that there is no memory.
 pub fn refusal_note(alloc: Global, refusal: &Refusal) -> Result<Vec<u8>, AllocError>
     ensures { IfOk result
         (λ note. note.items ≡ notes.refusal_note refusal.now.message refusal.now.fault) }

@@ -11,7 +11,7 @@ use std::alloc::{AllocError, Global};
 /// The octets of the longest line: 10 of the place, 20 of the number, a space and a newline.
 const LONGEST: usize = 32;
 
-/// The line of the point at a place of the grid, counted from 1. The only error is want of memory.
+/// The line of the point at a place of the grid, counted from 1. The only error is that there is no memory.
 pub fn point_line(alloc: Global, place: u32, point: &Point) -> Result<Vec<u8>, AllocError>
     ensures { IfOk result (λ line. line.items ≡ lines.point_line place point.now) }
 {

@@ -11,7 +11,7 @@ use std::alloc::{AllocError, Global};
 
 /// The line of a reference value, and of the binary and the decimal scale factor, which are passed as
 /// the two octets that hold them: a sign and a magnitude (WMO-No. 306, Volume I.2, FM 92 GRIB edition
-/// 2, Section 5, octets 16-19). The only error is want of memory.
+/// 2, Section 5, octets 16-19). The only error is that there is no memory.
 pub fn reference_line(
     alloc: Global,
     reference: &Dyadic,

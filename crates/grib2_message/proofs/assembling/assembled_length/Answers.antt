@@ -19,7 +19,7 @@ loop-section-preserved c =
     let told = c.in-Some.ensures in
     let section = c.in-Some.section in
     counting_next c.args.octets.now c.args.packed.now c.loop-section.frame c.next_section.new.frame section.start section.number section.octets.now
-    c.loop-section.parts.now c.parts_after-parts.result.now told.0 told.1 told.2 told.3 c.parts_after-parts.ensures
+    c.loop-section.parts.now c.parts_after-parts.result.now told.0 section.itself told.1 told.2 c.parts_after-parts.ensures
     c.loop-section.total c.in_place.result.now c.loop-section.invariant c.in_place.ensures
 
 pub returns : goal.returns

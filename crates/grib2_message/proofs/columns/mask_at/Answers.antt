@@ -41,11 +41,11 @@ pub section_from-earlier-requires : goal.section_from-earlier-requires
 section_from-earlier-requires c =
     (repeated c.args.octets.now c.requires.0 c.args.places.now c.requires.1 c.in-Some.bitmap c.in-Some.is).bits.stands
 
-pub accepted_mask-requires-2-clause-accepted : goal.accepted_mask-requires-2-clause-accepted
-accepted_mask-requires-2-clause-accepted c =
+pub accepted_mask-requires-2 : goal.accepted_mask-requires-2
+accepted_mask-requires-2 c =
     let bitmap = c.in-Some.bitmap in
     let r = repeated c.args.octets.now c.requires.0 c.args.places.now c.requires.1 bitmap c.in-Some.is in
-    ap (λ (x : List ℕ). first_fault (bitmap_rows x bitmap.points bitmap.present None)) c.section_from-earlier.ensures.octets ∙ r.bits.rows
+    record { accepted = ap (λ (x : List ℕ). first_fault (bitmap_rows x bitmap.points bitmap.present None)) c.section_from-earlier.ensures.octets ∙ r.bits.rows }
 
 pub returns : goal.returns
 returns c = λ before h.

@@ -1,4 +1,4 @@
-use Rattle.std.proofs.Common.{◌≡◌, ℕ, List, sym, ap, ◌∙◌, arith, subst, Option}
+use Rattle.std.proofs.Common.{◌≡◌, sym, ap, ◌∙◌, arith, subst, Option}
 use Rattle.grib_bitmap.specs.Mask.{bitmap_indicator}
 use Rattle.grib2_message.specs.View.{octets_in_force}
 use Rattle.grib2_message.specs.Kept.{IsEarlier}

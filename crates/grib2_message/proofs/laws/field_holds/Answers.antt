@@ -1,4 +1,4 @@
-use Rattle.grib2_grids.proofs.Readable.{AreOctets-from_All}
+use Rattle.grib_bits.proofs.Listed.{AreOctets-from_All}
 use Rattle.grib2_message.proofs.Holding.{field_passes_alone, field_mask_long}
 use Rattle.grib2_message.proofs.laws.field_holds.Goals as goal
 

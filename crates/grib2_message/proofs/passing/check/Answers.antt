@@ -1,111 +1,49 @@
-use Rattle.std.proofs.Common.{◌≡◌, ℕ, ◌+◌, sym, ap, ap₂, ◌∙◌, subst, arith}
-use Rattle.grib_base.specs.Rows.{first_fault_at, located}
-use Rattle.grib2_products.specs.Product.{product_rows}
-use Rattle.grib_bitmap.specs.Mask.{bitmap_rows}
-use Rattle.grib_packing.specs.Entries.{packing_fault, data_fault}
-use Rattle.grib2_message.specs.View.{last_number, earlier_mask}
-use Rattle.grib2_message.proofs.After.{comes_below, comes_in_range}
-use Rattle.grib2_message.proofs.Checked.{fault_by_number, stands_below, keeps_tells, products_are_fields, tried_as}
-use Rattle.grib2_message.proofs.Order.{follows_tells, Follows}
+use Rattle.std.proofs.Common.{ℕ, sym, ap, ◌∙◌, arith}
+use Rattle.std.proofs.lemmas.Result.{err_from_is_err_and}
+use Rattle.grib_base.specs.Rows.{located}
+use Rattle.grib_packing.specs.Entries.{packing_fault}
+use Rattle.grib2_message.proofs.After.{comes_below, representation_read, representation_kept}
+use Rattle.grib2_message.proofs.Checked.{fault_by_number}
 use Rattle.grib2_message.proofs.passing.check.Goals as goal
 
 pub points-requires : goal.points-requires
 points-requires c =
     let section = c.args.section.now in
-    let below = comes_below c.args.octets.now c.requires.comes.0 section.number section.start section.octets.now c.requires.comes.2 (omega (arith, c.in-5.is)) in
-    (c.requires.comes.0, c.requires.comes.1, omega (arith, below, c.in-5.is))
+    let below = comes_below c.args.octets.now c.requires.comes.0 section.number section.start section.octets.now c.requires.comes.2 (omega (arith, c.if-section-eq5.true)) in
+    (c.requires.comes.0, c.requires.comes.1, omega (arith, below, c.if-section-eq5.true))
 
-pub points-requires-in-6 : goal.points-requires-in-6
-points-requires-in-6 c =
-    let section = c.args.section.now in
-    let below = comes_below c.args.octets.now c.requires.comes.0 section.number section.start section.octets.now c.requires.comes.2 (omega (arith, c.in-6.is)) in
-    (c.requires.comes.0, c.requires.comes.1, omega (arith, below, c.in-6.is))
-
-pub values-requires : goal.values-requires
-values-requires c =
-    let section = c.args.section.now in
-    let below = comes_below c.args.octets.now c.requires.comes.0 section.number section.start section.octets.now c.requires.comes.2 (omega (arith, c.in-6.is)) in
-    (c.requires.comes.0, c.requires.comes.1, omega (arith, below, c.in-6.is))
-
-pub section-requires-clause-stands : goal.section-requires-clause-stands
-section-requires-clause-stands c =
-    let section = c.args.section.now in
-    let below = comes_below c.args.octets.now c.requires.comes.0 section.number section.start section.octets.now c.requires.comes.2 (omega (arith, c.in-7.is)) in
-    stands_below c.args.octets.now c.requires.comes.0 c.args.places.now 5 c.requires.comes.1 (omega arith) (omega arith) (omega (arith, below, c.in-7.is))
-
-pub points-requires-in-7 : goal.points-requires-in-7
-points-requires-in-7 c =
-    let section = c.args.section.now in
-    let below = comes_below c.args.octets.now c.requires.comes.0 section.number section.start section.octets.now c.requires.comes.2 (omega (arith, c.in-7.is)) in
-    (c.requires.comes.0, c.requires.comes.1, omega (arith, below, c.in-7.is))
-
-pub check_values-requires-clause-accepted : goal.check_values-requires-clause-accepted
-check_values-requires-clause-accepted c =
-    let section = c.args.section.now in
-    let before = c.requires.comes.0 in
-    let h = c.requires.comes.1 in
-    let below = comes_below c.args.octets.now before section.number section.start section.octets.now c.requires.comes.2 (omega (arith, c.in-7.is)) in
-    ap₂ (λ s p. packing_fault s p) (c.section.ensures.octets before h) (c.points-in-7.ensures before h (omega (arith, below, c.in-7.is)))
-    ∙ h.sound.packing (omega (arith, below, c.in-7.is))
-
-pub returns-in-1 : goal.returns-in-1
-returns-in-1 c = λ before h comes fields.
-    let section = c.args.section.now in
-    tried_as _ _ c.check_identification.result (fault_by_number c.args.octets.now before section.number section.start section.octets.now comes 1 c.in-1.is) c.check_identification.ensures
-
-pub returns-in-3 : goal.returns-in-3
-returns-in-3 c = λ before h comes fields.
-    let section = c.args.section.now in
-    tried_as _ _ c.check_grid.result (fault_by_number c.args.octets.now before section.number section.start section.octets.now comes 3 c.in-3.is) c.check_grid.ensures
-
-pub returns-in-4 : goal.returns-in-4
-returns-in-4 c = λ before h comes fields.
+pub returns-in_err-representation : goal.returns-in_err-representation
+returns-in_err-representation c = λ before h comes fields.
     let section = c.args.section.now in
     let m = c.args.octets.now in
     let s = section.octets.now in
-    let follows = subst (λ (n : ℕ). Follows (last_number before) n) c.in-4.is (follows_tells (last_number before) section.number comes.follows) in
-    let count = products_are_fields before h.sound follows ∙ sym fields in
-    tried_as _ _ c.check_product.result
-    (fault_by_number m before section.number section.start s comes 4 c.in-4.is ∙ ap (λ (n : ℕ). first_fault_at section.start (product_rows s (n + 1))) count)
-    c.check_product.ensures
+    let below = comes_below m before section.number section.start s comes (omega (arith, c.if-section-eq5.true)) in
+    let points = c.points.ensures before h (omega (arith, below, c.if-section-eq5.true)) in
+    let is = fault_by_number m before section.number section.start s comes 5 c.if-section-eq5.true ∙ ap (λ (n : ℕ). located section.start (packing_fault s n)) (sym points) in
+    let p = err_from_is_err_and c.from_residual.result c.from_residual.ensures.1 in
+    rw (p.1, p.2) (is ∙ c.in_err-representation.ensures)
 
-pub returns-in-5 : goal.returns-in-5
-returns-in-5 c = λ before h comes fields.
+pub returns-then-section-eq5 : goal.returns-then-section-eq5
+returns-then-section-eq5 c = λ before h comes fields.
     let section = c.args.section.now in
     let m = c.args.octets.now in
     let s = section.octets.now in
-    let below = comes_below m before section.number section.start s comes (omega (arith, c.in-5.is)) in
-    let points = c.points.ensures before h (omega (arith, below, c.in-5.is)) in
-    tried_as _ _ c.check_representation.result
-    (fault_by_number m before section.number section.start s comes 5 c.in-5.is ∙ ap (λ (n : ℕ). located section.start (packing_fault s n)) (sym points))
-    c.check_representation.ensures
+    let below = comes_below m before section.number section.start s comes (omega (arith, c.if-section-eq5.true)) in
+    let points = c.points.ensures before h (omega (arith, below, c.if-section-eq5.true)) in
+    let is = fault_by_number m before section.number section.start s comes 5 c.if-section-eq5.true ∙ ap (λ (n : ℕ). located section.start (packing_fault s n)) (sym points) in
+    let read = c.in_ok-representation.ensures in (
+      is ∙ ap (located section.start) read.0,
+      representation_read m before section.number section.start s comes c.in_ok-representation.representation c.if-section-eq5.true read.1,
+    )
 
-pub returns-in-6 : goal.returns-in-6
-returns-in-6 c = λ before h comes fields.
-    let section = c.args.section.now in
-    let m = c.args.octets.now in
-    let s = section.octets.now in
-    let below = comes_below m before section.number section.start s comes (omega (arith, c.in-6.is)) in
-    let points = c.points-in-6.ensures before h (omega (arith, below, c.in-6.is)) in
-    let values = c.values.ensures before h (omega (arith, below, c.in-6.is)) in
-    tried_as _ _ c.check_bitmap.result
-    (fault_by_number m before section.number section.start s comes 6 c.in-6.is
-    ∙ ap₂ (λ (p v : ℕ). first_fault_at section.start (bitmap_rows s p v (earlier_mask before))) (sym points) (sym values))
-    (c.check_bitmap.ensures (earlier_mask before) (keeps_tells m c.args.places.now.bitmap (earlier_mask before) h.bitmap))
+pub returns-in_err-check_other : goal.returns-in_err-check_other
+returns-in_err-check_other c = λ before h comes fields.
+    let p = err_from_is_err_and c.from_residual-in_err-check_other.result c.from_residual-in_err-check_other.ensures.1 in
+    rw (p.1, p.2) (c.in_err-check_other.ensures before h comes fields)
 
-pub returns-in-7 : goal.returns-in-7
-returns-in-7 c = λ before h comes fields.
-    let section = c.args.section.now in
-    let m = c.args.octets.now in
-    let s = section.octets.now in
-    tried_as _ _ c.check_values.result
-    (fault_by_number m before section.number section.start s comes 7 c.in-7.is
-    ∙ ap (λ x. located section.start (data_fault x s)) (sym (c.section.ensures.octets before h)))
-    c.check_values.ensures
-
-pub returns-in_default : goal.returns-in_default
-returns-in_default c = λ before h comes fields.
-    let section = c.args.section.now in
-    let range = comes_in_range c.args.octets.now before section.number section.start section.octets.now comes in
-    let two : section.number ≡ 2 = omega arith in
-    fault_by_number c.args.octets.now before section.number section.start section.octets.now comes 2 two
+pub returns : goal.returns
+returns c = λ before h comes fields.
+    let section = c.args.section.now in (
+      c.in_ok-check_other.ensures before h comes fields,
+      representation_kept c.args.octets.now before section.number section.start section.octets.now comes c.args.places.now h c.if-section-eq5.false,
+    )

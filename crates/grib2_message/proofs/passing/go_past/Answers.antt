@@ -9,7 +9,7 @@ bounds-starts-section c =
     omega arith
 
 pub returns : goal.returns
-returns c = λ before h comes accepted.
+returns c = λ before h comes accepted representation.
     let section = c.args.section.now in
-    places_after c.args.octets.now before section.number section.start section.octets.now comes c.args.places.now _ h accepted refl
+    places_after c.args.octets.now before section.number section.start section.octets.now comes c.args.places.now _ h accepted refl representation
     (c.last_bitmap-bitmap.ensures.mask before h comes accepted) (c.last_bitmap-bitmap.ensures.earlier before h comes)

@@ -3,8 +3,8 @@ use Rattle.grib_bits.specs.Octets.{StatesItself}
 use Rattle.grib2_sections.proofs.Frames.{states_itself}
 use Rattle.grib2_message.proofs.places.section_from.Goals as goal
 
-pub returns-clause-itself : goal.returns-clause-itself
-returns-clause-itself c =
+pub invariant_of-result-clause-itself : goal.invariant_of-result-clause-itself
+invariant_of-result-clause-itself c =
     let m = c.args.octets.now in
     let start = c.args.start in
     let l = c.u32_at-length.result in

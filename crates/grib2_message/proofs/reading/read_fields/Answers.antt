@@ -33,25 +33,25 @@ loop-fields-init c =
       each = λ i places e. absurd (none_in_empty i places (ap (λ xs. slice_get xs i) (sym c.new-fields.ensures.items) ∙ e));
     }
 
-pub check-requires-clause-comes : goal.check-requires-clause-comes
-check-requires-clause-comes c =
+pub check-requires : goal.check-requires
+check-requires c =
     let m = c.args.octets.now in
     let i = c.loop-fields.invariant in
     let section = c.in-Some.section in
     let told = rw c.in-Some.is at c.in_ok-section.ensures in
-    let comes = way_comes_at m i.turns i.before c.loop-fields.frame section.number section.start section.octets.now i.way told.0 told.2 told.1 in
-    (i.before, i.places_stand, comes, omega (arith, c.len.ensures, i.count, c.loop-fields.fields.ok.0))
+    let comes = way_comes_at m i.turns i.before c.loop-fields.frame section.number section.start section.octets.now i.way told.0 told.1 section.itself in
+    record { comes = (i.before, i.places_stand, comes, omega (arith, c.len.ensures, i.count, c.loop-fields.fields.ok.0)) }
 
-pub returns-in_err-check : goal.returns-in_err-check
-returns-in_err-check c =
+pub returns-in_err-representation : goal.returns-in_err-representation
+returns-in_err-representation c =
     let m = c.args.octets.now in
     let i = c.loop-fields.invariant in
     let section = c.in-Some.section in
     let told = rw c.in-Some.is at c.in_ok-section.ensures in
-    let comes = way_comes_at m i.turns i.before c.loop-fields.frame section.number section.start section.octets.now i.way told.0 told.2 told.1 in
-    let p = err_from_is_err_and c.from_residual-in_err-check.result c.from_residual-in_err-check.ensures.1 in
-    let refused = c.in_err-check.ensures i.before i.places_stand comes (omega (arith, c.len.ensures, i.count, c.loop-fields.fields.ok.0)) in
-    rw (p.1, p.2) (way_read_fault m i.turns i.before c.loop-fields.frame section.start section.octets.now _ i.way told.0 told.2 refused)
+    let comes = way_comes_at m i.turns i.before c.loop-fields.frame section.number section.start section.octets.now i.way told.0 told.1 section.itself in
+    let p = err_from_is_err_and c.from_residual-in_err-representation.result c.from_residual-in_err-representation.ensures.1 in
+    let refused = c.in_err-representation.ensures i.before i.places_stand comes (omega (arith, c.len.ensures, i.count, c.loop-fields.fields.ok.0)) in
+    rw (p.1, p.2) (way_read_fault m i.turns i.before c.loop-fields.frame section.start section.octets.now _ i.way told.0 told.1 refused)
 
 pub go_past-places-requires : goal.go_past-places-requires
 go_past-places-requires c =
@@ -59,8 +59,8 @@ go_past-places-requires c =
     let i = c.loop-fields.invariant in
     let section = c.in-Some.section in
     let told = rw c.in-Some.is at c.in_ok-section.ensures in
-    let comes = way_comes_at m i.turns i.before c.loop-fields.frame section.number section.start section.octets.now i.way told.0 told.2 told.1 in
-    record { comes = (i.before, i.places_stand, comes, c.in_ok-check.ensures i.before i.places_stand comes (omega (arith, c.len.ensures, i.count, c.loop-fields.fields.ok.0))) }
+    let comes = way_comes_at m i.turns i.before c.loop-fields.frame section.number section.start section.octets.now i.way told.0 told.1 section.itself in
+    record { comes = (i.before, i.places_stand, comes, (c.in_ok-representation.ensures i.before i.places_stand comes (omega (arith, c.len.ensures, i.count, c.loop-fields.fields.ok.0))).0) }
 
 pub loop-fields-preserved-in-Ok-1 : goal.loop-fields-preserved-in-Ok-1
 loop-fields-preserved-in-Ok-1 c =
@@ -69,11 +69,11 @@ loop-fields-preserved-in-Ok-1 c =
     let section = c.in-Some.section in
     let s = section.octets.now in
     let told = rw c.in-Some.is at c.in_ok-section.ensures in
-    let comes = way_comes_at m i.turns i.before c.loop-fields.frame section.number section.start s i.way told.0 told.2 told.1 in
-    let none = c.in_ok-check.ensures i.before i.places_stand comes (omega (arith, c.len.ensures, i.count, c.loop-fields.fields.ok.0)) in
-    let on = way_next_at m i.turns i.before c.loop-fields.frame c.next.new.self section.start s i.way told.0 told.2 told.5 none in
-    let stand = c.go_past-places.ensures i.before i.places_stand comes none in
-    let seven : section_number s ≡ 7 = told.1.number_stands ∙ c.if-section-eq7.true in
+    let comes = way_comes_at m i.turns i.before c.loop-fields.frame section.number section.start s i.way told.0 told.1 section.itself in
+    let checked = c.in_ok-representation.ensures i.before i.places_stand comes (omega (arith, c.len.ensures, i.count, c.loop-fields.fields.ok.0)) in
+    let on = way_next_at m i.turns i.before c.loop-fields.frame c.next.new.self section.start s i.way told.0 told.1 told.2 checked.0 in
+    let stand = c.go_past-places.ensures i.before i.places_stand comes checked.0 checked.1 in
+    let seven : section_number s ≡ 7 = section.itself.number_stands ∙ c.if-section-eq7.true in
     let more = placed_at section.start s ∷ i.before in
     let field = field_sections m (length c.loop-fields.fields.items + 1) in
     let ends : field ≡ more = ap (λ (n : ℕ). field_sections m (n + 1)) i.count ∙ on.ends_field seven in
@@ -98,15 +98,15 @@ loop-fields-preserved c =
     let section = c.in-Some.section in
     let s = section.octets.now in
     let told = rw c.in-Some.is at c.in_ok-section.ensures in
-    let comes = way_comes_at m i.turns i.before c.loop-fields.frame section.number section.start s i.way told.0 told.2 told.1 in
-    let none = c.in_ok-check.ensures i.before i.places_stand comes (omega (arith, c.len.ensures, i.count, c.loop-fields.fields.ok.0)) in
-    let on = way_next_at m i.turns i.before c.loop-fields.frame c.next.new.self section.start s i.way told.0 told.2 told.5 none in
+    let comes = way_comes_at m i.turns i.before c.loop-fields.frame section.number section.start s i.way told.0 told.1 section.itself in
+    let checked = c.in_ok-representation.ensures i.before i.places_stand comes (omega (arith, c.len.ensures, i.count, c.loop-fields.fields.ok.0)) in
+    let on = way_next_at m i.turns i.before c.loop-fields.frame c.next.new.self section.start s i.way told.0 told.1 told.2 checked.0 in
     record {
       turns = on.turns_left;
       before = placed_at section.start s ∷ i.before;
       way = on.way;
-      places_stand = c.go_past-places.ensures i.before i.places_stand comes none;
-      count = i.count ∙ sym (count_other (placed_at section.start s) i.before 7 (λ seven. c.if-section-eq7.false (sym told.1.number_stands ∙ seven)));
+      places_stand = c.go_past-places.ensures i.before i.places_stand comes checked.0 checked.1;
+      count = i.count ∙ sym (count_other (placed_at section.start s) i.before 7 (λ seven. c.if-section-eq7.false (sym section.itself.number_stands ∙ seven)));
       each = i.each;
     }
 

@@ -29,7 +29,7 @@ returns g c =
     let fed = c.push.ensures.fed layout (groups_in table) c.args.taker [] c.groups.ensures.fed in
     let enough : packed_bits (groups_in table) ≤ 8 * length piece =
     omega (arith, read.enough, ap packed_bits read.are, ap length at_numbers, length-drop (list_octets layout) octets, length-drop (5 + skip) s7) in
-    let took = c.finish.ensures layout (groups_in table) c.args.taker piece fed enough in
+    let took = c.finish.ensures.took layout (groups_in table) c.args.taker piece fed enough in
     let codes = codes_from layout (groups_in table) (bits piece) in
     let all : codes ≡ grouped layout octets = ap₂ (λ (gs : List Group) (ys : List ℕ). codes_from layout gs (bits ys)) read.are at_numbers in
     record {

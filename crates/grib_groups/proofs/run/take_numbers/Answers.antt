@@ -1,9 +1,10 @@
-use Rattle.std.proofs.Common.{◌≡◌, ℕ, ◌+◌, ◌-◌, ◌*◌, List, map, drop, sym, subst, ap₂, ◌∙◌, arith, add-mul}
+use Rattle.std.proofs.Common.{◌≡◌, ℕ, ◌+◌, ◌-◌, ◌*◌, List, length, map, drop, sym, subst, ap₂, ◌∙◌, arith, add-mul}
 use Rattle.grib_bits.specs.Bits.{bits}
 use Rattle.grib_bits.specs.Plain.{plain}
 use Rattle.grib_base.specs.declared.code.Code.{Code}
 use Rattle.grib_packing.specs.Groups.{code_of}
 use Rattle.grib_groups.specs.Taking.{code_by}
+use Rattle.grib_groups.proofs.CodeRuns.{length-codes}
 use Rattle.grib_groups.proofs.Runs.{map-plain, took_then}
 use Rattle.grib_groups.proofs.run.take_numbers.Goals as goal
 
@@ -62,3 +63,15 @@ returns g c =
     let first = subst (λ (n : ℕ). took c.args.taker (map by (plain xs width n)) c.take_from_end.result) count both in
     let second = subst (λ (w : ℕ). took c.args.taker (map by (plain xs w c.args.count)) c.take_from_end.result) c.from-width.ensures first in
     subst (λ (cs : List Code). took c.args.taker cs c.take_from_end.result) same second
+
+pub take_from_words-taker-requires-clause-room : goal.take_from_words-taker-requires-clause-room
+take_from_words-taker-requires-clause-room g c = g.met.T.Taker.fewer c.args.taker c.count_in_words-whole.result c.args.count c.count_in_words-whole.ensures.count c.requires.room
+
+pub take_from_end-requires-clause-room : goal.take_from_end-requires-clause-room
+take_from_end-requires-clause-room g c =
+    let whole = c.count_in_words-whole.result in
+    let xs = drop c.args.at (bits c.args.octets.now) in
+    let by = code_by c.of-coding.result in
+    let codes = map by (plain xs c.from-width.result whole) in
+    let parts : c.args.count ≡ length codes + (c.args.count - whole) = omega (arith, length-codes by xs c.from-width.result whole, c.count_in_words-whole.ensures.count) in
+    g.met.T.Taker.room_after c.args.taker c.take_from_words-taker.result codes (c.args.count - whole) c.take_from_words-taker.ensures (subst (λ (n : ℕ). g.T.Taker.room c.args.taker n) parts c.requires.room)

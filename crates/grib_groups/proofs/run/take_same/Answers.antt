@@ -1,4 +1,5 @@
-use Rattle.std.proofs.Common.{List, sym, subst, ◌∙◌, ap, replicate}
+use Rattle.std.proofs.Common.{ℕ, List, length, sym, subst, ◌∙◌, ap, replicate}
+use Rattle.std.proofs.lemmas.List.{length-replicate}
 use Rattle.grib_base.specs.declared.code.Code.{Code}
 use Rattle.grib_groups.specs.Taking.{code_by}
 use Rattle.grib_groups.proofs.CodeRuns.{plain_zeros}
@@ -9,3 +10,8 @@ returns g c = λ xs.
     let took = g.T.Taker.took in
     let same = c.new-run.ensures.codes ∙ ap (replicate c.args.count) c.code.ensures ∙ sym (plain_zeros (code_by c.args.coding) xs c.args.count) in
     subst (λ (cs : List Code). took c.args.taker cs c.take_each.result) same c.take_each.ensures
+
+pub take_each-requires-clause-room : goal.take_each-requires-clause-room
+take_each-requires-clause-room g c =
+    let long = ap length c.new-run.ensures.codes ∙ length-replicate c.args.count c.code.result in
+    subst (λ (n : ℕ). g.T.Taker.room c.args.taker n) (sym long) c.requires.room

@@ -19,3 +19,8 @@ pub returns : goal.returns
 returns g c =
     let took = g.T.Taker.took in
     subst (λ (cs : List Code). took c.args.taker cs c.take_run.result) c.new-run.ensures.codes c.take_run.ensures
+
+pub take_run-requires-clause-room : goal.take_run-requires-clause-room
+take_run-requires-clause-room g c =
+    let long = ap length c.new-run.ensures.codes ∙ length-codes (code_by c.args.coding) (drop c.args.at (bits c.args.octets.now)) c.args.width c.args.count in
+    subst (λ (n : ℕ). g.T.Taker.room c.args.taker n) (sym long) c.requires.room

@@ -39,9 +39,9 @@ append_changed-requires-in-Some-clause-keys c =
     let section = c.in-Some.section in
     let s = section.octets.now in
     let told = c.in-Some.ensures in
-    let comes = way_comes_at octets i.ahead.turns i.ahead.before c.loop-section.frame section.number section.start s i.ahead.way told.0 told.2 told.1 in
+    let comes = way_comes_at octets i.ahead.turns i.ahead.before c.loop-section.frame section.number section.start s i.ahead.way told.0 told.1 section.itself in
     let range = in_range (last_number i.ahead.before) section.number (follows_tells (last_number i.ahead.before) section.number comes.follows) in
-    section_keys i.ahead.before (placed_at c.loop-section.frame.place s) section.number told.1.number_stands range.0 range.1
+    section_keys i.ahead.before (placed_at c.loop-section.frame.place s) section.number section.itself.number_stands range.0 range.1
     (contents_pass octets c.loop-section.frame i.left s i.ahead told.0)
 
 pub loop-section-preserved : goal.loop-section-preserved
@@ -52,14 +52,14 @@ loop-section-preserved c =
     let section = c.in-Some.section in
     let s = section.octets.now in
     let told = c.in-Some.ensures in
-    let first = ahead_next octets c.loop-section.frame c.next_section.new.frame section.start s i.left i.ahead told.0 told.2 told.3 in
+    let first = ahead_next octets c.loop-section.frame c.next_section.new.frame section.start s i.left i.ahead told.0 told.1 told.2 in
     record {
       left = first.rest;
       ahead = first.ahead;
       written =
           write_more c.loop-section.out.items c.append_changed-in-Some.new.out.items (with_changes changes section.number s)
           (concat (map (λ p. changed changes p.octets) first.rest)) end_mark _ c.in_ok-append_changed-2.ensures
-          (ap (λ (xs : List ℕ). c.loop-section.out.items ++ (xs ++ end_mark)) (sym (changed_next changes i.left first.rest section.start section.number s first.are told.1.number_stands))
+          (ap (λ (xs : List ℕ). c.loop-section.out.items ++ (xs ++ end_mark)) (sym (changed_next changes i.left first.rest section.start section.number s first.are section.itself.number_stands))
           ∙ i.written);
     }
 

@@ -46,9 +46,6 @@ returns-clause-part c =
           (found ∙ (λ i. Some (placed_at (sym c.section.ensures.start i) (sym (c.section.ensures.octets before field.stand) i)))),
       subst (λ (x : List ℕ). c.section.result.octets.now ≡ part_octets x c.args.field c.args.section) c.self.view_is (c.section.ensures.octets before field.stand),
       c.section.ensures.number,
-      c.section.ensures.itself,
-      c.section.ensures.low,
-      c.section.ensures.high,
     )
 
 pub returns-then-places-section-eq0-clause-passes : goal.returns-then-places-section-eq0-clause-passes

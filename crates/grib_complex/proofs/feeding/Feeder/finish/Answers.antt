@@ -16,7 +16,7 @@ returns-in-Refused c = λ s5 mask start s7 agrees.
 pub returns-then-beyond-gt0 : goal.returns-then-beyond-gt0
 returns-then-beyond-gt0 c = λ s5 mask start s7 agrees.
     let reads = subst (λ (o : Option State). StateAgrees s5 mask start (length s7) (drop 5 s7) o) (c.in-Some.is ∙ ap Some c.in-Reads.is) agrees.state in
-    let all = read_whole s5 mask start s7 c.in-Reads.fed c.finish-teller.result reads (c.finish-teller.ensures reads.layout reads.groups reads.first (drop reads.before (drop 5 s7)) reads.so_far) in
+    let all = read_whole s5 mask start s7 c.in-Reads.fed c.finish-teller.result reads (c.finish-teller.ensures.took reads.layout reads.groups reads.first (drop reads.before (drop 5 s7)) reads.so_far) in
     all.some (omega (arith, c.beyond-beyond.ensures, c.if-beyond-gt0.true))
     ∙ ap₂ (λ (o d : ℕ). Some (refusal o ScaledRange d)) (sym agrees.start_is) (sym c.beyond-beyond.ensures)
     ∙ sym (ap Some c.at.ensures)
@@ -24,7 +24,7 @@ returns-then-beyond-gt0 c = λ s5 mask start s7 agrees.
 pub returns : goal.returns
 returns c = λ s5 mask start s7 agrees.
     let reads = subst (λ (o : Option State). StateAgrees s5 mask start (length s7) (drop 5 s7) o) (c.in-Some.is ∙ ap Some c.in-Reads.is) agrees.state in
-    let all = read_whole s5 mask start s7 c.in-Reads.fed c.finish-teller.result reads (c.finish-teller.ensures reads.layout reads.groups reads.first (drop reads.before (drop 5 s7)) reads.so_far) in
+    let all = read_whole s5 mask start s7 c.in-Reads.fed c.finish-teller.result reads (c.finish-teller.ensures.took reads.layout reads.groups reads.first (drop reads.before (drop 5 s7)) reads.so_far) in
     let none : c.finish-teller.result.teller.beyond ≡ 0 = omega (arith, c.beyond-beyond.ensures) in
     let points = c.of.ensures ∙ c.finish.ensures mask (entries_of s5 s7) (all.points none) in
     (all.none none, same_column s5 _ _ _ c.of.result _ agrees.spelled.reference agrees.spelled.e agrees.spelled.d points)

@@ -30,11 +30,11 @@ returns c = λ values octets fed enough.
     let product : (n - 1) * layout.length_bits + layout.length_bits ≡ n * layout.length_bits = subst (λ (k : ℕ). (n - 1) * layout.length_bits + layout.length_bits ≡ k * layout.length_bits) whole (omega (arith, add-mul (n - 1) 1 layout.length_bits)) in
     let fits_3 : (n - 1) * layout.length_bits ≤ 8 * third = omega (arith, product) in
     let references_took = subst (λ (cs : List Code). ReferencesTook start.references cs c.finish.result) (part_codes 0 first layout.reference_bits n octets (omega arith) (omega arith))
-    (c.finish.ensures no_marks (plain_groups layout.reference_bits n) start.references (part 0 first octets) fed.references (part_enough 0 first layout.reference_bits n octets (omega arith) (omega arith))) in
+    (c.finish.ensures.took no_marks (plain_groups layout.reference_bits n) start.references (part 0 first octets) fed.references (part_enough 0 first layout.reference_bits n octets (omega arith) (omega arith))) in
     let widths_took = subst (λ (cs : List Code). WidthsTook start.widths cs c.finish-2.result) (part_codes first second layout.width_bits n octets (omega arith) (omega arith))
-    (c.finish-2.ensures no_marks (plain_groups layout.width_bits n) start.widths (part first second octets) fed.widths (part_enough first second layout.width_bits n octets (omega arith) (omega arith))) in
+    (c.finish-2.ensures.took no_marks (plain_groups layout.width_bits n) start.widths (part first second octets) fed.widths (part_enough first second layout.width_bits n octets (omega arith) (omega arith))) in
     let lengths_took = subst (λ (cs : List Code). LengthsTook start.lengths cs c.finish-lengths.result) (part_codes (first + second) third layout.length_bits (n - 1) octets (omega arith) fits_3)
-    (c.finish-lengths.ensures no_marks (plain_groups layout.length_bits (n - 1)) start.lengths (part (first + second) third octets) fed.lengths (part_enough (first + second) third layout.length_bits (n - 1) octets (omega arith) fits_3)) in
+    (c.finish-lengths.ensures.took no_marks (plain_groups layout.length_bits (n - 1)) start.lengths (part (first + second) third octets) fed.lengths (part_enough (first + second) third layout.length_bits (n - 1) octets (omega arith) fits_3)) in
     let added = subst (λ (k : ℕ). LengthAdded c.finish-lengths.result k c.add.result) c.from.ensures c.add.ensures in
     let lengths_are = lengths_read values start.lengths c.finish-lengths.result c.add.result layout.length_reference layout.length_increment layout.last_length length_numbers
     empty.length_reference empty.length_increment empty.lengths (omega (arith, empty.length_memory, length-plain length_bits layout.length_bits (n - 1))) lengths_took added in
@@ -49,3 +49,6 @@ returns c = λ values octets fed enough.
       length_count = length-set (map code_length (plain length_bits layout.length_bits n)) (n - 1) layout.last_length
           ∙ length-map (plain length_bits layout.length_bits n) code_length ∙ length-plain length_bits layout.length_bits n;
     }
+
+pub add-requires : goal.add-requires
+add-requires c = c.finish-lengths.ensures.room 1 c.requires.feedable.length_room

@@ -28,3 +28,13 @@ returns-clause-fed c = λ values octets is_before fed.
       lengths = subst (λ (os : List ℕ). WasFed LengthsTook no_marks (plain_groups layout.length_bits (n - 1)) fed.start.lengths os c.push-3.result) at_lengths
           (c.push-3.ensures.fed no_marks (plain_groups layout.length_bits (n - 1)) fed.start.lengths (part (reference_octets layout + width_octets layout) (length_octets layout) octets) fed.lengths);
     }
+
+pub returns-clause-feedable : goal.returns-clause-feedable
+returns-clause-feedable c = record {
+  references = c.push.ensures.feedable;
+  widths = c.push-2.ensures.feedable;
+  lengths = c.push-3.ensures.feedable;
+  reference_room = c.push.ensures.room 0 c.requires.feedable.reference_room;
+  width_room = c.push-2.ensures.room 0 c.requires.feedable.width_room;
+  length_room = c.push-3.ensures.room 1 c.requires.feedable.length_room;
+}

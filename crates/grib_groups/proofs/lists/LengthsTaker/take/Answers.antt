@@ -6,6 +6,7 @@ use Rattle.grib_groups.proofs.lists.LengthsTaker.take.Goals as goal
 pub returns : goal.returns
 returns c = record {
   same = c.add.ensures.same;
+  long = λ room. c.add.ensures.long;
   read = λ values read room are.
       let before = c.args.self in
       let is_length : c.from.result + c.from-2.result * c.number.result ≡ before.reference + before.increment * number_of c.args.code =

@@ -1,12 +1,12 @@
-use Rattle.std.proofs.Common.{ℕ, ◌++◌, [], List, Bool, drop, length, sym, ap, arith, subst}
+use Rattle.std.proofs.Common.{ℕ, ◌++◌, ◌∷◌, [], List, Bool, drop, length, sym, ap, arith, subst}
 use Rattle.std.proofs.lemmas.List.{length-append}
 use Rattle.grib_bits.specs.Bits.{bits}
 use Rattle.grib_bits.proofs.OctetBits.{length-bits}
-use Rattle.grib_groups.specs.Taking.{Taken}
+use Rattle.grib_groups.specs.Taking.{Taken, values}
 use Rattle.grib_groups.specs.Table.{groups_in}
 use Rattle.grib_groups.specs.Going.{left_of, IsShort, Went}
-use Rattle.grib_groups.proofs.Taken.{taken_none}
-use Rattle.grib_groups.proofs.Moves.{went_same, went_then}
+use Rattle.grib_groups.proofs.Taken.{taken_none, values-cons}
+use Rattle.grib_groups.proofs.Moves.{room_left, went_same, went_then}
 use Rattle.grib_groups.proofs.numbers.Numbers.push.Goals as goal
 
 -- what was kept is shorter than the next number
@@ -43,3 +43,14 @@ returns-clause-goes g c =
     let second = subst (λ (n : ℕ). Went took layout (left_of c.take_across-taker.new.self groups) (drop n (bits c.args.piece.now)) c.take_across-taker.result (left_of after groups) after.pending c.take_fitting-2.result)
     c.from-3.ensures c.take_fitting-2.ensures.goes in
     went_then took g.met.T.Taker.none g.met.T.Taker.more layout (c.take_across-taker.ensures.goes groups) second
+
+pub take_across-taker-requires-clause-room : goal.take_across-taker-requires-clause-room
+take_across-taker-requires-clause-room g c =
+    let current = c.args.self.now.current in
+    let rest = drop c.args.self.now.next (groups_in c.args.table.now) in
+    let some = (c.requires.ready.pending (omega arith)).some in
+    g.met.T.Taker.fewer c.args.taker 1 (values (current ∷ rest)) (omega (arith, some, values-cons current rest)) c.requires.room
+
+pub take_fitting-requires-2-clause-room : goal.take_fitting-requires-2-clause-room
+take_fitting-requires-2-clause-room g c =
+    room_left g.T.Taker.took g.T.Taker.room g.met.T.Taker.room_after (c.take_across-taker.ensures.goes (groups_in c.args.table.now)) c.requires.room

@@ -27,8 +27,8 @@ code-requires g c =
     let below = small c.args.self.now.pending c.args.piece.now c.args.missing width c.len-pending.result c.take-first.result c.get_bits.result c.requires.missing c.requires.readable.width c.requires.within c.len-pending.ensures.bits c.take-first.ensures.number c.get_bits.ensures in
     omega (arith, below, pow_at_most width c.requires.readable.width, c.of.ensures.small)
 
-pub take-taker-requires : goal.take-taker-requires
-take-taker-requires g c =
+pub take-taker-requires-clause-below : goal.take-taker-requires-clause-below
+take-taker-requires-clause-below g c =
     let width = c.args.self.now.current.width in
     let number = bit_or (c.take-first.result * 2 ^ c.args.missing % 2 ^ 64) c.get_bits.result in
     let below = small c.args.self.now.pending c.args.piece.now c.args.missing width c.len-pending.result c.take-first.result c.get_bits.result c.requires.missing c.requires.readable.width c.requires.within c.len-pending.ensures.bits c.take-first.ensures.number c.get_bits.ensures in

@@ -1,10 +1,12 @@
-use Rattle.std.proofs.Common.{length, ap, arith}
+use Rattle.std.proofs.Common.{◌∷◌, drop, length, ap, arith}
 use Rattle.std.proofs.lemmas.List.{length-drop}
 use Rattle.grib_bits.specs.Bits.{bits}
 use Rattle.grib_bits.proofs.OctetBits.{length-bits}
 use Rattle.grib_groups.specs.Table.{groups_in}
 use Rattle.grib_groups.specs.Going.{IsShort}
-use Rattle.grib_groups.proofs.Moves.{went_then}
+use Rattle.grib_groups.specs.Taking.{values}
+use Rattle.grib_groups.proofs.Taken.{values-cons}
+use Rattle.grib_groups.proofs.Moves.{room_left, went_then}
 use Rattle.grib_groups.proofs.numbers.Numbers.take_fitting.Goals as goal
 use Rattle.grib_groups.proofs.numbers.Numbers.take_fitting.Goals.{After-keep_rest}
 
@@ -24,3 +26,13 @@ returns-then-self-gt0-clause-waits g c = λ _. is_short g c
 pub returns-clause-goes : goal.returns-clause-goes
 returns-clause-goes g c =
     went_then g.T.Taker.took g.met.T.Taker.none g.met.T.Taker.more c.args.layout.now (c.take_some-taker.ensures.goes (groups_in c.args.table.now)) c.take_next_groups.ensures.goes
+
+pub take_some-taker-requires-clause-room : goal.take_some-taker-requires-clause-room
+take_some-taker-requires-clause-room g c =
+    let current = c.args.self.now.current in
+    let rest = drop c.args.self.now.next (groups_in c.args.table.now) in
+    g.met.T.Taker.fewer c.args.taker current.count (values (current ∷ rest)) (omega (arith, values-cons current rest)) c.requires.room
+
+pub take_next_groups-requires-clause-room : goal.take_next_groups-requires-clause-room
+take_next_groups-requires-clause-room g c =
+    room_left g.T.Taker.took g.T.Taker.room g.met.T.Taker.room_after (c.take_some-taker.ensures.goes (groups_in c.args.table.now)) c.requires.room

@@ -1,9 +1,9 @@
 use Rattle.std.proofs.Common.{◌≡◌, ◌+◌, ◌^◌, ◌≤◌, ◌∷◌, [], List, drop, slice_index, sym, ap, ◌∙◌, arith, subst, pow_mono}
 use Rattle.grib_bits.specs.Bits.{bits}
 use Rattle.grib_packing.specs.declared.group.Group.{Group}
-use Rattle.grib_groups.specs.Taking.{Taken}
+use Rattle.grib_groups.specs.Taking.{Taken, values}
 use Rattle.grib_groups.specs.Table.{groups_in}
-use Rattle.grib_groups.proofs.Taken.{taken_next}
+use Rattle.grib_groups.proofs.Taken.{taken_next, values-cons}
 use Rattle.grib_groups.proofs.Listed.{groups_from_index, narrow_at}
 use Rattle.grib_groups.proofs.Moves.{went_same, went_then}
 use Rattle.grib_groups.proofs.numbers.Numbers.take_next_group.Goals as goal
@@ -35,3 +35,15 @@ returns-clause-goes g c =
     groups_from_index table c.requires.read.whole next (omega arith) ∙ ap (λ (group : Group). group ∷ drop (next + 1) groups) (sym c.group-self.ensures.group) in
     let advanced = subst (λ (gs : List Group). Taken layout (current ∷ drop next groups) here [] gs here) following (taken_next layout current (drop next groups) here c.requires.none) in
     went_then took none more layout (went_same took none more layout _ _ here here c.args.taker advanced) (c.take_some.ensures.goes groups)
+
+pub take_some-requires-clause-room : goal.take_some-requires-clause-room
+take_some-requires-clause-room g c =
+    let groups = groups_in c.args.table.now in
+    let current = c.args.self.now.current in
+    let next = c.args.self.now.next in
+    let group = c.group-self.result in
+    let following : drop next groups ≡ group ∷ drop (next + 1) groups =
+    groups_from_index c.args.table.now c.requires.read.whole next (omega arith) ∙ ap (λ (gr : Group). gr ∷ drop (next + 1) groups) (sym c.group-self.ensures.group) in
+    let few : group.count ≤ values (current ∷ drop next groups) =
+    omega (arith, values-cons current (drop next groups), ap values following, values-cons group (drop (next + 1) groups)) in
+    g.met.T.Taker.fewer c.args.taker group.count (values (current ∷ drop next groups)) few c.requires.room

@@ -8,7 +8,7 @@ use Rattle.grib_groups.specs.Table.{groups_in}
 use Rattle.grib_groups.specs.Going.{left_of, IsReadable, IsShort}
 use Rattle.grib_groups.proofs.Taken.{taken_all, values-cons}
 use Rattle.grib_groups.proofs.Listed.{no_groups}
-use Rattle.grib_groups.proofs.Moves.{went_same, went_then}
+use Rattle.grib_groups.proofs.Moves.{room_left, went_same, went_then}
 use Rattle.grib_groups.proofs.numbers.Numbers.take_next_groups.Goals as goal
 use Rattle.grib_groups.proofs.numbers.Numbers.take_next_groups.Goals.{then-loop-self-test+else-self-len, else-loop-self-test}
 
@@ -24,6 +24,8 @@ loop-self-preserved g c =
     record {
       went = went_then took none more layout c.loop-self.invariant.went
           (went_then took none more layout c.take_ready_groups-taker.ensures.goes c.take_next_group-taker.ensures.goes);
+      room = room_left took g.T.Taker.room g.met.T.Taker.room_after c.take_next_group-taker.ensures.goes
+          (room_left took g.T.Taker.room g.met.T.Taker.room_after c.take_ready_groups-taker.ensures.goes c.loop-self.invariant.room);
       readable = c.take_next_group-taker.ensures.to.readable;
       pending = c.take_next_group-taker.ensures.to.pending ∙ c.take_ready_groups-taker.ensures.pending ∙ c.loop-self.invariant.pending;
       within = c.take_next_group-taker.ensures.to.within;
@@ -71,3 +73,7 @@ returns-clause-ready g c = record { readable = c.loop-self.invariant.readable; p
 
 pub returns-clause-waits : goal.returns-clause-waits
 returns-clause-waits g c = λ _. is_short g c
+
+pub take_next_group-taker-requires-clause-room : goal.take_next_group-taker-requires-clause-room
+take_next_group-taker-requires-clause-room g c =
+    room_left g.T.Taker.took g.T.Taker.room g.met.T.Taker.room_after c.take_ready_groups-taker.ensures.goes c.loop-self.invariant.room

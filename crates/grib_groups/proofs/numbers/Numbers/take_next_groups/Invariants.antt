@@ -1,5 +1,6 @@
 use Rattle.std.proofs.Common.{◌≡◌, ◌+◌, ◌-◌, ◌*◌, ◌<◌, ◌≤◌, [], length, drop, vec_len}
 use Rattle.grib_bits.specs.Bits.{bits}
+use Rattle.grib_groups.specs.Taking.{values}
 use Rattle.grib_groups.specs.Table.{groups_in}
 use Rattle.grib_groups.specs.Going.{left_of, IsReadable, Went}
 use Rattle.grib_groups.proofs.numbers.Numbers.take_next_groups.Given as goal
@@ -10,6 +11,7 @@ invariant-loop-self g l = record {
   readable : IsReadable g.T.Taker.limit l.self.current;
   pending : l.self.pending ≡ [];
   within : l.at ≤ 8 * length l.piece;
+  room : g.T.Taker.room l.taker (values (left_of l.self (groups_in l.table)));
   no_more : 0 < l.self.current.count → 8 * length l.piece < l.at + l.self.current.width;
 }
 

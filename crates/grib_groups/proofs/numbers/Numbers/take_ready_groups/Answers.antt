@@ -2,12 +2,12 @@ use Rattle.std.proofs.Common.{◌≡◌, ℕ, ◌+◌, ◌*◌, ◌^◌, ◌≤�
 use Rattle.grib_bits.specs.Bits.{bits}
 use Rattle.grib_bits.proofs.OctetBits.{length-bits}
 use Rattle.grib_packing.specs.declared.group.Group.{Group}
-use Rattle.grib_groups.specs.Taking.{Taken}
+use Rattle.grib_groups.specs.Taking.{Taken, values}
 use Rattle.grib_groups.specs.Table.{groups_in}
 use Rattle.grib_groups.specs.Going.{Went}
-use Rattle.grib_groups.proofs.Taken.{taken_before, taken_next}
+use Rattle.grib_groups.proofs.Taken.{taken_before, taken_next, values-cons}
 use Rattle.grib_groups.proofs.Listed.{groups_from_index, narrow_at}
-use Rattle.grib_groups.proofs.Moves.{went_run, went_same, went_then}
+use Rattle.grib_groups.proofs.Moves.{room_left, went_run, went_same, went_then}
 use Rattle.grib_groups.proofs.numbers.Numbers.take_ready_groups.Goals as goal
 
 pub is_ready-requires : goal.is_ready-requires
@@ -57,12 +57,26 @@ loop-self-preserved g c =
     went_run took layout group rest all at group.count 0 end taker after (omega arith) (omega (arith, size, length-bits c.args.piece.now)) (omega (arith, size)) c.take_at_once-taker.ensures in
     let past = went_same took none more layout (left ∷ rest) rest there there after (taken_next layout left rest there refl) in
     let before = went_same took none more layout rest (current ∷ rest) there there after (taken_before layout current rest there empty) in
+    let turn =
+    went_then took none more layout (went_same took none more layout _ _ here here taker advanced)
+    (went_then took none more layout over (went_then took none more layout past before)) in
     record {
-      went = went_then took none more layout c.loop-self.invariant.went
-          (went_then took none more layout (went_same took none more layout _ _ here here taker advanced)
-          (went_then took none more layout over (went_then took none more layout past before)));
+      went = went_then took none more layout c.loop-self.invariant.went turn;
+      room = room_left took g.T.Taker.room g.met.T.Taker.room_after turn c.loop-self.invariant.room;
       current = c.loop-self.invariant.current;
       next = omega (arith, c.loop-self.invariant.next);
       pending = c.loop-self.invariant.pending;
       within = omega (arith, size);
     }
+
+pub take_at_once-taker-requires-clause-room : goal.take_at_once-taker-requires-clause-room
+take_at_once-taker-requires-clause-room g c =
+    let groups = groups_in c.args.table.now in
+    let current = c.loop-self.self.current in
+    let next = c.loop-self.self.next in
+    let group = c.group-group.result in
+    let following : drop next groups ≡ group ∷ drop (next + 1) groups =
+    groups_from_index c.args.table.now c.requires.read.whole next (omega arith) ∙ ap (λ (gr : Group). gr ∷ drop (next + 1) groups) (sym c.group-group.ensures.group) in
+    let few : group.count ≤ values (current ∷ drop next groups) =
+    omega (arith, values-cons current (drop next groups), ap values following, values-cons group (drop (next + 1) groups)) in
+    g.met.T.Taker.fewer c.loop-self.taker group.count (values (current ∷ drop next groups)) few c.loop-self.invariant.room

@@ -1,5 +1,6 @@
 use Rattle.std.proofs.Common.{◌≡◌, ◌-◌, ◌*◌, ◌≤◌, length, drop, vec_len}
 use Rattle.grib_bits.specs.Bits.{bits}
+use Rattle.grib_groups.specs.Taking.{values}
 use Rattle.grib_groups.specs.Table.{groups_in}
 use Rattle.grib_groups.specs.Going.{left_of, Went}
 use Rattle.grib_groups.proofs.numbers.Numbers.take_ready_groups.Given as goal
@@ -10,6 +11,7 @@ invariant-loop-self g l = record {
   current : l.self.current ≡ l.fn.self.current;
   next : l.fn.self.next ≤ l.self.next;
   pending : l.self.pending ≡ l.fn.self.pending;
+  room : g.T.Taker.room l.taker (values (left_of l.self (groups_in l.table)));
   within : l.at ≤ 8 * length l.piece;
 }
 

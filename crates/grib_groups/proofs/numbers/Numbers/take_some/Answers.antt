@@ -13,3 +13,6 @@ returns-clause-goes g c = λ groups.
     let product : count * c.from-width.result ≡ count * group.width = ap (λ (n : ℕ). count * n) c.from-width.ensures in
     went_run g.T.Taker.took c.args.layout.now group (drop c.args.self.now.next groups) (bits c.args.piece.now) c.args.at.now count (group.count - count) _ c.args.taker c.take_numbers-taker.result
     (omega arith) (omega (arith, product, c.count_within-count.ensures.within, length-bits c.args.piece.now)) place c.take_numbers-taker.ensures
+
+pub take_numbers-taker-requires-clause-room : goal.take_numbers-taker-requires-clause-room
+take_numbers-taker-requires-clause-room g c = g.met.T.Taker.fewer c.args.taker c.count_within-count.result c.args.self.now.current.count c.count_within-count.ensures.count c.requires.room
