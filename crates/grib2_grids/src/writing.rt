@@ -14,7 +14,8 @@ use crate::{Gaussian, Grid, GridSection, Lambert, LatLon, Mercator, Polar, Rotat
 use grib_bits::{BitWriter, write_list, write_u8, write_u16, write_u32};
 
 /// Writes Section 3 without surplus. Reading the octets gives the value again. What `read_grid` answers
-/// can be written, and so can each other value that has the same shape. The writer has the memory already.
+/// can be written, and so can each value whose list of rows and number of points agree with its grid. The
+/// writer has the memory already.
 pub fn write_grid(value: &GridSection, out: &mut BitWriter)
     requires whole { length out.old.bits % 8 ≡ 0 }
     requires writable { IsWritable value.now }
