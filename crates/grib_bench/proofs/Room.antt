@@ -8,8 +8,9 @@ use Rattle.grib_packing.specs.declared.layout.Layout.{Layout}
 use Rattle.grib_packing.specs.Groupings.{joined, runs, length_bits, width_of}
 use Rattle.grib_packing.specs.Packed.{reference_of, group_fields, group_parts}
 use Rattle.grib_packing.proofs.Bounds.{reference_bits-few, width_bits-few, widths_fit}
+use Rattle.grib_packing.proofs.Fields.{padded_octets, length-padded8}
 use Rattle.grib_groups.specs.Encoding.{LaysOut}
-use Rattle.grib_groups.proofs.Back.{length-group, padded_octets, length-padded8, length-runs}
+use Rattle.grib_groups.proofs.Back.{length-group, length-runs}
 use Rattle.grib_groups.proofs.Parts.{length-parts}
 
 numbers_most : (k b m : ℕ) (lengths : List ℕ) (codes : List Code) → k ≤ 2 → All (λ run. width_of k run < m) (runs lengths codes)

@@ -1,4 +1,4 @@
-//! Tests of the crates up to the packings, over their public calls alone, a module for each crate. What a
+//! Tests of the crates up to the packings, and of decimals, over their public calls alone, a module for each crate. What a
 //! contract says for every input is not tried again: expected values are from outside, worked by hand or
 //! made by another program.
 #![tactic(auto)]
@@ -11,6 +11,8 @@ mod bitmap;
 mod bits;
 #[cfg(test)]
 mod complex;
+#[cfg(test)]
+mod decimal;
 #[cfg(test)]
 mod dyadic;
 #[cfg(test)]

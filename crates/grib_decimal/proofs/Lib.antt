@@ -1,0 +1,8 @@
+pub mod Digits
+pub mod Powers
+pub mod Sums
+pub mod Quicks
+pub mod Roundings
+pub mod Factors
+pub mod Fields
+pub mod Orders

@@ -1,0 +1,22 @@
+//! Values of points as exact decimals, and the least and the greatest value of a field.
+#![tactic(auto)]
+
+mod bounds;
+mod divisor;
+mod extreme;
+mod fault;
+pub mod laws;
+mod numerators;
+mod power;
+mod prepared;
+mod quick;
+mod rounded;
+mod rounding;
+mod scale;
+mod text;
+mod wide;
+
+pub use bounds::extremes;
+pub use extreme::Extremes;
+pub use fault::DecimalFault;
+pub use scale::{DecimalScale, decimal_text};
