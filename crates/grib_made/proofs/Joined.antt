@@ -6,24 +6,8 @@ use Rattle.grib_packing.specs.declared.written.Packed.{Packed}
 use Rattle.grib_made.specs.Made.{made_indicator, made_identification, made_grid, made_product, sections_with, message_with}
 
 -- octets behind those that were added before
-added : (old before now more next : List ℕ) → before ≡ old ++ more → now ≡ before ++ next → now ≡ old ++ (more ++ next)
+pub added : (old before now more next : List ℕ) → before ≡ old ++ more → now ≡ before ++ next → now ≡ old ++ (more ++ next)
 added old before now more next first second = second ∙ ap (λ (xs : List ℕ). xs ++ next) first ∙ append_assoc old more next
-
--- pieces one after another
-module _ (old at_1 at_2 at_3 at_4 a b c d : List ℕ) (first : at_1 ≡ old ++ a) (second : at_2 ≡ at_1 ++ b) (third : at_3 ≡ at_2 ++ c) (fourth : at_4 ≡ at_3 ++ d) where
-  pub added_4 : at_4 ≡ old ++ (a ++ b ++ c ++ d)
-  added_4 =
-      added old at_3 at_4 (a ++ b ++ c) d (added old at_2 at_3 (a ++ b) c (added old at_1 at_2 a b first second) third) fourth
-
-module _ (old at_1 at_2 at_3 at_4 at_5 a b c d e : List ℕ) (first : at_1 ≡ old ++ a) (second : at_2 ≡ at_1 ++ b) (third : at_3 ≡ at_2 ++ c) (fourth : at_4 ≡ at_3 ++ d)
-    (fifth : at_5 ≡ at_4 ++ e) where
-  pub added_5 : at_5 ≡ old ++ (a ++ b ++ c ++ d ++ e)
-  added_5 = added old at_4 at_5 (a ++ b ++ c ++ d) e (added_4 old at_1 at_2 at_3 at_4 a b c d first second third fourth) fifth
-
-module _ (old at_1 at_2 at_3 at_4 at_5 at_6 a b c d e f : List ℕ) (first : at_1 ≡ old ++ a) (second : at_2 ≡ at_1 ++ b) (third : at_3 ≡ at_2 ++ c) (fourth : at_4 ≡ at_3 ++ d)
-    (fifth : at_5 ≡ at_4 ++ e) (sixth : at_6 ≡ at_5 ++ f) where
-  pub added_6 : at_6 ≡ old ++ (a ++ b ++ c ++ d ++ e ++ f)
-  added_6 = added old at_5 at_6 (a ++ b ++ c ++ d ++ e) f (added_5 old at_1 at_2 at_3 at_4 at_5 a b c d e first second third fourth fifth) sixth
 
 -- the parts of a message, one after another
 pub joined : (ni nj total : ℕ) (parts : Packed) → total ≡ 147 + length parts.section5 + length parts.section6 + length parts.section7

@@ -1,48 +1,76 @@
 //! The message that is made from a number.
 
-ghost use Rattle.std.specs.Prelude.{◌≡◌, ◌+◌, ◌*◌, ◌^◌, ◌<◌, ◌≤◌, ◌++◌, length, None, IfOk, OnOk};
+ghost use Rattle.std.specs.Prelude.{◌≡◌, ◌+◌, ◌^◌, ◌<◌, ◌≤◌, ◌++◌, length, None, IfOk, OnOk};
 ghost use Rattle.grib_packing.specs.Misfits.{ToSimple, first_misfit};
 ghost use Rattle.grib_packing.specs.Packed.{IsSimple};
 ghost use Rattle.grib_packing.specs.Written.{MayBePacked};
 ghost use Rattle.grib_made.specs.Made.{made, made_grid, made_identification, made_indicator, made_product, message_with};
+ghost use Rattle.grib_made.specs.Sections.{grid_with, product_with};
 
 use crate::points::make_points;
 use grib_base::List;
-use grib_packing::{Column, PackFault, Packed, Packing};
+use grib_packing::{Column, PackFault, Packed, Packing, octets_written, room_for};
 use grib_simple::SimplePacking;
+use grib2_grids::{Grid, GridSection, LatLon, write_grid};
+use grib2_products::{Instant, Product, ProductSection, write_product};
+use grib2_sections::{Identification, write_identification};
 use std::alloc::{AllocError, Global};
 
 /// Octets 1 to 8 of Section 0: edition 2, discipline 0.
 const INDICATOR: [u8; 8] = [0x47, 0x52, 0x49, 0x42, 0x00, 0x00, 0x00, 0x02];
 
 /// Section 1: centre 98, forecast products of 2024-01-15 12:00:00.
-const IDENTIFICATION: [u8; 21] = [
-    0x00, 0x00, 0x00, 0x15, 0x01, 0x00, 0x62, 0x00, 0x00, 0x02, 0x00, 0x01, 0x07, 0xe8, 0x01, 0x0f,
-    0x0c, 0x00, 0x00, 0x00, 0x01,
-];
+const IDENTIFICATION: Identification = Identification {
+    centre: 98,
+    sub_centre: 0,
+    master: 2,
+    local: 0,
+    significance: 1,
+    year: 2024,
+    month: 1,
+    day: 15,
+    hour: 12,
+    minute: 0,
+    second: 0,
+    status: 0,
+    data_type: 1,
+};
 
-/// Octets 1 to 6 of Section 3, before the number of points.
-const GRID_HEAD: [u8; 6] = [0x00, 0x00, 0x00, 0x48, 0x03, 0x00];
+/// Template 4.0: temperature, 6 hours ahead, 2 m above ground.
+const TEMPERATURE: Instant = Instant {
+    category: 0,
+    number: 0,
+    process: 2,
+    background: MISSING_OCTET,
+    generator: 1,
+    cutoff_hours: 0,
+    cutoff_minutes: 0,
+    unit: 1,
+    time: 6,
+    surface1: 103,
+    scale1: 0,
+    value1: 2,
+    surface2: MISSING_OCTET,
+    scale2: MISSING_OCTET,
+    value2: MISSING,
+};
 
-/// Octets 11 to 30 of Section 3, template 3.0, before Ni and Nj.
-const GRID_EARTH: [u8; 20] = [
-    0x00, 0x00, 0x00, 0x00, 0x06, 0xff, 0xff, 0xff, 0xff, 0xff, 0xff, 0xff, 0xff, 0xff, 0xff, 0xff,
-    0xff, 0xff, 0xff, 0xff,
-];
+/// A number of one octet that is missing.
+const MISSING_OCTET: u8 = 255;
 
-/// Octets 39 to 72 of Section 3: from 90 N 0 E to 90 S 359 E, increments not given.
-const GRID_CORNERS: [u8; 34] = [
-    0x00, 0x00, 0x00, 0x00, 0xff, 0xff, 0xff, 0xff, 0x05, 0x5d, 0x4a, 0x80, 0x00, 0x00, 0x00, 0x00,
-    0x00, 0x85, 0x5d, 0x4a, 0x80, 0x15, 0x65, 0xe7, 0xc0, 0xff, 0xff, 0xff, 0xff, 0xff, 0xff, 0xff,
-    0xff, 0x00,
-];
+/// A number of four octets that is missing.
+const MISSING: u32 = 0xffff_ffff;
 
-/// Section 4, template 4.0: temperature, 6 hours ahead, 2 m above ground.
-const PRODUCT: [u8; 34] = [
-    0x00, 0x00, 0x00, 0x22, 0x04, 0x00, 0x00, 0x00, 0x00, 0x00, 0x00, 0x02, 0xff, 0x01, 0x00, 0x00,
-    0x00, 0x01, 0x00, 0x00, 0x00, 0x06, 0x67, 0x00, 0x00, 0x00, 0x00, 0x02, 0xff, 0xff, 0xff, 0xff,
-    0xff, 0xff,
-];
+/// The bit of a number of four octets that says that it is below 0.
+const BELOW_ZERO: u32 = 0x8000_0000;
+
+/// A right angle and 359 degrees, in 10^-6 degree.
+const RIGHT_ANGLE: u32 = 90_000_000;
+
+const LAST_MERIDIAN: u32 = 359_000_000;
+
+/// The octets of Sections 1, 3 and 4 together.
+const FIRST_SECTIONS: u32 = 127;
 
 /// The octets of Sections 0, 1, 3 and 4 and of the end mark together.
 const FIXED_OCTETS: usize = 147;
@@ -91,7 +119,9 @@ fn pack(alloc: Global, column: &Column) -> Result<Packed, AllocError>
 
 /// The message of nj rows of ni points with these sections.
 fn join(alloc: Global, ni: u32, nj: u32, parts: &Packed) -> Result<Vec<u8>, AllocError>
+    requires some_columns { 1 ≤ ni }
     requires few_columns { ni ≤ 4096 }
+    requires some_rows { 1 ≤ nj }
     requires few_rows { nj ≤ 4096 }
     requires short { length parts.now.section5 + length parts.now.section6
         + length parts.now.section7 ≤ 268435000 }
@@ -102,7 +132,7 @@ fn join(alloc: Global, ni: u32, nj: u32, parts: &Packed) -> Result<Vec<u8>, Allo
     let section7 = parts.section7.as_slice();
     let total = FIXED_OCTETS + section5.len() + section6.len() + section7.len();
     let mut message = Vec::with_capacity(alloc, total)?;
-    add_front(total as u64, ni, nj, &mut message)?;
+    add_front(alloc, total as u64, ni, nj, &mut message)?;
     message.extend_from_slice(section5)?;
     message.extend_from_slice(section6)?;
     message.extend_from_slice(section7)?;
@@ -111,31 +141,83 @@ fn join(alloc: Global, ni: u32, nj: u32, parts: &Packed) -> Result<Vec<u8>, Allo
 }
 
 /// Adds Sections 0, 1, 3 and 4 of a message of this many octets.
-fn add_front(total: u64, ni: u32, nj: u32, message: &mut Vec<u8>) -> Result<(), AllocError>
+fn add_front(
+    alloc: Global,
+    total: u64,
+    ni: u32,
+    nj: u32,
+    message: &mut Vec<u8>,
+) -> Result<(), AllocError>
+    requires some_columns { 1 ≤ ni }
     requires few_columns { ni ≤ 4096 }
+    requires some_rows { 1 ≤ nj }
     requires few_rows { nj ≤ 4096 }
     ensures { OnOk result (message.new.items ≡ message.old.items
         ++ (made_indicator total ++ made_identification ++ made_grid ni nj ++ made_product)) }
 {
     message.extend_from_slice(&INDICATOR)?;
     message.extend_from_slice(&total.to_be_bytes())?;
-    message.extend_from_slice(&IDENTIFICATION)?;
-    add_grid(ni, nj, message)?;
-    message.extend_from_slice(&PRODUCT)?;
+    message.extend_from_slice(first_sections(alloc, ni, nj)?.as_slice())?;
     Ok(())
 }
 
-/// Adds Section 3, of nj rows of ni points.
-fn add_grid(ni: u32, nj: u32, message: &mut Vec<u8>) -> Result<(), AllocError>
+/// Sections 1, 3 and 4, of nj rows of ni points.
+fn first_sections(alloc: Global, ni: u32, nj: u32) -> Result<List<u8>, AllocError>
+    requires some_columns { 1 ≤ ni }
+    requires few_columns { ni ≤ 4096 }
+    requires some_rows { 1 ≤ nj }
+    requires few_rows { nj ≤ 4096 }
+    ensures { IfOk result (λ sections. sections
+        ≡ made_identification ++ made_grid ni nj ++ made_product) }
+{
+    let mut out = room_for(alloc, FIRST_SECTIONS)?;
+    write_identification(&IDENTIFICATION, &mut out);
+    write_grid(&grid(alloc, ni, nj), &mut out);
+    write_product(&product(alloc), &mut out);
+    Ok(octets_written(out))
+}
+
+/// Section 3: nj rows of ni points, from 90 N 0 E to 90 S 359 E, increments not given.
+fn grid(alloc: Global, ni: u32, nj: u32) -> GridSection
     requires few_columns { ni ≤ 4096 }
     requires few_rows { nj ≤ 4096 }
-    ensures { OnOk result (message.new.items ≡ message.old.items ++ made_grid ni nj) }
+    ensures { result ≡ grid_with ni nj }
 {
-    message.extend_from_slice(&GRID_HEAD)?;
-    message.extend_from_slice(&(ni * nj).to_be_bytes())?;
-    message.extend_from_slice(&GRID_EARTH)?;
-    message.extend_from_slice(&ni.to_be_bytes())?;
-    message.extend_from_slice(&nj.to_be_bytes())?;
-    message.extend_from_slice(&GRID_CORNERS)?;
-    Ok(())
+    GridSection {
+        points: ni * nj,
+        list_octets: 0,
+        list_meaning: 0,
+        rows: List::of(Vec::new(alloc)),
+        grid: Grid::LatLon(LatLon {
+            shape: 6,
+            radius_scale: MISSING_OCTET,
+            radius: MISSING,
+            major_scale: MISSING_OCTET,
+            major: MISSING,
+            minor_scale: MISSING_OCTET,
+            minor: MISSING,
+            ni,
+            nj,
+            basic: 0,
+            subdivisions: MISSING,
+            la1: RIGHT_ANGLE,
+            lo1: 0,
+            flags: 0,
+            la2: BELOW_ZERO | RIGHT_ANGLE,
+            lo2: LAST_MERIDIAN,
+            di: MISSING,
+            dj: MISSING,
+            scanning: 0,
+        }),
+    }
+}
+
+/// Section 4, without coordinate values.
+fn product(alloc: Global) -> ProductSection
+    ensures { result ≡ product_with }
+{
+    ProductSection {
+        coordinates: List::of(Vec::new(alloc)),
+        product: Product::Instant(TEMPERATURE),
+    }
 }

@@ -1,0 +1,6 @@
+mod Turns
+mod Runs
+mod Rows
+mod Corners
+mod Octets
+mod Kept
