@@ -5,3 +5,4 @@ mod Corners
 mod Octets
 mod Kept
 mod Accepted
+mod Uncaused

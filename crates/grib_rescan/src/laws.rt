@@ -10,8 +10,8 @@ ghost use Rattle.grib_rescan.specs.declared.cause.GridCause.TheVariants.{ScanMod
 ghost use Rattle.grib_bits.specs.Octets.{octets, signed_octets, octet_list};
 ghost use Rattle.grib_base.specs.Rows.{first_fault};
 ghost use Rattle.grib2_grids.specs.Grid.{grid_rows};
-ghost use Rattle.grib_rescan.specs.Sections.{rescanned_section, cropped_section, latitude_at, longitude_at, AreApart, IsLatLon};
-ghost use Rattle.grib_rescan.specs.Causes.{rescan_cause_of, crop_cause_of};
+ghost use Rattle.grib_rescan.specs.Sections.{rescanned_section, cropped_section, latitude_at, longitude_at, AreApart, IsLatLon, HasPoints, HasTemplate};
+ghost use Rattle.grib_rescan.specs.Causes.{rescan_cause_of, crop_cause_of, CanBeCut};
 ghost use Rattle.grib_rescan.specs.Worked.{north, south, west, east, grid, points_of, area_of};
 ghost use Rattle.grib_rescan.specs.Points.{IsBox, point, width, height, rescanned_points, cropped_points};
 
@@ -89,6 +89,15 @@ pub fn a_new_grid_is_accepted()
     ensures rescanned { (s : List ℕ) → IsLatLon s → IsLatLon (rescanned_section s) }
     ensures cropped { (area : Rectangle) (s : List ℕ) → IsLatLon s → IsBox area (octets s 31 34) (octets s 35 38)
         → IsLatLon (cropped_section area s) }
+{}
+
+/// What is known where no row refuses a Section 3 and no cause holds: the conditions of what makes the new one.
+pub fn what_has_no_cause()
+    ensures template { (s : List ℕ) → first_fault (grid_rows s) ≡ None → HasTemplate s }
+    ensures points { (s : List ℕ) → IsLatLon s → HasPoints s }
+    ensures rescanned { (s : List ℕ) → first_fault (grid_rows s) ≡ None → rescan_cause_of s ≡ None → IsLatLon s }
+    ensures cropped { (area : Rectangle) (s : List ℕ) → first_fault (grid_rows s) ≡ None
+        → crop_cause_of area s ≡ None → CanBeCut area s }
 {}
 
 /// A grid whose rows go from the south to the north, and one whose rows go from the east to the west and
