@@ -354,7 +354,7 @@ fn pack_simply(column: &Column) -> Result<Packed, Fault> {
 
 // Codes.
 
-/// So many codes are reserved for missing points.
+/// This many codes are reserved for missing points.
 fn management(points: &[Point]) -> u8 {
     if points.contains(&Point::Missing2) {
         2

@@ -3,7 +3,7 @@
 # for each field of ecCodes (Debian's libeccodes-tools) on the same messages. A ratio is the time of ecCodes over
 # ours: above 1, ours is the faster.
 #
-#     bench/select.sh [FIELDS [SIDE]]     so many fields of SIDE times SIDE points, 400 and 256 where none is given
+#     bench/select.sh [FIELDS [SIDE]]     this many fields of SIDE times SIDE points, 400 and 256 where none is given
 #
 # The fields lie on 8 levels, of which one is picked, so that one field of eight is written. Beside each ratio stands
 # the part that `check` takes of the time of ours: the rows of acceptance.

@@ -53,7 +53,7 @@ impl Numbers {
         }
     }
 
-    /// The next number after the last one. Numbers whose bits change have so many now.
+    /// The next number after the last one. Numbers whose bits change have this many now.
     fn next(self, last: i64, bits: u32, random: &mut Random) -> i64
         requires some { 1 ≤ bits }
         requires most { bits ≤ 32 }

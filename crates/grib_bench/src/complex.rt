@@ -19,7 +19,7 @@ use grib_packing::{Column, Point, read_simple};
 use std::alloc::Global;
 use std::env::Args;
 
-/// Each so many points one is looked at.
+/// One of this many points is looked at.
 const STEP: usize = 4096;
 
 /// The sum of some of the points, or of the acceptances.
@@ -132,7 +132,7 @@ fn data(alloc: Global, shape: Shape) -> Result<Vec<u8>> {
     Ok(octets)
 }
 
-/// Section 5 of a field in groups, if it is accepted and has so many values.
+/// Section 5 of a field in groups, if it is accepted and has this many values.
 fn grouped(representation: &[u8], points: u32, values: u32) -> Result<Section<'_>>
     ensures accepted { IfOk result (λ section. packing_fault section.octets.now points ≡ None) }
     ensures template { IfOk result (λ section. (packing_template section.octets.now ≡ 2) ⊎ (packing_template section.octets.now ≡ 3)) }
@@ -150,7 +150,7 @@ fn grouped(representation: &[u8], points: u32, values: u32) -> Result<Section<'_
     Ok(section5)
 }
 
-/// The column of a field in which no point is left out, and whose data come in pieces of so many octets.
+/// The column of a field in which no point is left out, and whose data come in pieces of this many octets.
 fn fed_column(
     alloc: Global,
     representation: &[u8],

@@ -9,7 +9,7 @@ use anyhow::{Result, ensure};
 use grib_packing::{Column, Point};
 use std::alloc::Global;
 
-/// Each so many points one is looked at.
+/// One of this many points is looked at.
 const STEP: usize = 4096;
 
 /// What a field is like.

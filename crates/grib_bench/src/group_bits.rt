@@ -20,7 +20,7 @@ fn number_at(octets: &[u8], at: u64, bits: u8) -> Result<u64> {
     Ok(get_bits(octets, at, u32::from(bits)))
 }
 
-/// The bits of the octets that a list of so many numbers of so many bits takes.
+/// The bits of the octets that a list of this many numbers of this many bits takes.
 fn list_bits(count: u32, bits: u8) -> u64
     ensures { result ≤ 2 ^ 41 }
 {

@@ -21,10 +21,10 @@ use grib_split::fewest_lengths;
 use std::alloc::{AllocError, Global};
 use std::env::Args;
 
-/// So many times the numbers are written.
+/// This many times the numbers are written.
 const PASSES: u32 = 8;
 
-/// Each so many octets one is looked at.
+/// One of this many octets is looked at.
 const STEP: usize = 4096;
 
 /// The sum of some octets of what was written.
@@ -73,7 +73,7 @@ struct Groups {
     layout: Layout,
 }
 
-/// The sum of some octets of so many random numbers of so many bits, which are written several times.
+/// The sum of some octets of this many random numbers of this many bits, which are written several times.
 fn written_sum(alloc: Global, writing: Writing, count: u32, width: u32) -> Result<u64> {
     ensure!(count >= 1 && count <= 33_554_432, "1 to 33,554,432 numbers");
     ensure!(width >= 1 && width <= 24, "1 to 24 bits");
@@ -94,7 +94,7 @@ fn written_sum(alloc: Global, writing: Writing, count: u32, width: u32) -> Resul
     Ok(sum)
 }
 
-/// Random numbers of at most so many bits.
+/// Random numbers of at most this many bits.
 fn random_numbers(alloc: Global, count: u32, width: u32) -> Result<Vec<u64>, AllocError>
     requires width { 1 ≤ width }
     requires few { width ≤ 24 }
@@ -155,7 +155,7 @@ fn groups_of(alloc: Global, codes: &[Code]) -> Result<Groups, AllocError>
     })
 }
 
-/// The octets of the numbers one by one, with room for so many.
+/// The octets of the numbers one by one, with room for this many.
 fn numbers_written(
     alloc: Global,
     numbers: &[u64],
@@ -201,7 +201,7 @@ fn groups_written(
     Ok(out.into_octets())
 }
 
-/// The bits that groups of so many codes take at most.
+/// The bits that groups of this many codes take at most.
 fn room_for(count: u64, layout: &Layout) -> u64
     requires count { count ≤ 33554432 }
     requires widths { layout.now.width_bits ≤ 6 }

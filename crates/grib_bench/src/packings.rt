@@ -9,7 +9,7 @@ use grib_packing::{Column, PackFault, Packed, Packing, read_simple};
 use grib_simple::SimplePacking;
 use std::alloc::Global;
 
-/// Of a large field, each so many octets one is looked at.
+/// Of a large field, one of this many octets is looked at.
 const STEP: usize = 61;
 
 /// How a column is packed.
@@ -50,7 +50,7 @@ pub fn pack(alloc: Global, way: Way, column: &Column, kind: u8) -> Result<Packed
     }
 }
 
-/// The column that the sections of a field of so many points give.
+/// The column that the sections of a field of this many points give.
 pub fn unpack(alloc: Global, packed: &Packed, points: u32) -> Result<Column> {
     let representation = packed.section5.as_slice();
     let Ok(simple) = read_simple(&section(5, representation)?, points) else {

@@ -20,7 +20,7 @@ impl Random {
         self.state
     }
 
-    /// The upper bits of the next number, so many of them.
+    /// The upper bits of the next number, this many of them.
     pub fn bits(&mut self, count: u32) -> u32
         requires some { 1 ≤ count }
         requires most { count ≤ 32 }

@@ -14,7 +14,7 @@ use grib_simple::{unpack_numbers, unpack_points};
 use std::alloc::{AllocError, Global};
 use std::env::Args;
 
-/// Each so many numbers one is looked at.
+/// One of this many numbers is looked at.
 const STEP: usize = 4096;
 
 /// The sum of some of the numbers.

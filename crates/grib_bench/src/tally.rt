@@ -11,7 +11,7 @@ use grib_packing::{Column, PackFault, Packed};
 use std::alloc::Global;
 use std::fmt;
 
-/// So many points a column has at most whose bits are counted.
+/// This many points a column has at most whose bits are counted.
 const SHORT: u32 = 12;
 
 /// How many columns were packed and why others were not, and what was written.
@@ -33,7 +33,7 @@ pub struct Tally {
     bits: u64,
 }
 
-/// What becomes of so many random columns, which follow from this number.
+/// What becomes of this many random columns, which follow from this number.
 pub fn tally_of(alloc: Global, columns: u32, seed: u32) -> Result<Tally> {
     let mut random = Random::of(seed);
     let mut tally = Tally::none();

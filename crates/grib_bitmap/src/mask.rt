@@ -38,7 +38,7 @@ pub struct Run {
 }
 
 impl Mask {
-    /// A mask that leaves out none of so many points.
+    /// A mask that leaves out none of this many points.
     pub fn all(alloc: Global, points: u32) -> Result<Mask, AllocError>
         ensures { IfOk result (λ mask. mask ≡ replicate points true) }
     {
@@ -59,7 +59,7 @@ impl Mask {
         Ok(Mask { words, points })
     }
 
-    /// The same mask once more.
+    /// A copy of the mask.
     pub fn copy(&self, alloc: Global) -> Result<Mask, AllocError>
         ensures { IfOk result (λ mask. mask ≡ self.now) }
     {

@@ -51,7 +51,7 @@ fn first_word(octets: &[u8]) -> u64
     BigEndian::read_u64(octets)
 }
 
-/// The same where there are fewer than eight.
+/// The number where there are fewer than eight octets.
 #[cold]
 #[inline(never)]
 fn last_word(octets: &[u8]) -> u64

@@ -20,7 +20,7 @@ use Rattle.grib_cli.specs.declared.words.JobFault.{JobFault}
 use Rattle.grib_cli.specs.declared.words.JobFault.TheVariants as faults
 use Rattle.grib_cli.specs.Words.{outcome_of, IsAsked, job_of}
 
--- the end of a run answers the outcome, or a fault of writing or want of memory
+-- the end of a run answers the outcome, or a fault of writing, or that there is no memory
 abbrev pub OneOf : Outcome → Outcome → Type 0
 OneOf outcome result = (result ≡ outcome) ⊎ ((result ≡ WriteFault) ⊎ (result ≡ Memory))
 
@@ -51,7 +51,7 @@ by_asked asked fault P Q (inl same) own any other = subst (λ r. MatchResult r P
 by_asked (Ok job) fault P Q (inr memory) own any other = let same : fault ≡ faults.Memory = cc in any same job
 by_asked (Err f) fault P Q (inr memory) own any other = let same : fault ≡ faults.Memory = cc in other same f
 
--- ---- want of memory
+-- ---- no memory
 
 pub cut_memory : (fault : JobFault) (result : Outcome) → fault ≡ faults.Memory → OneOf (outcome_of fault) result → is_cut_short result ≡ true
 cut_memory fault result memory (inl same) = ap is_cut_short (same ∙ ap outcome_of memory)
@@ -101,7 +101,7 @@ runs_nothing (Split name) result left before now cut did = runs_task (task (Spli
 runs_nothing (Set changes) result left before now cut did = runs_task (task (Set changes)) result left before now cut did
 runs_nothing (Repack target) result left before now cut did = runs_task (task (Repack target)) result left before now cut did
 
--- a front of the note of want of memory
+-- a front of the note that there is no memory
 pub fronts_memory : (job : Job) (left : Option (List ℕ)) (f f_now s s_now : ℕ) (a b : Option (List ℕ)) → AppendsFront a b (note_of Memory)
     → NotesJobFront job left f f_now s s_now a b
 fronts_memory (Make seed ni nj target) left f f_now s s_now a b front = inr front

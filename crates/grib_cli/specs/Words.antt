@@ -67,7 +67,7 @@ job_of_reading (Err word) words = Err (Usage word)
 abbrev pub job_of : List (List ℕ) → Result Job JobFault
 job_of words = job_of_reading (reading words) (drop 1 words)
 
--- a result is this one, but for want of memory
+-- a result is this one, unless there is no memory
 abbrev pub IsUnlessMemory : Result Job JobFault → Result Job JobFault → Type 0
 IsUnlessMemory result expected = (result ≡ expected) ⊎ (result ≡ Err Memory)
 

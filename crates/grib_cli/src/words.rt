@@ -28,7 +28,7 @@ pub enum JobFault {
     Usage(u64),
     /// They ask for a command that is not built so far.
     NotBuilt,
-    /// Want of memory.
+    /// There is no memory.
     Memory,
 }
 

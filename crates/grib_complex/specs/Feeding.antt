@@ -77,7 +77,7 @@ StateAgrees s5 mask start l octets (Some (Begins beginning)) = BeginningAgrees s
 StateAgrees s5 mask start l octets (Some (Reads fed)) = ReadingAgrees s5 mask start l octets fed
 StateAgrees s5 mask start l octets (Some (Refused fault)) = IsFaultOf s5 start l octets fault
 
--- The state of some octets, so many of them.
+-- The state of some octets, this many of them.
 pub record IsFedState (start l count : ℕ) (state : State) : Type 0 where
   pub s5 : List ℕ
   pub mask : List Bool

@@ -13,7 +13,7 @@ abbrev pub HasNumbersOf : Representation → List ℕ → Type 0
 HasNumbersOf (Simple numbers) s5 = (packing_template s5 ≡ 0) × simple.Spelled numbers s5
 HasNumbersOf (Complex numbers) s5 = ((packing_template s5 ≡ 2) ⊎ (packing_template s5 ≡ 3)) × complex.Spelled numbers s5
 
--- what this Section 5 says, which no row of the profile refuses for a grid of so many points
+-- what this Section 5 says, which no row of the profile refuses for a grid of this many points
 pub record Represents (representation : Representation) (s5 : List ℕ) : Type 0 where
   pub numbers : HasNumbersOf representation s5
   pub points : ℕ

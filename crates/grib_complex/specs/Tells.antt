@@ -16,7 +16,7 @@ abbrev pub telling_of : Option Run → Telling
 telling_of None = Plainly
 telling_of (Some run) = After run.told run.last
 
--- No number of so many more codes below the limit can be out of range.
+-- No number of this many more codes below the limit can be out of range.
 abbrev pub StayWithin : Option Run → ℕ → ℕ → Type 0
 StayWithin None count limit = Unit {0}
 StayWithin (Some run) count limit = IsSteady run count limit

@@ -22,7 +22,7 @@ pub struct Constant {
 }
 
 impl Constant {
-    /// That of so many of this point, unless its number has no place as a first value.
+    /// The constant field of this many of this point, unless its number has no place as a first value.
     pub fn of(alloc: Global, point: Point, count: u32, order: u8) -> Option<Constant>
         requires some { 1 ≤ count }
         requires order { (order ≡ 1) ⊎ (order ≡ 2) }
@@ -47,7 +47,7 @@ impl Constant {
         }
     }
 
-    /// That of so many points with this number.
+    /// The constant field of this many points with this number.
     fn of_number(alloc: Global, x: i64, count: u32, order: u8) -> Option<Constant>
         requires some { 1 ≤ count }
         requires order { (order ≡ 1) ⊎ (order ≡ 2) }
@@ -82,7 +82,7 @@ fn same_differences(alloc: Global, first: i64, second: i64) -> Differences
     }
 }
 
-/// The second first value where so many numbers are the same.
+/// The second first value where this many numbers are the same.
 fn second_of(x: i64, count: u32, order: u8) -> i64
     ensures is { result ≡ cond (order == 1) (pos 0) (get_or (replicate count x) 1 (pos 0)) }
     ensures small { nat_abs x < 2 ^ 31 → nat_abs result < 2 ^ 31 }

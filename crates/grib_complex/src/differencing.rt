@@ -15,7 +15,7 @@ use grib_spatial::Differences;
 /// The greatest magnitude of a first value and of the minimum.
 pub const MOST: u32 = (1 << 31) - 1;
 
-/// Whether a first value, the minimum or a code has no place, where so many codes are reserved.
+/// Whether a first value, the minimum or a code has no place, where this many codes are reserved.
 pub fn are_out(differences: &Differences, reserved: u8) -> bool
     requires { reserved ≤ 2 }
     ensures { (order : ℕ) (numbers : List ℤ) → read_with order differences.now ≡ descriptors_of order numbers
@@ -64,7 +64,7 @@ pub fn descriptor_octets(differences: &Differences) -> u8
     }
 }
 
-/// Writes the first values, as many as the order, and the minimum with its sign, in so many octets each
+/// Writes the first values, as many as the order, and the minimum with its sign, in this many octets each
 /// (WMO-No. 306, Volume I.2, FM 92 GRIB edition 2, data template 7.3).
 pub fn write_descriptors(differences: &Differences, order: u8, octets: u8, out: &mut BitWriter)
     requires order { (order ≡ 1) ⊎ (order ≡ 2) }

@@ -251,7 +251,7 @@ fn start_grouped(
 }
 
 impl State {
-    /// Reads the next octets, where so many came before.
+    /// Reads the next octets, where this many came before.
     fn push(self, piece: &[u8], before: u32, start: u64, length: u32) -> State
         requires fed { IsFedState start length before self }
         requires within { 5 + before + length_of piece.now ≤ length }
@@ -267,7 +267,7 @@ impl State {
 }
 
 impl Beginning {
-    /// Reads the next octets, where so many came before, and goes on to the packed numbers where the
+    /// Reads the next octets, where this many came before, and goes on to the packed numbers where the
     /// descriptors and the lists are whole.
     fn push(self, piece: &[u8], before: u32, start: u64, length: u32) -> State
         requires fed { IsFedState start length before (Begins self) }
@@ -333,7 +333,7 @@ impl Beginning {
     }
 }
 
-/// Notes the next octets of the extra descriptors, where so many came before.
+/// Notes the next octets of the extra descriptors, where this many came before.
 fn note(mut noted: [u8; 17], before: usize, octets: &[u8]) -> [u8; 17]
     requires { before + length_of octets.now ≤ 12 }
     ensures { take (before + length_of octets.now) (drop 5 result) ≡ take before (drop 5 noted) ++ octets.now }

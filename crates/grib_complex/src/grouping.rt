@@ -116,7 +116,7 @@ fn grouping_of_each(alloc: Global, codes: &[Code], management: u8) -> Result<Gro
     })
 }
 
-/// The groups of so many codes that are all the same: none takes a bit beside its header, so they are the
+/// The groups of this many codes that are all the same: none takes a bit beside its header, so they are the
 /// fewest.
 ///
 /// # Errors
@@ -180,7 +180,7 @@ pub fn octets_of_groups(
     references + widths + octets_for(layout.groups, 6) + bits.div_ceil(8)
 }
 
-/// The octets of so many numbers of so many bits.
+/// The octets of this many numbers of this many bits.
 #[inline]
 fn octets_for(count: u32, bits: u8) -> u32
     requires count { count ≤ 33554432 }
@@ -214,7 +214,7 @@ fn bits_of_groups(
     }
 }
 
-/// The same of codes one after another.
+/// The grouping of codes that are looked at one after another.
 fn bits_of_each(
     codes: &[Code],
     lengths: &[u32],

@@ -187,7 +187,7 @@ impl Keeper for Nothing {
     ghost more = { λ _ _ _ _ _ _ _. tt };
 }
 
-/// Adds so many missing points, for which there is memory.
+/// Adds this many missing points, for which there is memory.
 fn push_missing(points: &mut Vec<Point>, count: u32)
     ensures points { vec_len points.old + count ≤ vec_capacity points.old → points.new.items ≡ points.old.items ++ replicate count Missing }
     ensures capacity { vec_capacity points.old ≤ vec_capacity points.new }

@@ -48,7 +48,7 @@ pub fn take_values<K: Keeper + Drop>(
     take_complex_values(alloc, &complex, section7, keeper)
 }
 
-/// The same where Section 5 was read.
+/// Takes the values where Section 5 was read.
 pub fn take_complex_values<K: Keeper + Drop>(
     alloc: Global,
     complex: &Complex,
@@ -68,7 +68,7 @@ pub fn take_complex_values<K: Keeper + Drop>(
     take_group_values(alloc, complex, section7, keeper)
 }
 
-/// Keeps the points of so many values that are 0.
+/// Keeps the points of this many values that are 0.
 fn keep_zeros<K: Keeper>(values: u32, mut keeper: K) -> K
     ensures { K.kept keeper (replicate values (Scaled (pos 0))) result }
 {
@@ -78,7 +78,7 @@ fn keep_zeros<K: Keeper>(values: u32, mut keeper: K) -> K
     keeper
 }
 
-/// The same where there are groups.
+/// Takes the values where there are groups.
 fn take_group_values<K: Keeper + Drop>(
     alloc: Global,
     complex: &Complex,

@@ -31,7 +31,7 @@ abbrev pub is_too_large : Exact → ℕ → Bool
 is_too_large v places =
     not (nat_abs v.number == 0) && (nat_le (2 ^ 126) (numerator v places) || nat_le (2 ^ 126) (denominator v places))
 
--- the value rounded once, half to even, to so many places
+-- the value rounded once, half to even, to this many places
 abbrev pub decimal_text : Exact → ℕ → List ℕ
 decimal_text v places =
     text.decimal_text (is_negative v.number) (nearest (numerator v places) (denominator v places)) places

@@ -6,7 +6,7 @@ ghost use Rattle.grib_decimal.specs.Rounding.{nearest};
 /// A number to divide by. A power of two needs no division.
 #[derive(Clone, Copy, Debug, PartialEq, Eq)]
 pub(crate) enum Divisor {
-    /// That of this many bits.
+    /// The power of this many bits.
     PowerOfTwo(u32),
     Other(u64),
 }

@@ -17,7 +17,7 @@ use grib_dyadic::Dyadic;
 use std::alloc::Global;
 use std::marker::Model;
 
-/// How the points of a field are printed: its reference value R, its scale factors E and D, and so many places.
+/// How the points of a field are printed: its reference value R, its scale factors E and D, and this many places.
 #[derive(Debug, Drop)]
 pub struct DecimalScale {
     reference: Dyadic,
@@ -111,7 +111,7 @@ impl DecimalScale {
     }
 }
 
-/// The value of the point with the scaled number X as text, with so many places: the exact value, rounded once, half
+/// The value of the point with the scaled number X as text, with this many places: the exact value, rounded once, half
 /// to even. The two octets of the scale factors E and D are each a sign and a magnitude.
 pub fn decimal_text(
     alloc: Global,

@@ -20,7 +20,7 @@ ten_pos k = one-le-pow k 10 (omega arith)
 scaled_up-times : (v : Exact) (s z : ℤ) → scaled_up v s z ≡ v.number *ℤ pos (2 ^ nat_abs (v.binary +ℤ s) * 10 ^ nat_abs (z -ℤ v.decimal))
 scaled_up-times v s z = sym (times_twice v.number (2 ^ nat_abs (v.binary +ℤ s)) (10 ^ nat_abs (z -ℤ v.decimal)))
 
--- at a greater s and z, the whole number is so many times greater
+-- at a greater s and z, the whole number is this many times greater
 scaled_up-more : (v : Exact) (s z s' z' : ℤ) → IsLarge v s z → s ≤ℤ s' → z ≤ℤ z' → scaled_up v s' z' ≡ scaled_up v s z *ℤ pos (2 ^ nat_abs (s' -ℤ s) * 10 ^ nat_abs (z' -ℤ z))
 scaled_up-more v s z s' z' large more_twos more_tens =
     let two = large.twos in

@@ -65,7 +65,7 @@ pub record FaultyStore : Type 0 where
   pub settled : Bool
   pub calls : Calls
 
--- Whether a call failed. Want of memory comes only where the call is not to fail.
+-- Whether a call failed. That there is no memory comes only where the call is not to fail.
 abbrev pub is_failed : Stop → Bool
 is_failed Failed = true
 is_failed Memory = false
@@ -73,7 +73,7 @@ is_failed Memory = false
 abbrev pub FailsWhere : {T : Type 0} → Bool → Result T Stop → Type 0
 FailsWhere fails result = MatchResult result (λ _. fails ≡ false) (λ stop. is_failed stop ≡ fails)
 
--- The same of a read of a shelf. A name is absent only where the call is not to fail.
+-- Whether a read of a shelf failed. A name is absent only where the call is not to fail.
 abbrev pub is_shelf_failed : ShelfStop → Bool
 is_shelf_failed ShelfFailed = true
 is_shelf_failed Absent = false

@@ -19,7 +19,7 @@ Counted before now = (before ≤ now) × Rose before now
 abbrev pub CountsFailure : {T E : Type 0} → Result T E → ℕ → ℕ → Type 0
 CountsFailure result before now = MatchResult result (λ _. now ≡ before) (λ _. Counted before now)
 
--- the count after a call that stopped: want of memory is no fault
+-- the count after a call that stopped: that there is no memory is no fault
 abbrev pub CountsStop : Stop → ℕ → ℕ → Type 0
 CountsStop Failed before now = Counted before now
 CountsStop Memory before now = now ≡ before

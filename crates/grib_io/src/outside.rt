@@ -22,7 +22,7 @@ pub struct Failed;
 pub enum Stop {
     /// The object failed.
     Failed,
-    /// Want of memory.
+    /// There is no memory.
     Memory,
 }
 

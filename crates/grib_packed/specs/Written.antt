@@ -78,7 +78,7 @@ complex_sections column kind = record {
   section7 = section_with 7 (group_bits ToComplex column.points);
 }
 
--- or their differences, told by an order, octet 48, and descriptors of so many octets each, octet 49.
+-- or their differences, told by an order, octet 48, and descriptors of this many octets each, octet 49.
 abbrev pub spatial_sections : ℕ → Column → ℕ → Packed
 spatial_sections order column kind =
     let d = descriptors_of order (scaled_numbers column.points) in

@@ -41,7 +41,7 @@ plain-add xs width m (suc n) =
     ∙ ap (λ ys. plain xs width m ++ ys) (sym (plain_more rest width n))
     ∙ ap (λ (k : ℕ). plain xs width m ++ plain rest width k) (sym last)
 
--- numbers of w bits take so many bits
+-- numbers of w bits take this many bits
 pub length-fields : (w : ℕ) (ns : List ℕ) → length (fields w ns) ≡ length ns * w
 length-fields w [] = omega arith
 length-fields w (n ∷ ns) = omega (arith, length-append (bits_of w n) (fields w ns), length-bits_of w n, length-fields w ns, add-mul 1 (length ns) w)

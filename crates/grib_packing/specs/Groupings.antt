@@ -84,7 +84,7 @@ pub record IsGrouping (n : ℕ) (lengths : List ℕ) : Type 0 where
   pub each : All (λ l. (1 ≤ l) × (l ≤ 64)) lengths
   pub total : sum lengths ≡ n
 
--- the bits of a grouping: so many for each group, and length times width for each run
+-- the bits of a grouping: this many for each group, and length times width for each run
 abbrev pub cost_of : ℕ → (List Code → ℕ) → List ℕ → List Code → ℕ
 cost_of header width [] codes = 0
 cost_of header width (n ∷ ns) codes = header + n * width (take n codes) + cost_of header width ns (drop n codes)

@@ -39,7 +39,7 @@ abbrev pub scaled_numbers : List Point → List ℤ
 scaled_numbers points = filter_map scaled_of points
 
 -- the missing value management: 2 where a point is secondary missing, else 1 where one is missing, else 0;
--- so many codes are reserved
+-- this many codes are reserved
 abbrev pub management_of : List Point → ℕ
 management_of points = cond (list_any is_missing2 points) 2 (cond (list_any is_missing points) 1 0)
 

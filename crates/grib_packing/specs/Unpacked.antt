@@ -7,7 +7,7 @@ use Rattle.grib_base.specs.Rows.{located}
 use Rattle.grib_packing.specs.declared.column.Column.{Column}
 use Rattle.grib_packing.specs.Entries.{data_fault, column_from}
 
--- the refusal of the first row that fails, or want of memory
+-- the refusal of the first row that fails, or that there is no memory
 abbrev pub IsReadFault : Option Fault → ReadFault → Type 0
 IsReadFault expected (Refused fault) = expected ≡ Some fault
 IsReadFault expected Memory = Unit {0}

@@ -24,7 +24,7 @@ IsTarget ToSimple = Unit {0}
 IsTarget ToComplex = Unit {0}
 IsTarget (ToSpatial order) = (order ≡ 1) ⊎ (order ≡ 2)
 
--- the first misfit, or want of memory
+-- the first misfit, or that there is no memory
 abbrev pub IsPackFault : Option Misfit → PackFault → Type 0
 IsPackFault expected (SecondaryMissing point) = expected ≡ Some (SecondaryMisfit point)
 IsPackFault expected (OutOfRange point) = expected ≡ Some (RangeMisfit point)

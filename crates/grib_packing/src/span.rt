@@ -21,7 +21,7 @@ pub struct Span {
 }
 
 impl Span {
-    /// That of no codes.
+    /// The span of no codes.
     pub fn none() -> Span
         ensures { IsSpan result [] }
     {
@@ -34,7 +34,7 @@ impl Span {
         }
     }
 
-    /// That of these codes.
+    /// The span of these codes.
     pub fn of(run: &[Code]) -> Span
         ensures span { IsSpan result run.now }
         ensures ordered { result.least ≤ result.greatest }
@@ -47,7 +47,7 @@ impl Span {
         span
     }
 
-    /// That of the run with this code before it.
+    /// The span of the run with this code before it.
     #[inline]
     pub fn with(self, code: Code) -> Span
         ensures span { (run : List code_io.Code) → IsSpan self run → IsSpan result (code ∷ run) }
@@ -67,7 +67,7 @@ impl Span {
         }
     }
 
-    /// That of the run with this number before it.
+    /// The span of the run with this number before it.
     #[inline]
     fn with_number(self, number: u64) -> Span
         ensures span { (run : List code_io.Code) → IsSpan self run → IsSpan result (Code.Present number ∷ run) }
@@ -107,7 +107,7 @@ impl Span {
         bit_length(self.greatest - self.least + u64::from(reserved))
     }
 
-    /// The reference of the run as a group, where a reference has so many bits: the least number; without
+    /// The reference of the run as a group, where a reference has this many bits: the least number; without
     /// one all bits set where all are primary missing, one less where all are secondary missing, else 0.
     #[inline]
     pub fn reference(self, bits: u32) -> u64
@@ -125,7 +125,7 @@ impl Span {
         }
     }
 
-    /// The bits of each group reference where all codes are this run and so many are reserved for missing
+    /// The bits of each group reference where all codes are this run and this many are reserved for missing
     /// points: those of the greatest number and the reserved codes.
     #[inline]
     pub fn reference_bits(self, reserved: u32) -> u32

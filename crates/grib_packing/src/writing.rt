@@ -12,7 +12,7 @@ use grib_base::List;
 use grib_bits::{BitWriter, write_u8, write_u16, write_u32};
 use std::alloc::{AllocError, Global};
 
-/// A writer that has the memory of so many octets, and no bits.
+/// A writer that has the memory of this many octets, and no bits.
 ///
 /// # Errors
 ///

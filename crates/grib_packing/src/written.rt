@@ -23,7 +23,7 @@ pub enum PackFault {
     OutOfRange(u32),
     /// A first value, the minimum or a code of the spatial differences has no place.
     DifferenceRange,
-    /// Want of memory.
+    /// There is no memory.
     Memory,
 }
 

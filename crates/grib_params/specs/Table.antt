@@ -55,7 +55,7 @@ verdict_from count table (fields ∷ rest) =
 abbrev pub table_verdict : List ℕ → Verdict
 table_verdict text = if nat_lt 1048576 (length text) then TooLarge else verdict_from 0 [] (records_of text)
 
--- a fault is the one of the verdict; want of memory says nothing of it
+-- a fault is the one of the verdict; that there is no memory says nothing of it
 abbrev pub IsFault : Verdict → TableFault → Type 0
 IsFault verdict faults.TooLarge = verdict ≡ TooLarge
 IsFault verdict (faults.Row number) = verdict ≡ Row number

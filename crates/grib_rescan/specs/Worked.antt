@@ -19,7 +19,7 @@ east = 0x00 ∷ 0xa7 ∷ 0xd8 ∷ 0xc0 ∷ []
 abbrev pub one_degree : List ℕ
 one_degree = 0x00 ∷ 0x0f ∷ 0x42 ∷ 0x40 ∷ []
 
--- its Section 3, with so many points, columns and rows, these corners and this scanning octet
+-- its Section 3, with this many points, columns and rows, these corners and this scanning octet
 abbrev pub grid : ℕ → ℕ → ℕ → List ℕ → List ℕ → List ℕ → List ℕ → ℕ → List ℕ
 grid points ni nj la1 lo1 la2 lo2 scanning =
     0 ∷ 0 ∷ 0 ∷ 72 ∷ 3 ∷ 0 ∷ 0 ∷ 0 ∷ 0 ∷ points ∷ 0 ∷ 0 ∷ 0 ∷ 0 ∷ 6

@@ -157,7 +157,7 @@ fn latitude(section: &[u8], j: u32) -> i64
     southward(signed_at(section, 47), j, u32_at(section, 68))
 }
 
-/// The latitude that lies so many steps south of the first.
+/// The latitude that lies this many steps south of the first.
 fn southward(first: i64, steps: u32, step: u32) -> i64
     requires first { nat_abs first < 2 ^ 31 }
     requires few { steps ≤ 33554432 }

@@ -42,7 +42,7 @@ module _ (w i word number : ℕ) (room : i * w + w ≤ 64) (small : number < 2 ^
 
 -- ---- word by word
 
--- a word with `at_once` numbers, so many times, is so many times as many numbers
+-- a word with `at_once` numbers, this many times, is this many times as many numbers
 pub by_words : (w at_once word number times : ℕ) → bits_of (at_once * w) word ≡ fields w (replicate at_once number)
     → fields (at_once * w) (replicate times word) ≡ fields w (replicate (times * at_once) number)
 by_words w at_once word number zero is =

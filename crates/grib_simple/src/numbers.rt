@@ -39,7 +39,7 @@ pub fn unpack_numbers(
     Ok(numbers)
 }
 
-/// The same numbers as the scaled numbers of points: no vector of numbers stands
+/// Numbers as the scaled numbers of points: no vector of numbers stands
 /// beside them.
 ///
 /// # Errors
@@ -109,7 +109,7 @@ fn push_lanes(
     Ok(8 * (count / 8))
 }
 
-/// Adds so many times eight numbers of one octet.
+/// Adds this many times eight numbers of one octet.
 fn push_octets(octets: &[u8], eights: u32, numbers: &mut Vec<u64>) -> Result<(), AllocError>
     requires { 8 * eights ≤ length octets.now }
     ensures { OnOk result (numbers.new.items
@@ -122,7 +122,7 @@ fn push_octets(octets: &[u8], eights: u32, numbers: &mut Vec<u64>) -> Result<(),
     Ok(())
 }
 
-/// Adds so many times eight numbers of two octets.
+/// Adds this many times eight numbers of two octets.
 fn push_pairs(octets: &[u8], eights: u32, numbers: &mut Vec<u64>) -> Result<(), AllocError>
     requires { 16 * eights ≤ length octets.now }
     ensures { OnOk result (numbers.new.items

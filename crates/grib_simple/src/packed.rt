@@ -37,7 +37,7 @@ pub fn pack_simply(alloc: Global, column: &Column, kind: u8) -> Result<Packed, P
     })
 }
 
-/// The octets of a Section 6, with bits for so many points where one is missing.
+/// The octets of a Section 6, with bits for this many points where one is missing.
 fn bitmap_octets(points: u32, missing: bool) -> u32
     requires { points ≤ 33554432 }
     ensures { result ≡ cond missing (6 + (points + 7) / 8) 6 }
@@ -45,7 +45,7 @@ fn bitmap_octets(points: u32, missing: bool) -> u32
     if missing { 6 + points.div_ceil(8) } else { 6 }
 }
 
-/// The octets of a Section 7 with so many numbers of so many bits.
+/// The octets of a Section 7 with this many numbers of this many bits.
 fn values_octets(count: u32, bits: u32) -> u32
     requires count { count ≤ 33554432 }
     requires bits { bits ≤ 48 }

@@ -6,7 +6,7 @@ ghost use Rattle.grib_packing.specs.Packed.{fields};
 
 use grib_bits::BitWriter;
 
-/// Writes a number so many times, in so many bits each: as many at once as a word has room for.
+/// Writes a number this many times, in this many bits each: as many at once as a word has room for.
 pub fn put_same(number: u64, count: u32, bits: u32, out: &mut BitWriter)
     requires some { 1 ≤ bits }
     requires width { bits ≤ 48 }
@@ -21,7 +21,7 @@ pub fn put_same(number: u64, count: u32, bits: u32, out: &mut BitWriter)
     put_times(number, count % at_once, bits, out);
 }
 
-/// A number so many times, as the last bits of a word.
+/// A number this many times, as the last bits of a word.
 fn repeated(number: u64, count: u32, bits: u32) -> u64
     requires width { bits ≤ 48 }
     requires fits { number < 2 ^ bits }
@@ -36,7 +36,7 @@ fn repeated(number: u64, count: u32, bits: u32) -> u64
     word
 }
 
-/// Writes a number so many times, in so many bits each, one after another.
+/// Writes a number this many times, in this many bits each, one after another.
 fn put_times(number: u64, count: u32, bits: u32, out: &mut BitWriter)
     requires width { bits ≤ 64 }
     requires fits { number < 2 ^ bits }

@@ -31,7 +31,7 @@ pub struct Survey {
 }
 
 impl Survey {
-    /// That of these points.
+    /// The survey of these points.
     pub fn of(points: &[Point]) -> Survey
         requires some { 1 ≤ length points.now }
         requires few { length points.now ≤ 33554432 }
@@ -43,7 +43,7 @@ impl Survey {
         }
     }
 
-    /// That of so many points that are all this one.
+    /// The survey of this many points that are all this one.
     fn of_same(point: Point, count: u32) -> Survey
         requires { 1 ≤ count }
         ensures { IsSurvey result (replicate count point) }
@@ -56,7 +56,7 @@ impl Survey {
         }
     }
 
-    /// That of points which are looked at one after another.
+    /// The survey of points which are looked at one after another.
     fn of_each(points: &[Point]) -> Survey
         requires { length points.now ≤ 33554432 }
         ensures { IsSurvey result points.now }
@@ -68,7 +68,7 @@ impl Survey {
         survey
     }
 
-    /// That of no points yet.
+    /// The survey of no points yet.
     fn of_none() -> Survey
         ensures survey { (points : List point_packing.Point) → Surveys result 0 points points }
         ensures none { result.present ≡ 0 }
@@ -83,7 +83,7 @@ impl Survey {
         }
     }
 
-    /// That of one point more, at this place.
+    /// The survey with one point more, at this place.
     #[inline(always)]
     fn with(self, place: u32, point: Point) -> Survey
         requires { self.present < place }
@@ -104,7 +104,7 @@ impl Survey {
         }
     }
 
-    /// That of one scaled number more.
+    /// The survey with one scaled number more.
     #[inline(always)]
     fn with_number(self, place: u32, x: i64) -> Survey
         requires { self.present < place }

@@ -5,7 +5,7 @@ use Rattle.grib_base.specs.Rows.{first_place}
 use Rattle.grib_base.proofs.Places.{NoneOf, none-append, first_place-none, first_place-at}
 use Rattle.grib_packing.specs.Differences.{Descriptors, Last, next_number, last_after, undone_from, is_beyond}
 
--- so many codes have given these numbers, and the others will give the rest of all
+-- this many codes have given these numbers, and the others will give the rest of all
 pub record Gave (d : Descriptors) (last : Last) (codes : List ℕ) (taken : ℕ) (numbers all : List ℤ) : Type 0 where
   pub rest : numbers ++ undone_from d last (drop taken codes) ≡ all
   pub within : NoneOf is_beyond numbers

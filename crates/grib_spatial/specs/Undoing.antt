@@ -14,7 +14,7 @@ read_with order d = record { order = order; first = d.first; second = d.second; 
 abbrev pub first_beyond : List ℤ → ℕ
 first_beyond numbers = first_place is_beyond numbers
 
--- the refusal names that place; want of memory says nothing
+-- the refusal names that place; that there is no memory says nothing
 abbrev pub Names : UndoFault → ℕ → Type 0
 Names (ScaledRange place) first = (place ≡ first) × (1 ≤ first)
 Names Memory first = Unit {0}

@@ -116,7 +116,7 @@ runs_to_message task limit outcome a b before now taken acts kind consumed short
       end = λ e. absurd (of.not_done e);
     }
 
--- ---- a run that a device or want of memory ended
+-- ---- a run that a device or a lack of memory ended
 
 pub cut_broken : (outcome : Outcome) → is_cut_short outcome ≡ true → is_broken outcome ≡ true
 cut_broken WriteFault cut = refl

@@ -116,7 +116,7 @@ stops_whole task lawful taken acts totals place pending n answer begun so is fin
 
 -- ---- the state of a run
 
--- What was taken and done so far, with so many octets that may still be taken.
+-- What was taken and done so far, with this many octets that may still be taken.
 pub record Going (task : Task) (limit left : ℕ) (a b : Option (List ℕ)) (before now : World) (totals : Totals) (place : ℕ) (pending : List ℕ) : Type 0 where
   pub taken : List ℕ
   pub acts : List Act

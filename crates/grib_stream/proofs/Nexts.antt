@@ -105,7 +105,7 @@ longer task lawful place octets more fault total is later =
 abbrev pub next_here : Task → Totals → ℕ → List ℕ → Next
 next_here task totals place octets = next_of task (place_of totals.messages place totals.fields) octets
 
--- what was counted after a message with so many fields, for which so many octets were written
+-- what was counted after a message with this many fields, for which this many octets were written
 abbrev pub counted : Totals → ℕ → ℕ → Totals
 counted totals fields written = totals_of (totals.messages + 1) (totals.fields + fields) totals.skipped (totals.written + written)
 

@@ -11,7 +11,7 @@ use Rattle.grib_stream.proofs.Streams.{unmarked_within, markless_more, begins_st
 use Rattle.grib_stream.proofs.Nexts.{next_here, next_stays, counted, skipping, answer_by, answer_next, answer_passed, message_next}
 
 -- After these octets were taken, these acts were done, and these octets are still to be answered, of
--- which so many were answered before.
+-- which this many were answered before.
 pub record SoFar (task : Task) (taken : List ℕ) (acts : List Act) (totals : Totals) (place : ℕ) (pending : List ℕ) : Type 0 where
   pub whole : (more : List ℕ) → answer_of task (taken ++ more) ≡ after acts (answer_at task totals place (pending ++ more))
   pub size : place + length pending ≡ length taken

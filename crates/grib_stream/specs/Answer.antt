@@ -33,14 +33,14 @@ after acts answer = record answer { acts = acts ++ answer.acts }
 abbrev pub totals_of : ℕ → ℕ → ℕ → ℕ → Totals
 totals_of messages fields skipped written = record { messages = messages; fields = fields; skipped = skipped; written = written }
 
--- the place of the message after so many messages, octets and fields
+-- the place of the message after this many messages, octets and fields
 abbrev pub place_of : ℕ → ℕ → ℕ → Place
 place_of messages before fields = record { message = messages + 1; before = before; fields = fields }
 
 abbrev pub refusal_after : ℕ → Fault → Refusal
 refusal_after messages fault = record { message = messages + 1; fault = fault }
 
--- after so many messages with so many fields, for which so many octets were written
+-- after this many messages with this many fields, for which this many octets were written
 abbrev pub on_end : Task → ℕ → ℕ → ℕ → End → Answer
 on_end task messages fields written (Over skipped) = done task (totals_of messages fields skipped written)
 on_end task messages fields written (Refusing fault) = silent task (Refused (refusal_after messages fault))
@@ -50,7 +50,7 @@ abbrev pub on_given : Task → Given → (List Act → ℕ → Answer) → Answe
 on_given task (Gives acts written) next = next acts written
 on_given task (Ends outcome) next = silent task outcome
 
--- the results of the messages, after so many messages with so many fields, for which so many octets were
+-- the results of the messages, after this many messages with this many fields, for which this many octets were
 -- written
 abbrev pub answers : Task → ℕ → ℕ → ℕ → List Found → End → Answer
 answers task messages fields written [] end = on_end task messages fields written end
@@ -80,7 +80,7 @@ at_limit task answer =
 abbrev pub NotesOutcome : Task → Answer → Type 0
 NotesOutcome task answer = answer.outcome ≢ Done → answer.note ≡ task.note answer.outcome
 
--- the answer to an input, of which so many octets are answered at most
+-- the answer to an input, of which this many octets are answered at most
 abbrev pub answer_within : ℕ → Task → List ℕ → Answer
 answer_within limit task input =
     choose (nat_lt limit (length input)) (λ _. at_limit task (answer_of task (take limit input)))

@@ -30,7 +30,7 @@ OneCounted first first_now second second_now =
     (Counted first first_now × (second_now ≡ second)) ⊎ ((first_now ≡ first) × Counted second second_now)
 
 -- After a whole run: a fault is answered where the count of that object rose, and where a count is greater
--- than before, the outcome says so, or a fault of writing or want of memory that came after it. None falls.
+-- than before, the outcome says so, or a fault of writing, or that there is no memory that came after it. None falls.
 pub record CountsRun (outcome : Outcome) (before now : Faults) : Type 0 where
   pub read_fault : outcome ≡ ReadFault → Rose before.input now.input
   pub write_fault : outcome ≡ WriteFault → OneCounted before.output now.output before.notes now.notes

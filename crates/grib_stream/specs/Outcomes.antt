@@ -18,7 +18,7 @@ status_of Memory = 8
 status_of InputTooLong = 9
 status_of NotBuilt = 10
 
--- whether a device or want of memory ended the run, before or after its answer was found
+-- whether a device or a lack of memory ended the run, before or after its answer was found
 abbrev pub is_broken : Outcome → Bool
 is_broken Done = false
 is_broken (Usage word) = false

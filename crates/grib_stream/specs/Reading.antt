@@ -8,7 +8,7 @@ use Rattle.grib_stream.specs.declared.outcome.Outcome.{Outcome}
 use Rattle.grib_stream.specs.declared.outcome.Outcome.TheVariants.{ReadFault, InputTooLong}
 use Rattle.std.specs.Io.KnownBytes.{Consumes, Keeps, IsAtEnd}
 
--- so many octets, no more than `most`, were taken and stand behind the others; none only at the end
+-- this many octets, no more than `most`, were taken and stand behind the others; none only at the end
 pub record Reads (before now : Option (List ℕ)) (old new : List ℕ) (count most : ℕ) : Type 0 where
   pub piece : List ℕ
   pub grown : new ≡ old ++ piece

@@ -13,7 +13,7 @@ use Rattle.grib_stream.specs.Task.{Task}
 use Rattle.grib_stream.specs.Faults.{Faults, CountsOne}
 use Rattle.grib_stream.specs.Answer.{Answer, after, done, answer_of, answer_within}
 
--- The outcome is that of the answer and all was done, unless a device or want of memory ended the run;
+-- The outcome is that of the answer and all was done, unless a device or a lack of memory ended the run;
 -- then some front of it was done.
 pub record Gives (answer : Answer) (outcome : Outcome) (before now : World) : Type 0 where
   pub ends : is_broken outcome ≡ false → outcome ≡ answer.outcome
@@ -28,7 +28,7 @@ pub record Took (task : Task) (limit : ℕ) (taken : List ℕ) (outcome : Outcom
   pub long : outcome ≡ InputTooLong → length taken ≡ limit + 1
   pub read_fault : outcome ≡ ReadFault → Did before now (answer_of task taken).acts
 
--- A run over an input of which so many octets are answered at most: what was left of it, and is left now.
+-- A run over an input of which this many octets are answered at most: what was left of it, and is left now.
 pub record Runs (task : Task) (limit : ℕ) (outcome : Outcome) (left left_now : Option (List ℕ)) (before now : World) : Type 0 where
   pub gives : IfSome left (λ input. Gives (answer_within limit task input) outcome before now)
   pub taken : (taken : List ℕ) × Consumes left left_now taken × Took task limit taken outcome before now

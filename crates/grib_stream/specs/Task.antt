@@ -50,8 +50,8 @@ pub record IsLawful (task : Task) : Type 0 where
       → task.result place (take total octets) ≡ Gives acts written → 20 * written ≤ 268435456 * total
   pub ends_at_message : (place : Place) (message : List ℕ) (outcome : Outcome) → task.result place message ≡ Ends outcome → is_of_message outcome ≡ true
 
--- what comes next of the octets from a `GRIB` on: a message of this length with so many fields, for which
--- so many octets are counted as written and this is done; a refusal; or an end with this outcome
+-- what comes next of the octets from a `GRIB` on: a message of this length with this many fields, for which
+-- this many octets are counted as written and this is done; a refusal; or an end with this outcome
 pub data Next : Type 0 where
   Whole : ℕ → ℕ → ℕ → List Act → Next
   Refuses : Fault → Next

@@ -16,7 +16,7 @@ use Rattle.grib_stream.specs.Acts.{Act, World, Did, DidFront}
 use Rattle.grib_stream.specs.Outcomes.{is_cut_within, is_truncated}
 use Rattle.grib_stream.specs.Task.{Task, Next, Whole, Refuses, Stops, next_of, acts_of}
 
--- octets from a `GRIB` on that are refused for their end alone, of a message that has so many at least
+-- octets from a `GRIB` on that are refused for their end alone, of a message that has this many at least
 pub record IsCut (task : Task) (place : Place) (octets : List ℕ) (fault : Fault) (wanted : ℕ) : Type 0 where
   pub begun : begins octets ≡ true
   pub refused : next_of task place octets ≡ Refuses fault
@@ -46,7 +46,7 @@ Turns task place octets (Answered message) before now =
 Turns task place octets (Wait wait) before now = Awaits task place octets wait.fault wait.wanted × (length octets < wait.wanted) × Did before now []
 Turns task place octets (Ends outcome) before now = (begins octets ≡ true) × EndsTurn (next_of task place octets) place outcome before now
 
--- the end of the input, of which so many octets are left for which nothing was done
+-- the end of the input, of which this many octets are left for which nothing was done
 abbrev pub conclusion : Option Fault → Place → Totals → ℕ → Result Totals Outcome
 conclusion None place totals size = Ok (record totals { skipped = totals.skipped + size })
 conclusion (Some fault) place totals size = Err (Refused (refusal_at place fault))

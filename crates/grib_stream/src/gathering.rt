@@ -19,7 +19,7 @@ pub(crate) enum Rest {
     Ended,
 }
 
-/// Reads until so many octets are there, as far as the input goes and no more than `left` of it, from
+/// Reads until this many octets are there, as far as the input goes and no more than `left` of it, from
 /// which what was read is taken away.
 pub(crate) fn gather<S: Source>(
     window: &mut Window,

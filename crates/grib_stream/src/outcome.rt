@@ -18,7 +18,7 @@ pub enum Cause {
     OutOfRange { field: u32, point: u32 },
     /// The packing has no room for the spatial differences.
     DifferenceRange { field: u32 },
-    /// The new message would have so many octets, more than a message may have.
+    /// The new message would have this many octets, more than a message may have.
     OutputTooLong(u64),
     /// The new value of a key does not fit the octets of its place.
     KeyRange { key: Key },
@@ -52,7 +52,7 @@ pub enum Outcome {
     WriteFault,
     /// The shelf failed.
     ShelfFault,
-    /// Want of memory.
+    /// There is no memory.
     Memory,
     /// The input has more octets than are taken.
     InputTooLong,

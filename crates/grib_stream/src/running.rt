@@ -123,7 +123,7 @@ fn probe<S: Source>(input: &mut S) -> Result<(), Outcome>
     }
 }
 
-/// The end of the input, of which so many octets are left for which nothing was done.
+/// The end of the input, of which this many octets are left for which nothing was done.
 fn conclude(wait: &Wait, here: &Place, totals: &Totals, len: usize) -> Result<Totals, Outcome>
     requires fits { totals.now.skipped + len < 2 ^ 64 }
     ensures { result ≡ conclusion wait.now.fault here.now totals.now len }

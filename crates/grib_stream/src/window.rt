@@ -66,7 +66,7 @@ impl Window {
     }
 
     /// Reads at most `most` octets, one at least where there is one, into the buffer behind the others.
-    /// Room is made with a view to so many octets that are wanted in the end.
+    /// Room is made with a view to this many octets that are wanted in the end.
     pub fn read<S: Source>(
         &mut self,
         input: &mut S,
@@ -136,7 +136,7 @@ fn enlarge(octets: &mut Vec<u8>, pending: usize, wanted: usize) -> Result<(), Al
     octets.resize(size, 0)
 }
 
-/// Reads into the room of so many octets behind the first `end`, which stay as they are.
+/// Reads into the room of this many octets behind the first `end`, which stay as they are.
 fn read_behind<S: Source>(
     octets: &mut [u8],
     end: usize,

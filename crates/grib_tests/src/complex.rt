@@ -65,7 +65,7 @@ fn whole(
     }
 }
 
-/// The same of a section that comes in pieces of so many octets.
+/// The column of a section that comes in pieces of this many octets.
 fn in_pieces(
     rt: &impl Abort,
     alloc: Global,
@@ -113,7 +113,7 @@ fn feeder(
     }
 }
 
-/// The answer where a Section 7 comes in pieces of so many octets.
+/// The answer where a Section 7 comes in pieces of this many octets.
 fn fed(rt: &impl Abort, mut feeder: Feeder, data: &[u8], size: usize) -> Result<Column, Fault>
     requires { IsFed feeder }
 {

@@ -152,7 +152,7 @@ const FIELD: [u8; 21] = [
     0, 0, 0, 21, 5, 0, 0, 0, 4, 0, 0, 0xc2, 0xed, 0x40, 0x00, 0x80, 0x03, 0x00, 0x01, 8, 0,
 ];
 
-/// The same, of three values.
+/// A field of three values.
 const THREE: [u8; 21] = [
     0, 0, 0, 21, 5, 0, 0, 0, 3, 0, 0, 0xc2, 0xed, 0x40, 0x00, 0x80, 0x03, 0x00, 0x01, 8, 0,
 ];

@@ -103,7 +103,7 @@ fn numbers_are_undone_steadily(rt: HostRuntime) {
     assert_eq!(rt; second_steadily(), Some((15, 19, 24)));
 }
 
-/// Whether so many codes below a limit keep numbers within the range, after first values of 0.
+/// Whether this many codes below a limit keep numbers within the range, after first values of 0.
 fn is_steady(order: u8, told: u8, count: u32, limit: u64) -> bool
     requires order { IsOrder order }
     requires limit { limit ≤ 2 ^ 49 }

@@ -97,7 +97,7 @@ fn widths_that_change_at_each_place(rt: HostRuntime) -> Result<(), Fail> {
 
 #[test]
 fn seventy_thousand_codes(rt: HostRuntime) -> Result<(), Fail> {
-    // A plain search over all first lengths gives so many groups, and this sum.
+    // A plain search over all first lengths gives this many groups, and this sum.
     let codes = codes_of(rt.alloc(), 70000, 100)?;
     let lengths = chosen_lengths(rt.alloc(), &codes, &COSTS)?;
     let mut sum = 0u64;

@@ -62,7 +62,7 @@ impl Ran {
             && self.notes.octets() == notes.as_bytes()
     }
 
-    // The same, with octets as output.
+    // Whether it ended so, with these octets as output.
     fn gave(&self, outcome: Outcome, output: &[u8], notes: &str) -> bool {
         self.outcome == outcome
             && self.output.octets() == output
@@ -253,7 +253,7 @@ fn numbers_of_no_bits_are_printed(rt: HostRuntime) -> Result<(), Fail> {
 
 #[test]
 fn lines_are_passed_on_before_the_last(rt: HostRuntime) -> Result<(), Fail> {
-    // The same with 200 by 100 points, whose lines take 148,000 octets: the second write of them fails.
+    // A field of 200 by 100 points, whose lines take 148,000 octets: the second write of them fails.
     let mut octets = PLAIN[..175].to_vec(rt.alloc())?;
     octets.extend_from_slice(&PLAIN[179..])?;
     octets[15] = 179;

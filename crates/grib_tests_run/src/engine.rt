@@ -49,7 +49,7 @@ const BOTH: &[u8] =
 const ALL: &[u8] =
     b"message 1 at 3 edition 2 octets 183 fields 1\nmessage 2 at 191 edition 2 octets 252 fields 2\nmessages 2 fields 3 skipped 10\n";
 
-/// What is printed of the messages of the stream that end within so many octets.
+/// What is printed of the messages of the stream that end within this many octets.
 fn within(octets: u64) -> &'static [u8] {
     if octets < 186 {
         b""

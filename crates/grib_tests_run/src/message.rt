@@ -160,7 +160,7 @@ fn rows_of_a_grid_add_up(rt: HostRuntime) -> Result<(), Fail> {
     Ok(())
 }
 
-/// A message of so many fields, each 0 at every point, without its end mark.
+/// A message of this many fields, each 0 at every point, without its end mark.
 fn many(alloc: Global, total: u64, fields: usize) -> Result<Vec<u8>, AllocError> {
     let mut octets = b"GRIB\0\0\0\x02".to_vec(alloc)?;
     octets.extend_from_slice(&total.to_be_bytes())?;

@@ -57,7 +57,7 @@ fn field(
     )
 }
 
-/// What these octets are repacked to; want of memory stands for octets that are refused.
+/// What these octets are repacked to; `Memory` stands for octets that are refused.
 fn outcome(alloc: Global, octets: &[u8], target: RepackTarget) -> Result<Vec<u8>, RepackFault>
     requires { IsTarget (target_of target) }
 {

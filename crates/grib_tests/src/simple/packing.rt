@@ -27,7 +27,7 @@ fn packed(alloc: Global, points: &[Point]) -> Result<Packed, PackFault>
     SimplePacking.pack(alloc, &column, 1)
 }
 
-/// Whether these are the three sections, the first of so many values of so many bits.
+/// Whether these are the three sections, the first of this many values of this many bits.
 fn has(packed: &Packed, values: u8, bits: u8, bitmap: &[u8], data: &[u8]) -> bool {
     let representation = [
         0, 0, 0, 21, 5, 0, 0, 0, values, 0, 0, 0xc2, 0xed, 0x40, 0x00, 0x80, 0x03, 0x00, 0x01,
@@ -143,7 +143,7 @@ fn numbers_of_48_bits(rt: HostRuntime) -> Result<(), Fail> {
     Ok(())
 }
 
-/// Section 7 of so many points with this number, which has 19 bits, once it was seen to unpack to them.
+/// Section 7 of this many points with this number, which has 19 bits, once it was seen to unpack to them.
 fn same_and_back(
     rt: &impl Abort,
     alloc: Global,

@@ -35,7 +35,7 @@ fn spatial(points: u8, bits: u8, groups: u8, width_bits: u8, last: u8, order: u8
     ]
 }
 
-// M1 of this total length with these sections in place of its Sections 5 to 7, and with one row of so many
+// M1 of this total length with these sections in place of its Sections 5 to 7, and with one row of this many
 // points where it is not 4.
 fn message(alloc: Global, total: u8, points: u8, parts: &[&[u8]]) -> Result<Vec<u8>, AllocError> {
     let mut head = PLAIN;

@@ -44,7 +44,7 @@ fn run(alloc: Global, job: &Job, octets: &[u8]) -> Result<Ran, AllocError>
     })
 }
 
-/// What is written of the fields so many hours ahead, of month 1.
+/// What is written of the fields this many hours ahead, of month 1.
 fn filter(alloc: Global, hours: i64, octets: &[u8]) -> Result<Ran, AllocError> {
     let conditions = [
         Condition {

@@ -33,14 +33,14 @@ fn part(
     })
 }
 
-/// So many octets, each 0.
+/// This many octets, each 0.
 fn zeros(alloc: Global, count: usize) -> Result<Vec<u8>, AllocError>
     ensures { IfOk result (λ octets. vec_len octets ≡ count) }
 {
     vec![in alloc; 0u8; count]
 }
 
-/// A message with these parts; want of memory stands for octets that are no message of so many fields.
+/// A message with these parts; `Memory` stands for octets that are no message of this many fields.
 fn assembled(alloc: Global, octets: &[u8], parts: &[Packed]) -> Result<Vec<u8>, AssembleFault>
     requires { All IsShort parts.now }
 {
