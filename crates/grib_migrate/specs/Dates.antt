@@ -28,7 +28,7 @@ is_civil m =
     is_within 1 9999 m.year && is_within 1 12 m.month && is_within 1 (days_in_month (pos m.year) m.month) m.day
     && nat_lt m.hour 24 && nat_lt m.minute 60 && nat_lt m.second 60
 
--- the same, as a fact
+-- as a fact
 abbrev pub IsCivil : Moment → Type 0
 IsCivil m =
     (1 ≤ m.year) × (m.year ≤ 9999) × (1 ≤ m.month) × (m.month ≤ 12) × (1 ≤ m.day) × (m.day ≤ days_in_month (pos m.year) m.month)
@@ -53,7 +53,7 @@ abbrev pub days_later : ℕ → Moment → Moment
 days_later zero m = m
 days_later (suc n) m = next_day (days_later n m)
 
--- a moment some seconds later; its seconds are by so many more
+-- a moment some seconds later: its seconds are more by that number
 abbrev pub later : Moment → ℕ → Moment
 later m seconds =
     let total = time_of_day m + seconds in
@@ -68,7 +68,7 @@ end_of s1 unit_seconds = later (reference_time s1) (key_in s1 P2 * unit_seconds)
 abbrev pub within_9999 : Moment → Option Moment
 within_9999 m = cond (nat_lt 9999 m.year) None (Some m)
 
--- a moment that the calendar has, so many seconds later, if that is not after year 9999
+-- a moment that the calendar has, some seconds later, if that is not after year 9999
 abbrev pub later_in : Moment → ℕ → Option Moment
 later_in m seconds = cond (is_civil m) (within_9999 (later m seconds)) None
 

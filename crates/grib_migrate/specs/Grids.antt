@@ -128,7 +128,7 @@ true_latitude s = 2 ^ 31 * digit (bit 1 (octets s 27 27)) + 60000000
 abbrev pub template_of : ℕ → ℕ
 template_of t = cond (t == 1) 10 (cond (t == 3) 30 (cond (t == 4) 40 (cond (t == 5) 20 0)))
 
--- octets 6-14, for so many points
+-- octets 6-14, for this number of points
 abbrev pub header : ℕ → List ℕ → List Number
 header points s =
     One 0  -- 6: the source
@@ -215,7 +215,7 @@ template_numbers s =
 abbrev pub row_octets : List ℕ → List ℕ
 row_octets s = take (2 * row_count s) (drop (list_place s - 1 + 4 * nv s) s)
 
--- octet 6 and further, for so many points
+-- octet 6 and further, for this number of points
 abbrev pub grid_octets : ℕ → List ℕ → List ℕ
 grid_octets points s =
     all_octets (header points s) ++ (all_octets (common s) ++ (all_octets (template_numbers s) ++ row_octets s))

@@ -18,7 +18,7 @@ abbrev pub HoldsBits : Option (List ℕ) → ℕ → Type 0
 HoldsBits None points = Unit {0}
 HoldsBits (Some s) points = points + 48 ≤ 8 * length s
 
--- all sections, with so many points, of which so many are present
+-- all sections, with the number of points and of those that are present
 pub record Holds (s1 s2 : List ℕ) (s3 : Option (List ℕ)) (s4 : List ℕ) (points values : ℕ) : Type 0 where
   pub identification : 28 ≤ length s1
   pub stands : section_length s1 ≡ length s1

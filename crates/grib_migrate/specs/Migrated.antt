@@ -27,8 +27,8 @@ no_surfaces = one_surface no_surface
 abbrev pub local_section : Bool → List ℕ → List ℕ
 local_section keep_local s1 = cond (keep_local && has_local s1) (section_of 2 (local_octets s1)) []
 
--- Sections 1 to 5 of a message of edition 2, by Sections 1, 2 and 4 of one of edition 1, for so many points, of
--- which so many are present
+-- Sections 1 to 5 of a message of edition 2, by Sections 1, 2 and 4 of one of edition 1, with the number of
+-- points and of those that are present
 abbrev pub front_sections : Target → UnitOfTime → Surfaces → Bool → List ℕ → List ℕ → List ℕ → ℕ → ℕ → List ℕ
 front_sections target unit surfaces keep_local s1 s2 s4 points values =
     section_of 1 (all_octets (identification_numbers target s1))

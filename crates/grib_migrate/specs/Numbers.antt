@@ -24,6 +24,6 @@ missing_2 = 65535
 abbrev pub missing_4 : ℕ
 missing_4 = 4294967295
 
--- the length and the number of a section with so many octets of contents
+-- the length and the number of a section with this number of octets of contents
 abbrev pub section_head : ℕ → ℕ → List ℕ
 section_head number contents = octets_of 4 (5 + contents) ++ octets_of 1 number

@@ -46,7 +46,7 @@ surface_numbers surface = One surface.kind ∷ One surface.scale_factor ∷ Four
 abbrev pub template_of : List ℕ → ℕ
 template_of s1 = cond (is_interval (key_in s1 TimeRange)) 8 0
 
--- Section 4, octets 6-34, with so many coordinate values
+-- Section 4, octets 6-34, with `count` coordinate values
 abbrev pub instant_numbers : Target → List ℕ → UnitOfTime → Surfaces → ℕ → List Number
 instant_numbers target s1 unit surfaces count =
     Two count  -- 6-7: the number of coordinate values

@@ -16,7 +16,7 @@ use Rattle.grib_migrate.specs.References.{binary32_of}
 abbrev pub reference : List ℕ → ℕ
 reference s4 = octets s4 7 10
 
--- Section 5, with so many present points; the reference is 0 where it has no binary32 word, which is a loss
+-- Section 5, with this number of present points; the reference is 0 where it has no binary32 word, which is a loss
 abbrev pub packing_numbers : List ℕ → List ℕ → ℕ → List Number
 packing_numbers s1 s4 values =
     Four values  -- 6-9
@@ -34,11 +34,11 @@ front_octets from n =
     let last = octets from (n / 8 + 1) (n / 8 + 1) in
     take (n / 8) from ++ cond (n % 8 == 0) [] ((last - last % 2 ^ (8 - n % 8)) ∷ [])
 
--- Section 6, for so many points: no bitmap, or one bit for each
+-- Section 6, for this number of points: no bitmap, or one bit for each
 abbrev pub bitmap_octets : Option (List ℕ) → ℕ → List ℕ
 bitmap_octets None points = 255 ∷ []
 bitmap_octets (Some s3) points = 0 ∷ front_octets (drop 6 s3) points
 
--- Section 7, with so many present points
+-- Section 7, with this number of present points
 abbrev pub data_octets : List ℕ → ℕ → List ℕ
 data_octets s4 values = front_octets (drop 11 s4) (values * bit_width s4)

@@ -74,7 +74,7 @@ pub(crate) fn is_civil(moment: Moment) -> bool
     civil(moment).is_some()
 }
 
-/// The moment so many seconds later, if this one is a date and time of years 1 to 9999 and the later one is
+/// The moment this number of seconds later, if this one is a date and time of years 1 to 9999 and the later one is
 /// not after them.
 pub(crate) fn later(start: Moment, seconds: u32) -> Option<Moment>
     ensures { result ≡ later_in start seconds }
@@ -84,7 +84,7 @@ pub(crate) fn later(start: Moment, seconds: u32) -> Option<Moment>
     Some(moment_of(end))
 }
 
-/// A span of so many seconds.
+/// A span of this number of seconds.
 fn span_of(seconds: u32) -> SignedDuration
     ensures { signed_nanos result ≡ pos (seconds * 1000000000) }
 {

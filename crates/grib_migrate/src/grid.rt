@@ -27,7 +27,7 @@ const NO_INCREMENT: u16 = 65535;
 /// 60 degrees, where lengths are true on a polar stereographic grid, in 10^-6 degree.
 const TRUE_LATITUDE: u32 = 60_000_000;
 
-/// Octet 6 and further of Section 3, for a grid of so many points, or the first number that does not fit.
+/// Octet 6 and further of Section 3, for a grid of `points` points, or the first number that does not fit.
 pub(crate) fn grid_octets(
     alloc: Global,
     section2: &[u8],

@@ -44,7 +44,7 @@ pub(crate) fn add_section(number: u8, contents: &[u8], out: &mut Vec<u8>) -> Res
     out.extend_from_slice(contents)
 }
 
-/// Adds the length and the number of a section with so many octets of contents.
+/// Adds the length and the number of a section with this number of octets of contents.
 pub(crate) fn add_section_head(
     number: u8,
     contents: usize,

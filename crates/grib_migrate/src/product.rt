@@ -94,7 +94,7 @@ fn template_of(section1: &[u8]) -> u16
     }
 }
 
-/// Adds octets 6 to 34, with so many coordinate values.
+/// Adds octets 6 to 34, with `count` coordinate values.
 fn add_instant(
     section1: &[u8],
     product: &Product,

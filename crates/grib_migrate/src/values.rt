@@ -18,7 +18,7 @@ use crate::{Loss, MigrateFault};
 use grib_bits::{u8_at, u16_at, u32_at};
 use std::alloc::{AllocError, Global};
 
-/// Octet 6 and further of Section 5, with so many present points, or the loss where the reference value has
+/// Octet 6 and further of Section 5, with this number of present points, or the loss where the reference value has
 /// no binary32 word.
 pub(crate) fn packing_octets(
     alloc: Global,
@@ -68,7 +68,7 @@ fn add_front(from: &[u8], bits: usize, out: &mut Vec<u8>) -> Result<(), AllocErr
     Ok(())
 }
 
-/// Adds Section 6: no bitmap, or the bits for so many points.
+/// Adds Section 6: no bitmap, or the bits for this number of points.
 pub(crate) fn add_bitmap(
     section3: Option<&[u8]>,
     points: u32,
@@ -88,7 +88,7 @@ pub(crate) fn add_bitmap(
     add_front(&section3[6..], points, out)
 }
 
-/// Adds Section 7: the numbers of so many present points.
+/// Adds Section 7: the numbers of the present points.
 pub(crate) fn add_data(section4: &[u8], values: u32, out: &mut Vec<u8>) -> Result<(), AllocError>
     requires head { 11 ≤ length section4.now }
     requires numbers { values * bit_width section4.now + 88 ≤ 8 * length section4.now }
@@ -101,7 +101,7 @@ pub(crate) fn add_data(section4: &[u8], values: u32, out: &mut Vec<u8>) -> Resul
     add_front(&section4[11..], bits, out)
 }
 
-/// The bits of the numbers of so many present points.
+/// The bits of the numbers of the present points.
 pub(crate) fn data_bits(section4: &[u8], values: u32) -> usize
     requires head { 11 ≤ length section4.now }
     ensures { result ≡ values * bit_width section4.now }
