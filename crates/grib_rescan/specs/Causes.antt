@@ -1,10 +1,10 @@
 -- Why the points of a grid are not put in another order, or no box is cut out: the first cause that holds.
-use Rattle.std.specs.Prelude.{ℕ, ◌%◌, Bool, not, cond, ◌&&◌, ◌||◌, Option, Some, None, List, [], ◌∷◌, nat_le, ◌==◌}
+use Rattle.std.specs.Prelude.{◌≡◌, ℕ, ◌%◌, ◌<◌, IsTrue, Bool, not, cond, ◌&&◌, ◌||◌, Option, Some, None, List, [], ◌∷◌, nat_le, ◌==◌}
 use Rattle.grib_bits.specs.Octets.{octets}
 use Rattle.grib_rescan.specs.declared.points.Area.{Area}
 use Rattle.grib_rescan.specs.declared.cause.GridCause.{GridCause}
 use Rattle.grib_rescan.specs.declared.cause.GridCause.TheVariants.{GridKind, ScanMode, OutsideBox, Increments}
-use Rattle.grib_rescan.specs.Sections.{has_steps}
+use Rattle.grib_rescan.specs.Sections.{IsLatLon, has_steps}
 
 pub record Row : Type 0 where
   pub holds : Bool
@@ -37,3 +37,11 @@ crop_cause_of area s =
     ∷ row (nat_le (octets s 31 34) area.i1 || nat_le (octets s 35 38) area.j1) OutsideBox
     ∷ row (not (has_steps s)) Increments
     ∷ [])
+
+-- a grid out of which a box can be cut whose first column and row are at most its last
+pub record CanBeCut (area : Area) (s : List ℕ) : Type 0 where
+  pub lat_lon : IsLatLon s
+  pub order : octets s 72 72 ≡ 0
+  pub last_column : area.i1 < octets s 31 34
+  pub last_row : area.j1 < octets s 35 38
+  pub steps : IsTrue (has_steps s)

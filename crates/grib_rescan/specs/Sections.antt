@@ -1,6 +1,6 @@
 -- Section 3 of a grid of latitude and longitude (WMO-No. 306, Volume I.2, FM 92 GRIB edition 2, grid
 -- definition template 3.0), in the order of scanning octet 0, and that of a box.
-use Rattle.std.specs.Prelude.{◌≡◌, ℕ, ◌+◌, ◌-◌, ◌*◌, ◌%◌, ◌^◌, ◌≤◌, Bool, not, cond, ◌&&◌, List, [], ◌∷◌, ◌++◌, length, take, drop, int_lt, ◌==◌, ℤ, pos, nat_abs, ◌-ℤ◌}
+use Rattle.std.specs.Prelude.{◌≡◌, ℕ, ◌+◌, ◌-◌, ◌*◌, ◌%◌, ◌^◌, ◌<◌, ◌≤◌, ◌⊎◌, Bool, not, cond, ◌&&◌, List, [], ◌∷◌, ◌++◌, length, take, drop, int_lt, ◌==◌, ℤ, pos, nat_abs, ◌-ℤ◌}
 use Rattle.std.specs.Ordering.{int_eq}
 use Rattle.grib_bits.specs.Octets.{octets, octet_list, signed_octets}
 use Rattle.grib_bits.specs.Encoding.{octets_of}
@@ -19,6 +19,16 @@ pub record HasPoints (s : List ℕ) : Type 0 where
 pub record HasTemplate (s : List ℕ) : Type 0 where
   pub least : 14 ≤ length s
   pub points : octets s 13 14 ≡ 0 → octets s 11 11 ≡ 0 → HasPoints s
+
+-- a Section 3 of template 3.0 without a list of rows, which no row of the profile refuses
+pub record IsLatLon (s : List ℕ) : Type 0 where
+  pub long : 72 ≤ length s
+  pub source : octets s 6 6 ≡ 0
+  pub template : octets s 13 14 ≡ 0
+  pub list : octets s 11 11 ≡ 0
+  pub some : 1 ≤ octets s 7 10
+  pub few : octets s 7 10 ≤ 33554432
+  pub product : octets s 31 34 * octets s 35 38 ≡ octets s 7 10
 
 -- these octets in place of those from `first` on, counted from 1
 abbrev pub with_octets : ℕ → List ℕ → List ℕ → List ℕ
@@ -81,3 +91,7 @@ has_columns s = longitude_at s (octets s 31 34 - 1) == octets s 60 63 % 36000000
 
 abbrev pub has_steps : List ℕ → Bool
 has_steps s = has_known_steps s && has_rows s && has_columns s
+
+-- the octets from `first` to `last` are none of those from `low` to `high`
+abbrev pub AreApart : ℕ → ℕ → ℕ → ℕ → Type 0
+AreApart first last low high = (last < low) ⊎ (high < first)

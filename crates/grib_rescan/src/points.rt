@@ -76,7 +76,10 @@ fn add_row(
 fn add_backwards(run: &[Point], out: &mut Vec<Point>) -> Result<(), AllocError>
     ensures { OnOk result (out.new.items ≡ out.old.items ++ reverse run.now) }
 {
-    out.extend(run.iter().rev().copied())
+    let start = out.len();
+    out.extend_from_slice(run)?;
+    out[start..].reverse();
+    Ok(())
 }
 
 /// Adds the points of a row, where those of a column are consecutive.
