@@ -221,6 +221,8 @@ const TEXTS: [(u32, u16, u16, i64, u32, Option<&str>); 72] = [
 fn values_are_rounded_once(rt: HostRuntime) -> Result<(), Fail> {
     for (word, e, d, x, places, expected) in TEXTS {
         let reference = Dyadic::from_ieee(word)?;
+        assert!(rt; reference.mantissa() < 1 << 24);
+        assert!(rt; x.unsigned_abs() <= 1 << 60 && places <= 18);
         let text = decimal_text(rt.alloc(), &reference, e, d, x, places);
         let is_expected = match (text, expected) {
             (Ok(text), Some(expected)) => text.as_slice() == expected.as_bytes(),
@@ -245,6 +247,7 @@ fn column_of(alloc: Global, points: &[Point]) -> Result<Column, AllocError> {
 #[test]
 fn least_and_greatest_are_the_first_of_their_kind(rt: HostRuntime) -> Result<(), Fail> {
     let none = column_of(rt.alloc(), &[Point::Missing, Point::Missing2])?;
+    assert!(rt; none.points.as_slice().len() == 2);
     assert!(rt; extremes(&none).is_none());
     let some = column_of(
         rt.alloc(),
@@ -258,6 +261,7 @@ fn least_and_greatest_are_the_first_of_their_kind(rt: HostRuntime) -> Result<(),
             Point::Scaled(7),
         ],
     )?;
+    assert!(rt; some.points.as_slice().len() == 7);
     let expected = Extremes {
         least: -2,
         least_place: 3,

@@ -1,11 +1,8 @@
 //! Sections in which the octets of a template are numbered, so that a number tells where it stands,
 //! and worked messages.
 
-ghost use Rattle.std.specs.Prelude.{◌≡◌, None, IfOk};
-ghost use Rattle.grib_bits.specs.Octets.{StatesItself};
-ghost use Rattle.grib_base.specs.Rows.{first_fault_at};
-ghost use Rattle.grib2_grids.specs.Grid.{grid_rows};
-ghost use Rattle.grib2_grids.specs.Spelled.{Spelled};
+ghost use Rattle.std.specs.Prelude.{IfOk};
+ghost use Rattle.grib2_grids.specs.Writable.{IsWritable};
 
 use crate::given::{put, put_length, section};
 use grib_base::{Fault, ReadFault, Reason};
@@ -120,13 +117,13 @@ fn numbered(alloc: Global, template: u8, length: u8) -> Result<Vec<u8>, AllocErr
     Ok(octets)
 }
 
-/// Reads a section that begins at octet 38 of its message, and sees first that it is one.
+/// Reads a section that begins at octet 38 of its message, and sees first that it is one. What is read
+/// may be written.
 fn read(rt: &impl Abort, alloc: Global, octets: &[u8]) -> Result<GridSection, ReadFault>
-    ensures itself { StatesItself 3 octets.now }
-    ensures rows { IfOk result (λ value. (first_fault_at 38 (grid_rows octets.now) ≡ None)
-        × Spelled value octets.now) }
+    ensures { IfOk result (λ value. IsWritable value) }
 {
-    read_grid(alloc, &section(rt, 3, 38, octets))
+    let section = section(rt, 3, 38, octets);
+    read_grid(alloc, &section)
 }
 
 /// The octets that are written for the value of a section, read with three octets of surplus.
@@ -135,17 +132,18 @@ fn rewritten(rt: &impl Abort, alloc: Global, octets: &[u8]) -> Result<Vec<u8>, F
     longer.extend_from_slice(&[0xee; 3])?;
     put_length(rt, &mut longer);
     let value = read(rt, alloc, longer.as_slice())?;
-    written(alloc, longer.as_slice(), &value)
+    written(alloc, &value)
 }
 
-/// The octets that are written for the value of this section.
-fn written(alloc: Global, octets: &[u8], value: &GridSection) -> Result<Vec<u8>, Fail>
-    requires itself { StatesItself 3 octets.now }
-    requires rows { first_fault_at 38 (grid_rows octets.now) ≡ None }
-    requires spelled { Spelled value.now octets.now }
+/// The octets that are written for this value.
+fn written(alloc: Global, value: &GridSection) -> Result<Vec<u8>, Fail>
+    requires { IsWritable value.now }
 {
+    let rows = value.rows.as_slice();
+    let size = u64::from(value.list_octets);
+    let room = 84 + size * rows.len() as u64;
     let mut out = BitWriter::new(alloc);
-    out.reserve((octets.len() as u64).saturating_mul(8))?;
+    out.reserve(8 * room)?;
     write_grid(value, &mut out);
     Ok(out.into_octets())
 }

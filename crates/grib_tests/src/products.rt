@@ -1,11 +1,11 @@
 //! Sections in which the octets of a template are numbered, so that a number tells where it stands,
 //! and worked messages.
 
-ghost use Rattle.std.specs.Prelude.{◌≡◌, None, IfOk};
-ghost use Rattle.grib_bits.specs.Octets.{StatesItself};
-ghost use Rattle.grib_base.specs.Rows.{first_fault_at};
-ghost use Rattle.grib2_products.specs.Product.{product_rows};
-ghost use Rattle.grib2_products.specs.Spelled.{Spelled};
+ghost use Rattle.std.specs.Prelude.{◌+◌, ◌*◌, ◌≤◌, IfOk};
+ghost use Rattle.grib2_sections.specs.Template.{least_length};
+ghost use Rattle.grib2_products.specs.Product.{product_templates};
+ghost use Rattle.grib2_products.specs.Spelled.{template_of, range_count};
+ghost use Rattle.grib2_products.specs.Writable.{IsWritable};
 
 use crate::given::{put, put_length, section};
 use grib_base::{Fault, ReadFault, Reason};
@@ -44,13 +44,13 @@ fn numbered(alloc: Global, template: u8, length: u8) -> Result<Vec<u8>, AllocErr
     Ok(octets)
 }
 
-/// Reads a section that begins at octet 110 of its message, and sees first that it is one.
+/// Reads a section that begins at octet 110 of its message, and sees first that it is one. What is read
+/// may be written.
 fn read(rt: &impl Abort, alloc: Global, octets: &[u8]) -> Result<ProductSection, ReadFault>
-    ensures itself { StatesItself 4 octets.now }
-    ensures rows { IfOk result (λ value. (first_fault_at 110 (product_rows octets.now 1) ≡ None)
-        × Spelled value octets.now) }
+    ensures { IfOk result (λ value. IsWritable value) }
 {
-    read_product(alloc, &section(rt, 4, 110, octets))
+    let section = section(rt, 4, 110, octets);
+    read_product(alloc, &section)
 }
 
 /// The octets that are written for the value of a section, read with three octets of surplus.
@@ -59,19 +59,33 @@ fn rewritten(rt: &impl Abort, alloc: Global, octets: &[u8]) -> Result<Vec<u8>, F
     longer.extend_from_slice(&[0xee; 3])?;
     put_length(rt, &mut longer);
     let value = read(rt, alloc, longer.as_slice())?;
-    written(alloc, longer.as_slice(), &value)
+    written(alloc, &value)
 }
 
-/// The octets that are written for the value of this section.
-fn written(alloc: Global, octets: &[u8], value: &ProductSection) -> Result<Vec<u8>, Fail>
-    requires itself { StatesItself 4 octets.now }
-    requires rows { first_fault_at 110 (product_rows octets.now 1) ≡ None }
-    requires spelled { Spelled value.now octets.now }
+/// The octets that are written for this value.
+fn written(alloc: Global, value: &ProductSection) -> Result<Vec<u8>, Fail>
+    requires { IsWritable value.now }
 {
+    let coordinates = value.coordinates.as_slice();
+    let room = longest(&value.product) + 4 * coordinates.len() as u64;
     let mut out = BitWriter::new(alloc);
-    out.reserve((octets.len() as u64).saturating_mul(8))?;
+    out.reserve(8 * room)?;
     write_product(value, &mut out);
     Ok(out.into_octets())
+}
+
+/// Octets that are enough for a section with this product and no coordinate values.
+fn longest(product: &Product) -> u64
+    ensures enough { least_length product_templates (template_of product.now)
+        + 12 * range_count product.now ≤ result }
+    ensures few { result ≤ 3109 }
+{
+    match product {
+        Product::Interval(_, interval) | Product::EnsembleInterval(_, _, interval) => {
+            49 + 12 * u64::from(interval.n)
+        }
+        _ => 37,
+    }
 }
 
 /// The templates, each with its least length in octets and the octet that numbers its time ranges.

@@ -1,19 +1,21 @@
--- What is known of the section is known of its octets.
-use Rattle.std.proofs.Common.{◌≡◌, None, IfOk, MatchResult, Result, Ok, Err, ℕ, List, subst}
-use Rattle.grib_base.specs.Rows.{first_fault_at}
-use Rattle.grib2_grids.specs.Grid.{grid_rows}
-use Rattle.grib2_grids.specs.Spelled.{Spelled}
+-- What was read may be written.
+use Rattle.std.proofs.Common.{ℕ, IfOk, MatchResult, Result, Ok, Err, sym, subst}
+use Rattle.grib_bits.specs.Octets.{StatesItself}
+use Rattle.grib_bits.proofs.OctetBits.{AreOctets}
+use Rattle.grib_bits.proofs.OctetNumbers.{AreOctets-known}
+use Rattle.grib2_grids.specs.Writable.{IsWritable}
+use Rattle.grib2_grids.proofs.Readable.{writable, IsSectionOf-read}
 use Rattle.grib_tests.proofs.grids.read.Goals as goal
 
-if_ok : {T E : Type 0} (r : Result T E) (P : T → Type 0) (Q : E → Type 0) → MatchResult r P Q → IfOk r P
-if_ok (Ok x) P Q h = h
-if_ok (Err e) P Q h = tt
+if_ok : {T E : Type 0} (r : Result T E) (P W : T → Type 0) (Q : E → Type 0) → ((x : T) → P x → W x) → MatchResult r P Q → IfOk r W
+if_ok (Ok x) P W Q f h = f x h
+if_ok (Err e) P W Q f h = tt
 
-pub returns-clause-rows : goal.returns-clause-rows
-returns-clause-rows g c =
-    let read = c.read_grid.result in
-    let e = c.section.ensures in
-    let s = c.section.result.octets.now in
-    subst (λ (s : List ℕ). IfOk read (λ value. first_fault_at 38 (grid_rows s) ≡ None × Spelled value s)) e.octets
-    (subst (λ (n : ℕ). IfOk read (λ value. first_fault_at n (grid_rows s) ≡ None × Spelled value s)) e.start
-    (if_ok read _ _ c.read_grid.ensures.rows))
+pub returns : goal.returns
+returns g c =
+    let section = c.section-section.result in
+    let s = section.octets.now in
+    let itself = subst (λ (n : ℕ). StatesItself n s) c.section-section.ensures.number section.itself in
+    let known = subst AreOctets (sym c.section-section.ensures.octets) (AreOctets-known c.args.octets.now c.type_inv.octets) in
+    if_ok c.read_grid.result _ (λ value. IsWritable value) _
+    (λ value h. writable value s (IsSectionOf-read section.start value s known itself h.0 h.1)) c.read_grid.ensures.rows
