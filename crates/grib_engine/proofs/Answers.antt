@@ -1,22 +1,36 @@
 -- What comes of a message.
-use Rattle.std.proofs.Common.{◌≡◌, ◌⊎◌, ℕ, true, false, Bool, ◌||◌, ◌==◌, None, Some, Option, List, [], length, refl, sym, ap, ◌∙◌, subst, inl, inr, eqb-true}
+use Rattle.std.proofs.Common.{◌≡◌, ◌≢◌, ◌⊎◌, IfOk, Ok, Err, ℕ, true, false, Bool, ◌||◌, ◌==◌, Some, Option, List, [], length, refl, sym, ap, ◌∙◌, subst, inl, inr, eqb-true}
 use Rattle.grib_packing.specs.Written.{IsTarget}
-use Rattle.grib_stream.specs.Acts.{Act, World, writes, DidFront}
-use Rattle.grib_stream.specs.Task.{Gives, Ends}
-use Rattle.grib_stream.proofs.Worlds.{did_none}
+use Rattle.std.specs.declared.result.Result.{Result}
+use Rattle.std.proofs.lemmas.Bool.{false≢true}
+use Rattle.std.specs.Io.KnownBytes.{Appends}
+use Rattle.grib_io.specs.Outside.{AppendsFront, CountsStop}
+use Rattle.grib_io.specs.Shelves.{Held}
+use Rattle.grib_io.specs.declared.outside.Stop.{Stop}
+use Rattle.grib_io.specs.declared.outside.Stop.TheVariants as Stops
+use Rattle.grib_stream.specs.Acts.{Act, World, world, writes, DidFront}
+use Rattle.grib_stream.specs.Task.{Given, Gives, Ends}
+use Rattle.grib_stream.proofs.Worlds.{did_none, did_write, did_write_front}
 use Rattle.grib_repack.specs.declared.target.RepackTarget.{RepackTarget}
 use Rattle.grib_repack.specs.declared.target.RepackTarget.TheVariants.{Simple, Complex, Spatial}
 use Rattle.grib_repack.specs.declared.fault.RepackFault.{RepackFault}
 use Rattle.grib_repack.specs.declared.fault.RepackFault.TheVariants.{SecondaryMissing, OutOfRange, DifferenceRange, OutputTooLong, Memory}
 use Rattle.grib_repack.specs.Faults.{target_of, IsRepackFault}
-use Rattle.grib_repack.specs.Repacked.{RepackMisfit}
-use Rattle.grib_select.specs.Changed.{IsSetFault}
+use Rattle.grib_repack.specs.Repacked.{RepackMisfit, repacked, repack_misfit}
+use Rattle.grib_keys.specs.declared.condition.Condition.{Condition}
+use Rattle.grib_select.specs.Changed.{IsSetFault, set_fault, with_keys}
 use Rattle.grib_select.specs.declared.changing.SetFault.{SetFault}
 use Rattle.grib_select.specs.declared.changing.SetFault.TheVariants as unset
 use Rattle.grib_engine.specs.declared.answering.Answered.{Answered}
-use Rattle.grib_engine.specs.Answering.{Answers, acts_given, answered_by, answered_unset}
-use Rattle.grib_engine.specs.Jobs.{is_target}
-use Rattle.grib_engine.specs.Tasks.{cause_of, kept_at, given_unless, given_set}
+use Rattle.grib_engine.specs.declared.answering.Answered.TheVariants.{Whole, WriteFault, ShelfFault}
+use Rattle.grib_engine.specs.Answering.{Answers, AnswersMessage, AnswersByOutput, AnswersByShelf, acts_given, answered_by, answered_unset, answered_printed, answered_stopped, answered_written}
+use Rattle.grib_engine.specs.Pending.{WritesTo}
+use Rattle.grib_engine.specs.Jobs.{is_target, uses_shelf}
+use Rattle.grib_engine.specs.Parts.{parts_of, puts_all, octets_within}
+use Rattle.grib_engine.specs.declared.job.Job.{Job}
+use Rattle.grib_engine.specs.declared.job.Job.TheVariants.{Check, List as Listing, Dump, Filter, Split, Set, Repack}
+use Rattle.grib_stream.specs.declared.place.Place.{Place}
+use Rattle.grib_engine.specs.Tasks.{cause_of, kept_at, filtered, given_2, given_whole, given_unless, given_set, message_text_2}
 
 one_or_two : (a b : Bool) (order : ℕ) → (order == 1) ≡ a → (order == 2) ≡ b → (a || b) ≡ true → (order ≡ 1) ⊎ (order ≡ 2)
 one_or_two true b order one two h = inl (eqb-true order 1 one)
@@ -49,20 +63,6 @@ not_repacked misfits (OutputTooLong long) result m octets a is same =
 not_repacked misfits Memory result m octets a is same =
     subst (λ r. Answers r m (given_unless misfits m octets) a a) (sym same) (front_nothing a (acts_given (given_unless misfits m octets)))
 
--- a message of which nothing is lost, as it was written
-fits : (misfits : Option RepackMisfit) (m : ℕ) (octets : List ℕ) → misfits ≡ None → given_unless misfits m octets ≡ Gives (writes octets) (length octets)
-fits misfits m octets none = ap (λ o. given_unless o m octets) none
-
-pub fits_shown : (misfits : Option RepackMisfit) (m : ℕ) (octets shown : List ℕ) (written : ℕ) → misfits ≡ None → shown ≡ octets → written ≡ length shown
-    → given_unless misfits m octets ≡ Gives (writes shown) written
-fits_shown misfits m octets shown written none is long =
-    fits misfits m octets none ∙ (ap (λ xs. Gives (writes xs) (length xs)) (sym is) ∙ ap (Gives (writes shown)) (sym long))
-
-pub fits_front : (misfits : Option RepackMisfit) (m : ℕ) (octets shown : List ℕ) (a b : World) → misfits ≡ None → shown ≡ octets → DidFront a b (writes shown)
-    → DidFront a b (acts_given (given_unless misfits m octets))
-fits_front misfits m octets shown a b none is front =
-    subst (λ given. DidFront a b (acts_given given)) (sym (fits_shown misfits m octets shown (length shown) none is refl)) front
-
 -- ---- new values of keys
 
 -- a message in which no key is set
@@ -75,13 +75,170 @@ not_set faults (unset.KeyAbsent field key) result m octets a is same =
 not_set faults unset.Memory result m octets a is same =
     subst (λ r. Answers r m (given_set faults m octets) a a) (sym same) (front_nothing a (acts_given (given_set faults m octets)))
 
--- a message with its new values, as it was written
-pub set_shown : (faults : Option SetFault) (m : ℕ) (octets shown : List ℕ) (written : ℕ) → faults ≡ None → shown ≡ octets → written ≡ length shown
-    → given_set faults m octets ≡ Gives (writes shown) written
-set_shown faults m octets shown written none is long =
-    ap (λ o. given_set o m octets) none ∙ (ap (λ xs. Gives (writes xs) (length xs)) (sym is) ∙ ap (Gives (writes shown)) (sym long))
+-- no device is at fault where a message is not changed
+no_device : (fault : RepackFault) → (answered_by fault ≢ WriteFault) × (answered_by fault ≢ ShelfFault)
+no_device (SecondaryMissing field point) = (λ no. cc, λ no. cc)
+no_device (OutOfRange field point) = (λ no. cc, λ no. cc)
+no_device (DifferenceRange field) = (λ no. cc, λ no. cc)
+no_device (OutputTooLong long) = (λ no. cc, λ no. cc)
+no_device Memory = (λ no. cc, λ no. cc)
 
-pub set_front : (faults : Option SetFault) (m : ℕ) (octets shown : List ℕ) (a b : World) → faults ≡ None → shown ≡ octets → DidFront a b (writes shown)
-    → DidFront a b (acts_given (given_set faults m octets))
-set_front faults m octets shown a b none is front =
-    subst (λ given. DidFront a b (acts_given given)) (sym (set_shown faults m octets shown (length shown) none is refl)) front
+no_device_set : (fault : SetFault) → (answered_unset fault ≢ WriteFault) × (answered_unset fault ≢ ShelfFault)
+no_device_set (unset.KeyRange key) = (λ no. cc, λ no. cc)
+no_device_set (unset.KeyAbsent field key) = (λ no. cc, λ no. cc)
+no_device_set unset.Memory = (λ no. cc, λ no. cc)
+
+-- ---- what was printed or written, by the output alone
+
+module _ {Sink : Type 0} (contents : Sink → Option (List ℕ)) (faults : Sink → ℕ) where
+  front_given : (given : Given) (text : List ℕ) (a b : Sink) (names : Option Held) → acts_given given ≡ writes text → AppendsFront (contents a) (contents b) text
+      → DidFront (world (contents a) names) (world (contents b) names) (acts_given given)
+  front_given given text a b names is front =
+      subst (DidFront (world (contents a) names) (world (contents b) names)) (sym is) (did_write_front (contents a) (contents b) names text front)
+
+  -- a text was written whole
+  whole : (count m : ℕ) (given : Given) (text : List ℕ) (a b : Sink) → given ≡ Gives (writes text) count → Appends (contents a) (contents b) text
+      → faults b ≡ faults a → AnswersByOutput contents faults (Whole count) m given a b
+  whole count m given text a b is appended stays = record {
+    answers = λ names. (writes text, is, did_write (contents a) (contents b) names text appended);
+    write_fault = λ no. absurd (cc no);
+    write_stays = λ other. stays;
+    unshelved = λ no. cc;
+  }
+
+  -- or the output stopped within it
+  cut : (stop : Stop) (m : ℕ) (given : Given) (text : List ℕ) (a b : Sink) → acts_given given ≡ writes text → AppendsFront (contents a) (contents b) text
+      → CountsStop stop (faults a) (faults b) → AnswersByOutput contents faults (answered_stopped stop) m given a b
+  cut Stops.Failed m given text a b is front counted = record {
+    answers = λ names. front_given given text a b names is front;
+    write_fault = λ same. counted;
+    write_stays = λ other. absurd (other refl);
+    unshelved = λ no. cc;
+  }
+  cut Stops.Memory m given text a b is front counted = record {
+    answers = λ names. front_given given text a b names is front;
+    write_fault = λ no. absurd (cc no);
+    write_stays = λ other. counted;
+    unshelved = λ no. cc;
+  }
+
+  printing : {T : Type 0} (result : Result T Stop) (m : ℕ) (given : Given) (text : List ℕ) (a b : Sink) → given ≡ Gives (writes text) 0
+      → WritesTo contents faults result a b text → AnswersByOutput contents faults (answered_printed result) m given a b
+  printing (Ok x) m given text a b is wrote = whole 0 m given text a b is wrote.octets.whole wrote.counted
+  printing (Err stop) m given text a b is wrote = cut stop m given text a b (ap acts_given is) wrote.octets.front wrote.counted
+
+  writing : (result : Result ℕ Stop) (m : ℕ) (given : Given) (text : List ℕ) (a b : Sink) → given ≡ given_whole text
+      → IfOk result (λ count. count ≡ length text) → WritesTo contents faults result a b text → AnswersByOutput contents faults (answered_written result) m given a b
+  writing (Ok count) m given text a b is counts wrote =
+      whole count m given text a b (is ∙ ap (Gives (writes text)) (sym counts)) wrote.octets.whole wrote.counted
+  writing (Err stop) m given text a b is counts wrote = cut stop m given text a b (ap acts_given is) wrote.octets.front wrote.counted
+
+  -- a message that is kept, or for which there is no memory
+  faulting : (fault : RepackFault) (misfits : Option RepackMisfit) (m : ℕ) (octets : List ℕ) (a : Sink) → IsRepackFault misfits fault
+      → AnswersByOutput contents faults (answered_by fault) m (given_unless misfits m octets) a a
+  faulting fault misfits m octets a is = record {
+    answers = λ names. not_repacked misfits fault (answered_by fault) m octets (world (contents a) names) is refl;
+    write_fault = λ no. absurd ((no_device fault).0 no);
+    write_stays = λ other. refl;
+    unshelved = (no_device fault).1;
+  }
+
+  set_faulting : (fault : SetFault) (found : Option SetFault) (m : ℕ) (octets : List ℕ) (a : Sink) → IsSetFault found fault
+      → AnswersByOutput contents faults (answered_unset fault) m (given_set found m octets) a a
+  set_faulting fault found m octets a is = record {
+    answers = λ names. not_set found fault (answered_unset fault) m octets (world (contents a) names) is refl;
+    write_fault = λ no. absurd ((no_device_set fault).0 no);
+    write_stays = λ other. refl;
+    unshelved = (no_device_set fault).1;
+  }
+
+  -- what comes of it, as it is answered
+  pub by_printing : {T : Type 0} (result : Result T Stop) (answered : Answered) (m : ℕ) (given : Given) (text : List ℕ) (a b : Sink) → answered ≡ answered_printed result
+      → given ≡ Gives (writes text) 0 → WritesTo contents faults result a b text → AnswersByOutput contents faults answered m given a b
+  by_printing result answered m given text a b same is wrote =
+      subst (λ r. AnswersByOutput contents faults r m given a b) (sym same) (printing result m given text a b is wrote)
+
+  pub by_writing : (result : Result ℕ Stop) (answered : Answered) (m : ℕ) (given : Given) (text : List ℕ) (a b : Sink) → answered ≡ answered_written result
+      → given ≡ given_whole text → IfOk result (λ count. count ≡ length text) → WritesTo contents faults result a b text
+      → AnswersByOutput contents faults answered m given a b
+  by_writing result answered m given text a b same is counts wrote =
+      subst (λ r. AnswersByOutput contents faults r m given a b) (sym same) (writing result m given text a b is counts wrote)
+
+  pub by_fault : (fault : RepackFault) (answered : Answered) (misfits : Option RepackMisfit) (m : ℕ) (octets : List ℕ) (a : Sink) → answered ≡ answered_by fault
+      → IsRepackFault misfits fault → AnswersByOutput contents faults answered m (given_unless misfits m octets) a a
+  by_fault fault answered misfits m octets a same is =
+      subst (λ r. AnswersByOutput contents faults r m (given_unless misfits m octets) a a) (sym same) (faulting fault misfits m octets a is)
+
+  pub by_set_fault : (fault : SetFault) (answered : Answered) (found : Option SetFault) (m : ℕ) (octets : List ℕ) (a : Sink) → answered ≡ answered_unset fault
+      → IsSetFault found fault → AnswersByOutput contents faults answered m (given_set found m octets) a a
+  by_set_fault fault answered found m octets a same is =
+      subst (λ r. AnswersByOutput contents faults r m (given_set found m octets) a a) (sym same) (set_faulting fault found m octets a is)
+
+  -- and the shelf as it was
+  pub by_output : {Shelf : Type 0} (names : Shelf → Option Held) (shelf_faults : Shelf → ℕ) (result : Answered) (m : ℕ) (given own : Given) (shelved : Bool) (a b : Sink) (shelf : Shelf)
+      → given ≡ own → (shelved ≡ true → b ≡ a) → AnswersByOutput contents faults result m own a b
+      → AnswersMessage contents faults names shelf_faults result m given shelved a b shelf shelf
+  by_output names shelf_faults result m given own shelved a b shelf is kept_output done = record {
+    answers = subst (λ x. Answers result m x (world (contents a) (names shelf)) (world (contents b) (names shelf))) (sym is) (done.answers (names shelf));
+    write_fault = done.write_fault;
+    write_stays = done.write_stays;
+    shelf_fault = λ no. absurd (done.unshelved no);
+    shelf_stays = λ other. refl;
+    shelf_kept = λ off. refl;
+    unshelved = λ off. done.unshelved;
+    output_kept = kept_output;
+  }
+
+  -- or the output as it was
+  pub by_shelf : {Shelf : Type 0} (names : Shelf → Option Held) (shelf_faults : Shelf → ℕ) (result : Answered) (m : ℕ) (given own : Given) (shelved : Bool) (output : Sink) (a b : Shelf)
+      → given ≡ own → shelved ≡ true → AnswersByShelf names shelf_faults result m own a b
+      → AnswersMessage contents faults names shelf_faults result m given shelved output output a b
+  by_shelf names shelf_faults result m given own shelved output a b is on done = record {
+    answers = subst (λ x. Answers result m x (world (contents output) (names a)) (world (contents output) (names b))) (sym is) (done.answers (contents output));
+    write_fault = λ no. absurd (done.unwritten no);
+    write_stays = λ other. refl;
+    shelf_fault = done.shelf_fault;
+    shelf_stays = done.shelf_stays;
+    shelf_kept = λ off. absurd (false≢true (sym off ∙ on));
+    unshelved = λ off. absurd (false≢true (sym off ∙ on));
+    output_kept = λ _. refl;
+  }
+
+-- ---- what each job gives for a message of edition 2, and whether it uses the shelf
+
+pub at_no_shelf : {A : Type 0} (shelved : Bool) → shelved ≡ false → shelved ≡ true → A
+at_no_shelf shelved off on = absurd (false≢true (sym off ∙ on))
+
+module _ (job : Job) (place : Place) (message : List ℕ) where
+  -- its text is printed
+  abbrev pub Prints : Job → Type 0
+  Prints j = (given_2 j place message ≡ Gives (writes (message_text_2 j place message)) 0) × (uses_shelf j ≡ false)
+
+  pub prints_check : job ≡ Check → Prints job
+  prints_check is = subst Prints (sym is) (refl, refl)
+
+  pub prints_list : job ≡ Listing → Prints job
+  prints_list is = subst Prints (sym is) (refl, refl)
+
+  pub prints_dump : job ≡ Dump → Prints job
+  prints_dump is = subst Prints (sym is) (refl, refl)
+
+  pub filters : (conditions shown : List Condition) → job ≡ Filter conditions → shown ≡ conditions
+      → (given_2 job place message ≡ given_whole (filtered shown message)) × (uses_shelf job ≡ false)
+  filters conditions shown is same =
+      (ap (λ j. given_2 j place message) is ∙ ap (λ cs. given_whole (filtered cs message)) (sym same), ap uses_shelf is)
+
+  pub sets : (changes shown : List Condition) → job ≡ Set changes → shown ≡ changes
+      → (given_2 job place message ≡ given_set (set_fault message shown) place.message (with_keys message shown)) × (uses_shelf job ≡ false)
+  sets changes shown is same =
+      (ap (λ j. given_2 j place message) is ∙ ap (λ cs. given_set (set_fault message cs) place.message (with_keys message cs)) (sym same), ap uses_shelf is)
+
+  pub repacks : (target : RepackTarget) → job ≡ Repack target
+      → (given_2 job place message ≡ given_unless (repack_misfit (target_of target) message) place.message (repacked (target_of target) message))
+      × (uses_shelf job ≡ false)
+  repacks target is = (ap (λ j. given_2 j place message) is, ap uses_shelf is)
+
+  pub splits : (name : List ℕ) → job ≡ Split name
+      → (given_2 job place message ≡ Gives (puts_all (parts_of name place.fields message)) (octets_within (parts_of name place.fields message)))
+      × (uses_shelf job ≡ true)
+  splits name is = (ap (λ j. given_2 j place message) is, ap uses_shelf is)

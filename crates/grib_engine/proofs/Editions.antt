@@ -1,5 +1,13 @@
 -- What is given of a message that was read, by its edition.
 use Rattle.std.proofs.Common.{◌≡◌, ℕ, ◌==◌, true, List, length, take, refl, sym, ap, ◌∙◌, subst}
+use Rattle.std.proofs.Common.{Ok, Err, MatchResult}
+use Rattle.std.specs.Result.{IsErrAnd}
+use Rattle.std.specs.declared.result.Result.{Result}
+use Rattle.grib_base.specs.declared.fault.ReadFault.{ReadFault}
+use Rattle.grib_base.specs.declared.fault.ReadFault.TheVariants.{Refused, Memory}
+use Rattle.grib2_sections.specs.Refused.{IsVerdict}
+use Rattle.grib1_sections.specs.Acceptance.{verdict_1}
+use Rattle.grib2_message.specs.Acceptance.{verdict_2}
 use Rattle.std.proofs.lemmas.Bool.{false≢true}
 use Rattle.grib_base.specs.Rows.{choose}
 use Rattle.grib2_sections.specs.Head.{edition}
@@ -10,36 +18,25 @@ use Rattle.grib_stream.specs.Acts.{World, DidFront}
 use Rattle.grib_stream.specs.Outcomes.{is_cut_within}
 use Rattle.grib_stream.specs.Performed.{EndsWith}
 use Rattle.grib_stream.specs.Task.{Given, Gives, Ends, next_given, next_judged, next_of, acts_of}
-use Rattle.grib_engine.specs.declared.answering.Answered.{Answered}
 use Rattle.grib_engine.specs.declared.job.Job.{Job}
 use Rattle.grib_engine.specs.declared.reading.Held.{Held}
 use Rattle.grib_engine.specs.declared.reading.Held.TheVariants.{One, Two}
-use Rattle.grib_engine.specs.Answering.{Answers, acts_given}
+use Rattle.grib_engine.specs.Answering.{acts_given}
 use Rattle.grib_engine.specs.EditionOne.{given_1}
-use Rattle.grib_engine.specs.Reading.{held_octets, Holds}
-use Rattle.grib_engine.specs.Tasks.{fields_of, given_2, given, task}
+use Rattle.grib_engine.specs.Reading.{held_octets, Holds, IsUnread}
+use Rattle.grib_engine.specs.Tasks.{judged, fields_of, given_2, given, task}
 
-given_of_first : (job : Job) (place : Place) (held : Held) (message : List ℕ) → held ≡ One message → edition message ≡ 1
+pub given_of_first : (job : Job) (place : Place) (held : Held) (message : List ℕ) → held ≡ One message → edition message ≡ 1
     → given job place (held_octets held) ≡ given_1 job place message
 given_of_first job place held message is first =
     ap (λ h. given job place (held_octets h)) is
     ∙ ap (λ e. choose (e == 1) (λ _. given_1 job place message) (λ _. given_2 job place message)) first
 
-given_of_second : (job : Job) (place : Place) (held : Held) (message : List ℕ) → held ≡ Two message → edition message ≡ 2
+pub given_of_second : (job : Job) (place : Place) (held : Held) (message : List ℕ) → held ≡ Two message → edition message ≡ 2
     → given job place (held_octets held) ≡ given_2 job place message
 given_of_second job place held message is second =
     ap (λ h. given job place (held_octets h)) is
     ∙ ap (λ e. choose (e == 1) (λ _. given_1 job place message) (λ _. given_2 job place message)) second
-
-pub answers_first : (result : Answered) (m : ℕ) (job : Job) (place : Place) (held : Held) (message : List ℕ) (a b : World) → held ≡ One message → edition message ≡ 1
-    → Answers result m (given_1 job place message) a b → Answers result m (given job place (held_octets held)) a b
-answers_first result m job place held message a b is first answers =
-    subst (λ x. Answers result m x a b) (sym (given_of_first job place held message is first)) answers
-
-pub answers_second : (result : Answered) (m : ℕ) (job : Job) (place : Place) (held : Held) (message : List ℕ) (a b : World) → held ≡ Two message → edition message ≡ 2
-    → Answers result m (given_2 job place message) a b → Answers result m (given job place (held_octets held)) a b
-answers_second result m job place held message a b is second answers =
-    subst (λ x. Answers result m x a b) (sym (given_of_second job place held message is second)) answers
 
 pub fields_first : (held : Held) (message : List ℕ) → held ≡ One message → edition message ≡ 1 → fields_of (held_octets held) ≡ 1
 fields_first held message is first =
@@ -48,6 +45,33 @@ fields_first held message is first =
 pub fields_second : (held : Held) (message : List ℕ) → held ≡ Two message → edition message ≡ 2 → fields_of (held_octets held) ≡ field_count message
 fields_second held message is second =
     ap (λ h. fields_of (held_octets h)) is ∙ ap (λ e. choose (e == 1) (λ _. 1) (λ _. field_count message)) second
+
+-- ---- what was not read
+
+first_unread : (octets : List ℕ) (fault : ReadFault) → edition octets ≡ 1 → IsVerdict (verdict_1 octets) fault → IsUnread octets fault
+first_unread octets (Refused fault) first known =
+    ap (λ e. choose (e == 1) (λ _. judged (verdict_1 octets)) (λ _. judged (verdict_2 octets))) first ∙ ap judged known
+first_unread octets Memory first known = tt
+
+second_unread : (octets : List ℕ) (fault : ReadFault) → edition octets ≡ 2 → IsVerdict (verdict_2 octets) fault → IsUnread octets fault
+second_unread octets (Refused fault) second known =
+    ap (λ e. choose (e == 1) (λ _. judged (verdict_1 octets)) (λ _. judged (verdict_2 octets))) second ∙ ap judged known
+second_unread octets Memory second known = tt
+
+-- a fault that `?` passes on
+module _ {A : Type 0} (P : A → Type 0) (octets : List ℕ) where
+  passed : (result : Result A ReadFault) (fault : ReadFault) → IsErrAnd result (λ read. read ≡ fault) → IsUnread octets fault
+      → MatchResult result P (IsUnread octets)
+  passed (Ok value) fault is unread = absurd is
+  passed (Err read) fault is unread = subst (IsUnread octets) (sym is) unread
+
+  pub passed_first : (result : Result A ReadFault) (fault : ReadFault) → edition octets ≡ 1 → IsErrAnd result (λ read. read ≡ fault) → IsVerdict (verdict_1 octets) fault
+      → MatchResult result P (IsUnread octets)
+  passed_first result fault first is known = passed result fault is (first_unread octets fault first known)
+
+  pub passed_second : (result : Result A ReadFault) (fault : ReadFault) → edition octets ≡ 2 → IsErrAnd result (λ read. read ≡ fault) → IsVerdict (verdict_2 octets) fault
+      → MatchResult result P (IsUnread octets)
+  passed_second result fault second is known = passed result fault is (second_unread octets fault second known)
 
 -- ---- what comes next
 

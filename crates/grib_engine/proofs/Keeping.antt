@@ -126,7 +126,7 @@ written_are target input =
     let found = stream judge (take (2 ^ 40) input) in
     ap written (within_acts (task (Repack target)) (2 ^ 40) input) ∙ acts_are target 0 0 0 found.messages found.end
 
--- ---- the same values
+-- ---- equal values
 
 same_then : (target : Target) (misfit : Option RepackMisfit) (message : List ℕ) (rest : List (List ℕ)) → (misfit ≡ None → SameValues message (repacked target message))
     → AllSame rest (map (repacked target) rest) → AllSame (kept_then misfit message rest) (map (repacked target) (kept_then misfit message rest))

@@ -27,31 +27,31 @@ use Rattle.grib_engine.proofs.Noted.{OneOf}
 
 written_then : (a b c : Option (List ℕ)) (names : Option Names) (octets : List ℕ) → Appends a b octets → Keeps b c
     → Did (world a names) (world c names) (writes octets)
-written_then a b c names octets told kept = did_still (world a names) (world b names) (world c names) (writes octets) (did_write a b names octets told) (did_keep b c names kept)
+written_then a b c names octets appended kept = did_still (world a names) (world b names) (world c names) (writes octets) (did_write a b names octets appended) (did_keep b c names kept)
 
 only_done : (result : Outcome) → OneOf Done result → is_broken result ≡ false → result ≡ Done
-only_done result (inl same) calm = same
-only_done result (inr (inl fault)) calm = let no : ⊥ = cc (ap is_broken fault) in absurd no
-only_done result (inr (inr memory)) calm = let no : ⊥ = cc (ap is_broken memory) in absurd no
+only_done result (inl same) unbroken = same
+only_done result (inr (inl fault)) unbroken = let no : ⊥ = cc (ap is_broken fault) in absurd no
+only_done result (inr (inr memory)) unbroken = let no : ⊥ = cc (ap is_broken memory) in absurd no
 
 pub gives_whole : (a b c : Option (List ℕ)) (octets note : List ℕ) (result : Outcome) → Appends a b octets → Keeps b c → OneOf Done result
     → (names : Option Names) → Gives (writing octets note) result (world a names) (world c names)
-gives_whole a b c octets note result told kept one names =
-    let did = written_then a b c names octets told kept in
+gives_whole a b c octets note result appended kept one names =
+    let did = written_then a b c names octets appended kept in
     record {
       ends = only_done result one;
-      whole = λ calm. subst (Did (world a names) (world c names)) (sym (append-nil (writes octets))) did;
+      whole = λ unbroken. subst (Did (world a names) (world c names)) (sym (append-nil (writes octets))) did;
       front = front_more (world a names) (world c names) (writes octets) [] (front_whole (world a names) (world c names) (writes octets) did);
     }
 
 -- a run that broke, where a front was written
 pub gives_broken : (a b c : Option (List ℕ)) (octets note : List ℕ) (result : Outcome) → AppendsFront a b octets → Keeps b c → is_broken result ≡ true
     → (names : Option Names) → Gives (writing octets note) result (world a names) (world c names)
-gives_broken a b c octets note result told kept broken names = record {
-  ends = λ calm. let no : ⊥ = cc in absurd no;
-  whole = λ calm. let no : ⊥ = cc in absurd no;
+gives_broken a b c octets note result appended kept broken names = record {
+  ends = λ unbroken. let no : ⊥ = cc in absurd no;
+  whole = λ unbroken. let no : ⊥ = cc in absurd no;
   front = front_more (world a names) (world c names) (writes octets) []
-      (front_still (world a names) (world b names) (world c names) (writes octets) (did_write_front a b names octets told) (did_keep b c names kept));
+      (front_still (world a names) (world b names) (world c names) (writes octets) (did_write_front a b names octets appended) (did_keep b c names kept));
 }
 
 pub broken_either : (outcome result : Outcome) → is_broken outcome ≡ true → OneOf outcome result → is_broken result ≡ true
@@ -86,14 +86,11 @@ nothing_lost target message column one is kind none few =
     ap (λ n. misfit_among target message (range_with_len 1 n)) one ∙ ap (λ o. or_later o (λ _. None)) (field_fits target message column is none) in
     ap (λ o. or_later o (λ _. length_misfit (length (repacked target message)))) fields ∙ short_fits (length (repacked target message)) short
 
--- the same octets and the same note
+-- octets and a note that are equal
 pub gives_same : (octets octets_now note note_now : List ℕ) (result : Outcome) (a b : World) → octets ≡ octets_now → note ≡ note_now
     → Gives (writing octets note) result a b → Gives (writing octets_now note_now) result a b
 gives_same octets octets_now note note_now result a b same_octets same_note gives =
     subst (λ n. Gives (writing octets_now n) result a b) same_note (subst (λ o. Gives (writing o note) result a b) same_octets gives)
-
-pub front_same : (a b : Option (List ℕ)) (note note_now : List ℕ) → note ≡ note_now → NotesFront a b note Done → NotesFront a b note_now Done
-front_same a b note note_now same front = subst (λ n. NotesFront a b n Done) same front
 
 -- after a fault of writing nothing is noted
 pub front_at_fault : (a b : Option (List ℕ)) (note : List ℕ) → NotesFront a b note WriteFault → NotesFront a b note Done

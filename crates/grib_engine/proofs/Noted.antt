@@ -1,5 +1,5 @@
 -- The note of a run, by the outcome before the end and by the answer.
-use Rattle.std.proofs.Common.{◌≡◌, ◌≢◌, ◌⊎◌, ℕ, false, List, None, Some, IfSome, refl, sym, ap, ◌∙◌, subst, inl, inr}
+use Rattle.std.proofs.Common.{◌≡◌, ◌≢◌, ◌⊎◌, ℕ, ◌<◌, Bool, ◌&&◌, ◌==◌, true, false, arith, length, List, None, Some, IfSome, refl, sym, ap, ◌∙◌, subst, inl, inr}
 use Rattle.std.specs.declared.option.Option.{Option}
 use Rattle.std.specs.Io.KnownBytes.{Appends}
 use Rattle.grib_io.specs.Outside.{AppendsFront, Counted}
@@ -12,11 +12,12 @@ use Rattle.grib_stream.specs.Answer.{Answer, NotesOutcome, answer_within}
 use Rattle.grib_stream.specs.Run.{Gives, Runs, Notes}
 use Rattle.grib_stream.proofs.Notes.{notes_within}
 use Rattle.grib_engine.specs.declared.job.Job.{Job}
+use Rattle.grib_engine.specs.Closing.{ClosesRun, EndsInTurn, EndsRun, Unfinished}
 use Rattle.grib_engine.specs.Outcomes.{note_of, note_with, NotesFront, NotesEnd, Noted, NotesRun}
 use Rattle.grib_engine.specs.Tasks.{task, ending_note}
 use Rattle.grib_engine.proofs.Outside.{front_of_nothing}
 
--- the end of a run answers the outcome, or a fault of writing or want of memory
+-- the end of a run answers the outcome, or a fault of writing, or Memory
 abbrev pub OneOf : Outcome → Outcome → Type 0
 OneOf outcome result = (result ≡ outcome) ⊎ ((result ≡ WriteFault) ⊎ (result ≡ Memory))
 
@@ -34,48 +35,83 @@ no_shelf_fault outcome result (inr (inr memory)) other is = let no : Memory ≡ 
 -- the note that was appended is that of the outcome with which the run ends
 pub noted_with : (a b : Option (List ℕ)) (note done : List ℕ) (outcome result : Outcome) → OneOf outcome result → note ≡ note_with done outcome
     → (is_cut_short result ≡ false → Appends a b note) → is_cut_short result ≡ false → Appends a b (note_with done result)
-noted_with a b note done outcome result (inl same) is told calm = subst (Appends a b) (is ∙ ap (note_with done) (sym same)) (told calm)
-noted_with a b note done outcome result (inr (inl fault)) is told calm = let no : ⊥ = cc (ap is_cut_short fault) in absurd no
-noted_with a b note done outcome result (inr (inr memory)) is told calm = let no : ⊥ = cc (ap is_cut_short memory) in absurd no
+noted_with a b note done outcome result (inl same) is appended uncut = subst (Appends a b) (is ∙ ap (note_with done) (sym same)) (appended uncut)
+noted_with a b note done outcome result (inr (inl fault)) is appended uncut = let no : ⊥ = cc (ap is_cut_short fault) in absurd no
+noted_with a b note done outcome result (inr (inr memory)) is appended uncut = let no : ⊥ = cc (ap is_cut_short memory) in absurd no
+
+-- ---- the end of a run with a note
+
+left_true : (b c : Bool) → (b && c) ≡ true → b ≡ true
+left_true true c is = refl
+left_true false c is = is
+
+module _ {Output Notes : Type 0} (contents : Output → Option (List ℕ)) (faults : Output → ℕ) (settled : Output → Bool) (notes_contents : Notes → Option (List ℕ)) (notes_faults : Notes → ℕ) (notes_settled : Notes → Bool) (output output_now : Output) (notes notes_now : Notes) where
+  -- after a fault of the output the notes are not finished
+  still_unfinished : (note : List ℕ) → EndsInTurn faults settled notes_contents notes_faults notes_settled note output output_now notes notes_now
+      → faults output < faults output_now → Unfinished (notes_settled notes) (notes_settled notes_now)
+  still_unfinished note (inl (same, unfinished)) rose = unfinished
+  still_unfinished note (inr (inl (appended, stays, waits))) rose = λ all. left_true (notes_settled notes) (length note == 0) (sym waits ∙ all)
+  still_unfinished note (inr (inr (appended, stays, all))) rose = absurd (omega (arith, stays))
+
+  -- with the note of the outcome
+  closed_by : (outcome : Outcome) (done note : List ℕ) (result : Outcome) → note ≡ note_with done outcome
+      → ClosesRun contents faults settled notes_contents notes_faults notes_settled outcome note result output output_now notes notes_now
+      → EndsRun contents faults settled notes_contents notes_faults notes_settled outcome done result output output_now notes notes_now
+  closed_by outcome done note result is closed = record {
+    one_of = closed.one_of;
+    fault = closed.fault;
+    none_counted = closed.none_counted;
+    noted = noted_with (notes_contents notes) (notes_contents notes_now) note done outcome result closed.one_of is closed.noted;
+    noted_front = inl (subst (AppendsFront (notes_contents notes) (notes_contents notes_now)) is closed.noted_front);
+    settles = closed.settles;
+    unfinished = still_unfinished note closed.order;
+  }
+
+  pub ends_by : (outcome own : Outcome) (done note : List ℕ) (result : Outcome) → own ≡ outcome → note ≡ note_with done own
+      → ClosesRun contents faults settled notes_contents notes_faults notes_settled own note result output output_now notes notes_now
+      → EndsRun contents faults settled notes_contents notes_faults notes_settled outcome done result output output_now notes notes_now
+  ends_by outcome own done note result same is closed =
+      subst (λ o. EndsRun contents faults settled notes_contents notes_faults notes_settled o done result output output_now notes notes_now) same
+      (closed_by own done note result is closed)
 
 -- ---- the whole note
 
 whole_input : (a b : Option (List ℕ)) (left : Option (List ℕ)) (limit : ℕ) (job : Job) (totals : Totals) → Notes (task job) limit totals left
     → Appends a b (ending_note job totals) → NotesEnd (task job) limit left Done a b
-whole_input a b None limit job totals notes told = tt
-whole_input a b (Some input) limit job totals notes told = subst (Appends a b) (sym notes) told
+whole_input a b None limit job totals notes appended = tt
+whole_input a b (Some input) limit job totals notes appended = subst (Appends a b) (sym notes) appended
 
 -- where the input was read to its end
 pub whole_done : (a b : Option (List ℕ)) (left : Option (List ℕ)) (limit : ℕ) (job : Job) (totals : Totals) (result : Outcome) → Notes (task job) limit totals left
     → OneOf Done result → (is_cut_short result ≡ false → Appends a b (note_with (ending_note job totals) result)) → is_cut_short result ≡ false
     → NotesEnd (task job) limit left result a b
-whole_done a b left limit job totals result notes (inl same) told calm =
+whole_done a b left limit job totals result notes (inl same) appended uncut =
     subst (λ o. NotesEnd (task job) limit left o a b) (sym same)
-    (whole_input a b left limit job totals notes (subst (λ o. Appends a b (note_with (ending_note job totals) o)) same (told calm)))
-whole_done a b left limit job totals result notes (inr (inl fault)) told calm = let no : ⊥ = cc (ap is_cut_short fault) in absurd no
-whole_done a b left limit job totals result notes (inr (inr memory)) told calm = let no : ⊥ = cc (ap is_cut_short memory) in absurd no
+    (whole_input a b left limit job totals notes (subst (λ o. Appends a b (note_with (ending_note job totals) o)) same (appended uncut)))
+whole_done a b left limit job totals result notes (inr (inl fault)) appended uncut = let no : ⊥ = cc (ap is_cut_short fault) in absurd no
+whole_done a b left limit job totals result notes (inr (inr memory)) appended uncut = let no : ⊥ = cc (ap is_cut_short memory) in absurd no
 
 whole_other : (a b : Option (List ℕ)) (left : Option (List ℕ)) (limit : ℕ) (job : Job) (outcome : Outcome) (done : List ℕ) → outcome ≢ Done
     → Appends a b (note_with done outcome) → NotesEnd (task job) limit left outcome a b
-whole_other a b left limit job Done done other told = absurd (other refl)
-whole_other a b left limit job (Usage word) done other told = told
-whole_other a b left limit job (Refused refusal) done other told = told
-whole_other a b left limit job (Kept kept) done other told = told
-whole_other a b left limit job ReadFault done other told = told
-whole_other a b left limit job WriteFault done other told = told
-whole_other a b left limit job ShelfFault done other told = told
-whole_other a b left limit job Memory done other told = told
-whole_other a b left limit job InputTooLong done other told = told
-whole_other a b left limit job NotBuilt done other told = told
+whole_other a b left limit job Done done other appended = absurd (other refl)
+whole_other a b left limit job (Usage word) done other appended = appended
+whole_other a b left limit job (Refused refusal) done other appended = appended
+whole_other a b left limit job (Kept kept) done other appended = appended
+whole_other a b left limit job ReadFault done other appended = appended
+whole_other a b left limit job WriteFault done other appended = appended
+whole_other a b left limit job ShelfFault done other appended = appended
+whole_other a b left limit job Memory done other appended = appended
+whole_other a b left limit job InputTooLong done other appended = appended
+whole_other a b left limit job NotBuilt done other appended = appended
 
 -- where it ended before
 pub whole_ended : (a b : Option (List ℕ)) (left : Option (List ℕ)) (limit : ℕ) (job : Job) (outcome result : Outcome) (done : List ℕ) → outcome ≢ Done
     → OneOf outcome result → (is_cut_short result ≡ false → Appends a b (note_with done result)) → is_cut_short result ≡ false
     → NotesEnd (task job) limit left result a b
-whole_ended a b left limit job outcome result done other (inl same) told calm =
-    whole_other a b left limit job result done (λ is. other (sym same ∙ is)) (told calm)
-whole_ended a b left limit job outcome result done other (inr (inl fault)) told calm = let no : ⊥ = cc (ap is_cut_short fault) in absurd no
-whole_ended a b left limit job outcome result done other (inr (inr memory)) told calm = let no : ⊥ = cc (ap is_cut_short memory) in absurd no
+whole_ended a b left limit job outcome result done other (inl same) appended uncut =
+    whole_other a b left limit job result done (λ is. other (sym same ∙ is)) (appended uncut)
+whole_ended a b left limit job outcome result done other (inr (inl fault)) appended uncut = let no : ⊥ = cc (ap is_cut_short fault) in absurd no
+whole_ended a b left limit job outcome result done other (inr (inr memory)) appended uncut = let no : ⊥ = cc (ap is_cut_short memory) in absurd no
 
 -- ---- a front of a note
 

@@ -20,8 +20,8 @@ front_none a octets = ([], octets, refl, Appends-nil a)
 
 -- a front of what more octets begin with
 pub front_more : (a b : Option (List ℕ)) (octets more : List ℕ) → AppendsFront a b octets → AppendsFront a b (octets ++ more)
-front_more a b octets more (front, rest, is, told) =
-    (front, rest ++ more, ap (λ xs. xs ++ more) is ∙ append_assoc front rest more, told)
+front_more a b octets more (front, rest, is, appended) =
+    (front, rest ++ more, ap (λ xs. xs ++ more) is ∙ append_assoc front rest more, appended)
 
 -- a buffer of which a octets were filled, after n more came to the front of the part from there on
 pub filled_more : (xs ys : List ℕ) (a k n : ℕ) → a ≤ length xs → n ≤ length ys → take (a + n) (put_mid a k xs ys) ≡ take a xs ++ take n ys
@@ -51,9 +51,9 @@ written_front a b c xs n before kept = (take n xs, drop n xs, sym (take-append-d
 
 -- a front, where nothing was appended after it
 pub front_stays : (a b c : Option (List ℕ)) (octets : List ℕ) → AppendsFront a b octets → Keeps b c → AppendsFront a c octets
-front_stays a b c octets (front, rest, is, told) kept = (front, rest, is, Appends-kept a b c front told kept)
+front_stays a b c octets (front, rest, is, appended) kept = (front, rest, is, Appends-kept a b c front appended kept)
 
 -- a front of nothing is a front of anything
 pub front_of_nothing : (a b : Option (List ℕ)) (octets : List ℕ) → AppendsFront a b [] → AppendsFront a b octets
-front_of_nothing a b octets ([], rest, is, told) = ([], octets, refl, told)
-front_of_nothing a b octets (x ∷ front, rest, is, told) = absurd (cc is)
+front_of_nothing a b octets ([], rest, is, appended) = ([], octets, refl, appended)
+front_of_nothing a b octets (x ∷ front, rest, is, appended) = absurd (cc is)

@@ -26,26 +26,26 @@ use Rattle.grib_engine.proofs.Outside.{front_more}
 -- one step after another
 pub pending_more : (a b c : Option (List ℕ)) (octets pending more left : List ℕ) → AppendsAllBut a b octets pending
     → AppendsAllBut b c (pending ++ more) left → AppendsAllBut a c (octets ++ more) left
-pending_more a b c octets pending more left (first, is, told) (then, is_then, told_then) = (
+pending_more a b c octets pending more left (first, is, appended) (then, is_then, told_then) = (
   first ++ then,
   ap (λ xs. xs ++ more) is ∙ (append_assoc first pending more ∙ (ap (λ xs. first ++ xs) is_then ∙ sym (append_assoc first then left))),
-  Appends-trans a b c first then told told_then,
+  Appends-trans a b c first then appended told_then,
 )
 
 -- octets that only went into the buffer
 pub pending_then : (a b : Option (List ℕ)) (octets pending more now : List ℕ) → AppendsAllBut a b octets pending → now ≡ pending ++ more
     → AppendsAllBut a b (octets ++ more) now
-pending_then a b octets pending more now (first, is, told) grown =
-    (first, ap (λ xs. xs ++ more) is ∙ (append_assoc first pending more ∙ ap (λ xs. first ++ xs) (sym grown)), told)
+pending_then a b octets pending more now (first, is, appended) grown =
+    (first, ap (λ xs. xs ++ more) is ∙ (append_assoc first pending more ∙ ap (λ xs. first ++ xs) (sym grown)), appended)
 
 -- a step of which only a front was written
 pub pending_front : (a b c : Option (List ℕ)) (octets pending more : List ℕ) → AppendsAllBut a b octets pending → AppendsFront b c (pending ++ more)
     → AppendsFront a c (octets ++ more)
-pending_front a b c octets pending more (first, is, told) (front, rest, is_front, told_front) = (
+pending_front a b c octets pending more (first, is, appended) (front, rest, is_front, told_front) = (
   first ++ front,
   rest,
   ap (λ xs. xs ++ more) is ∙ (append_assoc first pending more ∙ (ap (λ xs. first ++ xs) is_front ∙ sym (append_assoc first front rest))),
-  Appends-trans a b c first front told told_front,
+  Appends-trans a b c first front appended told_front,
 )
 
 -- lines of points after one another
@@ -95,16 +95,16 @@ line_refused a b c old pending xs i x next within before front =
 -- and then all of what was pending, or a front of it
 pending_ends : (a b c : Option (List ℕ)) (octets pending shown : List ℕ) → AppendsAllBut a b octets pending → shown ≡ pending → Appends b c shown
     → Appends a c octets
-pending_ends a b c octets pending shown (first, is, told) same told_rest =
-    subst (Appends a c) (ap (λ xs. first ++ xs) same ∙ sym is) (Appends-trans a b c first shown told told_rest)
+pending_ends a b c octets pending shown (first, is, appended) same told_rest =
+    subst (Appends a c) (ap (λ xs. first ++ xs) same ∙ sym is) (Appends-trans a b c first shown appended told_rest)
 
 pending_ends_front : (a b c : Option (List ℕ)) (octets pending shown : List ℕ) → AppendsAllBut a b octets pending → shown ≡ pending → AppendsFront b c shown
     → AppendsFront a c octets
-pending_ends_front a b c octets pending shown (first, is, told) same (front, rest, is_front, told_front) = (
+pending_ends_front a b c octets pending shown (first, is, appended) same (front, rest, is_front, told_front) = (
   first ++ front,
   rest,
   is ∙ (ap (λ xs. first ++ xs) (sym same ∙ is_front) ∙ sym (append_assoc first front rest)),
-  Appends-trans a b c first front told told_front,
+  Appends-trans a b c first front appended told_front,
 )
 
 -- a step that was written, or a front of it
@@ -115,7 +115,7 @@ writes_then result a b c octets pending more left before now = record {
   front = pending_front a b c octets pending more before now.front;
 }
 
--- the same, where the text goes on from `old`
+-- a step that was written, or a front of it, where the text goes on from `old`
 pub writes_on : {T E : Type 0} (result : Result T E) (a b c : Option (List ℕ)) (old shown more whole pending left : List ℕ) → shown ++ more ≡ whole
     → AppendsAllBut a b (old ++ shown) pending → WritesAllBut result b c (pending ++ more) left → WritesAllBut result a c (old ++ whole) left
 writes_on result a b c old shown more whole pending left is before now =

@@ -128,7 +128,7 @@ put_added (Ok x) (Some a) (Some b) (Some c) name octets empty others now others_
 put_added {T = T} {E = E} (Err e) (Some a) (Some b) (Some c) name octets empty others now others_then =
     record { whole = tt; front = put_cut T e a b c name octets empty others now others_then }
 
--- what was told whole
+-- what was shelved whole
 pub whole_told : {T E : Type 0} (x : T) (a b : Option Held) (acts : List Act) → DidOnShelf a b acts → Shelves {T = T} {E = E} (Ok x) a b acts
 whole_told x a b acts did = record { whole = did; front = λ output. front_whole (world output a) (world output b) acts (did output) }
 
@@ -140,17 +140,17 @@ part_is name octets shown_name shown named is = ap (λ n. part n shown) named �
 -- a field that was put whole
 pub field_whole : {T E : Type 0} (x : T) (a b : Option Held) (name octets shown_name shown : List ℕ) → shown_name ≡ name → shown ≡ octets
     → Shelves {T = T} {E = E} (Ok x) a b (puts (part shown_name shown)) → {U : Type 0} (y : U) → Shelves {T = U} {E = E} (Ok y) a b (puts (part name octets))
-field_whole x a b name octets shown_name shown named is told y = record {
-  whole = subst (λ p. DidOnShelf a b (puts p)) (part_is name octets shown_name shown named is) told.whole;
-  front = subst (λ p. DidFrontOnShelf a b (puts p)) (part_is name octets shown_name shown named is) told.front;
+field_whole x a b name octets shown_name shown named is shelved y = record {
+  whole = subst (λ p. DidOnShelf a b (puts p)) (part_is name octets shown_name shown named is) shelved.whole;
+  front = subst (λ p. DidFrontOnShelf a b (puts p)) (part_is name octets shown_name shown named is) shelved.front;
 }
 
 -- or some first acts of it
 pub field_cut : {T E : Type 0} (result : Result T E) (a b : Option Held) (name octets shown_name shown : List ℕ) → shown_name ≡ name → shown ≡ octets → IsErr result
     → DidFrontOnShelf a b (puts (part shown_name shown)) → Shelves result a b (puts (part name octets))
-field_cut result a b name octets shown_name shown named is refused told = record {
+field_cut result a b name octets shown_name shown named is refused shelved = record {
   whole = on_refused result _ refused;
-  front = subst (λ p. DidFrontOnShelf a b (puts p)) (part_is name octets shown_name shown named is) told;
+  front = subst (λ p. DidFrontOnShelf a b (puts p)) (part_is name octets shown_name shown named is) shelved;
 }
 
 -- without memory for it

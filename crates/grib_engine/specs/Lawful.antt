@@ -60,7 +60,7 @@ first octets is = ap (λ b. choose b (λ _. judged (verdict_1 octets)) (λ _. ju
 other : (octets : List ℕ) → (edition octets == 1) ≡ false → judge octets ≡ judged (verdict_2 octets)
 other octets is = ap (λ b. choose b (λ _. judged (verdict_1 octets)) (λ _. judged (verdict_2 octets))) is
 
--- an octet that is told stands
+-- an octet that is only stands
 short_edition : (octets : List ℕ) → length octets < 8 → edition octets ≡ 0
 short_edition octets short = ap (λ xs. num_on 0 (take 1 xs)) (drop_all 7 octets (omega arith))
 
@@ -95,12 +95,12 @@ not_unbuilt : (v : Verdict) → judged v ≢ Unbuilt
 not_unbuilt (Accepted n) is = cc
 not_unbuilt (Refused fault) is = cc
 
--- a verdict of the edition that is told
+-- a verdict of the edition that is only
 judged_by : (octets : List ℕ) (j : Judgement) (v : Verdict) → judge octets ≡ j → ((w : Verdict) → judged w ≡ j → w ≡ v) → IsFirst octets v ⊎ IsOther octets v
-judged_by octets j v is told =
+judged_by octets j v is only =
     ⊎_elim
-    (λ one. inl (record { first_edition = one; edition_is = eqb-true (edition octets) 1 one; verdict_is = told (verdict_1 octets) (sym (first octets one) ∙ is) }))
-    (λ not_one. inr (record { other_edition = not_one; verdict_is = told (verdict_2 octets) (sym (other octets not_one) ∙ is) }))
+    (λ one. inl (record { first_edition = one; edition_is = eqb-true (edition octets) 1 one; verdict_is = only (verdict_1 octets) (sym (first octets one) ∙ is) }))
+    (λ not_one. inr (record { other_edition = not_one; verdict_is = only (verdict_2 octets) (sym (other octets not_one) ∙ is) }))
     (cases_Bool (edition octets == 1))
 
 pub message_judged : (octets : List ℕ) (total : ℕ) → judge octets ≡ Message total → IsFirst octets (Accepted total) ⊎ IsOther octets (Accepted total)

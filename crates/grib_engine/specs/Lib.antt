@@ -17,6 +17,7 @@ pub mod Answering
 pub mod Counts
 pub mod Closing
 pub mod Pending
+pub mod Fronts
 pub use Rattle.grib_stream.specs.Stream
 pub use Rattle.grib_stream.specs.Acts
 pub use Rattle.grib_stream.specs.Answer

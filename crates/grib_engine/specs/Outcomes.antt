@@ -30,7 +30,7 @@ abbrev pub note_with : List ℕ → Outcome → List ℕ
 note_with done Done = done
 note_with done outcome = note_of outcome
 
--- A front of the note of this outcome was appended, or of the note of want of memory that came at the end.
+-- A front of the note of this outcome was appended, or of the note on memory, which ran out at the end.
 abbrev pub NotesFront : Option (List ℕ) → Option (List ℕ) → List ℕ → Outcome → Type 0
 NotesFront before now done outcome = AppendsFront before now (note_with done outcome) ⊎ AppendsFront before now (note_of Memory)
 
@@ -40,7 +40,7 @@ NotesEnd task limit left Done before now = IfSome left (λ input. Appends before
 NotesEnd task limit left outcome before now = Appends before now (note_of outcome)
 
 -- A front of the note of the answer was appended, or of the note of a read fault, where the input failed, of
--- a fault of the shelf, where that failed, or of want of memory.
+-- a fault of the shelf, where that failed, or on memory.
 pub record Noted (before now : Option (List ℕ)) (note : List ℕ) (faults faults_now shelf shelf_now : ℕ) : Type 0 where
   pub front : AppendsFront before now note
       ⊎ ((AppendsFront before now (note_of ReadFault) × Rose faults faults_now)

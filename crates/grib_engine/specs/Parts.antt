@@ -19,7 +19,7 @@ part name octets = record { name = name; octets = octets }
 abbrev pub part_name : List ℕ → ℕ → List ℕ
 part_name out n = out ++ codes "." ++ decimal n
 
--- field i of a message before which the input has so many fields
+-- field i of a message before which the input has this many fields
 abbrev pub part_of : List ℕ → ℕ → List ℕ → ℕ → Part
 part_of out before message i = part (part_name out (before + i)) (single_of message i)
 

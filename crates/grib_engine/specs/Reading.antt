@@ -3,8 +3,8 @@ use Rattle.std.specs.Prelude.{◌≡◌, ℕ, List, length, take}
 use Rattle.grib_stream.specs.Stream.{Message, Faulty}
 use Rattle.grib1_sections.specs.Message.{IsMessage1}
 use Rattle.grib2_message.specs.Message.{IsMessage}
-use Rattle.grib_engine.specs.declared.reading.Unread.{Unread}
-use Rattle.grib_engine.specs.declared.reading.Unread.TheVariants.{Refused, Memory}
+use Rattle.grib_base.specs.declared.fault.ReadFault.{ReadFault}
+use Rattle.grib_base.specs.declared.fault.ReadFault.TheVariants.{Refused, Memory}
 use Rattle.grib_engine.specs.declared.reading.Held.{Held}
 use Rattle.grib_engine.specs.declared.reading.Held.TheVariants.{One, Two}
 use Rattle.grib_engine.specs.Tasks.{judge}
@@ -25,7 +25,7 @@ pub record Holds (octets : List ℕ) (held : Held) : Type 0 where
   pub message : held_octets held ≡ take (length (held_octets held)) octets
   pub accepted : IsHeld held
 
--- why there is no message; want of memory says nothing of them
-abbrev pub IsUnread : List ℕ → Unread → Type 0
+-- why there is no message; no memory says nothing of them
+abbrev pub IsUnread : List ℕ → ReadFault → Type 0
 IsUnread octets (Refused fault) = judge octets ≡ Faulty fault
 IsUnread octets Memory = Unit {0}

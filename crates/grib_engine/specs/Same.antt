@@ -21,7 +21,7 @@ pub record SameValues (message other : List ℕ) : Type 0 where
   pub fields : field_count other ≡ field_count message
   pub points : (i : ℕ) → 1 ≤ i → i ≤ field_count message → meaning_of other i ≡ meaning_of message i
 
--- so many messages, each with the values of the one at its place
+-- as many messages, each with the values of the one at its place
 abbrev pub AllSame : List (List ℕ) → List (List ℕ) → Type 0
 AllSame [] [] = Unit {0}
 AllSame (message ∷ messages) (other ∷ others) = SameValues message other × AllSame messages others

@@ -9,7 +9,7 @@ use Rattle.grib_stream.specs.Stream.{Found, stream}
 use Rattle.grib_engine.specs.Parts.{Part, parts_of}
 use Rattle.grib_engine.specs.Tasks.{judge}
 
--- the parts of these messages, before which the input has so many fields
+-- the parts of these messages, before which the input has this many fields
 abbrev pub parts_within : List ℕ → ℕ → List Found → List Part
 parts_within out before [] = []
 parts_within out before (found ∷ later) =
@@ -28,7 +28,7 @@ all_parts out input = parts_within out 0 (before_first (stream judge input).mess
 abbrev pub MayBeBegun : Part → Option (List ℕ) → Option (List ℕ) → Type 0
 MayBeBegun part before now = (now ≡ before) ⊎ ((front rest : List ℕ) × (part.octets ≡ front ++ rest) × (now ≡ Some front))
 
--- The first so many parts stand whole under their names, and the next may be begun. Each other name has what it had.
+-- This many first parts stand whole under their names, and the next may be begun. Each other name has what it had.
 pub record StandFirst (parts : List Part) (before now : Held) (count : ℕ) : Type 0 where
   pub whole : All (λ part. now part.name ≡ Some part.octets) (take count parts)
   pub next : (part : Part) (later : List Part) → drop count parts ≡ part ∷ later → MayBeBegun part (before part.name) (now part.name)

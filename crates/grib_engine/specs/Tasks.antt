@@ -58,7 +58,7 @@ abbrev pub dump_text : List ℕ → ℕ → ℕ → List ℕ
 dump_text message m i =
     let column = column_of message i in dumped (list_line message m i) (reduced (ieee column.reference)) column
 
--- the texts of so many fields, from field i on
+-- the texts of n fields, from field i on
 abbrev pub texts_from : (ℕ → List ℕ) → ℕ → ℕ → List ℕ
 texts_from text zero i = []
 texts_from text (suc n) i = text i ++ texts_from text n (i + 1)
@@ -100,7 +100,7 @@ abbrev pub given_unless : Option RepackMisfit → ℕ → List ℕ → Given
 given_unless None m octets = given_whole octets
 given_unless (Some misfit) m octets = Ends (kept_at m (cause_of misfit))
 
--- these octets are written, or message m is kept by the fault of a change. No change is at fault for want of memory.
+-- these octets are written, or message m is kept by the fault of a change. No change is at fault for lack of memory.
 abbrev pub given_set : Option SetFault → ℕ → List ℕ → Given
 given_set None m octets = given_whole octets
 given_set (Some (KeyRange key)) m octets = Ends (kept_at m (causes.KeyRange key))

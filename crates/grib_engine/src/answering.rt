@@ -1,26 +1,22 @@
 //! What a job does with the messages of an input.
 
-ghost use Rattle.std.specs.Prelude.{◌≡◌, ◌≢◌, ◌≤◌, ◌^◌, true, false, length, All, IsTrue};
-ghost use Rattle.grib_io.specs.Outside.{Counted};
+ghost use Rattle.std.specs.Prelude.{◌≡◌, ◌≤◌, ◌^◌, ℕ, true, All, IsTrue};
 ghost use Rattle.grib_repack.specs.Repacked.{repacked, repack_misfit};
 ghost use Rattle.grib_repack.specs.Faults.{target_of};
 ghost use Rattle.grib_keys.specs.Keys.{can_set};
 ghost use Rattle.grib_select.specs.Changed.{with_keys, set_fault};
-ghost use Rattle.grib_stream.specs.Acts.{world, writes};
-ghost use Rattle.grib_stream.specs.Task.{Gives};
-ghost use Rattle.grib_engine.specs.Answering.{Answers, answered_by, answered_unset};
+ghost use Rattle.grib_engine.specs.Answering.{AnswersMessage, AnswersByOutput, answered_by, answered_unset, answered_printed, answered_stopped, answered_written};
 ghost use Rattle.grib_engine.specs.Jobs.{CanChange, is_target, has_target, uses_shelf};
 ghost use Rattle.grib_engine.specs.Reading.{held_octets};
-ghost use Rattle.grib_engine.specs.Tasks.{message_text_2, filtered, given, given_2, given_unless, given_set};
-ghost use Rattle.grib_engine.specs.declared.answering.Answered.TheVariants.{WriteFault, ShelfFault};
+ghost use Rattle.grib_engine.specs.Tasks.{given, given_2, given_unless, given_set};
 
+use crate::edition_one::answer_edition_one;
 use crate::filtering::write_filtered;
-use crate::first::answer_first;
 use crate::job::Job;
 use crate::printing::write_message;
 use crate::reading::{Held, first_edition, second_edition};
 use crate::splitting::split;
-use crate::writing::write_whole;
+use crate::writing::write_counted;
 use grib_io::{Shelf, Sink, Stop};
 use grib_repack::{RepackFault, RepackTarget, repack};
 use grib_select::{Condition, SetFault, set_keys};
@@ -31,7 +27,7 @@ use std::alloc::Global;
 /// What came of a message.
 #[derive(Clone, Copy, Debug, PartialEq, Eq)]
 pub enum Answered {
-    /// Its result was appended to the output, or put on the shelf. So many octets of it are counted; of what
+    /// Its result was appended to the output, or put on the shelf. This many octets of it are counted; of what
     /// is printed none is.
     Whole(u64),
     /// It cannot be changed as asked. Nothing was written.
@@ -40,12 +36,12 @@ pub enum Answered {
     WriteFault,
     /// The shelf failed.
     ShelfFault,
-    /// Want of memory.
+    /// No memory.
     Memory,
 }
 
 /// Does what the job says of a message at this place; `make` says nothing of messages. After a fault or
-/// want of memory some front of its result was done. `split` leaves the output as it was, and every other
+/// without memory some front of its result was done. `split` leaves the output as it was, and every other
 /// job the shelf.
 pub fn answer_message<T: Sink, H: Shelf>(
     alloc: Global,
@@ -58,31 +54,24 @@ pub fn answer_message<T: Sink, H: Shelf>(
     requires target { has_target job.now ≡ true }
     requires changes { CanChange job.now }
     requires fields { place.now.fields ≤ 2 ^ 41 }
-    ensures answers { Answers result place.now.message (given job.now place.now (held_octets held.now))
-        (world (T.contents output.old) (H.contents shelf.old))
-        (world (T.contents output.new) (H.contents shelf.new)) }
-    ensures write_fault { result ≡ WriteFault → Counted (T.faults output.old) (T.faults output.new) }
-    ensures write_calm { result ≢ WriteFault → T.faults output.new ≡ T.faults output.old }
-    ensures shelf_fault { result ≡ ShelfFault → Counted (H.faults shelf.old) (H.faults shelf.new) }
-    ensures shelf_calm { result ≢ ShelfFault → H.faults shelf.new ≡ H.faults shelf.old }
-    ensures shelf { uses_shelf job.now ≡ false → shelf.new ≡ shelf.old }
-    ensures unshelved { uses_shelf job.now ≡ false → result ≢ ShelfFault }
-    ensures output { uses_shelf job.now ≡ true → output.new ≡ output.old }
+    ensures { AnswersMessage T.contents T.faults H.contents H.faults
+        result place.now.message (given job.now place.now (held_octets held.now)) (uses_shelf job.now)
+        output.old output.new shelf.old shelf.new }
 {
     match held {
         Held::One(message) => {
             first_edition(message);
-            answer_first(alloc, job, place, message, output, shelf)
+            answer_edition_one(alloc, job, place, message, output)
         }
         Held::Two(message) => {
             second_edition(message);
-            answer_second(alloc, job, place, message, output, shelf)
+            answer_edition_two(alloc, job, place, message, output, shelf)
         }
     }
 }
 
 /// Does what the job says of a message of edition 2 at this place.
-fn answer_second<T: Sink, H: Shelf>(
+fn answer_edition_two<T: Sink, H: Shelf>(
     alloc: Global,
     job: &Job,
     place: &Place,
@@ -93,114 +82,69 @@ fn answer_second<T: Sink, H: Shelf>(
     requires target { has_target job.now ≡ true }
     requires changes { CanChange job.now }
     requires fields { place.now.fields ≤ 2 ^ 41 }
-    ensures answers { Answers result place.now.message (given_2 job.now place.now message.now)
-        (world (T.contents output.old) (H.contents shelf.old))
-        (world (T.contents output.new) (H.contents shelf.new)) }
-    ensures write_fault { result ≡ WriteFault → Counted (T.faults output.old) (T.faults output.new) }
-    ensures write_calm { result ≢ WriteFault → T.faults output.new ≡ T.faults output.old }
-    ensures shelf_fault { result ≡ ShelfFault → Counted (H.faults shelf.old) (H.faults shelf.new) }
-    ensures shelf_calm { result ≢ ShelfFault → H.faults shelf.new ≡ H.faults shelf.old }
-    ensures shelf { uses_shelf job.now ≡ false → shelf.new ≡ shelf.old }
-    ensures unshelved { uses_shelf job.now ≡ false → result ≢ ShelfFault }
-    ensures output { uses_shelf job.now ≡ true → output.new ≡ output.old }
+    ensures { AnswersMessage T.contents T.faults H.contents H.faults
+        result place.now.message (given_2 job.now place.now message.now) (uses_shelf job.now)
+        output.old output.new shelf.old shelf.new }
 {
     match job {
-        Job::Check => print(alloc, job, place, message, output, shelf),
-        Job::List => print(alloc, job, place, message, output, shelf),
-        Job::Dump => print(alloc, job, place, message, output, shelf),
-        Job::Repack(target) => write_repacked(alloc, *target, place, message, output, shelf),
-        Job::Filter(conditions) => filter(
-            alloc,
-            conditions.as_slice(),
-            place,
-            message,
-            output,
-            shelf,
-        ),
-        Job::Set(changes) => write_set(alloc, changes.as_slice(), place, message, output, shelf),
-        Job::Split(name) => split(alloc, name, place, message, output, shelf),
+        Job::Check => printed(write_message(alloc, job, place, message, output)),
+        Job::List => printed(write_message(alloc, job, place, message, output)),
+        Job::Dump => printed(write_message(alloc, job, place, message, output)),
+        Job::Filter(conditions) => {
+            written(write_filtered(alloc, conditions.as_slice(), message, output))
+        }
+        Job::Set(changes) => write_set(alloc, changes.as_slice(), message, output),
+        Job::Repack(target) => write_repacked(alloc, *target, message, output),
+        Job::Split(name) => split(alloc, name, place.fields, message, shelf),
         Job::Make { .. } => Answered::Whole(0),
     }
 }
 
-/// Writes what the job prints of a message.
-fn print<T: Sink, H: Shelf>(
-    alloc: Global,
-    job: &Job,
-    place: &Place,
-    message: &Message<'_>,
-    output: &mut T,
-    shelf: &mut H,
-) -> Answered
-    ensures answers { Answers result place.now.message
-        (Gives (writes (message_text_2 job.now place.now message.now)) 0)
-        (world (T.contents output.old) (H.contents shelf.old))
-        (world (T.contents output.new) (H.contents shelf.new)) }
-    ensures write_fault { result ≡ WriteFault → Counted (T.faults output.old) (T.faults output.new) }
-    ensures write_calm { result ≢ WriteFault → T.faults output.new ≡ T.faults output.old }
-    ensures shelf { shelf.new ≡ shelf.old }
-    ensures unshelved { result ≢ ShelfFault }
+/// What came of a message of which a text was to be printed.
+pub(crate) fn printed(text: Result<(), Stop>) -> Answered
+    ensures { result ≡ answered_printed text }
 {
-    match write_message(alloc, job, place, message, output) {
+    match text {
         Ok(()) => Answered::Whole(0),
-        Err(Stop::Failed) => Answered::WriteFault,
-        Err(Stop::Memory) => Answered::Memory,
+        Err(stop) => stopped(stop),
     }
 }
 
-/// Writes what of a message fulfils the conditions.
-fn filter<T: Sink, H: Shelf>(
-    alloc: Global,
-    conditions: &[Condition],
-    place: &Place,
-    message: &Message<'_>,
-    output: &mut T,
-    shelf: &mut H,
-) -> Answered
-    ensures answers { Answers result place.now.message
-        (Gives (writes (filtered conditions.now message.now)) (length (filtered conditions.now message.now)))
-        (world (T.contents output.old) (H.contents shelf.old))
-        (world (T.contents output.new) (H.contents shelf.new)) }
-    ensures write_fault { result ≡ WriteFault → Counted (T.faults output.old) (T.faults output.new) }
-    ensures write_calm { result ≢ WriteFault → T.faults output.new ≡ T.faults output.old }
-    ensures shelf { shelf.new ≡ shelf.old }
-    ensures unshelved { result ≢ ShelfFault }
+/// What came of a message of which octets were to be written and counted.
+fn written(octets: Result<u64, Stop>) -> Answered
+    ensures { result ≡ answered_written octets }
 {
-    match write_filtered(alloc, conditions, message, output) {
-        Ok(written) => Answered::Whole(written),
-        Err(Stop::Failed) => Answered::WriteFault,
-        Err(Stop::Memory) => Answered::Memory,
+    match octets {
+        Ok(count) => Answered::Whole(count),
+        Err(stop) => stopped(stop),
+    }
+}
+
+/// What came of a message within whose result the output stopped.
+fn stopped(stop: Stop) -> Answered
+    ensures { result ≡ answered_stopped stop }
+{
+    match stop {
+        Stop::Failed => Answered::WriteFault,
+        Stop::Memory => Answered::Memory,
     }
 }
 
 /// Writes a message with new values of some keys, where each of its fields can have them.
-fn write_set<T: Sink, H: Shelf>(
+fn write_set<T: Sink>(
     alloc: Global,
     changes: &[Condition],
-    place: &Place,
     message: &Message<'_>,
     output: &mut T,
-    shelf: &mut H,
 ) -> Answered
     requires { All (λ c. IsTrue (can_set c.key)) changes.now }
-    ensures answers { Answers result place.now.message
-        (given_set (set_fault message.now changes.now) place.now.message (with_keys message.now changes.now))
-        (world (T.contents output.old) (H.contents shelf.old))
-        (world (T.contents output.new) (H.contents shelf.new)) }
-    ensures write_fault { result ≡ WriteFault → Counted (T.faults output.old) (T.faults output.new) }
-    ensures write_calm { result ≢ WriteFault → T.faults output.new ≡ T.faults output.old }
-    ensures shelf { shelf.new ≡ shelf.old }
-    ensures unshelved { result ≢ ShelfFault }
+    ensures { (m : ℕ) → AnswersByOutput T.contents T.faults result m
+        (given_set (set_fault message.now changes.now) m (with_keys message.now changes.now))
+        output.old output.new }
 {
-    let octets = match set_keys(alloc, message, changes) {
-        Ok(octets) => octets,
-        Err(fault) => return unset(fault),
-    };
-    let changed = octets.as_slice();
-    match write_whole(output, changed) {
-        Ok(()) => Answered::Whole(changed.len() as u64),
-        Err(Stop::Failed) => Answered::WriteFault,
-        Err(Stop::Memory) => Answered::Memory,
+    match set_keys(alloc, message, changes) {
+        Ok(changed) => written(write_counted(output, changed.as_slice())),
+        Err(fault) => unset(fault),
     }
 }
 
@@ -216,34 +160,20 @@ fn unset(fault: SetFault) -> Answered
 }
 
 /// Writes a message with its fields packed anew, where nothing of it is lost.
-fn write_repacked<T: Sink, H: Shelf>(
+fn write_repacked<T: Sink>(
     alloc: Global,
     target: RepackTarget,
-    place: &Place,
     message: &Message<'_>,
     output: &mut T,
-    shelf: &mut H,
 ) -> Answered
     requires { is_target target ≡ true }
-    ensures answers { Answers result place.now.message
-        (given_unless (repack_misfit (target_of target) message.now) place.now.message
-        (repacked (target_of target) message.now))
-        (world (T.contents output.old) (H.contents shelf.old))
-        (world (T.contents output.new) (H.contents shelf.new)) }
-    ensures write_fault { result ≡ WriteFault → Counted (T.faults output.old) (T.faults output.new) }
-    ensures write_calm { result ≢ WriteFault → T.faults output.new ≡ T.faults output.old }
-    ensures shelf { shelf.new ≡ shelf.old }
-    ensures unshelved { result ≢ ShelfFault }
+    ensures { (m : ℕ) → AnswersByOutput T.contents T.faults result m
+        (given_unless (repack_misfit (target_of target) message.now) m (repacked (target_of target) message.now))
+        output.old output.new }
 {
-    let octets = match repack(alloc, message, target) {
-        Ok(octets) => octets,
-        Err(fault) => return kept_by(fault),
-    };
-    let packed = octets.as_slice();
-    match write_whole(output, packed) {
-        Ok(()) => Answered::Whole(packed.len() as u64),
-        Err(Stop::Failed) => Answered::WriteFault,
-        Err(Stop::Memory) => Answered::Memory,
+    match repack(alloc, message, target) {
+        Ok(packed) => written(write_counted(output, packed.as_slice())),
+        Err(fault) => kept_by(fault),
     }
 }
 

@@ -1,15 +1,11 @@
 //! The end of a run: its note, and what a lower layer holds back.
 
-ghost use Rattle.std.specs.Prelude.{◌≡◌, ◌≢◌, ◌<◌, ◌⊎◌, true, false, OnOk, MatchResult};
-ghost use Rattle.std.specs.Io.KnownBytes.{Appends, Keeps};
-ghost use Rattle.grib_io.specs.Outside.{AppendsFront};
-ghost use Rattle.grib_engine.specs.Closing.{settled_after, Unfinished};
-ghost use Rattle.grib_stream.specs.Outcomes.{is_cut_short};
-ghost use Rattle.grib_stream.specs.Faults.{OneCounted};
-ghost use Rattle.grib_engine.specs.Counts.{Calm, CountsEither};
-ghost use Rattle.grib_engine.specs.Outcomes.{note_with, NotesFront};
+ghost use Rattle.std.specs.Prelude.{◌≡◌, true, OnOk, MatchResult};
+ghost use Rattle.std.specs.Io.KnownBytes.{Keeps};
+ghost use Rattle.grib_engine.specs.Closing.{ClosesRun, EndsInTurn, EndsRun};
+ghost use Rattle.grib_engine.specs.Counts.{NoneCounted, CountsEither};
 ghost use Rattle.grib_engine.specs.Pending.{Writes};
-ghost use Rattle.grib_stream.specs.declared.outcome.Outcome.TheVariants.{WriteFault, Memory};
+ghost use Rattle.grib_stream.specs.declared.outcome.Outcome.TheVariants.{WriteFault};
 
 use crate::notes::{kept_note, usage_note};
 use crate::writing::write_whole;
@@ -27,33 +23,12 @@ pub fn close<T: Sink, N: Sink>(
     output: &mut T,
     notes: &mut N,
 ) -> Outcome
-    ensures one_of { (result ≡ outcome) ⊎ ((result ≡ WriteFault) ⊎ (result ≡ Memory)) }
+    ensures closes { ClosesRun T.contents T.faults T.settled N.contents N.faults N.settled
+        outcome note.now result output.old output.new notes.old notes.new }
 
     // After a write fault all is as it was.
     ensures after_fault { outcome ≡ WriteFault
         → (result ≡ WriteFault) × (output.new ≡ output.old) × (notes.new ≡ notes.old) }
-    ensures fault { outcome ≢ WriteFault → result ≡ WriteFault
-        → OneCounted (T.faults output.old) (T.faults output.new)
-        (N.faults notes.old) (N.faults notes.new) }
-    ensures calm { result ≢ WriteFault
-        → Calm (T.faults output.old) (T.faults output.new)
-        (N.faults notes.old) (N.faults notes.new) }
-    ensures noted { is_cut_short result ≡ false
-        → Appends (N.contents notes.old) (N.contents notes.new) note.now }
-    ensures noted_front { AppendsFront (N.contents notes.old) (N.contents notes.new) note.now }
-    ensures settled { is_cut_short result ≡ false
-        → (T.settled output.new ≡ true) × (N.settled notes.new ≡ true) }
-    ensures output_kept { Keeps (T.contents output.old) (T.contents output.new) }
-
-    // How far it came: to the note, with the output as it was and nothing finished; to the output, with the
-    // note appended and not finished; or past the output, which is settled.
-    ensures order { ((output.new ≡ output.old) × Unfinished (N.settled notes.old) (N.settled notes.new))
-        ⊎ ((Appends (N.contents notes.old) (N.contents notes.new) note.now
-        × (N.faults notes.new ≡ N.faults notes.old)
-        × (N.settled notes.new ≡ settled_after (N.settled notes.old) note.now))
-        ⊎ (Appends (N.contents notes.old) (N.contents notes.new) note.now
-        × (T.faults output.new ≡ T.faults output.old)
-        × (T.settled output.new ≡ true))) }
 {
     if matches!(outcome, Outcome::WriteFault) {
         return outcome;
@@ -66,7 +41,7 @@ pub fn close<T: Sink, N: Sink>(
 }
 
 /// Ends a run with the note of its outcome, which is `done` where the outcome is Done. Where there is no
-/// memory for the note, the outcome is want of memory.
+/// memory for the note, the outcome is Memory.
 pub fn close_with_note<T: Sink, N: Sink>(
     alloc: Global,
     outcome: Outcome,
@@ -74,25 +49,11 @@ pub fn close_with_note<T: Sink, N: Sink>(
     output: &mut T,
     notes: &mut N,
 ) -> Outcome
-    ensures one_of { (result ≡ outcome) ⊎ ((result ≡ WriteFault) ⊎ (result ≡ Memory)) }
+    ensures ends { EndsRun T.contents T.faults T.settled N.contents N.faults N.settled
+        outcome done.now result output.old output.new notes.old notes.new }
     ensures after_fault { outcome ≡ WriteFault
         → (result ≡ WriteFault) × (output.new ≡ output.old) × (notes.new ≡ notes.old) }
-    ensures fault { outcome ≢ WriteFault → result ≡ WriteFault
-        → OneCounted (T.faults output.old) (T.faults output.new)
-        (N.faults notes.old) (N.faults notes.new) }
-    ensures calm { result ≢ WriteFault
-        → Calm (T.faults output.old) (T.faults output.new)
-        (N.faults notes.old) (N.faults notes.new) }
-    ensures noted { is_cut_short result ≡ false
-        → Appends (N.contents notes.old) (N.contents notes.new) (note_with done.now result) }
-    ensures noted_front { NotesFront (N.contents notes.old) (N.contents notes.new) done.now outcome }
-    ensures settled { is_cut_short result ≡ false
-        → (T.settled output.new ≡ true) × (N.settled notes.new ≡ true) }
     ensures output_kept { Keeps (T.contents output.old) (T.contents output.new) }
-
-    // Where the output fails, the notes are not finished after it.
-    ensures unfinished { T.faults output.old < T.faults output.new
-        → Unfinished (N.settled notes.old) (N.settled notes.new) }
 {
     match outcome {
         Outcome::Refused(refusal) => match refusal_note(alloc, &refusal) {
@@ -123,17 +84,12 @@ fn settle<T: Sink, N: Sink>(note: &[u8], output: &mut T, notes: &mut N) -> Resul
     ensures settled { OnOk result ((T.settled output.new ≡ true) × (N.settled notes.new ≡ true)) }
     ensures output_kept { Keeps (T.contents output.old) (T.contents output.new) }
     ensures counted { MatchResult result
-        (λ _. Calm (T.faults output.old) (T.faults output.new)
+        (λ _. NoneCounted (T.faults output.old) (T.faults output.new)
         (N.faults notes.old) (N.faults notes.new))
         (λ stop. CountsEither stop (T.faults output.old) (T.faults output.new)
         (N.faults notes.old) (N.faults notes.new)) }
-    ensures order { ((output.new ≡ output.old) × Unfinished (N.settled notes.old) (N.settled notes.new))
-        ⊎ ((Appends (N.contents notes.old) (N.contents notes.new) note.now
-        × (N.faults notes.new ≡ N.faults notes.old)
-        × (N.settled notes.new ≡ settled_after (N.settled notes.old) note.now))
-        ⊎ (Appends (N.contents notes.old) (N.contents notes.new) note.now
-        × (T.faults output.new ≡ T.faults output.old)
-        × (T.settled output.new ≡ true))) }
+    ensures order { EndsInTurn T.faults T.settled N.contents N.faults N.settled note.now
+        output.old output.new notes.old notes.new }
 {
     write_whole(notes, note)?;
     output.finish()?;

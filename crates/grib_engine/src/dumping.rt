@@ -1,9 +1,8 @@
 //! What `dump` prints of a field, in both editions.
 
 ghost use Rattle.std.specs.Prelude.{◌^◌, ◌<◌, ◌++◌, length};
-ghost use Rattle.grib_io.specs.Outside.{CountsStops};
 ghost use Rattle.grib_engine.specs.Dumped.{dumped};
-ghost use Rattle.grib_engine.specs.Pending.{WritesAllBut};
+ghost use Rattle.grib_engine.specs.Pending.{WritesToAllBut};
 
 use crate::points::{append_points, append_text};
 use grib_dyadic::Dyadic;
@@ -23,9 +22,8 @@ pub(crate) fn append_dump<T: Sink>(
     output: &mut T,
 ) -> Result<(), Stop>
     requires few { length column.now.points < 2 ^ 32 }
-    ensures octets { WritesAllBut result (T.contents output.old) (T.contents output.new)
+    ensures { WritesToAllBut T.contents T.faults result output.old output.new
         (lines.old.items ++ dumped listed.now reference.now column.now) lines.new.items }
-    ensures counted { CountsStops result (T.faults output.old) (T.faults output.new) }
 {
     let numbers = reference_line(alloc, reference, column.e, column.d)?;
     append_text(lines, listed, output)?;

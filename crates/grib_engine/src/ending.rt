@@ -1,8 +1,7 @@
 //! The end of an input, and what is counted of a message.
 
 ghost use Rattle.std.specs.Prelude.{◌≡◌, length, IfOk};
-ghost use Rattle.grib_io.specs.Outside.{CountsStops};
-ghost use Rattle.grib_engine.specs.Pending.{Writes};
+ghost use Rattle.grib_engine.specs.Pending.{WritesTo};
 ghost use Rattle.grib_engine.specs.Reading.{held_octets};
 ghost use Rattle.grib_engine.specs.Tasks as tasks;
 
@@ -22,9 +21,8 @@ pub(crate) fn write_ending<T: Sink>(
     totals: &Totals,
     output: &mut T,
 ) -> Result<(), Stop>
-    ensures octets { Writes result (T.contents output.old) (T.contents output.new)
+    ensures { WritesTo T.contents T.faults result output.old output.new
         (tasks.ending_text job.now totals.now) }
-    ensures counted { CountsStops result (T.faults output.old) (T.faults output.new) }
 {
     match job {
         Job::Check => {
@@ -53,7 +51,7 @@ pub(crate) fn ending_note(alloc: Global, job: &Job, totals: &Totals) -> Result<V
     }
 }
 
-/// The octets and the fields of a message, of whose result so many octets are counted.
+/// The octets and the fields of a message, of whose result this many octets are counted.
 pub(crate) fn counted(held: &Held<'_>, written: u64) -> Whole
     ensures octets { result.octets ≡ length (held_octets held.now) }
     ensures fields { result.fields ≡ tasks.fields_of (held_octets held.now) }

@@ -1,69 +1,72 @@
 //! The fields of a message that fulfil conditions.
 
 ghost use Rattle.std.specs.Prelude.{◌≡◌, ◌≤◌, length, IfOk};
-ghost use Rattle.grib_io.specs.Outside.{CountsStops};
 ghost use Rattle.grib2_message.specs.Fields.{field_count};
 ghost use Rattle.grib2_message.specs.Message.{IsMessage};
-ghost use Rattle.grib_engine.specs.Pending.{Writes};
-ghost use Rattle.grib_engine.specs.Tasks.{texts_from, all_fulfil, single_if, filtered};
+ghost use Rattle.grib_select.specs.Values.{fulfils_all};
+ghost use Rattle.grib_engine.specs.Fronts.{IsFront};
+ghost use Rattle.grib_engine.specs.Pending.{WritesTo};
+ghost use Rattle.grib_engine.specs.Tasks.{texts_from, single_if, filtered};
 
-use crate::writing::write_whole;
+use crate::writing::write_counted;
 use grib_io::{Sink, Stop};
 use grib_select::{Condition, matches, single};
 use grib2_message::Message;
 use std::alloc::Global;
 
 /// Writes a message where each of its fields fulfils the conditions, and else each field that does as a
-/// message of its own. It answers how many octets it wrote.
+/// message of its own. It answers how many octets it wrote. Each field is matched once.
 pub(crate) fn write_filtered<T: Sink>(
     alloc: Global,
     conditions: &[Condition],
     message: &Message<'_>,
     output: &mut T,
 ) -> Result<u64, Stop>
-    ensures octets { Writes result (T.contents output.old) (T.contents output.new)
+    ensures writes { WritesTo T.contents T.faults result output.old output.new
         (filtered conditions.now message.now) }
     ensures count { IfOk result (λ written. written ≡ length (filtered conditions.now message.now)) }
-    ensures counted { CountsStops result (T.faults output.old) (T.faults output.new) }
 {
     let octets = message.octets();
-    if !all_match(message, conditions) {
-        return write_matching(alloc, conditions, message, output);
+    let front = matching_front(message, conditions);
+    if front < message.fields() {
+        return write_matching(alloc, conditions, message, front, output);
     }
-    write_whole(output, octets)?;
-    Ok(message.length())
+    write_counted(output, octets)
 }
 
-/// Whether each field fulfils the conditions.
-fn all_match(message: &Message<'_>, conditions: &[Condition]) -> bool
-    ensures { result ≡ all_fulfil conditions.now message.now }
+/// How many fields fulfil the conditions before the first that does not.
+fn matching_front(message: &Message<'_>, conditions: &[Condition]) -> u32
+    ensures { IsFront conditions.now message.now result }
 {
-    for field in 1..message.fields() + 1 {
-        if !matches(message, field, conditions) {
-            return false;
+    let count = message.fields();
+    for index in 0..count {
+        if !matches(message, index + 1, conditions) {
+            return index;
         }
     }
-    true
+    count
 }
 
-/// Writes each field that fulfils the conditions, of which one is held at a time.
+/// Writes each field that fulfils the conditions, as do this many first ones and not the next. One field is
+/// held at a time.
 fn write_matching<T: Sink>(
     alloc: Global,
     conditions: &[Condition],
     message: &Message<'_>,
+    front: u32,
     output: &mut T,
 ) -> Result<u64, Stop>
-    requires { IsMessage message.now }
-    ensures octets { Writes result (T.contents output.old) (T.contents output.new)
+    requires message { IsMessage message.now }
+    requires front { IsFront conditions.now message.now front }
+    ensures writes { WritesTo T.contents T.faults result output.old output.new
         (texts_from (single_if conditions.now message.now) (field_count message.now) 1) }
     ensures count { IfOk result (λ written. written
         ≡ length (texts_from (single_if conditions.now message.now) (field_count message.now) 1)) }
-    ensures counted { CountsStops result (T.faults output.old) (T.faults output.new) }
 {
     let mut written = 0u64;
     let count = message.fields();
     for index in 0..count {
-        written += write_if_matching(alloc, conditions, message, index + 1, output)?;
+        written += write_if_matching(alloc, conditions, message, front, index + 1, output)?;
     }
     Ok(written)
 }
@@ -73,22 +76,32 @@ fn write_if_matching<T: Sink>(
     alloc: Global,
     conditions: &[Condition],
     message: &Message<'_>,
+    front: u32,
     field: u32,
     output: &mut T,
 ) -> Result<u64, Stop>
     requires message { IsMessage message.now }
+    requires front { IsFront conditions.now message.now front }
     requires first { 1 ≤ field }
     requires last { field ≤ field_count message.now }
-    ensures octets { Writes result (T.contents output.old) (T.contents output.new)
+    ensures writes { WritesTo T.contents T.faults result output.old output.new
         (single_if conditions.now message.now field) }
     ensures count { IfOk result (λ written. written ≡ length (single_if conditions.now message.now field)) }
     ensures few { IfOk result (λ written. written ≤ 268435456) }
-    ensures counted { CountsStops result (T.faults output.old) (T.faults output.new) }
 {
-    if !matches(message, field, conditions) {
+    if !is_matching(conditions, message, front, field) {
         return Ok(0);
     }
     let octets = single(alloc, message, field)?;
-    write_whole(output, octets.as_slice())?;
-    Ok(octets.len() as u64)
+    write_counted(output, octets.as_slice())
+}
+
+/// Whether a field fulfils the conditions, as this many first ones do and not the next.
+fn is_matching(conditions: &[Condition], message: &Message<'_>, front: u32, field: u32) -> bool
+    requires front { IsFront conditions.now message.now front }
+    requires first { 1 ≤ field }
+    requires last { field ≤ field_count message.now }
+    ensures { result ≡ fulfils_all message.now field conditions.now }
+{
+    field <= front || (field - 1 > front && matches(message, field, conditions))
 }

@@ -26,7 +26,7 @@ pub fn what_is_answered_keeps_each_value()
     what_is_repacked_keeps_each_value();
 }
 
-/// Wherever a run of `split` ends, the first so many fields of the input stand whole under their names, the
+/// Wherever a run of `split` ends, some number of first fields of the input stand whole under their names, the
 /// name of the next is as it was or has some first octets of that field, and each other name has what it had.
 /// All fields stand so where neither a device nor memory ended the run, and those of the octets that were
 /// taken where a read failed. The fields are those of the messages of the input before the first of edition

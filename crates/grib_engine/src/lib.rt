@@ -4,9 +4,9 @@
 mod answering;
 mod closing;
 mod dumping;
+mod edition_one;
 mod ending;
 mod filtering;
-mod first;
 mod job;
 pub mod laws;
 mod making;

@@ -1,21 +1,16 @@
 //! The message that `make` writes.
 
-ghost use Rattle.std.specs.Prelude.{◌≡◌, ◌≢◌, ◌⊎◌, ◌<◌, true, false, None, Option, IfOk};
-ghost use Rattle.std.specs.Io.KnownBytes.{Appends};
+ghost use Rattle.std.specs.Prelude.{◌≡◌, true, None, Option, IfOk};
 ghost use Rattle.grib_io.specs.Shelves.{Held as Names};
 ghost use Rattle.grib2_message.specs.Message.{IsMessage};
 ghost use Rattle.grib_made.specs.Made.{made, MayBeMade};
 ghost use Rattle.grib_repack.specs.Faults.{target_of};
 ghost use Rattle.grib_repack.specs.Repacked.{repacked, repack_misfit};
 ghost use Rattle.grib_stream.specs.Acts.{world};
-ghost use Rattle.grib_stream.specs.Faults.{OneCounted};
-ghost use Rattle.grib_stream.specs.Outcomes.{is_cut_short};
 ghost use Rattle.grib_stream.specs.Run.{Gives};
-ghost use Rattle.grib_stream.specs.declared.outcome.Outcome.TheVariants.{Done, WriteFault, Memory};
-ghost use Rattle.grib_engine.specs.Closing.{Unfinished};
-ghost use Rattle.grib_engine.specs.Counts.{Calm};
+ghost use Rattle.grib_stream.specs.declared.outcome.Outcome.TheVariants.{Done};
+ghost use Rattle.grib_engine.specs.Closing.{EndsRun};
 ghost use Rattle.grib_engine.specs.Jobs.{is_target};
-ghost use Rattle.grib_engine.specs.Outcomes.{note_with, NotesFront};
 ghost use Rattle.grib_engine.specs.Tasks as tasks;
 ghost use Rattle.grib_engine.specs.Tasks.{writing, made_answer};
 
@@ -52,20 +47,8 @@ pub(crate) fn serve_made<T: Sink, N: Sink>(
     requires target { is_target target ≡ true }
     ensures runs { (names : Option Names) → Gives (made_answer seed ni nj target) result
         (world (T.contents output.old) names) (world (T.contents output.new) names) }
-    ensures noted { is_cut_short result ≡ false
-        → Appends (N.contents notes.old) (N.contents notes.new)
-        (note_with (tasks.note_of_made seed ni nj target) result) }
-    ensures noted_front { NotesFront (N.contents notes.old) (N.contents notes.new)
-        (tasks.note_of_made seed ni nj target) Done }
-    ensures settled { is_cut_short result ≡ false
-        → (T.settled output.new ≡ true) × (N.settled notes.new ≡ true) }
-    ensures unfinished { T.faults output.old < T.faults output.new
-        → Unfinished (N.settled notes.old) (N.settled notes.new) }
-    ensures one_of { (result ≡ Done) ⊎ ((result ≡ WriteFault) ⊎ (result ≡ Memory)) }
-    ensures fault { result ≡ WriteFault → OneCounted (T.faults output.old) (T.faults output.new)
-        (N.faults notes.old) (N.faults notes.new) }
-    ensures calm { result ≢ WriteFault → Calm (T.faults output.old) (T.faults output.new)
-        (N.faults notes.old) (N.faults notes.new) }
+    ensures ends { EndsRun T.contents T.faults T.settled N.contents N.faults N.settled
+        Done (tasks.note_of_made seed ni nj target) result output.old output.new notes.old notes.new }
 {
     match make(alloc, seed, ni, nj, target) {
         Ok(made) => write_noted(
@@ -89,18 +72,8 @@ fn write_noted<T: Sink, N: Sink>(
 ) -> Outcome
     ensures runs { (names : Option Names) → Gives (writing octets.now note.now) result
         (world (T.contents output.old) names) (world (T.contents output.new) names) }
-    ensures noted { is_cut_short result ≡ false
-        → Appends (N.contents notes.old) (N.contents notes.new) (note_with note.now result) }
-    ensures noted_front { NotesFront (N.contents notes.old) (N.contents notes.new) note.now Done }
-    ensures settled { is_cut_short result ≡ false
-        → (T.settled output.new ≡ true) × (N.settled notes.new ≡ true) }
-    ensures unfinished { T.faults output.old < T.faults output.new
-        → Unfinished (N.settled notes.old) (N.settled notes.new) }
-    ensures one_of { (result ≡ Done) ⊎ ((result ≡ WriteFault) ⊎ (result ≡ Memory)) }
-    ensures fault { result ≡ WriteFault → OneCounted (T.faults output.old) (T.faults output.new)
-        (N.faults notes.old) (N.faults notes.new) }
-    ensures calm { result ≢ WriteFault → Calm (T.faults output.old) (T.faults output.new)
-        (N.faults notes.old) (N.faults notes.new) }
+    ensures ends { EndsRun T.contents T.faults T.settled N.contents N.faults N.settled
+        Done note.now result output.old output.new notes.old notes.new }
 {
     match write_whole(output, octets) {
         Ok(()) => close_with_note(alloc, Outcome::Done, note, output, notes),

@@ -7,7 +7,8 @@ ghost use Rattle.grib_engine.specs.Jobs.{CanChange, has_target};
 use crate::answering::{Answered, answer_message};
 use crate::ending::{counted, write_ending};
 use crate::job::Job;
-use crate::reading::{Unread, read_held};
+use crate::reading::read_held;
+use grib_base::ReadFault;
 use grib_io::{Shelf, Sink, Stop};
 use grib_stream::{Kept, Outcome, Performed, Performer, Place, Totals};
 use grib2_sections::read_head;
@@ -53,8 +54,8 @@ impl Performer for Answering<'_> {
     ) -> Performed {
         let held = match read_held(alloc, octets) {
             Ok(held) => held,
-            Err(Unread::Refused(fault)) => return Performed::Refused(fault),
-            Err(Unread::Memory) => return Performed::Ends(Outcome::Memory),
+            Err(ReadFault::Refused(fault)) => return Performed::Refused(fault),
+            Err(ReadFault::Memory) => return Performed::Ends(Outcome::Memory),
         };
         match answer_message(alloc, self.job, place, &held, output, shelf) {
             Answered::Whole(written) => Performed::Whole(counted(&held, written)),

@@ -1,16 +1,15 @@
 //! Text on its way through a buffer, and the lines of the points of a column.
 
 ghost use Rattle.std.specs.Prelude.{◌^◌, ◌<◌, ◌++◌, length};
-ghost use Rattle.grib_io.specs.Outside.{CountsStops};
 ghost use Rattle.grib_text.specs.Lines.{point_line, point_lines};
-ghost use Rattle.grib_engine.specs.Pending.{WritesAllBut};
+ghost use Rattle.grib_engine.specs.Pending.{WritesToAllBut};
 
 use crate::writing::write_whole;
 use grib_io::{Sink, Stop};
 use grib_packing::Point;
 use grib_text::append_point_line;
 
-/// From so many octets on a buffer is passed on.
+/// From this many octets on a buffer is passed on.
 const FULL: usize = 65_536;
 
 /// The octets of lines that are gathered before they are passed on, and room for some lines more.
@@ -22,9 +21,8 @@ pub(crate) fn append_text<T: Sink>(
     text: &[u8],
     output: &mut T,
 ) -> Result<(), Stop>
-    ensures octets { WritesAllBut result (T.contents output.old) (T.contents output.new)
+    ensures { WritesToAllBut T.contents T.faults result output.old output.new
         (lines.old.items ++ text.now) lines.new.items }
-    ensures counted { CountsStops result (T.faults output.old) (T.faults output.new) }
 {
     make_room(lines, output)?;
     lines.extend_from_slice(text)?;
@@ -39,9 +37,8 @@ pub(crate) fn append_points<T: Sink>(
     output: &mut T,
 ) -> Result<(), Stop>
     requires few { length points.now < 2 ^ 32 }
-    ensures octets { WritesAllBut result (T.contents output.old) (T.contents output.new)
+    ensures { WritesToAllBut T.contents T.faults result output.old output.new
         (lines.old.items ++ point_lines 1 points.now) lines.new.items }
-    ensures counted { CountsStops result (T.faults output.old) (T.faults output.new) }
 {
     for (index, point) in points.iter().enumerate() {
         append_point(lines, index as u32 + 1, point, output)?;
@@ -57,9 +54,8 @@ fn append_point<T: Sink>(
     point: &Point,
     output: &mut T,
 ) -> Result<(), Stop>
-    ensures octets { WritesAllBut result (T.contents output.old) (T.contents output.new)
+    ensures { WritesToAllBut T.contents T.faults result output.old output.new
         (lines.old.items ++ point_line place point.now) lines.new.items }
-    ensures counted { CountsStops result (T.faults output.old) (T.faults output.new) }
 {
     make_room(lines, output)?;
     append_point_line(lines, place, point)?;
@@ -69,9 +65,8 @@ fn append_point<T: Sink>(
 /// Writes a full buffer, and empties it.
 #[inline]
 fn make_room<T: Sink>(lines: &mut Vec<u8>, output: &mut T) -> Result<(), Stop>
-    ensures octets { WritesAllBut result (T.contents output.old) (T.contents output.new)
+    ensures { WritesToAllBut T.contents T.faults result output.old output.new
         lines.old.items lines.new.items }
-    ensures counted { CountsStops result (T.faults output.old) (T.faults output.new) }
 {
     if lines.len() >= FULL {
         write_whole(output, lines.as_slice())?;

@@ -1,12 +1,11 @@
 //! What is printed of a message of edition 2.
 
 ghost use Rattle.std.specs.Prelude.{◌≡◌, ◌<◌, ◌≤◌, ◌++◌, length};
-ghost use Rattle.grib_io.specs.Outside.{CountsStops};
 ghost use Rattle.grib_bits.specs.Binary32.{ieee_exponent};
 ghost use Rattle.grib_dyadic.specs.Reference.{ieee, reduced};
 ghost use Rattle.grib_text.specs.Lines as printed;
 ghost use Rattle.grib2_message.specs.Fields.{field_count};
-ghost use Rattle.grib_engine.specs.Pending.{Writes, WritesAllBut};
+ghost use Rattle.grib_engine.specs.Pending.{WritesTo, WritesToAllBut};
 ghost use Rattle.grib_engine.specs.Tasks as tasks;
 ghost use Rattle.grib_engine.specs.Tasks.{field_text, texts_from, message_text_2};
 
@@ -30,9 +29,8 @@ pub(crate) fn write_message<T: Sink>(
     message: &Message<'_>,
     output: &mut T,
 ) -> Result<(), Stop>
-    ensures octets { Writes result (T.contents output.old) (T.contents output.new)
+    ensures { WritesTo T.contents T.faults result output.old output.new
         (message_text_2 job.now place.now message.now) }
-    ensures counted { CountsStops result (T.faults output.old) (T.faults output.new) }
 {
     match job {
         Job::Check => write_check(alloc, place, message, output),
@@ -53,9 +51,8 @@ fn write_check<T: Sink>(
     message: &Message<'_>,
     output: &mut T,
 ) -> Result<(), Stop>
-    ensures octets { Writes result (T.contents output.old) (T.contents output.new)
+    ensures { WritesTo T.contents T.faults result output.old output.new
         (printed.check_line place.now.message place.now.before 2 (length message.now) (field_count message.now)) }
-    ensures counted { CountsStops result (T.faults output.old) (T.faults output.new) }
 {
     let line = check_line(
         alloc,
@@ -76,9 +73,8 @@ fn write_fields<T: Sink>(
     message: &Message<'_>,
     output: &mut T,
 ) -> Result<(), Stop>
-    ensures octets { Writes result (T.contents output.old) (T.contents output.new)
+    ensures { WritesTo T.contents T.faults result output.old output.new
         (texts_from (field_text job.now message.now number) (field_count message.now) 1) }
-    ensures counted { CountsStops result (T.faults output.old) (T.faults output.new) }
 {
     let mut lines = Vec::with_capacity(alloc, ROOM)?;
     append_fields(alloc, job, number, message, &mut lines, output)?;
@@ -94,10 +90,9 @@ fn append_fields<T: Sink>(
     lines: &mut Vec<u8>,
     output: &mut T,
 ) -> Result<(), Stop>
-    ensures octets { WritesAllBut result (T.contents output.old) (T.contents output.new)
+    ensures { WritesToAllBut T.contents T.faults result output.old output.new
         (lines.old.items ++ texts_from (field_text job.now message.now number) (field_count message.now) 1)
         lines.new.items }
-    ensures counted { CountsStops result (T.faults output.old) (T.faults output.new) }
 {
     let count = message.fields();
     for index in 0..count {
@@ -118,9 +113,8 @@ fn append_field<T: Sink>(
 ) -> Result<(), Stop>
     requires first { 1 ≤ field }
     requires last { field ≤ field_count message.now }
-    ensures octets { WritesAllBut result (T.contents output.old) (T.contents output.new)
+    ensures { WritesToAllBut T.contents T.faults result output.old output.new
         (lines.old.items ++ field_text job.now message.now number field) lines.new.items }
-    ensures counted { CountsStops result (T.faults output.old) (T.faults output.new) }
 {
     match job {
         Job::List => append_listed(alloc, number, message, field, lines, output),
@@ -145,9 +139,8 @@ fn append_listed<T: Sink>(
 ) -> Result<(), Stop>
     requires first { 1 ≤ field }
     requires last { field ≤ field_count message.now }
-    ensures octets { WritesAllBut result (T.contents output.old) (T.contents output.new)
+    ensures { WritesToAllBut T.contents T.faults result output.old output.new
         (lines.old.items ++ printed.list_line message.now number field) lines.new.items }
-    ensures counted { CountsStops result (T.faults output.old) (T.faults output.new) }
 {
     let line = list_line(alloc, message, number, field)?;
     append_text(lines, line.as_slice(), output)
@@ -164,9 +157,8 @@ fn append_dumped<T: Sink>(
 ) -> Result<(), Stop>
     requires first { 1 ≤ field }
     requires last { field ≤ field_count message.now }
-    ensures octets { WritesAllBut result (T.contents output.old) (T.contents output.new)
+    ensures { WritesToAllBut T.contents T.faults result output.old output.new
         (lines.old.items ++ tasks.dump_text message.now number field) lines.new.items }
-    ensures counted { CountsStops result (T.faults output.old) (T.faults output.new) }
 {
     let column = message.column(alloc, field)?;
     let reference = reference_of(&column);

@@ -4,10 +4,9 @@ ghost use Rattle.std.specs.Prelude.{◌≡◌, true, MatchResult};
 ghost use Rattle.grib2_sections.specs.Head as head;
 ghost use Rattle.grib_stream.specs.Stream.{begins};
 ghost use Rattle.grib_engine.specs.Reading.{Holds, IsUnread};
-ghost use Rattle.grib_engine.specs.declared.reading.Unread.TheVariants.{Refused, Memory};
-ghost use Rattle.grib_base.specs.declared.fault.ReadFault.TheVariants.{Refused as RefusedMessage};
+ghost use Rattle.grib_base.specs.declared.fault.ReadFault.TheVariants.{Refused, Memory};
 
-use grib_base::{Fault, ReadFault};
+use grib_base::ReadFault;
 use grib_bits::u8_at;
 use grib1_sections::{Message1, read_message1};
 use grib2_message::{Message, read_message};
@@ -23,17 +22,8 @@ pub enum Held<'a> {
     Two(Message<'a>),
 }
 
-/// Why octets from a `GRIB` on were not read as a message.
-#[derive(Clone, Copy, Debug, PartialEq, Eq)]
-pub(crate) enum Unread {
-    /// They are refused.
-    Refused(Fault),
-    /// Want of memory.
-    Memory,
-}
-
 /// Reads the message that these octets begin with, which begin with `GRIB`.
-pub(crate) fn read_held<'a>(alloc: Global, octets: &'a [u8]) -> Result<Held<'a>, Unread>
+pub(crate) fn read_held<'a>(alloc: Global, octets: &'a [u8]) -> Result<Held<'a>, ReadFault>
     requires { begins octets.now ≡ true }
     ensures { MatchResult result (Holds octets.now) (IsUnread octets.now) }
 {
@@ -42,7 +32,7 @@ pub(crate) fn read_held<'a>(alloc: Global, octets: &'a [u8]) -> Result<Held<'a>,
         2 => read_second(alloc, octets),
         _ => match read_head(octets) {
             Ok(_) => unreachable!(),
-            Err(fault) => Err(Unread::Refused(fault)),
+            Err(fault) => Err(ReadFault::Refused(fault)),
         },
     }
 }
@@ -59,29 +49,23 @@ fn edition_of(octets: &[u8]) -> u8
 }
 
 /// Reads a message of edition 1.
-fn read_first<'a>(alloc: Global, octets: &'a [u8]) -> Result<Held<'a>, Unread>
+fn read_first<'a>(alloc: Global, octets: &'a [u8]) -> Result<Held<'a>, ReadFault>
     requires begun { begins octets.now ≡ true }
     requires first { head.edition octets.now ≡ 1 }
     ensures { MatchResult result (Holds octets.now) (IsUnread octets.now) }
 {
-    match read_message1(alloc, octets) {
-        Ok(message) => Ok(Held::One(message)),
-        Err(ReadFault::Refused(fault)) => Err(Unread::Refused(fault)),
-        Err(ReadFault::Memory) => Err(Unread::Memory),
-    }
+    let message = read_message1(alloc, octets)?;
+    Ok(Held::One(message))
 }
 
 /// Reads a message of edition 2.
-fn read_second<'a>(alloc: Global, octets: &'a [u8]) -> Result<Held<'a>, Unread>
+fn read_second<'a>(alloc: Global, octets: &'a [u8]) -> Result<Held<'a>, ReadFault>
     requires begun { begins octets.now ≡ true }
     requires second { head.edition octets.now ≡ 2 }
     ensures { MatchResult result (Holds octets.now) (IsUnread octets.now) }
 {
-    match read_message(alloc, octets) {
-        Ok(message) => Ok(Held::Two(message)),
-        Err(ReadFault::Refused(fault)) => Err(Unread::Refused(fault)),
-        Err(ReadFault::Memory) => Err(Unread::Memory),
-    }
+    let message = read_message(alloc, octets)?;
+    Ok(Held::Two(message))
 }
 
 /// A message of edition 1 says so in its octets.

@@ -1,15 +1,13 @@
 //! A whole run: the messages of the input are answered, or one is made, and the run is closed.
 
 ghost use Rattle.std.specs.Prelude.{◌≡◌, ◌≢◌, ◌⊎◌, ◌<◌, true, false};
-ghost use Rattle.std.specs.Io.KnownBytes.{Appends, Keeps};
+ghost use Rattle.std.specs.Io.KnownBytes.{Keeps};
 ghost use Rattle.grib_stream.specs.Acts.{world};
 ghost use Rattle.grib_stream.specs.Outcomes.{is_cut_short};
-ghost use Rattle.grib_stream.specs.Faults.{faults, CountsRun, OneCounted};
+ghost use Rattle.grib_stream.specs.Faults.{faults, CountsRun};
 ghost use Rattle.grib_stream.specs.declared.outcome.Outcome.TheVariants.{Done, WriteFault, ShelfFault, Memory};
-ghost use Rattle.grib_engine.specs.Closing.{Unfinished};
-ghost use Rattle.grib_engine.specs.Counts.{Calm};
+ghost use Rattle.grib_engine.specs.Closing.{EndsRun, Unfinished};
 ghost use Rattle.grib_engine.specs.Jobs.{IsJob, CanChange, has_target, makes, uses_shelf};
-ghost use Rattle.grib_engine.specs.Outcomes.{note_with, NotesFront};
 ghost use Rattle.grib_engine.specs.Serving.{RunsJob, NotesJob, NotesJobFront};
 ghost use Rattle.grib_engine.specs.Tasks as tasks;
 
@@ -121,20 +119,9 @@ fn close_whole<T: Sink, N: Sink>(
     output: &mut T,
     notes: &mut N,
 ) -> Outcome
-    ensures one_of { (result ≡ Done) ⊎ ((result ≡ WriteFault) ⊎ (result ≡ Memory)) }
-    ensures noted { is_cut_short result ≡ false → Appends (N.contents notes.old) (N.contents notes.new)
-        (note_with (tasks.ending_note job.now totals.now) result) }
-    ensures noted_front { NotesFront (N.contents notes.old) (N.contents notes.new)
-        (tasks.ending_note job.now totals.now) Done }
-    ensures fault { result ≡ WriteFault → OneCounted (T.faults output.old) (T.faults output.new)
-        (N.faults notes.old) (N.faults notes.new) }
-    ensures calm { result ≢ WriteFault → Calm (T.faults output.old) (T.faults output.new)
-        (N.faults notes.old) (N.faults notes.new) }
-    ensures settled { is_cut_short result ≡ false
-        → (T.settled output.new ≡ true) × (N.settled notes.new ≡ true) }
+    ensures ends { EndsRun T.contents T.faults T.settled N.contents N.faults N.settled
+        Done (tasks.ending_note job.now totals.now) result output.old output.new notes.old notes.new }
     ensures output_kept { Keeps (T.contents output.old) (T.contents output.new) }
-    ensures unfinished { T.faults output.old < T.faults output.new
-        → Unfinished (N.settled notes.old) (N.settled notes.new) }
 {
     match ending_note(alloc, job, totals) {
         Ok(note) => close_with_note(alloc, Outcome::Done, note.as_slice(), output, notes),

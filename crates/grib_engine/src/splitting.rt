@@ -1,55 +1,46 @@
 //! The fields of a message on a shelf, each as a message of its own.
 
-ghost use Rattle.std.specs.Prelude.{◌≡◌, ◌≢◌, ◌+◌, ◌*◌, ◌≤◌, ◌^◌, string_bytes, length, IfOk};
-ghost use Rattle.grib_io.specs.Outside.{Counted, CountsStops};
+ghost use Rattle.std.specs.Prelude.{◌≡◌, ℕ, ◌+◌, ◌*◌, ◌≤◌, ◌^◌, string_bytes, length, IfOk};
+ghost use Rattle.grib_io.specs.Outside.{CountsStops};
 ghost use Rattle.grib2_message.specs.Fields.{field_count};
 ghost use Rattle.grib2_message.specs.Message.{IsMessage};
 ghost use Rattle.grib_select.specs.Single.{single_of};
-ghost use Rattle.grib_stream.specs.Acts.{world};
 ghost use Rattle.grib_stream.specs.Task.{Gives};
-ghost use Rattle.grib_engine.specs.Answering.{Answers};
+ghost use Rattle.grib_engine.specs.Answering.{AnswersByShelf};
 ghost use Rattle.grib_engine.specs.Parts as parts;
 ghost use Rattle.grib_engine.specs.Parts.{part, part_of, parts_of, puts, puts_all, octets_within};
 ghost use Rattle.grib_engine.specs.Shelving.{Shelves};
-ghost use Rattle.grib_engine.specs.declared.answering.Answered.TheVariants.{WriteFault, ShelfFault};
 
 use crate::answering::Answered;
 use crate::name::Name;
-use grib_io::{Shelf, Sink, Stop};
+use grib_io::{Shelf, Stop};
 use grib_select::single;
-use grib_stream::Place;
 use grib2_message::Message;
 use std::alloc::{AllocError, Global};
 
-/// Puts each field of a message at this place on the shelf, as a message of its own under the name with
-/// the number of the field in the whole input. Nothing is written.
-pub(crate) fn split<T: Sink, H: Shelf>(
+/// Puts each field of a message on the shelf, as a message of its own under the name with the number of the
+/// field in the whole input, in which this many fields stand before the message.
+pub(crate) fn split<H: Shelf>(
     alloc: Global,
     name: &Name,
-    place: &Place,
+    before: u64,
     message: &Message<'_>,
-    output: &mut T,
     shelf: &mut H,
 ) -> Answered
-    requires { place.now.fields ≤ 2 ^ 41 }
-    ensures answers { Answers result place.now.message
-        (Gives (puts_all (parts_of name.now place.now.fields message.now))
-        (octets_within (parts_of name.now place.now.fields message.now)))
-        (world (T.contents output.old) (H.contents shelf.old))
-        (world (T.contents output.new) (H.contents shelf.new)) }
-    ensures shelf_fault { result ≡ ShelfFault → Counted (H.faults shelf.old) (H.faults shelf.new) }
-    ensures shelf_calm { result ≢ ShelfFault → H.faults shelf.new ≡ H.faults shelf.old }
-    ensures unwritten { result ≢ WriteFault }
-    ensures output { output.new ≡ output.old }
+    requires { before ≤ 2 ^ 41 }
+    ensures { (m : ℕ) → AnswersByShelf H.contents H.faults result m
+        (Gives (puts_all (parts_of name.now before message.now))
+        (octets_within (parts_of name.now before message.now)))
+        shelf.old shelf.new }
 {
-    match put_fields(alloc, name, place.fields, message, shelf) {
+    match put_fields(alloc, name, before, message, shelf) {
         Ok(written) => Answered::Whole(written),
         Err(Stop::Failed) => Answered::ShelfFault,
         Err(Stop::Memory) => Answered::Memory,
     }
 }
 
-/// Puts each field of a message, before which so many fields stand, and answers how many octets they have.
+/// Puts each field of a message, before which this many fields stand, and answers how many octets they have.
 fn put_fields<H: Shelf>(
     alloc: Global,
     name: &Name,

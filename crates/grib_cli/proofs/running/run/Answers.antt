@@ -9,12 +9,12 @@ pub returns-in-Err-clause-runs : goal.returns-in-Err-clause-runs
 returns-in-Err-clause-runs g c =
     if_asked (job_of (map string_bytes c.args.words.now)) c.in-Err.fault _ c.in-Err.ensures.asked
     (λ memory job. runs_nothing job c.close_with_note.result _ _ _
-    (cut_memory c.in-Err.fault c.close_with_note.result memory (subst (λ o. OneOf o c.close_with_note.result) c.outcome_of.ensures c.close_with_note.ensures.one_of))
+    (cut_memory c.in-Err.fault c.close_with_note.result memory (subst (λ o. OneOf o c.close_with_note.result) c.outcome_of.ensures c.close_with_note.ensures.ends.one_of))
     (did_keep _ _ _ c.close_with_note.ensures.output_kept))
 
 pub returns-in-Err-clause-noted_front : goal.returns-in-Err-clause-noted_front
 returns-in-Err-clause-noted_front g c =
-    let noted = subst (λ o. NotesFront (g.N.Sink.contents c.args.notes.now) (g.N.Sink.contents c.close_with_note.new.notes) _ o) c.outcome_of.ensures c.close_with_note.ensures.noted_front in
+    let noted = subst (λ o. NotesFront (g.N.Sink.contents c.args.notes.now) (g.N.Sink.contents c.close_with_note.new.notes) _ o) c.outcome_of.ensures c.close_with_note.ensures.ends.noted_front in
     by_asked (job_of (map string_bytes c.args.words.now)) c.in-Err.fault _ _ c.in-Err.ensures.asked noted
     (λ memory job. fronts_memory job _ _ _ _ _ _ _ (memory_front c.in-Err.fault _ _ memory noted))
     (λ memory other. other_front other _ _ (memory_front c.in-Err.fault _ _ memory noted))
@@ -27,4 +27,4 @@ pub returns-in-Err-clause-unshelved : goal.returns-in-Err-clause-unshelved
 returns-in-Err-clause-unshelved g c =
     if_asked (job_of (map string_bytes c.args.words.now)) c.in-Err.fault _ c.in-Err.ensures.asked
     (λ memory job unused. unshelved_memory c.in-Err.fault c.close_with_note.result memory
-    (subst (λ o. OneOf o c.close_with_note.result) c.outcome_of.ensures c.close_with_note.ensures.one_of))
+    (subst (λ o. OneOf o c.close_with_note.result) c.outcome_of.ensures c.close_with_note.ensures.ends.one_of))

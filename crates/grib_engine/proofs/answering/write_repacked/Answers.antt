@@ -1,28 +1,18 @@
-use Rattle.std.proofs.Common.{refl, ◌∙◌}
-use Rattle.grib_stream.specs.Acts.{writes}
-use Rattle.grib_stream.proofs.Worlds.{did_write, did_write_front}
-use Rattle.grib_engine.proofs.Answers.{target_stands, not_repacked, fits_shown, fits_front}
+use Rattle.std.proofs.Common.{sym, ap, ◌∙◌}
+use Rattle.grib_repack.specs.Faults.{target_of}
+use Rattle.grib_repack.specs.Repacked.{repacked}
+use Rattle.grib_engine.specs.Tasks.{given_whole, given_unless}
+use Rattle.grib_engine.proofs.Answers.{target_stands, by_writing, by_fault}
 use Rattle.grib_engine.proofs.answering.write_repacked.Goals as goal
 
 pub repack-requires : goal.repack-requires
 repack-requires g c = target_stands c.args.target c.requires
 
-pub returns-in-Err-clause-answers : goal.returns-in-Err-clause-answers
-returns-in-Err-clause-answers g c = not_repacked _ c.in-Err.fault c.kept_by.result _ _ _ c.in-Err.ensures c.kept_by.ensures
+pub returns-in-Ok : goal.returns-in-Ok
+returns-in-Ok g c = λ m.
+    by_writing g.T.Sink.contents g.T.Sink.faults c.write_counted.result c.written.result m _ c.as_slice.result.now _ _ c.written.ensures
+    (ap (λ misfits. given_unless misfits m (repacked (target_of c.args.target) c.args.message.now)) c.in-Ok.ensures.0 ∙ ap given_whole (sym (c.as_slice.ensures.value ∙ c.in-Ok.ensures.1)))
+    c.write_counted.ensures.count c.write_counted.ensures.writes
 
-pub returns-in-Ok-write_whole-clause-answers : goal.returns-in-Ok-write_whole-clause-answers
-returns-in-Ok-write_whole-clause-answers g c = (
-  writes c.as_slice-packed.result.now,
-  fits_shown _ _ _ c.as_slice-packed.result.now _ c.in-Ok.ensures.0 (c.as_slice-packed.ensures.value ∙ c.in-Ok.ensures.1) refl,
-  did_write _ _ _ _ c.in-Ok-write_whole.ensures.octets.whole,
-)
-
-pub returns-in-Err-Failed-clause-answers : goal.returns-in-Err-Failed-clause-answers
-returns-in-Err-Failed-clause-answers g c =
-    fits_front _ _ _ c.as_slice-packed.result.now _ _ c.in-Ok.ensures.0 (c.as_slice-packed.ensures.value ∙ c.in-Ok.ensures.1)
-    (did_write_front _ _ _ _ c.in-Err-Failed.ensures.octets.front)
-
-pub returns-clause-answers : goal.returns-clause-answers
-returns-clause-answers g c =
-    fits_front _ _ _ c.as_slice-packed.result.now _ _ c.in-Ok.ensures.0 (c.as_slice-packed.ensures.value ∙ c.in-Ok.ensures.1)
-    (did_write_front _ _ _ _ c.in-Err-Memory.ensures.octets.front)
+pub returns-in-Err : goal.returns-in-Err
+returns-in-Err g c = λ m. by_fault g.T.Sink.contents g.T.Sink.faults c.in-Err.fault c.kept_by.result _ m _ _ c.kept_by.ensures c.in-Err.ensures

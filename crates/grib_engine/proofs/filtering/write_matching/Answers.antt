@@ -3,23 +3,29 @@ use Rattle.grib_engine.specs.Tasks.{single_if}
 use Rattle.grib_engine.proofs.Filtered.{text_written, text_refused, text_counted, texts_whole}
 use Rattle.grib_engine.proofs.filtering.write_matching.Goals as goal
 
-pub returns-in_err-written-clause-octets : goal.returns-in_err-written-clause-octets
-returns-in_err-written-clause-octets g c = record {
-  whole = search rules;
-  front = text_refused _ _ _ (single_if c.args.conditions.now c.args.message.now) c.loop-index.index _ _ (omega arith) (omega arith)
-      c.loop-index.invariant.told c.write_if_matching.ensures.octets.front;
+pub returns-in_err-written-clause-writes : goal.returns-in_err-written-clause-writes
+returns-in_err-written-clause-writes g c = record {
+  octets = record {
+    whole = search rules;
+    front = text_refused _ _ _ (single_if c.args.conditions.now c.args.message.now) c.loop-index.index _ _ (omega arith) (omega arith)
+        c.loop-index.invariant.appended c.write_if_matching.ensures.writes.octets.front;
+  };
+  counted = search rules;
 }
 
 pub loop-index-preserved : goal.loop-index-preserved
 loop-index-preserved g c =
     let text = single_if c.args.conditions.now c.args.message.now in
     record {
-      told = text_written _ _ _ text c.loop-index.index _ (omega arith) c.loop-index.invariant.told c.in_ok-written.ensures.octets.whole;
-      calm = c.in_ok-written.ensures.counted ∙ c.loop-index.invariant.calm;
+      appended = text_written _ _ _ text c.loop-index.index _ (omega arith) c.loop-index.invariant.appended c.in_ok-written.ensures.writes.octets.whole;
+      faults_stay = c.in_ok-written.ensures.writes.counted ∙ c.loop-index.invariant.faults_stay;
       count = text_counted text c.loop-index.index _ c.loop-index.written _ (omega arith) c.loop-index.invariant.count c.in_ok-written.ensures.count;
       few = omega (arith, c.loop-index.invariant.few, c.in_ok-written.ensures.few);
     }
 
-pub returns-clause-octets : goal.returns-clause-octets
-returns-clause-octets g c =
-    texts_whole _ _ (single_if c.args.conditions.now c.args.message.now) c.loop-index.index _ c.loop-index.written (omega arith) c.loop-index.invariant.told
+pub returns-clause-writes : goal.returns-clause-writes
+returns-clause-writes g c = record {
+  octets =
+      texts_whole _ _ (single_if c.args.conditions.now c.args.message.now) c.loop-index.index _ c.loop-index.written (omega arith) c.loop-index.invariant.appended;
+  counted = search rules;
+}

@@ -6,8 +6,8 @@ use Rattle.grib_engine.proofs.filtering.write_matching.Given as goal
 -- the fields so far that fulfil the conditions were written and counted, and no fault
 abbrev pub invariant-loop-index : goal.invariant-loop-index
 invariant-loop-index g l = record {
-  told : Appends (g.T.Sink.contents l.fn.output) (g.T.Sink.contents l.output) (texts_from (single_if l.conditions l.message) l.index 1);
-  calm : g.T.Sink.faults l.output ≡ g.T.Sink.faults l.fn.output;
+  appended : Appends (g.T.Sink.contents l.fn.output) (g.T.Sink.contents l.output) (texts_from (single_if l.conditions l.message) l.index 1);
+  faults_stay : g.T.Sink.faults l.output ≡ g.T.Sink.faults l.fn.output;
   count : l.written ≡ length (texts_from (single_if l.conditions l.message) l.index 1);
   few : l.written ≤ 268435456 * l.index;
 }

@@ -6,6 +6,6 @@ use Rattle.grib_engine.proofs.points.append_points.Given as goal
 -- the lines of the points so far were written but for the buffer, and no fault
 abbrev pub invariant-loop-index : goal.invariant-loop-index
 invariant-loop-index g l = record {
-  told : AppendsAllBut (g.T.Sink.contents l.fn.output) (g.T.Sink.contents l.output) (l.fn.lines.items ++ point_lines 1 (take l.index l.points)) l.lines.items;
-  calm : g.T.Sink.faults l.output ≡ g.T.Sink.faults l.fn.output;
+  appended : AppendsAllBut (g.T.Sink.contents l.fn.output) (g.T.Sink.contents l.output) (l.fn.lines.items ++ point_lines 1 (take l.index l.points)) l.lines.items;
+  faults_stay : g.T.Sink.faults l.output ≡ g.T.Sink.faults l.fn.output;
 }

@@ -5,22 +5,31 @@ use Rattle.grib_engine.proofs.Finite.{finite_column}
 use Rattle.grib_engine.proofs.Pending.{dump_is}
 use Rattle.grib_engine.proofs.printing.append_dumped.Goals as goal
 
-pub returns-in_err-column-clause-octets : goal.returns-in_err-column-clause-octets
-returns-in_err-column-clause-octets g c = record { whole = search rules; front = front_none _ _ }
+pub returns-in_err-column : goal.returns-in_err-column
+returns-in_err-column g c = record {
+  octets = record { whole = search rules; front = front_none _ _ };
+  counted = search rules;
+}
 
 pub reference_of-reference-requires : goal.reference_of-reference-requires
 reference_of-reference-requires g c = record {
   finite = finite_column c.args.message.now c.args.field c.in_ok-column.column c.column.ensures.passes c.in_ok-column.ensures.column;
 }
 
-pub returns-in_err-listed-clause-octets : goal.returns-in_err-listed-clause-octets
-returns-in_err-listed-clause-octets g c = record { whole = search rules; front = front_none _ _ }
+pub returns-in_err-listed : goal.returns-in_err-listed
+returns-in_err-listed g c = record {
+  octets = record { whole = search rules; front = front_none _ _ };
+  counted = search rules;
+}
 
-pub returns-clause-octets : goal.returns-clause-octets
-returns-clause-octets g c =
-    subst
-    (λ text. WritesAllBut c.append_dump.result (g.T.Sink.contents c.args.output.now) (g.T.Sink.contents c.append_dump.new.output) (c.args.lines.now.items ++ text)
-    c.append_dump.new.lines.items)
-    (dump_is c.args.message.now c.args.number c.args.field c.in_ok-column.column c.as_slice.result.now c.reference_of-reference.result
-    c.in_ok-column.ensures.column (c.as_slice.ensures.value ∙ c.in_ok-listed.ensures) c.reference_of-reference.ensures)
-    c.append_dump.ensures.octets
+pub returns : goal.returns
+returns g c = record {
+  octets =
+      subst
+      (λ text. WritesAllBut c.append_dump.result (g.T.Sink.contents c.args.output.now) (g.T.Sink.contents c.append_dump.new.output) (c.args.lines.now.items ++ text)
+      c.append_dump.new.lines.items)
+      (dump_is c.args.message.now c.args.number c.args.field c.in_ok-column.column c.as_slice.result.now c.reference_of-reference.result
+      c.in_ok-column.ensures.column (c.as_slice.ensures.value ∙ c.in_ok-listed.ensures) c.reference_of-reference.ensures)
+      c.append_dump.ensures.octets;
+  counted = search rules;
+}

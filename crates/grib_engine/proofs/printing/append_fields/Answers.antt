@@ -3,16 +3,19 @@ use Rattle.grib_engine.specs.Tasks.{field_text}
 use Rattle.grib_engine.proofs.Pending.{field_written, field_refused}
 use Rattle.grib_engine.proofs.printing.append_fields.Goals as goal
 
-pub returns-in_err-append_field-clause-octets : goal.returns-in_err-append_field-clause-octets
-returns-in_err-append_field-clause-octets g c = record {
-  whole = search rules;
-  front = field_refused _ _ _ c.args.lines.now.items c.loop-index.lines.items (field_text c.args.job.now c.args.message.now c.args.number) c.loop-index.index _ _ (omega arith) (omega arith)
-      c.loop-index.invariant.told c.append_field.ensures.octets.front;
+pub returns-in_err-append_field : goal.returns-in_err-append_field
+returns-in_err-append_field g c = record {
+  octets = record {
+    whole = search rules;
+    front = field_refused _ _ _ c.args.lines.now.items c.loop-index.lines.items (field_text c.args.job.now c.args.message.now c.args.number) c.loop-index.index _ _ (omega arith) (omega arith)
+        c.loop-index.invariant.appended c.append_field.ensures.octets.front;
+  };
+  counted = search rules;
 }
 
 pub loop-index-preserved : goal.loop-index-preserved
 loop-index-preserved g c = record {
-  told = field_written _ _ _ c.args.lines.now.items c.loop-index.lines.items _ (field_text c.args.job.now c.args.message.now c.args.number) c.loop-index.index _ (omega arith)
-      c.loop-index.invariant.told c.in_ok-append_field.ensures.octets.whole;
-  calm = c.in_ok-append_field.ensures.counted ∙ c.loop-index.invariant.calm;
+  appended = field_written _ _ _ c.args.lines.now.items c.loop-index.lines.items _ (field_text c.args.job.now c.args.message.now c.args.number) c.loop-index.index _ (omega arith)
+      c.loop-index.invariant.appended c.in_ok-append_field.ensures.octets.whole;
+  faults_stay = c.in_ok-append_field.ensures.counted ∙ c.loop-index.invariant.faults_stay;
 }

@@ -6,6 +6,6 @@ use Rattle.grib_engine.proofs.printing.append_fields.Given as goal
 -- the texts of the fields so far were written but for the buffer, and no fault
 abbrev pub invariant-loop-index : goal.invariant-loop-index
 invariant-loop-index g l = record {
-  told : AppendsAllBut (g.T.Sink.contents l.fn.output) (g.T.Sink.contents l.output) (l.fn.lines.items ++ texts_from (field_text l.job l.message l.number) l.index 1) l.lines.items;
-  calm : g.T.Sink.faults l.output ≡ g.T.Sink.faults l.fn.output;
+  appended : AppendsAllBut (g.T.Sink.contents l.fn.output) (g.T.Sink.contents l.output) (l.fn.lines.items ++ texts_from (field_text l.job l.message l.number) l.index 1) l.lines.items;
+  faults_stay : g.T.Sink.faults l.output ≡ g.T.Sink.faults l.fn.output;
 }

@@ -8,7 +8,7 @@ pub returns-in-Make-clause-noted_front : goal.returns-in-Make-clause-noted_front
 returns-in-Make-clause-noted_front g c =
     subst (λ job. NotesJobFront job (g.S.Source.left c.args.input.now) (g.S.Source.faults c.args.input.now) (g.S.Source.faults c.args.input.now)
     (g.H.Shelf.faults c.args.shelf.now) (g.H.Shelf.faults c.args.shelf.now) (g.N.Sink.contents c.args.notes.now) (g.N.Sink.contents c.serve_made.new.notes))
-    (sym c.in-Make.is) c.serve_made.ensures.noted_front
+    (sym c.in-Make.is) c.serve_made.ensures.ends.noted_front
 
 pub returns-in-Make-clause-unshelved : goal.returns-in-Make-clause-unshelved
-returns-in-Make-clause-unshelved g c = λ off. no_shelf_fault Done c.serve_made.result c.serve_made.ensures.one_of (λ e. cc)
+returns-in-Make-clause-unshelved g c = λ off. no_shelf_fault Done c.serve_made.result c.serve_made.ensures.ends.one_of (λ e. cc)

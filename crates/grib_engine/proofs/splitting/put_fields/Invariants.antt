@@ -6,8 +6,8 @@ use Rattle.grib_engine.proofs.splitting.put_fields.Given as goal
 -- the fields so far were put whole, and no fault
 abbrev pub invariant-loop-index : goal.invariant-loop-index
 invariant-loop-index g l = record {
-  told : DidOnShelf (g.H.Shelf.contents l.fn.shelf) (g.H.Shelf.contents l.shelf) (puts_all (first_parts l.name l.before l.message l.index));
+  shelved : DidOnShelf (g.H.Shelf.contents l.fn.shelf) (g.H.Shelf.contents l.shelf) (puts_all (first_parts l.name l.before l.message l.index));
   sum : l.written ≡ octets_within (first_parts l.name l.before l.message l.index);
   few : l.written ≤ 268435456 * l.index;
-  calm : g.H.Shelf.faults l.shelf ≡ g.H.Shelf.faults l.fn.shelf;
+  faults_stay : g.H.Shelf.faults l.shelf ≡ g.H.Shelf.faults l.fn.shelf;
 }

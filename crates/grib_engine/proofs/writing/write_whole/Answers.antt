@@ -2,16 +2,19 @@ use Rattle.std.proofs.Common.{◌∙◌, rules}
 use Rattle.grib_engine.proofs.Outside.{written_more, written_front}
 use Rattle.grib_engine.proofs.writing.write_whole.Goals as goal
 
-pub returns-in_err-written-clause-octets : goal.returns-in_err-written-clause-octets
-returns-in_err-written-clause-octets g c = record {
-  whole = search rules;
-  front = written_front _ _ _ c.args.piece.now c.loop-written.written c.loop-written.invariant.told c.in_err-written.ensures.octets;
+pub returns-in_err-written-clause-writes : goal.returns-in_err-written-clause-writes
+returns-in_err-written-clause-writes g c = record {
+  octets = record {
+    whole = search rules;
+    front = written_front _ _ _ c.args.piece.now c.loop-written.written c.loop-written.invariant.appended c.in_err-written.ensures.octets;
+  };
+  counted = search rules;
 }
 
 pub loop-written-preserved : goal.loop-written-preserved
 loop-written-preserved g c = record {
-  told = written_more _ _ _ c.args.piece.now c.loop-written.written c.in_ok-written.field-0 c.loop-written.invariant.told c.in_ok-written.ensures.octets;
-  calm = c.in_ok-written.ensures.counted ∙ c.loop-written.invariant.calm;
+  appended = written_more _ _ _ c.args.piece.now c.loop-written.written c.in_ok-written.field-0 c.loop-written.invariant.appended c.in_ok-written.ensures.octets;
+  faults_stay = c.in_ok-written.ensures.counted ∙ c.loop-written.invariant.faults_stay;
   waits = search rules;
   within = search rules;
 }

@@ -5,8 +5,8 @@ use Rattle.grib_engine.proofs.writing.write_whole.Given as goal
 -- what was written so far, which waits, and no fault
 abbrev pub invariant-loop-written : goal.invariant-loop-written
 invariant-loop-written g l = record {
-  told : Appends (g.T.Sink.contents l.fn.sink) (g.T.Sink.contents l.sink) (take l.written l.piece);
-  calm : g.T.Sink.faults l.sink ≡ g.T.Sink.faults l.fn.sink;
+  appended : Appends (g.T.Sink.contents l.fn.sink) (g.T.Sink.contents l.sink) (take l.written l.piece);
+  faults_stay : g.T.Sink.faults l.sink ≡ g.T.Sink.faults l.fn.sink;
   waits : g.T.Sink.settled l.sink ≡ (g.T.Sink.settled l.fn.sink && (l.written == 0));
   within : l.written ≤ length l.piece;
 }

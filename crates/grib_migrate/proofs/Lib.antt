@@ -1,0 +1,11 @@
+pub mod Numbers
+pub mod Fronts
+pub mod Grids
+pub mod Products
+pub mod References
+pub mod Dates
+pub mod Later
+pub mod Sections
+pub mod Kept
+pub mod Whole
+pub mod Joining

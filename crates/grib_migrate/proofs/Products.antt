@@ -1,0 +1,117 @@
+-- Lemmas on the numbers of a product.
+use Rattle.std.proofs.Common.{◌≡◌, ℕ, ◌+◌, ◌-◌, ◌<◌, ◌≤◌, Bool, true, false, cond, Some, None, List, [], ◌∷◌, ◌++◌, length, take, drop, get_or, refl, sym, ap, ◌∙◌, arith, append_assoc, append-nil}
+use Rattle.std.proofs.lemmas.List.{length-append, length-map, take_more}
+use Rattle.grib_params.specs.declared.row.Target.{Target}
+use Rattle.grib1_sections.specs.Keys.{key_in}
+use Rattle.grib1_sections.specs.declared.key.Key1.TheVariants.{P1, P2, TimeRange, AverageMissing}
+use Rattle.grib_migrate.specs.declared.number.Number.{Number}
+use Rattle.grib_migrate.specs.declared.number.Number.TheVariants.{One, Two, Four}
+use Rattle.grib_migrate.specs.declared.date.Moment.{Moment}
+use Rattle.grib_migrate.specs.declared.level.Surfaces.{Surfaces}
+use Rattle.grib_migrate.specs.declared.time.Unit.{Unit as UnitOfTime}
+use Rattle.grib_migrate.specs.Numbers.{all_octets}
+use Rattle.grib_migrate.specs.Times.{is_interval, statistic}
+use Rattle.grib_migrate.specs.Dates.{end_of}
+use Rattle.grib_migrate.specs.Products.{moment_numbers, interval_numbers, end_numbers, instant_numbers, coordinate_numbers, product_octets}
+use Rattle.grib_migrate.specs.declared.loss.Loss.TheVariants.{Coordinate}
+use Rattle.grib_migrate.specs.Losses.{coordinate_loss, coordinate_loss_from}
+use Rattle.grib_migrate.specs.References.{binary32_of}
+use Rattle.grib_migrate.proofs.Numbers.{all_octets-append, length-all_octets}
+use Rattle.std.specs.Option.{option_map_or}
+use Rattle.std.specs.Prelude.{is_none, suc}
+use Rattle.std.proofs.Math.Seq.{take-length, drop-length, drop-cons}
+use Rattle.std.proofs.lemmas.List.{map-append}
+
+-- an interval by its end, the statistic and the length
+abbrev interval_with : Moment → ℕ → ℕ → ℕ → ℕ → List Number
+interval_with end code missing statistic_is length_is =
+    moment_numbers end ++ (One 1 ∷ Four missing ∷ One statistic_is ∷ One 2 ∷ One code ∷ Four length_is ∷ One code ∷ Four 0 ∷ [])
+
+pub interval_same : (s1 : List ℕ) (unit : UnitOfTime) (end : Moment) (missing missing' statistic_is length_is length_is' : ℕ) → end ≡ end_of s1 unit.seconds → missing ≡ missing' → missing' ≡ key_in s1 AverageMissing
+    → statistic_is ≡ statistic (key_in s1 TimeRange) → length_is ≡ length_is' → length_is' ≡ key_in s1 P2 - key_in s1 P1
+    → (Two end.year ∷ One end.month ∷ One end.day ∷ One end.hour ∷ One end.minute ∷ One end.second ∷ One 1 ∷ Four missing ∷ One statistic_is ∷ One 2 ∷ One unit.code ∷ Four length_is ∷ One unit.code ∷ Four 0 ∷ [])
+    ≡ interval_numbers s1 unit
+interval_same s1 unit end missing missing' statistic_is length_is length_is' e1 e2 e2' e3 e4 e4' =
+    ap (λ (x : Moment). interval_with x unit.code missing statistic_is length_is) e1
+    ∙ ap (λ (x : ℕ). interval_with (end_of s1 unit.seconds) unit.code x statistic_is length_is) (e2 ∙ e2')
+    ∙ ap (λ (x : ℕ). interval_with (end_of s1 unit.seconds) unit.code (key_in s1 AverageMissing) x length_is) e3
+    ∙ ap (λ (x : ℕ). interval_with (end_of s1 unit.seconds) unit.code (key_in s1 AverageMissing) (statistic (key_in s1 TimeRange)) x) (e4 ∙ e4')
+
+-- ---- vertical coordinates
+
+abbrev pub new_word : ℕ → ℕ
+new_word word = option_map_or (λ w. w) (binary32_of word) 0
+
+-- the losses from place k on, and what is written before it
+pub record IsAtPlace (words : List ℕ) (k : ℕ) (old new : List ℕ) : Type 0 where
+  pub loss : coordinate_loss words ≡ coordinate_loss_from (k + 1) (drop k words)
+  pub written : new ≡ old ++ all_octets (coordinate_numbers (take k words))
+
+pub place_0 : (words old : List ℕ) → IsAtPlace words 0 old old
+place_0 words old = record { loss = refl; written = sym (append-nil old) }
+
+loss_here : (i word : ℕ) (rest : List ℕ) → binary32_of word ≡ None → coordinate_loss_from i (word ∷ rest) ≡ Some (Coordinate i)
+loss_here i word rest e = ap (λ o. cond (is_none o) (Some (Coordinate i)) (coordinate_loss_from (i + 1) rest)) e
+
+loss_later : (i word new : ℕ) (rest : List ℕ) → binary32_of word ≡ Some new → coordinate_loss_from i (word ∷ rest) ≡ coordinate_loss_from (i + 1) rest
+loss_later i word new rest e = ap (λ o. cond (is_none o) (Some (Coordinate i)) (coordinate_loss_from (i + 1) rest)) e
+
+pub place_lost : (words : List ℕ) (k word : ℕ) (old new : List ℕ) → IsAtPlace words k old new → k < length words → word ≡ get_or words k 0 → binary32_of word ≡ None
+    → coordinate_loss words ≡ Some (Coordinate (k + 1))
+place_lost words k word old new at within is none =
+    at.loss ∙ ap (λ xs. coordinate_loss_from (k + 1) xs) (drop-cons words k 0 within)
+    ∙ loss_here (k + 1) (get_or words k 0) (drop (suc k) words) (ap binary32_of (sym is) ∙ none)
+
+pub place_next : (words : List ℕ) (k word found : ℕ) (old before now : List ℕ) → IsAtPlace words k old before → k < length words → word ≡ get_or words k 0
+    → binary32_of word ≡ Some found → now ≡ before ++ all_octets (Four found ∷ []) → IsAtPlace words (k + 1) old now
+place_next words k word found old before now at within is some added =
+    let next : (j : ℕ) → suc j ≡ j + 1 = λ j. omega arith in
+    let e : binary32_of (get_or words k 0) ≡ Some found = ap binary32_of (sym is) ∙ some in
+    let one : coordinate_numbers (get_or words k 0 ∷ []) ≡ Four found ∷ [] = ap (λ o. Four (option_map_or (λ w. w) o 0) ∷ []) e in
+    let more : coordinate_numbers (take (k + 1) words) ≡ coordinate_numbers (take k words) ++ coordinate_numbers (get_or words k 0 ∷ []) =
+    ap coordinate_numbers (take_more words k 0 within) ∙ map-append (λ word. Four (new_word word)) (take k words) (get_or words k 0 ∷ []) in
+    record {
+      loss = at.loss ∙ ap (λ xs. coordinate_loss_from (k + 1) xs) (drop-cons words k 0 within) ∙ loss_later (k + 1) (get_or words k 0) found (drop (suc k) words) e
+          ∙ ap (λ j. coordinate_loss_from (k + 1 + 1) (drop j words)) (next k);
+      written =
+          added ∙ ap (λ xs. xs ++ all_octets (Four found ∷ [])) at.written
+          ∙ append_assoc old (all_octets (coordinate_numbers (take k words))) (all_octets (Four found ∷ []))
+          ∙ ap (λ xs. old ++ xs) (sym (all_octets-append (coordinate_numbers (take k words)) (Four found ∷ [])) ∙ ap (λ xs. all_octets (coordinate_numbers (take k words) ++ xs)) (sym one) ∙ ap all_octets (sym more));
+    }
+
+pub place_end : (words old new : List ℕ) (k : ℕ) → IsAtPlace words k old new → k ≡ length words → (coordinate_loss words ≡ None) × (new ≡ old ++ all_octets (coordinate_numbers words))
+place_end words old new k at end = (
+  at.loss ∙ ap (λ n. coordinate_loss_from (k + 1) (drop n words)) end ∙ ap (λ xs. coordinate_loss_from (k + 1) xs) (drop-length words),
+  at.written ∙ ap (λ n. old ++ all_octets (coordinate_numbers (take n words))) end ∙ ap (λ xs. old ++ all_octets (coordinate_numbers xs)) (take-length words),
+)
+
+-- ---- the whole
+
+few_ends : (s1 : List ℕ) (unit : UnitOfTime) (b : Bool) → length (cond b (interval_numbers s1 unit) []) ≤ 14
+few_ends s1 unit true = omega arith
+few_ends s1 unit false = omega arith
+
+pub product_whole : (target : Target) (s1 words : List ℕ) (unit : UnitOfTime) (surfaces : Surfaces) (a b c d : List ℕ) → length words ≤ 255 → a ≡ []
+    → b ≡ a ++ all_octets (instant_numbers target s1 unit surfaces (length words)) → c ≡ b ++ all_octets (end_numbers s1 unit) → d ≡ c ++ all_octets (coordinate_numbers words)
+    → (d ≡ product_octets target s1 words unit surfaces) × (length d ≤ 2000)
+product_whole target s1 words unit surfaces a b c d few e0 e1 e2 e3 =
+    let x = all_octets (instant_numbers target s1 unit surfaces (length words)) in
+    let y = all_octets (end_numbers s1 unit) in
+    let z = all_octets (coordinate_numbers words) in
+    let b_is : b ≡ x = e1 ∙ ap (λ (zs : List ℕ). zs ++ x) e0 in
+    let c_is : c ≡ x ++ y = e2 ∙ ap (λ (zs : List ℕ). zs ++ y) b_is in
+    let whole : d ≡ x ++ (y ++ z) = e3 ∙ ap (λ (zs : List ℕ). zs ++ z) c_is ∙ append_assoc x y z in
+    let end_few = few_ends s1 unit (is_interval (key_in s1 TimeRange)) in (
+      whole,
+      omega (
+        arith,
+        ap length whole,
+        length-append x (y ++ z),
+        length-append y z,
+        length-all_octets (instant_numbers target s1 unit surfaces (length words)),
+        length-all_octets (end_numbers s1 unit),
+        length-all_octets (coordinate_numbers words),
+        end_few,
+        length-map words (λ word. Four (new_word word)),
+      ),
+    )

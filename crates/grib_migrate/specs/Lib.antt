@@ -1,0 +1,15 @@
+pub mod Numbers
+pub mod Source
+pub mod Levels
+pub mod Times
+pub mod Dates
+pub mod References
+pub mod Grids
+pub mod Products
+pub mod Values
+pub mod Losses
+pub mod Migrated
+pub mod Answered
+pub mod Held
+pub mod GridParts
+pub mod Checked

@@ -1,0 +1,339 @@
+//! Section 3: the grid.
+
+ghost use Rattle.std.specs.Prelude.{◌≡◌, ◌+◌, ◌*◌, ◌≤◌, ◌<◌, ◌++◌, None, Some, length, MatchResult, OnOk};
+ghost use Rattle.grib1_sections.specs.Frame as frame;
+ghost use Rattle.grib1_sections.specs.Grid as grid1;
+ghost use Rattle.grib_migrate.specs.Numbers.{all_octets};
+ghost use Rattle.grib_migrate.specs.Grids as grids;
+ghost use Rattle.grib_migrate.specs.Grids.{grid_loss};
+ghost use Rattle.grib_migrate.specs.Answered.{IsMigrateFault};
+ghost use Rattle.grib_migrate.specs.Held.{HoldsGrid};
+ghost use Rattle.grib_migrate.specs.GridParts.{IsGridPart, IsPolar};
+
+use crate::number::Number::{Four, One, Two};
+use crate::number::add_numbers;
+use crate::scaled::Scaled::{Angle, Distance, Longitude};
+use crate::scaled::scale;
+use crate::{Loss, MigrateFault};
+use grib_bits::{u8_at, u16_at};
+use std::alloc::{AllocError, Global};
+
+/// Ni where the rows differ in length.
+const ROWS_DIFFER: u16 = 65535;
+
+/// An increment that is missing.
+const NO_INCREMENT: u16 = 65535;
+
+/// 60 degrees, where lengths are true on a polar stereographic grid, in 10^-6 degree.
+const TRUE_LATITUDE: u32 = 60_000_000;
+
+/// Octet 6 and further of Section 3, for a grid of `points` points, or the first number that does not fit.
+pub(crate) fn grid_octets(
+    alloc: Global,
+    section2: &[u8],
+    points: u32,
+) -> Result<Vec<u8>, MigrateFault>
+    requires { HoldsGrid section2.now }
+    ensures octets { MatchResult result
+        (λ octets. (grid_loss section2.now ≡ None) × (octets.items ≡ grids.grid_octets points section2.now)
+        × (length octets.items ≤ 131500))
+        (IsMigrateFault (grid_loss section2.now)) }
+{
+    let mut octets = Vec::new(alloc);
+    add_header(section2, points, &mut octets)?;
+    add_common(section2, &mut octets)?;
+    add_template(section2, &mut octets)?;
+    octets.extend_from_slice(row_octets(section2))?;
+    Ok(octets)
+}
+
+/// Whether bit n of an octet is set, bit 1 being the most significant.
+pub(crate) fn has_bit(octet: u8, n: u32) -> bool
+    requires low { 1 ≤ n }
+    requires high { n ≤ 8 }
+    ensures { result ≡ frame.bit n octet }
+{
+    octet >> (8 - n) & 1 == 1
+}
+
+/// Whether the rows differ in length.
+fn lists_rows(section2: &[u8]) -> bool
+    requires { 32 ≤ length section2.now }
+    ensures { result ≡ grid1.lists_rows section2.now }
+{
+    u16_at(section2, 7) == ROWS_DIFFER
+}
+
+/// The list of rows, empty where there is none.
+fn row_octets(section2: &[u8]) -> &[u8]
+    requires { HoldsGrid section2.now }
+    ensures octets { result.now ≡ grids.row_octets section2.now }
+    ensures few { length result.now ≤ 131070 }
+{
+    if !lists_rows(section2) {
+        return &[];
+    }
+    let first = usize::from(u8_at(section2, 5)) - 1 + 4 * usize::from(u8_at(section2, 4));
+    &section2[first..first + 2 * usize::from(u16_at(section2, 9))]
+}
+
+/// The template of a type of grid.
+fn template_of(grid_type: u8) -> u16
+    ensures { result ≡ grids.template_of grid_type }
+{
+    match grid_type {
+        1 => 10,
+        3 => 30,
+        4 => 40,
+        5 => 20,
+        _ => 0,
+    }
+}
+
+/// Adds octets 6 to 14.
+fn add_header(section2: &[u8], points: u32, out: &mut Vec<u8>) -> Result<(), AllocError>
+    requires { 32 ≤ length section2.now }
+    ensures { OnOk result (out.new.items ≡ out.old.items ++ all_octets (grids.header points section2.now)) }
+{
+    let is_listed = u8::from(lists_rows(section2));
+    let template = template_of(u8_at(section2, 6));
+    add_numbers(
+        &[
+            One(0),
+            Four(points),
+            One(2 * is_listed),
+            One(is_listed),
+            Two(template),
+        ],
+        out,
+    )
+}
+
+/// Adds octets 15 to 38, which all templates share.
+fn add_common(section2: &[u8], out: &mut Vec<u8>) -> Result<(), AllocError>
+    requires { 32 ≤ length section2.now }
+    ensures { OnOk result (out.new.items ≡ out.old.items ++ all_octets (grids.common section2.now)) }
+{
+    let shape = 2 * u8::from(has_bit(u8_at(section2, 17), 2));
+    let ni = if lists_rows(section2) {
+        u32::MAX
+    } else {
+        u32::from(u16_at(section2, 7))
+    };
+    let nj = u32::from(u16_at(section2, 9));
+    add_numbers(
+        &[
+            One(shape),
+            One(u8::MAX),
+            Four(u32::MAX),
+            One(u8::MAX),
+            Four(u32::MAX),
+            One(u8::MAX),
+            Four(u32::MAX),
+            Four(ni),
+            Four(nj),
+        ],
+        out,
+    )
+}
+
+/// Adds octet 39 and further of the template.
+fn add_template(section2: &[u8], out: &mut Vec<u8>) -> Result<(), MigrateFault>
+    requires { HoldsGrid section2.now }
+    ensures { IsGridPart result (grid_loss section2.now) out.old.items out.new.items
+        (grids.template_numbers section2.now) }
+{
+    match u8_at(section2, 6) {
+        1 => add_mercator(section2, out),
+        3 => add_lambert(section2, out),
+        4 => add_lat_lon(section2, u32::from(u16_at(section2, 26)), out),
+        5 => add_polar_stereographic(section2, out),
+        _ => add_lat_lon(section2, increment(section2, 26), out),
+    }
+}
+
+/// Whether increments are given.
+fn are_given(section2: &[u8]) -> bool
+    requires { 32 ≤ length section2.now }
+    ensures { result ≡ grids.are_given section2.now }
+{
+    has_bit(u8_at(section2, 17), 1)
+}
+
+/// The flags of edition 2.
+fn new_flags(section2: &[u8]) -> u8
+    requires { 32 ≤ length section2.now }
+    ensures { result ≡ grids.new_flags section2.now }
+{
+    let i_given = are_given(section2);
+    let j_given = i_given && u8_at(section2, 6) != 4;
+    let relative = has_bit(u8_at(section2, 17), 5);
+    32 * u8::from(i_given) + 16 * u8::from(j_given) + 8 * u8::from(relative)
+}
+
+/// The increment of two octets from octet `first` on.
+fn increment(section2: &[u8], first: usize) -> u32
+    requires long { 32 ≤ length section2.now }
+    requires counted { 1 ≤ first }
+    requires within { first ≤ 31 }
+    ensures { result ≡ grids.increment section2.now first }
+{
+    let number = u16_at(section2, first);
+    if !are_given(section2) || number == NO_INCREMENT {
+        return u32::MAX;
+    }
+    1000 * u32::from(number)
+}
+
+/// 60 degrees, in the hemisphere of the projection centre.
+fn true_latitude(section2: &[u8]) -> u32
+    requires { 32 ≤ length section2.now }
+    ensures { result ≡ grids.true_latitude section2.now }
+{
+    if has_bit(u8_at(section2, 27), 1) {
+        (1 << 31) + TRUE_LATITUDE
+    } else {
+        TRUE_LATITUDE
+    }
+}
+
+/// Adds octets 39 to 72 of template 3.0 or 3.40, with Dj or N.
+fn add_lat_lon(section2: &[u8], last: u32, out: &mut Vec<u8>) -> Result<(), MigrateFault>
+    requires { 32 ≤ length section2.now }
+    ensures { IsGridPart result (grids.loss_among section2.now grids.lat_lon_scaled) out.old.items
+        out.new.items (grids.lat_lon section2.now last) }
+{
+    let la1 = scale(section2, Angle(11))?;
+    let lo1 = scale(section2, Longitude(14))?;
+    let la2 = scale(section2, Angle(18))?;
+    let lo2 = scale(section2, Longitude(21))?;
+    add_numbers(
+        &[
+            Four(0),
+            Four(u32::MAX),
+            Four(la1),
+            Four(lo1),
+            One(new_flags(section2)),
+            Four(la2),
+            Four(lo2),
+            Four(increment(section2, 24)),
+            Four(last),
+            One(u8_at(section2, 28)),
+        ],
+        out,
+    )?;
+    Ok(())
+}
+
+/// Adds octets 39 to 72 of template 3.10.
+fn add_mercator(section2: &[u8], out: &mut Vec<u8>) -> Result<(), MigrateFault>
+    requires { 34 ≤ length section2.now }
+    ensures { IsGridPart result (grids.loss_among section2.now grids.mercator_scaled) out.old.items
+        out.new.items (grids.mercator section2.now) }
+{
+    let la1 = scale(section2, Angle(11))?;
+    let lo1 = scale(section2, Longitude(14))?;
+    let la2 = scale(section2, Angle(18))?;
+    let lo2 = scale(section2, Longitude(21))?;
+    let latin = scale(section2, Angle(24))?;
+    let di = scale(section2, Distance(29))?;
+    let dj = scale(section2, Distance(32))?;
+    add_numbers(
+        &[
+            Four(la1),
+            Four(lo1),
+            One(new_flags(section2)),
+            Four(latin),
+            Four(la2),
+            Four(lo2),
+            One(u8_at(section2, 28)),
+            Four(0),
+            Four(di),
+            Four(dj),
+        ],
+        out,
+    )?;
+    Ok(())
+}
+
+/// Adds octets 39 to 65 of template 3.20.
+fn add_polar_stereographic(section2: &[u8], out: &mut Vec<u8>) -> Result<(), MigrateFault>
+    requires { 32 ≤ length section2.now }
+    ensures { IsGridPart result (grids.loss_among section2.now grids.polar_scaled) out.old.items
+        out.new.items (grids.polar section2.now (grids.true_latitude section2.now)) }
+{
+    let polar = Polar::of(section2)?;
+    polar.add(section2, true_latitude(section2), out)?;
+    Ok(())
+}
+
+/// Adds octets 39 to 81 of template 3.30.
+fn add_lambert(section2: &[u8], out: &mut Vec<u8>) -> Result<(), MigrateFault>
+    requires { 40 ≤ length section2.now }
+    ensures { IsGridPart result (grids.loss_among section2.now grids.lambert_scaled) out.old.items
+        out.new.items (grids.polar section2.now (grids.angle (grids.three section2.now 29))
+        ++ grids.lambert section2.now) }
+{
+    let polar = Polar::of(section2)?;
+    let latin1 = scale(section2, Angle(29))?;
+    let latin2 = scale(section2, Angle(32))?;
+    let pole_la = scale(section2, Angle(35))?;
+    let pole_lo = scale(section2, Longitude(38))?;
+    polar.add(section2, latin1, out)?;
+    add_numbers(
+        &[Four(latin1), Four(latin2), Four(pole_la), Four(pole_lo)],
+        out,
+    )?;
+    Ok(())
+}
+
+/// The scaled numbers that polar stereographic and Lambert grids share.
+#[derive(Clone, Copy, Debug)]
+struct Polar {
+    la1: u32,
+    lo1: u32,
+    lov: u32,
+    dx: u32,
+    dy: u32,
+}
+
+impl Polar {
+    /// Those of this Section 2, or the first that does not fit.
+    fn of(section2: &[u8]) -> Result<Polar, Loss>
+        requires { 32 ≤ length section2.now }
+        ensures { MatchResult result
+            (λ polar. (grids.loss_among section2.now grids.polar_scaled ≡ None)
+            × IsPolar polar section2.now)
+            (λ loss. grids.loss_among section2.now grids.polar_scaled ≡ Some loss) }
+    {
+        Ok(Polar {
+            la1: scale(section2, Angle(11))?,
+            lo1: scale(section2, Longitude(14))?,
+            lov: scale(section2, Longitude(18))?,
+            dx: scale(section2, Distance(21))?,
+            dy: scale(section2, Distance(24))?,
+        })
+    }
+
+    /// Adds octets 39 to 65 of template 3.20 or 3.30, with the latitude at which Dx and Dy are true.
+    fn add(&self, section2: &[u8], lad: u32, out: &mut Vec<u8>) -> Result<(), AllocError>
+        requires long { 32 ≤ length section2.now }
+        requires polar { IsPolar self.now section2.now }
+        ensures { OnOk result (out.new.items ≡ out.old.items ++ all_octets (grids.polar section2.now lad)) }
+    {
+        add_numbers(
+            &[
+                Four(self.la1),
+                Four(self.lo1),
+                One(new_flags(section2)),
+                Four(lad),
+                Four(self.lov),
+                Four(self.dx),
+                Four(self.dy),
+                One(u8_at(section2, 27)),
+                One(u8_at(section2, 28)),
+            ],
+            out,
+        )
+    }
+}

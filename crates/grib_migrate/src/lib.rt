@@ -1,0 +1,20 @@
+//! Migration: a message of edition 1 as a message of edition 2 with the same values, or the first thing of it
+//! that would be lost.
+#![tactic(auto)]
+
+mod checking;
+mod date;
+mod grid;
+mod level;
+mod loss;
+mod migrating;
+mod number;
+mod product;
+mod reference;
+mod scaled;
+mod source;
+mod time;
+mod values;
+
+pub use loss::{Loss, MigrateFault};
+pub use migrating::migrate;

@@ -1,0 +1,100 @@
+-- What is known of a grid that no row refuses and of which no cause holds.
+use Rattle.std.proofs.Common.{◌≡◌, ℕ, zero, suc, ◌*◌, ◌<◌, ◌≤◌, Bool, true, false, not, cond, ◌&&◌, ◌||◌, Option, Some, None, List, length, leb, eqb, refl, subst, arith}
+use Rattle.std.proofs.lemmas.Bool.{eqb-true, ltb-false, leb-false}
+use Rattle.grib_bits.specs.Octets.{octets}
+use Rattle.grib_base.specs.Rows.{first_fault}
+use Rattle.grib_base.proofs.Passing.{passes_from_none, second_fails}
+use Rattle.grib2_sections.specs.Template.{least_length}
+use Rattle.grib2_grids.specs.Grid.{grid_rows, grid_templates}
+use Rattle.grib_rescan.specs.declared.points.Area.{Area}
+use Rattle.grib_rescan.specs.declared.cause.GridCause.{GridCause}
+use Rattle.grib_rescan.specs.Sections.{HasPoints, HasTemplate, IsLatLon}
+use Rattle.grib_rescan.specs.Causes.{rescan_cause_of, crop_cause_of, is_lat_lon, CanBeCut}
+
+not_false : (b : Bool) → not b ≡ false → b ≡ true
+not_false true e = refl
+not_false false e = cc
+
+first_false : (a b : Bool) → (a || b) ≡ false → a ≡ false
+first_false true b e = cc
+first_false false b e = refl
+
+last_false : (a b : Bool) → (a || b) ≡ false → b ≡ false
+last_false true b e = cc
+last_false false b e = e
+
+both_true : (a b : Bool) → (a && b) ≡ true → (a ≡ true) × (b ≡ true)
+both_true true b e = (refl, e)
+both_true false b e = cc
+
+nonzero : (n : ℕ) → eqb n 0 ≡ false → 1 ≤ n
+nonzero zero e = cc
+nonzero (suc n) e = omega arith
+
+factor : (a b n : ℕ) → a * b ≡ n → 1 ≤ n → 1 ≤ a
+factor zero b n e some = absurd (omega (arith, e, some))
+factor (suc a) b n e some = omega arith
+
+factors : (a b n : ℕ) → a * b ≡ n → 1 ≤ n → 1 ≤ b
+factors a zero n e some = absurd (omega (arith, e, some))
+factors a (suc b) n e some = omega arith
+
+below : (a b : ℕ) → leb a b ≡ false → b < a
+below a b e = leb-false a b e
+
+pub lat_lon : (s : List ℕ) → first_fault (grid_rows s) ≡ None → octets s 13 14 ≡ 0 → octets s 11 11 ≡ 0 → IsLatLon s
+lat_lon s none template list =
+    let p = passes_from_none (grid_rows s) none in
+    let least : least_length grid_templates (octets s 13 14) ≤ length s = ltb-false _ _ p.1.1.1.0 in
+    let unlisted : not (not (eqb (octets s 11 11) 0)) ≡ true = rw list refl in
+    record {
+      long = subst (λ (t : ℕ). least_length grid_templates t ≤ length s) template least;
+      source = eqb-true _ _ (not_false _ p.1.0);
+      template = template;
+      list = list;
+      some = nonzero _ (first_false _ _ p.1.1.1.1.0);
+      few = ltb-false _ _ (last_false _ _ p.1.1.1.1.0);
+      product = eqb-true _ _ (not_false _ (second_fails _ _ p.1.1.1.1.1.1.1.1.1.1.0 unlisted));
+    }
+
+pub has_points : (s : List ℕ) → IsLatLon s → HasPoints s
+has_points s is = record {
+  long = is.long;
+  columns = factor _ _ _ is.product is.some;
+  rows = factors _ _ _ is.product is.some;
+  few = omega (arith, is.product, is.few);
+}
+
+pub has_template : (s : List ℕ) → first_fault (grid_rows s) ≡ None → HasTemplate s
+has_template s none = record {
+  least = ltb-false _ _ (passes_from_none (grid_rows s) none).0;
+  points = λ template list. has_points s (lat_lon s none template list);
+}
+
+-- ---- causes
+
+none_of : (b : Bool) (cause : GridCause) (later : Option GridCause) → cond b (Some cause) later ≡ None → (b ≡ false) × (later ≡ None)
+none_of true cause later e = cc
+none_of false cause later e = (refl, e)
+
+lat_lon_by : (s : List ℕ) → first_fault (grid_rows s) ≡ None → not (is_lat_lon s) ≡ false → IsLatLon s
+lat_lon_by s none is =
+    let both = both_true _ _ (not_false _ is) in
+    lat_lon s none (eqb-true _ _ both.0) (eqb-true _ _ both.1)
+
+pub can_be_rescanned : (s : List ℕ) → first_fault (grid_rows s) ≡ None → rescan_cause_of s ≡ None → IsLatLon s
+can_be_rescanned s none uncaused = lat_lon_by s none (none_of _ _ _ uncaused).0
+
+pub can_be_cut : (area : Area) (s : List ℕ) → first_fault (grid_rows s) ≡ None → crop_cause_of area s ≡ None → CanBeCut area s
+can_be_cut area s none uncaused =
+    let kind = none_of _ _ _ uncaused in
+    let order = none_of _ _ _ kind.1 in
+    let outside = none_of _ _ _ order.1 in
+    let steps = none_of _ _ _ outside.1 in
+    record {
+      lat_lon = lat_lon_by s none kind.0;
+      order = eqb-true _ _ (not_false _ order.0);
+      last_column = below _ _ (first_false _ _ outside.0);
+      last_row = below _ _ (last_false _ _ outside.0);
+      steps = not_false _ steps.0;
+    }

@@ -1,0 +1,5 @@
+pub mod Scanning
+pub mod Points
+pub mod Sections
+pub mod Causes
+pub mod Worked

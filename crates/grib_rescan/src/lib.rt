@@ -1,0 +1,15 @@
+//! Other orders and boxes of the points of a grid, value for value.
+#![tactic(auto)]
+
+mod cause;
+mod column;
+pub mod laws;
+mod points;
+mod scanning;
+mod section;
+
+pub use cause::{GridCause, crop_cause, rescan_cause};
+pub use column::{crop_column, rescan_column};
+pub use points::{Area, crop_points, rescan_points};
+pub use scanning::Scanning;
+pub use section::{crop_section, rescan_section};
