@@ -6,7 +6,7 @@ among it, with the block that follows it, where one does.
 
 A block of commands begins with ```sh. A plain block that follows it is what it prints, where the text between
 them has the word `prints`; `...` in it stands for anything. What the examples call `in`, `file` and `archive.grib2` is
-the example with two fields."""
+the example with two fields. Wants GNU parallel (Debian: parallel)."""
 import os
 import re
 import shutil
@@ -37,10 +37,12 @@ def main():
     with tempfile.TemporaryDirectory() as work:
         os.mkdir(f"{work}/bin")
         os.symlink(program, f"{work}/bin/grib")
-        shutil.copytree(f"{top}/examples", f"{work}/examples")
+        os.symlink(f"{top}/grib-parallel", f"{work}/bin/grib-parallel")
+        for folder in ("examples", "params"):
+            shutil.copytree(f"{top}/{folder}", f"{work}/{folder}")
         for name in ("in", "file", "archive.grib2"):
             shutil.copy(f"{top}/examples/two-fields.grib2", f"{work}/{name}")
-        environment = {**os.environ, "PATH": f"{work}/bin:{os.environ['PATH']}", "LC_ALL": "C"}
+        environment = {**os.environ, "PATH": f"{work}/bin:{os.environ['PATH']}", "LC_ALL": "C", "GRIB": program}
         for i, (_, language, body) in enumerate(found):
             if language != "sh":
                 continue

@@ -12,3 +12,17 @@ def messages(data, edition=2):
             at = data.find(b"GRIB", at + total)
         else:
             at = data.find(b"GRIB", at + 4)
+
+
+def our_fields(text):
+    """For each field its reference value, scale factors and points, None where missing."""
+    fields = []
+    for line in text.splitlines():
+        words = line.split()
+        if words[0] == "reference":
+            mantissa, exponent = words[1].split("*2^")
+            reference = int(mantissa) * 2.0 ** int(exponent)
+            fields.append((reference, int(words[3]), int(words[5]), []))
+        elif "." not in words[0]:
+            fields[-1][3].append(None if words[1].startswith("missing") else int(words[1]))
+    return fields

@@ -2,8 +2,9 @@
 
 ghost use Rattle.std.specs.Prelude.{◌≡◌, ◌≢◌, ◌<◌, ◌≤◌, ◌^◌, length, Some, IfOk};
 ghost use Rattle.grib_base.specs.Limits.{most_points};
-ghost use Rattle.grib1_sections.specs.Acceptance.{grid};
-ghost use Rattle.grib1_sections.specs.Grid.{row_list};
+ghost use Rattle.grib1_sections.specs.Acceptance.{grid, data_section};
+ghost use Rattle.grib1_sections.specs.Grid.{grid_type, row_list};
+ghost use Rattle.grib1_sections.specs.Data.{bit_width};
 ghost use Rattle.grib1_sections.specs.Coordinates.{coordinate_list};
 ghost use Rattle.grib1_sections.specs.Column.{column1_of};
 ghost use Rattle.grib1_sections.specs.Keys.{key1_of};
@@ -13,6 +14,7 @@ use crate::column::read_column;
 use crate::key::{Key1, number_of};
 use crate::lists::{read_coordinates, read_rows};
 use crate::message::Message1;
+use grib_bits::u8_at;
 use grib_packing::Column;
 use std::alloc::{AllocError, Global};
 
@@ -43,6 +45,20 @@ impl<'a> Message1<'a> {
         ensures small { result < 2 ^ 16 }
     {
         number_of(present_section(self, 1), key)
+    }
+
+    /// The type of the grid (code table 6): octet 6 of Section 2.
+    pub fn grid_type(&self) -> u8
+        ensures { result ≡ grid_type (grid self.now) }
+    {
+        u8_at(present_section(self, 2), 6)
+    }
+
+    /// The bits of each packed number: octet 11 of Section 4.
+    pub fn bits(&self) -> u8
+        ensures { result ≡ bit_width (data_section self.now) }
+    {
+        u8_at(present_section(self, 4), 11)
     }
 
     /// The number of points of each row of a grid whose rows differ in length; else empty.

@@ -1,5 +1,5 @@
 -- The sections that are left of an accepted message, from where a walk over it stands.
-use Rattle.std.proofs.Common.{◌≡◌, ℕ, ◌+◌, ◌*◌, ◌≤◌, ◌<◌, ◌^◌, Bool, true, false, cond, None, List, [], ◌∷◌, ◌++◌, All, length, drop, ◌==◌, inl, inr, refl, sym, ap, ◌∙◌, arith, subst, append_assoc, append-nil, length-append}
+use Rattle.std.proofs.Common.{◌≡◌, ℕ, ◌+◌, ◌*◌, ◌≤◌, ◌<◌, ◌^◌, Bool, true, false, cond, None, List, [], ◌∷◌, ◌++◌, All, length, drop, ◌==◌, inl, inr, refl, sym, ap, ap₂, ◌∙◌, arith, subst, eqb-true, append_assoc, append-nil, length-append}
 use Rattle.std.specs.List.{concat}
 use Rattle.std.proofs.lemmas.List.Elements.{All-drop}
 use Rattle.grib_bits.specs.Octets.{StatesItself}
@@ -9,11 +9,13 @@ use Rattle.grib2_sections.specs.Head.{head_rows}
 use Rattle.grib2_sections.specs.Frame.{Placed, placed_at, Position, position_after, section_at, section_number, ends_at, mark_rows, frame_rows, End, Fails, Next, step_from}
 use Rattle.grib_packing.specs.declared.written.Packed.{Packed}
 use Rattle.grib2_message.specs.Acceptance.{section_fault, verdict_from}
-use Rattle.grib2_message.specs.Fields.{sections_from, sections_of}
+use Rattle.grib2_message.specs.Fields.{sections_from, sections_of, field_count, part_octets}
+use Rattle.grib2_message.specs.View.{is_numbered}
 use Rattle.grib2_message.specs.Message.{IsMessage}
-use Rattle.grib2_message.specs.Assembled.{in_place, replaced, assembled_body, assembled, IsShort}
+use Rattle.grib2_message.specs.Assembled.{in_place, in_place_with, replaced, replaced_with, assembled_body, assembled_body_with, assembled, assembled_with, as_it_is, IsShort}
 use Rattle.grib2_message.proofs.Parted.{message_states, message_least}
-use Rattle.grib2_message.proofs.PutTogether.{assembled_long}
+use Rattle.grib2_message.proofs.PutTogether.{assembled_long, each_grid_of}
+use Rattle.grib2_message.proofs.Replaced.{EachGrid}
 use Rattle.grib2_message.proofs.Passed.{unless_tells}
 use Rattle.grib2_message.proofs.Steps.{step_tells}
 use Rattle.grib2_message.proofs.Ways.{OnWay, way_start, way_next, way_fails, given, tells_end, no_sections}
@@ -91,11 +93,13 @@ pub record Counting (m : List ℕ) (packed : List Packed) (at : Position) (parts
   pub sum : total + length (concat (replaced left parts)) ≡ 20 + length (assembled_body m packed)
   pub bound : total ≤ 4294967296 * at.place
 
--- the octets so far are those of the sections that are passed
-pub record Copying (m : List ℕ) (packed : List Packed) (at : Position) (parts : List Packed) (before out : List ℕ) : Type 0 where
+-- The octets so far are those of the sections that are passed, with what `grid` makes of each Section 3; and
+-- P is so of each that is left.
+pub record Copying (grid : List ℕ → List ℕ) (P : List ℕ → Type 0) (m : List ℕ) (packed : List Packed) (at : Position) (parts : List Packed) (before out : List ℕ) : Type 0 where
   pub left : List Placed
   pub ahead : Ahead m at left
-  pub same : out ++ concat (replaced left parts) ≡ before ++ assembled_body m packed
+  pub each : EachGrid P left
+  pub same : out ++ concat (replaced_with grid left parts) ≡ before ++ assembled_body_with grid m packed
 
 pub counting_start : (m : List ℕ) (packed : List Packed) (at : Position) → IsMessage m → at ≡ record { total = length m; place = 17; last = 0 } → All IsShort packed
     → Counting m packed at packed 20
@@ -107,9 +111,10 @@ counting_start m packed at h is short = record {
   bound = omega (arith, ap (λ (x : Position). x.place) is);
 }
 
-pub copying_start : (m : List ℕ) (packed : List Packed) (at : Position) (before : List ℕ) → IsMessage m → at ≡ record { total = length m; place = 17; last = 0 }
-    → Copying m packed at packed before before
-copying_start m packed at before h is = record { left = sections_of m; ahead = ahead_start m at h is; same = refl }
+pub copying_start : (grid : List ℕ → List ℕ) (P : List ℕ → Type 0) (m : List ℕ) (packed : List Packed) (at : Position) (before : List ℕ) → IsMessage m
+    → ((i : ℕ) → 1 ≤ i → i ≤ field_count m → P (part_octets m i 3)) → at ≡ record { total = length m; place = 17; last = 0 }
+    → Copying grid P m packed at packed before before
+copying_start grid P m packed at before h grids is = record { left = sections_of m; ahead = ahead_start m at h is; each = each_grid_of P m h grids; same = refl }
 
 short_choice : (b : Bool) (xs ys : List ℕ) → length xs < 2 ^ 32 → length ys < 2 ^ 32 → length (cond b xs ys) < 2 ^ 32
 short_choice true xs ys h k = h
@@ -129,11 +134,26 @@ in_place_short (part ∷ parts) s short low =
     (short_choice (section_number s == 7) part.section7 s is.short_7 low))
 
 -- the first section that is left, and the others
-first_replaced : (left rest : List Placed) (start number : ℕ) (s : List ℕ) (parts : List Packed) → left ≡ placed_at start s ∷ rest → section_number s ≡ number
-    → concat (replaced left parts) ≡ in_place parts s ++ concat (replaced rest (cond (number == 7) (drop 1 parts) parts))
-first_replaced left rest start number s parts are numbered =
-    ap (λ (xs : List Placed). concat (replaced xs parts)) are
-    ∙ ap (λ (n : ℕ). in_place parts s ++ concat (replaced rest (cond (n == 7) (drop 1 parts) parts))) numbered
+first_replaced : (grid : List ℕ → List ℕ) (left rest : List Placed) (start number : ℕ) (s : List ℕ) (parts : List Packed) → left ≡ placed_at start s ∷ rest
+    → section_number s ≡ number
+    → concat (replaced_with grid left parts) ≡ in_place_with grid parts s ++ concat (replaced_with grid rest (cond (number == 7) (drop 1 parts) parts))
+first_replaced grid left rest start number s parts are numbered =
+    ap (λ (xs : List Placed). concat (replaced_with grid xs parts)) are
+    ∙ ap (λ (n : ℕ). in_place_with grid parts s ++ concat (replaced_with grid rest (cond (n == 7) (drop 1 parts) parts))) numbered
+
+-- a Section 3 stays where no other is made of it
+grid_stays : (parts : List Packed) (s : List ℕ) → section_number s ≡ 3 → s ≡ in_place parts s
+grid_stays [] s e = refl
+grid_stays (part ∷ parts) s e =
+    sym (ap (λ (n : ℕ). cond (n == 5) part.section5 (cond (n == 6) part.section6 (cond (n == 7) part.section7 s))) e)
+
+stays_by : (b : Bool) (s t : List ℕ) → (b ≡ true → s ≡ t) → cond b s t ≡ t
+stays_by true s t h = h refl
+stays_by false s t h = refl
+
+in_place_as_it_is : (parts : List Packed) (s : List ℕ) → in_place_with as_it_is parts s ≡ in_place parts s
+in_place_as_it_is parts s =
+    stays_by (section_number s == 3) s (in_place parts s) (λ e. grid_stays parts s (eqb-true (section_number s) 3 e))
 
 module _ (m : List ℕ) (packed : List Packed) (at next_at : Position) (start number : ℕ) (s : List ℕ) (parts parts_next : List Packed)
     (e : step_from m at ≡ Next s) (itself : StatesItself number s) (is : start ≡ at.place) (next_is : next_at ≡ position_after at s)
@@ -142,10 +162,11 @@ module _ (m : List ℕ) (packed : List Packed) (at next_at : Position) (start nu
       → Counting m packed next_at parts_next (total + length put)
   counting_next total put h put_is =
       let f = ahead_next m at next_at start s h.left h.ahead e is next_is in
-      let first = first_replaced h.left f.rest start number s parts f.are itself.number_stands in
+      let others = concat (replaced f.rest (cond (number == 7) (drop 1 parts) parts)) in
+      let first = first_replaced as_it_is h.left f.rest start number s parts f.are itself.number_stands ∙ ap (λ (xs : List ℕ). xs ++ others) (in_place_as_it_is parts s) in
       let small : length (in_place parts s) < 2 ^ 32 = in_place_short parts s h.short (omega (arith, f.shorter)) in
-      let size : length (concat (replaced h.left parts)) ≡ length (in_place parts s) + length (concat (replaced f.rest (cond (number == 7) (drop 1 parts) parts))) =
-      ap length first ∙ length-append (in_place parts s) (concat (replaced f.rest (cond (number == 7) (drop 1 parts) parts))) in
+      let size : length (concat (replaced h.left parts)) ≡ length (in_place parts s) + length others =
+      ap length first ∙ length-append (in_place parts s) others in
       subst (λ (xs : List Packed). Counting m packed next_at xs (total + length put)) (sym parts_are)
       (record {
         left = f.rest;
@@ -155,17 +176,27 @@ module _ (m : List ℕ) (packed : List Packed) (at next_at : Position) (start nu
         bound = omega (arith, h.bound, small, ap length put_is, itself.least, ap (λ (x : Position). x.place) next_is);
       })
 
-  pub copying_next : (before out put : List ℕ) → Copying m packed at parts before out → put ≡ in_place parts s
-      → Copying m packed next_at parts_next before (out ++ put)
-  copying_next before out put h put_is =
+  -- P is so of the section at hand, if it is a Section 3
+  pub copying_here : (grid : List ℕ → List ℕ) (P : List ℕ → Type 0) (before out : List ℕ) → Copying grid P m packed at parts before out → number ≡ 3 → P s
+  copying_here grid P before out h three =
       let f = ahead_next m at next_at start s h.left h.ahead e is next_is in
-      let first = first_replaced h.left f.rest start number s parts f.are itself.number_stands in
-      let others = concat (replaced f.rest (cond (number == 7) (drop 1 parts) parts)) in
-      subst (λ (xs : List Packed). Copying m packed next_at xs before (out ++ put)) (sym parts_are)
+      let each : EachGrid P (placed_at start s ∷ f.rest) = subst (EachGrid P) f.are h.each in
+      each.0 (itself.number_stands ∙ three)
+
+  pub copying_next : (grid : List ℕ → List ℕ) (P : List ℕ → Type 0) (before out new : List ℕ) → Copying grid P m packed at parts before out
+      → new ≡ out ++ in_place_with grid parts s → Copying grid P m packed next_at parts_next before new
+  copying_next grid P before out new h new_is =
+      let f = ahead_next m at next_at start s h.left h.ahead e is next_is in
+      let first = first_replaced grid h.left f.rest start number s parts f.are itself.number_stands in
+      let put = in_place_with grid parts s in
+      let others = concat (replaced_with grid f.rest (cond (number == 7) (drop 1 parts) parts)) in
+      let each : EachGrid P (placed_at start s ∷ f.rest) = subst (EachGrid P) f.are h.each in
+      subst (λ (xs : List Packed). Copying grid P m packed next_at xs before new) (sym parts_are)
       (record {
         left = f.rest;
         ahead = f.ahead;
-        same = append_assoc out put others ∙ ap (λ (xs : List ℕ). out ++ (xs ++ others)) put_is ∙ ap (λ (xs : List ℕ). out ++ xs) (sym first) ∙ h.same;
+        each = each.1;
+        same = ap (λ (xs : List ℕ). xs ++ others) new_is ∙ append_assoc out put others ∙ ap (λ (xs : List ℕ). out ++ xs) (sym first) ∙ h.same;
       })
 
 -- at the end mark
@@ -173,9 +204,42 @@ pub counting_end : (m : List ℕ) (packed : List Packed) (at : Position) (parts 
     → total ≡ length (assembled m packed)
 counting_end m packed at parts total h e =
     let none : length (concat (replaced h.left parts)) ≡ 0 = ap (λ (xs : List Placed). length (concat (replaced xs parts))) (ahead_end m at h.left h.ahead e) in
-    omega (arith, h.sum, none, assembled_long m packed (omega (arith, message_least m h.ahead.accepted)))
+    omega (arith, h.sum, none, assembled_long as_it_is m packed (omega (arith, message_least m h.ahead.accepted)))
 
-pub copying_end : (m : List ℕ) (packed : List Packed) (at : Position) (parts : List Packed) (before out : List ℕ) → Copying m packed at parts before out → step_from m at ≡ End
-    → out ≡ before ++ assembled_body m packed
-copying_end m packed at parts before out h e =
-    sym (append-nil out) ∙ ap (λ (xs : List Placed). out ++ concat (replaced xs parts)) (sym (ahead_end m at h.left h.ahead e)) ∙ h.same
+pub copying_end : (grid : List ℕ → List ℕ) (P : List ℕ → Type 0) (m : List ℕ) (packed : List Packed) (at : Position) (parts : List Packed) (before out : List ℕ)
+    → Copying grid P m packed at parts before out → step_from m at ≡ End → out ≡ before ++ assembled_body_with grid m packed
+copying_end grid P m packed at parts before out h e =
+    sym (append-nil out) ∙ ap (λ (xs : List Placed). out ++ concat (replaced_with grid xs parts)) (sym (ahead_end m at h.left h.ahead e)) ∙ h.same
+
+-- ---- Sections 3 of the lengths that they had
+
+abbrev pub KeepsLength : (List ℕ → List ℕ) → List ℕ → Type 0
+KeepsLength grid s = length (grid s) ≡ length s
+
+in_place_as_long : (grid : List ℕ → List ℕ) (parts : List Packed) (s : List ℕ) → (section_number s ≡ 3 → KeepsLength grid s)
+    → length (in_place_with grid parts s) ≡ length (in_place_with as_it_is parts s)
+in_place_as_long grid parts s same =
+    by (section_number s == 3) (in_place parts s) (λ e. same (eqb-true (section_number s) 3 e)) where
+      by : (b : Bool) (other : List ℕ) → (b ≡ true → KeepsLength grid s) → length (cond b (grid s) other) ≡ length (cond b s other)
+      by true other h = h refl
+      by false other h = refl
+
+replaced_as_long : (grid : List ℕ → List ℕ) (sections : List Placed) (parts : List Packed) → EachGrid (KeepsLength grid) sections
+    → length (concat (replaced_with grid sections parts)) ≡ length (concat (replaced sections parts))
+replaced_as_long grid [] parts each = refl
+replaced_as_long grid (s ∷ sections) parts each =
+    let after = cond (is_numbered 7 s) (drop 1 parts) parts in
+    let here = in_place_as_long grid parts s.octets each.0 in
+    let rest = replaced_as_long grid sections after each.1 in
+    length-append (in_place_with grid parts s.octets) (concat (replaced_with grid sections after))
+    ∙ ap₂ (λ (a b : ℕ). a + b) here rest
+    ∙ sym (length-append (in_place_with as_it_is parts s.octets) (concat (replaced sections after)))
+
+-- the message is as long as with the Sections 3 that it had
+pub assembled_as_long : (grid : List ℕ → List ℕ) (m : List ℕ) (packed : List Packed) → IsMessage m
+    → ((i : ℕ) → 1 ≤ i → i ≤ field_count m → KeepsLength grid (part_octets m i 3))
+    → length (assembled_with grid m packed) ≡ length (assembled m packed)
+assembled_as_long grid m packed h same =
+    let least = message_least m h in
+    let body = replaced_as_long grid (sections_of m) packed (each_grid_of (KeepsLength grid) m h same) in
+    omega (arith, assembled_long grid m packed (omega (arith, least)), assembled_long as_it_is m packed (omega (arith, least)), body)

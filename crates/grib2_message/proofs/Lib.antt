@@ -7,6 +7,7 @@ pub mod Fronts
 pub mod Holding
 pub mod InForce
 pub mod Joined
+pub mod Lengths
 pub mod Masks
 pub mod Order
 pub mod Parted

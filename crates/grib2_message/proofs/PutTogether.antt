@@ -1,7 +1,9 @@
 -- What is assembled is in the grammar, and what its fields are.
-use Rattle.std.proofs.Common.{◌≡◌, ℕ, suc, ◌+◌, ◌≤◌, Some, None, List, [], ◌++◌, length, take, slice_get, sym, ap, ◌∙◌, arith, subst, add-one, append_assoc, append-nil, length-append, length-take-le, take-take}
+use Rattle.std.proofs.Common.{◌≡◌, ◌≢◌, ℕ, suc, ◌+◌, ◌≤◌, Some, None, List, [], ◌++◌, length, take, slice_get, inl, inr, refl, sym, ap, ◌∙◌, arith, subst, add-one, append_assoc, append-nil, length-append, length-take-le, take-take}
 use Rattle.std.specs.List.{concat, count_by}
+use Rattle.std.proofs.lemmas.Bool.{cases_eq}
 use Rattle.std.proofs.lemmas.List.{take-append-le}
+use Rattle.std.proofs.lemmas.Option.{slice_get_within}
 use Rattle.grib2_sections.specs.Head.{end_mark, total_length}
 use Rattle.grib_bits.specs.Encoding.{octets_of}
 use Rattle.grib2_sections.specs.Frame.{Placed}
@@ -10,22 +12,25 @@ use Rattle.grib2_grids.specs.Grid.{grid_points}
 use Rattle.grib_bitmap.specs.Mask.{mask_of}
 use Rattle.grib_packing.specs.Entries.{column_from}
 use Rattle.grib_packing.specs.declared.written.Packed.{Packed}
-use Rattle.grib2_message.specs.View.{is_numbered, points_in_force}
+use Rattle.grib2_message.specs.View.{is_numbered, octets_in_force}
 use Rattle.grib2_message.specs.Acceptance.{verdict_2}
 use Rattle.grib2_message.specs.Grammar.{Grammar2}
 use Rattle.grib2_message.specs.Fields.{sections_of, field_count, field_sections, sections_up_to_field, part_octets, column_of}
 use Rattle.grib2_message.specs.Message.{IsMessage}
-use Rattle.grib2_message.specs.Assembled.{assembled, assembled_body, replaced, PartsPass, MayBeAssembled}
-use Rattle.grib2_message.proofs.Along.{Along, count_along, up_to_along}
+use Rattle.grib2_message.specs.Assembled.{assembled, assembled_with, assembled_body_with, replaced_with, as_it_is, IsGrid, PartsPass, MayBeAssembled, MayBeAssembledWith}
+use Rattle.grib2_message.proofs.Along.{Along, count_along, up_to_along, octets_along}
+use Rattle.grib2_message.proofs.Holding.{field_ends}
 use Rattle.grib2_message.proofs.Parted.{Parted, message_parted, message_least, IsHead, joined_grammar}
 use Rattle.grib2_message.proofs.Placing.{placed_from}
-use Rattle.grib2_message.proofs.Replaced.{Fits, fits_number, octets_kept, points_same, HasPart, Rebuilt, rebuilt, outside}
+use Rattle.grib2_message.proofs.Replaced.{Fits, fits_number, octets_kept, grid_in_force, some_grid, EachGrid, each_grid, HasPart, Rebuilt, rebuilt, outside, left}
+use Rattle.grib2_message.proofs.Sound.{sound_none}
 use Rattle.grib2_message.proofs.Whole.{octets_before, octets_of_front, grammar_accepted, sections_alone}
 
 -- how long a message is that is put together
-pub assembled_long : (m : List ℕ) (parts : List Packed) → 8 ≤ length m → length (assembled m parts) ≡ 16 + length (assembled_body m parts) + 4
-assembled_long m parts least =
-    let body = assembled_body m parts in
+pub assembled_long : (grid : List ℕ → List ℕ) (m : List ℕ) (parts : List Packed) → 8 ≤ length m
+    → length (assembled_with grid m parts) ≡ 16 + length (assembled_body_with grid m parts) + 4
+assembled_long grid m parts least =
+    let body = assembled_body_with grid m parts in
     let number = octets_of 8 (16 + length body + 4) in
     let eight : length (take 8 m) ≡ 8 = length-take-le 8 m least in
     omega (arith, length-append (take 8 m) (number ++ (body ++ end_mark)), length-append number (body ++ end_mark), length-append body end_mark, length-octets_of 8 (16 + length body + 4))
@@ -49,37 +54,48 @@ head_of m total h few =
           ∙ num_on-octets_of 8 total (omega arith);
     }
 
-module _ (m : List ℕ) (parts : List Packed) (h : MayBeAssembled m parts) where
+-- what is so of the Section 3 in force for each field is so of each Section 3
+pub each_grid_of : (P : List ℕ → Type 0) (m : List ℕ) → IsMessage m → ((i : ℕ) → 1 ≤ i → i ≤ field_count m → P (part_octets m i 3)) → EachGrid P (sections_of m)
+each_grid_of P m h each =
+    let p = message_parted m h in
+    let many : field_count m ≡ left 17 p.sections = ap (count_by (is_numbered 7)) p.found in
+    subst (EachGrid P) (sym p.found)
+    (each_grid P p.sections [] 17 p.follow
+    (λ i low. subst (λ (xs : List Placed). P (octets_in_force 3 (sections_up_to_field (suc i) [] xs))) p.found
+    (each (suc i) (omega arith) (omega (arith, low, many)))))
+
+module _ (grid : List ℕ → List ℕ) (m : List ℕ) (parts : List Packed) (h : MayBeAssembledWith grid m parts) where
   old : Parted m [] 17 (length m)
   old = message_parted m h.accepted
 
   news : List (List ℕ)
-  news = replaced (sections_of m) parts
+  news = replaced_with grid (sections_of m) parts
 
-  again : Rebuilt parts [] 17 17 old.sections news
+  again : Rebuilt grid parts [] 17 17 old.sections news
   unfolding news
   again =
       let p = old in
-      subst (λ (xs : List Placed). Rebuilt parts [] 17 17 p.sections (replaced xs parts)) (sym p.found)
-      (rebuilt p.sections parts [] [] 17 17 p.follow tt (outside parts [] (λ low high. absurd (omega arith)))
+      let each = subst (EachGrid (λ s. IsGrid s → IsGrid (grid s))) p.found (each_grid_of (λ s. IsGrid s → IsGrid (grid s)) m h.accepted h.grids) in
+      subst (λ (xs : List Placed). Rebuilt grid parts [] 17 17 p.sections (replaced_with grid xs parts)) (sym p.found)
+      (rebuilt grid p.sections parts [] [] 17 17 p.follow tt (outside parts [] (λ low high. absurd (omega arith))) sound_none each
       (λ i part e.
-      subst (λ (xs : List Placed). PartsPass (points_in_force (sections_up_to_field (suc i) [] xs)) part) p.found
-      (subst (λ (n : ℕ). PartsPass (grid_points (part_octets m n 3)) part) (add-one i) (h.pass i part e)))
+      subst (λ (xs : List Placed). PartsPass (grid_points (grid (octets_in_force 3 (sections_up_to_field (suc i) [] xs)))) part) p.found
+      (subst (λ (n : ℕ). PartsPass (grid_points (grid (part_octets m n 3))) part) (add-one i) (h.pass i part e)))
       (h.one_each ∙ ap (count_by (is_numbered 7)) p.found))
 
-  grammar : Grammar2 (assembled m parts) news
+  grammar : Grammar2 (assembled_with grid m parts) news
   unfolding news
   grammar =
-      let body = concat (replaced (sections_of m) parts) in
+      let body = concat (replaced_with grid (sections_of m) parts) in
       let total = 16 + length body + 4 in
-      let few : total ≤ 268435456 = omega (arith, assembled_long m parts (omega (arith, message_least m h.accepted)), h.most) in
-      subst (λ (xs : List ℕ). Grammar2 xs (replaced (sections_of m) parts)) (append_assoc (take 8 m) (octets_of 8 total) (body ++ end_mark))
-      (joined_grammar (take 8 m ++ octets_of 8 total) (replaced (sections_of m) parts) (head_of m total h.accepted few) few again.follow)
+      let few : total ≤ 268435456 = omega (arith, assembled_long grid m parts (omega (arith, message_least m h.accepted)), h.most) in
+      subst (λ (xs : List ℕ). Grammar2 xs (replaced_with grid (sections_of m) parts)) (append_assoc (take 8 m) (octets_of 8 total) (body ++ end_mark))
+      (joined_grammar (take 8 m ++ octets_of 8 total) (replaced_with grid (sections_of m) parts) (head_of m total h.accepted few) few again.follow)
 
-  pub assembled_accepted : IsMessage (assembled m parts)
+  pub assembled_accepted : IsMessage (assembled_with grid m parts)
   assembled_accepted =
       let g = grammar in
-      let w = assembled m parts in
+      let w = assembled_with grid m parts in
       record {
         indicated = g.indicated;
         edition_stands = g.edition_stands;
@@ -87,32 +103,54 @@ module _ (m : List ℕ) (parts : List Packed) (h : MayBeAssembled m parts) where
       }
 
   -- the sections of both go along one another
-  pub sections_along : Along Fits (sections_of m) (sections_of (assembled m parts))
+  pub sections_along : Along (Fits grid) (sections_of m) (sections_of (assembled_with grid m parts))
   sections_along =
       let p = old in
       let g = grammar in
-      subst (λ (xs : List Placed). Along Fits xs (sections_of (assembled m parts))) (sym p.found)
-      (subst (λ (xs : List Placed). Along Fits (placed_from 17 p.sections) xs) (sym (sections_alone (assembled m parts) news g)) again.along)
+      subst (λ (xs : List Placed). Along (Fits grid) xs (sections_of (assembled_with grid m parts))) (sym p.found)
+      (subst (λ (xs : List Placed). Along (Fits grid) (placed_from 17 p.sections) xs) (sym (sections_alone (assembled_with grid m parts) news g)) again.along)
 
-  pub assembled_fields : field_count (assembled m parts) ≡ field_count m
-  assembled_fields = count_along Fits fits_number 7 (sections_of m) (sections_of (assembled m parts)) sections_along
+  pub assembled_fields : field_count (assembled_with grid m parts) ≡ field_count m
+  assembled_fields = count_along (Fits grid) (fits_number grid) 7 (sections_of m) (sections_of (assembled_with grid m parts)) sections_along
 
-  fields_along : (i : ℕ) → Along Fits (field_sections m i) (field_sections (assembled m parts) i)
-  fields_along i = up_to_along Fits fits_number i [] [] (sections_of m) (sections_of (assembled m parts)) tt sections_along
+  pub fields_along : (i : ℕ) → Along (Fits grid) (field_sections m i) (field_sections (assembled_with grid m parts) i)
+  fields_along i = up_to_along (Fits grid) (fits_number grid) i [] [] (sections_of m) (sections_of (assembled_with grid m parts)) tt sections_along
 
-  pub assembled_kept : (i k : ℕ) → k ≤ 4 → part_octets (assembled m parts) i k ≡ part_octets m i k
-  assembled_kept i k low = octets_kept k low (field_sections m i) (field_sections (assembled m parts) i) (fields_along i)
+  pub assembled_kept : (i k : ℕ) → k ≤ 4 → k ≢ 3 → part_octets (assembled_with grid m parts) i k ≡ part_octets m i k
+  assembled_kept i k low other = octets_kept grid k low other (field_sections m i) (field_sections (assembled_with grid m parts) i) (fields_along i)
 
-  pub assembled_parts : (i : ℕ) (part : Packed) → slice_get parts i ≡ Some part → HasPart part (field_sections (assembled m parts) (i + 1))
+  pub assembled_grid : (i : ℕ) → 1 ≤ i → i ≤ field_count m → part_octets (assembled_with grid m parts) i 3 ≡ grid (part_octets m i 3)
+  assembled_grid i low high =
+      let f = field_ends m i h.accepted low high in
+      grid_in_force grid (field_sections m i) (field_sections (assembled_with grid m parts) i) (fields_along i)
+      (some_grid (field_sections m i) f.sound (omega (arith, f.ends)))
+
+  pub assembled_parts : (i : ℕ) (part : Packed) → slice_get parts i ≡ Some part → HasPart part (field_sections (assembled_with grid m parts) (i + 1))
   assembled_parts i part e =
       let g = grammar in
-      subst (λ (n : ℕ). HasPart part (field_sections (assembled m parts) n)) (sym (add-one i))
-      (subst (λ (xs : List Placed). HasPart part (sections_up_to_field (suc i) [] xs)) (sym (sections_alone (assembled m parts) news g)) (again.columns i part e))
+      subst (λ (n : ℕ). HasPart part (field_sections (assembled_with grid m parts) n)) (sym (add-one i))
+      (subst (λ (xs : List Placed). HasPart part (sections_up_to_field (suc i) [] xs)) (sym (sections_alone (assembled_with grid m parts) news g)) (again.columns i part e))
 
   pub assembled_column : (i : ℕ) (part : Packed) → slice_get parts i ≡ Some part
-      → column_of (assembled m parts) (i + 1) ≡ column_from part.section5 (mask_of part.section6 (grid_points (part_octets m (i + 1) 3)) None) part.section7
+      → column_of (assembled_with grid m parts) (i + 1)
+      ≡ column_from part.section5 (mask_of part.section6 (grid_points (grid (part_octets m (i + 1) 3))) None) part.section7
   assembled_column i part e =
       let has = assembled_parts i part e in
-      let points = points_same (field_sections m (i + 1)) (field_sections (assembled m parts) (i + 1)) (fields_along (i + 1)) in
+      let within = slice_get_within parts i part e in
+      let points = ap grid_points (assembled_grid (i + 1) (omega arith) (omega (arith, within, h.one_each))) in
       (λ j. column_from (has.packing j) (has.mask j) (has.values j))
       ∙ ap (λ (n : ℕ). column_from part.section5 (mask_of part.section6 n None) part.section7) points
+
+-- ---- each Section 3 stays
+
+module _ (m : List ℕ) (parts : List Packed) (h : MayBeAssembled m parts) where
+  pub as_it_was : MayBeAssembledWith as_it_is m parts
+  as_it_was = record { accepted = h.accepted; one_each = h.one_each; grids = λ i low high is. is; pass = h.pass; most = h.most }
+
+  pub assembled_stays : (i k : ℕ) → k ≤ 4 → part_octets (assembled m parts) i k ≡ part_octets m i k
+  assembled_stays i k low = elim (cases_eq k 3) [
+    | inl three ↦
+        octets_along (Fits as_it_is) (fits_number as_it_is) k (λ xs ys. ys ≡ xs) refl (λ s t fits e. fits.grid_is (e ∙ three))
+        (field_sections m i) (field_sections (assembled m parts) i) (fields_along as_it_is m parts as_it_was i)
+    | inr other ↦ assembled_kept as_it_is m parts as_it_was i k low other
+  ]

@@ -3,6 +3,7 @@ pub mod Acceptance
 pub mod Grammar
 pub mod Fields
 pub mod Message
+pub mod Summary
 pub use Rattle.grib_base.specs.Faults
 pub use Rattle.grib2_sections.specs.Refused
 pub mod Kept

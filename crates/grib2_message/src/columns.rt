@@ -30,6 +30,8 @@ pub(crate) fn column_at(alloc: Global, octets: &[u8], places: &Places) -> Result
         (λ column. 1 ≤ length column.points) }
     ensures few { (before : List Placed) → IsField octets.now before places.now → IfOk result
         (λ column. length column.points ≤ 33554432) }
+    ensures long { (before : List Placed) → IsField octets.now before places.now → IfOk result
+        (λ column. length column.points ≡ points_in_force before) }
 {
     let Some(representation) = places.representation else {
         unreachable!();

@@ -9,7 +9,7 @@ ghost use Rattle.grib2_message.specs.Acceptance.{verdict_2};
 ghost use Rattle.grib2_message.specs.Grammar.{Grammar2};
 ghost use Rattle.grib2_message.specs.Fields.{sections_of, field_count, field_mask, part_octets, column_of};
 ghost use Rattle.grib2_message.specs.Message.{IsMessage, FieldPasses};
-ghost use Rattle.grib2_message.specs.Assembled.{assembled, MayBeAssembled};
+ghost use Rattle.grib2_message.specs.Assembled.{assembled, assembled_with, MayBeAssembled, MayBeAssembledWith};
 ghost use Rattle.grib2_grids.specs.Grid.{grid_points};
 ghost use Rattle.grib_bitmap.specs.Mask.{mask_of};
 ghost use Rattle.grib_packing.specs.Entries.{column_from};
@@ -83,4 +83,37 @@ pub fn what_is_assembled_is_accepted()
         × (part_octets (assembled message parts) (i + 1) 7 ≡ part.section7) }
     ensures kept { (message : List ℕ) (parts : List Packed) → MayBeAssembled message parts
         → (i k : ℕ) → k ≤ 4 → part_octets (assembled message parts) i k ≡ part_octets message i k }
+{}
+
+/// An accepted message of which each Section 3 becomes another that passes its rows, with other Sections 5, 6
+/// and 7 that pass theirs for its number of points, is accepted, where it is not too long. It has as many
+/// fields. Each field has the new Section 3, the Sections 5, 6 and 7 of its part, hence their column, and its
+/// Sections 1, 2 and 4 as they were.
+pub fn what_is_assembled_with_other_grids_is_accepted()
+    ensures accepted { (grid : List ℕ → List ℕ) (message : List ℕ) (parts : List Packed)
+        → MayBeAssembledWith grid message parts → IsMessage (assembled_with grid message parts) }
+    ensures fields { (grid : List ℕ → List ℕ) (message : List ℕ) (parts : List Packed)
+        → MayBeAssembledWith grid message parts
+        → field_count (assembled_with grid message parts) ≡ field_count message }
+    ensures columns { (grid : List ℕ → List ℕ) (message : List ℕ) (parts : List Packed)
+        → MayBeAssembledWith grid message parts
+        → (i : ℕ) (part : Packed) → slice_get parts i ≡ Some part
+        → column_of (assembled_with grid message parts) (i + 1)
+        ≡ column_from part.section5
+        (mask_of part.section6 (grid_points (grid (part_octets message (i + 1) 3))) None)
+        part.section7 }
+    ensures parts { (grid : List ℕ → List ℕ) (message : List ℕ) (parts : List Packed)
+        → MayBeAssembledWith grid message parts
+        → (i : ℕ) (part : Packed) → slice_get parts i ≡ Some part
+        → (part_octets (assembled_with grid message parts) (i + 1) 5 ≡ part.section5)
+        × (part_octets (assembled_with grid message parts) (i + 1) 6 ≡ part.section6)
+        × (part_octets (assembled_with grid message parts) (i + 1) 7 ≡ part.section7) }
+    ensures grids { (grid : List ℕ → List ℕ) (message : List ℕ) (parts : List Packed)
+        → MayBeAssembledWith grid message parts
+        → (i : ℕ) → 1 ≤ i → i ≤ field_count message
+        → part_octets (assembled_with grid message parts) i 3 ≡ grid (part_octets message i 3) }
+    ensures kept { (grid : List ℕ → List ℕ) (message : List ℕ) (parts : List Packed)
+        → MayBeAssembledWith grid message parts
+        → (i k : ℕ) → k ≤ 4 → k ≢ 3
+        → part_octets (assembled_with grid message parts) i k ≡ part_octets message i k }
 {}

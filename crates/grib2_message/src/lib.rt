@@ -7,11 +7,15 @@ mod columns;
 mod fault;
 pub mod laws;
 mod message;
+mod new_grid;
 mod passing;
 mod places;
 mod reading;
+mod summary;
 
 pub use fault::AssembleFault;
 pub use grib_base::ReadFault;
 pub use message::Message;
+pub use new_grid::NewGrid;
 pub use reading::read_message;
+pub use summary::{FieldSummary, field_summary};

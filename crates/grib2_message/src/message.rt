@@ -1,17 +1,19 @@
 //! A message that was read.
 
-ghost use Rattle.std.specs.Prelude.{◌≡◌, ◌≢◌, ◌≤◌, length, None, Some, MatchOption, MatchResult, IfOk, All};
+ghost use Rattle.std.specs.Prelude.{◌≡◌, ◌≢◌, ◌≤◌, ℕ, length, None, Some, MatchOption, MatchResult, IfOk, All};
 ghost use Rattle.grib2_sections.specs.Frame.{placed_at};
+ghost use Rattle.grib2_grids.specs.Grid.{grid_points};
 ghost use Rattle.grib2_message.specs.Fields as definitions;
 ghost use Rattle.grib2_message.specs.Fields.{field_count, part_octets, field_bitmap, column_of};
 ghost use Rattle.grib2_message.specs.Message.{IsMessage, FieldPasses};
-ghost use Rattle.grib2_message.specs.Assembled.{assembled, IsShort, IsAssembleFault};
+ghost use Rattle.grib2_message.specs.Assembled.{assembled, assembled_with, IsShort, IsAssembleFault};
 ghost use Rattle.grib2_message.specs.Kept.{Keeps};
 
-use crate::AssembleFault;
 use crate::assembling::{assembled_length, put_together};
 use crate::columns::{column_at, own_bitmap};
+use crate::new_grid::SameGrid;
 use crate::places::Places;
+use crate::{AssembleFault, NewGrid};
 use grib_base::Section;
 use grib_packing::{Column, Packed};
 use std::alloc::{AllocError, Global};
@@ -117,6 +119,7 @@ impl<'a> Message<'a> {
         ensures column { IfOk result (λ column. column ≡ column_of self.now field) }
         ensures some { IfOk result (λ column. 1 ≤ length column.points) }
         ensures few { IfOk result (λ column. length column.points ≤ 33554432) }
+        ensures long { IfOk result (λ column. length column.points ≡ grid_points (part_octets self.now field 3)) }
         ensures passes { FieldPasses self.now field }
     {
         let places = &self.fields[field as usize - 1];
@@ -139,10 +142,35 @@ impl<'a> Message<'a> {
             × (length (assembled self.now packed.now) ≤ 268435456))
             (IsAssembleFault (length (assembled self.now packed.now))) }
     {
+        self.assemble_with(alloc, &SameGrid, packed)
+    }
+
+    /// The message with another grid and other Sections 5, 6 and 7, one part for each field in their order.
+    /// All other sections are copied octet for octet, and the total length is renewed. Sections are put in
+    /// as they are: where each states its length and its number and passes its rows, the message is
+    /// accepted. The length is known before any memory is taken.
+    ///
+    /// # Errors
+    ///
+    /// The message would have more than 268,435,456 octets, or there is no memory.
+    pub fn assemble_with<G: NewGrid>(
+        &self,
+        alloc: Global,
+        grid: &G,
+        packed: &[Packed],
+    ) -> Result<Vec<u8>, AssembleFault>
+        requires grids { (i : ℕ) → 1 ≤ i → i ≤ field_count self.now → G.takes grid.now (part_octets self.now i 3) }
+        requires one_each { length packed.now ≡ field_count self.now }
+        requires short { All IsShort packed.now }
+        ensures { MatchResult result
+            (λ octets. (octets.items ≡ assembled_with (G.becomes grid.now) self.now packed.now)
+            × (length (assembled_with (G.becomes grid.now) self.now packed.now) ≤ 268435456))
+            (IsAssembleFault (length (assembled_with (G.becomes grid.now) self.now packed.now))) }
+    {
         let total = assembled_length(self.octets, packed);
         if total > 268_435_456 {
             return Err(AssembleFault::TooLong(total));
         }
-        Ok(put_together(alloc, self.octets, packed, total)?)
+        Ok(put_together(alloc, self.octets, grid, packed, total)?)
     }
 }

@@ -76,9 +76,14 @@ module _ (start : ℕ) (first second third : List Row) (passed : first_fault fir
   third_decides second_passed =
       ap (located start) (first_passed first (second ++ third) passed ∙ first_passed second third second_passed)
 
--- ---- a refusal that `?` made of a row's fault
+-- ---- what `?` carries on
 
+-- an error
+pub carried : {T E : Type 0} (P : T → Type 0) (Q : E → Type 0) (result : Result T E) (error : E) → IsErrAnd result (λ e. e ≡ error) → Q error → MatchResult result P Q
+carried P Q (Ok value) error is known = absurd is
+carried P Q (Err e) error is known = subst Q (sym is) known
+
+-- a refusal that it made of a row's fault
 pub refused : {V : Type 0} (P : V → Type 0) (r : Result V ReadFault) (fault : Fault) (first : Option Fault) → IsErrAnd r (λ e. e ≡ Refused fault) → first ≡ Some fault
     → MatchResult r P (IsReadFault first)
-refused P (Ok v) fault first h is = absurd h
-refused P (Err e) fault first h is = let Refusal : ReadFault → Type 0 = IsReadFault first in subst Refusal (sym h) is
+refused P r fault first h is = let Refusal : ReadFault → Type 0 = IsReadFault first in carried P Refusal r (Refused fault) h is

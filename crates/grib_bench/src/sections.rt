@@ -1,8 +1,13 @@
 //! Sections of octets that are made here.
 
+ghost use Rattle.std.specs.Prelude.{◌≡◌, ◌≤◌, None, length};
+ghost use Rattle.grib_bitmap.specs.Mask.{present_count};
+ghost use Rattle.grib_packing.specs.Entries.{packing_fault};
+ghost use Rattle.grib_packing.specs.Packing.{packing_template, value_count};
+
 use anyhow::{Result, anyhow, bail, ensure};
 use byteorder::{BigEndian, ByteOrder};
-use grib_base::Section;
+use grib_base::{ReadFault, Section};
 use grib_bitmap::{Mask, ones, read_mask};
 use grib_complex::{ComplexPacking, SpatialPacking, read_complex};
 use grib_packing::{Column, Packing, read_simple};
@@ -52,16 +57,33 @@ pub fn column(alloc: Global, representation: &[u8], mask: &Mask, data: &[u8]) ->
     };
     ensure!(simple.values == ones(mask), "another number of values");
     let column = if simple.template == 0 {
-        SimplePacking.unpack(alloc, &section5, mask, &section7)
+        column_by(&SimplePacking, alloc, &section5, mask, &section7)
     } else {
         let Ok(_complex) = read_complex(&section5, mask.len()) else {
             bail!("the groups are refused");
         };
         if simple.template == 2 {
-            ComplexPacking.unpack(alloc, &section5, mask, &section7)
+            column_by(&ComplexPacking, alloc, &section5, mask, &section7)
         } else {
-            SpatialPacking::new(1).unpack(alloc, &section5, mask, &section7)
+            column_by(&SpatialPacking::new(1), alloc, &section5, mask, &section7)
         }
     };
     column.map_err(|fault| anyhow!("{fault:?}"))
+}
+
+/// The column of a field by a packing, which is that of its Section 5.
+fn column_by<P: Packing>(
+    packing: &P,
+    alloc: Global,
+    section5: &Section<'_>,
+    mask: &Mask,
+    section7: &Section<'_>,
+) -> std::result::Result<Column, ReadFault>
+    requires some { 1 ≤ length mask.now }
+    requires few { length mask.now ≤ 33554432 }
+    requires accepted { packing_fault section5.now.octets.now (length mask.now) ≡ None }
+    requires template { packing_template section5.now.octets.now ≡ P.template packing.now }
+    requires values { present_count mask.now ≡ value_count section5.now.octets.now }
+{
+    packing.unpack(alloc, section5, mask, section7)
 }

@@ -1,10 +1,10 @@
 -- The values of words that are read.
-use Rattle.std.proofs.Common.{All, IsTrue, ◌≡◌, ◌⊎◌, ℕ, suc, ◌+◌, ◌-◌, ◌<◌, ◌≤◌, Bool, true, false, cond, not, ◌&&◌, ◌||◌, ◌==◌, nat_le, Option, Some, None, option_map, Result, Ok, Err, IfOk, List, [], ◌∷◌, ◌++◌, length, map, get_or, take, drop, codes, refl, sym, ap, ◌∙◌, subst, rules, arith, tests, ⊎_elim, inl, inr, eqb-true}
+use Rattle.std.proofs.Common.{All, IsTrue, ◌≡◌, ◌⊎◌, ℕ, suc, ◌+◌, ◌-◌, ◌<◌, ◌≤◌, Bool, true, false, cond, not, ◌&&◌, ◌||◌, ◌==◌, nat_le, Option, Some, None, option_map, Result, Ok, Err, IfOk, IfSome, List, [], ◌∷◌, ◌++◌, length, map, get_or, take, drop, codes, refl, sym, ap, ◌∙◌, subst, rules, arith, tests, ⊎_elim, inl, inr, eqb-true}
 use Rattle.std.specs.List.{list_any, list_all, find, position_or_len, cons_option}
 use Rattle.std.specs.Option.{option_map_or, option_and_then}
 use Rattle.std.specs.Str.{bytes_eq}
 use Rattle.std.proofs.lemmas.Bool.{cases_Bool, false≢true}
-use Rattle.std.proofs.lemmas.List.{length-append, take_rest}
+use Rattle.std.proofs.lemmas.List.{length-append, length-map, take_rest}
 use Rattle.std.proofs.lemmas.List.Elements.{All-nil, All-cons}
 use Rattle.std.proofs.lemmas.List.Sums.{split_at_first, passes_at_first}
 use Rattle.std.proofs.lemmas.Slice.Eq.{bytes_eq-Decides}
@@ -15,14 +15,15 @@ use Rattle.grib_keys.specs.Keys.{key_named, can_set}
 use Rattle.grib_made.specs.Made.{MayBeMade}
 use Rattle.grib_repack.specs.declared.target.RepackTarget.TheVariants.{Simple, Complex, Spatial}
 use Rattle.grib_engine.specs.declared.job.Job.{Job}
-use Rattle.grib_engine.specs.Jobs.{IsJob, is_target}
+use Rattle.grib_engine.specs.Jobs.{IsJob, HasPlaces, is_target}
 use Rattle.grib_cli.specs.declared.words.JobFault.{JobFault}
+use Rattle.grib_engine.specs.declared.job.Job.TheVariants as jobs
 use Rattle.grib_cli.specs.declared.words.command.Command.{Command}
 use Rattle.grib_cli.specs.declared.words.command.Command.TheVariants as the
-use Rattle.grib_cli.specs.declared.words.command.Command.TheVariants.{Filter, Split, Set, Repack, Migrate, Make}
+use Rattle.grib_cli.specs.declared.words.command.Command.TheVariants.{Dump, Filter, Split, Set, Repack, Migrate, Crop, Make}
 use Rattle.grib_cli.specs.Values.{number, is_number, is_between, key_value}
-use Rattle.grib_cli.specs.Reading.{is, is_equals, has_equals, name_in, value_in, is_key_to_set, is_key_value, entries, takes, is_named, has_name, has_word, is_read, read_count, has_target, is_complete, command_named, reading_of, reading}
-use Rattle.grib_cli.specs.Words.{value_of, number_of, target_of, condition, conditions_of, job_of_command, job_of_reading, IsUnlessMemory, IsAsked}
+use Rattle.grib_cli.specs.Reading.{is, is_equals, has_equals, name_in, value_in, is_key_to_set, is_key_value, entries, takes, is_named, has_name, has_word, is_read, read_count, has_target, is_side, in_order, has_sides, number_if_given, is_complete, command_named, reading_of, reading, value_of, number_of}
+use Rattle.grib_cli.specs.Words.{SidesStand, target_of, condition, conditions_of, job_of_command, job_of_reading, IsUnlessMemory, IsAsked}
 
 -- the key of a change can be set
 abbrev CanBeSet : Condition → Type 0
@@ -259,6 +260,66 @@ pub make_stands : (words : List (List ℕ)) → HasRead Make words → TargetSta
 make_stands words read =
     target_in words (make_sized words read).target (λ has. value_taken Make (codes "to") words read.all has) (λ has. value_taken Make (codes "order") words read.all has)
 
+-- ---- boxes
+
+side_is : (name : List ℕ) (words : List (List ℕ)) → ((value : List ℕ) → takes (entries Crop) name value ≡ true → is_side value ≡ true)
+    → list_all (taken Crop) words ≡ true → has_name name words ≡ true → is_between 0 4294967295 (value_of name words) ≡ true
+side_is name words rule all has =
+    wider 0 33554431 4294967295 (value_of name words) (rule (value_of name words) (value_taken Crop name words all has)) (omega arith)
+
+pub sides_of : (words : List (List ℕ)) → list_all (taken Crop) words ≡ true → has_sides words ≡ true → SidesStand words
+sides_of words all sides =
+    let first = both (has_name (codes "i0") words) (has_name (codes "i1") words && (has_name (codes "j0") words && has_name (codes "j1") words)) sides in
+    let second = both (has_name (codes "i1") words) (has_name (codes "j0") words && has_name (codes "j1") words) first.1 in
+    let third = both (has_name (codes "j0") words) (has_name (codes "j1") words) second.1 in
+    record {
+      i0 = side_is (codes "i0") words (λ value h. only_first (is_side value) h) all first.0;
+      i1 = side_is (codes "i1") words (λ value h. only_first (is_side value) h) all second.0;
+      j0 = side_is (codes "j0") words (λ value h. only_first (is_side value) h) all third.0;
+      j1 = side_is (codes "j1") words (λ value h. only_first (is_side value) h) all third.1;
+    }
+
+-- the sides of words that are all read
+pub sides_stand : {X : Type 0} (f : X → List ℕ) (words : List X) → read_count Crop [] (map f words) ≡ length words → has_sides (map f words) ≡ true
+    → SidesStand (map f words)
+sides_stand f words read sides =
+    sides_of (map f words) (all_taken Crop [] (map f words) (omega (arith, read, length-map words f))) sides
+
+-- the box that is cut out
+pub record BoxStands (words : List (List ℕ)) : Type 0 where
+  pub sides : SidesStand words
+  pub columns : number_of (codes "i0") words ≤ number_of (codes "i1") words
+  pub rows : number_of (codes "j0") words ≤ number_of (codes "j1") words
+
+at_most : (m n : ℕ) → nat_le m n ≡ true → m ≤ n
+at_most m n h = search (rules, tests, h)
+
+pub crop_stands : (words : List (List ℕ)) → HasRead Crop words → BoxStands words
+crop_stands words read =
+    let parts = both (has_sides words) (in_order (codes "i0") (codes "i1") words && in_order (codes "j0") (codes "j1") words) read.complete in
+    let orders = both (in_order (codes "i0") (codes "i1") words) (in_order (codes "j0") (codes "j1") words) parts.1 in
+    record {
+      sides = sides_of words read.all parts.0;
+      columns = at_most (number_of (codes "i0") words) (number_of (codes "i1") words) orders.0;
+      rows = at_most (number_of (codes "j0") words) (number_of (codes "j1") words) orders.1;
+    }
+
+-- ---- decimals
+
+pub decimals_stand : (words : List (List ℕ)) → HasRead Dump words → has_name (codes "decimals") words ≡ true
+    → is_between 0 18 (value_of (codes "decimals") words) ≡ true
+decimals_stand words read has =
+    only_first (is_between 0 18 (value_of (codes "decimals") words)) (value_taken Dump (codes "decimals") words read.all has)
+
+few_given : (given : Bool) (n : ℕ) → (given ≡ true → n ≤ 18) → IfSome (cond given (Some n) None) (λ places. places ≤ 18)
+few_given true n few = few refl
+few_given false n few = tt
+
+pub decimals_few : (words : List (List ℕ)) → HasRead Dump words → IfSome (number_if_given (codes "decimals") words) (λ places. places ≤ 18)
+decimals_few words read =
+    few_given (has_name (codes "decimals") words) (number_of (codes "decimals") words)
+    (λ has. (between 0 18 (value_of (codes "decimals") words) (decimals_stand words read has)).high)
+
 -- ---- changes
 
 no_changes : All CanBeSet []
@@ -302,17 +363,32 @@ size_is words stands =
     let nj = between 1 4096 (value_of (codes "nj") words) stands.nj in
     record { seed_fits = omega arith; some_columns = ni.low; few_columns = ni.high; some_rows = nj.low; few_rows = nj.high }
 
+places : (given : Option ℕ) → IfSome given (λ n. n ≤ 18) → HasPlaces (jobs.Dump given)
+places None few = tt
+places (Some n) few = few
+
 pub is_job : (command : Command) (words : List (List ℕ)) → HasRead command words → IfOk (job_of_command command words) IsJob
-is_job the.Check words read = record { target_stands = refl; size_stands = tt; changes_stand = no_changes }
-is_job the.List words read = record { target_stands = refl; size_stands = tt; changes_stand = no_changes }
-is_job the.Dump words read = record { target_stands = refl; size_stands = tt; changes_stand = no_changes }
-is_job Filter words read = record { target_stands = refl; size_stands = tt; changes_stand = no_changes }
-is_job Split words read = record { target_stands = refl; size_stands = tt; changes_stand = no_changes }
-is_job Set words read = record { target_stands = refl; size_stands = tt; changes_stand = changes_can words read.all }
-is_job Repack words read = record { target_stands = target_is words (repack_stands words read); size_stands = tt; changes_stand = no_changes }
+is_job the.Check words read = record { target_stands = refl; size_stands = tt; changes_stand = no_changes; places_stand = tt; area_stands = tt }
+is_job the.List words read = record { target_stands = refl; size_stands = tt; changes_stand = no_changes; places_stand = tt; area_stands = tt }
+is_job Dump words read = record {
+  target_stands = refl;
+  size_stands = tt;
+  changes_stand = no_changes;
+  places_stand = places (number_if_given (codes "decimals") words) (decimals_few words read);
+  area_stands = tt;
+}
+is_job the.Stats words read = record { target_stands = refl; size_stands = tt; changes_stand = no_changes; places_stand = tt; area_stands = tt }
+is_job the.Rescan words read = record { target_stands = refl; size_stands = tt; changes_stand = no_changes; places_stand = tt; area_stands = tt }
+is_job Crop words read =
+    let box = crop_stands words read in
+    record { target_stands = refl; size_stands = tt; changes_stand = no_changes; places_stand = tt; area_stands = (box.columns, box.rows) }
+is_job Filter words read = record { target_stands = refl; size_stands = tt; changes_stand = no_changes; places_stand = tt; area_stands = tt }
+is_job Split words read = record { target_stands = refl; size_stands = tt; changes_stand = no_changes; places_stand = tt; area_stands = tt }
+is_job Set words read = record { target_stands = refl; size_stands = tt; changes_stand = changes_can words read.all; places_stand = tt; area_stands = tt }
+is_job Repack words read = record { target_stands = target_is words (repack_stands words read); size_stands = tt; changes_stand = no_changes; places_stand = tt; area_stands = tt }
 is_job Make words read =
-    record { target_stands = target_is words (make_stands words read); size_stands = size_is words (make_sized words read); changes_stand = no_changes }
-is_job Migrate words read = tt
+    record { target_stands = target_is words (make_stands words read); size_stands = size_is words (make_sized words read); changes_stand = no_changes; places_stand = tt; area_stands = tt }
+is_job Migrate words read = record { target_stands = refl; size_stands = tt; changes_stand = no_changes; places_stand = tt; area_stands = tt }
 
 -- the answer to the words, by that to the words behind their command
 pub asked : (words : List (List ℕ)) (command : Command) (result : Result Job JobFault) → reading words ≡ Ok command

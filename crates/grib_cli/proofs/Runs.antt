@@ -10,12 +10,15 @@ use Rattle.grib_stream.specs.Answer.{Answer}
 use Rattle.grib_stream.specs.declared.outcome.Outcome.{Outcome}
 use Rattle.grib_stream.specs.declared.outcome.Outcome.TheVariants.{ReadFault, WriteFault, ShelfFault, Memory}
 use Rattle.grib_engine.specs.declared.job.Job.{Job}
-use Rattle.grib_engine.specs.declared.job.Job.TheVariants.{Check, List as Listing, Dump, Filter, Split, Set, Repack, Make}
-use Rattle.grib_engine.specs.Outcomes.{note_of, NotesFront}
-use Rattle.grib_engine.specs.Serving.{RunsJob, NotesJobFront}
+use Rattle.grib_engine.specs.Outcomes.{note_of, NotesFront, Noted}
+use Rattle.grib_engine.specs.Command.{task}
+use Rattle.grib_engine.specs.Serving.{RunsWork, RunsJob, NotesWorkFront, NotesJobFront, RefusedWork, RefusedJob}
 use Rattle.grib_stream.specs.Task.{Task}
 use Rattle.grib_stream.proofs.Exits.{runs_broken, cut_broken}
-use Rattle.grib_engine.specs.Tasks.{task, made_answer}
+use Rattle.grib_engine.specs.Tasks.{Work, Reads, Makes, ReadsTable, work_of}
+use Rattle.grib_engine.proofs.Tabled.{stands, runs_none, fronts_none, if_refused}
+use Rattle.grib_io.specs.Shelves.{Held, Stays}
+use Rattle.grib_table.specs.Tabled.{tabled}
 use Rattle.grib_cli.specs.declared.words.JobFault.{JobFault}
 use Rattle.grib_cli.specs.declared.words.JobFault.TheVariants as faults
 use Rattle.grib_cli.specs.Words.{outcome_of, IsAsked, job_of}
@@ -90,35 +93,52 @@ gives_nothing answer result before now cut did =
       front = front_none before now (answer.acts ++ answer.ending) did;
     }
 
+runs_work : (work : Work) (result : Outcome) (left : Option (List ℕ)) (before now : World) → is_cut_short result ≡ true → Did before now []
+    → RunsWork work result left left before now
+runs_work (Reads command) result left before now cut did = runs_task (task command) result left before now cut did
+runs_work (Makes answer) result left before now cut did = gives_nothing answer result before now cut did
+runs_work (ReadsTable name commands) result left before now cut did =
+    let stand = stands before.names name in
+    (stand.0, stand.1, runs_none commands result left before now (tabled stand.0) (cut_broken result cut) (λ read. no_read result cut read) did)
+
 pub runs_nothing : (job : Job) (result : Outcome) (left : Option (List ℕ)) (before now : World) → is_cut_short result ≡ true → Did before now []
     → RunsJob job result left left before now
-runs_nothing (Make seed ni nj target) result left before now cut did = gives_nothing (made_answer seed ni nj target) result before now cut did
-runs_nothing Check result left before now cut did = runs_task (task Check) result left before now cut did
-runs_nothing Listing result left before now cut did = runs_task (task Listing) result left before now cut did
-runs_nothing Dump result left before now cut did = runs_task (task Dump) result left before now cut did
-runs_nothing (Filter conditions) result left before now cut did = runs_task (task (Filter conditions)) result left before now cut did
-runs_nothing (Split name) result left before now cut did = runs_task (task (Split name)) result left before now cut did
-runs_nothing (Set changes) result left before now cut did = runs_task (task (Set changes)) result left before now cut did
-runs_nothing (Repack target) result left before now cut did = runs_task (task (Repack target)) result left before now cut did
+runs_nothing job result left before now cut did = runs_work (work_of job) result left before now cut did
 
 -- a front of the note that there is no memory
-pub fronts_memory : (job : Job) (left : Option (List ℕ)) (f f_now s s_now : ℕ) (a b : Option (List ℕ)) → AppendsFront a b (note_of Memory)
-    → NotesJobFront job left f f_now s s_now a b
-fronts_memory (Make seed ni nj target) left f f_now s s_now a b front = inr front
-fronts_memory Check None f f_now s s_now a b front = tt
-fronts_memory Check (Some input) f f_now s s_now a b front = record { front = inr (inr (inr front)) }
-fronts_memory Listing None f f_now s s_now a b front = tt
-fronts_memory Listing (Some input) f f_now s s_now a b front = record { front = inr (inr (inr front)) }
-fronts_memory Dump None f f_now s s_now a b front = tt
-fronts_memory Dump (Some input) f f_now s s_now a b front = record { front = inr (inr (inr front)) }
-fronts_memory (Filter conditions) None f f_now s s_now a b front = tt
-fronts_memory (Filter conditions) (Some input) f f_now s s_now a b front = record { front = inr (inr (inr front)) }
-fronts_memory (Split name) None f f_now s s_now a b front = tt
-fronts_memory (Split name) (Some input) f f_now s s_now a b front = record { front = inr (inr (inr front)) }
-fronts_memory (Set changes) None f f_now s s_now a b front = tt
-fronts_memory (Set changes) (Some input) f f_now s s_now a b front = record { front = inr (inr (inr front)) }
-fronts_memory (Repack target) None f f_now s s_now a b front = tt
-fronts_memory (Repack target) (Some input) f f_now s s_now a b front = record { front = inr (inr (inr front)) }
+memory_front_of : (a b : Option (List ℕ)) (f f_now s s_now : ℕ) → AppendsFront a b (note_of Memory) → (note : List ℕ) → Noted a b note f f_now s s_now
+memory_front_of a b f f_now s s_now front note = record { front = inr (inr (inr front)) }
+
+fronts_work : (work : Work) (names : Option Held) (left : Option (List ℕ)) (f f_now s s_now : ℕ) (a b : Option (List ℕ)) → AppendsFront a b (note_of Memory)
+    → NotesWorkFront work names left f f_now s s_now a b
+fronts_work (Reads command) names None f f_now s s_now a b front = tt
+fronts_work (Reads command) names (Some input) f f_now s s_now a b front = record { front = inr (inr (inr front)) }
+fronts_work (Makes answer) names left f f_now s s_now a b front = inr front
+fronts_work (ReadsTable name commands) names left f f_now s s_now a b front =
+    let stand = stands names name in
+    (stand.0, stand.1, fronts_none commands left f f_now s s_now a b (tabled stand.0) (memory_front_of a b f f_now s s_now front))
+
+pub fronts_memory : (job : Job) (names : Option Held) (left : Option (List ℕ)) (f f_now s s_now : ℕ) (a b : Option (List ℕ)) → AppendsFront a b (note_of Memory)
+    → NotesJobFront job names left f f_now s s_now a b
+fronts_memory job names left f f_now s s_now a b front = fronts_work (work_of job) names left f f_now s s_now a b front
+
+-- the table may be refused
+refused_work : (work : Work) (names : Option Held) (P : Type 0) → P → RefusedWork work names P
+refused_work (Reads command) names P held = tt
+refused_work (Makes answer) names P held = tt
+refused_work (ReadsTable name commands) names P held =
+    let stand = stands names name in
+    (stand.0, stand.1, if_refused P (tabled stand.0) held)
+
+pub refused_memory : (job : Job) (names : Option Held) (P : Type 0) → P → RefusedJob job names P
+refused_memory job names P held = refused_work (work_of job) names P held
+
+pub unread_memory : (fault : JobFault) (result : Outcome) → fault ≡ faults.Memory → OneOf (outcome_of fault) result → result ≢ ReadFault
+unread_memory fault result memory one read = no_read result (cut_memory fault result memory one) read
+
+pub shelf_stays : (names : Option Held) → Stays names names
+shelf_stays None = tt
+shelf_stays (Some held) = λ name. refl
 
 pub memory_front : (fault : JobFault) (a b : Option (List ℕ)) → fault ≡ faults.Memory → NotesFront a b [] (outcome_of fault) → AppendsFront a b (note_of Memory)
 memory_front fault a b memory (inl own) = subst (λ f. AppendsFront a b (note_of (outcome_of f))) memory own

@@ -1,35 +1,18 @@
 -- How the words of a command line are read. Word 0 is the command; each later word is `name=value`, split
 -- at its first `=`. Each command has its names, each name the rule of its value.
-use Rattle.std.specs.Prelude.{ℕ, Bool, true, false, cond, not, ◌&&◌, ◌||◌, ◌==◌, nat_lt, ◌+◌, Option, Some, None, is_some, option_map, List, [], ◌∷◌, ◌++◌, length, codes, Result, Ok, Err}
+use Rattle.std.specs.Prelude.{ℕ, Bool, true, false, cond, not, ◌&&◌, ◌||◌, ◌==◌, nat_le, nat_lt, ◌+◌, Option, Some, None, is_some, option_map, List, [], ◌∷◌, ◌++◌, length, codes, Result, Ok, Err}
 use Rattle.std.specs.List.{find, list_any, before_first, after_first}
 use Rattle.std.specs.Option.{option_map_or}
 use Rattle.std.specs.Str.{bytes_eq}
 use Rattle.grib_keys.specs.Keys.{key_named, can_set}
 use Rattle.grib_cli.specs.declared.words.command.Command.{Command}
 use Rattle.grib_cli.specs.declared.words.command.Command.TheVariants as the
-use Rattle.grib_cli.specs.declared.words.command.Command.TheVariants.{Filter, Split, Set, Repack, Migrate, Make}
-use Rattle.grib_cli.specs.Values.{is_not_empty, is_between, key_value}
+use Rattle.grib_cli.specs.declared.words.command.Command.TheVariants.{Check, Stats, Dump, Filter, Split, Set, Repack, Migrate, Rescan, Crop, Make}
+use Rattle.grib_cli.specs.Values.{number, is_not_empty, is_between, key_value}
 
 -- whether a text is this one
 abbrev pub is : List ℕ → List ℕ → Bool
 is this text = bytes_eq text this
-
--- the commands, each by its name
-abbrev pub commands : List (List ℕ × Command)
-commands =
-    (codes "check", the.Check)
-    ∷ (codes "list", the.List)
-    ∷ (codes "dump", the.Dump)
-    ∷ (codes "filter", Filter)
-    ∷ (codes "split", Split)
-    ∷ (codes "set", Set)
-    ∷ (codes "repack", Repack)
-    ∷ (codes "migrate", Migrate)
-    ∷ (codes "make", Make)
-    ∷ []
-
-abbrev pub command_named : List ℕ → Option Command
-command_named word = option_map (λ named. named.1) (find (λ named. is named.0 word) commands)
 
 abbrev pub is_equals : ℕ → Bool
 is_equals octet = octet == 61
@@ -76,15 +59,17 @@ size_entries =
     ∷ entry (is (codes "nj")) (is_between 1 4096)
     ∷ []
 
--- the names of each command; `check`, `list` and `dump` have none
-abbrev pub entries : Command → List Entry
-entries Filter = entry is_key is_key_value ∷ []
-entries Set = entry is_key_to_set is_key_value ∷ []
-entries Split = entry (is (codes "out")) is_not_empty ∷ []
-entries Repack = target_entries
-entries Migrate = entry (is (codes "params")) is_not_empty ∷ entry (is (codes "local")) (is (codes "keep")) ∷ []
-entries Make = size_entries ++ target_entries
-entries _ = []
+-- a box of a grid: its first and last column, and its first and last row
+abbrev pub is_side : List ℕ → Bool
+is_side = is_between 0 33554431
+
+abbrev pub box_entries : List Entry
+box_entries =
+    entry (is (codes "i0")) is_side
+    ∷ entry (is (codes "i1")) is_side
+    ∷ entry (is (codes "j0")) is_side
+    ∷ entry (is (codes "j1")) is_side
+    ∷ []
 
 -- whether a name has this value among the entries
 abbrev pub takes : List Entry → List ℕ → List ℕ → Bool
@@ -101,6 +86,85 @@ has_name name words = list_any (is_named name) words
 abbrev pub has_word : List ℕ → List (List ℕ) → Bool
 has_word whole words = list_any (is whole) words
 
+-- `to` is there; `order` is there beside `to=3`, and not otherwise
+abbrev pub has_target : List (List ℕ) → Bool
+has_target words =
+    has_name (codes "to") words
+    && cond (has_word (codes "to=3") words) (has_name (codes "order") words) (not (has_name (codes "order") words))
+
+-- the value of the word of this name, empty where none has it, and its number
+abbrev pub value_of : List ℕ → List (List ℕ) → List ℕ
+value_of name words = option_map_or value_in (find (is_named name) words) []
+
+abbrev pub number_of : List ℕ → List (List ℕ) → ℕ
+number_of name words = number (value_of name words)
+
+-- the number of the word of this name, none where no word has it
+abbrev pub number_if_given : List ℕ → List (List ℕ) → Option ℕ
+number_if_given name words = cond (has_name name words) (Some (number_of name words)) None
+
+-- the number of one name is at most that of the other
+abbrev pub in_order : List ℕ → List ℕ → List (List ℕ) → Bool
+in_order least most words = nat_le (number_of least words) (number_of most words)
+
+-- all sides of a box are there
+abbrev pub has_sides : List (List ℕ) → Bool
+has_sides words =
+    has_name (codes "i0") words && (has_name (codes "i1") words && (has_name (codes "j0") words && has_name (codes "j1") words))
+
+-- all sides of a box are there, and the last of them are not before the first
+abbrev pub has_box : List (List ℕ) → Bool
+has_box words =
+    has_sides words && (in_order (codes "i0") (codes "i1") words && in_order (codes "j0") (codes "j1") words)
+
+-- what is asked of all words of a command: nothing, or that there is one
+abbrev pub nothing : List (List ℕ) → Bool
+nothing words = true
+
+abbrev pub has_some : List (List ℕ) → Bool
+has_some words = nat_lt 0 (length words)
+
+-- a command's name, the names of its words with the rules of their values, and what is asked of all its words
+pub record Row : Type 0 where
+  pub name : List ℕ
+  pub entries : List Entry
+  pub is_complete : List (List ℕ) → Bool
+
+abbrev pub row : List ℕ → List Entry → (List (List ℕ) → Bool) → Row
+row name entries is_complete = record { name = name; entries = entries; is_complete = is_complete }
+
+abbrev pub row_of : Command → Row
+row_of Check = row (codes "check") [] nothing
+row_of the.List = row (codes "list") [] nothing
+row_of Stats = row (codes "stats") [] nothing
+row_of Dump = row (codes "dump") (entry (is (codes "decimals")) (is_between 0 18) ∷ []) nothing
+row_of Filter = row (codes "filter") (entry is_key is_key_value ∷ []) has_some
+row_of Split = row (codes "split") (entry (is (codes "out")) is_not_empty ∷ []) (has_name (codes "out"))
+row_of Set = row (codes "set") (entry is_key_to_set is_key_value ∷ []) has_some
+row_of Repack = row (codes "repack") target_entries has_target
+row_of Migrate =
+    row (codes "migrate") (entry (is (codes "params")) is_not_empty ∷ entry (is (codes "local")) (is (codes "keep")) ∷ [])
+    (has_name (codes "params"))
+row_of Rescan = row (codes "rescan") [] nothing
+row_of Crop = row (codes "crop") box_entries has_box
+row_of Make =
+    row (codes "make") (size_entries ++ target_entries)
+    (λ words. has_name (codes "seed") words && (has_name (codes "ni") words && (has_name (codes "nj") words && has_target words)))
+
+abbrev pub commands : List Command
+commands =
+    Check ∷ the.List ∷ Stats ∷ Dump ∷ Filter ∷ Split ∷ Set ∷ Repack ∷ Migrate ∷ Rescan ∷ Crop ∷ Make ∷ []
+
+-- the command of this name, if there is one
+abbrev pub command_named : List ℕ → Option Command
+command_named word = find (λ command. is (row_of command).name word) commands
+
+abbrev pub entries : Command → List Entry
+entries command = (row_of command).entries
+
+abbrev pub is_complete : Command → List (List ℕ) → Bool
+is_complete command words = (row_of command).is_complete words
+
 -- whether a word is read: it has a `=`, the command has its name with its value, and no earlier word has its name
 abbrev pub is_read : Command → List (List ℕ) → List ℕ → Bool
 is_read command earlier word =
@@ -111,23 +175,6 @@ abbrev pub read_count : Command → List (List ℕ) → List (List ℕ) → ℕ
 read_count command earlier [] = length earlier
 read_count command earlier (word ∷ later) =
     cond (is_read command earlier word) (read_count command (earlier ++ word ∷ []) later) (length earlier)
-
--- `to` is there; `order` is there beside `to=3`, and not otherwise
-abbrev pub has_target : List (List ℕ) → Bool
-has_target words =
-    has_name (codes "to") words
-    && cond (has_word (codes "to=3") words) (has_name (codes "order") words) (not (has_name (codes "order") words))
-
--- whether the names that a command needs are there; `check`, `list` and `dump` need none
-abbrev pub is_complete : Command → List (List ℕ) → Bool
-is_complete Filter words = nat_lt 0 (length words)
-is_complete Set words = nat_lt 0 (length words)
-is_complete Split words = has_name (codes "out") words
-is_complete Repack words = has_target words
-is_complete Migrate words = has_name (codes "params") words
-is_complete Make words =
-    has_name (codes "seed") words && (has_name (codes "ni") words && (has_name (codes "nj") words && has_target words))
-is_complete _ words = true
 
 -- the command that the words behind it complete, or the place of the first word that is not read: all of
 -- them are read where a name that is needed is missing, and the place is then the number of words

@@ -2,14 +2,15 @@
 
 ghost use Rattle.std.specs.Prelude.{◌≡◌, ◌≢◌, ◌<◌, ◌⊎◌, true, false, map, string_bytes, [], IfOk, IfErr, MatchResult};
 ghost use Rattle.std.specs.Io.KnownBytes.{Appends, Keeps};
+ghost use Rattle.grib_io.specs.Shelves.{Stays};
 ghost use Rattle.grib_stream.specs.Acts.{world};
 ghost use Rattle.grib_stream.specs.Faults.{faults, CountsRun};
 ghost use Rattle.grib_stream.specs.Outcomes.{is_cut_short};
-ghost use Rattle.grib_stream.specs.declared.outcome.Outcome.TheVariants.{Done, WriteFault, ShelfFault, Memory};
+ghost use Rattle.grib_stream.specs.declared.outcome.Outcome.TheVariants.{Done, ReadFault, WriteFault, ShelfFault, Memory};
 ghost use Rattle.grib_engine.specs.Closing.{Unfinished};
-ghost use Rattle.grib_engine.specs.Jobs.{makes, uses_shelf};
 ghost use Rattle.grib_engine.specs.Outcomes.{note_of, NotesFront};
-ghost use Rattle.grib_engine.specs.Serving.{RunsJob, NotesJob, NotesJobFront};
+ghost use Rattle.grib_engine.specs.Serving.{RunsJob, NotesJob, NotesJobFront, RefusedJob};
+ghost use Rattle.grib_engine.specs.Tasks.{makes, reads_table, uses_shelf};
 ghost use Rattle.grib_cli.specs.Words as asked;
 
 use crate::words::{JobFault, job_of};
@@ -18,8 +19,9 @@ use grib_io::{Shelf, Sink, Source};
 use std::alloc::Global;
 
 /// Does what the words ask for with the messages of `input`, or without it: writes the answer to `output`
-/// and notes how the run ended. The answer is a function of the words and the input alone; it does not
-/// depend on how the input comes in pieces. `split` alone uses the shelf.
+/// and notes how the run ended. The answer is a function of the words, the input and, for `migrate`, the table
+/// that stands on the shelf; it does not depend on how the input comes in pieces. `split` and `migrate` alone use
+/// the shelf, and `migrate` changes nothing of it.
 pub fn run<S: Source, T: Sink, N: Sink, H: Shelf>(
     alloc: Global,
     words: &[String],
@@ -41,10 +43,10 @@ pub fn run<S: Source, T: Sink, N: Sink, H: Shelf>(
 
     // The notes, and the end of the run.
     ensures noted { is_cut_short result ≡ false → MatchResult (asked.job_of (map string_bytes words.now))
-        (λ job. NotesJob job (S.left input.old) result (N.contents notes.old) (N.contents notes.new))
+        (λ job. NotesJob job (H.contents shelf.old) (S.left input.old) result (N.contents notes.old) (N.contents notes.new))
         (λ fault. Appends (N.contents notes.old) (N.contents notes.new) (note_of result)) }
     ensures noted_front { MatchResult (asked.job_of (map string_bytes words.now))
-        (λ job. NotesJobFront job (S.left input.old)
+        (λ job. NotesJobFront job (H.contents shelf.old) (S.left input.old)
         (S.faults input.old) (S.faults input.new) (H.faults shelf.old) (H.faults shelf.new)
         (N.contents notes.old) (N.contents notes.new))
         (λ fault. NotesFront (N.contents notes.old) (N.contents notes.new) [] (asked.outcome_of fault)) }
@@ -59,6 +61,10 @@ pub fn run<S: Source, T: Sink, N: Sink, H: Shelf>(
     ensures shelf { MatchResult (asked.job_of (map string_bytes words.now))
         (λ job. uses_shelf job ≡ false → shelf.new ≡ shelf.old)
         (λ fault. shelf.new ≡ shelf.old) }
+    ensures refused_input { IfOk (asked.job_of (map string_bytes words.now)) (λ job.
+        RefusedJob job (H.contents shelf.old) ((input.new ≡ input.old) × (result ≢ ReadFault))) }
+    ensures shelf_kept { IfOk (asked.job_of (map string_bytes words.now)) (λ job.
+        reads_table job ≡ true → Stays (H.contents shelf.old) (H.contents shelf.new)) }
     ensures unshelved { IfOk (asked.job_of (map string_bytes words.now)) (λ job.
         uses_shelf job ≡ false → result ≢ ShelfFault) }
 
@@ -83,7 +89,6 @@ fn outcome_of(fault: JobFault) -> Outcome
 {
     match fault {
         JobFault::Usage(word) => Outcome::Usage(word),
-        JobFault::NotBuilt => Outcome::NotBuilt,
         JobFault::Memory => Outcome::Memory,
     }
 }

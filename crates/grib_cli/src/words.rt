@@ -3,7 +3,8 @@
 ghost use Rattle.std.specs.Prelude.{◌≡◌, ◌≤◌, [], length, map, string_bytes, IfOk};
 ghost use Rattle.grib_engine.specs.Jobs.{IsJob};
 ghost use Rattle.grib_cli.specs.Reading as grammar;
-ghost use Rattle.grib_cli.specs.Reading.{entries, size_entries, target_entries, reading};
+ghost use Rattle.grib_cli.specs.Reading.{entries, box_entries, size_entries, target_entries, reading};
+ghost use Rattle.grib_cli.specs.declared.words.command.Command.TheVariants.{Crop};
 ghost use Rattle.grib_cli.specs.Words.{IsAsked};
 ghost use Rattle.grib_cli.specs.declared.words.JobFault.TheVariants.{Memory};
 
@@ -16,7 +17,7 @@ mod command;
 pub mod laws;
 mod values;
 
-use asking::job_of_command;
+use asking::{job_of_command, number_by};
 pub use command::Command;
 use values::{is_between, key_value};
 
@@ -26,8 +27,6 @@ pub enum JobFault {
     /// They have no reading: the place of the first word that is not read, from 0 for the command on, or
     /// the number of words where one that is needed is missing.
     Usage(u64),
-    /// They ask for a command that is not built so far.
-    NotBuilt,
     /// There is no memory.
     Memory,
 }
@@ -117,7 +116,8 @@ fn takes(command: Command, name: &str, value: &str) -> bool
     ensures { result ≡ grammar.takes (entries command) name.now value.now }
 {
     match command {
-        Command::Check | Command::List | Command::Dump => false,
+        Command::Check | Command::List | Command::Stats | Command::Rescan => false,
+        Command::Dump => name == "decimals" && is_between(value, 0, 18),
         Command::Filter => Key::of(name).is_some() && key_value(value).is_some(),
         Command::Set => is_key_to_set(name) && key_value(value).is_some(),
         Command::Split => name == "out" && !value.is_empty(),
@@ -125,6 +125,7 @@ fn takes(command: Command, name: &str, value: &str) -> bool
         Command::Migrate => {
             (name == "params" && !value.is_empty()) || (name == "local" && value == "keep")
         }
+        Command::Crop => takes_side(name, value),
         Command::Make => takes_size(name, value) || takes_target(name, value),
     }
 }
@@ -147,6 +148,13 @@ fn takes_target(name: &str, value: &str) -> bool
         || (name == "order" && matches!(value, "1" | "2"))
 }
 
+/// Whether the names of the sides of a box have a name with this value.
+fn takes_side(name: &str, value: &str) -> bool
+    ensures { result ≡ grammar.takes box_entries name.now value.now }
+{
+    matches!(name, "i0" | "i1" | "j0" | "j1") && is_between(value, 0, 33_554_431)
+}
+
 /// Whether the names of the size and the contents of a made message have a name with this value.
 fn takes_size(name: &str, value: &str) -> bool
     ensures { result ≡ grammar.takes size_entries name.now value.now }
@@ -156,16 +164,18 @@ fn takes_size(name: &str, value: &str) -> bool
         || (name == "nj" && is_between(value, 1, 4096))
 }
 
-/// Whether the names that the command needs are among the words.
+/// Whether all names that the command needs are among the words, which are read.
 fn is_complete(command: Command, words: &[String]) -> bool
+    requires { grammar.read_count command [] (map string_bytes words.now) ≡ length words.now }
     ensures { result ≡ grammar.is_complete command (map string_bytes words.now) }
 {
     match command {
-        Command::Check | Command::List | Command::Dump => true,
+        Command::Check | Command::List | Command::Stats | Command::Dump | Command::Rescan => true,
         Command::Filter | Command::Set => !words.is_empty(),
         Command::Split => has_name(words, "out"),
         Command::Repack => has_target(words),
         Command::Migrate => has_name(words, "params"),
+        Command::Crop => has_box(words),
         Command::Make => {
             has_name(words, "seed")
                 && has_name(words, "ni")
@@ -180,6 +190,26 @@ fn has_target(words: &[String]) -> bool
     ensures { result ≡ grammar.has_target (map string_bytes words.now) }
 {
     has_name(words, "to") && has_name(words, "order") == has_word(words, "to=3")
+}
+
+/// Whether all sides of a box are among the words, which are read, and the last ones are not before the
+/// first.
+fn has_box(words: &[String]) -> bool
+    requires { grammar.read_count Crop [] (map string_bytes words.now) ≡ length words.now }
+    ensures { result ≡ grammar.has_box (map string_bytes words.now) }
+{
+    if !has_sides(words) {
+        return false;
+    }
+    number_by(words, "i0") <= number_by(words, "i1")
+        && number_by(words, "j0") <= number_by(words, "j1")
+}
+
+/// Whether all sides of a box are among the words.
+fn has_sides(words: &[String]) -> bool
+    ensures { result ≡ grammar.has_sides (map string_bytes words.now) }
+{
+    has_name(words, "i0") && has_name(words, "i1") && has_name(words, "j0") && has_name(words, "j1")
 }
 
 /// Whether this is one of the words.

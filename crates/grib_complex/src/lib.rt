@@ -27,6 +27,4 @@ pub use grib_groups::Layout;
 pub use keeping::{Keeper, Nothing, Points};
 pub use packing::{ComplexPacking, SpatialPacking};
 pub use representation::{Complex, read_complex};
-pub use telling::Teller;
 pub use unpacking::take_values;
-pub use values::Values;

@@ -37,13 +37,8 @@ pub fn pack_complex(alloc: Global, column: &Column, kind: u8) -> Result<Packed, 
     requires { MayBePacked column.now }
     ensures { IsPacked ToComplex column.now kind result }
 {
-    let told = match plainly_told(alloc, column.points.as_slice()) {
-        Ok(told) => told,
-        Err(fault) => return Err(fault),
-    };
-    let Ok(packed) = pack_plainly(alloc, column, kind, &told.codes, told.management) else {
-        return Err(PackFault::Memory);
-    };
+    let told = plainly_told(alloc, column.points.as_slice())?;
+    let packed = pack_plainly(alloc, column, kind, &told.codes, told.management)?;
     Ok(packed)
 }
 
@@ -142,10 +137,7 @@ fn pack_constant(
         &told.differences,
         order,
         told.management,
-    );
-    let Ok(packed) = packed else {
-        return Err(PackFault::Memory);
-    };
+    )?;
     Ok(packed)
 }
 

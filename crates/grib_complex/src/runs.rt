@@ -14,14 +14,17 @@ use grib_spatial::Steady;
 
 /// Hands the point of each code of a difference on, none of whose numbers can be out of range.
 #[derive(Debug, Drop)]
-pub struct Steadily<K> {
+pub(crate) struct Steadily<K> {
     pub steady: Steady,
     pub keeper: K,
 }
 
 /// Takes the codes of a run, which are the scaled numbers themselves.
 #[inline(always)]
-pub fn keep_plainly<R: CodeRun + Drop, K: Keeper>(mut run: R, mut taker: Plain<K>) -> Plain<K>
+pub(crate) fn keep_plainly<R: CodeRun + Drop, K: Keeper>(
+    mut run: R,
+    mut taker: Plain<K>,
+) -> Plain<K>
     requires stands { R.stands run }
     requires limit { R.limit run ≤ 2 ^ 49 }
     requires room { length (R.codes run) ≤ K.room taker.keeper }
@@ -39,7 +42,7 @@ pub fn keep_plainly<R: CodeRun + Drop, K: Keeper>(mut run: R, mut taker: Plain<K
 
 /// Takes the codes of a run, which are those of differences.
 #[inline(always)]
-pub fn keep_steadily<R: CodeRun + Drop, K: Keeper>(
+pub(crate) fn keep_steadily<R: CodeRun + Drop, K: Keeper>(
     mut run: R,
     mut taker: Steadily<K>,
 ) -> Steadily<K>
@@ -79,7 +82,7 @@ impl<K: Keeper> Steadily<K> {
 
 /// The point of a code, which is the scaled number itself.
 #[inline(always)]
-pub fn plain_point(code: Code) -> Point
+pub(crate) fn plain_point(code: Code) -> Point
     requires { number_of code < 2 ^ 49 }
     ensures { result ≡ point_of Plainly code }
 {

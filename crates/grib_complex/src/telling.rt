@@ -12,7 +12,7 @@ use grib_spatial::{Running, ScaledRange};
 
 /// Tells the points of codes: a code is the scaled number itself, or that of a difference.
 #[derive(Debug, Drop)]
-pub struct Teller {
+pub(crate) struct Teller {
     running: Option<Running>,
     /// How many points were told.
     place: u64,

@@ -46,11 +46,9 @@ pub fn plainly_told(alloc: Global, points: &[Point]) -> Result<ToldCodes, PackFa
         }
     }
     let management = management(points);
-    match plain_codes(alloc, points, management) {
-        Ok(codes) => Ok(ToldCodes {
-            codes: FieldCodes::Each(codes),
-            management,
-        }),
-        Err(fault) => Err(fault),
-    }
+    let codes = plain_codes(alloc, points, management)?;
+    Ok(ToldCodes {
+        codes: FieldCodes::Each(codes),
+        management,
+    })
 }

@@ -93,20 +93,14 @@ fn take_group_values<K: Keeper + Drop>(
         × (length (group_entries s5 section7.now.octets.now) ≡ value_count s5))
         (IsReadFault (located section7.now.start (group_data_fault s5 section7.now.octets.now))) }
 {
-    let table = match read_table(alloc, complex, section7) {
-        Ok(table) => table,
-        Err(fault) => return Err(fault),
-    };
+    let table = read_table(alloc, complex, section7)?;
     if !keeper.keeps() && stays_in_range(complex, section7.octets, &table) {
         return Ok(keeper);
     }
     if complex.order == 0 {
         return Ok(take_plainly(complex, section7, table, keeper));
     }
-    match take_points(complex, section7, table, keeper) {
-        Ok(keeper) => Ok(keeper),
-        Err(fault) => Err(ReadFault::Refused(fault)),
-    }
+    Ok(take_points(complex, section7, table, keeper)?)
 }
 
 /// Hands the points of all values on, where there are no differences.

@@ -13,7 +13,7 @@ use grib_packing::Point;
 
 /// Tells the point of each code, and hands it on.
 #[derive(Debug, Drop)]
-pub struct Values<K> {
+pub(crate) struct Values<K> {
     pub teller: Teller,
     pub keeper: K,
 }
@@ -76,7 +76,7 @@ impl<K: Keeper> RunTaker for Values<K> {
 
 /// Hands the point of each code on, where a code is the scaled number itself.
 #[derive(Debug, Drop)]
-pub struct Plain<K> {
+pub(crate) struct Plain<K> {
     pub keeper: K,
 }
 

@@ -1,11 +1,11 @@
 -- What is worked out for a field gives the value of each point.
-use Rattle.std.proofs.Common.{◌≡◌, ℕ, suc, ◌*◌, ◌^◌, ◌<◌, ◌≤◌, ◌⊎◌, inl, inr, true, false, Option, Some, None, IfSome, SomeIff, IsFalse, ℤ, pos, negsuc, neg_ℤ, ◌+ℤ◌, ◌*ℤ◌, ◌-ℤ◌, ◌<ℤ◌, nat_abs, refl, sym, ap, subst, ◌∙◌, arith}
+use Rattle.std.proofs.Common.{◌≡◌, ℕ, suc, ◌*◌, ◌^◌, ◌<◌, ◌≤◌, ◌⊎◌, inl, inr, true, false, Option, Some, None, IfSome, SomeIff, IsFalse, FitsSigned, ℤ, pos, negsuc, neg_ℤ, ◌+ℤ◌, ◌*ℤ◌, ◌-ℤ◌, ◌<ℤ◌, nat_abs, refl, sym, ap, subst, ◌∙◌, arith}
 use Rattle.std.proofs.Math.Nat.{mul-pos, one-le-pow}
 use Rattle.std.proofs.lemmas.Nat.{pow_pos}
 use Rattle.std.proofs.lemmas.Bool.{cases_lt}
 use Rattle.std.proofs.lemmas.Bool.Decides.{nat_tests}
 use Rattle.std.proofs.lemmas.Int.{ints, clamps}
-use Rattle.std.specs.Int.{is_negative}
+use Rattle.std.specs.Int.{w64, is_negative}
 use Rattle.grib_dyadic.specs.Reference.{Binary, two_to_difference}
 use Rattle.grib_dyadic.specs.Value.{Exact, value_of}
 use Rattle.grib_dyadic.proofs.Numbers.{times_one}
@@ -26,15 +26,18 @@ same_exponent z k most none small =
     let e : z *ℤ pos (2 ^ nat_abs k) ≡ z = ap (λ n. z *ℤ pos (2 ^ n)) none ∙ times_one z in
     rw e small
 
+pub small_number : (x : ℤ) → FitsSigned w64 x → nat_abs x ≤ 2 ^ 63
+small_number x fits = omega (arith, ints)
+
 -- R or X is the multiple of the power of two as it stands, so it is small
-pub one_small : (r : Binary) (e x shift : ℤ) → shift ≡ e -ℤ unit_of r e → nat_abs r.mantissa < 2 ^ 24 → nat_abs x ≤ 2 ^ 60 → (nat_abs (base_of r e) ≤ 2 ^ 60) ⊎ (nat_abs (x *ℤ pos (2 ^ nat_abs shift)) ≤ 2 ^ 60)
+pub one_small : (r : Binary) (e x shift : ℤ) → shift ≡ e -ℤ unit_of r e → nat_abs r.mantissa < 2 ^ 24 → nat_abs x ≤ 2 ^ 63 → (nat_abs (base_of r e) ≤ 2 ^ 63) ⊎ (nat_abs (x *ℤ pos (2 ^ nat_abs shift)) ≤ 2 ^ 63)
 one_small r e x shift is few small = elim (cases_lt (nat_abs (r.exponent -ℤ unit_of r e)) 1) [
   | inl l ↦
       let none : nat_abs (r.exponent -ℤ unit_of r e) ≡ 0 = omega arith in
-      inl (same_exponent r.mantissa (r.exponent -ℤ unit_of r e) (2 ^ 60) none (omega arith))
+      inl (same_exponent r.mantissa (r.exponent -ℤ unit_of r e) (2 ^ 63) none (omega arith))
   | inr g ↦
       let none : nat_abs shift ≡ 0 = omega (arith, ints, clamps) in
-      inr (same_exponent x shift (2 ^ 60) none small)
+      inr (same_exponent x shift (2 ^ 63) none small)
 ]
 
 negative_test : (z : ℤ) → z <ℤ pos 0 → is_negative z ≡ true

@@ -6,3 +6,7 @@ pub mod Roundings
 pub mod Factors
 pub mod Fields
 pub mod Orders
+pub mod Positions
+pub mod Summaries
+pub mod Ranges
+pub mod Mantissas

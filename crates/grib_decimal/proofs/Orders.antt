@@ -1,5 +1,5 @@
 -- The order of scaled numbers and of values.
-use Rattle.std.proofs.Common.{◌≡◌, ◌≢◌, ℕ, ◌+◌, ◌-◌, ◌*◌, ◌≤◌, inl, inr, List, length, get_or, Option, Some, None, IfSome, ℤ, pos, ◌+ℤ◌, ◌*ℤ◌, ◌≤ℤ◌, ◌<ℤ◌, ap, subst, ◌∙◌, arith}
+use Rattle.std.proofs.Common.{◌≡◌, ◌≢◌, ℕ, ◌+◌, ◌-◌, ◌*◌, ◌≤◌, inl, inr, List, length, get_or, Option, Some, None, IfSome, IfNone, ℤ, pos, ◌+ℤ◌, ◌*ℤ◌, ◌≤ℤ◌, ◌<ℤ◌, ap, subst, ◌∙◌, arith}
 use Rattle.std.proofs.Math.Nat.{mul-le-mul_right}
 use Rattle.std.proofs.lemmas.Bool.{cases_lt}
 use Rattle.std.proofs.lemmas.Int.{ints}
@@ -13,13 +13,13 @@ use Rattle.grib_packing.specs.declared.column.Point.TheVariants.{Scaled, Missing
 use Rattle.grib_decimal.specs.declared.extreme.Extremes.{Extremes}
 use Rattle.grib_decimal.specs.Bounds.{HasNoNumber, IsBound, AreExtremes, AreExtremesSoFar, BoundAllValues}
 
-times_le : (x y : ℤ) (n : ℕ) → x ≤ℤ y → (x *ℤ pos n) ≤ℤ (y *ℤ pos n)
+pub times_le : (x y : ℤ) (n : ℕ) → x ≤ℤ y → (x *ℤ pos n) ≤ℤ (y *ℤ pos n)
 times_le x y n le =
     let less : up x + down y ≤ up y + down x = omega (arith, ints) in
     let more : (up x + down y) * n ≤ (up y + down x) * n = mul-le-mul_right n less in
     omega (arith, ints, product_is x (pos n), product_is y (pos n))
 
-sum_le : (b x y : ℤ) → x ≤ℤ y → (b +ℤ x) ≤ℤ (b +ℤ y)
+pub sum_le : (b x y : ℤ) → x ≤ℤ y → (b +ℤ x) ≤ℤ (b +ℤ y)
 sum_le b x y le = omega (arith, ints)
 
 -- values rise with the scaled numbers
@@ -144,3 +144,11 @@ extremes_same points n x m low high here old = record {
 pub so_far_values : (points : List Point) (n : ℕ) (found : Option Extremes) → n ≡ length points → AreExtremesSoFar points n found → IfSome found (λ m. BoundAllValues points m)
 so_far_values points n None e is = tt
 so_far_values points n (Some m) e is = values_bound points m (rw e at is)
+
+pub so_far_none : (points : List Point) (found : Option Extremes) → AreExtremesSoFar points (length points) found → IfNone found (HasNoNumber points (length points))
+so_far_none points None is = is
+so_far_none points (Some m) is = tt
+
+pub so_far_some : (points : List Point) (found : Option Extremes) → AreExtremesSoFar points (length points) found → IfSome found (λ m. AreExtremes points (length points) m)
+so_far_some points None is = tt
+so_far_some points (Some m) is = is

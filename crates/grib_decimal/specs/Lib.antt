@@ -6,3 +6,5 @@ pub mod Divisors
 pub mod Parts
 pub mod Rounded
 pub mod Bounds
+pub mod Summary
+pub mod Range

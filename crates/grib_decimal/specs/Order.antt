@@ -1,5 +1,5 @@
 -- The order of the values of points.
-use Rattle.std.specs.Prelude.{ℤ, pos, neg_ℤ, ◌≤ℤ◌}
+use Rattle.std.specs.Prelude.{pos, neg_ℤ, ◌≤ℤ◌}
 use Rattle.std.specs.Int.{int_max}
 use Rattle.grib_dyadic.specs.Value.{Exact, scaled_up}
 

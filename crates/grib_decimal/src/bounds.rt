@@ -6,7 +6,8 @@ ghost use Rattle.grib_packing.specs.declared.column.Point.TheVariants.{Scaled, M
 ghost use Rattle.grib_decimal.specs.Bounds.{HasNoNumber, AreExtremes, AreExtremesSoFar, BoundAllValues};
 
 use crate::extreme::Extremes;
-use grib_packing::{Column, Point};
+use crate::summing::summary;
+use grib_packing::Column;
 
 /// The least and the greatest scaled number of the field, and so of its values, which rise with the scaled numbers.
 /// There are none where each point is missing. It takes no memory.
@@ -16,19 +17,12 @@ pub fn extremes(column: &Column) -> Option<Extremes>
     ensures some { IfSome result (λ m. AreExtremes column.now.points (length column.now.points) m) }
     ensures values { IfSome result (λ m. BoundAllValues column.now.points m) }
 {
-    let points = column.points.as_slice();
-    let mut found = None;
-    for index in 0..points.len() {
-        if let Point::Scaled(number) = points[index] {
-            found = Some(with(found, number, index as u32 + 1));
-        }
-    }
-    found
+    summary(column).extremes
 }
 
 /// The extremes with one more number, at this place.
 #[inline]
-fn with(found: Option<Extremes>, number: i64, place: u32) -> Extremes
+pub(crate) fn with(found: Option<Extremes>, number: i64, place: u32) -> Extremes
     ensures { (points : List point) (n : ℕ) → n + 1 ≡ place → get_or points n Missing ≡ Scaled number
         → AreExtremesSoFar points n found → AreExtremes points (n + 1) result }
 {

@@ -10,13 +10,16 @@ mod numerators;
 mod power;
 mod prepared;
 mod quick;
+mod range;
 mod rounded;
 mod rounding;
 mod scale;
+mod summing;
 mod text;
 mod wide;
 
 pub use bounds::extremes;
-pub use extreme::Extremes;
+pub use extreme::{Extremes, Summary};
 pub use fault::DecimalFault;
 pub use scale::{DecimalScale, decimal_text};
+pub use summing::summary;

@@ -78,7 +78,6 @@ impl DecimalScale {
     /// memory only where the `Vec` has no room. Where there is none, or the value is too large, it appends nothing.
     #[inline]
     pub fn append(&self, text: &mut Vec<u8>, x: i64) -> Result<(), DecimalFault>
-        requires { nat_abs x ≤ 2 ^ 60 }
         ensures appended { OnOk result
             (text.new.items ≡ text.old.items ++ text_of (value_at self.now x) self.now.places) }
         ensures unchanged { OnErr result (text.new.items ≡ text.old.items) }
@@ -96,10 +95,16 @@ impl DecimalScale {
         }
     }
 
+    /// Whether the value of the point with the scaled number X is too large for a text.
+    pub(crate) fn is_too_large(&self, x: i64) -> bool
+        ensures { result ≡ is_too_large (value_at self.now x) self.now.places }
+    {
+        self.rounded(x).is_none()
+    }
+
     /// The value of the point with the scaled number X times `10 ^ places`, rounded, unless it is too large.
     #[inline]
     fn rounded(&self, x: i64) -> Option<Rounded>
-        requires { nat_abs x ≤ 2 ^ 60 }
         ensures { IsRounding (value_at self.now x) self.now.places result }
     {
         if let Some(quick) = &self.quick
@@ -122,7 +127,6 @@ pub fn decimal_text(
     places: u32,
 ) -> Result<Vec<u8>, DecimalFault>
     requires mantissa { nat_abs reference.now.mantissa < 2 ^ 24 }
-    requires number { nat_abs x ≤ 2 ^ 60 }
     requires places { places ≤ 18 }
     ensures text { IfOk result (λ text. text.items
         ≡ text_of (value_of reference.now (signed (bits_of 16 e)) (signed (bits_of 16 d)) x) places) }

@@ -14,7 +14,7 @@ use crate::rounding::nearest_wide;
 pub(crate) fn number(base: Option<i128>, shift: i64, x: i64) -> Option<i128>
     requires { pos 0 ≤ℤ shift }
     ensures { (b : ℤ) → IsKnown 127 base b
-        → (nat_abs b ≤ 2 ^ 60) ⊎ (nat_abs (x *ℤ pos (2 ^ nat_abs shift)) ≤ 2 ^ 60)
+        → (nat_abs b ≤ 2 ^ 63) ⊎ (nat_abs (x *ℤ pos (2 ^ nat_abs shift)) ≤ 2 ^ 63)
         → IsKnown 126 result (b +ℤ (x *ℤ pos (2 ^ nat_abs shift))) }
 {
     base?.checked_add(shifted(x, shift)?)

@@ -21,16 +21,19 @@ use Rattle.grib_keys.specs.declared.condition.Condition.{Condition}
 use Rattle.grib_select.specs.Changed.{IsSetFault, set_fault, with_keys}
 use Rattle.grib_select.specs.declared.changing.SetFault.{SetFault}
 use Rattle.grib_select.specs.declared.changing.SetFault.TheVariants as unset
-use Rattle.grib_engine.specs.declared.answering.Answered.{Answered}
-use Rattle.grib_engine.specs.declared.answering.Answered.TheVariants.{Whole, WriteFault, ShelfFault}
-use Rattle.grib_engine.specs.Answering.{Answers, AnswersMessage, AnswersByOutput, AnswersByShelf, acts_given, answered_by, answered_unset, answered_printed, answered_stopped, answered_written}
+use Rattle.grib_engine.specs.declared.answered.Answered.{Answered}
+use Rattle.grib_engine.specs.declared.answered.Answered.TheVariants.{Whole, WriteFault, ShelfFault}
+use Rattle.grib_engine.specs.Answering.{Answers, AnswersMessage, AnswersByOutput, AnswersByShelf, acts_given, answered_by, answered_unset, answered_lost, answered_printed, answered_stopped, answered_written}
 use Rattle.grib_engine.specs.Pending.{WritesTo}
-use Rattle.grib_engine.specs.Jobs.{is_target, uses_shelf}
-use Rattle.grib_engine.specs.Parts.{parts_of, puts_all, octets_within}
-use Rattle.grib_engine.specs.declared.job.Job.{Job}
-use Rattle.grib_engine.specs.declared.job.Job.TheVariants.{Check, List as Listing, Dump, Filter, Split, Set, Repack}
-use Rattle.grib_stream.specs.declared.place.Place.{Place}
-use Rattle.grib_engine.specs.Tasks.{cause_of, kept_at, filtered, given_2, given_whole, given_unless, given_set, message_text_2}
+use Rattle.grib_engine.specs.Command.{given_text, given_whole, kept_at}
+use Rattle.grib_engine.specs.Jobs.{is_target}
+use Rattle.grib_engine.specs.Repacking.{cause_of, given_unless}
+use Rattle.grib_engine.specs.Setting.{given_set}
+use Rattle.grib_causes.specs.declared.loss.Loss.{Loss}
+use Rattle.grib_migrate.specs.Answered.{IsMigrateFault}
+use Rattle.grib_migrate.specs.declared.loss.MigrateFault.{MigrateFault}
+use Rattle.grib_migrate.specs.declared.loss.MigrateFault.TheVariants as unmigrated
+use Rattle.grib_engine.specs.Migrating.{given_migrated}
 
 one_or_two : (a b : Bool) (order : ℕ) → (order == 1) ≡ a → (order == 2) ≡ b → (a || b) ≡ true → (order ≡ 1) ⊎ (order ≡ 2)
 one_or_two true b order one two h = inl (eqb-true order 1 one)
@@ -74,6 +77,16 @@ not_set faults (unset.KeyAbsent field key) result m octets a is same =
     subst (λ r. Answers r m (given_set faults m octets) a a) (sym same) (ap (λ o. given_set o m octets) is, did_none a)
 not_set faults unset.Memory result m octets a is same =
     subst (λ r. Answers r m (given_set faults m octets) a a) (sym same) (front_nothing a (acts_given (given_set faults m octets)))
+
+-- a message that is not migrated
+pub not_migrated : (losses : Option Loss) (fault : MigrateFault) (m : ℕ) (octets : List ℕ) (a : World) → IsMigrateFault losses fault
+    → Answers (answered_lost fault) m (given_migrated losses m octets) a a
+not_migrated losses (unmigrated.Lost loss) m octets a is = (ap (λ o. given_migrated o m octets) is, did_none a)
+not_migrated losses unmigrated.Memory m octets a is = front_nothing a (acts_given (given_migrated losses m octets))
+
+no_device_lost : (fault : MigrateFault) → (answered_lost fault ≢ WriteFault) × (answered_lost fault ≢ ShelfFault)
+no_device_lost (unmigrated.Lost loss) = (λ no. cc, λ no. cc)
+no_device_lost unmigrated.Memory = (λ no. cc, λ no. cc)
 
 -- no device is at fault where a message is not changed
 no_device : (fault : RepackFault) → (answered_by fault ≢ WriteFault) × (answered_by fault ≢ ShelfFault)
@@ -122,7 +135,7 @@ module _ {Sink : Type 0} (contents : Sink → Option (List ℕ)) (faults : Sink 
     unshelved = λ no. cc;
   }
 
-  printing : {T : Type 0} (result : Result T Stop) (m : ℕ) (given : Given) (text : List ℕ) (a b : Sink) → given ≡ Gives (writes text) 0
+  printing : {T : Type 0} (result : Result T Stop) (m : ℕ) (given : Given) (text : List ℕ) (a b : Sink) → given ≡ given_text text
       → WritesTo contents faults result a b text → AnswersByOutput contents faults (answered_printed result) m given a b
   printing (Ok x) m given text a b is wrote = whole 0 m given text a b is wrote.octets.whole wrote.counted
   printing (Err stop) m given text a b is wrote = cut stop m given text a b (ap acts_given is) wrote.octets.front wrote.counted
@@ -152,9 +165,23 @@ module _ {Sink : Type 0} (contents : Sink → Option (List ℕ)) (faults : Sink 
     unshelved = (no_device_set fault).1;
   }
 
+  lost : (fault : MigrateFault) (losses : Option Loss) (m : ℕ) (octets : List ℕ) (a : Sink) → IsMigrateFault losses fault
+      → AnswersByOutput contents faults (answered_lost fault) m (given_migrated losses m octets) a a
+  lost fault losses m octets a is = record {
+    answers = λ names. not_migrated losses fault m octets (world (contents a) names) is;
+    write_fault = λ no. absurd ((no_device_lost fault).0 no);
+    write_stays = λ other. refl;
+    unshelved = (no_device_lost fault).1;
+  }
+
+  -- a message is answered as what it gives says
+  pub as_given : (answered : Answered) (m : ℕ) (given own : Given) (a b : Sink) → given ≡ own → AnswersByOutput contents faults answered m own a b
+      → AnswersByOutput contents faults answered m given a b
+  as_given answered m given own a b is done = subst (λ x. AnswersByOutput contents faults answered m x a b) (sym is) done
+
   -- what comes of it, as it is answered
   pub by_printing : {T : Type 0} (result : Result T Stop) (answered : Answered) (m : ℕ) (given : Given) (text : List ℕ) (a b : Sink) → answered ≡ answered_printed result
-      → given ≡ Gives (writes text) 0 → WritesTo contents faults result a b text → AnswersByOutput contents faults answered m given a b
+      → given ≡ given_text text → WritesTo contents faults result a b text → AnswersByOutput contents faults answered m given a b
   by_printing result answered m given text a b same is wrote =
       subst (λ r. AnswersByOutput contents faults r m given a b) (sym same) (printing result m given text a b is wrote)
 
@@ -174,71 +201,36 @@ module _ {Sink : Type 0} (contents : Sink → Option (List ℕ)) (faults : Sink 
   by_set_fault fault answered found m octets a same is =
       subst (λ r. AnswersByOutput contents faults r m (given_set found m octets) a a) (sym same) (set_faulting fault found m octets a is)
 
+  pub by_loss : (fault : MigrateFault) (answered : Answered) (losses : Option Loss) (m : ℕ) (octets : List ℕ) (a : Sink) → answered ≡ answered_lost fault
+      → IsMigrateFault losses fault → AnswersByOutput contents faults answered m (given_migrated losses m octets) a a
+  by_loss fault answered losses m octets a same is =
+      subst (λ r. AnswersByOutput contents faults r m (given_migrated losses m octets) a a) (sym same) (lost fault losses m octets a is)
+
   -- and the shelf as it was
-  pub by_output : {Shelf : Type 0} (names : Shelf → Option Held) (shelf_faults : Shelf → ℕ) (result : Answered) (m : ℕ) (given own : Given) (shelved : Bool) (a b : Sink) (shelf : Shelf)
-      → given ≡ own → (shelved ≡ true → b ≡ a) → AnswersByOutput contents faults result m own a b
+  pub by_output : {Shelf : Type 0} (names : Shelf → Option Held) (shelf_faults : Shelf → ℕ) (result : Answered) (m : ℕ) (given : Given) (shelved : Bool) (a b : Sink) (shelf : Shelf)
+      → shelved ≡ false → AnswersByOutput contents faults result m given a b
       → AnswersMessage contents faults names shelf_faults result m given shelved a b shelf shelf
-  by_output names shelf_faults result m given own shelved a b shelf is kept_output done = record {
-    answers = subst (λ x. Answers result m x (world (contents a) (names shelf)) (world (contents b) (names shelf))) (sym is) (done.answers (names shelf));
+  by_output names shelf_faults result m given shelved a b shelf off done = record {
+    answers = done.answers (names shelf);
     write_fault = done.write_fault;
     write_stays = done.write_stays;
     shelf_fault = λ no. absurd (done.unshelved no);
     shelf_stays = λ other. refl;
     shelf_kept = λ off. refl;
     unshelved = λ off. done.unshelved;
-    output_kept = kept_output;
+    output_kept = λ on. absurd (false≢true (sym off ∙ on));
   }
 
   -- or the output as it was
-  pub by_shelf : {Shelf : Type 0} (names : Shelf → Option Held) (shelf_faults : Shelf → ℕ) (result : Answered) (m : ℕ) (given own : Given) (shelved : Bool) (output : Sink) (a b : Shelf)
-      → given ≡ own → shelved ≡ true → AnswersByShelf names shelf_faults result m own a b
-      → AnswersMessage contents faults names shelf_faults result m given shelved output output a b
-  by_shelf names shelf_faults result m given own shelved output a b is on done = record {
-    answers = subst (λ x. Answers result m x (world (contents output) (names a)) (world (contents output) (names b))) (sym is) (done.answers (contents output));
+  pub by_shelf : {Shelf : Type 0} (names : Shelf → Option Held) (shelf_faults : Shelf → ℕ) (result : Answered) (m : ℕ) (given : Given) (output : Sink) (a b : Shelf)
+      → AnswersByShelf names shelf_faults result m given a b → AnswersMessage contents faults names shelf_faults result m given true output output a b
+  by_shelf names shelf_faults result m given output a b done = record {
+    answers = done.answers (contents output);
     write_fault = λ no. absurd (done.unwritten no);
     write_stays = λ other. refl;
     shelf_fault = done.shelf_fault;
     shelf_stays = done.shelf_stays;
-    shelf_kept = λ off. absurd (false≢true (sym off ∙ on));
-    unshelved = λ off. absurd (false≢true (sym off ∙ on));
+    shelf_kept = λ off. absurd (false≢true (sym off));
+    unshelved = λ off. absurd (false≢true (sym off));
     output_kept = λ _. refl;
   }
-
--- ---- what each job gives for a message of edition 2, and whether it uses the shelf
-
-pub at_no_shelf : {A : Type 0} (shelved : Bool) → shelved ≡ false → shelved ≡ true → A
-at_no_shelf shelved off on = absurd (false≢true (sym off ∙ on))
-
-module _ (job : Job) (place : Place) (message : List ℕ) where
-  -- its text is printed
-  abbrev pub Prints : Job → Type 0
-  Prints j = (given_2 j place message ≡ Gives (writes (message_text_2 j place message)) 0) × (uses_shelf j ≡ false)
-
-  pub prints_check : job ≡ Check → Prints job
-  prints_check is = subst Prints (sym is) (refl, refl)
-
-  pub prints_list : job ≡ Listing → Prints job
-  prints_list is = subst Prints (sym is) (refl, refl)
-
-  pub prints_dump : job ≡ Dump → Prints job
-  prints_dump is = subst Prints (sym is) (refl, refl)
-
-  pub filters : (conditions shown : List Condition) → job ≡ Filter conditions → shown ≡ conditions
-      → (given_2 job place message ≡ given_whole (filtered shown message)) × (uses_shelf job ≡ false)
-  filters conditions shown is same =
-      (ap (λ j. given_2 j place message) is ∙ ap (λ cs. given_whole (filtered cs message)) (sym same), ap uses_shelf is)
-
-  pub sets : (changes shown : List Condition) → job ≡ Set changes → shown ≡ changes
-      → (given_2 job place message ≡ given_set (set_fault message shown) place.message (with_keys message shown)) × (uses_shelf job ≡ false)
-  sets changes shown is same =
-      (ap (λ j. given_2 j place message) is ∙ ap (λ cs. given_set (set_fault message cs) place.message (with_keys message cs)) (sym same), ap uses_shelf is)
-
-  pub repacks : (target : RepackTarget) → job ≡ Repack target
-      → (given_2 job place message ≡ given_unless (repack_misfit (target_of target) message) place.message (repacked (target_of target) message))
-      × (uses_shelf job ≡ false)
-  repacks target is = (ap (λ j. given_2 j place message) is, ap uses_shelf is)
-
-  pub splits : (name : List ℕ) → job ≡ Split name
-      → (given_2 job place message ≡ Gives (puts_all (parts_of name place.fields message)) (octets_within (parts_of name place.fields message)))
-      × (uses_shelf job ≡ true)
-  splits name is = (ap (λ j. given_2 j place message) is, ap uses_shelf is)

@@ -1,5 +1,5 @@
 -- What is given of a message that was read, by its edition.
-use Rattle.std.proofs.Common.{◌≡◌, ℕ, ◌==◌, true, List, length, take, refl, sym, ap, ◌∙◌, subst}
+use Rattle.std.proofs.Common.{◌≡◌, ℕ, ◌==◌, true, List, [], length, take, refl, sym, ap, ◌∙◌, subst}
 use Rattle.std.proofs.Common.{Ok, Err, MatchResult}
 use Rattle.std.specs.Result.{IsErrAnd}
 use Rattle.std.specs.declared.result.Result.{Result}
@@ -15,28 +15,28 @@ use Rattle.grib2_message.specs.Fields.{field_count}
 use Rattle.grib_stream.specs.declared.place.Place.{Place}
 use Rattle.grib_stream.specs.declared.outcome.Outcome.{Outcome}
 use Rattle.grib_stream.specs.Acts.{World, DidFront}
+use Rattle.grib_stream.proofs.Worlds.{did_none}
 use Rattle.grib_stream.specs.Outcomes.{is_cut_within}
 use Rattle.grib_stream.specs.Performed.{EndsWith}
-use Rattle.grib_stream.specs.Task.{Given, Gives, Ends, next_given, next_judged, next_of, acts_of}
-use Rattle.grib_engine.specs.declared.job.Job.{Job}
+use Rattle.grib_stream.specs.Task.{Given, Gives, Ends, Next, next_given, next_judged, next_of, acts_of}
 use Rattle.grib_engine.specs.declared.reading.Held.{Held}
 use Rattle.grib_engine.specs.declared.reading.Held.TheVariants.{One, Two}
 use Rattle.grib_engine.specs.Answering.{acts_given}
-use Rattle.grib_engine.specs.EditionOne.{given_1}
+use Rattle.grib_engine.specs.Command.{Command, given, task}
+use Rattle.grib_engine.specs.Judging.{judged, fields_of}
 use Rattle.grib_engine.specs.Reading.{held_octets, Holds, IsUnread}
-use Rattle.grib_engine.specs.Tasks.{judged, fields_of, given_2, given, task}
 
-pub given_of_first : (job : Job) (place : Place) (held : Held) (message : List ℕ) → held ≡ One message → edition message ≡ 1
-    → given job place (held_octets held) ≡ given_1 job place message
-given_of_first job place held message is first =
-    ap (λ h. given job place (held_octets h)) is
-    ∙ ap (λ e. choose (e == 1) (λ _. given_1 job place message) (λ _. given_2 job place message)) first
+pub given_of_first : (command : Command) (place : Place) (held : Held) (message : List ℕ) → held ≡ One message → edition message ≡ 1
+    → given command place (held_octets held) ≡ command.first place message
+given_of_first command place held message is first =
+    ap (λ h. given command place (held_octets h)) is
+    ∙ ap (λ e. choose (e == 1) (λ _. command.first place message) (λ _. command.second place message)) first
 
-pub given_of_second : (job : Job) (place : Place) (held : Held) (message : List ℕ) → held ≡ Two message → edition message ≡ 2
-    → given job place (held_octets held) ≡ given_2 job place message
-given_of_second job place held message is second =
-    ap (λ h. given job place (held_octets h)) is
-    ∙ ap (λ e. choose (e == 1) (λ _. given_1 job place message) (λ _. given_2 job place message)) second
+pub given_of_second : (command : Command) (place : Place) (held : Held) (message : List ℕ) → held ≡ Two message → edition message ≡ 2
+    → given command place (held_octets held) ≡ command.second place message
+given_of_second command place held message is second =
+    ap (λ h. given command place (held_octets h)) is
+    ∙ ap (λ e. choose (e == 1) (λ _. command.first place message) (λ _. command.second place message)) second
 
 pub fields_first : (held : Held) (message : List ℕ) → held ≡ One message → edition message ≡ 1 → fields_of (held_octets held) ≡ 1
 fields_first held message is first =
@@ -79,17 +79,24 @@ acts_same : (given : Given) (total fields : ℕ) → acts_of (next_given given t
 acts_same (Gives acts written) total fields = refl
 acts_same (Ends outcome) total fields = refl
 
-acts_next : (job : Job) (place : Place) (octets : List ℕ) (held : Held) → Holds octets held
-    → acts_of (next_of (task job) place octets) ≡ acts_given (given job place (held_octets held))
-acts_next job place octets held holds =
+acts_next : (command : Command) (place : Place) (octets : List ℕ) (held : Held) → Holds octets held
+    → acts_of (next_of (task command) place octets) ≡ acts_given (given command place (held_octets held))
+acts_next command place octets held holds =
     let n = length (held_octets held) in
-    ap (λ j. acts_of (next_judged j (λ total. next_given (given job place (take total octets)) total (fields_of (take total octets))))) holds.judged
-    ∙ (acts_same (given job place (take n octets)) n (fields_of (take n octets)) ∙ ap (λ m. acts_given (given job place m)) (sym holds.message))
+    ap (λ j. acts_of (next_judged j (λ total. next_given (given command place (take total octets)) total (fields_of (take total octets))))) holds.judged
+    ∙ (acts_same (given command place (take n octets)) n (fields_of (take n octets)) ∙ ap (λ m. acts_given (given command place m)) (sym holds.message))
+
+-- nothing was done, and the run ended
+pub ends_unread : (next : Next) (outcome : Outcome) (a : World) → is_cut_within outcome ≡ true → EndsWith next outcome a a
+ends_unread next outcome a cut = record {
+  stopped = λ whole. absurd (false≢true (sym whole ∙ cut));
+  cut = λ _. ([], acts_of next, refl, did_none a);
+}
 
 -- a front of what a message gives was done, and then the run ended
-pub ends_within : (job : Job) (place : Place) (octets : List ℕ) (held : Held) (outcome : Outcome) (a b : World) → is_cut_within outcome ≡ true → Holds octets held
-    → DidFront a b (acts_given (given job place (held_octets held))) → EndsWith (next_of (task job) place octets) outcome a b
-ends_within job place octets held outcome a b cut holds front = record {
+pub ends_within : (command : Command) (place : Place) (octets : List ℕ) (held : Held) (outcome : Outcome) (a b : World) → is_cut_within outcome ≡ true → Holds octets held
+    → DidFront a b (acts_given (given command place (held_octets held))) → EndsWith (next_of (task command) place octets) outcome a b
+ends_within command place octets held outcome a b cut holds front = record {
   stopped = λ whole. absurd (false≢true (sym whole ∙ cut));
-  cut = λ _. subst (DidFront a b) (sym (acts_next job place octets held holds)) front;
+  cut = λ _. subst (DidFront a b) (sym (acts_next command place octets held holds)) front;
 }

@@ -14,7 +14,8 @@ use Rattle.grib_select.specs.Values.{fulfils_all}
 use Rattle.grib_select.specs.Single.{single_of}
 use Rattle.grib2_message.specs.Fields.{field_count}
 use Rattle.grib_engine.specs.Pending.{Writes}
-use Rattle.grib_engine.specs.Tasks.{texts_from, all_fulfil, single_if, filtered}
+use Rattle.grib_engine.specs.Command.{texts_from}
+use Rattle.grib_engine.specs.Filtering.{all_fulfil, single_if, filtered}
 use Rattle.grib_engine.proofs.Outside.{front_more}
 use Rattle.grib_engine.proofs.Pending.{texts_more, texts_join}
 

@@ -9,29 +9,31 @@ use Rattle.grib_packing.specs.Misfits.{Target}
 use Rattle.grib_packing.specs.Written.{IsTarget}
 use Rattle.grib2_sections.specs.Head.{edition}
 use Rattle.grib2_sections.specs.Verdict.{Accepted}
+use Rattle.grib1_sections.specs.Message.{IsMessage1}
 use Rattle.grib2_message.specs.Message.{IsMessage}
 use Rattle.grib_repack.specs.declared.target.RepackTarget.{RepackTarget}
 use Rattle.grib_repack.specs.Faults.{target_of}
 use Rattle.grib_repack.specs.Repacked.{RepackMisfit, MayBeRepacked, repacked, repack_misfit}
 use Rattle.grib_stream.specs.Acts.{Act, Writes, Makes, Adds, writes, written}
 use Rattle.grib_stream.specs.Outcomes.{is_open}
-use Rattle.grib_stream.specs.Stream.{begins, Judgement, Message, Faulty, Unbuilt, Found, End, Over, Refusing, NotRead, stream_from, stream, on_judgement, followed_by, message_after}
+use Rattle.grib_stream.specs.Stream.{begins, Judgement, Message, Faulty, Found, End, Over, Refusing, stream_from, stream, on_judgement, followed_by, message_after}
 use Rattle.grib_stream.specs.declared.place.Place.{Place}
 use Rattle.grib_stream.specs.Task.{Task}
 use Rattle.grib_stream.specs.Answer.{Answer, after, on_given, answers, on_end, place_of, at_limit, answer_of, answer_within}
 use Rattle.grib_stream.proofs.Exits.{within_short, within_long, closed_at_limit, open_at_limit}
 use Rattle.grib_stream.proofs.Streams.{stream_skip, stream_begun}
-use Rattle.grib_engine.specs.declared.job.Job.TheVariants.{Repack}
-use Rattle.grib_engine.specs.EditionOne.{given_1}
-use Rattle.grib_engine.specs.Lawful.{IsFirst, IsOther, message_judged, least_message, there_message, edition_alone, message_alone}
+use Rattle.grib_engine.specs.Command.{kept_first, task}
+use Rattle.grib_engine.specs.Judging.{judge}
+use Rattle.grib_engine.specs.Lawful.{IsFirst, IsOther, message_judged, least_message, there_message, edition_alone, message_alone, first_alone_message}
 use Rattle.grib_engine.specs.Same.{SameValues, AllSame, kept_then, before_kept}
-use Rattle.grib_engine.specs.Tasks.{judge, given_unless, given_2, task}
+use Rattle.grib_engine.specs.Repacking.{given_unless, repack_command}
 
 -- ---- the messages of an input
 
 -- accepted, where it is not of edition 1
 pub record IsFound (found : Found) : Type 0 where
   pub accepted : (edition found.octets == 1) ≡ false → IsMessage found.octets
+  pub first : (edition found.octets == 1) ≡ true → IsMessage1 found.octets
   pub are_octets : All (λ octet. octet < 256) found.octets
 
 pub alone_other : (rest : List ℕ) (total : ℕ) → begins rest ≡ true → judge rest ≡ Message total → (edition (take total rest) == 1) ≡ false → IsMessage (take total rest)
@@ -43,16 +45,24 @@ alone_other rest total begun is not_one =
     (λ (m : IsOther rest (Accepted total)). message_alone rest total begun m)
     (message_judged rest total is)
 
+alone_first : (rest : List ℕ) (total : ℕ) → begins rest ≡ true → judge rest ≡ Message total → (edition (take total rest) == 1) ≡ true → IsMessage1 (take total rest)
+alone_first rest total begun is one =
+    let least = least_message rest total is in
+    let same = ap (λ n. n == 1) (edition_alone rest total (omega arith) (there_message rest total is)) in
+    ⊎_elim
+    (λ (m : IsFirst rest (Accepted total)). first_alone_message rest total begun m)
+    (λ (m : IsOther rest (Accepted total)). absurd (false≢true (sym m.other_edition ∙ (sym same ∙ one))))
+    (message_judged rest total is)
+
 found_judged : (place skipped octet : ℕ) (octets : List ℕ) (j : Judgement) → All (λ o. o < 256) (octet ∷ octets) → begins (octet ∷ octets) ≡ true → judge (octet ∷ octets) ≡ j
     → ((inside : ℕ) → All IsFound (stream_from judge inside (place + 1) skipped octets).messages)
     → All IsFound (on_judgement j (λ total. followed_by (message_after place (take total (octet ∷ octets))) (stream_from judge (total - 1) (place + 1) skipped octets))).messages
 found_judged place skipped octet octets (Message total) small begun is later =
     All-cons IsFound (message_after place (take total (octet ∷ octets))) (stream_from judge (total - 1) (place + 1) skipped octets).messages
-    (record { accepted = alone_other (octet ∷ octets) total begun is; are_octets = All-take (λ o. o < 256) total (octet ∷ octets) small }) (later (total - 1))
+    (record { accepted = alone_other (octet ∷ octets) total begun is; first = alone_first (octet ∷ octets) total begun is; are_octets = All-take (λ o. o < 256) total (octet ∷ octets) small }) (later (total - 1))
 found_judged place skipped octet octets (Faulty fault) small begun is later = All-nil IsFound
-found_judged place skipped octet octets Unbuilt small begun is later = All-nil IsFound
 
-found_all : (inside place skipped : ℕ) (octets : List ℕ) → All (λ o. o < 256) octets → All IsFound (stream_from judge inside place skipped octets).messages
+pub found_all : (inside place skipped : ℕ) (octets : List ℕ) → All (λ o. o < 256) octets → All IsFound (stream_from judge inside place skipped octets).messages
 found_all zero place skipped [] small = All-nil IsFound
 found_all (suc inside) place skipped [] small = All-nil IsFound
 found_all (suc inside) place skipped (octet ∷ octets) small = found_all inside (place + 1) skipped octets (All-tail (λ o. o < 256) octet octets small)
@@ -67,13 +77,13 @@ found_all zero place skipped (octet ∷ octets) small =
 
 -- ---- what is written
 
-written_join : (xs ys : List Act) → written (xs ++ ys) ≡ written xs ++ written ys
+pub written_join : (xs ys : List Act) → written (xs ++ ys) ≡ written xs ++ written ys
 written_join [] ys = refl
 written_join (Writes octet ∷ xs) ys = ap (λ octets. octet ∷ octets) (written_join xs ys)
 written_join (Makes name ∷ xs) ys = written_join xs ys
 written_join (Adds name octet ∷ xs) ys = written_join xs ys
 
-written_of : (octets : List ℕ) → written (writes octets) ≡ octets
+pub written_of : (octets : List ℕ) → written (writes octets) ≡ octets
 written_of [] = refl
 written_of (octet ∷ octets) = ap (λ xs. octet ∷ xs) (written_of octets)
 
@@ -88,22 +98,21 @@ step target (Some misfit) m message t next rest goes = refl
 -- by the edition
 chosen : (target : RepackTarget) (b : Bool) (place : Place) (message : List ℕ) (t : Task) (next : List Act → ℕ → Answer) (rest : List (List ℕ))
     → ((acts : List Act) (more : ℕ) → written (next acts more).acts ≡ written acts ++ concat (map (repacked (target_of target)) rest))
-    → written (on_given t (choose b (λ _. given_1 (Repack target) place message) (λ _. given_2 (Repack target) place message)) next).acts
+    → written (on_given t (choose b (λ _. (repack_command target).first place message) (λ _. (repack_command target).second place message)) next).acts
     ≡ concat (map (repacked (target_of target)) (choose b (λ _. []) (λ _. kept_then (repack_misfit (target_of target) message) message rest)))
 chosen target true place message t next rest goes = refl
 chosen target false place message t next rest goes =
     step (target_of target) (repack_misfit (target_of target) message) place.message message t next rest goes
 
-at_end : (target : RepackTarget) (m f w : ℕ) (end : End) → written (on_end (task (Repack target)) m f w end).acts ≡ []
+at_end : (target : RepackTarget) (m f w : ℕ) (end : End) → written (on_end (task (repack_command target)) m f w end).acts ≡ []
 at_end target m f w (Over skipped) = refl
 at_end target m f w (Refusing fault) = refl
-at_end target m f w NotRead = refl
 
 acts_are : (target : RepackTarget) (m f w : ℕ) (founds : List Found) (end : End)
-    → written (answers (task (Repack target)) m f w founds end).acts ≡ concat (map (repacked (target_of target)) (before_kept (target_of target) founds))
+    → written (answers (task (repack_command target)) m f w founds end).acts ≡ concat (map (repacked (target_of target)) (before_kept (target_of target) founds))
 acts_are target m f w [] end = at_end target m f w end
 acts_are target m f w (found ∷ later) end =
-    let t = task (Repack target) in
+    let t = task (repack_command target) in
     chosen target (edition found.octets == 1) (place_of m found.before f) found.octets t
     (λ acts more. after acts (answers t (m + 1) (f + t.fields found.octets) (w + more) later end)) (before_kept (target_of target) later)
     (λ acts more. written_join acts (answers t (m + 1) (f + t.fields found.octets) (w + more) later end).acts
@@ -120,11 +129,11 @@ within_acts t limit input =
     (cases_lt limit (length input))
 
 pub written_are : (target : RepackTarget) (input : List ℕ)
-    → written (answer_within (2 ^ 40) (task (Repack target)) input).acts
+    → written (answer_within (2 ^ 40) (task (repack_command target)) input).acts
     ≡ concat (map (repacked (target_of target)) (before_kept (target_of target) (stream judge (take (2 ^ 40) input)).messages))
 written_are target input =
     let found = stream judge (take (2 ^ 40) input) in
-    ap written (within_acts (task (Repack target)) (2 ^ 40) input) ∙ acts_are target 0 0 0 found.messages found.end
+    ap written (within_acts (task (repack_command target)) (2 ^ 40) input) ∙ acts_are target 0 0 0 found.messages found.end
 
 -- ---- equal values
 

@@ -1,8 +1,8 @@
 pub mod Outside
 pub mod Pending
 pub mod Noted
-pub mod Served
 pub mod Answers
+pub mod Edited
 pub mod Filtered
 pub mod Made
 pub mod Editions
@@ -11,3 +11,6 @@ pub mod Wanted
 pub mod Finite
 pub mod Shelved
 pub mod Standing
+pub mod Tabled
+pub mod Migrations
+pub mod Causes

@@ -4,17 +4,16 @@ use Rattle.std.specs.declared.option.Option.{Option}
 use Rattle.std.specs.Io.KnownBytes.{Appends}
 use Rattle.grib_io.specs.Outside.{AppendsFront, Counted}
 use Rattle.grib_stream.specs.declared.outcome.Outcome.{Outcome}
-use Rattle.grib_stream.specs.declared.outcome.Outcome.TheVariants.{Done, Usage, Refused, Kept, ReadFault, WriteFault, ShelfFault, Memory, InputTooLong, NotBuilt}
+use Rattle.grib_stream.specs.declared.outcome.Outcome.TheVariants.{Done, Usage, Refused, Kept, TableRefused, ReadFault, WriteFault, ShelfFault, Memory, InputTooLong, NotBuilt}
 use Rattle.grib_stream.specs.declared.place.Totals.{Totals}
 use Rattle.grib_stream.specs.Acts.{World}
 use Rattle.grib_stream.specs.Outcomes.{KeepsOrCuts, is_broken, is_cut_short}
 use Rattle.grib_stream.specs.Answer.{Answer, NotesOutcome, answer_within}
 use Rattle.grib_stream.specs.Run.{Gives, Runs, Notes}
 use Rattle.grib_stream.proofs.Notes.{notes_within}
-use Rattle.grib_engine.specs.declared.job.Job.{Job}
 use Rattle.grib_engine.specs.Closing.{ClosesRun, EndsInTurn, EndsRun, Unfinished}
 use Rattle.grib_engine.specs.Outcomes.{note_of, note_with, NotesFront, NotesEnd, Noted, NotesRun}
-use Rattle.grib_engine.specs.Tasks.{task, ending_note}
+use Rattle.grib_engine.specs.Command.{Command, task}
 use Rattle.grib_engine.proofs.Outside.{front_of_nothing}
 
 -- the end of a run answers the outcome, or a fault of writing, or Memory
@@ -76,27 +75,28 @@ module _ {Output Notes : Type 0} (contents : Output → Option (List ℕ)) (faul
 
 -- ---- the whole note
 
-whole_input : (a b : Option (List ℕ)) (left : Option (List ℕ)) (limit : ℕ) (job : Job) (totals : Totals) → Notes (task job) limit totals left
-    → Appends a b (ending_note job totals) → NotesEnd (task job) limit left Done a b
+whole_input : (a b : Option (List ℕ)) (left : Option (List ℕ)) (limit : ℕ) (job : Command) (totals : Totals) → Notes (task job) limit totals left
+    → Appends a b (job.note totals) → NotesEnd (task job) limit left Done a b
 whole_input a b None limit job totals notes appended = tt
 whole_input a b (Some input) limit job totals notes appended = subst (Appends a b) (sym notes) appended
 
 -- where the input was read to its end
-pub whole_done : (a b : Option (List ℕ)) (left : Option (List ℕ)) (limit : ℕ) (job : Job) (totals : Totals) (result : Outcome) → Notes (task job) limit totals left
-    → OneOf Done result → (is_cut_short result ≡ false → Appends a b (note_with (ending_note job totals) result)) → is_cut_short result ≡ false
+pub whole_done : (a b : Option (List ℕ)) (left : Option (List ℕ)) (limit : ℕ) (job : Command) (totals : Totals) (result : Outcome) → Notes (task job) limit totals left
+    → OneOf Done result → (is_cut_short result ≡ false → Appends a b (note_with (job.note totals) result)) → is_cut_short result ≡ false
     → NotesEnd (task job) limit left result a b
 whole_done a b left limit job totals result notes (inl same) appended uncut =
     subst (λ o. NotesEnd (task job) limit left o a b) (sym same)
-    (whole_input a b left limit job totals notes (subst (λ o. Appends a b (note_with (ending_note job totals) o)) same (appended uncut)))
+    (whole_input a b left limit job totals notes (subst (λ o. Appends a b (note_with (job.note totals) o)) same (appended uncut)))
 whole_done a b left limit job totals result notes (inr (inl fault)) appended uncut = let no : ⊥ = cc (ap is_cut_short fault) in absurd no
 whole_done a b left limit job totals result notes (inr (inr memory)) appended uncut = let no : ⊥ = cc (ap is_cut_short memory) in absurd no
 
-whole_other : (a b : Option (List ℕ)) (left : Option (List ℕ)) (limit : ℕ) (job : Job) (outcome : Outcome) (done : List ℕ) → outcome ≢ Done
+whole_other : (a b : Option (List ℕ)) (left : Option (List ℕ)) (limit : ℕ) (job : Command) (outcome : Outcome) (done : List ℕ) → outcome ≢ Done
     → Appends a b (note_with done outcome) → NotesEnd (task job) limit left outcome a b
 whole_other a b left limit job Done done other appended = absurd (other refl)
 whole_other a b left limit job (Usage word) done other appended = appended
 whole_other a b left limit job (Refused refusal) done other appended = appended
 whole_other a b left limit job (Kept kept) done other appended = appended
+whole_other a b left limit job (TableRefused refusal) done other appended = appended
 whole_other a b left limit job ReadFault done other appended = appended
 whole_other a b left limit job WriteFault done other appended = appended
 whole_other a b left limit job ShelfFault done other appended = appended
@@ -105,7 +105,7 @@ whole_other a b left limit job InputTooLong done other appended = appended
 whole_other a b left limit job NotBuilt done other appended = appended
 
 -- where it ended before
-pub whole_ended : (a b : Option (List ℕ)) (left : Option (List ℕ)) (limit : ℕ) (job : Job) (outcome result : Outcome) (done : List ℕ) → outcome ≢ Done
+pub whole_ended : (a b : Option (List ℕ)) (left : Option (List ℕ)) (limit : ℕ) (job : Command) (outcome result : Outcome) (done : List ℕ) → outcome ≢ Done
     → OneOf outcome result → (is_cut_short result ≡ false → Appends a b (note_with done result)) → is_cut_short result ≡ false
     → NotesEnd (task job) limit left result a b
 whole_ended a b left limit job outcome result done other (inl same) appended uncut =
@@ -115,24 +115,24 @@ whole_ended a b left limit job outcome result done other (inr (inr memory)) appe
 
 -- ---- a front of a note
 
-front_input : (a b : Option (List ℕ)) (left : Option (List ℕ)) (limit : ℕ) (job : Job) (totals : Totals) (faults faults_now shelf shelf_now : ℕ)
-    → Notes (task job) limit totals left → NotesFront a b (ending_note job totals) Done → NotesRun (task job) limit left faults faults_now shelf shelf_now a b
+front_input : (a b : Option (List ℕ)) (left : Option (List ℕ)) (limit : ℕ) (job : Command) (totals : Totals) (faults faults_now shelf shelf_now : ℕ)
+    → Notes (task job) limit totals left → NotesFront a b (job.note totals) Done → NotesRun (task job) limit left faults faults_now shelf shelf_now a b
 front_input a b None limit job totals faults faults_now shelf shelf_now notes noted = tt
 front_input a b (Some input) limit job totals faults faults_now shelf shelf_now notes (inl own) = record { front = inl (subst (AppendsFront a b) (sym notes) own) }
 front_input a b (Some input) limit job totals faults faults_now shelf shelf_now notes (inr memory) = record { front = inr (inr (inr memory)) }
 
 -- where the input was read to its end
-pub front_done : (a b left : Option (List ℕ)) (limit : ℕ) (job : Job) (totals : Totals) (faults faults_now shelf shelf_now : ℕ)
-    → Notes (task job) limit totals left → NotesFront a b (ending_note job totals) Done → NotesRun (task job) limit left faults faults_now shelf shelf_now a b
+pub front_done : (a b left : Option (List ℕ)) (limit : ℕ) (job : Command) (totals : Totals) (faults faults_now shelf shelf_now : ℕ)
+    → Notes (task job) limit totals left → NotesFront a b (job.note totals) Done → NotesRun (task job) limit left faults faults_now shelf shelf_now a b
 front_done a b left limit job totals faults faults_now shelf shelf_now notes noted =
     front_input a b left limit job totals faults faults_now shelf shelf_now notes noted
 
-own_note : (a b : Option (List ℕ)) (job : Job) (answer : Answer) (outcome : Outcome) → NotesOutcome (task job) answer → outcome ≢ Done → outcome ≡ answer.outcome
+own_note : (a b : Option (List ℕ)) (job : Command) (answer : Answer) (outcome : Outcome) → NotesOutcome (task job) answer → outcome ≢ Done → outcome ≡ answer.outcome
     → AppendsFront a b (note_of outcome) → AppendsFront a b answer.note
 own_note a b job answer outcome notes other same own =
     subst (AppendsFront a b) (ap note_of same ∙ sym (notes (λ is. other (same ∙ is)))) own
 
-front_other : (a b : Option (List ℕ)) (job : Job) (answer : Answer) (outcome : Outcome) (done : List ℕ) (faults faults_now shelf shelf_now : ℕ)
+front_other : (a b : Option (List ℕ)) (job : Command) (answer : Answer) (outcome : Outcome) (done : List ℕ) (faults faults_now shelf shelf_now : ℕ)
     → NotesOutcome (task job) answer → outcome ≢ Done → (is_broken outcome ≡ false → outcome ≡ answer.outcome)
     → (outcome ≡ ReadFault → Counted faults faults_now) → (outcome ≡ ShelfFault → Counted shelf shelf_now)
     → NotesFront a b done outcome → Noted a b answer.note faults faults_now shelf shelf_now
@@ -141,6 +141,7 @@ front_other a b job answer Done done f f_now s s_now notes other same read shelf
 front_other a b job answer (Usage word) done f f_now s s_now notes other same read shelf (inl own) = record { front = inl (own_note a b job answer (Usage word) notes other (same refl) own) }
 front_other a b job answer (Refused refusal) done f f_now s s_now notes other same read shelf (inl own) = record { front = inl (own_note a b job answer (Refused refusal) notes other (same refl) own) }
 front_other a b job answer (Kept kept) done f f_now s s_now notes other same read shelf (inl own) = record { front = inl (own_note a b job answer (Kept kept) notes other (same refl) own) }
+front_other a b job answer (TableRefused refusal) done f f_now s s_now notes other same read shelf (inl own) = record { front = inl (own_note a b job answer (TableRefused refusal) notes other (same refl) own) }
 front_other a b job answer InputTooLong done f f_now s s_now notes other same read shelf (inl own) = record { front = inl (own_note a b job answer InputTooLong notes other (same refl) own) }
 front_other a b job answer NotBuilt done f f_now s s_now notes other same read shelf (inl own) = record { front = inl (own_note a b job answer NotBuilt notes other (same refl) own) }
 front_other a b job answer ReadFault done f f_now s s_now notes other same read shelf (inl own) = record { front = inr (inl (own, (read refl).1)) }
@@ -148,7 +149,7 @@ front_other a b job answer ShelfFault done f f_now s s_now notes other same read
 front_other a b job answer Memory done f f_now s s_now notes other same read shelf (inl own) = record { front = inr (inr (inr own)) }
 front_other a b job answer WriteFault done f f_now s s_now notes other same read shelf (inl own) = record { front = inl (front_of_nothing a b answer.note own) }
 
-front_told : (job : Job) (limit : ℕ) (outcome : Outcome) (left a b : Option (List ℕ)) (done : List ℕ) (before now : World) (faults faults_now shelf shelf_now : ℕ)
+front_told : (job : Command) (limit : ℕ) (outcome : Outcome) (left a b : Option (List ℕ)) (done : List ℕ) (before now : World) (faults faults_now shelf shelf_now : ℕ)
     → IfSome left (λ input. Gives (answer_within limit (task job) input) outcome before now) → outcome ≢ Done
     → (outcome ≡ ReadFault → Counted faults faults_now) → (outcome ≡ ShelfFault → Counted shelf shelf_now)
     → NotesFront a b done outcome → NotesRun (task job) limit left faults faults_now shelf shelf_now a b
@@ -157,7 +158,7 @@ front_told job limit outcome (Some input) a b done before now f f_now s s_now gi
     front_other a b job (answer_within limit (task job) input) outcome done f f_now s s_now (notes_within (task job) limit input) other gives.ends read shelf noted
 
 -- where it ended before
-pub front_ended : (a b left left_now : Option (List ℕ)) (limit : ℕ) (job : Job) (outcome : Outcome) (done : List ℕ) (before now : World) (faults faults_now shelf shelf_now : ℕ)
+pub front_ended : (a b left left_now : Option (List ℕ)) (limit : ℕ) (job : Command) (outcome : Outcome) (done : List ℕ) (before now : World) (faults faults_now shelf shelf_now : ℕ)
     → Runs (task job) limit outcome left left_now before now → outcome ≢ Done
     → (outcome ≡ ReadFault → Counted faults faults_now) → (outcome ≡ ShelfFault → Counted shelf shelf_now)
     → NotesFront a b done outcome → NotesRun (task job) limit left faults faults_now shelf shelf_now a b

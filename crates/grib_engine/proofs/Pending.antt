@@ -12,15 +12,19 @@ use Rattle.grib_io.specs.Outside.{AppendsFront, CountsStop, CountsStops}
 use Rattle.grib_packing.specs.declared.column.Point.{Point}
 use Rattle.grib_bits.specs.Bits.{bits_of, signed}
 use Rattle.grib_dyadic.specs.Reference.{Binary, ieee, ibm, reduced}
-use Rattle.grib_text.specs.Lines.{point_line, point_lines, list_line, reference_line}
+use Rattle.grib_text.specs.Lines.{lines_by, point_lines, list_line, reference_line}
 use Rattle.grib_text.specs.Lines1.{list_line1}
+use Rattle.grib_text.proofs.Joined.{lines_join, lines_next}
 use Rattle.grib1_sections.specs.Column.{column1_of}
 use Rattle.grib_packing.specs.declared.column.Column.{Column}
 use Rattle.grib2_message.specs.Fields.{column_of}
-use Rattle.grib_engine.specs.Dumped.{dumped}
-use Rattle.grib_engine.specs.EditionOne.{dump_text_1}
+use Rattle.grib_engine.specs.Command.{texts_from}
+use Rattle.grib_engine.specs.Dumping.{dumped, dump_text_1, dump_text}
+use Rattle.grib_decimal.specs.Decimal.{Scale}
+use Rattle.grib_text.specs.Values.{value_lines}
+use Rattle.grib_engine.specs.Summing.{summed, stats_text, stats_text_1}
+use Rattle.grib_engine.specs.Valuing.{scale_by, valued, value_text, value_text_1}
 use Rattle.grib_engine.specs.Pending.{Writes, AppendsAllBut, WritesAllBut}
-use Rattle.grib_engine.specs.Tasks.{texts_from, dump_text}
 use Rattle.grib_engine.proofs.Outside.{front_more}
 
 -- one step after another
@@ -48,49 +52,33 @@ pending_front a b c octets pending more (first, is, appended) (front, rest, is_f
   Appends-trans a b c first front appended told_front,
 )
 
--- lines of points after one another
-pub point_lines_join : (n : ℕ) (xs ys : List Point) → point_lines n (xs ++ ys) ≡ point_lines n xs ++ point_lines (n + length xs) ys
-point_lines_join n [] ys = let e : n ≡ n + 0 = omega arith in ap (λ k. point_lines k ys) e
-point_lines_join n (x ∷ xs) ys =
-    let e : (n + 1) + length xs ≡ n + suc (length xs) = omega arith in
-    ap (λ zs. point_line n x ++ zs) (point_lines_join (n + 1) xs ys ∙ ap (λ k. point_lines (n + 1) xs ++ point_lines k ys) e)
-    ∙ sym (append_assoc (point_line n x) (point_lines (n + 1) xs) (point_lines (n + suc (length xs)) ys))
-
--- the first points and the next one
-pub point_lines_more : (xs : List Point) (i : ℕ) (x : Point) → take (i + 1) xs ≡ take i xs ++ x ∷ [] → i ≤ length xs
-    → point_lines 1 (take (i + 1) xs) ≡ point_lines 1 (take i xs) ++ point_line (i + 1) x
-point_lines_more xs i x next within =
-    let size : 1 + length (take i xs) ≡ i + 1 = omega (arith, length-take-le i xs within) in
-    ap (point_lines 1) next ∙ (point_lines_join 1 (take i xs) (x ∷ [])
-    ∙ (ap (λ k. point_lines 1 (take i xs) ++ point_lines k (x ∷ [])) size ∙ ap (λ ys. point_lines 1 (take i xs) ++ ys) (append-nil (point_line (i + 1) x))))
-
 -- the lines of a number of points, after what stood in the buffer, and the next line
-pub lines_more : (old : List ℕ) (xs : List Point) (i : ℕ) (x : Point) → take (i + 1) xs ≡ take i xs ++ x ∷ [] → i ≤ length xs
-    → (old ++ point_lines 1 (take i xs)) ++ point_line (i + 1) x ≡ old ++ point_lines 1 (take (i + 1) xs)
-lines_more old xs i x next within =
-    append_assoc old (point_lines 1 (take i xs)) (point_line (i + 1) x) ∙ ap (λ ys. old ++ ys) (sym (point_lines_more xs i x next within))
+lines_more : (line : ℕ → Point → List ℕ) (old : List ℕ) (xs : List Point) (i : ℕ) (x : Point) → take (i + 1) xs ≡ take i xs ++ x ∷ [] → i ≤ length xs
+    → (old ++ lines_by line 1 (take i xs)) ++ line (i + 1) x ≡ old ++ lines_by line 1 (take (i + 1) xs)
+lines_more line old xs i x next within =
+    append_assoc old (lines_by line 1 (take i xs)) (line (i + 1) x) ∙ ap (λ ys. old ++ ys) (sym (lines_next line xs i x next within))
 
 -- a step of the loop that wrote the line, but for the buffer
-pub line_written : (a b c : Option (List ℕ)) (old pending left : List ℕ) (xs : List Point) (i : ℕ) (x : Point) → take (i + 1) xs ≡ take i xs ++ x ∷ []
-    → i ≤ length xs → AppendsAllBut a b (old ++ point_lines 1 (take i xs)) pending → AppendsAllBut b c (pending ++ point_line (i + 1) x) left
-    → AppendsAllBut a c (old ++ point_lines 1 (take (i + 1) xs)) left
-line_written a b c old pending left xs i x next within before now =
-    subst (λ octets. AppendsAllBut a c octets left) (lines_more old xs i x next within)
-    (pending_more a b c (old ++ point_lines 1 (take i xs)) pending (point_line (i + 1) x) left before now)
+pub line_written : (line : ℕ → Point → List ℕ) (a b c : Option (List ℕ)) (old pending left : List ℕ) (xs : List Point) (i : ℕ) (x : Point)
+    → take (i + 1) xs ≡ take i xs ++ x ∷ [] → i ≤ length xs → AppendsAllBut a b (old ++ lines_by line 1 (take i xs)) pending
+    → AppendsAllBut b c (pending ++ line (i + 1) x) left → AppendsAllBut a c (old ++ lines_by line 1 (take (i + 1) xs)) left
+line_written line a b c old pending left xs i x next within before now =
+    subst (λ octets. AppendsAllBut a c octets left) (lines_more line old xs i x next within)
+    (pending_more a b c (old ++ lines_by line 1 (take i xs)) pending (line (i + 1) x) left before now)
 
 -- and one that wrote a front of it
-pub line_refused : (a b c : Option (List ℕ)) (old pending : List ℕ) (xs : List Point) (i : ℕ) (x : Point) → take (i + 1) xs ≡ take i xs ++ x ∷ []
-    → i ≤ length xs → AppendsAllBut a b (old ++ point_lines 1 (take i xs)) pending → AppendsFront b c (pending ++ point_line (i + 1) x)
-    → AppendsFront a c (old ++ point_lines 1 xs)
-line_refused a b c old pending xs i x next within before front =
-    let front : AppendsFront a c (old ++ point_lines 1 (take (i + 1) xs)) =
-    subst (AppendsFront a c) (lines_more old xs i x next within)
-    (pending_front a b c (old ++ point_lines 1 (take i xs)) pending (point_line (i + 1) x) before front) in
-    let rest : List ℕ = point_lines (1 + length (take (i + 1) xs)) (drop (i + 1) xs) in
-    let all : point_lines 1 xs ≡ point_lines 1 (take (i + 1) xs) ++ rest =
-    ap (point_lines 1) (sym (take-append-drop (i + 1) xs)) ∙ point_lines_join 1 (take (i + 1) xs) (drop (i + 1) xs) in
-    subst (AppendsFront a c) (append_assoc old (point_lines 1 (take (i + 1) xs)) rest ∙ ap (λ ys. old ++ ys) (sym all))
-    (front_more a c (old ++ point_lines 1 (take (i + 1) xs)) rest front)
+pub line_refused : (line : ℕ → Point → List ℕ) (a b c : Option (List ℕ)) (old pending : List ℕ) (xs : List Point) (i : ℕ) (x : Point)
+    → take (i + 1) xs ≡ take i xs ++ x ∷ [] → i ≤ length xs → AppendsAllBut a b (old ++ lines_by line 1 (take i xs)) pending
+    → AppendsFront b c (pending ++ line (i + 1) x) → AppendsFront a c (old ++ lines_by line 1 xs)
+line_refused line a b c old pending xs i x next within before front =
+    let front : AppendsFront a c (old ++ lines_by line 1 (take (i + 1) xs)) =
+    subst (AppendsFront a c) (lines_more line old xs i x next within)
+    (pending_front a b c (old ++ lines_by line 1 (take i xs)) pending (line (i + 1) x) before front) in
+    let rest : List ℕ = lines_by line (1 + length (take (i + 1) xs)) (drop (i + 1) xs) in
+    let all : lines_by line 1 xs ≡ lines_by line 1 (take (i + 1) xs) ++ rest =
+    ap (lines_by line 1) (sym (take-append-drop (i + 1) xs)) ∙ lines_join line 1 (take (i + 1) xs) (drop (i + 1) xs) in
+    subst (AppendsFront a c) (append_assoc old (lines_by line 1 (take (i + 1) xs)) rest ∙ ap (λ ys. old ++ ys) (sym all))
+    (front_more a c (old ++ lines_by line 1 (take (i + 1) xs)) rest front)
 
 -- and then all of what was pending, or a front of it
 pending_ends : (a b c : Option (List ℕ)) (octets pending shown : List ℕ) → AppendsAllBut a b octets pending → shown ≡ pending → Appends b c shown
@@ -211,6 +199,40 @@ pub dump_is_1 : (m : List ℕ) (number : ℕ) (column : Column) (listed : List �
 dump_is_1 m number column listed reference is_column is_listed is_reference =
     ap (λ xs. dumped xs reference column) is_listed
     ∙ (ap (λ r. dumped (list_line1 m number) r column) is_reference ∙ ap (λ x. dumped (list_line1 m number) (reduced (ibm x.reference)) x) is_column)
+
+-- and what `stats` prints
+pub sums_are : (m : List ℕ) (number i : ℕ) (column : Column) (reference : Binary) → column ≡ column_of m i → reference ≡ reduced (ieee column.reference)
+    → summed number i reference column ≡ stats_text m number i
+sums_are m number i column reference is_column is_reference =
+    ap (λ r. summed number i r column) is_reference ∙ ap (λ (x : Column). summed number i (reduced (ieee x.reference)) x) is_column
+
+pub sums_are_1 : (m : List ℕ) (number : ℕ) (column : Column) (reference : Binary) → column ≡ column1_of m → reference ≡ reduced (ibm column.reference)
+    → summed number 1 reference column ≡ stats_text_1 m number
+sums_are_1 m number column reference is_column is_reference =
+    ap (λ r. summed number 1 r column) is_reference ∙ ap (λ (x : Column). summed number 1 (reduced (ibm x.reference)) x) is_column
+
+-- and `dump decimals=`
+pub valued_is : (places : ℕ) (listed numbers : List ℕ) (reference : Binary) (column : Column) (scale : Scale) (points : List Point)
+    → numbers ≡ reference_line reference (signed (bits_of 16 column.e)) (signed (bits_of 16 column.d)) → scale ≡ scale_by places reference column → points ≡ column.points
+    → (listed ++ numbers) ++ value_lines scale 1 points ≡ valued places listed reference column
+valued_is places listed numbers reference column scale points is_numbers is_scale are_points =
+    ap (λ xs. (listed ++ xs) ++ value_lines scale 1 points) is_numbers
+    ∙ ap (λ s. (listed ++ reference_line reference (signed (bits_of 16 column.e)) (signed (bits_of 16 column.d))) ++ value_lines s 1 points) is_scale
+    ∙ ap (λ ps. (listed ++ reference_line reference (signed (bits_of 16 column.e)) (signed (bits_of 16 column.d))) ++ value_lines (scale_by places reference column) 1 ps) are_points
+
+pub values_are : (places : ℕ) (m : List ℕ) (number i : ℕ) (column : Column) (listed : List ℕ) (reference : Binary) → column ≡ column_of m i
+    → listed ≡ list_line m number i → reference ≡ reduced (ieee column.reference) → valued places listed reference column ≡ value_text places m number i
+values_are places m number i column listed reference is_column is_listed is_reference =
+    ap (λ xs. valued places xs reference column) is_listed
+    ∙ ap (λ r. valued places (list_line m number i) r column) is_reference
+    ∙ ap (λ (x : Column). valued places (list_line m number i) (reduced (ieee x.reference)) x) is_column
+
+pub values_are_1 : (places : ℕ) (m : List ℕ) (number : ℕ) (column : Column) (listed : List ℕ) (reference : Binary) → column ≡ column1_of m
+    → listed ≡ list_line1 m number → reference ≡ reduced (ibm column.reference) → valued places listed reference column ≡ value_text_1 places m number
+values_are_1 places m number column listed reference is_column is_listed is_reference =
+    ap (λ xs. valued places xs reference column) is_listed
+    ∙ ap (λ r. valued places (list_line1 m number) r column) is_reference
+    ∙ ap (λ (x : Column). valued places (list_line1 m number) (reduced (ibm x.reference)) x) is_column
 
 -- what holds of a result, after a refusal that is passed on
 pub if_refused : {T E : Type 0} (result : Result T E) (P : T → Type 0) → IsErr result → IfOk result P

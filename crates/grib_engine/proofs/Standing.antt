@@ -17,20 +17,20 @@ use Rattle.grib2_sections.specs.Head.{edition}
 use Rattle.grib2_message.specs.Fields.{field_count}
 use Rattle.grib_stream.specs.Acts.{Act, Makes, Adds, held_after, world, Did, DidFront}
 use Rattle.grib_stream.specs.Outcomes.{is_open}
-use Rattle.grib_stream.specs.Stream.{begins, Judgement, Message, Faulty, Unbuilt, Found, End, Over, Refusing, NotRead, stream_from, stream, on_judgement, followed_by, message_after}
+use Rattle.grib_stream.specs.Stream.{begins, Judgement, Message, Faulty, Found, End, Over, Refusing, stream_from, stream, on_judgement, followed_by, message_after}
 use Rattle.grib_stream.specs.declared.place.Place.{Place}
 use Rattle.grib_stream.specs.Task.{Task}
 use Rattle.grib_stream.specs.Answer.{Answer, after, on_given, answers, place_of, at_limit, answer_of, answer_within}
 use Rattle.grib_stream.proofs.Exits.{within_short, within_long, closed_at_limit, open_at_limit}
 use Rattle.grib_stream.proofs.Streams.{stream_skip, stream_begun}
 use Rattle.grib_stream.proofs.Worlds.{held-append}
-use Rattle.grib_engine.specs.declared.job.Job.TheVariants.{Split}
 use Rattle.grib_engine.specs.FieldOctets.{twenty_each}
-use Rattle.grib_engine.specs.EditionOne.{given_1}
+use Rattle.grib_engine.specs.Command.{task}
+use Rattle.grib_engine.specs.Judging.{judge, fields_of}
 use Rattle.grib_engine.specs.Lawful.{least_message, there_message, fields_other}
 use Rattle.grib_engine.specs.Parts.{Part, part, part_name, part_of, parts_of, adds, puts, puts_all, octets_within}
 use Rattle.grib_engine.specs.Standing.{parts_within, before_first, all_parts, MayBeBegun, StandFirst, StandAll}
-use Rattle.grib_engine.specs.Tasks.{judge, fields_of, given_2, task}
+use Rattle.grib_engine.specs.Splitting.{split_command}
 use Rattle.grib_engine.proofs.Keeping.{alone_other, within_acts}
 use Rattle.grib_engine.proofs.Shelved.{held_adds, other_adds, same_name, range-append}
 
@@ -250,7 +250,6 @@ few_judged place skipped octet octets (Message total) begun is later =
     let rest = later (total - 1) in
     omega (arith, least, there)
 few_judged place skipped octet octets (Faulty fault) begun is later = omega arith
-few_judged place skipped octet octets Unbuilt begun is later = omega arith
 
 few_from : (inside place skipped : ℕ) (octets : List ℕ) → fields_within (before_first (stream_from judge inside place skipped octets).messages) ≤ length octets - inside
 unfolding fields_within
@@ -277,7 +276,7 @@ distinct out input short =
 -- what is done for a message, and then for those after it
 acts_chosen : (out : List ℕ) (b : Bool) (place : Place) (found : Found) (t : Task) (next : List Act → ℕ → Answer) (rest : List Found)
     → (b ≡ false → (acts : List Act) (more : ℕ) → (next acts more).acts ≡ acts ++ puts_all (parts_within out (place.fields + field_count found.octets) rest))
-    → (on_given t (choose b (λ _. given_1 (Split out) place found.octets) (λ _. given_2 (Split out) place found.octets)) next).acts
+    → (on_given t (choose b (λ _. (split_command out).first place found.octets) (λ _. (split_command out).second place found.octets)) next).acts
     ≡ puts_all (parts_within out place.fields (choose b (λ _. []) (λ _. found ∷ rest)))
 acts_chosen out true place found t next rest goes = refl
 acts_chosen out false place found t next rest goes =
@@ -285,12 +284,11 @@ acts_chosen out false place found t next rest goes =
     goes refl (puts_all parts) (octets_within parts)
     ∙ sym (flat_map-append puts parts (parts_within out (place.fields + field_count found.octets) rest))
 
-acts_are : (out : List ℕ) (m f w : ℕ) (founds : List Found) (end : End) → (answers (task (Split out)) m f w founds end).acts ≡ puts_all (parts_within out f (before_first founds))
+acts_are : (out : List ℕ) (m f w : ℕ) (founds : List Found) (end : End) → (answers (task (split_command out)) m f w founds end).acts ≡ puts_all (parts_within out f (before_first founds))
 acts_are out m f w [] (Over skipped) = refl
 acts_are out m f w [] (Refusing fault) = refl
-acts_are out m f w [] NotRead = refl
 acts_are out m f w (found ∷ later) end =
-    let t = task (Split out) in
+    let t = task (split_command out) in
     let place = place_of m found.before f in
     acts_chosen out (edition found.octets == 1) place found t (λ acts more. after acts (answers t (m + 1) (f + fields_of found.octets) (w + more) later end)) (before_first later)
     (λ not_one acts more. ap (λ n. acts ++ (answers t (m + 1) (f + n) (w + more) later end).acts) (fields_other found.octets not_one)
@@ -298,16 +296,15 @@ acts_are out m f w (found ∷ later) end =
 
 ending_chosen : (out : List ℕ) (b : Bool) (place : Place) (message : List ℕ) (t : Task) (next : List Act → ℕ → Answer)
     → ((acts : List Act) (more : ℕ) → (next acts more).ending ≡ [])
-    → (on_given t (choose b (λ _. given_1 (Split out) place message) (λ _. given_2 (Split out) place message)) next).ending ≡ []
+    → (on_given t (choose b (λ _. (split_command out).first place message) (λ _. (split_command out).second place message)) next).ending ≡ []
 ending_chosen out true place message t next none = refl
 ending_chosen out false place message t next none = none _ _
 
-no_ending : (out : List ℕ) (m f w : ℕ) (founds : List Found) (end : End) → (answers (task (Split out)) m f w founds end).ending ≡ []
+no_ending : (out : List ℕ) (m f w : ℕ) (founds : List Found) (end : End) → (answers (task (split_command out)) m f w founds end).ending ≡ []
 no_ending out m f w [] (Over skipped) = refl
 no_ending out m f w [] (Refusing fault) = refl
-no_ending out m f w [] NotRead = refl
 no_ending out m f w (found ∷ later) end =
-    let t = task (Split out) in
+    let t = task (split_command out) in
     ending_chosen out (edition found.octets == 1) (place_of m found.before f) found.octets t
     (λ acts more. after acts (answers t (m + 1) (f + fields_of found.octets) (w + more) later end))
     (λ acts more. no_ending out (m + 1) (f + fields_of found.octets) (w + more) later end)
@@ -317,32 +314,32 @@ limit_ending t a none =
     ⊎_elim (λ unclosed. ap (λ x. x.ending) (open_at_limit t a unclosed)) (λ closed. ap (λ x. x.ending) (closed_at_limit t a closed) ∙ none)
     (cases_Bool (is_open a.outcome))
 
-acts_of_input : (out input : List ℕ) → (answer_of (task (Split out)) input).acts ≡ puts_all (all_parts out input)
+acts_of_input : (out input : List ℕ) → (answer_of (task (split_command out)) input).acts ≡ puts_all (all_parts out input)
 acts_of_input out input = let found = stream judge input in acts_are out 0 0 0 found.messages found.end
 
-ending_of_input : (out input : List ℕ) → (answer_of (task (Split out)) input).ending ≡ []
+ending_of_input : (out input : List ℕ) → (answer_of (task (split_command out)) input).ending ≡ []
 ending_of_input out input = let found = stream judge input in no_ending out 0 0 0 found.messages found.end
 
-within_ending : (out : List ℕ) (limit : ℕ) (input : List ℕ) → (answer_within limit (task (Split out)) input).ending ≡ []
+within_ending : (out : List ℕ) (limit : ℕ) (input : List ℕ) → (answer_within limit (task (split_command out)) input).ending ≡ []
 within_ending out limit input =
-    let t = task (Split out) in
+    let t = task (split_command out) in
     ⊎_elim
     (λ (long : limit < length input). ap (λ a. a.ending) (within_long t limit input long) ∙ limit_ending t (answer_of t (take limit input)) (ending_of_input out (take limit input)))
     (λ (short : length input ≤ limit). ap (λ a. a.ending) (within_short t limit input short) ∙ ending_of_input out input)
     (cases_lt limit (length input))
 
 within_all : (out : List ℕ) (limit : ℕ) (input : List ℕ)
-    → (answer_within limit (task (Split out)) input).acts ++ (answer_within limit (task (Split out)) input).ending ≡ puts_all (all_parts out (take limit input))
+    → (answer_within limit (task (split_command out)) input).acts ++ (answer_within limit (task (split_command out)) input).ending ≡ puts_all (all_parts out (take limit input))
 within_all out limit input =
-    let a = answer_within limit (task (Split out)) input in
+    let a = answer_within limit (task (split_command out)) input in
     ap (λ acts. a.acts ++ acts) (within_ending out limit input)
-    ∙ (append-nil a.acts ∙ (within_acts (task (Split out)) limit input ∙ acts_of_input out (take limit input)))
+    ∙ (append-nil a.acts ∙ (within_acts (task (split_command out)) limit input ∙ acts_of_input out (take limit input)))
 
 -- ---- the shelf
 
 pub whole_stand : (out : List ℕ) (limit : ℕ) (input : List ℕ) (before now : Held) (output output_now : Option (List ℕ)) → limit < 2 ^ 64
     → Did (world output (Some before)) (world output_now (Some now))
-    ((answer_within limit (task (Split out)) input).acts ++ (answer_within limit (task (Split out)) input).ending)
+    ((answer_within limit (task (split_command out)) input).acts ++ (answer_within limit (task (split_command out)) input).ending)
     → StandAll (all_parts out (take limit input)) before now
 whole_stand out limit input before now output output_now low did =
     stand_all (all_parts out (take limit input)) (distinct out (take limit input) (omega (arith, length-take limit input))) before now
@@ -350,14 +347,14 @@ whole_stand out limit input before now output output_now low did =
 
 pub first_stand : (out : List ℕ) (limit : ℕ) (input : List ℕ) (before now : Held) (output output_now : Option (List ℕ)) → limit < 2 ^ 64
     → DidFront (world output (Some before)) (world output_now (Some now))
-    ((answer_within limit (task (Split out)) input).acts ++ (answer_within limit (task (Split out)) input).ending)
+    ((answer_within limit (task (split_command out)) input).acts ++ (answer_within limit (task (split_command out)) input).ending)
     → (count : ℕ) × StandFirst (all_parts out (take limit input)) before now count
 first_stand out limit input before now output output_now low (front, rest, is, did) =
     stand_first (all_parts out (take limit input)) (distinct out (take limit input) (omega (arith, length-take limit input)))
     front rest (sym (within_all out limit input) ∙ is) before now did.names
 
 pub all_stand : (out taken : List ℕ) (before now : Held) (output output_now : Option (List ℕ)) → length taken < 2 ^ 64
-    → Did (world output (Some before)) (world output_now (Some now)) (answer_of (task (Split out)) taken).acts → StandAll (all_parts out taken) before now
+    → Did (world output (Some before)) (world output_now (Some now)) (answer_of (task (split_command out)) taken).acts → StandAll (all_parts out taken) before now
 all_stand out taken before now output output_now short did =
     stand_all (all_parts out taken) (distinct out taken short) before now
     (λ name. did.names name ∙ ap (held_after name (before name)) (acts_of_input out taken))

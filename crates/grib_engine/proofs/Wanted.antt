@@ -11,7 +11,7 @@ use Rattle.grib2_message.proofs.Whole.{head_passes}
 use Rattle.grib2_message.proofs.Fronts.{accepted_states}
 use Rattle.grib2_message.proofs.Stays.{same_octets, front_of_more}
 use Rattle.grib_stream.specs.Stream.{Message}
-use Rattle.grib_engine.specs.Tasks.{judge}
+use Rattle.grib_engine.specs.Judging.{judge}
 use Rattle.grib_engine.specs.Lawful.{IsFirst, IsOther, message_judged, least_message, not_first, same_edition}
 
 pub wanted_least : (octets more : List ℕ) (total : ℕ) → judge (octets ++ more) ≡ Message total → 12 ≤ total

@@ -8,14 +8,16 @@ use Rattle.grib_io.specs.declared.outside.Stop.{Stop}
 use Rattle.grib_io.specs.declared.outside.Stop.TheVariants as stops
 use Rattle.grib_stream.specs.Acts.{Act, World, world, Did, DidFront}
 use Rattle.grib_stream.specs.Task.{Given, Gives, Ends}
-use Rattle.grib_stream.specs.declared.outcome.Cause.TheVariants as causes
+use Rattle.grib_causes.specs.declared.cause.Cause.TheVariants as causes
 use Rattle.grib_repack.specs.declared.fault.RepackFault.{RepackFault}
 use Rattle.grib_repack.specs.declared.fault.RepackFault.TheVariants as faults
+use Rattle.grib_migrate.specs.declared.loss.MigrateFault.{MigrateFault}
+use Rattle.grib_migrate.specs.declared.loss.MigrateFault.TheVariants as unmigrated
 use Rattle.grib_select.specs.declared.changing.SetFault.{SetFault}
 use Rattle.grib_select.specs.declared.changing.SetFault.TheVariants as unset
-use Rattle.grib_engine.specs.declared.answering.Answered.{Answered}
-use Rattle.grib_engine.specs.declared.answering.Answered.TheVariants.{Whole, Kept, WriteFault, ShelfFault, Memory}
-use Rattle.grib_engine.specs.Tasks.{kept_at}
+use Rattle.grib_engine.specs.declared.answered.Answered.{Answered}
+use Rattle.grib_engine.specs.declared.answered.Answered.TheVariants.{Whole, Kept, WriteFault, ShelfFault, Memory}
+use Rattle.grib_engine.specs.Command.{kept_at}
 
 -- what is done for a message; nothing, where it is kept
 abbrev pub acts_given : Given → List Act
@@ -43,6 +45,11 @@ abbrev pub answered_unset : SetFault → Answered
 answered_unset (unset.KeyRange key) = Kept (causes.KeyRange key)
 answered_unset (unset.KeyAbsent field key) = Kept (causes.KeyAbsent field key)
 answered_unset unset.Memory = Memory
+
+-- what comes of a message that is not migrated
+abbrev pub answered_lost : MigrateFault → Answered
+answered_lost (unmigrated.Lost loss) = Kept (causes.Lost loss)
+answered_lost unmigrated.Memory = Memory
 
 -- what comes of a message within whose result the output stopped
 abbrev pub answered_stopped : Stop → Answered

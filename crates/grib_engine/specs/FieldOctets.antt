@@ -14,7 +14,7 @@ use Rattle.grib2_message.proofs.Placing.{placed_from}
 use Rattle.grib_select.specs.Single.{single_of}
 use Rattle.grib_select.proofs.Accepted.{count_7, count_none}
 use Rattle.grib_select.proofs.Alone.{single_accepted}
-use Rattle.grib_engine.specs.Tasks.{texts_from}
+use Rattle.grib_engine.specs.Command.{texts_from}
 
 -- ---- the octets of a field
 

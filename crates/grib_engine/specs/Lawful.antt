@@ -19,38 +19,21 @@ use Rattle.grib2_message.specs.View.{is_numbered}
 use Rattle.grib2_message.specs.Acceptance.{unless_refused, verdict_2}
 use Rattle.grib2_message.specs.Fields.{sections_from, sections_of, field_count}
 use Rattle.grib2_message.specs.Message.{IsMessage}
+use Rattle.grib1_sections.specs.Message.{IsMessage1}
 use Rattle.grib2_message.proofs.Passed.{passes_from_none}
 use Rattle.grib2_message.proofs.Whole.{head_passes}
 use Rattle.grib2_message.proofs.Parted.{message_least, message_most}
 use Rattle.grib2_message.proofs.Stays.{accepted_stays, refused_stays}
 use Rattle.grib2_message.proofs.Fronts.{accepted_least, accepted_there, accepted_alone}
-use Rattle.grib_stream.specs.Stream.{Judgement, Message, Faulty, Unbuilt, begins}
+use Rattle.grib_stream.specs.Stream.{Judgement, Message, Faulty, begins}
 use Rattle.grib_stream.proofs.Streams.{begins_is}
 use Rattle.grib_stream.specs.Outcomes.{is_truncated, is_of_message}
 use Rattle.grib_stream.specs.Task.{Gives, Ends, IsLawful}
-use Rattle.std.specs.List.{range_with_len}
-use Rattle.grib_stream.specs.Acts.{Act, writes}
+use Rattle.grib_stream.specs.Acts.{Act}
 use Rattle.grib_stream.specs.declared.place.Place.{Place}
 use Rattle.grib_stream.specs.declared.outcome.Outcome.{Outcome}
-use Rattle.grib_stream.specs.declared.outcome.Cause.TheVariants as causes
-use Rattle.grib_packing.specs.Misfits.{Target}
-use Rattle.grib_repack.specs.Faults.{target_of}
-use Rattle.grib_repack.specs.Repacked.{RepackMisfit, OutputTooLong, repacked, misfit_among, or_later, length_misfit, repack_misfit}
-use Rattle.grib_keys.specs.declared.condition.Condition.{Condition}
-use Rattle.grib_select.specs.Values.{fulfils_all}
-use Rattle.grib_select.specs.Single.{single_of}
-use Rattle.grib_select.specs.Changed.{with_keys, set_fault}
-use Rattle.grib_select.specs.declared.changing.SetFault.{SetFault}
-use Rattle.grib_select.specs.declared.changing.SetFault.TheVariants.{KeyRange, KeyAbsent, Memory}
-use Rattle.grib_select.proofs.Kept.{can_be_set, changed_accepted}
-use Rattle.grib_engine.specs.declared.job.Job.{Job}
-use Rattle.grib_engine.specs.declared.job.Job.TheVariants.{Check, List as Listing, Dump, Filter, Split, Set, Repack, Make}
-use Rattle.grib_engine.specs.Jobs.{CanChange}
-use Rattle.grib_engine.specs.EditionOne.{message_text_1, kept_first, given_1}
-use Rattle.grib_engine.specs.FieldOctets.{twenty_each, single_most, texts_most}
-use Rattle.grib_engine.specs.Parts.{parts_of, octets_within}
-use Rattle.grib_engine.specs.PartOctets.{parts_few}
-use Rattle.grib_engine.specs.Tasks.{judged, judge, fields_of, message_text_2, cause_of, kept_at, texts_from, given_unless, given_set, all_fulfil, single_if, filtered, given_2, given, task}
+use Rattle.grib_engine.specs.Command.{Command, IsLawfulCommand, given, task}
+use Rattle.grib_engine.specs.Judging.{judged, judge, fields_of}
 
 -- ---- the judgement, by the edition
 
@@ -91,10 +74,6 @@ refusal_of : (v : Verdict) (fault : Fault) → judged v ≡ Faulty fault → v �
 refusal_of (Accepted n) fault is = let no : ⊥ = cc in absurd no
 refusal_of (Refused f) fault is = let e : f ≡ fault = cc in ap Refused e
 
-not_unbuilt : (v : Verdict) → judged v ≢ Unbuilt
-not_unbuilt (Accepted n) is = cc
-not_unbuilt (Refused fault) is = cc
-
 -- a verdict of the edition that is only
 judged_by : (octets : List ℕ) (j : Judgement) (v : Verdict) → judge octets ≡ j → ((w : Verdict) → judged w ≡ j → w ≡ v) → IsFirst octets v ⊎ IsOther octets v
 judged_by octets j v is only =
@@ -108,13 +87,6 @@ message_judged octets total is = judged_by octets (Message total) (Accepted tota
 
 pub refusal_judged : (octets : List ℕ) (fault : Fault) → judge octets ≡ Faulty fault → IsFirst octets (Refused fault) ⊎ IsOther octets (Refused fault)
 refusal_judged octets fault is = judged_by octets (Faulty fault) (Refused fault) is (λ w judged_w. refusal_of w fault judged_w)
-
-never_unbuilt : (octets : List ℕ) → judge octets ≢ Unbuilt
-never_unbuilt octets is =
-    ⊎_elim
-    (λ one. not_unbuilt (verdict_1 octets) (sym (first octets one) ∙ is))
-    (λ not_one. not_unbuilt (verdict_2 octets) (sym (other octets not_one) ∙ is))
-    (cases_Bool (edition octets == 1))
 
 pub not_first : (octets : List ℕ) → (edition octets == 1) ≡ false → edition octets ≢ 1
 not_first octets not_one e = false≢true (sym not_one ∙ eq-eqb (edition octets) 1 e)
@@ -187,9 +159,6 @@ refusal_stays octets more fault is whole =
     ∙ ap judged (refused_stays octets more fault (not_first octets m.other_edition) m.verdict_is (reason_other fault.reason whole)))
     (refusal_judged octets fault is)
 
-unbuilt_stays : (octets more : List ℕ) → judge octets ≡ Unbuilt → judge (octets ++ more) ≡ Unbuilt
-unbuilt_stays octets more is = absurd (never_unbuilt octets is)
-
 alone : (octets : List ℕ) (total : ℕ) → judge octets ≡ Message total → judge (take total octets) ≡ Message total
 alone octets total is =
     let least = least_message octets total is in
@@ -252,106 +221,27 @@ message_alone rest total begun m =
       accepted = accepted_alone rest total other m.verdict_is ∙ ap Accepted (sym size);
     }
 
+pub first_alone_message : (rest : List ℕ) (total : ℕ) → begins rest ≡ true → IsFirst rest (Accepted total) → IsMessage1 (take total rest)
+first_alone_message rest total begun m =
+    let least : 12 ≤ total = first_least rest total m.edition_is m.verdict_is in
+    let there : total ≤ length rest = first_there rest total m.edition_is m.verdict_is in
+    let size : length (take total rest) ≡ total = length-take-le total rest there in
+    record {
+      indicated = sym (take-append-le 4 (take total rest) (drop total rest) (omega arith)) ∙ (ap (take 4) (take-append-drop total rest) ∙ begins_is rest begun);
+      edition_stands = edition_alone rest total (omega arith) there ∙ m.edition_is;
+      accepted = first_alone rest total m.edition_is m.verdict_is ∙ ap Accepted (sym size);
+    }
+
 -- what is given, by the edition
-given_first : (job : Job) (place : Place) (message : List ℕ) → (edition message == 1) ≡ true → given job place message ≡ given_1 job place message
-given_first job place message one = ap (λ b. choose b (λ _. given_1 job place message) (λ _. given_2 job place message)) one
+given_first : (command : Command) (place : Place) (message : List ℕ) → (edition message == 1) ≡ true → given command place message ≡ command.first place message
+given_first command place message one = ap (λ b. choose b (λ _. command.first place message) (λ _. command.second place message)) one
 
-pub given_other : (job : Job) (place : Place) (message : List ℕ) → (edition message == 1) ≡ false → given job place message ≡ given_2 job place message
-given_other job place message not_one = ap (λ b. choose b (λ _. given_1 job place message) (λ _. given_2 job place message)) not_one
+given_other : (command : Command) (place : Place) (message : List ℕ) → (edition message == 1) ≡ false → given command place message ≡ command.second place message
+given_other command place message not_one = ap (λ b. choose b (λ _. command.first place message) (λ _. command.second place message)) not_one
 
--- of what is written for a message, repacked or with other values of keys, 268435456 octets are counted at most
-few_unless : (misfits : Option RepackMisfit) (m : ℕ) (octets : List ℕ) (acts : List Act) (written : ℕ) → (misfits ≡ None → length octets ≤ 268435456)
-    → given_unless misfits m octets ≡ Gives acts written → written ≤ 268435456
-few_unless None m octets acts written few is = let same : length octets ≡ written = cc in let fits : length octets ≤ 268435456 = few refl in omega arith
-few_unless (Some misfit) m octets acts written few is = let no : ⊥ = cc in absurd no
-
-few_set : (fault : Option SetFault) (m : ℕ) (octets : List ℕ) (acts : List Act) (written : ℕ) → length octets ≤ 268435456
-    → given_set fault m octets ≡ Gives acts written → written ≤ 268435456
-few_set None m octets acts written few is = let same : length octets ≡ written = cc in omega arith
-few_set (Some (KeyRange key)) m octets acts written few is = let no : ⊥ = cc in absurd no
-few_set (Some (KeyAbsent field key)) m octets acts written few is = let no : ⊥ = cc in absurd no
-few_set (Some Memory) m octets acts written few is = let same : length octets ≡ written = cc in omega arith
-
-fits_length : (l : ℕ) → length_misfit l ≡ None → l ≤ 268435456
-fits_length l none =
-    ⊎_elim
-    (λ (long : nat_lt 268435456 l ≡ true).
-    let some : length_misfit l ≡ Some (OutputTooLong l) = ap (λ b. cond b (Some (OutputTooLong l)) None) long in
-    let no : ⊥ = cc in absurd no)
-    (λ (short : nat_lt 268435456 l ≡ false). ltb-false 268435456 l short)
-    (cases_Bool (nat_lt 268435456 l))
-
-later_none : (first : Option RepackMisfit) (later : Unit {0} → Option RepackMisfit) → or_later first later ≡ None → later tt ≡ None
-later_none None later none = none
-later_none (Some misfit) later none = let no : ⊥ = cc in absurd no
-
-pub few_repacked : (target : Target) (message : List ℕ) → repack_misfit target message ≡ None → length (repacked target message) ≤ 268435456
-few_repacked target message none =
-    fits_length (length (repacked target message))
-    (later_none (misfit_among target message (range_with_len 1 (field_count message))) (λ _. length_misfit (length (repacked target message))) none)
-
--- and for each field that is filtered as many
-few_if : (conditions : List Condition) (message : List ℕ) (i : ℕ) → IsMessage message → 1 ≤ i → i ≤ field_count message
-    → length (single_if conditions message i) ≤ 268435456
-few_if conditions message i h low high =
-    ⊎_elim
-    (λ yes. (let is : length (single_if conditions message i) ≡ length (single_of message i) =
-    ap (λ b. length (choose b (λ _. single_of message i) (λ _. []))) yes in omega (arith, single_most message i h low high)))
-    (λ not. (let is : length (single_if conditions message i) ≡ 0 = ap (λ b. length (choose b (λ _. single_of message i) (λ _. []))) not in omega arith))
-    (cases_Bool (fulfils_all message i conditions))
-
-few_filtered : (conditions : List Condition) (message : List ℕ) → IsMessage message → 20 * length (filtered conditions message) ≤ 268435456 * length message
-few_filtered conditions message h =
-    let some : List ℕ = texts_from (single_if conditions message) (field_count message) 1 in
-    ⊎_elim
-    (λ yes. (let is : length (filtered conditions message) ≡ length message = ap (λ b. length (choose b (λ _. message) (λ _. some))) yes in omega arith))
-    (λ not. (let is : length (filtered conditions message) ≡ length some = ap (λ b. length (choose b (λ _. message) (λ _. some))) not in
-    let few = texts_most (single_if conditions message) (field_count message) 1 (λ i low high. few_if conditions message i h low (omega arith)) in
-    omega (arith, twenty_each message h)))
-    (cases_Bool (all_fulfil conditions message))
-
-few_each : (written : ℕ) (message : List ℕ) → IsMessage message → written ≤ 268435456 → 20 * written ≤ 268435456 * length message
-few_each written message h few = omega (arith, message_least message h)
-
-none_counted : (given acts : List Act) (written : ℕ) (message : List ℕ) → Gives given 0 ≡ Gives acts written → 20 * written ≤ 268435456 * length message
-none_counted given acts written message is = let none : 0 ≡ written = cc in omega arith
-
-few_2 : (job : Job) → CanChange job → (place : Place) (message : List ℕ) (acts : List Act) (written : ℕ) → IsMessage message
-    → given_2 job place message ≡ Gives acts written → 20 * written ≤ 268435456 * length message
-few_2 (Filter conditions) can place message acts written h is =
-    let few = few_filtered conditions message h in
-    let same : length (filtered conditions message) ≡ written = cc in
-    omega arith
-few_2 (Split name) can place message acts written h is =
-    let few = parts_few name place.fields message h in
-    let same : octets_within (parts_of name place.fields message) ≡ written = cc in
-    omega arith
-few_2 (Set changes) can place message acts written h is =
-    let few = message_most (with_keys message changes) (changed_accepted message changes h (can_be_set changes can)) in
-    few_each written message h (few_set (set_fault message changes) place.message (with_keys message changes) acts written few is)
-few_2 (Repack target) can place message acts written h is =
-    few_each written message h
-    (few_unless (repack_misfit (target_of target) message) place.message (repacked (target_of target) message) acts written (few_repacked (target_of target) message) is)
-few_2 Check can place message acts written h is = none_counted (writes (message_text_2 Check place message)) acts written message is
-few_2 Listing can place message acts written h is = none_counted (writes (message_text_2 Listing place message)) acts written message is
-few_2 Dump can place message acts written h is = none_counted (writes (message_text_2 Dump place message)) acts written message is
-few_2 (Make seed ni nj target) can place message acts written h is = none_counted [] acts written message is
-
--- nothing of a message of edition 1 is counted
-few_1 : (job : Job) (place : Place) (message : List ℕ) (acts : List Act) (written : ℕ) → given_1 job place message ≡ Gives acts written
-    → 20 * written ≤ 268435456 * length message
-few_1 Check place message acts written is = none_counted (writes (message_text_1 Check place message)) acts written message is
-few_1 Listing place message acts written is = none_counted (writes (message_text_1 Listing place message)) acts written message is
-few_1 Dump place message acts written is = none_counted (writes (message_text_1 Dump place message)) acts written message is
-few_1 (Filter conditions) place message acts written is = let no : ⊥ = cc in absurd no
-few_1 (Split name) place message acts written is = let no : ⊥ = cc in absurd no
-few_1 (Set changes) place message acts written is = let no : ⊥ = cc in absurd no
-few_1 (Repack target) place message acts written is = let no : ⊥ = cc in absurd no
-few_1 (Make seed ni nj target) place message acts written is = none_counted [] acts written message is
-
-few_given : (job : Job) → CanChange job → (place : Place) (octets : List ℕ) (total : ℕ) (acts : List Act) (written : ℕ) → begins octets ≡ true
-    → judge octets ≡ Message total → given job place (take total octets) ≡ Gives acts written → 20 * written ≤ 268435456 * total
-few_given job can place octets total acts written begun is gives =
+few_given : (command : Command) → IsLawfulCommand command → (place : Place) (octets : List ℕ) (total : ℕ) (acts : List Act) (written : ℕ) → begins octets ≡ true
+    → judge octets ≡ Message total → given command place (take total octets) ≡ Gives acts written → 20 * written ≤ 268435456 * total
+few_given command law place octets total acts written begun is gives =
     let message = take total octets in
     let least = least_message octets total is in
     let there = there_message octets total is in
@@ -359,60 +249,25 @@ few_given job can place octets total acts written begun is gives =
     let same = ap (λ n. n == 1) (edition_alone octets total (omega arith) there) in
     ⊎_elim
     (λ (m : IsFirst octets (Accepted total)).
-    let few = few_1 job place message acts written (sym (given_first job place message (same ∙ m.first_edition)) ∙ gives) in omega arith)
+    let few = law.few_first place message acts written (first_alone_message octets total begun m) (sym (given_first command place message (same ∙ m.first_edition)) ∙ gives) in
+    omega arith)
     (λ (m : IsOther octets (Accepted total)).
-    let few = few_2 job can place message acts written (message_alone octets total begun m) (sym (given_other job place message (same ∙ m.other_edition)) ∙ gives) in
+    let few = law.few_second place message acts written (message_alone octets total begun m) (sym (given_other command place message (same ∙ m.other_edition)) ∙ gives) in
     omega arith)
     (message_judged octets total is)
 
--- a run ends at a message that is kept
-ends_unless : (misfits : Option RepackMisfit) (m : ℕ) (octets : List ℕ) (outcome : Outcome) → given_unless misfits m octets ≡ Ends outcome
+ends_given : (command : Command) → IsLawfulCommand command → (place : Place) (message : List ℕ) (outcome : Outcome) → given command place message ≡ Ends outcome
     → is_of_message outcome ≡ true
-ends_unless None m octets outcome is = let no : ⊥ = cc in absurd no
-ends_unless (Some misfit) m octets outcome is = let same : kept_at m (cause_of misfit) ≡ outcome = cc in sym (ap is_of_message same)
-
-ends_set : (fault : Option SetFault) (m : ℕ) (octets : List ℕ) (outcome : Outcome) → given_set fault m octets ≡ Ends outcome → is_of_message outcome ≡ true
-ends_set None m octets outcome is = let no : ⊥ = cc in absurd no
-ends_set (Some (KeyRange key)) m octets outcome is = let same : kept_at m (causes.KeyRange key) ≡ outcome = cc in sym (ap is_of_message same)
-ends_set (Some (KeyAbsent field key)) m octets outcome is = let same : kept_at m (causes.KeyAbsent field key) ≡ outcome = cc in sym (ap is_of_message same)
-ends_set (Some Memory) m octets outcome is = let no : ⊥ = cc in absurd no
-
-ends_first : (m : ℕ) (outcome : Outcome) → kept_first m ≡ Ends outcome → is_of_message outcome ≡ true
-ends_first m outcome is = let same : kept_at m causes.EditionOne ≡ outcome = cc in sym (ap is_of_message same)
-
-ends_2 : (job : Job) (place : Place) (message : List ℕ) (outcome : Outcome) → given_2 job place message ≡ Ends outcome → is_of_message outcome ≡ true
-ends_2 (Repack target) place message outcome is =
-    ends_unless (repack_misfit (target_of target) message) place.message (repacked (target_of target) message) outcome is
-ends_2 Check place message outcome is = let no : ⊥ = cc in absurd no
-ends_2 Listing place message outcome is = let no : ⊥ = cc in absurd no
-ends_2 Dump place message outcome is = let no : ⊥ = cc in absurd no
-ends_2 (Filter conditions) place message outcome is = let no : ⊥ = cc in absurd no
-ends_2 (Split name) place message outcome is = let no : ⊥ = cc in absurd no
-ends_2 (Set changes) place message outcome is = ends_set (set_fault message changes) place.message (with_keys message changes) outcome is
-ends_2 (Make seed ni nj target) place message outcome is = let no : ⊥ = cc in absurd no
-
-ends_1 : (job : Job) (place : Place) (message : List ℕ) (outcome : Outcome) → given_1 job place message ≡ Ends outcome → is_of_message outcome ≡ true
-ends_1 Check place message outcome is = let no : ⊥ = cc in absurd no
-ends_1 Listing place message outcome is = let no : ⊥ = cc in absurd no
-ends_1 Dump place message outcome is = let no : ⊥ = cc in absurd no
-ends_1 (Filter conditions) place message outcome is = ends_first place.message outcome is
-ends_1 (Split name) place message outcome is = ends_first place.message outcome is
-ends_1 (Set changes) place message outcome is = ends_first place.message outcome is
-ends_1 (Repack target) place message outcome is = ends_first place.message outcome is
-ends_1 (Make seed ni nj target) place message outcome is = let no : ⊥ = cc in absurd no
-
-ends_given : (job : Job) (place : Place) (message : List ℕ) (outcome : Outcome) → given job place message ≡ Ends outcome → is_of_message outcome ≡ true
-ends_given job place message outcome is =
+ends_given command law place message outcome is =
     ⊎_elim
-    (λ one. ends_1 job place message outcome (sym (given_first job place message one) ∙ is))
-    (λ not_one. ends_2 job place message outcome (sym (given_other job place message not_one) ∙ is))
+    (λ one. law.ends_first place message outcome (sym (given_first command place message one) ∙ is))
+    (λ not_one. law.ends_second place message outcome (sym (given_other command place message not_one) ∙ is))
     (cases_Bool (edition message == 1))
 
-pub lawful : (job : Job) → CanChange job → IsLawful (task job)
-lawful job can = record {
+pub lawful : (command : Command) → IsLawfulCommand command → IsLawful (task command)
+lawful command law = record {
   message_stays = message_stays;
   refusal_stays = refusal_stays;
-  unbuilt_stays = unbuilt_stays;
   least = λ octets total is. omega (arith, least_message octets total is);
   there = there_message;
   alone = alone;
@@ -420,6 +275,6 @@ lawful job can = record {
       let size = length-take-le total octets (there_message octets total is) in
       let some : 1 ≤ length (take total octets) = omega (arith, least_message octets total is) in
       omega (arith, few_fields (take total octets) some);
-  few_written = few_given job can;
-  ends_at_message = ends_given job;
+  few_written = few_given command law;
+  ends_at_message = ends_given command law;
 }

@@ -7,7 +7,7 @@ use Rattle.grib_base.specs.declared.fault.ReadFault.{ReadFault}
 use Rattle.grib_base.specs.declared.fault.ReadFault.TheVariants.{Refused, Memory}
 use Rattle.grib_engine.specs.declared.reading.Held.{Held}
 use Rattle.grib_engine.specs.declared.reading.Held.TheVariants.{One, Two}
-use Rattle.grib_engine.specs.Tasks.{judge}
+use Rattle.grib_engine.specs.Judging.{judge}
 
 -- the octets of a message
 abbrev pub held_octets : Held → List ℕ

@@ -13,7 +13,8 @@ use Rattle.grib_repack.specs.Repacked.{RepackMisfit, repack_misfit}
 use Rattle.grib_stream.specs.Acts.{written}
 use Rattle.grib_stream.specs.Stream.{Found, stream}
 use Rattle.grib_engine.specs.declared.job.Job.TheVariants.{Repack}
-use Rattle.grib_engine.specs.Tasks.{judge, answer}
+use Rattle.grib_engine.specs.Judging.{judge}
+use Rattle.grib_engine.specs.Tasks.{answer}
 
 -- a message that is accepted and whose points mean what those of another message mean
 pub record SameValues (message other : List ℕ) : Type 0 where

@@ -7,7 +7,7 @@ ghost use Rattle.grib_engine.specs.Counts.{NoneCounted, CountsEither};
 ghost use Rattle.grib_engine.specs.Pending.{Writes};
 ghost use Rattle.grib_stream.specs.declared.outcome.Outcome.TheVariants.{WriteFault};
 
-use crate::notes::{kept_note, usage_note};
+use crate::notes::{kept_note, table_note, usage_note};
 use crate::writing::write_whole;
 use grib_io::{Sink, Stop};
 use grib_stream::Outcome;
@@ -65,6 +65,10 @@ pub fn close_with_note<T: Sink, N: Sink>(
             Err(_) => close(Outcome::Memory, b"memory\n", output, notes),
         },
         Outcome::Kept(kept) => match kept_note(alloc, &kept) {
+            Ok(note) => close(outcome, note.as_slice(), output, notes),
+            Err(_) => close(Outcome::Memory, b"memory\n", output, notes),
+        },
+        Outcome::TableRefused(refusal) => match table_note(alloc, &refusal) {
             Ok(note) => close(outcome, note.as_slice(), output, notes),
             Err(_) => close(Outcome::Memory, b"memory\n", output, notes),
         },

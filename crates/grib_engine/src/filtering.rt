@@ -6,17 +6,74 @@ ghost use Rattle.grib2_message.specs.Message.{IsMessage};
 ghost use Rattle.grib_select.specs.Values.{fulfils_all};
 ghost use Rattle.grib_engine.specs.Fronts.{IsFront};
 ghost use Rattle.grib_engine.specs.Pending.{WritesTo};
-ghost use Rattle.grib_engine.specs.Tasks.{texts_from, single_if, filtered};
+ghost use Rattle.grib_engine.specs.Command.{texts_from};
+ghost use Rattle.grib_engine.specs.Filtering.{single_if, filtered};
 
-use crate::writing::write_counted;
+use crate::answered::{Answered, written};
+use crate::answerer::Writer;
+use crate::notes::written_note;
+use crate::writing::{write_counted, write_whole};
 use grib_io::{Sink, Stop};
 use grib_select::{Condition, matches, single};
+use grib_stream::{Cause, Place, Totals};
+use grib1_sections::Message1;
 use grib2_message::Message;
-use std::alloc::Global;
+use std::alloc::{AllocError, Global};
+
+/// The command `filter`.
+#[derive(Debug, Drop)]
+pub struct Filtering<'a> {
+    /// The keys with the values that are asked for.
+    pub conditions: &'a [Condition],
+}
+
+impl Writer for Filtering<'_> {
+    ghost use Rattle.std.specs.Prelude.{refl};
+    ghost use Rattle.grib_engine.specs.Filtering.{filter_command, filter_lawful};
+
+    ghost definition = { λ filtering. filter_command filtering.conditions.now };
+
+    ghost lawful = { λ filtering. filter_lawful filtering.conditions.now };
+
+    ghost unshelved = { λ filtering. refl };
+
+    fn first<T: Sink>(
+        &self,
+        _alloc: Global,
+        _place: &Place,
+        _message: &Message1<'_>,
+        _output: &mut T,
+    ) -> Answered {
+        Answered::Kept(Cause::EditionOne)
+    }
+
+    fn second<T: Sink>(
+        &self,
+        alloc: Global,
+        _place: &Place,
+        message: &Message<'_>,
+        output: &mut T,
+    ) -> Answered {
+        written(write_filtered(alloc, self.conditions, message, output))
+    }
+
+    fn write_ending<T: Sink>(
+        &self,
+        _alloc: Global,
+        _totals: &Totals,
+        output: &mut T,
+    ) -> Result<(), Stop> {
+        write_whole(output, b"")
+    }
+
+    fn ending_note(&self, alloc: Global, totals: &Totals) -> Result<Vec<u8>, AllocError> {
+        written_note(alloc, totals)
+    }
+}
 
 /// Writes a message where each of its fields fulfils the conditions, and else each field that does as a
 /// message of its own. It answers how many octets it wrote. Each field is matched once.
-pub(crate) fn write_filtered<T: Sink>(
+fn write_filtered<T: Sink>(
     alloc: Global,
     conditions: &[Condition],
     message: &Message<'_>,

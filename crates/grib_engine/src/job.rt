@@ -3,6 +3,7 @@
 use crate::name::Name;
 use grib_base::List;
 use grib_repack::RepackTarget;
+use grib_rescan::Area;
 use grib_select::Condition;
 
 /// Keys with the values that they have, or are to have.
@@ -15,8 +16,14 @@ pub enum Job {
     Check,
     /// A line for each field.
     List,
-    /// For each field its list line, its reference line, and a line for each grid point.
-    Dump,
+    /// For each field how many of its points are present and missing, its least and its greatest scaled number,
+    /// and its reference line.
+    Stats,
+    /// For each field its list line, its reference line, and a line for each grid point, with its scaled number or
+    /// with its value as a decimal of this many places.
+    Dump {
+        decimals: Option<u32>,
+    },
     /// Each message whose fields all fulfil the conditions, and of another one each field that does, as a
     /// message of its own.
     Filter(Conditions),
@@ -26,6 +33,17 @@ pub enum Job {
     Set(Conditions),
     /// Each message with its fields packed anew.
     Repack(RepackTarget),
+    /// Each message with the points of its grids in the order of scanning octet 0.
+    Rescan,
+    /// Each message with a box of its grids alone.
+    Crop(Area),
+    /// Each message of edition 1 as one of edition 2, by the table that stands on the shelf under this name, and
+    /// each message of edition 2 as it is.
+    Migrate {
+        params: Name,
+        /// Whether octets for the centre's own use are kept.
+        keep_local: bool,
+    },
     /// A message of `nj` rows of `ni` points, made from the number `seed`, with its field packed anew. No
     /// input is read.
     Make {

@@ -1,6 +1,6 @@
 //! Laws over the definitions.
 
-ghost use Rattle.std.specs.Prelude.{◌≡◌, ℕ, ◌+◌, ◌^◌, ◌<◌, ◌≤◌, true, false, Some, List, length, take, All};
+ghost use Rattle.std.specs.Prelude.{◌≡◌, ℕ, ◌+◌, ◌^◌, ◌<◌, ◌≤◌, Bool, true, false, Some, List, length, take, All};
 ghost use Rattle.std.specs.declared.option.Option.{Option};
 ghost use Rattle.grib_io.specs.Shelves.{Held};
 ghost use Rattle.grib_repack.specs.declared.target.RepackTarget.{RepackTarget};
@@ -10,10 +10,15 @@ ghost use Rattle.grib_stream.specs.Answer.{answer_of};
 ghost use Rattle.grib_stream.specs.Outcomes.{is_broken};
 ghost use Rattle.grib_stream.specs.Run.{Gives};
 ghost use Rattle.grib_engine.specs.declared.job.Job.TheVariants.{Split};
+ghost use Rattle.grib_engine.specs.Command.{task};
 ghost use Rattle.grib_engine.specs.Jobs.{is_target};
 ghost use Rattle.grib_engine.specs.Same.{KeepsValues};
+ghost use Rattle.grib_engine.specs.SameMigrated.{KeepsMigrated};
+ghost use Rattle.grib_params.specs.Table.{Entries};
+ghost use Rattle.grib_table.specs.Tabled.{Good, tabled};
 ghost use Rattle.grib_engine.specs.Standing.{all_parts, StandFirst, StandAll};
-ghost use Rattle.grib_engine.specs.Tasks.{answer, task};
+ghost use Rattle.grib_engine.specs.Splitting.{split_command};
+ghost use Rattle.grib_engine.specs.Tasks.{answer};
 
 use grib_repack::laws::what_is_repacked_keeps_each_value;
 
@@ -25,6 +30,14 @@ pub fn what_is_answered_keeps_each_value()
 {
     what_is_repacked_keeps_each_value();
 }
+
+/// The output of `migrate`, by a table that stands on the shelf, is one message for each message of the input,
+/// before the first of which something would be lost. Each is accepted; that for a message of edition 1 has one
+/// field, and its points mean the same, and a message of edition 2 is as it was.
+pub fn what_is_migrated_keeps_each_value()
+    ensures { (table : Entries) (keep_local : Bool) (params text input : List ℕ) → tabled (Some text) ≡ Good table
+        → All (λ octet. octet < 256) input → KeepsMigrated table keep_local params text input }
+{}
 
 /// Wherever a run of `split` ends, some number of first fields of the input stand whole under their names, the
 /// name of the next is as it was or has some first octets of that field, and each other name has what it had.
@@ -39,6 +52,6 @@ pub fn what_is_split_stands_whole()
         → Gives (answer (Split out) input) outcome (world output (Some before)) (world output_now (Some now))
         → is_broken outcome ≡ false → StandAll (all_parts out (take (2 ^ 40) input)) before now }
     ensures read { (out taken : List ℕ) (before now : Held) (output output_now : Option (List ℕ)) → length taken ≤ 2 ^ 40 + 1
-        → Did (world output (Some before)) (world output_now (Some now)) (answer_of (task (Split out)) taken).acts
+        → Did (world output (Some before)) (world output_now (Some now)) (answer_of (task (split_command out)) taken).acts
         → StandAll (all_parts out taken) before now }
 {}

@@ -1,11 +1,13 @@
 //! The notes on what was changed, kept or made.
 
 ghost use Rattle.std.specs.Prelude.{◌≡◌, string_bytes, IfOk};
+ghost use Rattle.grib_causes.specs.declared.cause.Cause.TheVariants.{Lost};
 ghost use Rattle.grib_engine.specs.Notes as notes;
 ghost use Rattle.grib_engine.specs.Outcomes.{note_of};
 ghost use Rattle.grib_stream.specs.declared.outcome.Outcome.TheVariants.{Usage};
 
-use grib_stream::{Cause, Kept, Totals};
+use grib_causes::{Cause, Kept, Loss, TableRefusal};
+use grib_stream::Totals;
 use std::alloc::{AllocError, Global};
 
 /// The note on words that have no reading, by the first that is not read. The only error of notes is want
@@ -37,14 +39,20 @@ fn kept_text(alloc: Global, message: u64, cause: &Cause) -> Result<String, Alloc
         Cause::OutOfRange { field, point } => {
             text_at_point(alloc, message, "OutOfRange", field, point)
         }
-        Cause::DifferenceRange { field } => {
-            format!(in alloc; "kept message {message} DifferenceRange field {field}\n")
-        }
+        Cause::DifferenceRange { field } => text_in_field(alloc, message, "DifferenceRange", field),
         Cause::OutputTooLong(length) => {
             format!(in alloc; "kept message {message} OutputTooLong {length}\n")
         }
         Cause::KeyRange { key } => text_at_key(alloc, message, key.name()),
         Cause::KeyAbsent { field, key } => { text_without_key(alloc, message, key.name(), field) }
+        Cause::Lost(loss) => lost_text(alloc, message, &loss),
+        Cause::GridKind { field } => text_in_field(alloc, message, "GridKind", field),
+        Cause::ScanMode { field } => text_in_field(alloc, message, "ScanMode", field),
+        Cause::OutsideBox { field } => text_in_field(alloc, message, "OutsideBox", field),
+        Cause::Increments { field } => text_in_field(alloc, message, "Increments", field),
+        Cause::DecimalRange { field, point } => {
+            text_at_point(alloc, message, "DecimalRange", field, point)
+        }
     }
 }
 
@@ -59,6 +67,46 @@ fn text_at_point(
     ensures { IfOk result (λ text. string_bytes text ≡ notes.note_at_point message name.now field point) }
 {
     let text = format!(in alloc; "kept message {message} {name} field {field} point {point}\n")?;
+    Ok(text)
+}
+
+/// The text of that note, by a cause of this name in a field.
+fn text_in_field(alloc: Global, message: u64, name: &str, field: u32) -> Result<String, AllocError>
+    ensures { IfOk result (λ text. string_bytes text ≡ notes.note_in_field message name.now field) }
+{
+    let text = format!(in alloc; "kept message {message} {name} field {field}\n")?;
+    Ok(text)
+}
+
+/// The text of that note, by this loss.
+fn lost_text(alloc: Global, message: u64, loss: &Loss) -> Result<String, AllocError>
+    ensures { IfOk result (λ text. string_bytes text ≡ notes.kept_note message (Lost loss.now)) }
+{
+    match loss.number() {
+        Some(number) => text_of_numbered_loss(alloc, message, loss.name(), number),
+        None => text_of_loss(alloc, message, loss.name()),
+    }
+}
+
+/// The text of that note, by a loss of this name that has no number.
+fn text_of_loss(alloc: Global, message: u64, name: &str) -> Result<String, AllocError>
+    ensures { IfOk result (λ text. string_bytes text ≡ notes.note_of_loss message name.now None) }
+{
+    let text = format!(in alloc; "kept message {message} Loss {name}\n")?;
+    Ok(text)
+}
+
+/// The text of that note, by a loss of this name with its number.
+fn text_of_numbered_loss(
+    alloc: Global,
+    message: u64,
+    name: &str,
+    number: u32,
+) -> Result<String, AllocError>
+    ensures { IfOk result (λ text.
+        string_bytes text ≡ notes.note_of_loss message name.now (Some number)) }
+{
+    let text = format!(in alloc; "kept message {message} Loss {name} {number}\n")?;
     Ok(text)
 }
 
@@ -81,6 +129,19 @@ fn text_without_key(
 {
     let text = format!(in alloc; "kept message {message} KeyAbsent {key} field {field}\n")?;
     Ok(text)
+}
+
+/// The note on a parameter table that is refused.
+pub(crate) fn table_note(alloc: Global, refusal: &TableRefusal) -> Result<Vec<u8>, AllocError>
+    ensures { IfOk result (λ note. note.items ≡ notes.table_note refusal.now) }
+{
+    let note = match *refusal {
+        TableRefusal::Absent => format!(in alloc; "table absent\n")?,
+        TableRefusal::TooLarge => format!(in alloc; "table too large\n")?,
+        TableRefusal::Row(number) => format!(in alloc; "table row {number}\n")?,
+        TableRefusal::Duplicate(number) => format!(in alloc; "table duplicate {number}\n")?,
+    };
+    Ok(note.into_bytes())
 }
 
 /// The note on an input that was read to its end, with all of its messages changed.

@@ -1,12 +1,12 @@
-//! A job as what answers the messages of an input.
+//! A command as what answers the messages of an input.
 
 ghost use Rattle.std.specs.Prelude.{◌≡◌, true, false};
 ghost use Rattle.grib_stream.specs.Stream.{begins};
-ghost use Rattle.grib_engine.specs.Jobs.{CanChange, has_target};
 
-use crate::answering::{Answered, answer_message};
-use crate::ending::{counted, write_ending};
-use crate::job::Job;
+use crate::answered::Answered;
+use crate::answerer::Answerer;
+use crate::answering::answer_held;
+use crate::counting::counted;
 use crate::reading::read_held;
 use grib_base::ReadFault;
 use grib_io::{Shelf, Sink, Stop};
@@ -17,24 +17,21 @@ use std::alloc::Global;
 /// The least total length that a message may state, one of edition 1.
 const LEAST: u64 = 12;
 
-/// A job that is to answer the messages of an input.
+/// What is to answer the messages of an input.
 #[derive(Debug, Drop)]
-pub struct Answering<'a> {
-    pub job: &'a Job,
-    pub ghost target_stands: { has_target job.now ≡ true },
-    pub ghost changes_stand: { CanChange job.now },
+pub struct Answering<'a, C> {
+    pub answerer: &'a C,
 }
 
-impl Performer for Answering<'_> {
-    ghost use Rattle.grib_engine.specs.Tasks as tasks;
-    ghost use Rattle.grib_engine.specs.Jobs as jobs;
+impl<C: Answerer> Performer for Answering<'_, C> {
+    ghost use Rattle.grib_engine.specs.Command as commands;
     ghost use Rattle.grib_engine.specs.Lawful as laws;
 
-    ghost task = { λ answering. tasks.task answering.job.now };
+    ghost task = { λ answering. commands.task (C.definition answering.answerer.now) };
 
-    ghost uses_shelf = { λ answering. jobs.uses_shelf answering.job.now };
+    ghost uses_shelf = { λ answering. (C.definition answering.answerer.now).uses_shelf };
 
-    ghost lawful = { λ answering. laws.lawful answering.job.now answering.changes_stand };
+    ghost lawful = { λ answering. laws.lawful (C.definition answering.answerer.now) (C.lawful answering.answerer.now) };
 
     /// The stated total length, where it stands.
     fn wanted(&self, octets: &[u8]) -> u64 {
@@ -57,7 +54,7 @@ impl Performer for Answering<'_> {
             Err(ReadFault::Refused(fault)) => return Performed::Refused(fault),
             Err(ReadFault::Memory) => return Performed::Ends(Outcome::Memory),
         };
-        match answer_message(alloc, self.job, place, &held, output, shelf) {
+        match answer_held(self.answerer, alloc, place, &held, output, shelf) {
             Answered::Whole(written) => Performed::Whole(counted(&held, written)),
             Answered::Kept(cause) => Performed::Ends(Outcome::Kept(Kept {
                 message: place.message,
@@ -76,7 +73,7 @@ impl Performer for Answering<'_> {
         output: &mut T,
         _shelf: &mut H,
     ) -> Result<(), Outcome> {
-        match write_ending(alloc, self.job, totals, output) {
+        match self.answerer.write_ending(alloc, totals, output) {
             Ok(()) => Ok(()),
             Err(Stop::Failed) => Err(Outcome::WriteFault),
             Err(Stop::Memory) => Err(Outcome::Memory),

@@ -2,27 +2,44 @@
 
 ghost use Rattle.std.specs.Prelude.{◌≡◌, ◌≢◌, ◌⊎◌, ◌<◌, true, false};
 ghost use Rattle.std.specs.Io.KnownBytes.{Keeps};
+ghost use Rattle.grib_engine.specs.Migrating.{migrate_command};
+ghost use Rattle.grib_io.specs.Shelves.{Stays};
 ghost use Rattle.grib_stream.specs.Acts.{world};
 ghost use Rattle.grib_stream.specs.Outcomes.{is_cut_short};
 ghost use Rattle.grib_stream.specs.Faults.{faults, CountsRun};
-ghost use Rattle.grib_stream.specs.declared.outcome.Outcome.TheVariants.{Done, WriteFault, ShelfFault, Memory};
+ghost use Rattle.grib_stream.specs.declared.outcome.Outcome.TheVariants.{Done, ReadFault, WriteFault, ShelfFault, Memory};
 ghost use Rattle.grib_engine.specs.Closing.{EndsRun, Unfinished};
-ghost use Rattle.grib_engine.specs.Jobs.{IsJob, CanChange, has_target, makes, uses_shelf};
-ghost use Rattle.grib_engine.specs.Serving.{RunsJob, NotesJob, NotesJobFront};
-ghost use Rattle.grib_engine.specs.Tasks as tasks;
+ghost use Rattle.grib_engine.specs.Jobs.{IsJob};
+ghost use Rattle.grib_engine.specs.Serving.{RunsJob, NotesJob, NotesJobFront, RefusedJob, Serves};
+ghost use Rattle.grib_engine.specs.Tasks.{Reads, ReadsTable, work_of, makes, reads_table, uses_shelf};
 
+use crate::answerer::{Answerer, ByOutput};
+use crate::checking::Checking;
 use crate::closing::close_with_note;
-use crate::ending::ending_note;
+use crate::dumping::Dumping;
+use crate::filtering::Filtering;
 use crate::job::Job;
+use crate::listing::Listing;
 use crate::making::serve_made;
+use crate::migrating::Migrating;
+use crate::name::Name;
 use crate::performing::Answering;
+use crate::repacking::Repacking;
+use crate::rescanning::Rescanning;
+use crate::setting::Setting;
+use crate::splitting::Splitting;
+use crate::summing::Summing;
+use crate::valuing::Valuing;
 use grib_io::{Shelf, Sink, Source};
+use grib_rescanned::GridEdit;
 use grib_stream::{LIMIT, Outcome, Totals, answer_within};
+use grib_table::{TableStop, read_table};
 use std::alloc::Global;
 
 /// Writes the answer to the job to `output`, and notes how the run ended. The answer is a function of the
-/// job and the input alone; it does not depend on how the input comes in pieces. `make` reads no input.
-/// `split` alone uses the shelf.
+/// job, the input and, for `migrate`, the table that stands on the shelf; it does not depend on how the input
+/// comes in pieces. `make` reads no input. `split` puts fields on the shelf, and `migrate` reads its table there
+/// before any input; no other job uses the shelf.
 pub fn serve<S: Source, T: Sink, N: Sink, H: Shelf>(
     alloc: Global,
     job: &Job,
@@ -40,8 +57,8 @@ pub fn serve<S: Source, T: Sink, N: Sink, H: Shelf>(
 
     // The notes, and the end of the run.
     ensures noted { is_cut_short result ≡ false
-        → NotesJob job.now (S.left input.old) result (N.contents notes.old) (N.contents notes.new) }
-    ensures noted_front { NotesJobFront job.now (S.left input.old)
+        → NotesJob job.now (H.contents shelf.old) (S.left input.old) result (N.contents notes.old) (N.contents notes.new) }
+    ensures noted_front { NotesJobFront job.now (H.contents shelf.old) (S.left input.old)
         (S.faults input.old) (S.faults input.new) (H.faults shelf.old) (H.faults shelf.new)
         (N.contents notes.old) (N.contents notes.new) }
     ensures settled { is_cut_short result ≡ false
@@ -54,28 +71,18 @@ pub fn serve<S: Source, T: Sink, N: Sink, H: Shelf>(
         (faults (S.faults input.new) (T.faults output.new) (N.faults notes.new) (H.faults shelf.new)) }
     ensures made_input { makes job.now ≡ true → input.new ≡ input.old }
     ensures made { makes job.now ≡ true → (result ≡ Done) ⊎ ((result ≡ WriteFault) ⊎ (result ≡ Memory)) }
+    // Where the table is refused, nothing of the input is taken.
+    ensures refused_input { RefusedJob job.now (H.contents shelf.old)
+        ((input.new ≡ input.old) × (result ≢ ReadFault)) }
+    ensures shelf_kept { reads_table job.now ≡ true → Stays (H.contents shelf.old) (H.contents shelf.new) }
     ensures shelf { uses_shelf job.now ≡ false → shelf.new ≡ shelf.old }
     ensures unshelved { uses_shelf job.now ≡ false → result ≢ ShelfFault }
 {
-    match job {
-        Job::Make {
-            seed,
-            ni,
-            nj,
-            target,
-        } => serve_made(alloc, *seed, *ni, *nj, *target, output, notes),
-        Job::Check
-        | Job::List
-        | Job::Dump
-        | Job::Filter(_)
-        | Job::Split(_)
-        | Job::Set(_)
-        | Job::Repack(_) => { serve_messages(alloc, job, input, output, notes, shelf) }
-    }
+    serve_job(alloc, job, input, output, notes, shelf)
 }
 
-/// Answers the messages of the input and notes how the run ended.
-fn serve_messages<S: Source, T: Sink, N: Sink, H: Shelf>(
+/// Does the job.
+fn serve_job<S: Source, T: Sink, N: Sink, H: Shelf>(
     alloc: Global,
     job: &Job,
     input: &mut S,
@@ -83,47 +90,130 @@ fn serve_messages<S: Source, T: Sink, N: Sink, H: Shelf>(
     notes: &mut N,
     shelf: &mut H,
 ) -> Outcome
-    requires target { has_target job.now ≡ true }
-    requires changes { CanChange job.now }
-    requires reads { makes job.now ≡ false }
-    ensures runs { RunsJob job.now result (S.left input.old) (S.left input.new)
-        (world (T.contents output.old) (H.contents shelf.old))
-        (world (T.contents output.new) (H.contents shelf.new)) }
-    ensures noted { is_cut_short result ≡ false
-        → NotesJob job.now (S.left input.old) result (N.contents notes.old) (N.contents notes.new) }
-    ensures noted_front { NotesJobFront job.now (S.left input.old)
-        (S.faults input.old) (S.faults input.new) (H.faults shelf.old) (H.faults shelf.new)
-        (N.contents notes.old) (N.contents notes.new) }
-    ensures settled { is_cut_short result ≡ false
-        → (T.settled output.new ≡ true) × (N.settled notes.new ≡ true) }
-    ensures unfinished { T.faults output.old < T.faults output.new
-        → Unfinished (N.settled notes.old) (N.settled notes.new) }
-    ensures counts { CountsRun result
-        (faults (S.faults input.old) (T.faults output.old) (N.faults notes.old) (H.faults shelf.old))
-        (faults (S.faults input.new) (T.faults output.new) (N.faults notes.new) (H.faults shelf.new)) }
-    ensures shelf { uses_shelf job.now ≡ false → shelf.new ≡ shelf.old }
-    ensures unshelved { uses_shelf job.now ≡ false → result ≢ ShelfFault }
+    requires { IsJob job.now }
+    ensures { Serves S.left S.faults T.contents T.faults T.settled N.contents N.faults N.settled
+        H.contents H.faults (work_of job.now) result input.old input.new output.old output.new
+        notes.old notes.new shelf.old shelf.new }
 {
-    let answering = Answering { job };
+    match job {
+        Job::Check => serve_messages(&ByOutput(Checking), alloc, input, output, notes, shelf),
+        Job::List => serve_messages(&ByOutput(Listing), alloc, input, output, notes, shelf),
+        Job::Stats => serve_messages(&ByOutput(Summing), alloc, input, output, notes, shelf),
+        Job::Dump { decimals: None } => {
+            serve_messages(&ByOutput(Dumping), alloc, input, output, notes, shelf)
+        }
+        Job::Dump {
+            decimals: Some(places),
+        } => {
+            let places = *places;
+            let valuing = ByOutput(Valuing { places });
+            serve_messages(&valuing, alloc, input, output, notes, shelf)
+        }
+        Job::Filter(conditions) => {
+            let conditions = conditions.as_slice();
+            let filtering = ByOutput(Filtering { conditions });
+            serve_messages(&filtering, alloc, input, output, notes, shelf)
+        }
+        Job::Split(name) => {
+            serve_messages(&Splitting { name }, alloc, input, output, notes, shelf)
+        }
+        Job::Set(changes) => {
+            let changes = changes.as_slice();
+            let setting = ByOutput(Setting { changes });
+            serve_messages(&setting, alloc, input, output, notes, shelf)
+        }
+        Job::Repack(target) => {
+            let target = *target;
+            let repacking = ByOutput(Repacking { target });
+            serve_messages(&repacking, alloc, input, output, notes, shelf)
+        }
+        Job::Rescan => {
+            let edit = GridEdit::Rescan;
+            let rescanning = ByOutput(Rescanning { edit });
+            serve_messages(&rescanning, alloc, input, output, notes, shelf)
+        }
+        Job::Crop(area) => {
+            let edit = GridEdit::Crop(*area);
+            let cropping = ByOutput(Rescanning { edit });
+            serve_messages(&cropping, alloc, input, output, notes, shelf)
+        }
+        Job::Migrate { params, keep_local } => {
+            serve_migrated(alloc, params, *keep_local, input, output, notes, shelf)
+        }
+        Job::Make {
+            seed,
+            ni,
+            nj,
+            target,
+        } => serve_made(alloc, *seed, *ni, *nj, *target, output, notes),
+    }
+}
+
+/// Reads the table under this name, and then answers the messages of the input by it.
+fn serve_migrated<S: Source, T: Sink, N: Sink, H: Shelf>(
+    alloc: Global,
+    params: &Name,
+    keep_local: bool,
+    input: &mut S,
+    output: &mut T,
+    notes: &mut N,
+    shelf: &mut H,
+) -> Outcome
+    ensures { Serves S.left S.faults T.contents T.faults T.settled N.contents N.faults N.settled
+        H.contents H.faults (ReadsTable params.now (migrate_command keep_local)) result input.old input.new
+        output.old output.new notes.old notes.new shelf.old shelf.new }
+{
+    match read_table(alloc, params.as_str(), shelf) {
+        Ok(table) => {
+            let migrating = ByOutput(Migrating {
+                table: &table,
+                keep_local,
+            });
+            serve_messages(&migrating, alloc, input, output, notes, shelf)
+        }
+        Err(TableStop::Refused(refusal)) => {
+            close_with_note(alloc, Outcome::TableRefused(refusal), b"", output, notes)
+        }
+        Err(TableStop::ShelfFault) => {
+            close_with_note(alloc, Outcome::ShelfFault, b"", output, notes)
+        }
+        Err(TableStop::Memory) => close_with_note(alloc, Outcome::Memory, b"", output, notes),
+    }
+}
+
+/// Answers the messages of the input and notes how the run ended.
+fn serve_messages<C: Answerer, S: Source, T: Sink, N: Sink, H: Shelf>(
+    answerer: &C,
+    alloc: Global,
+    input: &mut S,
+    output: &mut T,
+    notes: &mut N,
+    shelf: &mut H,
+) -> Outcome
+    ensures { Serves S.left S.faults T.contents T.faults T.settled N.contents N.faults N.settled
+        H.contents H.faults (Reads (C.definition answerer.now)) result input.old input.new
+        output.old output.new notes.old notes.new shelf.old shelf.new }
+{
+    let answering = Answering { answerer };
     match answer_within(&answering, alloc, LIMIT, input, output, shelf) {
-        Ok(totals) => close_whole(alloc, job, &totals, output, notes),
+        Ok(totals) => close_whole(answerer, alloc, &totals, output, notes),
         Err(outcome) => close_with_note(alloc, outcome, b"", output, notes),
     }
 }
 
 /// Ends a run in which the input was read to its end and all was done.
-fn close_whole<T: Sink, N: Sink>(
+fn close_whole<C: Answerer, T: Sink, N: Sink>(
+    answerer: &C,
     alloc: Global,
-    job: &Job,
     totals: &Totals,
     output: &mut T,
     notes: &mut N,
 ) -> Outcome
     ensures ends { EndsRun T.contents T.faults T.settled N.contents N.faults N.settled
-        Done (tasks.ending_note job.now totals.now) result output.old output.new notes.old notes.new }
+        Done ((C.definition answerer.now).note totals.now) result output.old output.new notes.old notes.new }
     ensures output_kept { Keeps (T.contents output.old) (T.contents output.new) }
 {
-    match ending_note(alloc, job, totals) {
+    match answerer.ending_note(alloc, totals) {
         Ok(note) => close_with_note(alloc, Outcome::Done, note.as_slice(), output, notes),
         Err(_) => close_with_note(alloc, Outcome::Memory, b"", output, notes),
     }

@@ -11,16 +11,71 @@ ghost use Rattle.grib_engine.specs.Parts as parts;
 ghost use Rattle.grib_engine.specs.Parts.{part, part_of, parts_of, puts, puts_all, octets_within};
 ghost use Rattle.grib_engine.specs.Shelving.{Shelves};
 
-use crate::answering::Answered;
+use crate::answered::Answered;
+use crate::answerer::Answerer;
 use crate::name::Name;
-use grib_io::{Shelf, Stop};
+use crate::notes::written_note;
+use crate::writing::write_whole;
+use grib_io::{Shelf, Sink, Stop};
 use grib_select::single;
+use grib_stream::{Cause, Place, Totals};
+use grib1_sections::Message1;
 use grib2_message::Message;
 use std::alloc::{AllocError, Global};
 
+/// The command `split`.
+#[derive(Debug, Drop)]
+pub struct Splitting<'a> {
+    /// The name on the shelf before the numbers of the fields.
+    pub name: &'a Name,
+}
+
+impl Answerer for Splitting<'_> {
+    ghost use Rattle.grib_engine.specs.Splitting.{split_command, split_lawful};
+
+    ghost definition = { λ splitting. split_command splitting.name.now };
+
+    ghost lawful = { λ splitting. split_lawful splitting.name.now };
+
+    fn first<T: Sink, H: Shelf>(
+        &self,
+        _alloc: Global,
+        _place: &Place,
+        _message: &Message1<'_>,
+        _output: &mut T,
+        _shelf: &mut H,
+    ) -> Answered {
+        Answered::Kept(Cause::EditionOne)
+    }
+
+    fn second<T: Sink, H: Shelf>(
+        &self,
+        alloc: Global,
+        place: &Place,
+        message: &Message<'_>,
+        _output: &mut T,
+        shelf: &mut H,
+    ) -> Answered {
+        split(alloc, self.name, place.fields, message, shelf)
+    }
+
+    fn write_ending<T: Sink>(
+        &self,
+        _alloc: Global,
+        _totals: &Totals,
+        output: &mut T,
+    ) -> Result<(), Stop> {
+        write_whole(output, b"")
+    }
+
+    fn ending_note(&self, alloc: Global, totals: &Totals) -> Result<Vec<u8>, AllocError> {
+        written_note(alloc, totals)
+    }
+}
+
 /// Puts each field of a message on the shelf, as a message of its own under the name with the number of the
 /// field in the whole input, in which this many fields stand before the message.
-pub(crate) fn split<H: Shelf>(
+fn split<H: Shelf>(
     alloc: Global,
     name: &Name,
     before: u64,

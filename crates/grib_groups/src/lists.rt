@@ -29,6 +29,7 @@ impl Taker for References {
 
     ghost took = { ReferencesTook };
 
+    #[inline]
     fn take(mut self, code: Code) -> References {
         push_within(&mut self.items, number(code) as u32);
         self
@@ -66,6 +67,7 @@ impl Taker for Widths {
 
     ghost took = { WidthsTook };
 
+    #[inline]
     fn take(mut self, code: Code) -> Widths {
         let width = u64::from(self.reference) + number(code);
         self.too_wide = first_noted(self.too_wide, width > 32, self.items.len() as u64 + 1);
@@ -103,6 +105,7 @@ pub struct Lengths {
 
 impl Lengths {
     /// Adds the length of the next group.
+    #[inline]
     pub fn add(mut self, length: u64) -> Lengths
         requires { LengthsRoom self 1 }
         ensures { LengthAdded self length result }
@@ -125,6 +128,7 @@ impl Taker for Lengths {
 
     ghost took = { LengthsTook };
 
+    #[inline]
     fn take(self, code: Code) -> Lengths {
         let length = u64::from(self.reference) + u64::from(self.increment) * number(code);
         self.add(length)

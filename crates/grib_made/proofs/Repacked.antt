@@ -24,7 +24,10 @@ module _ (seed ni nj : ℕ) (column : Column) (s5 s6 s7 : List ℕ) (may : MayBe
       let five_7 : (section_number s7 == 5) ≡ false = ne_eqb (section_number s7) 5 (λ same. omega (arith, parts.itself_7.number_stands, same)) in
       let six_7 : (section_number s7 == 6) ≡ false = ne_eqb (section_number s7) 6 (λ same. omega (arith, parts.itself_7.number_stands, same)) in
       let is_7 : (section_number s7 == 7) ≡ true = eq-eqb (section_number s7) 7 parts.itself_7.number_stands in
-      rw (is_5, not_5, five_6, is_6, not_6, five_7, six_7, is_7) refl
+      let grid_5 : (section_number s5 == 3) ≡ false = ne_eqb (section_number s5) 3 (λ same. omega (arith, parts.itself_5.number_stands, same)) in
+      let grid_6 : (section_number s6 == 3) ≡ false = ne_eqb (section_number s6) 3 (λ same. omega (arith, parts.itself_6.number_stands, same)) in
+      let grid_7 : (section_number s7 == 3) ≡ false = ne_eqb (section_number s7) 3 (λ same. omega (arith, parts.itself_7.number_stands, same)) in
+      rw (grid_5, grid_6, grid_7, is_5, not_5, five_6, is_6, not_6, five_7, six_7, is_7) refl
 
 length-sections : (ni nj : ℕ) (part : Packed)
     → length (concat (sections_with ni nj part)) ≡ 127 + length part.section5 + length part.section6 + length part.section7

@@ -8,11 +8,15 @@ ghost use Rattle.std.specs.declared.io.ErrorKind.TheVariants.{OutOfMemory};
 use grib_cli::run;
 use grib_engine::Outcome;
 use grib_io::{FileShelf, ReadSource, WriteSink};
+use std::io::BufWriter;
 use std::process::ExitCode;
 use std::{env, io};
 
 /// The exit status where the words can't be fetched, for another cause than that there is no memory.
 const NO_WORDS: u8 = 11;
+
+/// How many octets of the output wait for more before they are written.
+const HELD_BACK: usize = 65_536;
 
 fn main(rt: HostRuntime) -> ExitCode {
     let words = match fetch_words(&rt) {
@@ -20,7 +24,10 @@ fn main(rt: HostRuntime) -> ExitCode {
         Err(error) => return ExitCode::from(status_of(&error)),
     };
     let mut input = ReadSource::new(rt.stdin());
-    let mut output = WriteSink::new(rt.stdout());
+    let Ok(mut buffered) = BufWriter::with_capacity(rt.alloc(), HELD_BACK, rt.stdout()) else {
+        return ExitCode::from(Outcome::Memory.status());
+    };
+    let mut output = WriteSink::new(&mut buffered);
     let mut notes = WriteSink::new(rt.stderr());
     let mut shelf = FileShelf::new(&rt);
     let outcome = run(
@@ -31,6 +38,8 @@ fn main(rt: HostRuntime) -> ExitCode {
         &mut notes,
         &mut shelf,
     );
+    // Where the output failed, what still waits is let go: a drop of the buffer would try it once more.
+    let (_stdout, _waiting) = buffered.into_parts();
     ExitCode::from(outcome.status())
 }
 

@@ -4,8 +4,8 @@ use Rattle.std.proofs.lemmas.List.{length-append}
 use Rattle.std.specs.Prelude.{Result}
 use Rattle.grib1_sections.specs.Grid.{grid_type}
 use Rattle.grib_bits.specs.Octets.{octets}
-use Rattle.grib_migrate.specs.declared.loss.Loss.{Loss}
-use Rattle.grib_migrate.specs.declared.loss.Loss.TheVariants.{GridNumber}
+use Rattle.grib_causes.specs.declared.loss.Loss.{Loss}
+use Rattle.grib_causes.specs.declared.loss.Loss.TheVariants.{GridNumber}
 use Rattle.grib_migrate.specs.declared.loss.MigrateFault.{MigrateFault}
 use Rattle.grib_migrate.specs.declared.number.Number.TheVariants.{One, Four}
 use Rattle.grib_migrate.specs.GridParts.{IsGridPart}

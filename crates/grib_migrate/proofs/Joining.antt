@@ -6,11 +6,11 @@ use Rattle.std.proofs.Common.{subst}
 use Rattle.grib_bits.proofs.Listed.{length-numbers_at}
 use Rattle.grib1_sections.specs.Grid.{nv, list_place, has_list}
 use Rattle.grib1_sections.specs.Coordinates.{coordinate_count, coordinate_list}
-use Rattle.grib_migrate.specs.declared.loss.Loss.{Loss}
+use Rattle.grib_causes.specs.declared.loss.Loss.{Loss}
 use Rattle.grib_migrate.specs.declared.loss.MigrateFault.{MigrateFault}
 use Rattle.grib_migrate.specs.declared.loss.MigrateFault.TheVariants.{Lost, Memory}
 use Rattle.grib_migrate.specs.Answered.{IsMigrateFault}
-use Rattle.grib_migrate.specs.Losses.{first_of, first_loss, front_losses, number_losses}
+use Rattle.grib_migrate.specs.Losses.{first_of, first_loss, front_losses, number_losses, coordinate_loss}
 use Rattle.std.proofs.lemmas.List.{length-append, length-drop}
 use Rattle.grib_bits.specs.Encoding.{octets_of, section_of}
 use Rattle.grib_bits.proofs.Encoding.{length-octets_of}
@@ -27,9 +27,14 @@ use Rattle.grib_migrate.specs.Levels.{surfaces_of}
 use Rattle.grib_migrate.specs.Times.{unit_of}
 use Rattle.grib_migrate.specs.Migrated.{local_section, front_sections, whole_message, migrated, no_unit, no_surfaces}
 
-pub second_lost : (g c r : Option Loss) (fault : MigrateFault) → g ≡ None → IsMigrateFault c fault → IsMigrateFault (first_of (g ∷ c ∷ r ∷ [])) fault
+second_lost : (g c r : Option Loss) (fault : MigrateFault) → g ≡ None → IsMigrateFault c fault → IsMigrateFault (first_of (g ∷ c ∷ r ∷ [])) fault
 second_lost g c r (Lost loss) none is = ap (λ o. first_of (o ∷ c ∷ r ∷ [])) none ∙ ap (λ o. first_of (None ∷ o ∷ r ∷ [])) is
 second_lost g c r Memory none is = tt
+
+pub second_lost_at : (g r : Option Loss) (words coordinates : List ℕ) (fault : MigrateFault) → g ≡ None → coordinates ≡ words → IsMigrateFault (coordinate_loss coordinates) fault
+    → IsMigrateFault (first_of (g ∷ coordinate_loss words ∷ r ∷ [])) fault
+second_lost_at g r words coordinates fault none same is =
+    second_lost g (coordinate_loss words) r fault none (subst (λ (xs : List ℕ). IsMigrateFault (coordinate_loss xs) fault) same is)
 
 pub third_lost : (g c r : Option Loss) (fault : MigrateFault) → g ≡ None → c ≡ None → IsMigrateFault r fault → IsMigrateFault (first_of (g ∷ c ∷ r ∷ [])) fault
 third_lost g c r (Lost loss) none none' is = ap (λ o. first_of (o ∷ c ∷ r ∷ [])) none ∙ ap (λ o. first_of (None ∷ o ∷ r ∷ [])) none' ∙ ap (λ o. first_of (None ∷ None ∷ o ∷ [])) is

@@ -5,6 +5,7 @@ pub mod Products
 pub mod References
 pub mod Dates
 pub mod Later
+pub mod Seconds
 pub mod Sections
 pub mod Kept
 pub mod Whole

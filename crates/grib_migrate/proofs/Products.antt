@@ -13,7 +13,7 @@ use Rattle.grib_migrate.specs.Numbers.{all_octets}
 use Rattle.grib_migrate.specs.Times.{is_interval, statistic}
 use Rattle.grib_migrate.specs.Dates.{end_of}
 use Rattle.grib_migrate.specs.Products.{moment_numbers, interval_numbers, end_numbers, instant_numbers, coordinate_numbers, product_octets}
-use Rattle.grib_migrate.specs.declared.loss.Loss.TheVariants.{Coordinate}
+use Rattle.grib_causes.specs.declared.loss.Loss.TheVariants.{Coordinate}
 use Rattle.grib_migrate.specs.Losses.{coordinate_loss, coordinate_loss_from}
 use Rattle.grib_migrate.specs.References.{binary32_of}
 use Rattle.grib_migrate.proofs.Numbers.{all_octets-append, length-all_octets}

@@ -172,7 +172,7 @@ word_is word w small some p finite same =
 pub record IsWordFor (word x : ℕ) : Type 0 where
   pub in_word : x < 2 ^ 32
   pub finite : IsFinite x
-  number : SameNumber (ieee x) (ibm word)
+  pub number : SameNumber (ieee x) (ibm word)
 
 module _ (word p : ℕ) (small : word < 2 ^ 32) (is : IsFound (λ q. nat_lt (magnitude word) (2 ^ (q + 155))) 0 254 p) (whole : magnitude word % 2 ^ (p + 131) ≡ 0) where
   found_word : IsWordFor word (word / 2 ^ 31 * 2 ^ 31 + (p * 2 ^ 23 + magnitude word / 2 ^ (p + 131)))
@@ -244,6 +244,30 @@ zero_mantissa word z =
         let more : 1 * 2 ^ (4 * ibm_a word) ≤ ibm_b word * 2 ^ (4 * ibm_a word) = mul-le-mul_right (2 ^ (4 * ibm_a word)) h in
         let some = pow_pos (4 * ibm_a word) in
         absurd (omega arith)
+
+-- zero has the word 0
+zero_stands : (word : ℕ) → magnitude word ≡ 0 → IsWordFor word 0
+zero_stands word z = record {
+  in_word = omega arith;
+  finite = omega arith;
+  number = scaled_same word 0 0 0 (sym (ap (λ n. signed (word / 2 ^ 31 == 1) n) z ∙ signed_zero (word / 2 ^ 31 == 1)));
+}
+  where
+    signed_zero : (b : Bool) → signed b 0 ≡ pos 0
+    signed_zero true = refl
+    signed_zero false = refl
+
+-- what is found is a finite word for the number
+pub word_stands : (word x : ℕ) → word < 2 ^ 32 → binary32_of word ≡ Some x → IsWordFor word x
+word_stands word x small e = by (eq-zero-or-pos (magnitude word))
+  where
+    by : (magnitude word ≡ 0) ⊎ (0 < magnitude word) → IsWordFor word x
+    by (inl z) =
+        let zero_is : Some 0 ≡ Some x =
+        sym (ap (λ b. cond b (Some 0) (option_and_then (word_at word (magnitude word)) (place_of (magnitude word)))) (eq-eqb (magnitude word) 0 z)) ∙ e in
+        let same : 0 ≡ x = cc in
+        subst (λ y. IsWordFor word y) same (zero_stands word z)
+    by (inr some) = word_exists word x small some e
 
 module _ (word : ℕ) (v : Binary) (small : word < 2 ^ 32) (same : SameNumber v (ibm word)) where
   converted_some : 0 < magnitude word → (result : Option ℕ) → IfSome result (λ w. w < 2 ^ 32) → IfSome result (λ w. IsFinite w) → IfSome result (λ w. SameNumber (ieee w) v)

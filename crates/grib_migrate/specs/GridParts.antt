@@ -1,6 +1,6 @@
 -- What is known while Section 3 is written, for private functions.
 use Rattle.std.specs.Prelude.{◌≡◌, ℕ, Option, None, List, ◌++◌, Result, Ok, Err}
-use Rattle.grib_migrate.specs.declared.loss.Loss.{Loss}
+use Rattle.grib_causes.specs.declared.loss.Loss.{Loss}
 use Rattle.grib_migrate.specs.declared.loss.MigrateFault.{MigrateFault}
 use Rattle.grib_migrate.specs.declared.number.Number.{Number}
 use Rattle.grib_migrate.specs.declared.grid.Polar.{Polar}

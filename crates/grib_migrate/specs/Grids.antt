@@ -6,8 +6,8 @@ use Rattle.grib_bits.specs.Bits.{digit}
 use Rattle.grib_bits.specs.Octets.{octets}
 use Rattle.grib1_sections.specs.Frame.{bit}
 use Rattle.grib1_sections.specs.Grid.{grid_type, nv, list_place, ni, nj, lists_rows, row_count}
-use Rattle.grib_migrate.specs.declared.loss.Loss.{Loss}
-use Rattle.grib_migrate.specs.declared.loss.Loss.TheVariants.{GridNumber}
+use Rattle.grib_causes.specs.declared.loss.Loss.{Loss}
+use Rattle.grib_causes.specs.declared.loss.Loss.TheVariants.{GridNumber}
 use Rattle.grib_migrate.specs.declared.number.Number.{Number}
 use Rattle.grib_migrate.specs.declared.number.Number.TheVariants.{One, Two, Four}
 use Rattle.grib_migrate.specs.declared.scaled.Scaled.{Scaled}

@@ -7,16 +7,21 @@ use grib_bits::{u8_at, u16_at};
 
 /// A fixed surface: its type (code table 4.5), and its value by a scale factor and a scaled value.
 #[derive(Clone, Copy, Debug)]
-pub(crate) struct Surface {
+pub struct Surface {
+    /// The type, 255 where there is no surface.
     pub kind: u8,
+    /// How many decimal places the scaled value has, 255 where it is missing.
     pub scale_factor: u8,
+    /// The value without its decimal point, all ones where it is missing.
     pub scaled_value: u32,
 }
 
 /// The first and the second fixed surface of a product.
 #[derive(Clone, Copy, Debug)]
-pub(crate) struct Surfaces {
+pub struct Surfaces {
+    /// The surface, or the top of a layer.
     pub first: Surface,
+    /// The bottom of a layer.
     pub second: Surface,
 }
 

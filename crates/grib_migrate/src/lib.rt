@@ -5,6 +5,7 @@
 mod checking;
 mod date;
 mod grid;
+pub mod laws;
 mod level;
 mod loss;
 mod migrating;
@@ -16,5 +17,9 @@ mod source;
 mod time;
 mod values;
 
-pub use loss::{Loss, MigrateFault};
+pub use grib_causes::Loss;
+pub use level::{Surface, Surfaces};
+pub use loss::MigrateFault;
 pub use migrating::migrate;
+pub use number::Number;
+pub use time::Unit;

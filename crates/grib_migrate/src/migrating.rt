@@ -79,14 +79,8 @@ fn front_sections(
     let grid = grid_octets(alloc, source.grid, source.points)?;
     few_coordinates(source.grid);
     few_octets(section1);
-    let product = match product_octets(alloc, section1, product, coordinates) {
-        Ok(octets) => octets,
-        Err(fault) => return Err(fault),
-    };
-    let packing = match packing_octets(alloc, section1, source.numbers, source.values) {
-        Ok(octets) => octets,
-        Err(fault) => return Err(fault),
-    };
+    let product = product_octets(alloc, section1, product, coordinates)?;
+    let packing = packing_octets(alloc, section1, source.numbers, source.values)?;
     let mut front = Vec::new(alloc);
     add_section(1, identification.as_slice(), &mut front)?;
     add_local(section1, keep_local, &mut front)?;

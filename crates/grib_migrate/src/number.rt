@@ -8,9 +8,12 @@ use std::alloc::AllocError;
 
 /// A number by how many octets it has.
 #[derive(Clone, Copy, Debug)]
-pub(crate) enum Number {
+pub enum Number {
+    /// Of one octet.
     One(u8),
+    /// Of two octets.
     Two(u16),
+    /// Of four octets.
     Four(u32),
 }
 

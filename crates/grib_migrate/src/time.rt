@@ -7,8 +7,10 @@ use grib_bits::{u8_at, u16_at};
 
 /// A unit of time: its code (code table 4.4) and its seconds.
 #[derive(Clone, Copy, Debug)]
-pub(crate) struct Unit {
+pub struct Unit {
+    /// The code in edition 2.
     pub code: u8,
+    /// How many seconds it has.
     pub seconds: u32,
 }
 

@@ -14,6 +14,14 @@ pub record IsSpan (span : Span) (run : List Code) : Type 0 where
   pub primary : span.primary ≡ list_any is_primary run
   pub secondary : span.secondary ≡ list_any is_secondary run
 
+-- the least number is not above the greatest
+abbrev pub IsOrdered : Span → Type 0
+IsOrdered span = span.least ≤ span.greatest
+
+-- the greatest number and the reserved codes take 32 bits at most
+abbrev pub IsSmallWith : ℕ → Span → Type 0
+IsSmallWith reserved span = span.greatest + reserved < 2 ^ 32
+
 -- the numbers and the reserved codes take 32 bits at most
 abbrev pub IsSmall : ℕ → List Code → Type 0
 IsSmall reserved run = greatest (present_codes run) + reserved < 2 ^ 32

@@ -1,12 +1,8 @@
 //! What each packing of the numbers of a field offers.
 
-ghost use Rattle.std.specs.Prelude.{◌≡◌, ◌≤◌, ℕ, None, length};
-ghost use Rattle.grib_bits.specs.Octets.{StatesItself};
-ghost use Rattle.grib_bitmap.specs.Mask.{present_count};
-ghost use Rattle.grib_packing.specs.Entries.{packing_fault};
-ghost use Rattle.grib_packing.specs.Packing.{packing_template, value_count};
+ghost use Rattle.std.specs.Prelude.{ℕ};
 ghost use Rattle.grib_packing.specs.Misfits.{Target};
-ghost use Rattle.grib_packing.specs.Unpacked.{IsUnpacked};
+ghost use Rattle.grib_packing.specs.Unpacked.{IsUnpacked, MayBeUnpacked};
 ghost use Rattle.grib_packing.specs.Written.{IsPacked, IsTarget, MayBePacked};
 
 use crate::{Column, PackFault, Packed};
@@ -34,11 +30,7 @@ pub trait Packing {
         mask: &Mask,
         section7: &Section<'_>,
     ) -> Result<Column, ReadFault>
-        requires some { 1 ≤ length mask.now }
-        requires few { length mask.now ≤ 33554432 }
-        requires accepted { packing_fault section5.now.octets.now (length mask.now) ≡ None }
-        requires template { packing_template section5.now.octets.now ≡ template self.now }
-        requires values { present_count mask.now ≡ value_count section5.now.octets.now }
+        requires { MayBeUnpacked (template self.now) section5.now.octets.now mask.now }
         ensures { IsUnpacked section5.now.octets.now mask.now section7.now.start section7.now.octets.now result };
 
     /// Sections 5, 6 and 7 of a column, whose original values were of the type `kind` (code table 5.1).

@@ -4,7 +4,7 @@ ghost use Rattle.std.specs.Prelude.{◌≡◌, ℕ, ◌+◌, ◌<◌, ◌≤◌,
 ghost use Rattle.grib_packing.specs.Groupings.{digits, width_of, reference_bits_of};
 ghost use Rattle.grib_packing.specs.Packed.{reference_of};
 ghost use Rattle.grib_base.specs.declared.code.Code as code_io;
-ghost use Rattle.grib_packing.specs.Span.{IsBelow, IsSpan};
+ghost use Rattle.grib_packing.specs.Span.{IsBelow, IsOrdered, IsSmallWith, IsSpan};
 
 use grib_base::Code;
 
@@ -37,8 +37,8 @@ impl Span {
     /// The span of these codes.
     pub fn of(run: &[Code]) -> Span
         ensures span { IsSpan result run.now }
-        ensures ordered { result.least ≤ result.greatest }
-        ensures small { (k : ℕ) → k ≤ 2 → All (IsBelow k) run.now → result.greatest + k < 2 ^ 32 }
+        ensures ordered { IsOrdered result }
+        ensures small { (k : ℕ) → k ≤ 2 → All (IsBelow k) run.now → IsSmallWith k result }
     {
         let mut span = Span::none();
         for done in 0..run.len() {
@@ -51,8 +51,8 @@ impl Span {
     #[inline]
     pub fn with(self, code: Code) -> Span
         ensures span { (run : List code_io.Code) → IsSpan self run → IsSpan result (code ∷ run) }
-        ensures ordered { self.least ≤ self.greatest → result.least ≤ result.greatest }
-        ensures small { (k : ℕ) → self.greatest + k < 2 ^ 32 → IsBelow k code → result.greatest + k < 2 ^ 32 }
+        ensures ordered { IsOrdered self → IsOrdered result }
+        ensures small { (k : ℕ) → IsSmallWith k self → IsBelow k code → IsSmallWith k result }
     {
         match code {
             Code::Present(number) => self.with_number(number),
@@ -71,8 +71,8 @@ impl Span {
     #[inline]
     fn with_number(self, number: u64) -> Span
         ensures span { (run : List code_io.Code) → IsSpan self run → IsSpan result (Code.Present number ∷ run) }
-        ensures ordered { self.least ≤ self.greatest → result.least ≤ result.greatest }
-        ensures small { (k : ℕ) → self.greatest + k < 2 ^ 32 → number + k < 2 ^ 32 → result.greatest + k < 2 ^ 32 }
+        ensures ordered { IsOrdered self → IsOrdered result }
+        ensures small { (k : ℕ) → IsSmallWith k self → number + k < 2 ^ 32 → IsSmallWith k result }
     {
         if self.present {
             Span {
@@ -93,8 +93,8 @@ impl Span {
     /// The width of the run as a group, in bits, with this many codes reserved for missing points.
     #[inline]
     pub fn width(self, reserved: u32) -> u32
-        requires ordered { self.least ≤ self.greatest }
-        requires small { self.greatest + reserved < 2 ^ 32 }
+        requires ordered { IsOrdered self }
+        requires small { IsSmallWith reserved self }
         ensures is { (run : List code_io.Code) → IsSpan self run → result ≡ width_of reserved run }
         ensures few { result ≤ 32 }
     {
@@ -129,7 +129,7 @@ impl Span {
     /// points: those of the greatest number and the reserved codes.
     #[inline]
     pub fn reference_bits(self, reserved: u32) -> u32
-        requires { self.greatest + reserved < 2 ^ 32 }
+        requires { IsSmallWith reserved self }
         ensures is { (run : List code_io.Code) → IsSpan self run → result ≡ reference_bits_of reserved run }
         ensures few { result ≤ 32 }
     {

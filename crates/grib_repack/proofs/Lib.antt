@@ -1,7 +1,7 @@
-mod Fields
-mod Sections
-mod Ranges
-mod Octets
-mod Columns
-mod Packing
-mod Kept
+pub mod Fields
+pub mod Sections
+pub mod Ranges
+pub mod Octets
+pub mod Columns
+pub mod Packing
+pub mod Kept

@@ -41,15 +41,15 @@ rescanned s is =
     }
 
 -- a box has a point at least, and no more than its grid
-record HasSize (area : Area) (s : List ℕ) : Type 0 where
-  width_some : 1 ≤ width area
-  height_some : 1 ≤ height area
-  few : height area * width area ≤ 33554432
-  some : 1 ≤ height area * width area
-  width_few : width area < 4294967296
-  height_few : height area < 4294967296
+pub record HasSize (area : Area) (s : List ℕ) : Type 0 where
+  pub width_some : 1 ≤ width area
+  pub height_some : 1 ≤ height area
+  pub few : height area * width area ≤ 33554432
+  pub some : 1 ≤ height area * width area
+  pub width_few : width area < 4294967296
+  pub height_few : height area < 4294967296
 
-has_size : (area : Area) (s : List ℕ) → IsLatLon s → IsBox area (octets s 31 34) (octets s 35 38) → HasSize area s
+pub has_size : (area : Area) (s : List ℕ) → IsLatLon s → IsBox area (octets s 31 34) (octets s 35 38) → HasSize area s
 has_size area s is box =
     let w : 1 ≤ width area = omega (arith, box.columns) in
     let h : 1 ≤ height area = omega (arith, box.rows) in

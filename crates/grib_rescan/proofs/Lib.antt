@@ -1,8 +1,8 @@
 mod Turns
 mod Runs
-mod Rows
+pub mod Rows
 mod Corners
 mod Octets
-mod Kept
-mod Accepted
-mod Uncaused
+pub mod Kept
+pub mod Accepted
+pub mod Uncaused

@@ -1,9 +1,5 @@
 -- Lemmas on rows that do not fail.
-use Rattle.std.proofs.Common.{◌≡◌, ℕ, Bool, true, false, cond, eqb, Option, Some, None, List, [], ◌∷◌, length, refl, sym, ap, ◌∙◌, subst}
-use Rattle.std.specs.Prelude.{Result, Ok, Err, IsErrAnd, MatchResult}
-use Rattle.grib_base.specs.declared.fault.ReadFault.{ReadFault}
-use Rattle.grib_base.specs.declared.fault.ReadFault.TheVariants.{Refused}
-use Rattle.grib_base.specs.Faults.{IsReadFault}
+use Rattle.std.proofs.Common.{◌≡◌, ℕ, Bool, true, false, cond, eqb, Option, Some, None, List, [], ◌∷◌, length, refl, ap, ◌∙◌}
 use Rattle.grib_base.specs.Rows.{Row, first_fault, first_fault_at, located, or_then, choose}
 use Rattle.grib_base.specs.declared.fault.Fault.{Fault}
 use Rattle.grib_packing.specs.Complex.{complex_rows}
@@ -27,20 +23,6 @@ passed r rows none = go r.fails refl none where
   go : (b : Bool) → r.fails ≡ b → cond b (Some r.fault) (first_fault rows) ≡ None → (r.fails ≡ false) × (first_fault rows ≡ None)
   go true e h = absurd (cc)
   go false e h = (e, h)
-
--- ---- what `?` carries on
-
--- a refusal
-pub refused : {A : Type 0} (P : A → Type 0) (expected : Option Fault) (result : Result A ReadFault) (fault : Fault)
-    → IsErrAnd result (λ read. read ≡ Refused fault) → expected ≡ Some fault → MatchResult result P (IsReadFault expected)
-refused P expected (Ok value) fault is known = absurd is
-refused P expected (Err read) fault is known = subst (IsReadFault expected) (sym is) known
-
--- either fault
-pub passed_on : {A : Type 0} (P : A → Type 0) (expected : Option Fault) (result : Result A ReadFault) (fault : ReadFault)
-    → IsErrAnd result (λ read. read ≡ fault) → IsReadFault expected fault → MatchResult result P (IsReadFault expected)
-passed_on P expected (Ok value) fault is known = absurd is
-passed_on P expected (Err read) fault is known = subst (IsReadFault expected) (sym is) known
 
 -- ---- what Section 7 gives in simple packing
 

@@ -8,7 +8,7 @@ use Rattle.std.proofs.KnownBytes.{Consumes-whole}
 use Rattle.grib_base.specs.Rows.{choose}
 use Rattle.grib_base.specs.declared.fault.Refusal.{Refusal}
 use Rattle.grib_stream.specs.declared.outcome.Outcome.{Outcome}
-use Rattle.grib_stream.specs.declared.outcome.Outcome.TheVariants.{Done, Usage, Refused, Kept, ReadFault, WriteFault, ShelfFault, Memory, InputTooLong, NotBuilt}
+use Rattle.grib_stream.specs.declared.outcome.Outcome.TheVariants.{Done, Usage, Refused, Kept, TableRefused, ReadFault, WriteFault, ShelfFault, Memory, InputTooLong, NotBuilt}
 use Rattle.grib_stream.specs.declared.place.Totals.{Totals}
 use Rattle.grib_stream.specs.Acts.{Act, World, Did, DidFront}
 use Rattle.grib_stream.specs.Outcomes.{KeepsOrCuts, is_broken, is_cut_short, is_cut_within, is_open, is_truncated, is_of_message}
@@ -80,6 +80,7 @@ of_message (Kept kept) is = record { closed = refl; not_done = λ e. cc; not_lon
 of_message NotBuilt is = record { closed = refl; not_done = λ e. cc; not_long = λ e. cc; not_read = λ e. cc }
 of_message Done is = absurd (false≢true is)
 of_message (Usage word) is = absurd (false≢true is)
+of_message (TableRefused refusal) is = absurd (false≢true is)
 of_message ReadFault is = absurd (false≢true is)
 of_message WriteFault is = absurd (false≢true is)
 of_message ShelfFault is = absurd (false≢true is)
@@ -126,6 +127,7 @@ cut_broken Done cut = absurd (false≢true cut)
 cut_broken (Usage word) cut = absurd (false≢true cut)
 cut_broken (Refused refusal) cut = absurd (false≢true cut)
 cut_broken (Kept kept) cut = absurd (false≢true cut)
+cut_broken (TableRefused refusal) cut = absurd (false≢true cut)
 cut_broken ShelfFault cut = absurd (false≢true cut)
 cut_broken InputTooLong cut = absurd (false≢true cut)
 cut_broken NotBuilt cut = absurd (false≢true cut)
@@ -145,6 +147,7 @@ cut_within Done cut = absurd (false≢true cut)
 cut_within (Usage word) cut = absurd (false≢true cut)
 cut_within (Refused refusal) cut = absurd (false≢true cut)
 cut_within (Kept kept) cut = absurd (false≢true cut)
+cut_within (TableRefused refusal) cut = absurd (false≢true cut)
 cut_within InputTooLong cut = absurd (false≢true cut)
 cut_within NotBuilt cut = absurd (false≢true cut)
 

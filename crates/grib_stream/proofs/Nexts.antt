@@ -3,10 +3,10 @@ use Rattle.std.proofs.Common.{◌≡◌, ℕ, zero, suc, ◌+◌, ◌<◌, ◌�
 use Rattle.std.proofs.lemmas.List.{take-append-le, drop_all}
 use Rattle.std.proofs.lemmas.Bool.{cases_lt}
 use Rattle.grib_base.specs.declared.fault.Fault.{Fault}
-use Rattle.grib_stream.specs.declared.outcome.Outcome.TheVariants.{NotBuilt, Refused}
+use Rattle.grib_stream.specs.declared.outcome.Outcome.TheVariants.{Refused}
 use Rattle.grib_stream.specs.declared.place.Place.{Place}
 use Rattle.grib_stream.specs.declared.place.Totals.{Totals}
-use Rattle.grib_stream.specs.Stream.{begins, Judgement, Message, Faulty, Unbuilt, Refusing, NotRead, stream_of}
+use Rattle.grib_stream.specs.Stream.{begins, Judgement, Message, Faulty, Refusing, stream_of}
 use Rattle.grib_stream.specs.Searching.{Markless}
 use Rattle.grib_stream.specs.Acts.{Act}
 use Rattle.grib_stream.specs.Outcomes.{is_truncated}
@@ -41,9 +41,6 @@ next_stays_by task lawful place octets more n (Faulty fault) so is final =
     let same : n ≡ Refuses fault = sym is ∙ judged task place octets (Faulty fault) so in
     let closed : not (is_truncated fault.reason) ≡ true = subst (λ m. is_final m ≡ true) same final in
     judged task place (octets ++ more) (Faulty fault) (lawful.refusal_stays octets more fault so (not_true (is_truncated fault.reason) closed)) ∙ sym same
-next_stays_by task lawful place octets more n Unbuilt so is final =
-    let same : n ≡ Stops NotBuilt = sym is ∙ judged task place octets Unbuilt so in
-    judged task place (octets ++ more) Unbuilt (lawful.unbuilt_stays octets more so) ∙ sym same
 
 pub next_stays : (task : Task) → IsLawful task → (place : Place) (octets more : List ℕ) (n : Next) → next_of task place octets ≡ n → is_final n ≡ true
     → next_of task place (octets ++ more) ≡ n
@@ -76,8 +73,6 @@ message_by task place octets total fields written acts (Message t) so is =
     message_given task place octets (task.result place (take t octets)) t total fields written acts so refl (sym (judged task place octets (Message t) so) ∙ is)
 message_by task place octets total fields written acts (Faulty fault) so is =
     let e : Refuses fault ≡ Whole total fields written acts = sym (judged task place octets (Faulty fault) so) ∙ is in let no : ⊥ = cc in absurd no
-message_by task place octets total fields written acts Unbuilt so is =
-    let e : Stops NotBuilt ≡ Whole total fields written acts = sym (judged task place octets Unbuilt so) ∙ is in let no : ⊥ = cc in absurd no
 
 pub message_next : (task : Task) (place : Place) (octets : List ℕ) (total fields written : ℕ) (acts : List Act)
     → next_of task place octets ≡ Whole total fields written acts → IsMessage task place octets total fields written acts
@@ -142,11 +137,6 @@ by_judgement task lawful totals place octets begun (Faulty fault) so =
     ap (answer_to task totals.messages totals.fields totals.written)
     (stream_refused task.judge place totals.skipped octets (Faulty fault) (stream_of [] (Refusing fault)) begun so (λ next. refl))
     ∙ ap (answer_by task totals place octets) (sym (judged task here octets (Faulty fault) so))
-by_judgement task lawful totals place octets begun Unbuilt so =
-    let here : Place = place_of totals.messages place totals.fields in
-    ap (answer_to task totals.messages totals.fields totals.written)
-    (stream_refused task.judge place totals.skipped octets Unbuilt (stream_of [] NotRead) begun so (λ next. refl))
-    ∙ ap (answer_by task totals place octets) (sym (judged task here octets Unbuilt so))
 
 pub answer_next : (task : Task) → IsLawful task → (totals : Totals) (place : ℕ) (octets : List ℕ) → begins octets ≡ true
     → answer_at task totals place octets ≡ answer_by task totals place octets (next_here task totals place octets)

@@ -1,7 +1,7 @@
 -- The note of an answer that ends before the end of the input.
 use Rattle.std.proofs.Common.{ℕ, ◌+◌, List, [], ◌∷◌, length, take, refl, sym, subst, ⊎_elim}
 use Rattle.std.proofs.lemmas.Bool.{cases_lt, cases_Bool}
-use Rattle.grib_stream.specs.Stream.{Found, End, Over, Refusing, NotRead, stream_from}
+use Rattle.grib_stream.specs.Stream.{Found, End, Over, Refusing, stream_from}
 use Rattle.grib_stream.specs.Acts.{Act}
 use Rattle.grib_stream.specs.Outcomes.{is_open}
 use Rattle.grib_stream.specs.Task.{Task, Given, Gives, Ends}
@@ -11,7 +11,6 @@ use Rattle.grib_stream.proofs.Exits.{within_short, within_long, open_at_limit, c
 notes_end : (task : Task) (messages fields written : ℕ) (end : End) → NotesOutcome task (on_end task messages fields written end)
 notes_end task messages fields written (Over skipped) = λ other. absurd (other refl)
 notes_end task messages fields written (Refusing fault) = λ other. refl
-notes_end task messages fields written NotRead = λ other. refl
 
 notes_given : (task : Task) (given : Given) (next : List Act → ℕ → Answer) → ((acts : List Act) (written : ℕ) → NotesOutcome task (next acts written))
     → NotesOutcome task (on_given task given next)

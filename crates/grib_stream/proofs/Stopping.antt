@@ -8,12 +8,12 @@ use Rattle.std.specs.Io.KnownBytes.{Consumes, IsAtEnd}
 use Rattle.std.proofs.KnownBytes.{Consumes-kept, Consumes-trans}
 use Rattle.grib_base.specs.declared.fault.Fault.{Fault}
 use Rattle.grib_stream.specs.declared.outcome.Outcome.{Outcome}
-use Rattle.grib_stream.specs.declared.outcome.Outcome.TheVariants.{Done, Refused, ReadFault, WriteFault, ShelfFault, Memory, InputTooLong, NotBuilt}
+use Rattle.grib_stream.specs.declared.outcome.Outcome.TheVariants.{Done, Refused, ReadFault, WriteFault, ShelfFault, Memory, InputTooLong}
 use Rattle.grib_stream.specs.declared.place.Place.{Place}
 use Rattle.grib_stream.specs.declared.place.Totals.{Totals}
 use Rattle.grib_stream.specs.declared.gathering.Rest.{Rest}
 use Rattle.grib_stream.specs.declared.gathering.Rest.TheVariants.{Open, Full, Ended}
-use Rattle.grib_stream.specs.Stream.{begins, Judgement, Message, Faulty, Unbuilt}
+use Rattle.grib_stream.specs.Stream.{begins, Judgement, Message, Faulty}
 use Rattle.grib_stream.specs.Acts.{Act, World, Did}
 use Rattle.grib_stream.specs.Outcomes.{is_broken, is_cut_within, is_open, is_truncated, is_of_message}
 use Rattle.grib_stream.specs.Task.{Task, IsLawful, Given, Gives, Ends, Refuses, Stops, next_given, next_of}
@@ -45,10 +45,6 @@ stops_by task lawful place octets outcome (Message total) so stops =
     (sym (judged task place octets (Message total) so) ∙ stops)
 stops_by task lawful place octets outcome (Faulty fault) so stops =
     let e : Refuses fault ≡ Stops outcome = sym (judged task place octets (Faulty fault) so) ∙ stops in let no : ⊥ = cc in absurd no
-stops_by task lawful place octets outcome Unbuilt so stops =
-    let e : Stops NotBuilt ≡ Stops outcome = sym (judged task place octets Unbuilt so) ∙ stops in
-    let same : NotBuilt ≡ outcome = cc in
-    subst (λ o. is_of_message o ≡ true) same refl
 
 not_false : (b : Bool) → b ≡ false → not b ≡ true
 not_false b is = ap not is

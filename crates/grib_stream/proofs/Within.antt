@@ -2,7 +2,7 @@
 use Rattle.std.proofs.Common.{◌≡◌, ℕ, zero, suc, ◌+◌, ◌-◌, ◌<◌, ◌≤◌, true, false, List, [], ◌∷◌, ◌++◌, length, take, drop, refl, sym, ap, ◌∙◌, arith, ⊎_elim, length-take-le, length-drop, take-append-drop}
 use Rattle.std.proofs.lemmas.Bool.{cases_Bool, cases_lt, cond-true, cond-false, le-leb, lt-leb}
 use Rattle.std.proofs.lemmas.List.{take-append-le, drop_all}
-use Rattle.grib_stream.specs.Stream.{begins, Judgement, Message, Faulty, Unbuilt, Found, message_after, Stream, followed_by, on_judgement, stream_from, stream}
+use Rattle.grib_stream.specs.Stream.{begins, Judgement, Message, Faulty, Found, message_after, Stream, followed_by, on_judgement, stream_from, stream}
 use Rattle.grib_stream.specs.Searching.{Markless}
 use Rattle.grib_stream.specs.Task.{Task, IsLawful}
 use Rattle.grib_stream.specs.Within.{ends_within, messages_within}
@@ -42,8 +42,6 @@ beyond_judged task lawful n place skipped octet octets (Message total) some is f
     ∙ later (total - 1) (omega (arith, ends, least)))
 beyond_judged task lawful n place skipped octet octets (Faulty fault) some is far later =
     ap (λ x. messages_within n x.messages) (begun_by task.judge place skipped octet octets (Faulty fault) some is)
-beyond_judged task lawful n place skipped octet octets Unbuilt some is far later =
-    ap (λ x. messages_within n x.messages) (begun_by task.judge place skipped octet octets Unbuilt some is)
 
 beyond : (task : Task) → IsLawful task → (n inside place skipped : ℕ) (octets : List ℕ) → n ≤ place + inside
     → messages_within n (stream_from task.judge inside place skipped octets).messages ≡ []
@@ -125,12 +123,6 @@ same_judged task lawful place skipped octet octets more (Faulty fault) here some
     let none : ⊥ = cc in absurd none)
     (cases_lt (length (octet ∷ octets)) total))
     (ap (λ x. x.messages) (begun_by task.judge place skipped octet octets (Faulty fault) here is))
-same_judged task lawful place skipped octet octets more Unbuilt here some is later =
-    same_none task lawful place skipped octet octets more some
-    (λ total accepted.
-    let no : Unbuilt ≡ Message total = sym (lawful.unbuilt_stays (octet ∷ octets) more is) ∙ accepted in
-    let none : ⊥ = cc in absurd none)
-    (ap (λ x. x.messages) (begun_by task.judge place skipped octet octets Unbuilt here is))
 
 same_skipped : (task : Task) (place skipped octet : ℕ) (octets more : List ℕ) → begins (octet ∷ octets) ≡ false → begins (octet ∷ (octets ++ more)) ≡ false
     → Same task 0 (place + 1) (skipped + 1) octets more → Same task 0 place skipped (octet ∷ octets) more

@@ -5,10 +5,10 @@ use Rattle.grib_base.specs.Rows.{choose}
 use Rattle.grib_base.specs.declared.fault.Fault.{Fault}
 use Rattle.grib_base.specs.declared.fault.Refusal.{Refusal}
 use Rattle.grib_stream.specs.declared.outcome.Outcome.{Outcome}
-use Rattle.grib_stream.specs.declared.outcome.Outcome.TheVariants.{Done, Refused, InputTooLong, NotBuilt}
+use Rattle.grib_stream.specs.declared.outcome.Outcome.TheVariants.{Done, Refused, InputTooLong}
 use Rattle.grib_stream.specs.declared.place.Place.{Place}
 use Rattle.grib_stream.specs.declared.place.Totals.{Totals}
-use Rattle.grib_stream.specs.Stream.{Found, End, Over, Refusing, NotRead, Stream, stream_from}
+use Rattle.grib_stream.specs.Stream.{Found, End, Over, Refusing, Stream, stream_from}
 use Rattle.grib_stream.specs.Acts.{Act}
 use Rattle.grib_stream.specs.Outcomes.{is_open}
 use Rattle.grib_stream.specs.Task.{Task, Given, Gives, Ends}
@@ -44,7 +44,6 @@ refusal_after messages fault = record { message = messages + 1; fault = fault }
 abbrev pub on_end : Task → ℕ → ℕ → ℕ → End → Answer
 on_end task messages fields written (Over skipped) = done task (totals_of messages fields skipped written)
 on_end task messages fields written (Refusing fault) = silent task (Refused (refusal_after messages fault))
-on_end task messages fields written NotRead = silent task NotBuilt
 
 abbrev pub on_given : Task → Given → (List Act → ℕ → Answer) → Answer
 on_given task (Gives acts written) next = next acts written

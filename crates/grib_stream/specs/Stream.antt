@@ -10,12 +10,10 @@ use Rattle.grib2_sections.specs.Head.{indicator}
 abbrev pub begins : List ℕ → Bool
 begins octets = bytes_eq (take 4 octets) indicator
 
--- what is said of the octets from a `GRIB` on: they begin with a message of this length, they are refused,
--- or they are of an edition that is not built yet
+-- what is said of the octets from a `GRIB` on: they begin with a message of this length, or they are refused
 pub data Judgement : Type 0 where
   Message : ℕ → Judgement
   Faulty : Fault → Judgement
-  Unbuilt : Judgement
 
 -- a message: how many octets of the input stand before it, and its own octets
 pub record Found : Type 0 where
@@ -26,11 +24,10 @@ abbrev pub message_after : ℕ → List ℕ → Found
 message_after before octets = record { before = before; octets = octets }
 
 -- what stands after the last message: no further `GRIB`, with the number of all skipped octets, or
--- octets that are refused, or not built
+-- octets that are refused
 pub data End : Type 0 where
   Over : ℕ → End
   Refusing : Fault → End
-  NotRead : End
 
 pub record Stream : Type 0 where
   pub messages : List Found
@@ -46,7 +43,6 @@ followed_by first stream = stream_of (first ∷ stream.messages) stream.end
 abbrev pub on_judgement : Judgement → (ℕ → Stream) → Stream
 on_judgement (Message total) next = next total
 on_judgement (Faulty fault) next = stream_of [] (Refusing fault)
-on_judgement Unbuilt next = stream_of [] NotRead
 
 -- The messages of what is left of an input, of which `place` octets stand before and `skipped` of these
 -- belong to no message. The first `inside` of the octets belong to a message that was found already.

@@ -2,10 +2,9 @@
 use Rattle.std.specs.Prelude.{◌≡◌, ℕ, ◌*◌, ◌≤◌, true, false, List, [], ◌++◌, length, take}
 use Rattle.grib_base.specs.declared.fault.Fault.{Fault}
 use Rattle.grib_stream.specs.declared.outcome.Outcome.{Outcome}
-use Rattle.grib_stream.specs.declared.outcome.Outcome.TheVariants.{NotBuilt}
 use Rattle.grib_stream.specs.declared.place.Place.{Place}
 use Rattle.grib_stream.specs.declared.place.Totals.{Totals}
-use Rattle.grib_stream.specs.Stream.{Judgement, Message, Faulty, Unbuilt, begins}
+use Rattle.grib_stream.specs.Stream.{Judgement, Message, Faulty, begins}
 use Rattle.grib_stream.specs.Acts.{Act}
 use Rattle.grib_stream.specs.Outcomes.{is_truncated, is_of_message}
 
@@ -41,7 +40,6 @@ pub record IsLawful (task : Task) : Type 0 where
   pub message_stays : (octets more : List ℕ) (total : ℕ) → task.judge octets ≡ Message total → task.judge (octets ++ more) ≡ Message total
   pub refusal_stays : (octets more : List ℕ) (fault : Fault) → task.judge octets ≡ Faulty fault → is_truncated fault.reason ≡ false
       → task.judge (octets ++ more) ≡ Faulty fault
-  pub unbuilt_stays : (octets more : List ℕ) → task.judge octets ≡ Unbuilt → task.judge (octets ++ more) ≡ Unbuilt
   pub least : (octets : List ℕ) (total : ℕ) → task.judge octets ≡ Message total → 4 ≤ total
   pub there : (octets : List ℕ) (total : ℕ) → task.judge octets ≡ Message total → total ≤ length octets
   pub alone : (octets : List ℕ) (total : ℕ) → task.judge octets ≡ Message total → task.judge (take total octets) ≡ Message total
@@ -64,7 +62,6 @@ next_given (Ends outcome) total fields = Stops outcome
 abbrev pub next_judged : Judgement → (ℕ → Next) → Next
 next_judged (Message total) next = next total
 next_judged (Faulty fault) next = Refuses fault
-next_judged Unbuilt next = Stops NotBuilt
 
 abbrev pub next_of : Task → Place → List ℕ → Next
 next_of task place octets =

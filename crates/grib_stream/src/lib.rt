@@ -14,6 +14,7 @@ mod searching;
 mod window;
 
 pub use answering::{LIMIT, answer_within};
-pub use outcome::{Cause, Kept, Outcome};
+pub use grib_causes::{Cause, Kept, Loss, TableRefusal};
+pub use outcome::Outcome;
 pub use performer::{Performed, Performer, Whole};
 pub use place::{Place, Totals};

@@ -5,7 +5,7 @@ ghost use Rattle.std.specs.Prelude.{◌≡◌, ◌≤◌, None, length as length
 ghost use Rattle.grib_bits.specs.Octets.{StatesItself};
 ghost use Rattle.grib_bitmap.specs.Mask.{present_count};
 ghost use Rattle.grib_packing.specs.Entries.{packing_fault};
-ghost use Rattle.grib_packing.specs.Packing.{value_count};
+ghost use Rattle.grib_packing.specs.Packing.{packing_template, value_count};
 ghost use Rattle.grib_complex.specs.Feeding.{IsFed};
 
 use crate::given::section;
@@ -59,10 +59,27 @@ fn whole(
         panic!(rt; "the groups are refused");
     };
     if simple.template == 2 {
-        ComplexPacking.unpack(alloc, &section5, mask, &section7)
+        whole_by(&ComplexPacking, alloc, &section5, mask, &section7)
     } else {
-        SpatialPacking::new(1).unpack(alloc, &section5, mask, &section7)
+        whole_by(&SpatialPacking::new(1), alloc, &section5, mask, &section7)
     }
+}
+
+/// The column of a field by a packing, which is that of its Section 5.
+fn whole_by<P: Packing>(
+    packing: &P,
+    alloc: Global,
+    section5: &Section<'_>,
+    mask: &Mask,
+    section7: &Section<'_>,
+) -> Result<Column, ReadFault>
+    requires some { 1 ≤ length_of mask.now }
+    requires few { length_of mask.now ≤ 33554432 }
+    requires accepted { packing_fault section5.now.octets.now (length_of mask.now) ≡ None }
+    requires template { packing_template section5.now.octets.now ≡ P.template packing.now }
+    requires values { present_count mask.now ≡ value_count section5.now.octets.now }
+{
+    packing.unpack(alloc, section5, mask, section7)
 }
 
 /// The column of a section that comes in pieces of this many octets.

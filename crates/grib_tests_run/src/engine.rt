@@ -4,7 +4,9 @@ ghost use Rattle.std.specs.Prelude.{◌≤◌, ◌^◌};
 
 use crate::worked::{PLAIN, TWO_FIELDS};
 use grib_base::{Fault, Reason, Refusal};
-use grib_engine::{Answering, Cause, Job, Kept, Outcome, Totals, close, close_with_note, serve};
+use grib_engine::{
+    Answering, ByOutput, Cause, Checking, Job, Kept, Outcome, Totals, close, close_with_note, serve,
+};
 use grib_io::{CalmSink, CalmSource, MemoryShelf, MemorySink, MemorySource, Sink};
 use grib_keys::Key;
 use grib_stream::answer_within;
@@ -88,7 +90,9 @@ fn an_input_past_the_limit_is_answered_to_it(rt: HostRuntime) -> Result<(), Fail
         let mut input = CalmSource::new(stream(rt.alloc())?, 13);
         let mut output = CalmSink::new(rt.alloc(), 100);
         let mut shelf = MemoryShelf::new(rt.alloc(), Vec::new(rt.alloc()));
-        let answering = Answering { job: &Job::Check };
+        let answering = Answering {
+            answerer: &ByOutput(Checking),
+        };
         let outcome = answer_within(
             &answering,
             rt.alloc(),
@@ -108,7 +112,9 @@ fn an_input_as_long_as_the_limit_is_answered(rt: HostRuntime) -> Result<(), Fail
     let mut input = CalmSource::new(stream(rt.alloc())?, 13);
     let mut output = CalmSink::new(rt.alloc(), 100);
     let mut shelf = MemoryShelf::new(rt.alloc(), Vec::new(rt.alloc()));
-    let answering = Answering { job: &Job::Check };
+    let answering = Answering {
+        answerer: &ByOutput(Checking),
+    };
     let outcome = answer_within(
         &answering,
         rt.alloc(),
@@ -205,7 +211,7 @@ fn a_dump_longer_than_the_buffer_is_whole(rt: HostRuntime) -> Result<(), Fail> {
     let mut shelf = MemoryShelf::new(rt.alloc(), Vec::new(rt.alloc()));
     let outcome = serve(
         rt.alloc(),
-        &Job::Dump,
+        &Job::Dump { decimals: None },
         &mut input,
         &mut output,
         &mut notes,

@@ -1,10 +1,8 @@
-//! Tests of the crates that read, change and print whole messages, and of the runs over them, over their
+//! Tests of the crates that read, change and print whole messages, and of the runs of a job, over their
 //! public calls alone, a module for each crate. Expected values are from outside, worked by hand or made by
 //! another program.
 #![tactic(auto)]
 
-#[cfg(test)]
-mod cli;
 #[cfg(test)]
 mod edition1;
 #[cfg(test)]
@@ -13,6 +11,8 @@ mod engine;
 mod made;
 #[cfg(test)]
 mod message;
+#[cfg(test)]
+mod migrate;
 #[cfg(test)]
 mod repack;
 #[cfg(test)]

@@ -6,7 +6,8 @@ use Rattle.grib_base.specs.declared.fault.Fault.{Fault}
 use Rattle.grib_base.specs.Reason.{name_of}
 use Rattle.grib_dyadic.specs.Reference.{Binary}
 use Rattle.grib_text.specs.Words.{filled_decimal}
-use Rattle.grib_text.specs.Lines.{reference_line, time_of, origin_text, grid_text, product_of, product_text, packing_text, field_line}
+use Rattle.grib2_message.specs.declared.summary.FieldSummary.{FieldSummary}
+use Rattle.grib_text.specs.Lines.{reference_line, time_of, time_text, origin_of, grid_of, product_of, product_text, packing_of, summary_line}
 use Rattle.grib_text.specs.Notes.{refusal_note}
 
 refusal_note-regroup : (a b c d : List ℕ) → codes "refused message " ++ (a ++ (codes " octet " ++ (b ++ (codes " " ++ (c ++ (codes " " ++ (d ++ 10 ∷ []))))))) ≡ codes "refused message " ++ a ++ codes " octet " ++ b ++ codes " " ++ c ++ codes " " ++ d ++ 10 ∷ []
@@ -57,12 +58,13 @@ pub time_of-pieces : (y m d h i s : ℕ) (ys ms ds hs is ss : List ℕ) → IsTi
 time_of-pieces y m d h i s ys ms ds hs is ss t =
     rw (t.year, t.month, t.day, t.hour, t.minute, t.second) (time_of-regroup (filled_decimal 4 y) (filled_decimal 2 m) (filled_decimal 2 d) (filled_decimal 2 h) (filled_decimal 2 i) (filled_decimal 2 s))
 
-field_line-regroup : (m i o g p k : List ℕ) → m ++ (codes "." ++ (i ++ (codes " ed=2 " ++ (o ++ (codes " " ++ (g ++ (codes " " ++ (p ++ (codes " " ++ (k ++ 10 ∷ [])))))))))) ≡ m ++ codes "." ++ i ++ codes " ed=2 " ++ o ++ codes " " ++ g ++ codes " " ++ p ++ codes " " ++ k ++ 10 ∷ []
-field_line-regroup m i o g p k = simp append_assoc
+summary_line-regroup : (m i o g p k : List ℕ) → m ++ (codes "." ++ (i ++ (codes " ed=2 " ++ (o ++ (codes " " ++ (g ++ (codes " " ++ (p ++ (codes " " ++ (k ++ 10 ∷ [])))))))))) ≡ m ++ codes "." ++ i ++ codes " ed=2 " ++ o ++ codes " " ++ g ++ codes " " ++ p ++ codes " " ++ k ++ 10 ∷ []
+summary_line-regroup m i o g p k = simp append_assoc
 
-pub field_line-pieces : (m i discipline : ℕ) (s1 s3 s4 s5 o g p k : List ℕ) → o ≡ origin_text s1 → g ≡ grid_text s3 → p ≡ product_text discipline s4 → k ≡ packing_text s5 → decimal m ++ (codes "." ++ (decimal i ++ (codes " ed=2 " ++ (o ++ (codes " " ++ (g ++ (codes " " ++ (p ++ (codes " " ++ (k ++ 10 ∷ [])))))))))) ≡ field_line m i discipline s1 s3 s4 s5
-field_line-pieces m i discipline s1 s3 s4 s5 o g p k e f h j =
-    rw (e, f, h, j) (field_line-regroup (decimal m) (decimal i) (origin_text s1) (grid_text s3) (product_text discipline s4) (packing_text s5))
+pub summary_line-pieces : (m i : ℕ) (s : FieldSummary) (o g p k : List ℕ) → o ≡ origin_of s.identification.centre (time_text s.identification) → g ≡ grid_of s.grid s.points → p ≡ product_text s → k ≡ packing_of s.packing s.bits s.values
+    → decimal m ++ (codes "." ++ (decimal i ++ (codes " ed=2 " ++ (o ++ (codes " " ++ (g ++ (codes " " ++ (p ++ (codes " " ++ (k ++ 10 ∷ [])))))))))) ≡ summary_line s m i
+summary_line-pieces m i s o g p k e f h j =
+    rw (e, f, h, j) (summary_line-regroup (decimal m) (decimal i) (origin_of s.identification.centre (time_text s.identification)) (grid_of s.grid s.points) (product_text s) (packing_of s.packing s.bits s.values))
 
 product_of-regroup : (t p u a s : List ℕ) → codes "product=4." ++ (t ++ (codes " param=" ++ (p ++ (codes " unit=" ++ (u ++ (codes " ahead=" ++ (a ++ (codes " surface=" ++ s)))))))) ≡ codes "product=4." ++ t ++ codes " param=" ++ p ++ codes " unit=" ++ u ++ codes " ahead=" ++ a ++ codes " surface=" ++ s
 product_of-regroup t p u a s = simp append_assoc

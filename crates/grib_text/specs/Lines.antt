@@ -1,15 +1,13 @@
 -- The lines that `check`, `list` and `dump` print, with their newline (10).
 use Rattle.std.specs.Prelude.{ℕ, ◌+◌, Option, List, [], ◌∷◌, ◌++◌, codes, ℤ}
 use Rattle.std.specs.Fmt.{decimal, signed_decimal}
-use Rattle.grib_bits.specs.Octets.{octets, signed_octets}
+use Rattle.grib_bits.specs.Bits.{bits_of, signed}
 use Rattle.grib_dyadic.specs.Reference.{Binary}
 use Rattle.grib_packing.specs.declared.column.Point.{Point}
 use Rattle.grib_packing.specs.declared.column.Point.TheVariants.{Scaled, Missing, Missing2}
-use Rattle.grib2_sections.specs.Head.{discipline}
-use Rattle.grib2_message.specs.Grid.{grid_points, grid_template}
-use Rattle.grib2_message.specs.Product.{product_template}
-use Rattle.grib_packing.specs.Packing.{packing_template, bit_width, value_count}
-use Rattle.grib2_message.specs.Fields.{part_octets}
+use Rattle.grib2_sections.specs.declared.identification.Identification.{Identification}
+use Rattle.grib2_message.specs.declared.summary.FieldSummary.{FieldSummary}
+use Rattle.grib2_message.specs.Summary.{summary_of}
 use Rattle.grib_text.specs.Words.{filled_decimal, number_or_none, signed_or_none, text_or_missing}
 
 -- of message m, which stands after `before` octets of the input
@@ -28,45 +26,31 @@ time_of year month day hour minute second =
     filled_decimal 4 year ++ codes "-" ++ filled_decimal 2 month ++ codes "-" ++ filled_decimal 2 day
     ++ codes "T" ++ filled_decimal 2 hour ++ codes ":" ++ filled_decimal 2 minute ++ codes ":" ++ filled_decimal 2 second
 
--- the reference time: octets 13-19 of Section 1
-abbrev pub time_text : List ℕ → List ℕ
-time_text s1 =
-    time_of (octets s1 13 14) (octets s1 15 15) (octets s1 16 16) (octets s1 17 17) (octets s1 18 18) (octets s1 19 19)
+-- the reference time
+abbrev pub time_text : Identification → List ℕ
+time_text id = time_of id.year id.month id.day id.hour id.minute id.second
 
 -- the type, the scale factor and the scaled value of a fixed surface
 abbrev pub surface_of : Option ℤ → Option ℤ → Option ℤ → List ℕ
 surface_of kind scale value =
     text_or_missing kind ++ codes ":" ++ text_or_missing scale ++ codes ":" ++ text_or_missing value
 
--- the first fixed surface: octets 23-28 of Section 4
-abbrev pub surface_text : List ℕ → List ℕ
-surface_text s4 =
-    surface_of (number_or_none 8 (octets s4 23 23)) (signed_or_none 8 (octets s4 24 24)) (number_or_none 32 (octets s4 25 28))
+-- the first fixed surface; each number is missing where its bits are all ones
+abbrev pub surface_text : FieldSummary → List ℕ
+surface_text s = surface_of (number_or_none 8 s.surface) (signed_or_none 8 s.scale) (number_or_none 32 s.value)
 
 -- discipline, parameter category and parameter number
 abbrev pub parameter_of : ℕ → ℕ → ℕ → List ℕ
 parameter_of discipline category number =
     decimal discipline ++ codes "." ++ decimal category ++ codes "." ++ decimal number
 
--- the parameter: octets 10 and 11 of Section 4
-abbrev pub parameter_text : ℕ → List ℕ → List ℕ
-parameter_text discipline s4 = parameter_of discipline (octets s4 10 10) (octets s4 11 11)
-
 -- the centre and the text of the reference time
 abbrev pub origin_of : ℕ → List ℕ → List ℕ
 origin_of centre time = codes "centre=" ++ decimal centre ++ codes " time=" ++ time
 
--- what Section 1 says
-abbrev pub origin_text : List ℕ → List ℕ
-origin_text s1 = origin_of (octets s1 6 7) (time_text s1)
-
 -- the template and the number of points
 abbrev pub grid_of : ℕ → ℕ → List ℕ
 grid_of template points = codes "grid=3." ++ decimal template ++ codes " points=" ++ decimal points
-
--- what Section 3 says
-abbrev pub grid_text : List ℕ → List ℕ
-grid_text s3 = grid_of (grid_template s3) (grid_points s3)
 
 -- the template, the text of the parameter, the forecast time with its unit, and the text of the surface
 abbrev pub product_of : ℕ → List ℕ → ℕ → ℤ → List ℕ → List ℕ
@@ -74,30 +58,26 @@ product_of template parameter unit ahead surface =
     codes "product=4." ++ decimal template ++ codes " param=" ++ parameter
     ++ codes " unit=" ++ decimal unit ++ codes " ahead=" ++ signed_decimal ahead ++ codes " surface=" ++ surface
 
--- what Section 4 says
-abbrev pub product_text : ℕ → List ℕ → List ℕ
-product_text discipline s4 =
-    product_of (product_template s4) (parameter_text discipline s4) (octets s4 18 18) (signed_octets s4 19 22) (surface_text s4)
+-- the product; the forecast time has its sign in the first of 32 bits
+abbrev pub product_text : FieldSummary → List ℕ
+product_text s =
+    product_of s.product (parameter_of s.discipline s.category s.number) s.unit (signed (bits_of 32 s.time)) (surface_text s)
 
 -- the template, the bits of each number and how many values there are
 abbrev pub packing_of : ℕ → ℕ → ℕ → List ℕ
 packing_of template bits values =
     codes "packing=5." ++ decimal template ++ codes " bits=" ++ decimal bits ++ codes " values=" ++ decimal values
 
--- what Section 5 says
-abbrev pub packing_text : List ℕ → List ℕ
-packing_text s5 = packing_of (packing_template s5) (bit_width s5) (value_count s5)
-
--- of field i of message m, by the discipline and Sections 1, 3, 4 and 5
-abbrev pub field_line : ℕ → ℕ → ℕ → List ℕ → List ℕ → List ℕ → List ℕ → List ℕ
-field_line m i discipline s1 s3 s4 s5 =
-    decimal m ++ codes "." ++ decimal i ++ codes " ed=2 " ++ origin_text s1 ++ codes " " ++ grid_text s3
-    ++ codes " " ++ product_text discipline s4 ++ codes " " ++ packing_text s5 ++ 10 ∷ []
+-- of field i of message m, by what describes it
+abbrev pub summary_line : FieldSummary → ℕ → ℕ → List ℕ
+summary_line s m i =
+    decimal m ++ codes "." ++ decimal i ++ codes " ed=2 " ++ origin_of s.identification.centre (time_text s.identification)
+    ++ codes " " ++ grid_of s.grid s.points ++ codes " " ++ product_text s
+    ++ codes " " ++ packing_of s.packing s.bits s.values ++ 10 ∷ []
 
 -- of field i of message m
 abbrev pub list_line : List ℕ → ℕ → ℕ → List ℕ
-list_line message m i =
-    field_line m i (discipline message) (part_octets message i 1) (part_octets message i 3) (part_octets message i 4) (part_octets message i 5)
+list_line message m i = summary_line (summary_of message i) m i
 
 -- a reduced reference value, and the scale factors E and D
 abbrev pub reference_line : Binary → ℤ → ℤ → List ℕ
@@ -114,7 +94,10 @@ point_text Missing2 = codes "missing2"
 abbrev pub point_line : ℕ → Point → List ℕ
 point_line place point = decimal place ++ codes " " ++ point_text point ++ 10 ∷ []
 
--- the lines of points from a place on
+-- the lines of points from a place on, each made of its place and the point
+abbrev pub lines_by : (ℕ → Point → List ℕ) → ℕ → List Point → List ℕ
+lines_by line place [] = []
+lines_by line place (point ∷ points) = line place point ++ lines_by line (place + 1) points
+
 abbrev pub point_lines : ℕ → List Point → List ℕ
-point_lines place [] = []
-point_lines place (point ∷ points) = point_line place point ++ point_lines (place + 1) points
+point_lines place points = lines_by point_line place points

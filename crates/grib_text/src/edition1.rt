@@ -9,7 +9,6 @@ ghost use Rattle.grib1_sections.specs.Acceptance.{grid, data_section, points_of,
 ghost use Rattle.grib_text.specs.Lines.{origin_of};
 ghost use Rattle.grib_text.specs.Lines1 as lines;
 
-use grib_bits::u8_at;
 use grib1_sections::{Key1, Message1};
 use std::alloc::{AllocError, Global};
 use std::fmt;
@@ -114,11 +113,8 @@ impl Grid {
         ensures grid_type { result.grid_type ≡ grid_type (grid message.now) }
         ensures points { result.points ≡ points_of message.now }
     {
-        let Some(section) = message.section(2) else {
-            unreachable!();
-        };
         Grid {
-            grid_type: u8_at(section, 6),
+            grid_type: message.grid_type(),
             points: message.points(),
         }
     }
@@ -198,11 +194,8 @@ impl Packing {
         ensures bits { result.bits ≡ bit_width (data_section message.now) }
         ensures values { result.values ≡ values_of message.now }
     {
-        let Some(section) = message.section(4) else {
-            unreachable!();
-        };
         Packing {
-            bits: u8_at(section, 11),
+            bits: message.bits(),
             values: message.values(),
         }
     }

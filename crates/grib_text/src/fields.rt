@@ -1,11 +1,9 @@
-//! What Sections 3 and 5 say of a field.
+//! The grid and the packing of a field.
 
-ghost use Rattle.std.specs.Prelude.{◌≡◌, ◌≤◌, length, Some};
-ghost use Rattle.grib_packing.specs.Packing.{packing_template, bit_width, value_count};
-ghost use Rattle.grib2_message.specs.Grid.{grid_template, grid_points};
+ghost use Rattle.std.specs.Prelude.{◌≡◌, Some};
 ghost use Rattle.grib_text.specs.Lines as lines;
 
-use byteorder::{BigEndian, ByteOrder};
+use grib2_message::FieldSummary;
 use std::fmt;
 
 /// A grid: its template and the number of its points.
@@ -16,15 +14,14 @@ pub(crate) struct Grid {
 }
 
 impl Grid {
-    /// The grid of Section 3: octets 7-10 and 13-14.
-    pub(crate) fn read(section: &[u8]) -> Self
-        requires { 14 ≤ length section.now }
-        ensures template { result.template ≡ grid_template section.now }
-        ensures points { result.points ≡ grid_points section.now }
+    /// The grid of a field.
+    pub(crate) fn of(summary: &FieldSummary) -> Self
+        ensures template { result.template ≡ summary.now.grid }
+        ensures points { result.points ≡ summary.now.points }
     {
         Grid {
-            template: BigEndian::read_u16(&section[12..]),
-            points: BigEndian::read_u32(&section[6..]),
+            template: summary.grid,
+            points: summary.points,
         }
     }
 }
@@ -47,17 +44,16 @@ pub(crate) struct Packing {
 }
 
 impl Packing {
-    /// The packing of Section 5: octets 6-11 and 20.
-    pub(crate) fn read(section: &[u8]) -> Self
-        requires { 20 ≤ length section.now }
-        ensures template { result.template ≡ packing_template section.now }
-        ensures bits { result.bits ≡ bit_width section.now }
-        ensures values { result.values ≡ value_count section.now }
+    /// The packing of a field.
+    pub(crate) fn of(summary: &FieldSummary) -> Self
+        ensures template { result.template ≡ summary.now.packing }
+        ensures bits { result.bits ≡ summary.now.bits }
+        ensures values { result.values ≡ summary.now.values }
     {
         Packing {
-            template: BigEndian::read_u16(&section[9..]),
-            bits: section[19],
-            values: BigEndian::read_u32(&section[5..]),
+            template: summary.packing,
+            bits: summary.bits,
+            values: summary.values,
         }
     }
 }

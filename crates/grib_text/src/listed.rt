@@ -1,49 +1,44 @@
-//! The lines of `list`.
+//! The lines of `list` of edition 2.
 
-ghost use Rattle.std.specs.Prelude.{◌≡◌, ◌≤◌, length, IfOk};
+ghost use Rattle.std.specs.Prelude.{◌≡◌, ◌≤◌, IfOk};
+ghost use Rattle.grib2_message.specs.Fields.{field_count};
 ghost use Rattle.grib_text.specs.Lines as lines;
 
 use crate::fields::{Grid, Packing};
 use crate::products::Product;
 use crate::times::Origin;
+use grib2_message::{FieldSummary, Message, field_summary};
 use std::alloc::{AllocError, Global};
 
-/// What describes a field: octet 7 of Section 0, and the sections that are in force where the field
-/// ends (WMO-No. 306, Volume I.2, FM 92 GRIB edition 2).
-#[derive(Clone, Copy, Debug)]
-pub struct ListedField<'a> {
-    /// The discipline of the message: octet 7 of Section 0.
-    pub discipline: u8,
-    /// Section 1, the identification section.
-    pub identification: &'a [u8],
-    /// Section 3, the grid definition section.
-    pub grid: &'a [u8],
-    /// Section 4, the product definition section.
-    pub product: &'a [u8],
-    /// Section 5, the data representation section.
-    pub representation: &'a [u8],
-}
-
-/// The line of this field, from 1, of the message with this number, from 1. The only error is that there
-/// is no memory.
-pub fn field_line(
+/// The line of a field, from 1, of the message with this number, from 1. The only error is that there is no
+/// memory.
+pub fn list_line(
     alloc: Global,
+    message: &Message<'_>,
     number: u64,
     field: u32,
-    listed: &ListedField<'_>,
 ) -> Result<Vec<u8>, AllocError>
-    requires identification { 19 ≤ length listed.now.identification.now }
-    requires grid { 14 ≤ length listed.now.grid.now }
-    requires product { 28 ≤ length listed.now.product.now }
-    requires representation { 20 ≤ length listed.now.representation.now }
-    ensures { IfOk result (λ line. line.items
-        ≡ lines.field_line number field listed.now.discipline listed.now.identification.now
-        listed.now.grid.now listed.now.product.now listed.now.representation.now) }
+    requires first { 1 ≤ field }
+    requires last { field ≤ field_count message.now }
+    ensures { IfOk result (λ line. line.items ≡ lines.list_line message.now number field) }
 {
-    let origin = Origin::read(listed.identification);
-    let grid = Grid::read(listed.grid);
-    let product = Product::read(listed.discipline, listed.product);
-    let packing = Packing::read(listed.representation);
+    summary_line(alloc, &field_summary(message, field), number, field)
+}
+
+/// The line of a field that this describes, from 1, of the message with this number, from 1. The only error
+/// is that there is no memory.
+pub fn summary_line(
+    alloc: Global,
+    summary: &FieldSummary,
+    number: u64,
+    field: u32,
+) -> Result<Vec<u8>, AllocError>
+    ensures { IfOk result (λ line. line.items ≡ lines.summary_line summary.now number field) }
+{
+    let origin = Origin::of(&summary.identification);
+    let grid = Grid::of(summary);
+    let product = Product::of(summary);
+    let packing = Packing::of(summary);
     let line = format!(in alloc; "{number}.{field} ed=2 {origin} {grid} {product} {packing}\n")?;
     Ok(line.into_bytes())
 }

@@ -1,13 +1,11 @@
-//! What Section 4 says of a field.
+//! What a field is of, for when and where.
 
-ghost use Rattle.std.specs.Prelude.{◌≡◌, ◌≤◌, length, Some};
-ghost use Rattle.grib_bits.specs.Octets.{octets, signed_octets};
-ghost use Rattle.grib_text.specs.Words.{number_or_none, signed_or_none};
+ghost use Rattle.std.specs.Prelude.{◌≡◌, Some};
 ghost use Rattle.grib_text.specs.Lines as lines;
 
 use crate::missing::OrMissing;
-use byteorder::{BigEndian, ByteOrder};
 use grib_bits::signed_of;
+use grib2_message::FieldSummary;
 use std::fmt;
 
 /// A product: its template, what it is of, and for when and where.
@@ -21,24 +19,27 @@ pub(crate) struct Product {
 }
 
 impl Product {
-    /// The product of Section 4, whose parameter belongs to this discipline. The template is octets
-    /// 8-9, the unit of the forecast time octet 18, and that time octets 19-22.
-    pub(crate) fn read(discipline: u8, section: &[u8]) -> Self
-        requires { 28 ≤ length section.now }
-        ensures template { result.template ≡ octets section.now 8 9 }
-        ensures parameter { lines.parameter_of result.parameter.discipline result.parameter.category
-            result.parameter.number ≡ lines.parameter_text discipline section.now }
-        ensures unit { result.unit ≡ octets section.now 18 18 }
-        ensures ahead { result.ahead ≡ signed_octets section.now 19 22 }
-        ensures surface { lines.surface_of result.surface.kind.0 result.surface.scale.0
-            result.surface.value.0 ≡ lines.surface_text section.now }
+    /// The product of a field.
+    pub(crate) fn of(summary: &FieldSummary) -> Self
+        ensures { lines.product_of result.template (lines.parameter_of result.parameter.discipline
+            result.parameter.category result.parameter.number) result.unit result.ahead
+            (lines.surface_of result.surface.kind.0 result.surface.scale.0 result.surface.value.0)
+            ≡ lines.product_text summary.now }
     {
         Product {
-            template: BigEndian::read_u16(&section[7..]),
-            parameter: Parameter::read(discipline, section),
-            unit: section[17],
-            ahead: ahead_of(section),
-            surface: Surface::read(section),
+            template: summary.product,
+            parameter: Parameter {
+                discipline: summary.discipline,
+                category: summary.category,
+                number: summary.number,
+            },
+            unit: summary.unit,
+            ahead: signed_of(u64::from(summary.time), 32),
+            surface: Surface {
+                kind: OrMissing::octet(summary.surface),
+                scale: OrMissing::signed_octet(summary.scale),
+                value: OrMissing::word(summary.value),
+            },
         }
     }
 }
@@ -63,36 +64,12 @@ impl fmt::Display for Product {
     }
 }
 
-/// The forecast time of Section 4, which may be negative: octets 19-22.
-fn ahead_of(section: &[u8]) -> i64
-    requires { 22 ≤ length section.now }
-    ensures { result ≡ signed_octets section.now 19 22 }
-{
-    signed_of(u64::from(BigEndian::read_u32(&section[18..])), 32)
-}
-
 /// A parameter: its discipline, category and number.
 #[derive(Clone, Copy, Debug)]
 struct Parameter {
     discipline: u8,
     category: u8,
     number: u8,
-}
-
-impl Parameter {
-    /// The parameter of Section 4, which belongs to this discipline: octets 10 and 11.
-    fn read(discipline: u8, section: &[u8]) -> Self
-        requires { 11 ≤ length section.now }
-        ensures discipline { result.discipline ≡ discipline }
-        ensures category { result.category ≡ octets section.now 10 10 }
-        ensures number { result.number ≡ octets section.now 11 11 }
-    {
-        Parameter {
-            discipline,
-            category: section[9],
-            number: section[10],
-        }
-    }
 }
 
 impl fmt::Display for Parameter {
@@ -112,22 +89,6 @@ struct Surface {
     kind: OrMissing,
     scale: OrMissing,
     value: OrMissing,
-}
-
-impl Surface {
-    /// The first fixed surface of Section 4: octets 23-28.
-    fn read(section: &[u8]) -> Self
-        requires { 28 ≤ length section.now }
-        ensures kind { result.kind.0 ≡ number_or_none 8 (octets section.now 23 23) }
-        ensures scale { result.scale.0 ≡ signed_or_none 8 (octets section.now 24 24) }
-        ensures value { result.value.0 ≡ number_or_none 32 (octets section.now 25 28) }
-    {
-        Surface {
-            kind: OrMissing::octet(section[22]),
-            scale: OrMissing::signed_octet(section[23]),
-            value: OrMissing::word(BigEndian::read_u32(&section[24..])),
-        }
-    }
 }
 
 impl fmt::Display for Surface {

@@ -1,10 +1,9 @@
-//! What Section 1 says of a field: the centre and the reference time.
+//! The centre and the reference time of a field.
 
-ghost use Rattle.std.specs.Prelude.{◌≡◌, ◌≤◌, length, Some};
-ghost use Rattle.grib_bits.specs.Octets.{octets};
+ghost use Rattle.std.specs.Prelude.{◌≡◌, Some};
 ghost use Rattle.grib_text.specs.Lines as lines;
 
-use byteorder::{BigEndian, ByteOrder};
+use grib2_sections::Identification;
 use std::fmt;
 
 /// Where and for when a field was made.
@@ -15,16 +14,22 @@ pub(crate) struct Origin {
 }
 
 impl Origin {
-    /// The origin of Section 1: octets 6-7 and 13-19.
-    pub(crate) fn read(section: &[u8]) -> Self
-        requires { 19 ≤ length section.now }
-        ensures centre { result.centre ≡ octets section.now 6 7 }
+    /// The origin that Section 1 states.
+    pub(crate) fn of(identification: &Identification) -> Self
+        ensures centre { result.centre ≡ identification.now.centre }
         ensures time { lines.time_of result.time.year result.time.month result.time.day
-            result.time.hour result.time.minute result.time.second ≡ lines.time_text section.now }
+            result.time.hour result.time.minute result.time.second ≡ lines.time_text identification.now }
     {
         Origin {
-            centre: BigEndian::read_u16(&section[5..]),
-            time: Time::read(section),
+            centre: identification.centre,
+            time: Time {
+                year: identification.year,
+                month: identification.month,
+                day: identification.day,
+                hour: identification.hour,
+                minute: identification.minute,
+                second: identification.second,
+            },
         }
     }
 }
@@ -48,28 +53,6 @@ struct Time {
     hour: u8,
     minute: u8,
     second: u8,
-}
-
-impl Time {
-    /// The reference time of Section 1: octets 13-19.
-    fn read(section: &[u8]) -> Self
-        requires { 19 ≤ length section.now }
-        ensures year { result.year ≡ octets section.now 13 14 }
-        ensures month { result.month ≡ octets section.now 15 15 }
-        ensures day { result.day ≡ octets section.now 16 16 }
-        ensures hour { result.hour ≡ octets section.now 17 17 }
-        ensures minute { result.minute ≡ octets section.now 18 18 }
-        ensures second { result.second ≡ octets section.now 19 19 }
-    {
-        Time {
-            year: BigEndian::read_u16(&section[12..]),
-            month: section[14],
-            day: section[15],
-            hour: section[16],
-            minute: section[17],
-            second: section[18],
-        }
-    }
 }
 
 impl fmt::Display for Time {

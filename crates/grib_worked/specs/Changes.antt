@@ -1,7 +1,7 @@
 -- Worked messages in other packings, and the answers to jobs that change messages.
 use Rattle.std.specs.Prelude.{ℕ, List, [], ◌++◌}
 use Rattle.grib_stream.specs.declared.outcome.Outcome.TheVariants.{Done, Kept}
-use Rattle.grib_stream.specs.declared.outcome.Cause.{Cause}
+use Rattle.grib_causes.specs.declared.cause.Cause.{Cause}
 use Rattle.grib_stream.specs.Acts.{writes}
 use Rattle.grib_stream.specs.Answer.{Answer}
 use Rattle.grib_worked.specs.Hex.{hex}

@@ -5,7 +5,7 @@ use Rattle.grib_base.specs.Rows.{refusal}
 use Rattle.grib_base.specs.declared.fault.Fault.{Fault}
 use Rattle.grib2_sections.specs.Verdict.{Verdict, Refused as refused_by}
 use Rattle.grib_stream.specs.declared.outcome.Outcome.TheVariants.{Done, Refused, Kept}
-use Rattle.grib_stream.specs.declared.outcome.Cause.{Cause}
+use Rattle.grib_causes.specs.declared.cause.Cause.{Cause}
 use Rattle.grib_stream.specs.Acts.{writes}
 use Rattle.grib_stream.specs.Answer.{Answer}
 use Rattle.grib_engine.specs.Outcomes.{note_of}

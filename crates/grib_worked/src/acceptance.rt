@@ -2,7 +2,7 @@
 
 ghost use Rattle.std.specs.Prelude.{◌≡◌, ◌++◌, take, length, map};
 ghost use Rattle.std.specs.List.{range_with_len};
-ghost use Rattle.grib_base.specs.declared.fault.Reason.TheVariants.{BitWidth, BitmapSize, DataTooShort, DifferenceOrder, Edition, EndMark, ExtraOctets, FirstValueSign, GridSource, GridTemplate, GroupCount, GroupShape, GroupWidth, LengthDisagrees, ListShape, MissingManagement, NoEarlierBitmap, PngPacked, PointCount, ProductTemplate, ReferenceNotFinite, SectionLength, SectionOrder, TotalLength, Truncated};
+ghost use Rattle.grib_base.specs.declared.fault.Reason.TheVariants.{BitWidth, BitmapSize, DataTooShort, DifferenceOrder, Edition, EndMark, ExtraOctets, FirstValueSign, GridSource, GridTemplate, GroupCount, GroupShape, GroupWidth, LengthDisagrees, ListShape, MissingManagement, NoEarlierBitmap, PngPacked, PointCount, ProductTemplate, ReferenceNotFinite, SectionLength, SectionOrder, TotalLength};
 ghost use Rattle.grib_base.specs.Rows.{refusal};
 ghost use Rattle.grib2_sections.specs.Verdict.{Accepted, Refused};
 ghost use Rattle.grib2_message.specs.Acceptance.{verdict_2};
@@ -35,19 +35,7 @@ pub fn message_before_others()
     ensures accepted { verdict_2 (m1 ++ m2) ≡ Accepted 183 }
 {}
 
-/// A message that is cut after some octets is refused at the next one.
-pub fn cut_messages()
-    ensures after_4 { verdict_2 (take 4 m1) ≡ Refused (refusal 5 Truncated 4) }
-    ensures after_7 { verdict_2 (take 7 m1) ≡ Refused (refusal 8 Truncated 7) }
-    ensures after_8 { verdict_2 (take 8 m1) ≡ Refused (refusal 9 Truncated 8) }
-    ensures after_15 { verdict_2 (take 15 m1) ≡ Refused (refusal 16 Truncated 15) }
-    ensures after_16 { verdict_2 (take 16 m1) ≡ Refused (refusal 17 Truncated 16) }
-    ensures after_17 { verdict_2 (take 17 m1) ≡ Refused (refusal 18 Truncated 17) }
-    ensures after_100 { verdict_2 (take 100 m1) ≡ Refused (refusal 101 Truncated 100) }
-    ensures after_182 { verdict_2 (take 182 m1) ≡ Refused (refusal 183 Truncated 182) }
-{}
-
-/// So it is after each number of octets from 4 on.
+/// A message that is cut after some octets, from 4 on, is refused at the next one.
 pub fn every_cut()
     ensures plain { map (λ k. verdict_2 (take k m1)) (range_with_len 4 179) ≡ map truncated_after (range_with_len 4 179) }
     ensures two_fields { map (λ k. verdict_2 (take k m2)) (range_with_len 4 248) ≡ map truncated_after (range_with_len 4 248) }

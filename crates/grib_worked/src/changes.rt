@@ -1,7 +1,7 @@
 //! What is answered to a job that changes worked messages, or makes one.
 
 ghost use Rattle.std.specs.Prelude.{◌≡◌, [], ◌++◌, codes, drop, length};
-ghost use Rattle.grib_stream.specs.declared.outcome.Cause.TheVariants.{OutOfRange, SecondaryMissing};
+ghost use Rattle.grib_causes.specs.declared.cause.Cause.TheVariants.{OutOfRange, SecondaryMissing};
 ghost use Rattle.grib_stream.specs.Acts.{written};
 ghost use Rattle.grib_repack.specs.declared.target.RepackTarget.TheVariants.{Simple, Complex, Spatial};
 ghost use Rattle.grib_engine.specs.declared.job.Job.TheVariants.{Repack, Make};

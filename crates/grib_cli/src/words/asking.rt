@@ -9,8 +9,8 @@ ghost use Rattle.std.specs.declared.option.Option.TheVariants.{Some};
 
 use super::command::Command;
 use super::values::{key_value, number_of};
-use super::{JobFault, is_named};
-use grib_engine::{Conditions, Job, Name, RepackTarget};
+use super::{JobFault, has_name, is_named};
+use grib_engine::{Area, Conditions, Job, Name, RepackTarget};
 use grib_keys::{Condition, Key};
 use std::alloc::{AllocError, Global};
 
@@ -26,7 +26,10 @@ pub(super) fn job_of_command(
     match command {
         Command::Check => Ok(Job::Check),
         Command::List => Ok(Job::List),
-        Command::Dump => Ok(Job::Dump),
+        Command::Stats => Ok(Job::Stats),
+        Command::Dump => Ok(Job::Dump {
+            decimals: number_if_given(words, "decimals"),
+        }),
         Command::Filter => Ok(Job::Filter(Conditions::of(conditions_of(alloc, words)?))),
         Command::Split => Ok(Job::Split(name_by(alloc, words, "out")?)),
         Command::Set => Ok(Job::Set(Conditions::of(conditions_of(alloc, words)?))),
@@ -37,7 +40,12 @@ pub(super) fn job_of_command(
             nj: number_by(words, "nj"),
             target: target_of(words),
         }),
-        Command::Migrate => Err(JobFault::NotBuilt),
+        Command::Migrate => Ok(Job::Migrate {
+            params: name_by(alloc, words, "params")?,
+            keep_local: has_name(words, "local"),
+        }),
+        Command::Rescan => Ok(Job::Rescan),
+        Command::Crop => Ok(Job::Crop(area_of(words))),
     }
 }
 
@@ -63,16 +71,16 @@ fn condition_of(word: &str) -> Option<Condition>
 
 /// The value of the word that has this name, as a name on a shelf.
 fn name_by(alloc: Global, words: &[String], name: &str) -> Result<Name, AllocError>
-    ensures { IfOk result (λ found. found ≡ asked.value_of name.now (map string_bytes words.now)) }
+    ensures { IfOk result (λ found. found ≡ grammar.value_of name.now (map string_bytes words.now)) }
 {
     Ok(Name::of(String::from_str(alloc, value_of(words, name))?))
 }
 
 /// What the words ask fields to be packed to.
 fn target_of(words: &[String]) -> RepackTarget
-    requires { is (codes "0") (asked.value_of (codes "to") (map string_bytes words.now)) ≡ false
-        → is (codes "2") (asked.value_of (codes "to") (map string_bytes words.now)) ≡ false
-        → is_between 1 2 (asked.value_of (codes "order") (map string_bytes words.now)) ≡ true }
+    requires { is (codes "0") (grammar.value_of (codes "to") (map string_bytes words.now)) ≡ false
+        → is (codes "2") (grammar.value_of (codes "to") (map string_bytes words.now)) ≡ false
+        → is_between 1 2 (grammar.value_of (codes "order") (map string_bytes words.now)) ≡ true }
     ensures { result ≡ asked.target_of (map string_bytes words.now) }
 {
     match value_of(words, "to") {
@@ -82,10 +90,23 @@ fn target_of(words: &[String]) -> RepackTarget
     }
 }
 
+/// The box whose sides the words give.
+fn area_of(words: &[String]) -> Area
+    requires { asked.SidesStand (map string_bytes words.now) }
+    ensures { result ≡ asked.area_of (map string_bytes words.now) }
+{
+    Area {
+        i0: number_by(words, "i0"),
+        i1: number_by(words, "i1"),
+        j0: number_by(words, "j0"),
+        j1: number_by(words, "j1"),
+    }
+}
+
 /// The number of the word that has this name.
-fn number_by(words: &[String], name: &str) -> u32
-    requires { is_between 0 (2 ^ 32 - 1) (asked.value_of name.now (map string_bytes words.now)) ≡ true }
-    ensures { result ≡ asked.number_of name.now (map string_bytes words.now) }
+pub(super) fn number_by(words: &[String], name: &str) -> u32
+    requires { is_between 0 (2 ^ 32 - 1) (grammar.value_of name.now (map string_bytes words.now)) ≡ true }
+    ensures { result ≡ grammar.number_of name.now (map string_bytes words.now) }
 {
     match number_of(value_of(words, name)) {
         Some(number) => number as u32,
@@ -93,9 +114,22 @@ fn number_by(words: &[String], name: &str) -> u32
     }
 }
 
+/// The number of the word that has this name, where there is one.
+fn number_if_given(words: &[String], name: &str) -> Option<u32>
+    requires { grammar.has_name name.now (map string_bytes words.now) ≡ true
+        → is_between 0 (2 ^ 32 - 1) (grammar.value_of name.now (map string_bytes words.now)) ≡ true }
+    ensures { result ≡ grammar.number_if_given name.now (map string_bytes words.now) }
+{
+    if has_name(words, name) {
+        Some(number_by(words, name))
+    } else {
+        None
+    }
+}
+
 /// The value of the word that has this name, empty where none has it.
 fn value_of<'a>(words: &'a [String], name: &str) -> &'a str
-    ensures { result.now ≡ asked.value_of name.now (map string_bytes words.now) }
+    ensures { result.now ≡ grammar.value_of name.now (map string_bytes words.now) }
 {
     match words.iter().find(|word| is_named(word.as_str(), name)) {
         Some(word) => value_in(word.as_str()),

@@ -8,12 +8,15 @@ ghost use Rattle.grib_cli.specs.Reading.{command_named};
 pub enum Command {
     Check,
     List,
+    Stats,
     Dump,
     Filter,
     Split,
     Set,
     Repack,
     Migrate,
+    Rescan,
+    Crop,
     Make,
 }
 
@@ -25,12 +28,15 @@ impl Command {
         match word {
             "check" => Some(Command::Check),
             "list" => Some(Command::List),
+            "stats" => Some(Command::Stats),
             "dump" => Some(Command::Dump),
             "filter" => Some(Command::Filter),
             "split" => Some(Command::Split),
             "set" => Some(Command::Set),
             "repack" => Some(Command::Repack),
             "migrate" => Some(Command::Migrate),
+            "rescan" => Some(Command::Rescan),
+            "crop" => Some(Command::Crop),
             "make" => Some(Command::Make),
             _ => None,
         }

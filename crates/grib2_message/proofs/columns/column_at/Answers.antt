@@ -56,3 +56,9 @@ returns-in-Ok-clause-some c = λ before h.
     let size : length c.in-Ok.column.points ≡ length c.in_ok-mask.mask =
     ap (λ column. length column.points) (c.in-Ok.ensures (octets_in_force 5 before) read).1 ∙ points_of_mask c.in_ok-mask.mask _ in
     omega (arith, size, told.1, bounds.0)
+
+pub returns-in-Ok-clause-long : goal.returns-in-Ok-clause-long
+returns-in-Ok-clause-long c = λ before h.
+    let told = c.in_ok-mask.ensures before h in
+    let read = represents c.args.octets.now before c.args.places.now c.in-Some.representation h.stand c.in-Some.is in
+    ap (λ column. length column.points) (c.in-Ok.ensures (octets_in_force 5 before) read).1 ∙ points_of_mask c.in_ok-mask.mask _ ∙ told.1

@@ -22,8 +22,8 @@ told_codes order k points d codes told =
 none_misfits : (order k : ℕ) (points : List Point) (d : _) (codes : List Code) → DifferencesOf order points d codes k → first_misfit (ToSpatial order) points ≡ None
 none_misfits order k points d codes told = ap (λ (b : Bool). cond b (Some DifferenceRange) None) (fits order k points d codes told)
 
-pub pack_spatially-packed-requires-clause-told : goal.pack_spatially-packed-requires-clause-told
-pack_spatially-packed-requires-clause-told c =
+pub pack_spatially-requires-clause-told : goal.pack_spatially-requires-clause-told
+pack_spatially-requires-clause-told c =
     let points = c.args.column.now.points in
     let told = c.args.told.now in
     let long : length points ≡ length c.as_slice.result.now = ap length (sym c.as_slice.ensures) in

@@ -4,7 +4,8 @@ use Rattle.grib_base.specs.Faults.{IsReadFault}
 use Rattle.grib_base.specs.Rows.{located}
 use Rattle.grib_packing.specs.Column.{points_with_mask}
 use Rattle.grib_packing.specs.Entries.{complex_entries}
-use Rattle.grib_simple.proofs.Accepted.{passed_on, same_column}
+use Rattle.grib_base.proofs.Passing.{carried}
+use Rattle.grib_simple.proofs.Accepted.{same_column}
 use Rattle.grib_complex.specs.Kept.{ArePoints}
 use Rattle.grib_complex.proofs.Represented.{data_fault-complex, entries_of-complex}
 use Rattle.grib_complex.proofs.packing.unpack_complex.Goals as goal
@@ -12,7 +13,7 @@ use Rattle.grib_complex.proofs.packing.unpack_complex.Goals as goal
 pub returns-in_err-points-2 : goal.returns-in_err-points-2
 returns-in_err-points-2 c = λ s5 spelled.
     let fault = data_fault-complex c.args.complex.now s5 c.args.section7.now.octets.now spelled c.requires.accepted in
-    passed_on _ _ _ _ c.from_residual-in_err-points-2.ensures.1
+    carried _ _ _ _ c.from_residual-in_err-points-2.ensures.1
     (subst (λ (f : Option Fault). IsReadFault (located c.args.section7.now.start f) c.in_err-points-2.field-0.0) (sym fault) (c.in_err-points-2.ensures s5 spelled))
 
 pub returns : goal.returns

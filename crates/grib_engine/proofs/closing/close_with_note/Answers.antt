@@ -1,5 +1,5 @@
 use Rattle.std.proofs.Common.{refl, sym, ap, ◌∙◌}
-use Rattle.grib_stream.specs.declared.outcome.Outcome.TheVariants.{Kept, Refused, Usage}
+use Rattle.grib_stream.specs.declared.outcome.Outcome.TheVariants.{Kept, Refused, TableRefused, Usage}
 use Rattle.grib_engine.specs.Outcomes.{note_with}
 use Rattle.grib_engine.proofs.Noted.{ends_by}
 use Rattle.grib_engine.proofs.closing.close_with_note.Goals as goal
@@ -18,6 +18,11 @@ pub returns-in-Ok-kept_note-clause-ends : goal.returns-in-Ok-kept_note-clause-en
 returns-in-Ok-kept_note-clause-ends g c =
     ends_by g.T.Sink.contents g.T.Sink.faults g.T.Sink.settled g.N.Sink.contents g.N.Sink.faults g.N.Sink.settled _ _ _ _ c.args.outcome (Kept c.in-Kept.kept) c.args.done.now _
     c.close-in-Ok-kept_note.result (sym c.in-Kept.is) (c.as_slice-in-Ok-kept_note.ensures.value ∙ c.in-Ok-kept_note.ensures) c.close-in-Ok-kept_note.ensures.closes
+
+pub returns-in-Ok-table_note-clause-ends : goal.returns-in-Ok-table_note-clause-ends
+returns-in-Ok-table_note-clause-ends g c =
+    ends_by g.T.Sink.contents g.T.Sink.faults g.T.Sink.settled g.N.Sink.contents g.N.Sink.faults g.N.Sink.settled _ _ _ _ c.args.outcome (TableRefused c.in-TableRefused.refusal) c.args.done.now _
+    c.close-in-Ok-table_note.result (sym c.in-TableRefused.is) (c.as_slice-in-Ok-table_note.ensures.value ∙ c.in-Ok-table_note.ensures) c.close-in-Ok-table_note.ensures.closes
 
 pub returns-in-ReadFault-clause-ends : goal.returns-in-ReadFault-clause-ends
 returns-in-ReadFault-clause-ends g c =

@@ -1,5 +1,5 @@
 use Rattle.std.proofs.Common.{◌∙◌, arith, rules}
-use Rattle.grib_engine.specs.Tasks.{single_if}
+use Rattle.grib_engine.specs.Filtering.{single_if}
 use Rattle.grib_engine.proofs.Filtered.{text_written, text_refused, text_counted, texts_whole}
 use Rattle.grib_engine.proofs.filtering.write_matching.Goals as goal
 

@@ -1,6 +1,7 @@
 use Rattle.std.proofs.Common.{◌≡◌, ◌*◌, ◌≤◌, length}
 use Rattle.std.specs.Io.KnownBytes.{Appends}
-use Rattle.grib_engine.specs.Tasks.{texts_from, single_if}
+use Rattle.grib_engine.specs.Command.{texts_from}
+use Rattle.grib_engine.specs.Filtering.{single_if}
 use Rattle.grib_engine.proofs.filtering.write_matching.Given as goal
 
 -- the fields so far that fulfil the conditions were written and counted, and no fault

@@ -3,7 +3,7 @@ use Rattle.grib_repack.specs.Faults.{target_of}
 use Rattle.grib_repack.specs.Repacked.{repacked}
 use Rattle.grib_stream.specs.Stream.{stream}
 use Rattle.grib_engine.specs.Same.{before_kept}
-use Rattle.grib_engine.specs.Tasks.{judge}
+use Rattle.grib_engine.specs.Judging.{judge}
 use Rattle.grib_engine.proofs.Answers.{target_stands}
 use Rattle.grib_engine.proofs.Keeping.{written_are, same_messages}
 use Rattle.grib_engine.proofs.laws.what_is_answered_keeps_each_value.Goals as goal

@@ -7,9 +7,6 @@ returns-in-EditionOne c = rw c.in-EditionOne.is (simp append_assoc c.format.ensu
 pub returns-in-OutOfRange : goal.returns-in-OutOfRange
 returns-in-OutOfRange c = rw c.in-OutOfRange.is c.text_at_point-in-OutOfRange.ensures
 
-pub returns-in-DifferenceRange : goal.returns-in-DifferenceRange
-returns-in-DifferenceRange c = rw c.in-DifferenceRange.is (simp append_assoc c.format-in-DifferenceRange.ensures.ok)
-
 pub returns-in-OutputTooLong : goal.returns-in-OutputTooLong
 returns-in-OutputTooLong c = rw c.in-OutputTooLong.is (simp append_assoc c.format-in-OutputTooLong.ensures.ok)
 

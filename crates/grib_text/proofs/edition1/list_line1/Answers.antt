@@ -1,6 +1,6 @@
 use Rattle.std.proofs.Common.{◌≡◌, ap, ◌∙◌}
 use Rattle.grib_text.specs.Lines.{origin_of}
-use Rattle.grib_text.specs.Lines1.{time1_of, origin1_text, grid1_of, grid1_text, product1_of, product1_text, packing1_of, packing1_text}
+use Rattle.grib_text.specs.Lines1.{time1_of, origin1_text, grid1_of, grid1_text, product1_of, packing1_of, packing1_text}
 use Rattle.grib_text.proofs.Pieces1.{list_line1-pieces}
 use Rattle.grib_text.proofs.edition1.list_line1.Goals as goal
 

@@ -1,5 +1,6 @@
-use Rattle.std.proofs.Common.{◌≡◌, ℕ, ◌≤◌, List, IfOk, sym, subst}
-use Rattle.grib2_message.specs.Fields.{field_sections, field_count, column_of}
+use Rattle.std.proofs.Common.{◌≡◌, ℕ, ◌≤◌, List, length, IfOk, sym, subst}
+use Rattle.grib2_grids.specs.Grid.{grid_points}
+use Rattle.grib2_message.specs.Fields.{field_sections, field_count, part_octets, column_of}
 use Rattle.grib2_message.specs.Message.{FieldPasses}
 use Rattle.grib2_message.proofs.Shorter.{field_kept, field_passes}
 use Rattle.grib2_message.proofs.message.Message.column.Goals as goal
@@ -38,3 +39,11 @@ returns-clause-passes c =
     let last = subst (λ (x : List ℕ). c.args.field ≤ field_count x) (sym c.self.view_is) c.requires.last in
     let field = field_kept m c.self.inside.fields.items c.self.invariant c.args.field c.requires.first last _ c.index-places.ensures in
     subst (λ (x : List ℕ). FieldPasses x c.args.field) c.self.view_is (field_passes m c.args.field _ field)
+
+pub returns-clause-long : goal.returns-clause-long
+returns-clause-long c =
+    let m = c.self.inside.octets.now in
+    let last = subst (λ (x : List ℕ). c.args.field ≤ field_count x) (sym c.self.view_is) c.requires.last in
+    subst (λ (x : List ℕ). IfOk c.column_at.result (λ column. length column.points ≡ grid_points (part_octets x c.args.field 3))) c.self.view_is
+    (c.column_at.ensures.long (field_sections m c.args.field)
+    (field_kept m c.self.inside.fields.items c.self.invariant c.args.field c.requires.first last _ c.index-places.ensures))

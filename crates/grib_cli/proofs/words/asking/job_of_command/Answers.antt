@@ -1,8 +1,13 @@
 use Rattle.std.proofs.Common.{map, string_bytes, codes, arith}
-use Rattle.grib_cli.specs.Words.{value_of}
-use Rattle.grib_cli.specs.declared.words.command.Command.TheVariants.{Repack, Make}
-use Rattle.grib_cli.proofs.Asked.{has_read, repack_stands, make_stands, make_sized, wider}
+use Rattle.grib_cli.specs.Reading.{value_of}
+use Rattle.grib_cli.specs.declared.words.command.Command.TheVariants.{Dump, Repack, Crop, Make}
+use Rattle.grib_cli.proofs.Asked.{has_read, decimals_stand, crop_stands, repack_stands, make_stands, make_sized, wider}
 use Rattle.grib_cli.proofs.words.asking.job_of_command.Goals as goal
+
+pub number_if_given-requires : goal.number_if_given-requires
+number_if_given-requires c = λ has.
+    wider 0 18 4294967295 (value_of (codes "decimals") (map string_bytes c.args.words.now))
+    (decimals_stand (map string_bytes c.args.words.now) (has_read Dump (map string_bytes c.args.words.now) (rw c.in-Dump.is at c.requires)) has) (omega arith)
 
 pub target_of-requires : goal.target_of-requires
 target_of-requires c = (repack_stands (map string_bytes c.args.words.now) (has_read Repack (map string_bytes c.args.words.now) (rw c.in-Repack.is at c.requires))).order
@@ -18,3 +23,6 @@ number_by-requires-in-Make-2 c = wider 1 4096 4294967295 (value_of (codes "nj") 
 
 pub target_of-requires-in-Make : goal.target_of-requires-in-Make
 target_of-requires-in-Make c = (make_stands (map string_bytes c.args.words.now) (has_read Make (map string_bytes c.args.words.now) (rw c.in-Make.is at c.requires))).order
+
+pub area_of-requires : goal.area_of-requires
+area_of-requires c = (crop_stands (map string_bytes c.args.words.now) (has_read Crop (map string_bytes c.args.words.now) (rw c.in-Crop.is at c.requires))).sides

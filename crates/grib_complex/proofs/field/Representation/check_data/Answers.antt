@@ -2,7 +2,7 @@ use Rattle.std.proofs.Common.{Option, sym, ap, ◌∙◌, subst}
 use Rattle.grib_base.specs.declared.fault.Fault.{Fault}
 use Rattle.grib_base.specs.Faults.{IsReadFault}
 use Rattle.grib_base.specs.Rows.{located}
-use Rattle.grib_simple.proofs.Accepted.{refused, passed_on}
+use Rattle.grib_base.proofs.Passing.{carried, refused}
 use Rattle.grib_complex.specs.Field.{Represents}
 use Rattle.grib_complex.proofs.Represented.{complex_accepted, data_fault-complex}
 use Rattle.grib_complex.proofs.field.Representation.check_data.Goals as goal
@@ -28,7 +28,7 @@ returns-in_err-take_complex_values-in-Complex c = λ s5 read.
     let here = subst (λ r. Represents r s5) c.in-Complex.is read in
     let fault = data_fault-complex complex s5 c.args.section7.now.octets.now here.numbers.1 (complex_accepted complex s5 here) in
     let read_fault = c.in_err-take_complex_values-in-Complex.field-0.0 in
-    passed_on _ _ _ read_fault c.from_residual-in_err-take_complex_values-in-Complex.ensures.1
+    carried _ _ _ read_fault c.from_residual-in_err-take_complex_values-in-Complex.ensures.1
     (subst (λ (f : Option Fault). IsReadFault (located c.args.section7.now.start f) read_fault) (sym fault) (c.in_err-take_complex_values-in-Complex.ensures s5 here.numbers.1))
 
 pub returns-in_ok-take_complex_values-in-Complex : goal.returns-in_ok-take_complex_values-in-Complex

@@ -1,10 +1,10 @@
 use Rattle.std.proofs.Common.{◌≡◌, ap, sym, ◌∙◌}
+use Rattle.grib_base.proofs.Passing.{carried}
 use Rattle.grib_base.specs.Rows.{first_fault, located}
 use Rattle.grib_packing.specs.Complex.{complex_rows}
 use Rattle.grib_packing.specs.Packing.{packing_rows, packing_template}
 use Rattle.grib_simple.proofs.Accepted.{accepted-simple}
 use Rattle.grib_complex.proofs.Accepting.{none_located, complex_template, fault_complex}
-use Rattle.grib_complex.proofs.Results.{carried}
 use Rattle.grib_complex.proofs.field.Representation.read.Goals as goal
 
 pub returns-then-simple-eq0 : goal.returns-then-simple-eq0

@@ -5,7 +5,7 @@ use Rattle.grib_decimal.specs.Rounding.{nearest}
 use Rattle.grib_dyadic.specs.Value.{value_of}
 use Rattle.grib_decimal.specs.Decimal.{factor, denominator_of}
 use Rattle.grib_decimal.specs.Parts.{IsKnown, unit_of, base_of}
-use Rattle.grib_decimal.proofs.Fields.{value_number, one_small, rounded_quick, some_known}
+use Rattle.grib_decimal.proofs.Fields.{value_number, small_number, one_small, rounded_quick, some_known}
 use Rattle.grib_decimal.proofs.Roundings.{denominator_some}
 use Rattle.grib_decimal.proofs.scale.DecimalScale.rounded.Goals as goal
 
@@ -39,6 +39,6 @@ returns-2 c =
     let s = c.self.inside in
     let i = c.self.invariant in
     let fits : FitsSigned w64 s.shift = search rules in
-    let known = (rw (to_z-of_z c.ranges.x, to_z-of_z fits) at (c.number.ensures (base_of s.reference s.e))) i.base_known (one_small s.reference s.e c.args.x s.shift i.shift_is i.mantissa c.requires) in
+    let known = (rw (to_z-of_z c.ranges.x, to_z-of_z fits) at (c.number.ensures (base_of s.reference s.e))) i.base_known (one_small s.reference s.e c.args.x s.shift i.shift_is i.mantissa (small_number c.args.x c.ranges.x)) in
     let known' = subst (λ z. IsKnown 126 c.number.result z) (value_number s.reference s.e s.d c.args.x s.shift i.shift_is) known in
     rw (← c.self.view_is) (c.round_wide.ensures (value_of s.reference s.e s.d c.args.x) s.places known' i.factor_is i.divisor_is)

@@ -1,0 +1,805 @@
+#!/usr/bin/env python3
+"""Gives a program damaged messages in hostile ways, and holds each run to what has to be true of any run.
+
+    bench/hostile.py PROGRAM FILE.. [runs=10000] [seed=1] [jobs=1] [case=N] [keep=FOLDER]
+
+A case takes a few messages of the files, of docs/PROFILE.md and of `make`, damages them (cuts, flips, splices,
+repeats, other lengths and counts, sizes that are claimed), and gives them to `check` and to one command: from a file,
+and in one more way: through a pipe in random pieces, to a reader that goes away, to a full device, to a closed
+output, with notes that cannot be written, with a directory as input or none, with 3 to 60 MB of address space. The
+cases hang on `seed` and their number alone; `case=N` runs one of them. `runs` is how often the program is started,
+`jobs` how many processes share the work; an interrupt ends it after the case at hand, with the sums so far. Each
+finding is a line, and its input is kept in the folder `keep` (hostile-findings), as small as cutting makes it.
+Commands that the program does not have yet are left out. Wants Python 3.8 and Linux."""
+import collections
+import fractions
+import multiprocessing
+import os
+import random
+import re
+import resource
+import shutil
+import signal
+import sys
+import tempfile
+import time
+
+top = os.path.dirname(os.path.dirname(os.path.abspath(__file__)))
+MEGABYTE = 1 << 20
+MOST_POINTS = 40_000  # fields of more points are not dumped here
+REASONS = """Truncated Edition TotalLength SectionLength SectionOrder GridSource GridTemplate PointCount ListShape
+ProductTemplate PackingTemplate Jpeg2000 PngPacked Ccsds ReferenceNotFinite BitmapIndicator NoEarlierBitmap BitmapSize
+ValueCount MissingManagement GroupCount GroupWidth GroupShape DifferenceOrder ExtraOctets FirstValueSign DataTooShort
+ScaledRange EndMark LengthDisagrees BitWidth FieldCount NoGridSection GridType SecondOrder Harmonics
+ExtraFlags""".split()
+LOSSES = r"(Parameter|LevelType|TimeUnit|TimeRange|Date|AverageCount|LocalUse|GridFlags|Reference|(GridNumber|Coordinate) \d+)"
+CAUSES = {
+    "filter": ["EditionOne"], "split": ["EditionOne"], "set": ["EditionOne", r"KeyRange \w+", r"KeyAbsent \w+ field \d+"],
+    "repack": ["EditionOne", r"SecondaryMissing field \d+ point \d+", r"OutOfRange field \d+ point \d+",
+               r"DifferenceRange field \d+", r"OutputTooLong \d+"],
+    "migrate": ["Loss " + LOSSES], "dump": [r"DecimalRange field \d+ point \d+"],
+}
+CAUSES["rescan"] = CAUSES["crop"] = CAUSES["repack"] + [r"(GridKind|ScanMode|OutsideBox|Increments) field \d+"]
+COPIES = ("filter", "split", "set", "repack", "migrate", "rescan", "crop")
+FAULTS = {5: "read fault", 6: "", 7: "shelf fault", 8: "memory", 9: "input too long"}
+
+Run = collections.namedtuple("Run", "status output note octets seconds")
+
+
+class Wrong(Exception):
+    """What a run did that no run may do."""
+
+
+def hold(so, what, *about):
+    if not so:
+        raise Wrong(what + "".join(f" [{str(one)[:300]}]" for one in about))
+
+
+# The program, run in one of the hostile ways.
+
+class Runner:
+    """Starts the program and counts how often. Files stand in a folder of its own."""
+
+    def __init__(self, program):
+        self.program, self.count, self.seen = program, 0, collections.Counter()
+        memory = "/dev/shm" if os.access("/dev/shm", os.W_OK) else None
+        self.work = tempfile.mkdtemp(prefix="hostile-", dir=memory)
+        self.shelf = f"{self.work}/shelf"
+
+    def close(self):
+        shutil.rmtree(self.work, ignore_errors=True)
+
+    def parts(self):
+        """The files of `split`, in the order of their numbers."""
+        names = sorted(os.listdir(self.shelf), key=lambda name: int(name.rsplit(".", 1)[1]))
+        hold(names == [f"part.{n}" for n in range(1, len(names) + 1)], "split wrote other names", names[:5])
+        return [open(f"{self.shelf}/{name}", "rb").read() for name in names]
+
+    def run(self, words, data, way="file", draw=None):
+        """Runs the program on these words and octets. The output of a reader that goes away is what it read."""
+        self.count += 1
+        shutil.rmtree(self.shelf, ignore_errors=True)
+        os.mkdir(self.shelf)
+        names = {name: f"{self.work}/{name}" for name in ("input", "output", "note")}
+        with open(names["input"], "wb") as file:
+            file.write(data)
+        feeder = os.pipe() if way == "pieces" else None
+        reader = os.pipe() if way == "leaves" else None
+        child = os.fork()
+        if child == 0:
+            try:
+                self.become(words, names, way, draw, feeder, reader)
+            finally:
+                os._exit(127)
+        if feeder:
+            os.close(feeder[0])
+            feed(feeder[1], data, draw)
+        seen = None
+        if reader:
+            os.close(reader[1])
+            seen = read_some(reader[0], draw)
+        _, status, used = os.wait4(child, 0)
+        seconds = used.ru_utime + used.ru_stime
+        hold(os.WIFEXITED(status), "ended by a signal", words, way, os.WTERMSIG(status) if os.WIFSIGNALED(status) else "")
+        with open(names["output"], "rb") as file:
+            output = file.read() if seen is None else seen
+        with open(names["note"], "rb") as file:
+            note = file.read()
+        # A process that was forked counts the memory that this one has as its own, until it has more.
+        own = resource.getrusage(resource.RUSAGE_SELF).ru_maxrss
+        return Run(os.WEXITSTATUS(status), output, note, 1024 * used.ru_maxrss if used.ru_maxrss > own else 0, seconds)
+
+    def become(self, words, names, way, draw, feeder, reader):
+        """In the child: the three streams, the limit, the program."""
+        os.setpgid(0, 0)  # an interrupt is for the one that holds it to account
+        os.chdir(self.work)
+        source = os.open(self.work if way == "directory" else names["input"], os.O_RDONLY)
+        if feeder:
+            os.close(feeder[1])
+            source = feeder[0]
+        os.dup2(source, 0)
+        made = os.open(names["output"], os.O_WRONLY | os.O_CREAT | os.O_TRUNC)
+        if reader:
+            os.close(reader[0])
+            made = reader[1]
+        if way == "full":
+            made = os.open("/dev/full", os.O_WRONLY)
+        os.dup2(made, 1)
+        noted = os.open(names["note"], os.O_WRONLY | os.O_CREAT | os.O_TRUNC)
+        os.dup2(os.open("/dev/full", os.O_WRONLY) if way == "full notes" else noted, 2)
+        closed = {"closed input": 0, "closed": 1, "closed notes": 2}.get(way)
+        if closed is not None:
+            os.close(closed)
+        os.closerange(3, 20)
+        if way == "little memory":
+            limit = draw.choice((3, 4, 5, 6, 8, 60)) * MEGABYTE
+            resource.setrlimit(resource.RLIMIT_AS, (limit, limit))
+        os.execv(self.program, ["grib", *words])
+
+
+def feed(pipe, data, draw):
+    """Writes the octets into the pipe in random pieces, as far as they are taken."""
+    at, most = 0, draw.choice((3, 50, 1000, 70_000))
+    if len(data) > 300 * most:
+        most = len(data) // 300 + 1
+    try:
+        while at < len(data):
+            at += os.write(pipe, data[at:at + draw.randint(1, most)])
+    except BrokenPipeError:
+        pass
+    os.close(pipe)
+
+
+def read_some(pipe, draw):
+    """Reads some of the output and goes away."""
+    left, seen = draw.choice((0, 1, 100, 5_000, 200_000)), b""
+    while left > 0:
+        piece = os.read(pipe, left)
+        if not piece:
+            break
+        seen, left = seen + piece, left - len(piece)
+    os.close(pipe)
+    return seen
+
+
+# Messages, and how they are damaged.
+
+def messages_of(data):
+    """The messages of a file, by their stated total length."""
+    at, found = data.find(b"GRIB"), []
+    while at >= 0 and at + 16 <= len(data):
+        edition = data[at + 7]
+        length = int.from_bytes(data[at + 8:at + 16], "big") if edition == 2 else int.from_bytes(data[at + 4:at + 7], "big")
+        if edition in (1, 2) and data[at + length - 4:at + length] == b"7777":
+            found.append(data[at:at + length])
+            at += length - 4
+        at = data.find(b"GRIB", at + 4)
+    return found
+
+
+def worked_messages():
+    """The messages of chapter 11 of docs/PROFILE.md, which stand there in hexadecimal."""
+    with open(f"{top}/docs/PROFILE.md", encoding="utf-8") as page:
+        blocks = re.findall(r"^```\n(47524942[0-9A-F\s]*)```", page.read(), re.M)
+    return [bytes.fromhex("".join(block.split())) for block in blocks]
+
+
+def sections(message):
+    """Start, length and number of each section, as far as they can be followed; 1 to 4 in edition 1."""
+    found, two = [], message[7:8] == b"\2"
+    at, head = (16, 4) if two else (8, 3)
+    while at + 5 <= len(message) and message[at:at + 4] != b"7777" and len(found) < 30_000:
+        length = int.from_bytes(message[at:at + head], "big")
+        if length < 5 or at + length > len(message):
+            break
+        number = message[at + 4] if two else len(found) + 1
+        found.append((at, length, number))
+        at += length
+    return found
+
+
+# The numbers of each section that are worth changing: first octet and width, from 1.
+PLACES = {
+    2: {0: [(7, 1), (8, 1), (9, 8)], 1: [(1, 4), (5, 1), (13, 2), (15, 1)],
+        3: [(1, 4), (6, 1), (7, 4), (11, 1), (12, 1), (13, 2), (31, 4), (35, 4), (39, 4), (47, 4), (55, 1), (64, 4), (68, 4), (72, 1)],
+        4: [(1, 4), (6, 2), (8, 2), (18, 1), (19, 4), (23, 1), (24, 1), (25, 4), (42, 1), (46, 1)],
+        5: [(1, 4), (6, 4), (10, 2), (12, 4), (16, 2), (18, 2), (20, 1), (21, 1), (23, 1), (32, 4), (36, 1), (37, 1),
+            (38, 4), (42, 1), (43, 4), (47, 1), (48, 1), (49, 1)],
+        6: [(1, 4), (6, 1), (7, 1)], 7: [(1, 4), (6, 2), (8, 4), (12, 4)]},
+    1: {0: [(5, 3), (8, 1)], 1: [(1, 3), (4, 1), (8, 1), (9, 1), (10, 1), (13, 1), (18, 1), (21, 1), (25, 1), (27, 2)],
+        2: [(1, 3), (4, 1), (5, 1), (6, 1), (7, 2), (9, 2), (17, 1), (28, 1), (33, 2)],
+        3: [(1, 3), (4, 1), (5, 2)], 4: [(1, 3), (4, 1), (5, 2), (7, 4), (11, 1)]},
+}
+
+
+def number_in_place_of(draw, old, width):
+    top_bit = 1 << 8 * width - 1
+    return draw.choice((old + 1, old - 1, old + draw.randint(-9, 9), 2 * old, old // 2, 0, 1, 2 * top_bit - 1, top_bit, top_bit - 1,
+                        top_bit + 1, 255, 256, 65_535, 1 << 28, (1 << 28) + 1, 1 << 25, (1 << 25) + 1, draw.getrandbits(8 * width),
+                        draw.randint(0, 60))) % (2 * top_bit)
+
+
+def change_number(draw, message):
+    places = PLACES[1 if message[7:8] == b"\1" else 2]
+    at, _, number = draw.choice([(0, 0, 0)] + sections(message))
+    first, width = draw.choice(places.get(number, [(1, 4)]))
+    place = at + first - 1
+    old = int.from_bytes(message[place:place + width], "big")
+    return message[:place] + number_in_place_of(draw, old, width).to_bytes(width, "big") + message[place + width:]
+
+
+def flip(draw, message):
+    octets = bytearray(message)
+    for _ in range(draw.choice((1, 1, 2, 10))):
+        octets[draw.randrange(len(octets))] ^= 1 << draw.randrange(8)
+    return bytes(octets)
+
+
+def move_sections(draw, message):
+    """A section repeated, left out, or put in another place; or the last group again, a field more."""
+    found = sections(message)
+    if not found:
+        return message
+    at, length, _ = draw.choice(found)
+    section = message[at:at + length]
+    kind = draw.randrange(4)
+    if kind == 0:
+        return message[:at] + section * draw.choice((2, 3, 50)) + message[at + length:]
+    if kind == 1:
+        return message[:at] + message[at + length:]
+    if kind == 2:
+        other = draw.choice(found)[0]
+        return message[:other] + section + message[other:]
+    first = draw.choice((2, 3, 4))
+    group = [start for start, _, number in found if number >= first]
+    end = found[-1][0] + found[-1][1]
+    return message[:end] + message[min(group, default=end):end] * draw.choice((1, 2, 9)) + message[end:]
+
+
+def longer_section(draw, message):
+    """Octets added to a section, its length with them: surplus that is not read."""
+    found = sections(message)
+    if not found:
+        return message
+    at, length, _ = draw.choice(found)
+    head = 4 if message[7:8] == b"\2" else 3
+    more = draw.randbytes(draw.choice((1, 2, 40))) if hasattr(draw, "randbytes") else bytes(draw.choice((1, 2, 40)))
+    return message[:at] + (length + len(more)).to_bytes(head, "big") + message[at + head:at + length] + more + message[at + length:]
+
+
+def cut(draw, message):
+    return message[:draw.randrange(len(message))]
+
+
+def lose(draw, message):
+    at = draw.randrange(len(message))
+    return message[:at] + message[at + draw.choice((1, 2, 16, 300)):]
+
+
+def add(draw, message):
+    at = draw.randrange(len(message))
+    return message[:at] + message[at - draw.randint(0, min(at, 300)):at] + message[at:]
+
+
+def with_own_length(message):
+    """The message with its number of octets as total length."""
+    if message[7:8] == b"\2" and len(message) >= 16:
+        return message[:8] + len(message).to_bytes(8, "big") + message[16:]
+    if message[7:8] == b"\1" and len(message) < 1 << 24:
+        return message[:4] + len(message).to_bytes(3, "big") + message[7:]
+    return message
+
+
+def damaged(draw, message):
+    for _ in range(draw.choice((1, 1, 1, 2, 4))):
+        if len(message) > 20:
+            message = draw.choice((change_number, change_number, change_number, flip, move_sections, longer_section, cut, lose, add))(draw, message)
+    return with_own_length(message) if draw.random() < 0.7 else message
+
+
+JUNK = (b"",) * 9 + (b"G", b"GRI", b"7777", b"SXXX01 EDZW\r\r\n", bytes(40), b"GGRIGR", b"GRIBGRIB", b"GRIB\0\0\0\2" + b"\xff" * 8)
+
+
+def stream_of(draw, pool):
+    """A few messages, some of them damaged, and what stands between them."""
+    data, often = draw.choice(JUNK), draw.choice((0, 0.2, 0.6))
+    for _ in range(draw.choice((1, 1, 2, 3, 5))):
+        message = draw.choice(pool)
+        chance = draw.random()
+        if chance < often:
+            message = damaged(draw, message)
+        elif chance < 1.1 * often:
+            other = draw.choice(pool)
+            message = message[:draw.randrange(len(message))] + other[draw.randrange(len(other)):]
+        data += message + (draw.choice(JUNK) if draw.random() < 0.3 else b"")
+    return data[:draw.randrange(len(data) + 1)] if draw.random() < 0.05 else data
+
+
+# What is asked.
+
+def key_table():
+    """The keys of chapter 6 of docs/PROFILE.md: section, first and last octet (none where the template decides), kind,
+    and whether it can be set."""
+    with open(f"{top}/docs/PROFILE.md", encoding="utf-8") as page:
+        rows = re.findall(r"^\| (\w+) \| (\d) \| (.*?) \| ([usm ]+) \| (yes|no) \|$", page.read(), re.M)
+    table = {}
+    for name, section, octets, kind, can_set in rows:
+        place = re.fullmatch(r"(\d+)(?:-(\d+))?", octets)
+        first, last = (int(place[1]), int(place[2] or place[1])) if place else (None, None)
+        table[name] = (int(section), first, last, kind, can_set == "yes")
+    return table
+
+
+KEYS = key_table()
+
+
+def in_force(message):
+    """For each field of a message of edition 2 where the sections begin that are in force for it."""
+    starts = {0: 0}
+    for at, _, number in sections(message):
+        starts[number] = at
+        if number == 7:
+            yield dict(starts)
+
+
+def key_value(message, starts, key):
+    """The value of a key, as it is written."""
+    section, first, last, kind, _ = KEYS[key]
+    octets = message[starts[section] + first - 1:starts[section] + last]
+    number, top_bit = int.from_bytes(octets, "big"), 1 << 8 * len(octets) - 1
+    if "m" in kind and number == 2 * top_bit - 1:
+        return "missing"
+    if "s" in kind and number >= top_bit:
+        number = top_bit - number
+    return str(number)
+
+
+def key_words(draw, can_set, pool):
+    """One to three keys, with values of some field in half of the cases."""
+    names = [key for key, row in KEYS.items() if row[4] or not can_set]
+    message = draw.choice([one for one in pool if one[7] == 2])
+    starts, words = draw.choice(list(in_force(message)) or [{}]), []
+    for key in draw.sample(names, draw.choice((1, 1, 2, 3))):
+        value = draw.choice((0, 1, 2, 7, 98, 100, 103, 255, 256, 2024, 50_000, -1, -90, "missing", 65_536, 2**32 - 1))
+        if KEYS[key][1] and KEYS[key][0] in starts and draw.random() < 0.7:
+            value = key_value(message, starts, key)
+        words.append(f"{key}={value}")
+    return words
+
+
+def wrong_words(draw):
+    return draw.choice(([], ["--help"], ["check", "x"], ["dump", "dump"], ["filter"], ["filter", "centre"], ["set", "points=3"],
+                        ["set", "centre=98", "centre=98"], ["repack", "to=1"], ["repack", "to=3"], ["repack", "to=03"], ["split", "out="],
+                        ["filter", "centre=1e3"], ["filter", f"year={2**63}"], ["filter", "year=-0"], ["make", "seed=1"], ["Check"],
+                        ["make", f"seed={2**31}", "ni=1", "nj=1", "to=0"], ["repack", "to=2", "order=1"], ["check", ""], [""]))
+
+
+def command_of(draw, has, pool):
+    """The words of a command, one that has a reading in most cases."""
+    name = draw.choice([one for one in ("check", "list", "dump", "filter", "filter", "split", "set", "set", "repack", "repack", "repack",
+                                        "make", "stats", "rescan", "crop", "migrate", "decimals", "words") if one in has])
+    if name == "decimals":
+        return ["dump", f"decimals={draw.choice((0, 1, 2, 3, 7, 18))}"]
+    if name == "filter":
+        return ["filter"] + key_words(draw, False, pool)
+    if name == "set":
+        return ["set"] + key_words(draw, True, pool)
+    if name == "split":
+        return ["split", draw.choice(("out=shelf/part",) * 9 + ("out=absent/part",))]
+    if name == "repack":
+        return ["repack"] + draw.choice((["to=0"], ["to=2"], ["to=3", "order=1"], ["order=2", "to=3"]))
+    if name == "crop":
+        i0, j0 = draw.choice((0, 0, 1)), draw.choice((0, 0, 2))
+        return ["crop", f"i0={i0}", f"i1={i0 + draw.choice((0, 1, 9))}", f"j0={j0}", f"j1={j0 + draw.choice((0, 1, 9))}"]
+    if name == "migrate":
+        return ["migrate", f"params={top}/params/standard.csv"] + draw.choice(([], ["local=keep"]))
+    if name == "make":
+        return ["make", f"seed={draw.getrandbits(31)}", f"ni={draw.randint(1, 40)}", f"nj={draw.randint(1, 40)}"] + \
+            draw.choice((["to=0"], ["to=2"], ["to=3", "order=1"], ["to=3", "order=2"]))
+    return wrong_words(draw) if name == "words" else [name]
+
+
+def commands_of(program):
+    """The commands that this program has."""
+    runner = Runner(program)
+    try:
+        has = {"check", "list", "dump", "filter", "split", "set", "repack", "make", "words"}
+        for name, words in (("stats", ["stats"]), ("rescan", ["rescan"]), ("crop", ["crop", "i0=0", "i1=0", "j0=0", "j1=0"]),
+                            ("decimals", ["dump", "decimals=2"]), ("migrate", ["migrate", f"params={top}/params/standard.csv"])):
+            if runner.run(words, b"").status == 0:
+                has.add(name)
+        return has
+    finally:
+        runner.close()
+
+
+# What has to be true.
+
+def lines_of(text):
+    return text.decode("ascii").splitlines()
+
+
+def accepted_of(checked):
+    """Start, octets, edition and fields of each message that `check` prints."""
+    found = re.findall(r"^message (\d+) at (\d+) edition ([12]) octets (\d+) fields (\d+)$", checked.output.decode(), re.M)
+    hold([int(one[0]) for one in found] == list(range(1, len(found) + 1)), "check counts otherwise")
+    return [(int(at), int(octets), int(edition), int(fields)) for _, at, edition, octets, fields in found]
+
+
+def hold_check(data, checked):
+    """`check` of the plain file: its lines are true of the octets, and its note belongs to its status."""
+    accepted = accepted_of(checked)
+    end = 0
+    for at, octets, edition, fields in accepted:
+        hold(at >= end and data[at:at + 4] == b"GRIB" and data[at + 7] == edition, "check names a place that has no message", at)
+        hold(data.find(b"GRIB", end) == at, "check passed over a mark", at)
+        hold(octets <= len(data) - at and data[at + octets - 4:at + octets] == b"7777" and fields >= 1, "check names other octets", at)
+        end = at + octets
+    printed = lines_of(checked.output)
+    if checked.status == 0:
+        total = f"messages {len(accepted)} fields {sum(one[3] for one in accepted)} skipped {len(data) - sum(one[1] for one in accepted)}"
+        hold(printed[len(accepted):] == [total], "the total line is another", printed[-1], total)
+        hold(checked.note == b"", "check noted something", checked.note)
+        hold(data.find(b"GRIB", end) < 0, "check passed over a mark at the end")
+    else:
+        hold(checked.status == 2 and len(printed) == len(accepted), "check ended otherwise", checked.status, checked.note)
+        refusal = re.fullmatch(rb"refused message (\d+) octet (\d+) (\w+) (\d+)\n", checked.note)
+        hold(refusal and int(refusal[1]) == len(accepted) + 1 and refusal[3].decode() in REASONS, "no such refusal", checked.note)
+        mark = data.find(b"GRIB", end)
+        hold(mark >= 0 and 1 <= int(refusal[2]) <= max(len(data) - mark + 1, 9), "a refusal outside the message", checked.note)
+        if refusal[3] == b"Truncated":
+            hold(int(refusal[2]) == len(data) - mark + 1 and int(refusal[4]) == len(data) - mark, "Truncated elsewhere", checked.note)
+    return accepted
+
+
+def hold_note(words, plain, checked, accepted, written):
+    """The plain run: its status and its note belong together."""
+    name, fields = words[0] if words else "", sum(one[3] for one in accepted)
+    if plain.status == 0:
+        hold(checked.status == 0 or name == "make", "answered what check refuses")
+        wanted = b""
+        if name in COPIES:
+            wanted = b"messages %d fields %d written %d\n" % (len(accepted), fields, written)
+        if name == "make":
+            hold(re.fullmatch(rb"made \d+ written %d present \d+ sum \d+\n" % written, plain.note), "the note of make", plain.note)
+        else:
+            hold(plain.note == wanted, "another note of Done", plain.note, wanted)
+    elif plain.status == 1:
+        usage = re.fullmatch(rb"usage word (\d+)\n", plain.note)
+        hold(usage and int(usage[1]) <= len(words) and plain.output == b"", "usage", plain.note)
+    elif plain.status == 2:
+        hold(plain.note == checked.note, "another refusal than that of check", plain.note, checked.note)
+    elif plain.status == 3:
+        kept = re.fullmatch(r"kept message (\d+) (.*)\n", plain.note.decode())
+        hold(kept and 1 <= int(kept[1]) <= len(accepted), "kept a message that is not accepted", plain.note)
+        hold(any(re.fullmatch(cause, kept[2]) for cause in CAUSES.get(name, [])), "no such cause", plain.note)
+        hold(("EditionOne" in kept[2]) <= (accepted[int(kept[1]) - 1][2] == 1), "EditionOne of edition 2", plain.note)
+    else:
+        hold(plain.status == 7 and words == ["split", "out=absent/part"] and plain.note == b"shelf fault\n", "another status", plain.status, plain.note)
+
+
+def messages_before(plain, accepted):
+    """How many messages a run that ended with status 2 or 3 has answered."""
+    return int(plain.note.split()[2]) - 1 if plain.status == 3 else len(accepted)
+
+
+def hold_bounds(words, data, run, points):
+    """Processor time and memory: what comes, what goes, and 16 to 64 octets a point; 20 MB beyond it for what is claimed."""
+    if words and words[0] in ("check", "list"):
+        points = 0
+    most = 20 * MEGABYTE + 8 * len(data) + 100 * points
+    hold(run.octets <= most, "more memory than it may", words, run.octets, most)
+    hold(run.seconds <= 20 + points / 20_000, "more time than it may", words, run.seconds)
+
+
+def column_lines(dumped):
+    """The reference and point lines of a dump."""
+    return [line for line in lines_of(dumped) if " ed=" not in line]
+
+
+def value_text(reference, x, places):
+    """The value of a point, rounded half to even once, as `dump decimals=` prints it."""
+    mantissa, exponent = reference[1].split("*2^")
+    value = fractions.Fraction(int(mantissa)) * fractions.Fraction(2) ** int(exponent)
+    value = (value + x * fractions.Fraction(2) ** int(reference[3])) / fractions.Fraction(10) ** int(reference[5])
+    rounded = round(value * 10**places)
+    digits = str(abs(rounded)).rjust(places + 1, "0")
+    return ("-" if rounded < 0 else "") + (f"{digits[:-places]}.{digits[-places:]}" if places else digits)
+
+
+def hold_decimals(words, plain, dumped):
+    """The decimals are those of the exact values."""
+    places, reference = int(words[1].split("=")[1]), None
+    for line, exact in zip(lines_of(plain.output), lines_of(dumped.output)):
+        parts = exact.split()
+        if parts[0] == "reference":
+            reference = parts
+        wanted = exact if "." in parts[0] or parts[0] == "reference" or "missing" in parts[1] else \
+            f"{parts[0]} {value_text(reference, int(parts[1]), places)}"
+        hold(line == wanted, "another decimal", line, wanted)
+
+
+def hold_stats(plain, dumped):
+    """The least and greatest are those of the column."""
+    wanted, label, points, reference = [], None, [], None
+
+    def told():
+        numbers = [(x, place) for place, x in points if isinstance(x, int)]
+        counts = [sum(x == mark for _, x in points) for mark in ("missing", "missing2")]
+        text = f"{label} present {len(numbers)} missing {counts[0]} missing2 {counts[1]}"
+        if numbers:
+            least, greatest = min(numbers), max(numbers, key=lambda one: (one[0], -one[1]))
+            text += f" least {least[0]} at {least[1]} greatest {greatest[0]} at {greatest[1]}"
+        wanted.extend((text, reference))
+    for line in lines_of(dumped.output):
+        words = line.split()
+        if words[0] == "reference":
+            reference = line
+        elif "." in words[0]:
+            if label:
+                told()
+            label, points = words[0], []
+        else:
+            points.append((int(words[0]), words[1] if "missing" in words[1] else int(words[1])))
+    if label:
+        told()
+    hold(lines_of(plain.output) == wanted, "other stats", plain.output[:200], wanted[:2])
+
+
+def listed(runner, data):
+    return [dict(word.split("=", 1) for word in line.split()[1:]) for line in lines_of(runner.run(["list"], data).output)]
+
+
+def conditions(words):
+    return [word.split("=", 1) for word in words[1:]]
+
+
+def hold_picked(words, messages, output, written):
+    """The fields with all these values are written, and a message whose fields all have them as it is."""
+    asked = conditions(words)
+    if any(KEYS[key][1] is None for key, _ in asked):
+        return
+    matches = [[all(key_value(message, starts, key) == value for key, value in asked) for starts in in_force(message)] for message in messages]
+    hold(sum(one[3] for one in written) == sum(map(sum, matches)), "picked other fields", words)
+    if all(all(one) or not any(one) for one in matches):
+        hold(output == b"".join(message for message, one in zip(messages, matches) if all(one)), "picked other messages", words)
+
+
+def with_keys(words, message):
+    """The message with new values of the keys whose octets the template does not decide."""
+    octets = bytearray(message)
+    for key, value in conditions(words):
+        section, first, last, kind, _ = KEYS[key]
+        if first is None:
+            continue
+        bits = 8 * (last - first + 1)
+        number = (1 << bits) - 1 if value == "missing" else (1 << bits - 1) - int(value) if int(value) < 0 else int(value)
+        for start in [0] if section == 0 else [at for at, _, found in sections(message) if found == section]:
+            octets[start + first - 1:start + last] = number.to_bytes(bits // 8, "big")
+    return bytes(octets)
+
+
+def hold_written(runner, words, data, plain, accepted, parts):
+    """What is written is accepted, and holds what it has to hold."""
+    name = words[0]
+    output = b"".join(parts) if name == "split" else plain.output
+    again = runner.run(["check"], output)
+    hold(again.status == 0, "wrote what check refuses", words, again.note)
+    written = accepted_of(again)
+    hold(lines_of(again.output)[-1].endswith("skipped 0"), "wrote octets of no message", words)
+    count = messages_before(plain, accepted) if plain.status in (2, 3) else len(accepted)
+    if name in ("set", "repack", "migrate", "rescan", "crop"):
+        hold([one[3] for one in written] == [one[3] for one in accepted[:count]], "wrote other fields", words)
+    messages = [data[at:at + octets] for at, octets, _, _ in accepted[:count]]
+    source = b"".join(messages)
+    if name == "make":
+        hold(len(written) == 1, "made other messages")
+    if name == "split":
+        hold(len(parts) == sum(one[3] for one in accepted[:count]) == len(written), "split wrote other files")
+        if all(one[3] == 1 for one in accepted[:count]):
+            hold(output == source, "the parts are not the messages")
+        hold(column_lines(runner.run(["dump"], output).output) == column_lines(runner.run(["dump"], source).output), "split changed a value")
+    if name == "filter":
+        hold_picked(words, messages, output, written)
+        hold(runner.run(words, output).output == output, "filter of its output is another")
+    if name == "set":
+        hold(len(output) == len(source), "set changed a length")
+        wanted = b"".join(with_keys(words, one) for one in messages)
+        hold(output == wanted or any(KEYS[key][1] is None for key, _ in conditions(words)), "set wrote other octets", words)
+        hold(runner.run(words, output).output == output, "set of its output is another")
+    if name == "repack":
+        hold(column_lines(runner.run(["dump"], output).output) == column_lines(runner.run(["dump"], source).output), "repack changed a value", words)
+        hold(runner.run(words, output).output == output, "repack of its output is another", words)
+        simple, there = runner.run(["repack", "to=0"], source), runner.run(["repack", "to=0"], output)
+        hold((there.status, there.output) == (simple.status, simple.output), "repack there and back is not repack once", words)
+    if name == "rescan":
+        hold(runner.run(words, output).output == output, "rescan twice is not rescan once")
+    if name == "migrate":
+        old, new = lines_of(runner.run(["dump"], source).output), lines_of(runner.run(["dump"], output).output)
+        hold([line for line in old if " ed=" not in line] == [line for line in new if " ed=" not in line], "migrate changed a value")
+
+
+def hold_way(words, data, plain, other, way, parts, other_parts):
+    """A run in another way answers as the plain one, or says what failed, with a front of the output."""
+    if way in ("directory", "closed input") and words and words[0] != "make" and plain.status != 1:
+        hold((other.status, other.output, other.note) == (5, b"", b"read fault\n"), "a directory", words, other.status, other.note)
+        return
+    same = (other.status, other.note) == (plain.status, plain.note)
+    hold(plain.output.startswith(other.output), "no front of the output", words, way)
+    if way in ("closed notes", "full notes"):
+        hold(other.status == (6 if plain.note else plain.status) and other.note == b"", way, words, other.status, other.note)
+        hold(plain.note or other.output == plain.output, "other output " + way, words)
+    elif way in ("pieces", "directory", "closed input"):
+        hold(same and other.output == plain.output and other_parts == parts, "otherwise " + way, words, other.status, other.note)
+    elif way == "little memory":
+        if other.status == 127 and b"shared libraries" in other.note:
+            return  # too little to begin
+        none = other.status == 8 and (other.note == b"memory\n" or (other.note, other.output) == (b"", b""))
+        hold(same and other.output == plain.output or none, way, words, other.status, other.note)
+        hold(all(whole.startswith(part) for whole, part in zip(parts, other_parts)) and len(other_parts) <= len(parts), "other parts", way)
+    elif plain.output == b"":
+        hold(same, "nothing was written, and yet", way, words, other.status, other.note)
+    else:
+        # What waits to be written is tried last, after the note.
+        failed = other.status == 6 and other.note in (b"", plain.note)
+        hold(same and way == "leaves" or failed, way, words, other.status, other.note)
+
+
+def try_case(runner, draw, words, data, way):
+    """All runs of one case. Raises Wrong at the first thing that may not be."""
+    checked = runner.run(["check"], data)
+    accepted = hold_check(data, checked)
+    hold_bounds(["check"], data, checked, 0)
+    fields = listed(runner, data)
+    hold(len(fields) == sum(one[3] for one in accepted), "list prints other fields")
+    points = max((int(field["points"]) for field in fields), default=0)
+    if points > MOST_POINTS and not (words and words[0] in ("check", "list", "filter", "set", "split")):
+        return
+    plain = runner.run(words, data)
+    name = words[0] if words else ""
+    parts = runner.parts() if name == "split" and plain.status not in (1, 7) else []
+    runner.seen[f"status {plain.status}"] += 1
+    if plain.status in (2, 3):
+        runner.seen[plain.note.split()[5 if plain.status == 2 else 3].decode()] += 1
+    hold_bounds(words, data, plain, points)
+    written = sum(map(len, parts)) if name == "split" else len(plain.output)
+    hold_note(words, plain, checked, accepted, written)
+    if plain.status in (2, 3) and words:
+        count = messages_before(plain, accepted)
+        at, octets = accepted[count - 1][:2] if count else (0, 0)
+        front = runner.run(words, data[:at + octets])
+        front_parts = runner.parts() if name == "split" else []
+        output = front.output[:front.output.rfind(b"messages ")] if name == "check" else front.output
+        hold((front.status, output, front_parts) == (0, plain.output, parts), "not the output of the messages before", words, front.status, front.note)
+    if plain.status in (0, 2, 3) and name in COPIES + ("make",) and points <= MOST_POINTS:
+        hold_written(runner, words, data, plain, accepted, parts)
+    if words[:1] == ["stats"]:
+        hold_stats(plain, runner.run(["dump"], data))
+    if words[:1] == ["dump"] and len(words) == 2 and plain.status != 1:
+        hold_decimals(words, plain, runner.run(["dump"], data))
+    if way != "file":
+        other = runner.run(words, data, way, draw)
+        other_parts = runner.parts() if name == "split" and other.status not in (1, 7) else []
+        hold_way(words, data, plain, other, way, parts, other_parts)
+
+
+WAYS = ("file", "pieces", "pieces", "leaves", "full", "closed", "directory", "closed input", "full notes", "closed notes",
+        "little memory", "little memory")
+
+
+def case_of(seed, number, pool, has):
+    draw = random.Random(f"{seed} {number}")
+    return draw, command_of(draw, has, pool), stream_of(draw, pool), draw.choice(WAYS)
+
+
+def wrong_in(runner, seed, words, data, way):
+    """What is wrong with a case, or None. Its random pieces hang on the case alone."""
+    try:
+        try_case(runner, random.Random(f"{seed} pieces"), words, data, way)
+    except Wrong as wrong:
+        return str(wrong)
+    except Exception as wrong:  # what the program printed could not be read
+        return f"{type(wrong).__name__}: {wrong}"
+    return None
+
+
+def smaller(runner, seed, words, data, way, wrong):
+    """The octets of a finding, cut as long as what is wrong with them begins alike."""
+    size = len(data) // 2
+    tries = 0
+    while size > 0 and tries < 400:
+        at = 0
+        while at < len(data) and tries < 400:
+            tries += 1
+            less = data[:at] + data[at + size:]
+            found = wrong_in(runner, seed, words, less, way)
+            if found and found[:12] == wrong[:12]:
+                data = less
+            else:
+                at += size
+        size //= 2
+    return data
+
+
+def work(arguments):
+    """The cases of one process: every jobs-th one, until its part of the runs is made."""
+    program, pool, has, options, first = arguments
+    runner, counts, number = Runner(program), collections.Counter(), first
+    most, stopped = options["runs"] // options["jobs"], []
+    for name in signal.SIGINT, signal.SIGTERM:
+        signal.signal(name, lambda *_: stopped.append(True))
+    try:
+        while runner.count < most and not stopped:
+            _, words, data, way = case_of(options["seed"], number, pool, has)
+            wrong = wrong_in(runner, options["seed"], words, data, way)
+            counts["cases"] += 1
+            if wrong:
+                counts["findings"] += 1
+                if counts["findings"] <= 20:
+                    report(runner, options, number, words, data, way, wrong)
+            if options["case"] is not None:
+                break
+            number += options["jobs"]
+        counts["runs"] = runner.count
+        return counts + runner.seen
+    finally:
+        runner.close()
+
+
+def report(runner, options, number, words, data, way, wrong):
+    data = smaller(runner, options["seed"], words, data, way, wrong)
+    os.makedirs(options["keep"], exist_ok=True)
+    name = f"{options['keep']}/{options['seed']}-{number}"
+    with open(name, "wb") as file:
+        file.write(data)
+    print(f"case {number} ({way}): {' '.join(words)} < {name} ({len(data)} octets): {wrong}", flush=True)
+
+
+def pool_of(program, files):
+    """Messages to begin with: small ones of the files, the worked ones, and some that are made; of those that are
+    refused one for each reason."""
+    pool = worked_messages()
+    for path in files:
+        with open(path, "rb") as file:
+            found = messages_of(file.read())
+        small = sorted((one for one in found if len(one) <= 60_000), key=len)
+        pool += small[::max(len(small) // 12, 1)]
+    runner = Runner(program)
+    try:
+        for ni, nj in ((1, 1), (7, 3), (40, 30)):
+            for target in (["to=0"], ["to=2"], ["to=3", "order=1"], ["to=3", "order=2"]):
+                pool.append(runner.run(["make", "seed=5", f"ni={ni}", f"nj={nj}", *target], b"").output)
+        noted = [runner.run(["check"], one).note.split()[5:6] for one in pool]
+    finally:
+        runner.close()
+    return [one for n, one in enumerate(pool) if one and (not noted[n] or noted[n] not in noted[:n])]
+
+
+def main():
+    options = {"runs": "10000", "seed": "1", "jobs": "1", "case": None, "keep": "hostile-findings"}
+    words = [word for word in sys.argv[1:] if word.split("=", 1)[0] in options and "=" in word]
+    options.update(word.split("=", 1) for word in words)
+    paths = [word for word in sys.argv[1:] if word not in words]
+    if len(paths) < 2:
+        sys.exit(__doc__)
+    options["runs"], options["jobs"] = int(options["runs"]), int(options["jobs"])
+    program = os.path.abspath(paths[0])
+    pool, has = pool_of(program, paths[1:]), commands_of(program)
+    if options["case"] is not None:
+        options["jobs"] = 1
+    begun, firsts = time.monotonic(), range(options["jobs"]) if options["case"] is None else [int(options["case"])]
+    given = [(program, pool, has, options, first) for first in firsts]
+    if options["jobs"] == 1:
+        results = [work(given[0])]
+    else:
+        with multiprocessing.Pool(options["jobs"]) as processes:
+            results = processes.map(work, given, chunksize=1)
+    counts = sum(results, collections.Counter())
+    print(f"{counts['runs']} runs, {counts['cases']} cases over {len(pool)} messages, {counts['findings']} findings, "
+          f"{time.monotonic() - begun:.0f} seconds; seed {options['seed']}; commands {' '.join(sorted(has - {'words'}))}")
+    told = sorted((what, count) for what, count in counts.items() if what not in ("runs", "cases", "findings"))
+    print("plain runs: " + ", ".join(f"{what} {count}" for what, count in told))
+    sys.exit(counts["findings"] > 0)
+
+
+main()

@@ -1,0 +1,54 @@
+-- What describes a field of an accepted message of edition 2: the numbers that its line of a list has (WMO-No. 306,
+-- Volume I.2, FM 92 GRIB edition 2, Sections 0, 1, 3, 4 and 5).
+use Rattle.std.specs.Prelude.{ℕ, List}
+use Rattle.grib_bits.specs.Octets.{octets}
+use Rattle.grib2_sections.specs.Head.{discipline}
+use Rattle.grib2_sections.specs.declared.identification.Identification.{Identification}
+use Rattle.grib2_grids.specs.Grid.{grid_points, grid_template}
+use Rattle.grib2_products.specs.Product.{product_template}
+use Rattle.grib_packing.specs.Packing.{packing_template, bit_width, value_count}
+use Rattle.grib2_message.specs.declared.summary.FieldSummary.{FieldSummary}
+use Rattle.grib2_message.specs.Fields.{part_octets}
+
+-- what Section 1 states
+abbrev pub identification_of : List ℕ → Identification
+identification_of s = record {
+  centre = octets s 6 7;
+  sub_centre = octets s 8 9;
+  master = octets s 10 10;
+  local = octets s 11 11;
+  significance = octets s 12 12;
+  year = octets s 13 14;
+  month = octets s 15 15;
+  day = octets s 16 16;
+  hour = octets s 17 17;
+  minute = octets s 18 18;
+  second = octets s 19 19;
+  status = octets s 20 20;
+  data_type = octets s 21 21;
+}
+
+-- by the discipline, the identification and Sections 3, 4 and 5
+abbrev pub summary_by : ℕ → Identification → List ℕ → List ℕ → List ℕ → FieldSummary
+summary_by discipline identification s3 s4 s5 = record {
+  identification = identification;
+  discipline = discipline;
+  grid = grid_template s3;
+  points = grid_points s3;
+  product = product_template s4;
+  category = octets s4 10 10;
+  number = octets s4 11 11;
+  unit = octets s4 18 18;
+  time = octets s4 19 22;
+  surface = octets s4 23 23;
+  scale = octets s4 24 24;
+  value = octets s4 25 28;
+  packing = packing_template s5;
+  bits = bit_width s5;
+  values = value_count s5;
+}
+
+-- of field i, by the sections in force for it
+abbrev pub summary_of : List ℕ → ℕ → FieldSummary
+summary_of message i =
+    summary_by (discipline message) (identification_of (part_octets message i 1)) (part_octets message i 3) (part_octets message i 4) (part_octets message i 5)

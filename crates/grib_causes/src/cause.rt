@@ -1,0 +1,45 @@
+//! Why a message that is accepted is not changed as asked.
+
+use crate::loss::Loss;
+use grib_keys::Key;
+
+/// Why a message that is accepted is not changed or printed as asked: what of it would be lost first. Fields
+/// are counted from 1 in their message, and grid points from 1 in their field.
+#[derive(Clone, Copy, Debug, PartialEq, Eq)]
+pub enum Cause {
+    /// It is of edition 1, and the command changes messages of edition 2.
+    EditionOne,
+    /// The packing has no code for a secondary missing value.
+    SecondaryMissing { field: u32, point: u32 },
+    /// The packing has no room for a scaled number.
+    OutOfRange { field: u32, point: u32 },
+    /// The packing has no room for the spatial differences.
+    DifferenceRange { field: u32 },
+    /// The new message would have this many octets, more than a message may have.
+    OutputTooLong(u64),
+    /// The new value of a key does not fit the octets of its place.
+    KeyRange { key: Key },
+    /// A field has no such key.
+    KeyAbsent { field: u32, key: Key },
+    /// Something of a message of edition 1 has no place in edition 2.
+    Lost(Loss),
+    /// The grid is not of template 3.0, or has a list of numbers of points.
+    GridKind { field: u32 },
+    /// The scanning mode is one that the command does not take.
+    ScanMode { field: u32 },
+    /// The box reaches beyond the last column or row of the grid.
+    OutsideBox { field: u32 },
+    /// The corners of the grid are not told by its increments.
+    Increments { field: u32 },
+    /// A value is too large, or too small, to be printed as a decimal.
+    DecimalRange { field: u32, point: u32 },
+}
+
+/// A message that is accepted and is kept from being changed or printed as asked.
+#[derive(Clone, Copy, Debug, PartialEq, Eq)]
+pub struct Kept {
+    /// The message's number in the input, from 1.
+    pub message: u64,
+    /// Why.
+    pub cause: Cause,
+}

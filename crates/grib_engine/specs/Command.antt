@@ -1,0 +1,102 @@
+-- What a command does with the messages of an input, one after another.
+use Rattle.std.specs.Prelude.{◌≡◌, ℕ, ◌*◌, ◌≤◌, Bool, true, false, List, [], ◌++◌, zero, suc, ◌+◌, length, ◌==◌}
+use Rattle.grib_base.specs.Rows.{choose}
+use Rattle.grib2_sections.specs.Head.{edition}
+use Rattle.grib2_message.specs.Message.{IsMessage}
+use Rattle.grib1_sections.specs.Message.{IsMessage1}
+use Rattle.grib_stream.specs.declared.place.Place.{Place}
+use Rattle.grib_stream.specs.declared.place.Totals.{Totals}
+use Rattle.grib_stream.specs.declared.outcome.Outcome.{Outcome}
+use Rattle.grib_stream.specs.declared.outcome.Outcome.TheVariants.{Kept}
+use Rattle.grib_causes.specs.declared.cause.Cause.{Cause}
+use Rattle.grib_causes.specs.declared.cause.Cause.TheVariants.{EditionOne}
+use Rattle.grib_stream.specs.Acts.{Act, writes}
+use Rattle.grib_stream.specs.Outcomes.{is_of_message}
+use Rattle.grib_stream.specs.Task.{Task, Given, Gives, Ends}
+use Rattle.grib_engine.specs.Judging.{judge, fields_of}
+use Rattle.grib_engine.specs.Notes.{written_note}
+use Rattle.grib_engine.specs.Outcomes.{note_of}
+
+pub record Command : Type 0 where
+  -- what a message of edition 1 at a place gives
+  pub first : Place → List ℕ → Given
+  -- what one of edition 2 gives
+  pub second : Place → List ℕ → Given
+  -- what is printed at the end of the input
+  pub ending : Totals → List ℕ
+  -- what is noted at the end of the input
+  pub note : Totals → List ℕ
+  -- whether what is made is put on the shelf, and nothing of it is written to the output
+  pub uses_shelf : Bool
+
+-- what a message gives, by its edition
+abbrev pub given : Command → Place → List ℕ → Given
+given command place message = choose (edition message == 1) (λ _. command.first place message) (λ _. command.second place message)
+
+abbrev pub task : Command → Task
+task command = record {
+  judge = judge;
+  fields = fields_of;
+  result = given command;
+  ending = λ totals. record { acts = writes (command.ending totals); note = command.note totals };
+  note = note_of;
+}
+
+-- What a command owes so that its task is lawful. For each 20 octets of a message at most 268435456 are counted as
+-- written, and a run ends at a message with an outcome of a message.
+pub record IsLawfulCommand (command : Command) : Type 0 where
+  pub few_first : (place : Place) (message : List ℕ) (acts : List Act) (written : ℕ) → IsMessage1 message
+      → command.first place message ≡ Gives acts written → 20 * written ≤ 268435456 * length message
+  pub few_second : (place : Place) (message : List ℕ) (acts : List Act) (written : ℕ) → IsMessage message
+      → command.second place message ≡ Gives acts written → 20 * written ≤ 268435456 * length message
+  pub ends_first : (place : Place) (message : List ℕ) (outcome : Outcome) → command.first place message ≡ Ends outcome → is_of_message outcome ≡ true
+  pub ends_second : (place : Place) (message : List ℕ) (outcome : Outcome) → command.second place message ≡ Ends outcome → is_of_message outcome ≡ true
+
+-- ---- what a message may give
+
+-- a text, of which no note counts the octets
+abbrev pub given_text : List ℕ → Given
+given_text text = Gives (writes text) 0
+
+-- these octets, which are counted
+abbrev pub given_whole : List ℕ → Given
+given_whole octets = Gives (writes octets) (length octets)
+
+-- message m is kept
+abbrev pub kept_at : ℕ → Cause → Outcome
+kept_at m cause = Kept (record { message = m; cause = cause })
+
+-- message m is kept, since its edition is only read
+abbrev pub kept_first : ℕ → Given
+kept_first m = Ends (kept_at m EditionOne)
+
+-- the texts of n fields, from field i on
+abbrev pub texts_from : (ℕ → List ℕ) → ℕ → ℕ → List ℕ
+texts_from text zero i = []
+texts_from text (suc n) i = text i ++ texts_from text n (i + 1)
+
+-- ---- commands of one kind
+
+-- nothing is printed or noted at the end of the input
+abbrev pub nothing : Totals → List ℕ
+nothing totals = []
+
+-- a text is printed of each message
+abbrev pub printing : (Place → List ℕ → List ℕ) → (Place → List ℕ → List ℕ) → (Totals → List ℕ) → Command
+printing first second ending = record {
+  first = λ place message. given_text (first place message);
+  second = λ place message. given_text (second place message);
+  ending = ending;
+  note = nothing;
+  uses_shelf = false;
+}
+
+-- a message of edition 2 gives what is written in its place, and one of edition 1 is kept
+abbrev pub changing : (Place → List ℕ → Given) → Command
+changing second = record {
+  first = λ place message. kept_first place.message;
+  second = second;
+  ending = nothing;
+  note = written_note;
+  uses_shelf = false;
+}

@@ -1,0 +1,103 @@
+//! `check`: a line for each message, and one on the whole input.
+
+ghost use Rattle.std.specs.Prelude.{length};
+ghost use Rattle.grib2_message.specs.Fields.{field_count};
+ghost use Rattle.grib_text.specs.Lines as printed_lines;
+ghost use Rattle.grib_engine.specs.Pending.{WritesTo};
+
+use crate::answered::{Answered, printed};
+use crate::answerer::Writer;
+use crate::writing::write_whole;
+use grib_io::{Sink, Stop};
+use grib_stream::{Place, Totals};
+use grib_text::{check_line, total_line};
+use grib1_sections::Message1;
+use grib2_message::Message;
+use std::alloc::{AllocError, Global};
+
+/// The command `check`.
+#[derive(Clone, Copy, Debug)]
+pub struct Checking;
+
+impl Writer for Checking {
+    ghost use Rattle.std.specs.Prelude.{refl};
+    ghost use Rattle.grib_engine.specs.Checking.{check_command, check_lawful};
+
+    ghost definition = { λ checking. check_command };
+
+    ghost lawful = { λ checking. check_lawful };
+
+    ghost unshelved = { λ checking. refl };
+
+    fn first<T: Sink>(
+        &self,
+        alloc: Global,
+        place: &Place,
+        message: &Message1<'_>,
+        output: &mut T,
+    ) -> Answered {
+        printed(write_first(alloc, place, message, output))
+    }
+
+    fn second<T: Sink>(
+        &self,
+        alloc: Global,
+        place: &Place,
+        message: &Message<'_>,
+        output: &mut T,
+    ) -> Answered {
+        printed(write_second(alloc, place, message, output))
+    }
+
+    fn write_ending<T: Sink>(
+        &self,
+        alloc: Global,
+        totals: &Totals,
+        output: &mut T,
+    ) -> Result<(), Stop> {
+        let line = total_line(alloc, totals.messages, totals.fields, totals.skipped)?;
+        write_whole(output, line.as_slice())
+    }
+
+    fn ending_note(&self, alloc: Global, _totals: &Totals) -> Result<Vec<u8>, AllocError> {
+        Ok(Vec::new(alloc))
+    }
+}
+
+/// Writes the line of a message of edition 1.
+fn write_first<T: Sink>(
+    alloc: Global,
+    place: &Place,
+    message: &Message1<'_>,
+    output: &mut T,
+) -> Result<(), Stop>
+    ensures { WritesTo T.contents T.faults result output.old output.new
+        (printed_lines.check_line place.now.message place.now.before 1 (length message.now) 1) }
+{
+    let total = message.length();
+    let line = check_line(alloc, place.message, place.before, 1, total, 1)?;
+    write_whole(output, line.as_slice())
+}
+
+/// Writes the line of a message of edition 2.
+fn write_second<T: Sink>(
+    alloc: Global,
+    place: &Place,
+    message: &Message<'_>,
+    output: &mut T,
+) -> Result<(), Stop>
+    ensures { WritesTo T.contents T.faults result output.old output.new
+        (printed_lines.check_line place.now.message place.now.before 2 (length message.now)
+        (field_count message.now)) }
+{
+    let total = message.length();
+    let line = check_line(
+        alloc,
+        place.message,
+        place.before,
+        2,
+        total,
+        message.fields(),
+    )?;
+    write_whole(output, line.as_slice())
+}

@@ -1,0 +1,99 @@
+//! `migrate`: each message of edition 1 as one of edition 2.
+
+ghost use Rattle.std.specs.Prelude.{◌≡◌, true};
+ghost use Rattle.grib_engine.specs.Answering.{answered_lost};
+ghost use Rattle.grib_engine.specs.Migrating.{are_octets};
+
+use crate::answered::{Answered, written};
+use crate::answerer::Writer;
+use crate::notes::written_note;
+use crate::writing::{write_counted, write_whole};
+use grib_io::{Sink, Stop};
+use grib_migrate::{MigrateFault, migrate};
+use grib_params::Table;
+use grib_stream::{Cause, Place, Totals};
+use grib1_sections::Message1;
+use grib2_message::Message;
+use std::alloc::{AllocError, Global};
+
+/// The command `migrate`.
+#[derive(Debug, Drop)]
+pub struct Migrating<'a> {
+    /// The parameters of edition 2 for those of edition 1.
+    pub table: &'a Table,
+    /// Whether octets for the centre's own use are kept.
+    pub keep_local: bool,
+}
+
+impl Writer for Migrating<'_> {
+    ghost use Rattle.std.specs.Prelude.{refl};
+    ghost use Rattle.grib_engine.specs.Migrating.{migrate_command, migrate_lawful};
+
+    ghost definition = { λ migrating. migrate_command migrating.keep_local migrating.table.now };
+
+    ghost lawful = { λ migrating. migrate_lawful migrating.keep_local migrating.table.now };
+
+    ghost unshelved = { λ migrating. refl };
+
+    fn first<T: Sink>(
+        &self,
+        alloc: Global,
+        _place: &Place,
+        message: &Message1<'_>,
+        output: &mut T,
+    ) -> Answered {
+        has_octets(message);
+        match migrate(alloc, message, self.table, self.keep_local) {
+            Ok(octets) => written(write_counted(output, octets.as_slice())),
+            Err(fault) => kept_by(fault),
+        }
+    }
+
+    fn second<T: Sink>(
+        &self,
+        _alloc: Global,
+        _place: &Place,
+        message: &Message<'_>,
+        output: &mut T,
+    ) -> Answered {
+        written(write_counted(output, message.octets()))
+    }
+
+    fn write_ending<T: Sink>(
+        &self,
+        _alloc: Global,
+        _totals: &Totals,
+        output: &mut T,
+    ) -> Result<(), Stop> {
+        write_whole(output, b"")
+    }
+
+    fn ending_note(&self, alloc: Global, totals: &Totals) -> Result<Vec<u8>, AllocError> {
+        written_note(alloc, totals)
+    }
+}
+
+/// A message is of octets.
+fn has_octets(message: &Message1<'_>)
+    ensures { are_octets message.now ≡ true }
+{
+    let octets = message.octets();
+    of_octets(octets);
+}
+
+/// Octets are less than 256.
+fn of_octets(octets: &[u8])
+    ensures { are_octets octets.now ≡ true }
+{
+    let _octets = octets;
+}
+
+/// What comes of a message that is not migrated.
+fn kept_by(fault: MigrateFault) -> Answered
+    ensures { result ≡ answered_lost fault }
+{
+    match fault {
+        MigrateFault::Lost(loss) => Answered::Kept(Cause::Lost(loss)),
+        MigrateFault::Memory => Answered::Memory,
+    }
+}

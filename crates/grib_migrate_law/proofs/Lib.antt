@@ -1,0 +1,9 @@
+pub mod OneField
+pub mod WholeMessage
+pub mod FirstBits
+pub mod Lists
+pub mod Grids
+pub mod Products
+pub mod Packings
+pub mod Meanings
+pub mod Migrated

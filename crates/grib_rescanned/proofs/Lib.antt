@@ -1,0 +1,6 @@
+mod Grids
+mod Points
+mod Fields
+mod Packs
+mod Edits
+mod Kept

@@ -1,0 +1,4 @@
+pub mod Rescanned
+pub mod Faults
+pub mod Fields
+pub mod Lengths

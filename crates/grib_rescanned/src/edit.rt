@@ -1,0 +1,83 @@
+//! What is made of a grid.
+
+ghost use Rattle.std.specs.Prelude.{◌≡◌, ◌++◌, length, None, IfOk};
+ghost use Rattle.grib_base.specs.Rows.{first_fault};
+ghost use Rattle.grib2_grids.specs.Grid.{grid_rows, grid_points};
+ghost use Rattle.grib_rescan.specs.Sections.{HasTemplate};
+ghost use Rattle.grib_rescanned.specs.Rescanned.{Stands, cause_of, section_of, new_column};
+ghost use Rattle.grib_rescanned.specs.Lengths.{as_long};
+
+use grib_bits::{u8_at, u32_at};
+use grib_packing::Column;
+use grib_rescan::laws::what_has_no_cause;
+use grib_rescan::{
+    Area, GridCause, Scanning, crop_cause, crop_column, crop_section, rescan_cause, rescan_column,
+    rescan_section,
+};
+use grib2_message::NewGrid;
+use std::alloc::{AllocError, Global};
+
+/// What is made of a grid.
+#[derive(Clone, Copy, Debug, PartialEq, Eq)]
+pub enum GridEdit {
+    /// Its points in the order of scanning octet 0.
+    Rescan,
+    /// A box of it.
+    Crop(Area),
+}
+
+impl GridEdit {
+    /// Why a grid with this Section 3 is not edited, if it is not.
+    pub(crate) fn cause(&self, section3: &[u8]) -> Option<GridCause>
+        requires { HasTemplate section3.now }
+        ensures { result ≡ cause_of self.now section3.now }
+    {
+        match self {
+            GridEdit::Rescan => rescan_cause(section3),
+            GridEdit::Crop(area) => crop_cause(section3, area),
+        }
+    }
+
+    /// What a column of a grid with this Section 3 becomes.
+    ///
+    /// # Errors
+    ///
+    /// There is no memory for it.
+    pub(crate) fn column(
+        &self,
+        alloc: Global,
+        section3: &[u8],
+        column: &Column,
+    ) -> Result<Column, AllocError>
+        requires stands { Stands self.now }
+        requires accepted { first_fault (grid_rows section3.now) ≡ None }
+        requires uncaused { cause_of self.now section3.now ≡ None }
+        requires length { length column.now.points ≡ grid_points section3.now }
+        ensures { IfOk result (λ new. new ≡ new_column self.now section3.now column.now) }
+    {
+        what_has_no_cause();
+        let (ni, nj) = (u32_at(section3, 31), u32_at(section3, 35));
+        match self {
+            GridEdit::Rescan => {
+                rescan_column(alloc, column, Scanning::of(u8_at(section3, 72)), ni, nj)
+            }
+            GridEdit::Crop(area) => crop_column(alloc, column, ni, nj, area),
+        }
+    }
+}
+
+impl NewGrid for GridEdit {
+    ghost takes = { λ edit s. Stands edit × (first_fault (grid_rows s) ≡ None) × (cause_of edit s ≡ None) };
+
+    ghost becomes = { section_of };
+
+    ghost as_long = { as_long };
+
+    fn put(&self, alloc: Global, section: &[u8], out: &mut Vec<u8>) -> Result<(), AllocError> {
+        let new = match self {
+            GridEdit::Rescan => rescan_section(alloc, section)?,
+            GridEdit::Crop(area) => crop_section(alloc, section, area)?,
+        };
+        out.extend_from_slice(&new)
+    }
+}

@@ -1,0 +1,65 @@
+-- What stands on a shelf under a name as a parameter table.
+use Rattle.std.specs.Prelude.{◌≡◌, ℕ, List, Option, Some, None, Ok, Err}
+use Rattle.std.specs.declared.result.Result.{Result}
+use Rattle.grib_causes.specs.declared.table.TableRefusal.{TableRefusal}
+use Rattle.grib_causes.specs.declared.table.TableRefusal.TheVariants as refusals
+use Rattle.grib_io.specs.declared.outside.ShelfStop.{ShelfStop}
+use Rattle.grib_io.specs.declared.outside.ShelfStop.TheVariants.{Absent, Failed}
+use Rattle.grib_io.specs.Outside.{Counted}
+use Rattle.grib_io.specs.Shelves.{Held}
+use Rattle.grib_params.specs.declared.fault.TableFault.{TableFault}
+use Rattle.grib_params.specs.declared.fault.TableFault.TheVariants as faults
+use Rattle.grib_params.specs.Table as verdicts
+use Rattle.grib_params.specs.Table.{Entries, Verdict, table_verdict}
+use Rattle.grib_table.specs.declared.stop.TableStop.{TableStop}
+use Rattle.grib_table.specs.declared.stop.TableStop.TheVariants.{Refused as Refuses, ShelfFault, Memory}
+
+-- a table, or why there is none
+pub data Tabled : Type 0 where
+  Good : Entries → Tabled
+  Refused : TableRefusal → Tabled
+
+-- what the verdict on a text makes of it
+abbrev pub tabled_by : Verdict → Tabled
+tabled_by verdicts.TooLarge = Refused refusals.TooLarge
+tabled_by (verdicts.Row number) = Refused (refusals.Row number)
+tabled_by (verdicts.Duplicate number) = Refused (refusals.Duplicate number)
+tabled_by (verdicts.Good table) = Good table
+
+-- what stands under a name, None where the name is absent
+abbrev pub tabled : Option (List ℕ) → Tabled
+tabled None = Refused refusals.Absent
+tabled (Some text) = tabled_by (table_verdict text)
+
+-- what stands under the name, where the shelf tells it
+abbrev pub Stood : Option Held → List ℕ → Option (List ℕ) → Type 0
+Stood None name text = Unit {0}
+Stood (Some held) name text = text ≡ held name
+
+-- What was read as the table stands under the name, or was refused as what stands there.
+abbrev pub ReadsTable : Result Entries TableStop → Option Held → List ℕ → Type 0
+ReadsTable (Ok table) shelf name = (text : Option (List ℕ)) × Stood shelf name text × (tabled text ≡ Good table)
+ReadsTable (Err (Refuses refusal)) shelf name = (text : Option (List ℕ)) × Stood shelf name text × (tabled text ≡ Refused refusal)
+ReadsTable (Err ShelfFault) shelf name = Unit {0}
+ReadsTable (Err Memory) shelf name = Unit {0}
+
+-- the count of the shelf's faults: one more where the shelf failed
+abbrev pub CountsTableStop : TableStop → ℕ → ℕ → Type 0
+CountsTableStop (Refuses refusal) before now = now ≡ before
+CountsTableStop ShelfFault before now = Counted before now
+CountsTableStop Memory before now = now ≡ before
+
+abbrev pub CountsTable : {T : Type 0} → Result T TableStop → ℕ → ℕ → Type 0
+CountsTable (Ok table) before now = now ≡ before
+CountsTable (Err stop) before now = CountsTableStop stop before now
+
+-- a shelf that gives nothing, and a text that is no table, as why no table is read
+abbrev pub stop_of_shelf : ShelfStop → TableStop
+stop_of_shelf Absent = Refuses refusals.Absent
+stop_of_shelf Failed = ShelfFault
+
+abbrev pub stop_of_fault : TableFault → TableStop
+stop_of_fault faults.TooLarge = Refuses refusals.TooLarge
+stop_of_fault (faults.Row number) = Refuses (refusals.Row number)
+stop_of_fault (faults.Duplicate number) = Refuses (refusals.Duplicate number)
+stop_of_fault faults.Memory = Memory

@@ -1,0 +1,53 @@
+//! Why no table is read.
+
+ghost use Rattle.std.specs.Prelude.{◌≡◌};
+ghost use Rattle.grib_table.specs.Tabled.{stop_of_fault, stop_of_shelf};
+ghost use Rattle.grib_table.specs.declared.stop.TableStop.TheVariants.{Memory};
+
+use grib_causes::TableRefusal;
+use grib_io::ShelfStop;
+use grib_params::TableFault;
+use std::alloc::AllocError;
+
+/// Why no table is read.
+#[derive(Clone, Copy, Debug, PartialEq, Eq)]
+pub enum TableStop {
+    /// The name is absent, or what stands under it is no table.
+    Refused(TableRefusal),
+    /// The shelf failed.
+    ShelfFault,
+    /// There is no memory.
+    Memory,
+}
+
+impl From<AllocError> for TableStop {
+    ghost from_gives = { λ _ stop. stop ≡ Memory };
+
+    fn from(_error: AllocError) -> TableStop {
+        TableStop::Memory
+    }
+}
+
+impl From<ShelfStop> for TableStop {
+    ghost from_gives = { λ shelf stop. stop ≡ stop_of_shelf shelf };
+
+    fn from(stop: ShelfStop) -> TableStop {
+        match stop {
+            ShelfStop::Absent => TableStop::Refused(TableRefusal::Absent),
+            ShelfStop::Failed => TableStop::ShelfFault,
+        }
+    }
+}
+
+impl From<TableFault> for TableStop {
+    ghost from_gives = { λ fault stop. stop ≡ stop_of_fault fault };
+
+    fn from(fault: TableFault) -> TableStop {
+        match fault {
+            TableFault::TooLarge => TableStop::Refused(TableRefusal::TooLarge),
+            TableFault::Row(number) => TableStop::Refused(TableRefusal::Row(number)),
+            TableFault::Duplicate(number) => TableStop::Refused(TableRefusal::Duplicate(number)),
+            TableFault::Memory => TableStop::Memory,
+        }
+    }
+}

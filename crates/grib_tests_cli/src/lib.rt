@@ -1,0 +1,8 @@
+//! Tests of the command: its words, and its runs over inputs in memory. Expected values are from outside,
+//! worked by hand or made by another program.
+#![tactic(auto)]
+
+#[cfg(test)]
+mod runs;
+#[cfg(test)]
+mod words;
