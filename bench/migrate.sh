@@ -14,6 +14,7 @@ sample=/usr/share/eccodes/samples/regular_ll_pl_grib1.tmpl
 grib=$(our_program)
 cd "$work"
 cp "$top/params/standard.csv" table
+echo "98,128,167,0,0,0,2,0" >>table # the parameter of the sample, which the shipped table leaves out since it names its level
 
 # A message of this many bits a point, every third point left out by a bitmap where one is asked for.
 field() { # BITS BITMAP FILE
