@@ -2,7 +2,7 @@ pub mod Outside
 pub mod Pending
 pub mod Noted
 pub mod Answers
-pub mod Edited
+pub mod Kept
 pub mod Filtered
 pub mod Made
 pub mod Editions
