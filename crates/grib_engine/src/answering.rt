@@ -52,10 +52,31 @@ pub fn answer_message<T: Sink, H: Shelf>(
 {
     match job {
         Job::Check => answer_held(&ByOutput(Checking), alloc, place, held, output, shelf),
-        Job::List => answer_held(&ByOutput(Printing(Listing)), alloc, place, held, output, shelf),
-        Job::Stats => answer_held(&ByOutput(Printing(Summing)), alloc, place, held, output, shelf),
+        Job::List => answer_held(
+            &ByOutput(Printing(Listing)),
+            alloc,
+            place,
+            held,
+            output,
+            shelf,
+        ),
+        Job::Stats => answer_held(
+            &ByOutput(Printing(Summing)),
+            alloc,
+            place,
+            held,
+            output,
+            shelf,
+        ),
         Job::Dump { decimals: None } => {
-            answer_held(&ByOutput(Printing(Dumping)), alloc, place, held, output, shelf)
+            answer_held(
+                &ByOutput(Printing(Dumping)),
+                alloc,
+                place,
+                held,
+                output,
+                shelf,
+            )
         }
         Job::Dump {
             decimals: Some(places),

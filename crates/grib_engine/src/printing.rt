@@ -106,6 +106,7 @@ impl<P: Printer> FieldPrinter for Printing<P> {
         lines: &mut Vec<u8>,
         output: &mut T,
     ) -> Result<(), Stop> {
-        self.0.append_field(alloc, number, message, field, lines, output)
+        self.0
+            .append_field(alloc, number, message, field, lines, output)
     }
 }

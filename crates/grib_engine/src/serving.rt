@@ -100,10 +100,31 @@ fn serve_job<S: Source, T: Sink, N: Sink, H: Shelf>(
 {
     match job {
         Job::Check => serve_messages(&ByOutput(Checking), alloc, input, output, notes, shelf),
-        Job::List => serve_messages(&ByOutput(Printing(Listing)), alloc, input, output, notes, shelf),
-        Job::Stats => serve_messages(&ByOutput(Printing(Summing)), alloc, input, output, notes, shelf),
+        Job::List => serve_messages(
+            &ByOutput(Printing(Listing)),
+            alloc,
+            input,
+            output,
+            notes,
+            shelf,
+        ),
+        Job::Stats => serve_messages(
+            &ByOutput(Printing(Summing)),
+            alloc,
+            input,
+            output,
+            notes,
+            shelf,
+        ),
         Job::Dump { decimals: None } => {
-            serve_messages(&ByOutput(Printing(Dumping)), alloc, input, output, notes, shelf)
+            serve_messages(
+                &ByOutput(Printing(Dumping)),
+                alloc,
+                input,
+                output,
+                notes,
+                shelf,
+            )
         }
         Job::Dump {
             decimals: Some(places),
