@@ -6,7 +6,7 @@ use Rattle.grib_migrate.specs.Migrated.{migrated}
 use Rattle.grib_stream.specs.Task.{Gives}
 use Rattle.grib_engine.specs.Command.{given_unless}
 use Rattle.grib_engine.proofs.Answers.{by_octets, as_given}
-use Rattle.grib_engine.proofs.Kept.{by_cause, not_migrated}
+use Rattle.grib_engine.proofs.KeptBy.{by_cause, not_migrated}
 use Rattle.grib_engine.proofs.migrating.MigratingWriter.first.Goals as goal
 
 pub returns-in-Ok : goal.returns-in-Ok

@@ -1,7 +1,7 @@
 use Rattle.std.proofs.Common.{option_map, ap, ◌∙◌}
 use Rattle.grib_engine.specs.Repacking.{cause_of}
 use Rattle.grib_engine.proofs.Answers.{target_stands, by_octets}
-use Rattle.grib_engine.proofs.Kept.{by_cause, not_repacked}
+use Rattle.grib_engine.proofs.KeptBy.{by_cause, not_repacked}
 use Rattle.grib_engine.proofs.repacking.RepackingChanger.change.Goals as goal
 
 pub repack-requires : goal.repack-requires

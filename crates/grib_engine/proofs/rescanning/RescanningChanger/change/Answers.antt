@@ -1,7 +1,7 @@
 use Rattle.std.proofs.Common.{option_map, ap, ◌∙◌}
 use Rattle.grib_engine.specs.Rescanning.{edit_cause}
 use Rattle.grib_engine.proofs.Answers.{by_octets}
-use Rattle.grib_engine.proofs.Kept.{by_cause, not_edited}
+use Rattle.grib_engine.proofs.KeptBy.{by_cause, not_edited}
 use Rattle.grib_engine.proofs.rescanning.RescanningChanger.change.Goals as goal
 
 pub returns-in-Ok : goal.returns-in-Ok

@@ -1,7 +1,7 @@
 use Rattle.std.proofs.Common.{ap, ◌∙◌}
 use Rattle.grib_engine.specs.Setting.{set_cause}
 use Rattle.grib_engine.proofs.Answers.{by_octets}
-use Rattle.grib_engine.proofs.Kept.{by_cause, not_set}
+use Rattle.grib_engine.proofs.KeptBy.{by_cause, not_set}
 use Rattle.grib_engine.proofs.setting.SettingChanger.change.Goals as goal
 
 pub returns-in-Ok : goal.returns-in-Ok
