@@ -22,7 +22,7 @@ use Rattle.grib_stream.specs.Task.{Task}
 use Rattle.grib_stream.specs.Answer.{Answer, after, on_given, answers, on_end, place_of, at_limit, answer_of, answer_within}
 use Rattle.grib_stream.proofs.Exits.{within_short, within_long, closed_at_limit, open_at_limit}
 use Rattle.grib_stream.proofs.Streams.{stream_skip, stream_begun}
-use Rattle.grib_engine.specs.Command.{kept_first, given_unless, task}
+use Rattle.grib_engine.specs.Command.{given_unless, task}
 use Rattle.grib_engine.specs.Judging.{judge}
 use Rattle.grib_engine.specs.Lawful.{IsFirst, IsOther, message_judged, least_message, there_message, edition_alone, message_alone, first_alone_message}
 use Rattle.grib_engine.specs.Same.{SameValues, AllSame, kept_then, before_kept}

@@ -6,7 +6,6 @@ use Rattle.grib2_message.specs.Fields.{field_count}
 use Rattle.grib2_message.specs.Message.{IsMessage}
 use Rattle.grib1_sections.specs.Message.{IsMessage1}
 use Rattle.grib_stream.specs.declared.place.Place.{Place}
-use Rattle.grib_stream.specs.declared.place.Totals.{Totals}
 use Rattle.grib_stream.specs.declared.outcome.Outcome.{Outcome}
 use Rattle.grib_stream.specs.declared.outcome.Outcome.TheVariants.{Kept}
 use Rattle.grib_causes.specs.declared.cause.Cause.{Cause}

@@ -1,5 +1,5 @@
 -- `migrate`: each message of edition 1 as one of edition 2, by the rows of a parameter table.
-use Rattle.std.proofs.Common.{◌≡◌, ℕ, zero, suc, ◌+◌, ◌-◌, ◌*◌, ◌<◌, ◌≤◌, Bool, true, false, ◌&&◌, nat_lt, None, option_map, List, [], ◌∷◌, length, drop, All, refl, sym, ap, arith, ⊎_elim, ltb-true, length-take, length-drop}
+use Rattle.std.proofs.Common.{◌≡◌, ℕ, ◌+◌, ◌-◌, ◌*◌, ◌<◌, ◌≤◌, Bool, true, false, ◌&&◌, nat_lt, None, option_map, List, [], ◌∷◌, length, drop, All, refl, sym, ap, arith, ⊎_elim, ltb-true, length-take, length-drop}
 use Rattle.std.proofs.lemmas.Bool.{cases_Bool}
 use Rattle.std.proofs.lemmas.List.Elements.{All-nil, All-cons}
 use Rattle.grib_base.specs.Rows.{choose}
@@ -8,12 +8,10 @@ use Rattle.grib_causes.specs.declared.cause.Cause.TheVariants.{Lost}
 use Rattle.grib1_sections.specs.Acceptance.{identification}
 use Rattle.grib1_sections.specs.Message.{IsMessage1}
 use Rattle.grib1_sections.proofs.Joined.{message_sections_pass}
-use Rattle.grib2_message.specs.Message.{IsMessage}
 use Rattle.grib2_message.proofs.Parted.{message_most}
 use Rattle.grib_params.specs.Table.{Entries}
 use Rattle.grib_migrate.specs.Losses.{first_loss}
 use Rattle.grib_migrate.specs.Migrated.{migrated}
-use Rattle.grib_migrate_law.specs.Source.{MayBeMigrated}
 use Rattle.grib_migrate_law.proofs.Migrated.{migrated_is_message}
 use Rattle.grib_stream.specs.declared.outcome.Outcome.{Outcome}
 use Rattle.grib_stream.specs.Acts.{Act}

@@ -1,4 +1,4 @@
-use Rattle.std.proofs.Common.{◌≡◌, None, sym, ◌∙◌, subst}
+use Rattle.std.proofs.Common.{◌≡◌, None, sym, subst}
 use Rattle.grib_made.specs.Made.{made}
 use Rattle.grib_made.specs.Points.{made_column}
 use Rattle.grib_packing.specs.Misfits.{ToSimple}

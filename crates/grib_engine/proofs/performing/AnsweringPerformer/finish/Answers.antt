@@ -1,4 +1,4 @@
-use Rattle.std.proofs.Common.{◌≡◌, ℕ, Option, List, ap, subst}
+use Rattle.std.proofs.Common.{◌≡◌, ℕ, Option, List, subst}
 use Rattle.std.specs.Io.KnownBytes.{Appends}
 use Rattle.grib_io.specs.Outside.{AppendsFront}
 use Rattle.grib_io.specs.Shelves.{Held}

@@ -1,4 +1,4 @@
-use Rattle.std.proofs.Common.{◌++◌, ◌∙◌, ap, rules, subst}
+use Rattle.std.proofs.Common.{◌++◌, ◌∙◌, rules, subst}
 use Rattle.grib_engine.specs.Pending.{WritesAllBut}
 use Rattle.grib_engine.proofs.Finite.{finite_column}
 use Rattle.grib_engine.proofs.Outside.{front_none}
