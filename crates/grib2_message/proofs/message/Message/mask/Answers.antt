@@ -14,10 +14,25 @@ mask_at-requires c =
     (field_sections m c.args.field, field_kept m c.self.inside.fields.items c.self.invariant c.args.field c.requires.first last _ c.index-places.ensures)
 
 pub returns-clause-mask : goal.returns-clause-mask
-returns-clause-mask c = ?
+returns-clause-mask c =
+    let m = c.self.inside.octets.now in
+    let last = subst (λ (x : List ℕ). c.args.field ≤ field_count x) (sym c.self.view_is) c.requires.last in
+    let is = c.mask_at.ensures (field_sections m c.args.field) (field_kept m c.self.inside.fields.items c.self.invariant c.args.field c.requires.first last _ c.index-places.ensures) in
+    subst (λ (x : List ℕ). IfOk c.mask_at.result (λ mask. mask ≡ field_mask x c.args.field)) c.self.view_is
+    (IfOk-weaker c.mask_at.result _ (λ mask. mask ≡ field_mask m c.args.field) (λ mask told. told.0) is)
 
 pub returns-clause-long : goal.returns-clause-long
-returns-clause-long c = ?
+returns-clause-long c =
+    let m = c.self.inside.octets.now in
+    let last = subst (λ (x : List ℕ). c.args.field ≤ field_count x) (sym c.self.view_is) c.requires.last in
+    let is = c.mask_at.ensures (field_sections m c.args.field) (field_kept m c.self.inside.fields.items c.self.invariant c.args.field c.requires.first last _ c.index-places.ensures) in
+    subst (λ (x : List ℕ). IfOk c.mask_at.result (λ mask. length mask ≡ grid_points (part_octets x c.args.field 3))) c.self.view_is
+    (IfOk-weaker c.mask_at.result _ (λ mask. length mask ≡ grid_points (part_octets m c.args.field 3)) (λ mask told. told.1) is)
 
 pub returns-clause-values : goal.returns-clause-values
-returns-clause-values c = ?
+returns-clause-values c =
+    let m = c.self.inside.octets.now in
+    let last = subst (λ (x : List ℕ). c.args.field ≤ field_count x) (sym c.self.view_is) c.requires.last in
+    let is = c.mask_at.ensures (field_sections m c.args.field) (field_kept m c.self.inside.fields.items c.self.invariant c.args.field c.requires.first last _ c.index-places.ensures) in
+    subst (λ (x : List ℕ). IfOk c.mask_at.result (λ mask. present_count mask ≡ value_count (part_octets x c.args.field 5))) c.self.view_is
+    (IfOk-weaker c.mask_at.result _ (λ mask. present_count mask ≡ value_count (part_octets m c.args.field 5)) (λ mask told. told.2) is)
