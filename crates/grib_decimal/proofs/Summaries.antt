@@ -118,15 +118,15 @@ extremes_by points (a ∷ xs) e (Some m) is =
 pub extremes_is : (points : List Point) (found : Option Extremes) → AreExtremesSoFar points (length points) found → found ≡ extremes_of points
 extremes_is points found is = extremes_by points (scaled_numbers points) refl found is
 
-same_summary : (s : Summary) (present missing missing2 : ℕ) (extremes : Option Extremes) → s.present ≡ present → s.missing ≡ missing → s.missing2 ≡ missing2 → s.extremes ≡ extremes → s ≡ record { present = present; missing = missing; missing2 = missing2; extremes = extremes }
+pub same_summary : (s : Summary) (present missing missing2 : ℕ) (extremes : Option Extremes) → s.present ≡ present → s.missing ≡ missing → s.missing2 ≡ missing2 → s.extremes ≡ extremes → s ≡ record { present = present; missing = missing; missing2 = missing2; extremes = extremes }
 same_summary s present missing missing2 extremes p q r e = rw (← p, ← q, ← r, ← e) refl
 
 -- one point more at the front
-count_first : (test : Point → Bool) (q : Point) (points : List Point) → count_by test (q ∷ points) ≡ cond (test q) 1 0 + count_by test points
+pub count_first : (test : Point → Bool) (q : Point) (points : List Point) → count_by test (q ∷ points) ≡ cond (test q) 1 0 + count_by test points
 count_first test q points = sum_by-cons (λ p. cond (test p) 1 0) q points
 
 -- each point is counted once
-counted : (points : List Point) → count_by is_present points + count_by is_missing points + count_by is_missing2 points ≡ length points
+pub counted : (points : List Point) → count_by is_present points + count_by is_missing points + count_by is_missing2 points ≡ length points
 counted [] = refl
 counted (Scaled x ∷ points) =
     omega (arith, counted points, count_first is_present (Scaled x) points, count_first is_missing (Scaled x) points, count_first is_missing2 (Scaled x) points)

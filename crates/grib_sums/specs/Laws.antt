@@ -1,6 +1,7 @@
 -- Laws of what sums up points.
 use Rattle.std.proofs.Common.{◌≡◌, ℕ, ◌+◌, List, [], ◌++◌, length, drop, sym, ap, ◌∙◌, arith, subst, append_assoc}
-use Rattle.std.proofs.lemmas.List.{length-append}
+use Rattle.std.proofs.lemmas.List.{length-append, drop-drop}
+use Rattle.std.proofs.Math.Seq.{drop-append_seam}
 use Rattle.grib_packing.specs.declared.column.Point.{Point}
 use Rattle.grib_decimal.specs.Summary.{IsTally}
 use Rattle.grib_sums.specs.declared.keeping.Tallying.{Tallying}
@@ -13,7 +14,8 @@ tally-none keeper = record {
 
 -- what follows the first of two parts
 after_part : (points first rest : List Point) (n : ℕ) → drop n points ≡ first ++ rest → drop (n + length first) points ≡ rest
-after_part points first rest n is = ?
+after_part points first rest n is =
+    ap (λ (k : ℕ). drop k points) (omega arith) ∙ sym (drop-drop (length first) n points) ∙ ap (drop (length first)) is ∙ drop-append_seam first rest
 
 pub tally-more : (before between last : Tallying) (points more_points : List Point) → TallyKept before points between → TallyKept between more_points last
     → TallyKept before (points ++ more_points) last

@@ -1,0 +1,1 @@
+-- The scaled numbers of an accepted field are within plus and minus 2 ^ 60.
