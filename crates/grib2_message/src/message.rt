@@ -142,6 +142,7 @@ impl<'a> Message<'a> {
         ensures mask { IfOk result (λ mask. mask ≡ field_mask self.now field) }
         ensures long { IfOk result (λ mask. length mask ≡ grid_points (part_octets self.now field 3)) }
         ensures values { IfOk result (λ mask. present_count mask ≡ value_count (part_octets self.now field 5)) }
+        ensures passes { FieldPasses self.now field }
     {
         let places = &self.fields[field as usize - 1];
         mask_at(alloc, self.octets, places)

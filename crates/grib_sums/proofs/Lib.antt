@@ -1,4 +1,3 @@
 pub mod Lists
-pub mod Placing
 pub mod Walk
-pub mod Numbers
+pub mod Masked

@@ -1,1 +1,0 @@
--- The scaled numbers of an accepted field are within plus and minus 2 ^ 60.
