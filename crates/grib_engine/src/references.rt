@@ -12,7 +12,7 @@ pub(crate) fn first_reference(column: &Column) -> Dyadic
     ensures value { result ≡ reduced (ibm column.now.reference) }
     ensures small { nat_abs result.mantissa < 2 ^ 24 }
 {
-    Dyadic::from_ibm(column.reference)
+    ibm_reference(column.reference)
 }
 
 /// The reference value of a word of the IBM single form.
@@ -29,7 +29,7 @@ pub(crate) fn second_reference(column: &Column) -> Dyadic
     ensures value { result ≡ reduced (ieee column.now.reference) }
     ensures small { nat_abs result.mantissa < 2 ^ 24 }
 {
-    Dyadic::from_ieee(column.reference).unwrap()
+    ieee_reference(column.reference)
 }
 
 /// The reference value of a binary32 word.
