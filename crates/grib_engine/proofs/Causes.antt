@@ -6,6 +6,8 @@ use Rattle.grib2_message.specs.Fields.{field_count, column_of}
 use Rattle.grib1_sections.specs.Column.{column1_of}
 use Rattle.grib_causes.specs.declared.cause.Cause.{Cause}
 use Rattle.grib_causes.specs.declared.cause.Cause.TheVariants.{DecimalRange}
+use Rattle.grib_bits.specs.Bits.{bits_of, signed}
+use Rattle.grib_decimal.specs.Decimal.{scale}
 use Rattle.grib_decimal.specs.Range.{first_too_large}
 use Rattle.grib_stream.specs.Acts.{world}
 use Rattle.grib_stream.specs.Task.{Given}
