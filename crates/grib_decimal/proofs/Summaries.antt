@@ -15,9 +15,11 @@ use Rattle.grib_packing.specs.Misfits.{is_missing, is_missing2, scaled_numbers}
 use Rattle.grib_decimal.specs.declared.extreme.Extremes.{Extremes}
 use Rattle.grib_decimal.specs.declared.extreme.Summary.{Summary}
 use Rattle.grib_decimal.specs.declared.tally.Tally.{Tally}
-use Rattle.grib_decimal.specs.Bounds.{IsBound, AreExtremes, AreExtremesSoFar}
-use Rattle.grib_decimal.specs.Summary.{is_present, has_number, place_of, extremes_among, extremes_of, summary_of, IsTally, SumUp}
-use Rattle.grib_decimal.proofs.Orders.{so_far_past}
+use Rattle.grib_decimal.specs.declared.bounds.Greatest.{Greatest}
+use Rattle.grib_decimal.specs.declared.bounds.Least.{Least}
+use Rattle.grib_decimal.specs.Bounds.{IsBound, AreExtremesSoFar, IsLeastSoFar, IsGreatestSoFar}
+use Rattle.grib_decimal.specs.Summary.{is_present, has_number, place_of, extremes_among, extremes_of, IsTally, SumUp}
+use Rattle.grib_decimal.proofs.Orders.{number_past}
 use Rattle.grib_decimal.proofs.Positions.{position_is}
 
 later : (x y : ℤ) (ys : List ℤ) → Contains ys x → Contains (y ∷ ys) x
@@ -135,16 +137,17 @@ counted (Missing ∷ points) =
 counted (Missing2 ∷ points) =
     omega (arith, counted points, count_first is_present Missing2 points, count_first is_missing Missing2 points, count_first is_missing2 Missing2 points)
 
-pub all_summed : (points : List Point) (s : Tally) (present : ℕ) → length points ≤ 33554432 → present ≡ ((s.count + (2 ^ 32 - s.missing)) % 2 ^ 32 + (2 ^ 32 - s.missing2)) % 2 ^ 32 → IsTally points (length points) s
-    → SumUp points (record { present = present; missing = s.missing; missing2 = s.missing2; extremes = s.extremes })
-all_summed points s present few is tally =
+pub all_summed : (points : List Point) (s : Tally) (present : ℕ) (extremes : Option Extremes) → length points ≤ 33554432
+    → present ≡ ((s.count + (2 ^ 32 - s.missing)) % 2 ^ 32 + (2 ^ 32 - s.missing2)) % 2 ^ 32 → AreExtremesSoFar points (length points) extremes → IsTally points (length points) s
+    → SumUp points (record { present = present; missing = s.missing; missing2 = s.missing2; extremes = extremes })
+all_summed points s present extremes few is are tally =
     let all : take (length points) points ≡ points = take-length points in
     let missing : s.missing ≡ count_by is_missing points = tally.missing_is ∙ ap (count_by is_missing) all in
     let missing2 : s.missing2 ≡ count_by is_missing2 points = tally.missing2_is ∙ ap (count_by is_missing2) all in
     let present_is : present ≡ count_by is_present points = omega (arith, is, few, missing, missing2, counted points, tally.count_is) in
     record {
-      summary_is = same_summary _ _ _ _ _ present_is missing missing2 (extremes_is points s.extremes tally.extremes_are);
-      extremes_are = tally.extremes_are;
+      summary_is = same_summary _ _ _ _ _ present_is missing missing2 (extremes_is points extremes are);
+      extremes_are = are;
     }
 
 -- one more point
@@ -155,12 +158,15 @@ more_yes test points n q count within here passes old =
 more_no : (test : Point → Bool) (points : List Point) (n : ℕ) (q : Point) (count : ℕ) → n < length points → get_or points n Missing ≡ q → test q ≡ false → count ≡ count_by test (take n points) → count ≡ count_by test (take (n + 1) points)
 more_no test points n q count within here fails old = old ∙ sym (count_by_more_no test points n Missing within (ap test here ∙ fails))
 
-pub one_scaled : (points : List Point) (n : ℕ) (x : ℤ) (s : Tally) (count : ℕ) (m : Extremes) → n < length points → get_or points n Missing ≡ Scaled x → count ≡ n + 1 → AreExtremes points (n + 1) m → IsTally points n s → IsTally points (n + 1) (record { count = count; missing = s.missing; missing2 = s.missing2; extremes = Some m })
-one_scaled points n x s count m within here is are old = record {
+pub one_scaled : (points : List Point) (n : ℕ) (x : ℤ) (s : Tally) (count : ℕ) (least : Least) (greatest : Greatest) → n < length points → get_or points n Missing ≡ Scaled x → count ≡ n + 1
+    → IsLeastSoFar points (n + 1) least → IsGreatestSoFar points (n + 1) greatest → IsTally points n s
+    → IsTally points (n + 1) (record { count = count; missing = s.missing; missing2 = s.missing2; least = least; greatest = greatest })
+one_scaled points n x s count least greatest within here is is_least is_greatest old = record {
   count_is = is;
   missing_is = more_no is_missing points n (Scaled x) s.missing within here refl old.missing_is;
   missing2_is = more_no is_missing2 points n (Scaled x) s.missing2 within here refl old.missing2_is;
-  extremes_are = are;
+  least_is = is_least;
+  greatest_is = is_greatest;
 }
 
 no_number : (points : List Point) (n : ℕ) (q : Point) → get_or points n Missing ≡ q → ((x : ℤ) → q ≢ Scaled x) → (x : ℤ) → get_or points n Missing ≢ Scaled x
@@ -170,22 +176,30 @@ no_number points n q here other x e = other x (sym here ∙ e)
 few : (test : Point → Bool) (points : List Point) (n : ℕ) → count_by test (take n points) ≤ n
 few test points n = omega (arith, count_by-le-length test (take n points), length-take n points)
 
-pub one_missing : (points : List Point) (n : ℕ) (s : Tally) (count missing : ℕ) → length points ≤ 33554432 → n < length points → get_or points n Missing ≡ Missing → count ≡ n + 1 → missing ≡ (s.missing + 1) % 2 ^ 32 → IsTally points n s → IsTally points (n + 1) (record { count = count; missing = missing; missing2 = s.missing2; extremes = s.extremes })
+pub one_missing : (points : List Point) (n : ℕ) (s : Tally) (count missing : ℕ) → length points ≤ 33554432 → n < length points → get_or points n Missing ≡ Missing → count ≡ n + 1
+    → missing ≡ (s.missing + 1) % 2 ^ 32 → IsTally points n s
+    → IsTally points (n + 1) (record { count = count; missing = missing; missing2 = s.missing2; least = s.least; greatest = s.greatest })
 one_missing points n s count missing short within here is is_missing' old =
     let exact : missing ≡ s.missing + 1 = omega (arith, is_missing', old.missing_is, few is_missing points n) in
+    let none = no_number points n Missing here (λ x e. cc) in
     record {
       count_is = is;
       missing_is = exact ∙ more_yes is_missing points n Missing s.missing within here refl old.missing_is;
       missing2_is = more_no is_missing2 points n Missing s.missing2 within here refl old.missing2_is;
-      extremes_are = so_far_past points n s.extremes (no_number points n Missing here (λ x e. cc)) old.extremes_are;
+      least_is = number_past _ _ points n s.least.number s.least.place none old.least_is;
+      greatest_is = number_past _ _ points n s.greatest.number s.greatest.place none old.greatest_is;
     }
 
-pub one_missing2 : (points : List Point) (n : ℕ) (s : Tally) (count missing2 : ℕ) → length points ≤ 33554432 → n < length points → get_or points n Missing ≡ Missing2 → count ≡ n + 1 → missing2 ≡ (s.missing2 + 1) % 2 ^ 32 → IsTally points n s → IsTally points (n + 1) (record { count = count; missing = s.missing; missing2 = missing2; extremes = s.extremes })
+pub one_missing2 : (points : List Point) (n : ℕ) (s : Tally) (count missing2 : ℕ) → length points ≤ 33554432 → n < length points → get_or points n Missing ≡ Missing2 → count ≡ n + 1
+    → missing2 ≡ (s.missing2 + 1) % 2 ^ 32 → IsTally points n s
+    → IsTally points (n + 1) (record { count = count; missing = s.missing; missing2 = missing2; least = s.least; greatest = s.greatest })
 one_missing2 points n s count missing2 short within here is is_missing2' old =
     let exact : missing2 ≡ s.missing2 + 1 = omega (arith, is_missing2', old.missing2_is, few is_missing2 points n) in
+    let none = no_number points n Missing2 here (λ x e. cc) in
     record {
       count_is = is;
       missing_is = more_no is_missing points n Missing2 s.missing within here refl old.missing_is;
       missing2_is = exact ∙ more_yes is_missing2 points n Missing2 s.missing2 within here refl old.missing2_is;
-      extremes_are = so_far_past points n s.extremes (no_number points n Missing2 here (λ x e. cc)) old.extremes_are;
+      least_is = number_past _ _ points n s.least.number s.least.place none old.least_is;
+      greatest_is = number_past _ _ points n s.greatest.number s.greatest.place none old.greatest_is;
     }

@@ -6,7 +6,7 @@ use Rattle.grib_base.specs.Rows.{first_place}
 use Rattle.grib_packing.specs.declared.column.Point.{Point}
 use Rattle.grib_packing.specs.declared.column.Point.TheVariants.{Scaled, Missing, Missing2}
 use Rattle.grib_packing.specs.Misfits.{is_missing, is_missing2, scaled_numbers}
-use Rattle.grib_decimal.specs.Bounds.{AreExtremesSoFar}
+use Rattle.grib_decimal.specs.Bounds.{AreExtremesSoFar, IsLeastSoFar, IsGreatestSoFar}
 use Rattle.grib_decimal.specs.declared.extreme.Extremes.{Extremes}
 use Rattle.grib_decimal.specs.declared.extreme.Summary.{Summary}
 use Rattle.grib_decimal.specs.declared.tally.Tally.{Tally}
@@ -54,7 +54,8 @@ pub record IsTally (points : List Point) (n : ℕ) (s : Tally) : Type 0 where
   pub count_is : s.count ≡ n
   pub missing_is : s.missing ≡ count_by is_missing (take n points)
   pub missing2_is : s.missing2 ≡ count_by is_missing2 (take n points)
-  pub extremes_are : AreExtremesSoFar points n s.extremes
+  pub least_is : IsLeastSoFar points n s.least
+  pub greatest_is : IsGreatestSoFar points n s.greatest
 
 -- this is the summary of the points, and the extremes are their extremes
 pub record SumUp (points : List Point) (s : Summary) : Type 0 where

@@ -5,8 +5,8 @@ ghost use Rattle.grib_packing.specs.declared.column.Point.{Point as point_packin
 ghost use Rattle.grib_packing.specs.declared.column.Point.TheVariants.{Missing};
 ghost use Rattle.grib_decimal.specs.Summary.{IsTally, SumUp};
 
-use crate::bounds::with;
-use crate::extreme::{Extremes, Summary};
+use crate::bounds::{Greatest, Least, extremes_between};
+use crate::extreme::Summary;
 use grib_packing::Point;
 
 /// What is summed up of points that come one after another, as the entries of a field that is unpacked.
@@ -16,7 +16,8 @@ pub struct Tally {
     count: u32,
     missing: u32,
     missing2: u32,
-    extremes: Option<Extremes>,
+    least: Least,
+    greatest: Greatest,
 }
 
 impl Tally {
@@ -28,7 +29,8 @@ impl Tally {
             count: 0,
             missing: 0,
             missing2: 0,
-            extremes: None,
+            least: Least::none(),
+            greatest: Greatest::none(),
         }
     }
 
@@ -42,7 +44,8 @@ impl Tally {
         match point {
             Point::Scaled(number) => Tally {
                 count,
-                extremes: Some(with(self.extremes, number, count)),
+                least: self.least.with(number, count),
+                greatest: self.greatest.with(number, count),
                 ..self
             },
             Point::Missing => Tally {
@@ -70,7 +73,7 @@ impl Tally {
                 .wrapping_sub(self.missing2),
             missing: self.missing,
             missing2: self.missing2,
-            extremes: self.extremes,
+            extremes: extremes_between(self.least, self.greatest),
         }
     }
 }

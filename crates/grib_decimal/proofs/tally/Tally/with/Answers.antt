@@ -9,7 +9,7 @@ returns-in-Scaled c points n few within here old =
     let fits : FitsSigned w64 c.in-Scaled.number = search rules in
     let is = here ∙ c.in-Scaled.is ∙ ap Scaled (sym (to_z-of_z fits)) in
     let next : (c.args.self.count + 1) % 4294967296 ≡ n + 1 = omega (arith, old.count_is) in
-    one_scaled points n _ c.args.self _ c.with.result within is next (c.with.ensures points n (sym next) is old.extremes_are) old
+    one_scaled points n _ c.args.self _ c.with.result c.with-in-Scaled.result within is next (c.with.ensures points n (sym next) is old.least_is) (c.with-in-Scaled.ensures points n (sym next) is old.greatest_is) old
 
 pub returns-in-Missing : goal.returns-in-Missing
 returns-in-Missing c points n few within here old =
