@@ -1,5 +1,5 @@
 -- The first cause by which a message is kept from being printed with its values.
-use Rattle.std.proofs.Common.{◌≡◌, ℕ, zero, suc, ◌+◌, ◌-◌, ◌<◌, ◌≤◌, Bool, true, false, Option, Some, None, is_some, is_none, option_map, List, [], refl, sym, ap, subst, ◌∙◌, arith}
+use Rattle.std.proofs.Common.{◌≡◌, ℕ, zero, suc, ◌+◌, ◌-◌, ◌<◌, ◌≤◌, true, false, Option, Some, None, is_some, is_none, option_map, List, [], refl, ap, ◌∙◌, arith}
 use Rattle.grib_dyadic.specs.Reference.{Binary, ieee, ibm, reduced}
 use Rattle.grib_packing.specs.declared.column.Column.{Column}
 use Rattle.grib2_message.specs.Fields.{field_count, column_of}

@@ -2,6 +2,7 @@ pub mod Jobs
 pub mod Notes
 pub mod Outcomes
 pub mod Judging
+pub mod Endings
 pub mod Command
 pub mod LawfulCommands
 pub mod FieldOctets

@@ -1,82 +1,46 @@
 //! `stats`: for each field a line on what its points sum up to, and its reference line.
 
 ghost use Rattle.std.specs.Prelude.{◌≡◌, ◌≤◌, length, IfOk};
-ghost use Rattle.grib_engine.specs.Pending.{WritesTo};
 ghost use Rattle.grib_engine.specs.Summing as sums;
 
-use crate::answered::{Answered, printed};
-use crate::answerer::Writer;
-use crate::fields::{FieldPrinter, write_fields};
 use crate::points::append_text;
+use crate::printing::Printer;
 use crate::references::{first_reference, second_reference};
 use crate::writing::write_whole;
 use grib_decimal::summary;
 use grib_dyadic::Dyadic;
 use grib_io::{Sink, Stop};
 use grib_packing::Column;
-use grib_stream::{Place, Totals};
 use grib_text::{reference_line, stats_line};
 use grib1_sections::Message1;
 use grib2_message::Message;
 use std::alloc::{AllocError, Global};
 
-/// The command `stats`.
+/// Prints what the points of a field sum up to, and its reference line.
 #[derive(Clone, Copy, Debug)]
 pub struct Summing;
 
-impl Writer for Summing {
-    ghost use Rattle.std.specs.Prelude.{refl};
-    ghost use Rattle.grib_engine.specs.Summing.{stats_command, stats_lawful};
+impl Printer for Summing {
+    ghost use Rattle.grib_engine.specs.Summing.{stats_text, stats_text_1};
 
-    ghost definition = { λ summing. stats_command };
+    ghost first_text = { λ summing. stats_text_1 };
 
-    ghost lawful = { λ summing. stats_lawful };
+    ghost field_text = { λ summing. stats_text };
 
-    ghost unshelved = { λ summing. refl };
-
-    fn first<T: Sink>(
+    fn write_first<T: Sink>(
         &self,
         alloc: Global,
-        place: &Place,
+        number: u64,
         message: &Message1<'_>,
         output: &mut T,
-    ) -> Answered {
-        printed(write_first(alloc, place.message, message, output))
-    }
-
-    fn second<T: Sink>(
-        &self,
-        alloc: Global,
-        place: &Place,
-        message: &Message<'_>,
-        output: &mut T,
-    ) -> Answered {
-        printed(write_fields(self, alloc, place.message, message, output))
-    }
-
-    fn write_ending<T: Sink>(
-        &self,
-        _alloc: Global,
-        _totals: &Totals,
-        output: &mut T,
     ) -> Result<(), Stop> {
-        write_whole(output, b"")
+        let column = message.column1(alloc)?;
+        let reference = first_reference(&column);
+        let text = sums_of(alloc, number, 1, &reference, &column)?;
+        write_whole(output, text.as_slice())
     }
 
-    fn ending_note(&self, alloc: Global, _totals: &Totals) -> Result<Vec<u8>, AllocError> {
-        Ok(Vec::new(alloc))
-    }
-}
-
-impl FieldPrinter for Summing {
-    ghost use Rattle.std.specs.Prelude.{true};
-    ghost use Rattle.grib_engine.specs.Summing.{stats_text};
-
-    ghost text = { λ summing. stats_text };
-
-    ghost can_print = { λ summing message. true };
-
-    fn append<T: Sink>(
+    fn append_field<T: Sink>(
         &self,
         alloc: Global,
         number: u64,
@@ -90,22 +54,6 @@ impl FieldPrinter for Summing {
         let text = sums_of(alloc, number, field, &reference, &column)?;
         append_text(lines, text.as_slice(), output)
     }
-}
-
-/// Writes what is printed of the message of edition 1 with this number.
-fn write_first<T: Sink>(
-    alloc: Global,
-    number: u64,
-    message: &Message1<'_>,
-    output: &mut T,
-) -> Result<(), Stop>
-    ensures { WritesTo T.contents T.faults result output.old output.new
-        (sums.stats_text_1 message.now number) }
-{
-    let column = message.column1(alloc)?;
-    let reference = first_reference(&column);
-    let text = sums_of(alloc, number, 1, &reference, &column)?;
-    write_whole(output, text.as_slice())
 }
 
 /// The line on what the points of a field sum up to, and the line on its reference value and its scale factors.

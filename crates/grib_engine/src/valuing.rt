@@ -8,6 +8,7 @@ ghost use Rattle.grib_engine.specs.Valuing as values;
 
 use crate::answered::{Answered, printed};
 use crate::answerer::Writer;
+use crate::ending::Ending;
 use crate::fields::{FieldPrinter, write_fields};
 use crate::points::{ROOM, append_text, append_values};
 use crate::references::{first_reference, second_reference};
@@ -16,7 +17,7 @@ use grib_decimal::DecimalScale;
 use grib_dyadic::Dyadic;
 use grib_io::{Sink, Stop};
 use grib_packing::Column;
-use grib_stream::{Cause, Place, Totals};
+use grib_stream::{Cause, Place};
 use grib_text::{list_line, list_line1, reference_line};
 use grib1_sections::Message1;
 use grib2_message::Message;
@@ -67,17 +68,8 @@ impl Writer for Valuing {
         }
     }
 
-    fn write_ending<T: Sink>(
-        &self,
-        _alloc: Global,
-        _totals: &Totals,
-        output: &mut T,
-    ) -> Result<(), Stop> {
-        write_whole(output, b"")
-    }
-
-    fn ending_note(&self, alloc: Global, _totals: &Totals) -> Result<Vec<u8>, AllocError> {
-        Ok(Vec::new(alloc))
+    fn ending(&self) -> Ending {
+        Ending::Silent
     }
 }
 

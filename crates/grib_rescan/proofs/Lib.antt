@@ -1,5 +1,6 @@
 mod Turns
 mod Runs
+mod Turned
 pub mod Rows
 mod Corners
 mod Octets

@@ -13,10 +13,10 @@ use Rattle.grib_rescan.specs.Points.{point, row_of}
 use Rattle.grib_rescan.proofs.Turns.{turned-lt, turned_both, turned_one, point_at-lt}
 
 -- the points from `start` on, by a function that gives each its number
-run_at : (points : List Point) (f : ℕ → ℕ) (start a n k : ℕ) → start + n ≤ length points → k < n → get_or (take n (drop start points)) k Missing ≡ get_or points (start + k) Missing
+pub run_at : (points : List Point) (f : ℕ → ℕ) (start a n k : ℕ) → start + n ≤ length points → k < n → get_or (take n (drop start points)) k Missing ≡ get_or points (start + k) Missing
 run_at points f start a n k within small = get_or-take n (drop start points) k Missing small ∙ get_or-drop start points k Missing
 
-length_run : (points : List Point) (start n : ℕ) → start + n ≤ length points → length (take n (drop start points)) ≡ n
+pub length_run : (points : List Point) (start n : ℕ) → start + n ≤ length points → length (take n (drop start points)) ≡ n
 length_run points start n within = omega (arith, length-take n (drop start points), length-drop start points)
 
 pub row_forwards : (points : List Point) (f : ℕ → ℕ) (start a n : ℕ) → start + n ≤ length points → ((k : ℕ) → k < n → f (a + k) ≡ start + k)

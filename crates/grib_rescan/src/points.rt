@@ -19,67 +19,79 @@ pub struct Area {
 }
 
 /// The points of a grid of `ni` columns and `nj` rows in the order of scanning octet 0: the rows from the
-/// north, and the points of each from the west.
+/// north, and the points of each from the west. Where the points of a row are consecutive, they are moved in
+/// the memory that they have; else there are two lists of them for a while.
 ///
 /// # Errors
 ///
 /// There is no memory for them.
 pub fn rescan_points(
     alloc: Global,
-    points: &[Point],
+    mut points: Vec<Point>,
     scanning: Scanning,
     ni: u32,
     nj: u32,
 ) -> Result<Vec<Point>, AllocError>
-    requires { length points.now ≡ ni * nj }
-    ensures { IfOk result (λ rescanned. rescanned.items ≡ rescanned_points scanning ni nj points.now) }
+    requires { length points.items ≡ ni * nj }
+    ensures { IfOk result (λ rescanned. rescanned.items ≡ rescanned_points scanning ni nj points.items) }
 {
     let (columns, rows) = (ni as usize, nj as usize);
-    let mut rescanned = Vec::with_capacity(alloc, points.len())?;
-    for row in 0..rows {
-        if scanning.by_columns {
-            add_across(points, scanning, columns, rows, row, &mut rescanned)?;
-        } else {
-            add_row(points, scanning, columns, rows, row, &mut rescanned)?;
-        }
+    if scanning.by_columns {
+        return gather_rows(alloc, &points, scanning, columns, rows);
     }
-    Ok(rescanned)
+    order_rows(&mut points, scanning, columns, rows);
+    Ok(points)
 }
 
-/// Adds the points of a row, where those of a row are consecutive.
-fn add_row(
+/// Puts the rows in their order from the north, and the points of each from the west, where the points of a
+/// row are consecutive.
+fn order_rows(points: &mut [Point], scanning: Scanning, columns: usize, rows: usize)
+    requires rows_stand { scanning.by_columns ≡ false }
+    requires length { length points.old ≡ columns * rows }
+    ensures { points.new ≡ rescanned_points scanning columns rows points.old }
+{
+    if scanning.northward {
+        points.reverse();
+    }
+    turn_rows(points, scanning, columns, rows);
+}
+
+/// Turns each row whose points do not go from the west. Where rows go northward, all points stand the last
+/// first, so that the rows are in their order from the north.
+fn turn_rows(points: &mut [Point], scanning: Scanning, columns: usize, rows: usize)
+    requires rows_stand { scanning.by_columns ≡ false }
+    requires length { length points.old ≡ columns * rows }
+    ensures { points.new
+        ≡ rescanned_points scanning columns rows (cond scanning.northward (reverse points.old) points.old) }
+{
+    for row in 0..rows {
+        let place = turn(scanning.northward, rows, row);
+        let turns = scanning.alternates && place % 2 == 1;
+        let from_west = turns == scanning.westward;
+        let start = row * columns;
+        if from_west == scanning.northward {
+            points[start..start + columns].reverse();
+        }
+    }
+}
+
+/// The rows from the north, where the points of a column are consecutive.
+fn gather_rows(
+    alloc: Global,
     points: &[Point],
     scanning: Scanning,
     columns: usize,
     rows: usize,
-    row: usize,
-    out: &mut Vec<Point>,
-) -> Result<(), AllocError>
-    requires rows_stand { scanning.by_columns ≡ false }
+) -> Result<Vec<Point>, AllocError>
+    requires columns_stand { scanning.by_columns ≡ true }
     requires length { length points.now ≡ columns * rows }
-    requires row { row < rows }
-    ensures { OnOk result (out.new.items ≡ out.old.items ++ row_of scanning columns rows points.now 0 columns row) }
+    ensures { IfOk result (λ rescanned. rescanned.items ≡ rescanned_points scanning columns rows points.now) }
 {
-    let place = turn(scanning.northward, rows, row);
-    let turns = scanning.alternates && place % 2 == 1;
-    let start = place * columns;
-    let run = &points[start..start + columns];
-    if turns == scanning.westward {
-        out.extend_from_slice(run)?;
-    } else {
-        add_backwards(run, out)?;
+    let mut rescanned = Vec::with_capacity(alloc, points.len())?;
+    for row in 0..rows {
+        add_across(points, scanning, columns, rows, row, &mut rescanned)?;
     }
-    Ok(())
-}
-
-/// Adds these points, the last first.
-fn add_backwards(run: &[Point], out: &mut Vec<Point>) -> Result<(), AllocError>
-    ensures { OnOk result (out.new.items ≡ out.old.items ++ reverse run.now) }
-{
-    let start = out.len();
-    out.extend_from_slice(run)?;
-    out[start..].reverse();
-    Ok(())
+    Ok(rescanned)
 }
 
 /// Adds the points of a row, where those of a column are consecutive.

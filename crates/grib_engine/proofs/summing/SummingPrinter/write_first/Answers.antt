@@ -1,0 +1,28 @@
+use Rattle.std.proofs.Common.{◌∙◌, rules, subst}
+use Rattle.grib_engine.specs.Pending.{Writes}
+use Rattle.grib_engine.proofs.Outside.{front_none}
+use Rattle.grib_engine.proofs.Pending.{sums_are_1}
+use Rattle.grib_engine.proofs.summing.SummingPrinter.write_first.Goals as goal
+
+pub returns-in_err-column : goal.returns-in_err-column
+returns-in_err-column g c = record {
+  octets = record { whole = search rules; front = front_none _ _ };
+  counted = search rules;
+}
+
+pub returns-in_err-text : goal.returns-in_err-text
+returns-in_err-text g c = record {
+  octets = record { whole = search rules; front = front_none _ _ };
+  counted = search rules;
+}
+
+pub returns : goal.returns
+returns g c = record {
+  octets =
+      subst (Writes c.write_whole.result (g.T.Sink.contents c.args.output.now) (g.T.Sink.contents c.write_whole.new.sink))
+      (c.as_slice.ensures.value ∙ c.in_ok-text.ensures
+      ∙ sums_are_1 c.args.message.now c.args.number c.in_ok-column.column c.first_reference-reference.result c.in_ok-column.ensures.column
+      c.first_reference-reference.ensures.value)
+      c.write_whole.ensures.writes.octets;
+  counted = search rules;
+}
