@@ -10,7 +10,9 @@ use std::fs::OpenOptions;
 use std::io::{self, Read, Seek, SeekFrom, Write};
 use std::rt::Files;
 
-/// An open file of std. It tells nothing of what it holds, since std's files tell no clause what they hold.
+/// An open file of std. It tells nothing of what it holds, since no clause of std says what the files that a
+/// runtime opens hold. What it asks of the file is said by the file's own views: where a read was sought to, and what
+/// was written.
 #[derive(Debug, Drop)]
 pub struct SystemFile<F> {
     file: F,
@@ -21,6 +23,8 @@ impl<F: Read + Write + Seek> OpenedFile for SystemFile<F> {
 
     fn read_at(&mut self, offset: u64, into: &mut [u8]) -> io::Result<usize>
         ensures bound { ReadsAtMost result into.new }
+        ensures placed { ReadsPlaced F.stream_position F.stream_bytes F.remaining self.old.file
+            self.new.file offset result into.new }
     {
         read_from(&mut self.file, offset, into)
     }
@@ -34,8 +38,8 @@ impl<F: Read + Write + Seek> OpenedFile for SystemFile<F> {
     }
 }
 
-/// The files of a runtime of std, whose names are paths. It tells nothing of what they hold, since no
-/// clause of std says what a file system holds.
+/// The files of a runtime of std, whose names are paths. It tells nothing of what they hold, since no clause of
+/// std says what a file system holds. A file that is not to be read is to be opened to append, or empty.
 #[derive(Debug, Drop)]
 pub struct SystemFolder<R> {
     files: R,
@@ -64,7 +68,7 @@ impl<R: Files + Drop> Folder for SystemFolder<R> {
 /// Reads octets of a file from the offset on, once.
 fn read_from<F: Read + Seek>(file: &mut F, offset: u64, into: &mut [u8]) -> io::Result<usize>
     ensures bound { ReadsAtMost result into.new }
-    ensures octets { ReadsPlaced F.stream_position F.stream_bytes F.remaining file.old file.new
+    ensures placed { ReadsPlaced F.stream_position F.stream_bytes F.remaining file.old file.new
         offset result into.new }
 {
     file.seek(SeekFrom::Start(offset))?;
