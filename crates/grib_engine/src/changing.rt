@@ -21,16 +21,10 @@ pub(crate) trait Changer {
     /// What a message at a place gives.
     ghost gives: { Self → AtPlace → List ℕ → Given };
 
-    /// Writes what is made of a message at this place, or keeps it.
-    fn change<T: Sink>(
-        &self,
-        alloc: Global,
-        place: &Place,
-        message: &Message<'_>,
-        output: &mut T,
-    ) -> Answered
-        ensures { AnswersByOutput T.contents T.faults result place.now.message
-            (gives self.now place.now message.now) output.old output.new };
+    /// Writes what is made of a message, or keeps it, wherever it stands.
+    fn change<T: Sink>(&self, alloc: Global, message: &Message<'_>, output: &mut T) -> Answered
+        ensures { (place : AtPlace) → AnswersByOutput T.contents T.faults result place.message
+            (gives self.now place message.now) output.old output.new };
 
     ghost lawful: { (changer : Self) → IsLawfulCommand (commands.changing (gives changer)) };
 }
@@ -62,11 +56,11 @@ impl<C: Changer> Writer for Changing<C> {
     fn second<T: Sink>(
         &self,
         alloc: Global,
-        place: &Place,
+        _place: &Place,
         message: &Message<'_>,
         output: &mut T,
     ) -> Answered {
-        self.0.change(alloc, place, message, output)
+        self.0.change(alloc, message, output)
     }
 
     fn ending(&self) -> Ending {

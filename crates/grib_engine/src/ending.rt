@@ -34,7 +34,7 @@ impl Ending {
             (endings.ending_text self.now totals.now) }
     {
         match self {
-            Ending::Silent | Ending::Written => write_whole(output, b""),
+            Ending::Silent | Ending::Written => Ok(()),
             Ending::Total => {
                 let line = total_line(alloc, totals.messages, totals.fields, totals.skipped)?;
                 write_whole(output, line.as_slice())

@@ -14,7 +14,6 @@ use crate::changing::Changer;
 use crate::writing::write_counted;
 use grib_io::{Sink, Stop};
 use grib_select::{Condition, matches, single};
-use grib_stream::Place;
 use grib2_message::Message;
 use std::alloc::Global;
 
@@ -32,13 +31,7 @@ impl Changer for Filtering<'_> {
 
     ghost lawful = { λ filtering. filter_lawful filtering.conditions.now };
 
-    fn change<T: Sink>(
-        &self,
-        alloc: Global,
-        _place: &Place,
-        message: &Message<'_>,
-        output: &mut T,
-    ) -> Answered {
+    fn change<T: Sink>(&self, alloc: Global, message: &Message<'_>, output: &mut T) -> Answered {
         written(write_filtered(alloc, self.conditions, message, output))
     }
 }

@@ -9,7 +9,7 @@ use crate::changing::Changer;
 use crate::writing::write_counted;
 use grib_io::Sink;
 use grib_repack::{RepackFault, RepackTarget, repack};
-use grib_stream::{Cause, Place};
+use grib_stream::Cause;
 use grib2_message::Message;
 use std::alloc::Global;
 
@@ -28,13 +28,7 @@ impl Changer for Repacking {
 
     ghost lawful = { λ repacking. repack_lawful repacking.target };
 
-    fn change<T: Sink>(
-        &self,
-        alloc: Global,
-        _place: &Place,
-        message: &Message<'_>,
-        output: &mut T,
-    ) -> Answered {
+    fn change<T: Sink>(&self, alloc: Global, message: &Message<'_>, output: &mut T) -> Answered {
         match repack(alloc, message, self.target) {
             Ok(packed) => written(write_counted(output, packed.as_slice())),
             Err(fault) => kept_by(fault),

@@ -9,7 +9,7 @@ use crate::changing::Changer;
 use crate::writing::write_counted;
 use grib_io::Sink;
 use grib_rescanned::{GridEdit, RescanFault, edit_message};
-use grib_stream::{Cause, Place};
+use grib_stream::Cause;
 use grib2_message::Message;
 use std::alloc::Global;
 
@@ -28,13 +28,7 @@ impl Changer for Rescanning {
 
     ghost lawful = { λ rescanning. edit_lawful rescanning.edit };
 
-    fn change<T: Sink>(
-        &self,
-        alloc: Global,
-        _place: &Place,
-        message: &Message<'_>,
-        output: &mut T,
-    ) -> Answered {
+    fn change<T: Sink>(&self, alloc: Global, message: &Message<'_>, output: &mut T) -> Answered {
         match edit_message(alloc, message, &self.edit) {
             Ok(edited) => written(write_counted(output, edited.as_slice())),
             Err(fault) => unedited(fault),

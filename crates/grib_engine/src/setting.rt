@@ -9,7 +9,7 @@ use crate::changing::Changer;
 use crate::writing::write_counted;
 use grib_io::Sink;
 use grib_select::{Condition, SetFault, set_keys};
-use grib_stream::{Cause, Place};
+use grib_stream::Cause;
 use grib2_message::Message;
 use std::alloc::Global;
 
@@ -28,13 +28,7 @@ impl Changer for Setting<'_> {
 
     ghost lawful = { λ setting. set_lawful setting.changes.now setting.changes_stand };
 
-    fn change<T: Sink>(
-        &self,
-        alloc: Global,
-        _place: &Place,
-        message: &Message<'_>,
-        output: &mut T,
-    ) -> Answered {
+    fn change<T: Sink>(&self, alloc: Global, message: &Message<'_>, output: &mut T) -> Answered {
         match set_keys(alloc, message, self.changes) {
             Ok(changed) => written(write_counted(output, changed.as_slice())),
             Err(fault) => unset(fault),

@@ -1,16 +1,18 @@
 //! `stats`: for each field a line on what its points sum up to, and its reference line.
 
-ghost use Rattle.std.specs.Prelude.{◌≡◌, ◌≤◌, length, IfOk};
-ghost use Rattle.grib_engine.specs.Summing as sums;
+ghost use Rattle.std.specs.Prelude.{◌≡◌, ◌++◌, IfOk};
+ghost use Rattle.grib_bits.specs.Bits.{bits_of, signed};
+ghost use Rattle.grib_text.specs.Lines.{reference_line as reference_text};
+ghost use Rattle.grib_text.specs.Stats.{stats_line as sums_text};
 
 use crate::points::append_text;
 use crate::printing::Printer;
-use crate::references::{first_reference, second_reference};
+use crate::references::{ibm_reference, ieee_reference};
 use crate::writing::write_whole;
-use grib_decimal::summary;
+use grib_decimal::Summary;
 use grib_dyadic::Dyadic;
 use grib_io::{Sink, Stop};
-use grib_packing::Column;
+use grib_sums::{Scaling, field_scaling, field_sums, message_scaling1, message_sums1};
 use grib_text::{reference_line, stats_line};
 use grib1_sections::Message1;
 use grib2_message::Message;
@@ -34,9 +36,10 @@ impl Printer for Summing {
         message: &Message1<'_>,
         output: &mut T,
     ) -> Result<(), Stop> {
-        let column = message.column1(alloc)?;
-        let reference = first_reference(&column);
-        let text = sums_of(alloc, number, 1, &reference, &column)?;
+        let summary = message_sums1(alloc, message)?;
+        let scaling = message_scaling1(message);
+        let reference = ibm_reference(scaling.reference);
+        let text = sums_of(alloc, number, 1, &summary, &reference, scaling)?;
         write_whole(output, text.as_slice())
     }
 
@@ -49,9 +52,10 @@ impl Printer for Summing {
         lines: &mut Vec<u8>,
         output: &mut T,
     ) -> Result<(), Stop> {
-        let column = message.column(alloc, field)?;
-        let reference = second_reference(&column);
-        let text = sums_of(alloc, number, field, &reference, &column)?;
+        let summary = field_sums(alloc, message, field)?;
+        let scaling = field_scaling(message, field);
+        let reference = ieee_reference(scaling.reference);
+        let text = sums_of(alloc, number, field, &summary, &reference, scaling)?;
         append_text(lines, text.as_slice(), output)
     }
 }
@@ -61,14 +65,15 @@ fn sums_of(
     alloc: Global,
     number: u64,
     field: u32,
+    summary: &Summary,
     reference: &Dyadic,
-    column: &Column,
+    scaling: Scaling,
 ) -> Result<Vec<u8>, AllocError>
-    requires few { length column.now.points ≤ 33554432 }
-    ensures { IfOk result (λ text. text.items ≡ sums.summed number field reference.now column.now) }
+    ensures { IfOk result (λ text. text.items ≡ sums_text number field summary.now
+        ++ reference_text reference.now (signed (bits_of 16 scaling.e)) (signed (bits_of 16 scaling.d))) }
 {
-    let mut text = stats_line(alloc, number, field, &summary(column))?;
-    let numbers = reference_line(alloc, reference, column.e, column.d)?;
+    let mut text = stats_line(alloc, number, field, summary)?;
+    let numbers = reference_line(alloc, reference, scaling.e, scaling.d)?;
     text.extend_from_slice(numbers.as_slice())?;
     Ok(text)
 }

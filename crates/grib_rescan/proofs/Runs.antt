@@ -90,11 +90,6 @@ read_backwards s ni nj points j row turns read differ =
 
 -- ---- a row that is read across columns
 
-pub across : (s : Scanning) (ni nj i j row column : ℕ) (turns : Bool) (at : ℕ) → s.by_columns ≡ true → row ≡ turned s.northward nj j → column ≡ turned s.westward ni i
-    → turns ≡ (s.alternates && is_odd column) → at ≡ turned turns nj row → point_at s ni nj i j ≡ column * nj + at
-across s ni nj i j row column turns at columns row_is column_is turns_is at_is =
-    rw columns (rw (at_is, turns_is, column_is, row_is) refl)
-
 pub point_across : (s : Scanning) (ni nj : ℕ) (points : List Point) (i j at : ℕ) (d : Point) → length points ≡ ni * nj → i < ni → j < nj
     → point_at s ni nj i j ≡ at → get_or points at d ≡ point points (point_at s ni nj (0 + i) j)
 point_across s ni nj points i j at d size small within is =

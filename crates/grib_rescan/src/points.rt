@@ -1,12 +1,16 @@
 //! The points of a grid in another order, and those of a box.
 
 ghost use Rattle.std.specs.Prelude.{◌≡◌, ◌+◌, ◌-◌, ◌*◌, ◌%◌, ◌<◌, ◌≤◌, ◌++◌, ◌==◌, ◌&&◌, cond, true, false, length, take, drop, reverse, OnOk, IfOk};
+ghost use Rattle.std.specs.List.{range_with_len, flat_map};
 ghost use Rattle.grib_rescan.specs.Scanning.{turned, is_odd, scanning_of};
 ghost use Rattle.grib_rescan.specs.Points.{IsBox, row_of, rescanned_points, cropped_points};
 
 use crate::scanning::{Scanning, turn};
 use grib_packing::Point;
 use std::alloc::{AllocError, Global};
+
+/// How many rows are taken out of all columns at a time.
+const BAND_ROWS: usize = 16;
 
 /// A box of a grid: its columns from `i0` to `i1`, counted from the west, and its rows from `j0` to `j1`,
 /// counted from the north, both from 0.
@@ -37,7 +41,8 @@ pub fn rescan_points(
 {
     let (columns, rows) = (ni as usize, nj as usize);
     if scanning.by_columns {
-        return gather_rows(alloc, &points, scanning, columns, rows);
+        order_rows(&mut points, scanning.exchanged(), rows, columns);
+        return transpose(alloc, &points, columns, rows);
     }
     order_rows(&mut points, scanning, columns, rows);
     Ok(points)
@@ -75,44 +80,83 @@ fn turn_rows(points: &mut [Point], scanning: Scanning, columns: usize, rows: usi
     }
 }
 
-/// The rows from the north, where the points of a column are consecutive.
-fn gather_rows(
+/// The points row by row, where they stand column by column, and each column goes from the north. Some rows
+/// at a time are taken out of all columns, so that what is read of a column is consecutive.
+fn transpose(
     alloc: Global,
     points: &[Point],
-    scanning: Scanning,
     columns: usize,
     rows: usize,
 ) -> Result<Vec<Point>, AllocError>
-    requires columns_stand { scanning.by_columns ≡ true }
-    requires length { length points.now ≡ columns * rows }
-    ensures { IfOk result (λ rescanned. rescanned.items ≡ rescanned_points scanning columns rows points.now) }
+    requires { length points.now ≡ columns * rows }
+    ensures { IfOk result (λ transposed. transposed.items
+        ≡ rescanned_points (scanning_of 0x20) columns rows points.now) }
 {
-    let mut rescanned = Vec::with_capacity(alloc, points.len())?;
-    for row in 0..rows {
-        add_across(points, scanning, columns, rows, row, &mut rescanned)?;
+    let mut transposed = Vec::with_capacity(alloc, points.len())?;
+    let mut band = Vec::new(alloc);
+    for number in 0..rows.div_ceil(BAND_ROWS) {
+        let first = number * BAND_ROWS;
+        let height = BAND_ROWS.min(rows - first);
+        band.clear();
+        add_parts(points, columns, rows, first, height, &mut band)?;
+        add_rows(&band, columns, height, &mut transposed)?;
     }
-    Ok(rescanned)
+    Ok(transposed)
 }
 
-/// Adds the points of a row, where those of a column are consecutive.
-fn add_across(
+/// Adds the points of each column that lie in the `height` rows from `first` on.
+fn add_parts(
     points: &[Point],
-    scanning: Scanning,
+    columns: usize,
+    rows: usize,
+    first: usize,
+    height: usize,
+    out: &mut Vec<Point>,
+) -> Result<(), AllocError>
+    requires length { length points.now ≡ columns * rows }
+    requires within { first + height ≤ rows }
+    ensures { OnOk result (out.new.items ≡ out.old.items
+        ++ flat_map (row_of (scanning_of 0) rows columns points.now first height) (range_with_len 0 columns)) }
+{
+    for column in 0..columns {
+        let start = column * rows + first;
+        out.extend_from_slice(&points[start..start + height])?;
+    }
+    Ok(())
+}
+
+/// Adds the rows of points that stand column by column, each column from the north.
+fn add_rows(
+    points: &[Point],
+    columns: usize,
+    rows: usize,
+    out: &mut Vec<Point>,
+) -> Result<(), AllocError>
+    requires { length points.now ≡ columns * rows }
+    ensures { OnOk result (out.new.items ≡ out.old.items
+        ++ rescanned_points (scanning_of 0x20) columns rows points.now) }
+{
+    for row in 0..rows {
+        add_row(points, columns, rows, row, out)?;
+    }
+    Ok(())
+}
+
+/// Adds a row of points that stand column by column, each column from the north.
+fn add_row(
+    points: &[Point],
     columns: usize,
     rows: usize,
     row: usize,
     out: &mut Vec<Point>,
 ) -> Result<(), AllocError>
-    requires columns_stand { scanning.by_columns ≡ true }
     requires length { length points.now ≡ columns * rows }
     requires row { row < rows }
-    ensures { OnOk result (out.new.items ≡ out.old.items ++ row_of scanning columns rows points.now 0 columns row) }
+    ensures { OnOk result (out.new.items ≡ out.old.items
+        ++ row_of (scanning_of 0x20) columns rows points.now 0 columns row) }
 {
-    let place = turn(scanning.northward, rows, row);
-    for from_west in 0..columns {
-        let column = turn(scanning.westward, columns, from_west);
-        let turns = scanning.alternates && column % 2 == 1;
-        out.push(points[column * rows + turn(turns, rows, place)])?;
+    for column in 0..columns {
+        out.push(points[column * rows + row])?;
     }
     Ok(())
 }

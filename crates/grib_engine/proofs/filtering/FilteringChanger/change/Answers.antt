@@ -3,6 +3,6 @@ use Rattle.grib_engine.proofs.Answers.{by_writing}
 use Rattle.grib_engine.proofs.filtering.FilteringChanger.change.Goals as goal
 
 pub returns : goal.returns
-returns g c =
+returns g c = λ place.
     by_writing g.T.Sink.contents g.T.Sink.faults c.write_filtered.result c.written.result _ _ _ _ _ c.written.ensures refl
     c.write_filtered.ensures.count c.write_filtered.ensures.writes
