@@ -14,3 +14,4 @@ pub mod Standing
 pub mod Tabled
 pub mod Migrations
 pub mod Causes
+pub mod Cutting

@@ -21,6 +21,7 @@ pub mod Repacking
 pub mod Rescanning
 pub mod Migrating
 pub mod Tasks
+pub mod Each
 pub mod Lawful
 pub mod Serving
 pub mod Same
