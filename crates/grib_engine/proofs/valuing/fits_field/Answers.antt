@@ -1,4 +1,4 @@
-use Rattle.std.proofs.Common.{◌≡◌, None, option_map, sym, ap, ◌∙◌}
+use Rattle.std.proofs.Common.{option_map, sym, ap, ◌∙◌}
 use Rattle.grib_causes.specs.declared.cause.Cause.TheVariants.{DecimalRange}
 use Rattle.grib2_message.specs.Fields.{column_of}
 use Rattle.grib_decimal.specs.Range.{first_too_large}
