@@ -80,12 +80,7 @@ pub trait Performer {
         ensures unshelved { uses_shelf self.now ≡ false → result ≢ Ends ShelfFault };
 
     /// Does what is to be done at the end of the input, by the output alone.
-    fn finish<T: Sink>(
-        &self,
-        alloc: Global,
-        totals: &Totals,
-        output: &mut T,
-    ) -> Result<(), Outcome>
+    fn finish<T: Sink>(&self, alloc: Global, totals: &Totals, output: &mut T) -> Result<(), Outcome>
         ensures done { OnOk result ((names : Option Held) → Did (world (T.contents output.old) names)
             (world (T.contents output.new) names) ((task self.now).ending totals.now).acts) }
         ensures front { OnErr result ((names : Option Held) → DidFront (world (T.contents output.old) names)
