@@ -17,8 +17,9 @@ mod source;
 mod time;
 mod values;
 
+pub use date::{Moment, is_civil, later};
 pub use grib_causes::Loss;
-pub use level::{Surface, Surfaces};
+pub use level::{Surface, Surfaces, surfaces_at};
 pub use loss::MigrateFault;
 pub use migrating::migrate;
 pub use number::Number;

@@ -1,0 +1,34 @@
+-- What the sections of a field hold, for private functions.
+use Rattle.std.specs.Prelude.{◌≡◌, ◌≤◌, ◌<◌, ◌^◌, true, false, List, ℕ, length}
+use Rattle.grib2_grids.specs.Whole.{IsWhole as IsWholeGrid, HasList}
+use Rattle.grib2_products.specs.Whole.{IsWhole as IsWholeProduct}
+use Rattle.grib_packing.specs.declared.written.Packed.{Packed}
+use Rattle.grib_demote.specs.declared.field.Field.{Field}
+use Rattle.grib_demote.specs.Dates.{reference_time}
+use Rattle.grib_demote.specs.Times.{has_process, has_range, is_interval}
+use Rattle.grib_demote.specs.Products.{centre, sub_centre}
+
+-- the sections of a field, each with its template and its lists as a whole
+pub record Holds (s1 s3 s4 s5 : List ℕ) : Type 0 where
+  pub identification : 21 ≤ length s1
+  pub grid : IsWholeGrid s3
+  pub list : HasList s3
+  pub product : IsWholeProduct s4
+  pub packing : 21 ≤ length s5
+
+-- the numbers that Section 1 of edition 1 has fit their octets
+pub record IsDemoted (field : Field) : Type 0 where
+  pub identification : 21 ≤ length field.identification.now
+  pub packing : 21 ≤ length field.packing.now
+  pub product : IsWholeProduct field.product.now
+  pub centre_fits : centre field.identification.now < 256
+  pub sub_centre_fits : sub_centre field.identification.now < 256
+  pub year : (reference_time field.identification.now).year ≤ 9999
+  pub process : has_process field.product.now ≡ true
+  pub range : is_interval field.product.now ≡ true → has_range field.product.now ≡ true
+
+-- Sections 5, 6 and 7 in simple packing
+pub record HoldsPacked (packed : Packed) : Type 0 where
+  pub numbers : 21 ≤ length packed.section5
+  pub bitmap : 6 ≤ length packed.section6
+  pub values : 5 ≤ length packed.section7
