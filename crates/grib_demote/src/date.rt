@@ -4,7 +4,7 @@ ghost use Rattle.std.specs.Prelude.{◌≡◌, ◌+◌, ◌≤◌, ◌<◌, ◌^
 ghost use Rattle.grib_demote.specs.Dates as dates;
 
 use grib_bits::{u8_at, u16_at};
-use grib_migrate::{Moment, is_civil, later};
+use grib_migrate::date::{Moment, is_civil, later};
 
 /// The date and time in the seven octets from `first` on.
 pub(crate) fn moment_at(section: &[u8], first: usize) -> Moment

@@ -3,7 +3,7 @@
 #![tactic(auto)]
 
 mod checking;
-mod date;
+pub mod date;
 mod grid;
 pub mod laws;
 mod level;
@@ -17,7 +17,6 @@ mod source;
 mod time;
 mod values;
 
-pub use date::{Moment, is_civil, later};
 pub use grib_causes::Loss;
 pub use level::{Surface, Surfaces, surfaces_at};
 pub use loss::MigrateFault;
