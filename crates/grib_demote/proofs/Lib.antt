@@ -1,1 +1,4 @@
-
+pub mod Numbers
+pub mod Lists
+pub mod Levels
+pub mod Words

@@ -51,9 +51,13 @@ loses_flags s =
     || (not (digit (bit 3 (flags s)) == digit (bit 4 (flags s))) && not (grid_template s == 40))
     || not (scanning s % 2 ^ 5 == 0)
 
--- a list of rows that are not whole rows of points, or a row of more points than two octets tell
+-- a row of more points than two octets tell
+abbrev pub has_long_row : List ℕ → Bool
+has_long_row rows = list_any (λ row. nat_lt 65535 row) rows
+
+-- a list of rows that are not whole rows of points, or that has such a row
 abbrev pub loses_rows : List ℕ → Bool
-loses_rows s = is_listed s && (not (list_meaning s == 1) || list_any (λ row. nat_lt 65535 row) (row_list s))
+loses_rows s = is_listed s && (not (list_meaning s == 1) || has_long_row (row_list s))
 
 -- Whether a number fits. The magnitude of an angle is behind its first bit, which says that it is negative.
 abbrev pub is_thousands : ℕ → Bool

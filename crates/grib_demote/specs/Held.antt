@@ -1,8 +1,10 @@
 -- What the sections of a field hold, for private functions.
-use Rattle.std.specs.Prelude.{◌≡◌, ◌≤◌, ◌<◌, ◌^◌, true, false, List, ℕ, length}
+use Rattle.std.specs.Prelude.{◌≡◌, ◌≢◌, ◌≤◌, ◌<◌, ◌^◌, true, false, List, ℕ, length}
 use Rattle.grib2_grids.specs.Whole.{IsWhole as IsWholeGrid, HasList}
 use Rattle.grib2_products.specs.Whole.{IsWhole as IsWholeProduct}
 use Rattle.grib_packing.specs.declared.written.Packed.{Packed}
+use Rattle.grib_migrate.specs.declared.level.Surface.{Surface}
+use Rattle.grib_migrate.specs.declared.level.Surfaces.{Surfaces}
 use Rattle.grib_demote.specs.declared.field.Field.{Field}
 use Rattle.grib_demote.specs.Dates.{reference_time}
 use Rattle.grib_demote.specs.Times.{has_process, has_range, is_interval}
@@ -32,3 +34,15 @@ pub record HoldsPacked (packed : Packed) : Type 0 where
   pub numbers : 21 ≤ length packed.section5
   pub bitmap : 6 ≤ length packed.section6
   pub values : 5 ≤ length packed.section7
+
+-- the surface of the number 1 of a type of level: it has no value, or one from 1 to 1,000 at up to four decimal
+-- places
+pub record IsOne (one : Surface) : Type 0 where
+  pub places : one.scale_factor ≤ 4
+  pub some : 1 ≤ one.scaled_value
+  pub few : one.scaled_value ≤ 1000
+
+-- the surfaces of the number 1 of a type of level
+pub record AreOnes (one : Surfaces) : Type 0 where
+  pub first : one.first.scale_factor ≢ 255 → IsOne one.first
+  pub second : one.second.kind ≢ 255 → IsOne one.second

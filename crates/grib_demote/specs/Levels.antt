@@ -35,7 +35,7 @@ abbrev pub number_in : Surface → Surface → Option ℕ
 number_in one found =
     let is_negative = nat_lt 127 found.scale_factor in
     let places = found.scale_factor % 128 in
-    let whole = found.scaled_value * 10 ^ one.scale_factor * ten_to is_negative places in
+    let whole = found.scaled_value * ten_to is_negative places * 10 ^ one.scale_factor in
     let part = one.scaled_value * ten_to (not is_negative) places in
     cond (is_told found && (whole % part == 0)) (Some (whole / part)) None
 

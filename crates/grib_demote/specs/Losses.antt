@@ -38,11 +38,15 @@ loses_product s4 = not ((product_template s4 == 0) || (product_template s4 == 8)
 abbrev pub loses_shape : Bool → List ℕ → Bool
 loses_shape any_earth s3 = not ((octets s3 15 15 == 0) || (octets s3 15 15 == 2)) && not any_earth
 
--- the first vertical coordinate without an IBM word, or beyond the 255 that one octet counts
+-- a vertical coordinate without an IBM word, or beyond the 255 that one octet counts
+abbrev pub is_lost : ℕ → ℕ → Bool
+is_lost word i = is_none (ibm_of word) || (i == 256)
+
+-- the first of some, counted from i
 abbrev pub coordinate_loss_from : ℕ → List ℕ → Option Demotion
 coordinate_loss_from i [] = None
 coordinate_loss_from i (word ∷ words) =
-    cond (is_none (ibm_of word) || (i == 256)) (Some (losses.Coordinate i)) (coordinate_loss_from (i + 1) words)
+    cond (is_lost word i) (Some (losses.Coordinate i)) (coordinate_loss_from (i + 1) words)
 
 abbrev pub coordinate_loss : List ℕ → Option Demotion
 coordinate_loss words = coordinate_loss_from 1 words

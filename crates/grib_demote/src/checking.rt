@@ -1,6 +1,6 @@
 //! The losses of a field, in their order.
 
-ghost use Rattle.std.specs.Prelude.{◌≡◌, ◌≤◌, ◌<◌, ◌+◌, ◌×◌, None, Some, true, false, length, List, MatchResult};
+ghost use Rattle.std.specs.Prelude.{◌≡◌, ◌≤◌, ◌<◌, ◌+◌, None, Some, true, false, length, List, MatchResult};
 ghost use Rattle.grib2_grids.specs.Grid.{row_list};
 ghost use Rattle.grib_demote.specs.Losses as losses;
 ghost use Rattle.grib_demote.specs.Losses.{first_of, product_losses, form_losses, coordinate_loss};
@@ -136,9 +136,16 @@ pub(crate) fn coordinate_loss(coordinates: &[u32]) -> Option<Demotion>
     let mut place: u32 = 0;
     for word in coordinates {
         place += 1;
-        if ibm_of(*word).is_none() || place == 256 {
+        if is_lost(*word, place) {
             return Some(Demotion::Coordinate(place));
         }
     }
     None
+}
+
+/// Whether a vertical coordinate at this place would be lost.
+fn is_lost(word: u32, place: u32) -> bool
+    ensures { result ≡ losses.is_lost word place }
+{
+    ibm_of(word).is_none() || place == 256
 }

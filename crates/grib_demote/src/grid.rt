@@ -107,7 +107,17 @@ pub(crate) fn loses_rows(section3: &[u8], rows: &[u32]) -> bool
     requires rows { rows.now ≡ grid2.row_list section3.now }
     ensures { result ≡ grids.loses_rows section3.now }
 {
-    is_listed(section3) && (u8_at(section3, 12) != 1 || rows.iter().any(|row| *row > 65535))
+    if !is_listed(section3) {
+        return false;
+    }
+    u8_at(section3, 12) != 1 || has_long_row(rows)
+}
+
+/// Whether a row has more points than two octets tell.
+fn has_long_row(rows: &[u32]) -> bool
+    ensures { result ≡ grids.has_long_row rows.now }
+{
+    rows.iter().any(|row| *row > 65535)
 }
 
 /// An angle in 10^-3 degree, with its sign in the first bit of three octets.

@@ -2,6 +2,7 @@
 
 ghost use Rattle.std.specs.Prelude.{◌≡◌, ◌+◌, ◌*◌, ◌^◌, ◌≤◌, ◌<◌, length, IfSome};
 ghost use Rattle.grib_demote.specs.Levels as levels;
+ghost use Rattle.grib_demote.specs.Held.{IsOne, AreOnes};
 
 use grib_bits::{u8_at, u32_at};
 use grib_migrate::{Surface, Surfaces, surfaces_at};
@@ -67,6 +68,7 @@ fn level_with(first: &Surface, second: &Surface, level_type: u8) -> Option<Level
 
 /// The number of a level with these surfaces, where those of number 1, or of top 1 and bottom 1, are given.
 fn number_by(first: &Surface, second: &Surface, one: &Surfaces) -> Option<u16>
+    requires { AreOnes one.now }
     ensures { result ≡ levels.number_by first.now second.now one.now }
 {
     if one.first.kind != first.kind || one.second.kind != second.kind {
@@ -115,18 +117,34 @@ fn number_in(one: &Surface, found: &Surface) -> Option<u128>
         return None;
     }
     let is_negative = found.scale_factor > 127;
-    let whole = u128::from(found.scaled_value)
-        * u128::from(ten_to(one.scale_factor))
-        * u128::from(if is_negative { ten_to(places) } else { 1 });
-    let part =
-        u128::from(one.scaled_value) * u128::from(if is_negative { 1 } else { ten_to(places) });
-    (whole % part == 0).then(|| whole / part)
+    let whole = u128::from(scaled(found.scaled_value, is_negative, places))
+        * u128::from(ten_to(one.scale_factor));
+    let part = u128::from(scaled(one.scaled_value, !is_negative, places));
+    if whole % part != 0 {
+        return None;
+    }
+    Some(whole / part)
+}
+
+/// A number, times 10 to this power where that applies.
+fn scaled(number: u32, applies: bool, places: u8) -> u64
+    requires { places ≤ 9 }
+    ensures number { result ≡ number * levels.ten_to applies places }
+    ensures some { 1 ≤ number → 1 ≤ result }
+{
+    if applies {
+        u64::from(number) * u64::from(ten_to(places))
+    } else {
+        u64::from(number)
+    }
 }
 
 /// 10 to this power.
 fn ten_to(places: u8) -> u32
     requires { places ≤ 9 }
-    ensures { result ≡ 10 ^ places }
+    ensures power { result ≡ 10 ^ places }
+    ensures some { 1 ≤ result }
+    ensures few { result ≤ 1000000000 }
 {
     match places {
         0 => 1,

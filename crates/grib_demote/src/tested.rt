@@ -148,12 +148,8 @@ fn tested_zero(section3: &[u8], first: u32) -> Tested
 fn loss_among(numbers: &[Tested]) -> Option<Demotion>
     ensures { result ≡ grids.loss_among numbers.now }
 {
-    for number in numbers {
-        if !number.fits {
-            return Some(Demotion::GridNumber(number.first));
-        }
-    }
-    None
+    let number = numbers.iter().find(|number| !number.fits)?;
+    Some(Demotion::GridNumber(number.first))
 }
 
 /// That of template 3.0 or 3.40.

@@ -9,5 +9,8 @@ use grib_dyadic::Dyadic;
 pub(crate) fn ibm_of(word: u32) -> Option<u32>
     ensures { result ≡ words.ibm_of word }
 {
-    Dyadic::from_ieee(word).ok()?.to_ibm()
+    let Ok(number) = Dyadic::from_ieee(word) else {
+        return None;
+    };
+    number.to_ibm()
 }
