@@ -109,6 +109,9 @@ tested_ni s = tested 31 (is_listed s || count_fits (ni s))
 abbrev pub tested_nj : List ℕ → Tested
 tested_nj s = tested 35 (count_fits (nj s))
 
+abbrev pub tested_last : List ℕ → Tested
+tested_last s = cond (grid_template s == 40) (tested 68 (not (nat_lt 65535 (four s 68)))) (tested_increment s 68)
+
 abbrev pub lat_lon_tested : List ℕ → List Tested
 lat_lon_tested s =
     tested_ni s
@@ -119,7 +122,7 @@ lat_lon_tested s =
     ∷ tested_angle s 56  -- La2
     ∷ tested_longitude s 60  -- Lo2
     ∷ tested_increment s 64  -- Di
-    ∷ tested 68 (cond (grid_template s == 40) (not (nat_lt 65535 (four s 68))) (increment_fits (are_given s) (four s 68)))  -- N, or Dj
+    ∷ tested_last s  -- N, or Dj
     ∷ []
 
 abbrev pub mercator_tested : List ℕ → List Tested
@@ -197,6 +200,13 @@ longitude_at s first = Three (longitude (four s first))
 abbrev pub distance_at : List ℕ → ℕ → Number
 distance_at s first = Three (distance (four s first))
 
+abbrev pub increment_at : List ℕ → ℕ → Number
+increment_at s first = Two (increment (are_given s) (four s first))
+
+-- N of template 3.40, Dj of template 3.0
+abbrev pub last_number : List ℕ → Number
+last_number s = cond (grid_template s == 40) (Two (four s 68)) (increment_at s 68)
+
 -- octets 4-10, with the number of vertical coordinates and the type of grid
 abbrev pub has_far_lists : List ℕ → Bool
 has_far_lists s = (grid_template s == 10) || (grid_template s == 30)
@@ -221,8 +231,8 @@ lat_lon s =
     ∷ One (old_flags s)  -- 17
     ∷ angle_at s 56  -- 18-20: La2
     ∷ longitude_at s 60  -- 21-23: Lo2
-    ∷ Two (increment (are_given s) (four s 64))  -- 24-25: Di
-    ∷ Two (cond (grid_template s == 40) (four s 68) (increment (are_given s) (four s 68)))  -- 26-27: N, or Dj
+    ∷ increment_at s 64  -- 24-25: Di
+    ∷ last_number s  -- 26-27: N, or Dj
     ∷ One (scanning s)  -- 28
     ∷ Four 0  -- 29-32
     ∷ []
@@ -256,6 +266,10 @@ polar s =
     ∷ One (scanning s)  -- 28
     ∷ []
 
+-- octets 29-32 of type 5
+abbrev pub polar_end : List Number
+polar_end = Four 0 ∷ []
+
 -- octets 29-42 of type 3
 abbrev pub lambert : List ℕ → List Number
 lambert s =
@@ -271,4 +285,4 @@ abbrev pub template_numbers : List ℕ → List Number
 template_numbers s =
     let t = grid_template s in
     cond (t == 10) (mercator s)
-    (cond (t == 20) (polar s ++ (Four 0 ∷ [])) (cond (t == 30) (polar s ++ lambert s) (lat_lon s)))
+    (cond (t == 20) (polar s ++ polar_end) (cond (t == 30) (polar s ++ lambert s) (lat_lon s)))

@@ -3,6 +3,7 @@
 ghost use Rattle.std.specs.Prelude.{◌≡◌, ◌≢◌, ◌≤◌, length};
 ghost use Rattle.grib2_sections.specs.Head.{discipline};
 ghost use Rattle.grib2_message.specs.Fields.{field_count, part_octets};
+ghost use Rattle.grib2_message.specs.Message.{FieldPasses};
 ghost use Rattle.grib_demote.specs.Held.{Holds};
 
 use grib_base::Section;
@@ -34,6 +35,7 @@ impl<'a> Field<'a> {
         ensures packing { result.packing.now ≡ part_octets message.now field 5 }
         ensures holds { Holds (part_octets message.now field 1) (part_octets message.now field 3)
             (part_octets message.now field 4) (part_octets message.now field 5) }
+        ensures passes { FieldPasses message.now field }
     {
         Field {
             discipline: u8_at(message.octets(), 7),
@@ -53,7 +55,8 @@ pub(crate) fn there<'a>(message: &Message<'a>, field: u32, number: u8) -> Sectio
     requires low { 1 ≤ number }
     requires high { number ≤ 7 }
     requires present { number ≢ 2 }
-    ensures { result.octets.now ≡ part_octets message.now field number }
+    ensures octets { result.octets.now ≡ part_octets message.now field number }
+    ensures passes { FieldPasses message.now field }
 {
     let Some(section) = message.part(field, number) else {
         unreachable!();

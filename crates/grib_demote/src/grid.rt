@@ -7,6 +7,7 @@ ghost use Rattle.grib2_grids.specs.Whole.{IsWhole};
 ghost use Rattle.grib_demote.specs.Numbers.{all_octets};
 ghost use Rattle.grib_demote.specs.Grids as grids;
 
+use crate::Number;
 use crate::number::Number::{Four, One, Three, Two};
 use crate::number::add_numbers;
 use grib_bits::{u8_at, u16_at, u32_at};
@@ -212,6 +213,59 @@ pub(crate) fn add_header(
     )
 }
 
+/// The angle in the four octets from `first` on, in three.
+fn angle_at(section3: &[u8], first: usize) -> Number
+    requires counted { 1 ≤ first }
+    requires near { first < 2 ^ 16 }
+    requires within { first + 3 ≤ length section3.now }
+    ensures { result ≡ grids.angle_at section3.now first }
+{
+    Three(angle(u32_at(section3, first)))
+}
+
+/// The longitude in the four octets from `first` on, in three.
+fn longitude_at(section3: &[u8], first: usize) -> Number
+    requires counted { 1 ≤ first }
+    requires near { first < 2 ^ 16 }
+    requires within { first + 3 ≤ length section3.now }
+    ensures { result ≡ grids.longitude_at section3.now first }
+{
+    Three(longitude(u32_at(section3, first)))
+}
+
+/// The length in the four octets from `first` on, in three.
+fn distance_at(section3: &[u8], first: usize) -> Number
+    requires counted { 1 ≤ first }
+    requires near { first < 2 ^ 16 }
+    requires within { first + 3 ≤ length section3.now }
+    ensures { result ≡ grids.distance_at section3.now first }
+{
+    Three(distance(u32_at(section3, first)))
+}
+
+/// The increment in the four octets from `first` on, in two.
+fn increment_at(section3: &[u8], first: usize) -> Number
+    requires long { 65 ≤ length section3.now }
+    requires counted { 1 ≤ first }
+    requires near { first < 2 ^ 16 }
+    requires within { first + 3 ≤ length section3.now }
+    ensures { result ≡ grids.increment_at section3.now first }
+{
+    Two(increment(are_given(section3), u32_at(section3, first)))
+}
+
+/// N of template 3.40, Dj of template 3.0.
+fn last_number(section3: &[u8]) -> Number
+    requires { 72 ≤ length section3.now }
+    ensures { result ≡ grids.last_number section3.now }
+{
+    if u16_at(section3, 13) == 40 {
+        Two(u32_at(section3, 68))
+    } else {
+        increment_at(section3, 68)
+    }
+}
+
 /// Adds octet 11 and further, before the lists.
 pub(crate) fn add_template(section3: &[u8], out: &mut Vec<u8>) -> Result<(), AllocError>
     requires { IsWhole section3.now }
@@ -219,14 +273,8 @@ pub(crate) fn add_template(section3: &[u8], out: &mut Vec<u8>) -> Result<(), All
 {
     match u16_at(section3, 13) {
         10 => add_mercator(section3, out),
-        20 => {
-            add_polar(section3, out)?;
-            add_numbers(&[Four(0)], out)
-        }
-        30 => {
-            add_polar(section3, out)?;
-            add_lambert(section3, out)
-        }
+        20 => add_polar_stereographic(section3, out),
+        30 => add_lambert(section3, out),
         _ => add_lat_lon(section3, out),
     }
 }
@@ -237,27 +285,7 @@ fn add_lat_lon(section3: &[u8], out: &mut Vec<u8>) -> Result<(), AllocError>
     requires long { 72 ≤ length section3.now }
     ensures { OnOk result (out.new.items ≡ out.old.items ++ all_octets (grids.lat_lon section3.now)) }
 {
-    let given = are_given(section3);
-    let last = u32_at(section3, 68);
-    let last = if u16_at(section3, 13) == 40 {
-        last
-    } else {
-        increment(given, last)
-    };
-    add_numbers(
-        &[
-            Three(angle(u32_at(section3, 47))),
-            Three(longitude(u32_at(section3, 51))),
-            One(old_flags(section3)),
-            Three(angle(u32_at(section3, 56))),
-            Three(longitude(u32_at(section3, 60))),
-            Two(increment(given, u32_at(section3, 64))),
-            Two(last),
-            One(scanning(section3)),
-            Four(0),
-        ],
-        out,
-    )
+    add_numbers(&lat_lon_numbers(section3), out)
 }
 
 /// Adds octets 11 to 42 of type 1.
@@ -266,23 +294,7 @@ fn add_mercator(section3: &[u8], out: &mut Vec<u8>) -> Result<(), AllocError>
     requires long { 72 ≤ length section3.now }
     ensures { OnOk result (out.new.items ≡ out.old.items ++ all_octets (grids.mercator section3.now)) }
 {
-    add_numbers(
-        &[
-            Three(angle(u32_at(section3, 39))),
-            Three(longitude(u32_at(section3, 43))),
-            One(old_flags(section3)),
-            Three(angle(u32_at(section3, 52))),
-            Three(longitude(u32_at(section3, 56))),
-            Three(angle(u32_at(section3, 48))),
-            One(0),
-            One(scanning(section3)),
-            Three(distance(u32_at(section3, 65))),
-            Three(distance(u32_at(section3, 69))),
-            Four(0),
-            Four(0),
-        ],
-        out,
-    )
+    add_numbers(&mercator_numbers(section3), out)
 }
 
 /// Adds octets 11 to 28 of types 5 and 3.
@@ -290,34 +302,98 @@ fn add_polar(section3: &[u8], out: &mut Vec<u8>) -> Result<(), AllocError>
     requires { IsWhole section3.now }
     ensures { OnOk result (out.new.items ≡ out.old.items ++ all_octets (grids.polar section3.now)) }
 {
-    add_numbers(
-        &[
-            Three(angle(u32_at(section3, 39))),
-            Three(longitude(u32_at(section3, 43))),
-            One(old_flags(section3)),
-            Three(longitude(u32_at(section3, 52))),
-            Three(distance(u32_at(section3, 56))),
-            Three(distance(u32_at(section3, 60))),
-            One(u8_at(section3, 64)),
-            One(scanning(section3)),
-        ],
-        out,
-    )
+    add_numbers(&polar_numbers(section3), out)
 }
 
-/// Adds octets 29 to 42 of type 3.
-fn add_lambert(section3: &[u8], out: &mut Vec<u8>) -> Result<(), AllocError>
-    requires { 81 ≤ length section3.now }
-    ensures { OnOk result (out.new.items ≡ out.old.items ++ all_octets (grids.lambert section3.now)) }
+/// Adds octets 11 to 32 of type 5.
+fn add_polar_stereographic(section3: &[u8], out: &mut Vec<u8>) -> Result<(), AllocError>
+    requires { IsWhole section3.now }
+    ensures { OnOk result (out.new.items ≡ out.old.items
+        ++ all_octets (grids.polar section3.now ++ grids.polar_end)) }
 {
-    add_numbers(
-        &[
-            Three(angle(u32_at(section3, 66))),
-            Three(angle(u32_at(section3, 70))),
-            Three(angle(u32_at(section3, 74))),
-            Three(longitude(u32_at(section3, 78))),
+    add_polar(section3, out)?;
+    add_numbers(&[Four(0)], out)
+}
+
+/// Adds octets 11 to 42 of type 3.
+fn add_lambert(section3: &[u8], out: &mut Vec<u8>) -> Result<(), AllocError>
+    requires whole { IsWhole section3.now }
+    requires long { 81 ≤ length section3.now }
+    ensures { OnOk result (out.new.items ≡ out.old.items
+        ++ all_octets (grids.polar section3.now ++ grids.lambert section3.now)) }
+{
+    add_polar(section3, out)?;
+    add_numbers(&lambert_numbers(section3), out)
+}
+
+/// The numbers of octets 11 to 32 of types 0 and 4.
+fn lat_lon_numbers(section3: &[u8]) -> [Number; 9]
+    requires whole { IsWhole section3.now }
+    requires long { 72 ≤ length section3.now }
+    ensures { result ≡ grids.lat_lon section3.now }
+{
+    [
+            angle_at(section3, 47),
+            longitude_at(section3, 51),
+            One(old_flags(section3)),
+            angle_at(section3, 56),
+            longitude_at(section3, 60),
+            increment_at(section3, 64),
+            last_number(section3),
+            One(scanning(section3)),
+            Four(0),
+    ]
+}
+
+/// The numbers of octets 11 to 42 of type 1.
+fn mercator_numbers(section3: &[u8]) -> [Number; 12]
+    requires whole { IsWhole section3.now }
+    requires long { 72 ≤ length section3.now }
+    ensures { result ≡ grids.mercator section3.now }
+{
+    [
+            angle_at(section3, 39),
+            longitude_at(section3, 43),
+            One(old_flags(section3)),
+            angle_at(section3, 52),
+            longitude_at(section3, 56),
+            angle_at(section3, 48),
+            One(0),
+            One(scanning(section3)),
+            distance_at(section3, 65),
+            distance_at(section3, 69),
+            Four(0),
+            Four(0),
+    ]
+}
+
+/// The numbers of octets 11 to 28 of types 5 and 3.
+fn polar_numbers(section3: &[u8]) -> [Number; 8]
+    requires { IsWhole section3.now }
+    ensures { result ≡ grids.polar section3.now }
+{
+    [
+            angle_at(section3, 39),
+            longitude_at(section3, 43),
+            One(old_flags(section3)),
+            longitude_at(section3, 52),
+            distance_at(section3, 56),
+            distance_at(section3, 60),
+            One(u8_at(section3, 64)),
+            One(scanning(section3)),
+    ]
+}
+
+/// The numbers of octets 29 to 42 of type 3.
+fn lambert_numbers(section3: &[u8]) -> [Number; 5]
+    requires { 81 ≤ length section3.now }
+    ensures { result ≡ grids.lambert section3.now }
+{
+    [
+            angle_at(section3, 66),
+            angle_at(section3, 70),
+            angle_at(section3, 74),
+            longitude_at(section3, 78),
             Two(0),
-        ],
-        out,
-    )
+    ]
 }

@@ -144,6 +144,35 @@ fn tested_zero(section3: &[u8], first: u32) -> Tested
     }
 }
 
+/// The increment in the four octets from `first` on.
+fn tested_increment(section3: &[u8], first: u32) -> Tested
+    requires long { 65 ≤ length section3.now }
+    requires counted { 1 ≤ first }
+    requires near { first < 2 ^ 16 }
+    requires within { first + 3 ≤ length section3.now }
+    ensures { result ≡ grids.tested_increment section3.now first }
+{
+    Tested {
+        first,
+        fits: increment_fits(are_given(section3), u32_at(section3, first as usize)),
+    }
+}
+
+/// N of template 3.40, Dj of template 3.0.
+fn tested_last(section3: &[u8]) -> Tested
+    requires { 72 ≤ length section3.now }
+    ensures { result ≡ grids.tested_last section3.now }
+{
+    if u16_at(section3, 13) == 40 {
+        Tested {
+            first: 68,
+            fits: u32_at(section3, 68) <= 65535,
+        }
+    } else {
+        tested_increment(section3, 68)
+    }
+}
+
 /// The first of some numbers that does not fit.
 fn loss_among(numbers: &[Tested]) -> Option<Demotion>
     ensures { result ≡ grids.loss_among numbers.now }
@@ -157,13 +186,6 @@ fn lat_lon_loss(section3: &[u8]) -> Option<Demotion>
     requires { 72 ≤ length section3.now }
     ensures { result ≡ grids.loss_among (grids.lat_lon_tested section3.now) }
 {
-    let given = are_given(section3);
-    let last = u32_at(section3, 68);
-    let last_fits = if u16_at(section3, 13) == 40 {
-        last <= 65535
-    } else {
-        increment_fits(given, last)
-    };
     loss_among(&[
         tested_ni(section3),
         tested_nj(section3),
@@ -172,14 +194,8 @@ fn lat_lon_loss(section3: &[u8]) -> Option<Demotion>
         tested_longitude(section3, 51),
         tested_angle(section3, 56),
         tested_longitude(section3, 60),
-        Tested {
-            first: 64,
-            fits: increment_fits(given, u32_at(section3, 64)),
-        },
-        Tested {
-            first: 68,
-            fits: last_fits,
-        },
+        tested_increment(section3, 64),
+        tested_last(section3),
     ])
 }
 
