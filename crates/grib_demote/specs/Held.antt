@@ -1,14 +1,17 @@
 -- What the sections of a field hold, for private functions.
-use Rattle.std.specs.Prelude.{◌≡◌, ◌≢◌, ◌≤◌, ◌<◌, ◌^◌, true, false, List, ℕ, length}
+use Rattle.std.specs.Prelude.{◌≡◌, ◌≢◌, ◌≤◌, ◌<◌, ◌^◌, true, false, Some, option_map, List, ℕ, length}
 use Rattle.grib2_grids.specs.Whole.{IsWhole as IsWholeGrid, HasList}
 use Rattle.grib2_products.specs.Whole.{IsWhole as IsWholeProduct}
 use Rattle.grib_packing.specs.declared.written.Packed.{Packed}
 use Rattle.grib_migrate.specs.declared.level.Surface.{Surface}
 use Rattle.grib_migrate.specs.declared.level.Surfaces.{Surfaces}
 use Rattle.grib_demote.specs.declared.field.Field.{Field}
-use Rattle.grib_demote.specs.Dates.{reference_time}
-use Rattle.grib_demote.specs.Times.{has_process, has_range, is_interval}
-use Rattle.grib_demote.specs.Products.{centre, sub_centre}
+use Rattle.grib_params.specs.Table.{Entries}
+use Rattle.grib_demote.specs.declared.level.Level.{Level}
+use Rattle.grib_demote.specs.Levels.{level_of}
+use Rattle.grib_demote.specs.Dates.{reference_time, loses_date}
+use Rattle.grib_demote.specs.Times.{unit_of, has_process, has_range, is_interval, loses_interval}
+use Rattle.grib_demote.specs.Products.{centre, sub_centre, loses_centre, pair_in}
 
 -- the sections of a field, each with its template and its lists as a whole
 pub record Holds (s1 s3 s4 s5 : List ℕ) : Type 0 where
@@ -17,6 +20,19 @@ pub record Holds (s1 s3 s4 s5 : List ℕ) : Type 0 where
   pub list : HasList s3
   pub product : IsWholeProduct s4
   pub packing : 21 ≤ length s5
+
+-- the version, the parameter and the level of a field
+pub record IsParameter (table : Entries) (field : Field) (found : ℕ × ℕ × Level) : Type 0 where
+  pub pair : pair_in table field.discipline field.identification.now field.product.now ≡ Some (found.0, found.1)
+  pub level : level_of field.product.now ≡ Some found.2
+  pub centre_fits : loses_centre field.identification.now ≡ false
+
+-- the times of Sections 1 and 4, with the code of their unit
+pub record AreTimes (s1 s4 : List ℕ) (unit : ℕ) : Type 0 where
+  pub unit_is : option_map (λ row. row.old) (unit_of s4) ≡ Some unit
+  pub process : has_process s4 ≡ true
+  pub date : loses_date s1 ≡ false
+  pub interval : loses_interval s1 s4 ≡ false
 
 -- the numbers that Section 1 of edition 1 has fit their octets
 pub record IsDemoted (field : Field) : Type 0 where

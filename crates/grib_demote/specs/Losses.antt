@@ -60,19 +60,27 @@ loss_of packing.DifferenceRange = losses.OutOfRange 0
 abbrev pub column_loss : List Point → Option Demotion
 column_loss points = option_map loss_of (first_misfit ToSimple points)
 
--- the losses of Sections 1 and 4, and of the template of Section 3
-abbrev pub product_losses : Entries → ℕ → List ℕ → List ℕ → List ℕ → List (Option Demotion)
-product_losses table discipline s1 s3 s4 =
+-- the losses of the templates, the parameter and the level
+abbrev pub parameter_losses : Entries → ℕ → List ℕ → List ℕ → List ℕ → List (Option Demotion)
+parameter_losses table discipline s1 s3 s4 =
     lost_where (loses_product s4) losses.Product
     ∷ lost_where (is_none (type_of (grid_template s3))) losses.GridTemplate
     ∷ lost_where (loses_centre s1) losses.Centre
     ∷ lost_where (is_none (pair_in table discipline s1 s4)) losses.Parameter
     ∷ lost_where (is_none (level_of s4)) losses.Level
-    ∷ lost_where (is_none (unit_of s4)) losses.TimeUnit
+    ∷ []
+
+-- those of the times
+abbrev pub time_losses : List ℕ → List ℕ → List (Option Demotion)
+time_losses s1 s4 =
+    lost_where (is_none (unit_of s4)) losses.TimeUnit
     ∷ lost_where (not (has_process s4)) losses.Process
     ∷ lost_where (loses_date s1) losses.Date
     ∷ lost_where (loses_interval s1 s4) losses.Interval
     ∷ []
+
+abbrev pub product_losses : Entries → ℕ → List ℕ → List ℕ → List ℕ → List (Option Demotion)
+product_losses table discipline s1 s3 s4 = parameter_losses table discipline s1 s3 s4 ++ time_losses s1 s4
 
 -- those of Section 2, and of the earth, the flags and the list of rows of Section 3
 abbrev pub form_losses : Bool → Bool → List ℕ → List ℕ → List (Option Demotion)

@@ -3,16 +3,17 @@
 ghost use Rattle.std.specs.Prelude.{◌≡◌, ◌≤◌, ◌<◌, ◌+◌, None, Some, true, false, length, List, MatchResult};
 ghost use Rattle.grib2_grids.specs.Grid.{row_list};
 ghost use Rattle.grib_demote.specs.Losses as losses;
-ghost use Rattle.grib_demote.specs.Losses.{first_of, product_losses, form_losses, coordinate_loss};
+ghost use Rattle.grib_demote.specs.Losses.{first_of, product_losses, parameter_losses, time_losses, form_losses, coordinate_loss};
 ghost use Rattle.grib_demote.specs.Demoted.{told_in};
-ghost use Rattle.grib_demote.specs.Held.{Holds, IsDemoted};
+ghost use Rattle.grib2_products.specs.Whole.{IsWhole};
+ghost use Rattle.grib_demote.specs.Held.{Holds, IsDemoted, IsParameter, AreTimes};
 ghost use Rattle.grib_demote.specs.Products as products;
 
 use crate::Demotion;
 use crate::date::loses_date;
 use crate::field::Field;
 use crate::grid::{loses_flags, loses_rows, type_of};
-use crate::level::level_of;
+use crate::level::{Level, level_of};
 use crate::product::{Told, has_local};
 use crate::time::{has_process, loses_interval, unit_of};
 use crate::word::ibm_of;
@@ -31,9 +32,30 @@ pub(crate) fn check_product(field: &Field<'_>, table: &Table) -> Result<Told, De
         (λ loss. first_of (product_losses table.now field.now.discipline field.now.identification.now
         field.now.grid.now field.now.product.now) ≡ Some loss) }
 {
+    let (version, parameter, level) = check_parameter(field, table)?;
+    let unit = check_times(field.identification, field.product)?;
+    Ok(Told {
+        version,
+        parameter,
+        level,
+        unit,
+    })
+}
+
+/// The version, the parameter and the level of a field, or the first of them or of the templates that would be
+/// lost.
+fn check_parameter(field: &Field<'_>, table: &Table) -> Result<(u8, u8, Level), Demotion>
+    requires { Holds field.now.identification.now field.now.grid.now field.now.product.now field.now.packing.now }
+    ensures { MatchResult result
+        (λ found. (first_of (parameter_losses table.now field.now.discipline field.now.identification.now
+        field.now.grid.now field.now.product.now) ≡ None)
+        × IsParameter table.now field.now found)
+        (λ loss. first_of (parameter_losses table.now field.now.discipline field.now.identification.now
+        field.now.grid.now field.now.product.now) ≡ Some loss) }
+{
     let section1 = field.identification;
     let section4 = field.product;
-    if !matches!(u16_at(section4, 8), 0 | 8) {
+    if loses_product(section4) {
         return Err(Demotion::Product);
     }
     if type_of(u16_at(field.grid, 13)).is_none() {
@@ -48,6 +70,18 @@ pub(crate) fn check_product(field: &Field<'_>, table: &Table) -> Result<Told, De
     let Some(level) = level_of(section4) else {
         return Err(Demotion::Level);
     };
+    Ok((version, parameter, level))
+}
+
+/// The code of the unit of time, or the first of the times that would be lost.
+fn check_times(section1: &[u8], section4: &[u8]) -> Result<u8, Demotion>
+    requires identification { 21 ≤ length section1.now }
+    requires product { IsWhole section4.now }
+    ensures { MatchResult result
+        (λ unit. (first_of (time_losses section1.now section4.now) ≡ None)
+        × AreTimes section1.now section4.now unit)
+        (λ loss. first_of (time_losses section1.now section4.now) ≡ Some loss) }
+{
     let Some(unit) = unit_of(section4) else {
         return Err(Demotion::TimeUnit);
     };
@@ -60,12 +94,15 @@ pub(crate) fn check_product(field: &Field<'_>, table: &Table) -> Result<Told, De
     if loses_interval(section1, section4, &unit) {
         return Err(Demotion::Interval);
     }
-    Ok(Told {
-        version,
-        parameter,
-        level,
-        unit: unit.code,
-    })
+    Ok(unit.code)
+}
+
+/// Whether the product is not one of template 4.0 or 4.8.
+fn loses_product(section4: &[u8]) -> bool
+    requires { 34 ≤ length section4.now }
+    ensures { result ≡ losses.loses_product section4.now }
+{
+    !matches!(u16_at(section4, 8), 0 | 8)
 }
 
 /// Whether the centre or the sub-centre has no place in one octet.
@@ -131,7 +168,8 @@ fn loses_shape(section3: &[u8], any_earth: bool) -> bool
 /// The first vertical coordinate that would be lost.
 pub(crate) fn coordinate_loss(coordinates: &[u32]) -> Option<Demotion>
     requires { length coordinates.now < 65536 }
-    ensures { result ≡ losses.coordinate_loss coordinates.now }
+    ensures loss { result ≡ losses.coordinate_loss coordinates.now }
+    ensures few { result ≡ None → length coordinates.now ≤ 255 }
 {
     let mut place: u32 = 0;
     for word in coordinates {

@@ -24,11 +24,12 @@ use crate::field::{Field, there};
 use crate::grid::{add_header, add_template, type_of};
 use crate::number::Number::Four;
 use crate::number::{add_numbers, add_section, add_three, add_two};
-use crate::product::{Told, add_identification, add_local};
+use crate::product::{Told, product_octets};
 use crate::tested::grid_loss;
-use crate::values::{bitmap_octets, data_octets, has_bitmap};
+use crate::values::{add_bitmap, data_octets, has_bitmap};
 use crate::word::ibm_of;
 use crate::{DemoteFault, Demotion};
+use grib_base::List;
 use grib_bits::{u8_at, u16_at, u32_at};
 use grib_packed::laws::one_packing_is_written;
 use grib_packing::{PackFault, Packed, Packing};
@@ -92,26 +93,44 @@ fn grid_octets(
         (IsDemoteFault (first_of (losses.shape_losses keep_local any_earth message.now field))) }
 {
     let parts = Field::of(message, field);
-    let rows = match read_grid(alloc, &there(message, field, 3)) {
-        Ok(grid) => grid.rows,
-        Err(GridFault::Memory) => return Err(DemoteFault::Memory),
-        Err(GridFault::Refused(_)) => unreachable!(),
-    };
+    let rows = rows_of(alloc, message, field)?;
     if let Some(loss) = form_loss(&parts, rows.as_slice(), keep_local, any_earth) {
         return Err(DemoteFault::Lost(loss));
     }
     if let Some(loss) = grid_loss(parts.grid) {
         return Err(DemoteFault::Lost(loss));
     }
-    let coordinates = match read_product(alloc, &there(message, field, 4)) {
-        Ok(product) => product.coordinates,
-        Err(ProductFault::Memory) => return Err(DemoteFault::Memory),
-        Err(ProductFault::Refused(_)) => unreachable!(),
-    };
+    let coordinates = coordinates_of(alloc, message, field)?;
     if let Some(loss) = coordinate_loss(coordinates.as_slice()) {
         return Err(DemoteFault::Lost(loss));
     }
     Ok(grid_section(alloc, parts.grid, coordinates.as_slice(), rows.as_slice())?)
+}
+
+/// The list of rows of the grid of a field.
+fn rows_of(alloc: Global, message: &Message<'_>, field: u32) -> Result<List<u32>, AllocError>
+    requires first { 1 ≤ field }
+    requires last { field ≤ field_count message.now }
+    ensures { IfOk result (λ rows. rows ≡ row_list (part_octets message.now field 3)) }
+{
+    match read_grid(alloc, &there(message, field, 3)) {
+        Ok(grid) => Ok(grid.rows),
+        Err(GridFault::Memory) => Err(AllocError),
+        Err(GridFault::Refused(_)) => unreachable!(),
+    }
+}
+
+/// The vertical coordinates of a field.
+fn coordinates_of(alloc: Global, message: &Message<'_>, field: u32) -> Result<List<u32>, AllocError>
+    requires first { 1 ≤ field }
+    requires last { field ≤ field_count message.now }
+    ensures { IfOk result (λ coordinates. coordinates ≡ coordinate_list (part_octets message.now field 4)) }
+{
+    match read_product(alloc, &there(message, field, 4)) {
+        Ok(product) => Ok(product.coordinates),
+        Err(ProductFault::Memory) => Err(AllocError),
+        Err(ProductFault::Refused(_)) => unreachable!(),
+    }
 }
 
 /// Octet 4 and further of Section 2, with these vertical coordinates and this list of rows.
@@ -157,11 +176,7 @@ fn add_rows(rows: &[u32], out: &mut Vec<u8>) -> Result<(), AllocError>
 
 /// Sections 5, 6 and 7 of a field in simple packing, or the loss of its reference value or of its first point that
 /// does not fit.
-fn pack_simply(
-    alloc: Global,
-    message: &Message<'_>,
-    field: u32,
-) -> Result<Packed, DemoteFault>
+fn pack_simply(alloc: Global, message: &Message<'_>, field: u32) -> Result<Packed, DemoteFault>
     requires first { 1 ≤ field }
     requires last { field ≤ field_count message.now }
     ensures { MatchResult result
@@ -202,17 +217,13 @@ fn all_sections(
         field.now.identification.now field.now.local.now field.now.product.now field.now.packing.now
         grid.now packed.now points) }
 {
-    let bitmapped = has_bitmap(packed);
-    let mut identification = Vec::new(alloc);
-    add_identification(field, told, bitmapped, &mut identification)?;
-    add_local(field.local, keep_local, &mut identification)?;
+    let identification = product_octets(alloc, field, told, keep_local, has_bitmap(packed))?;
+    let data = data_octets(alloc, field.packing, packed)?;
     let mut sections = Vec::new(alloc);
-    add_section(&identification, &mut sections)?;
+    add_section(identification.as_slice(), &mut sections)?;
     add_section(grid, &mut sections)?;
-    if bitmapped {
-        add_section(&bitmap_octets(alloc, packed, points)?, &mut sections)?;
-    }
-    add_section(&data_octets(alloc, field.packing, packed)?, &mut sections)?;
+    add_bitmap(alloc, packed, points, &mut sections)?;
+    add_section(data.as_slice(), &mut sections)?;
     Ok(sections)
 }
 

@@ -333,15 +333,15 @@ fn lat_lon_numbers(section3: &[u8]) -> [Number; 9]
     ensures { result ≡ grids.lat_lon section3.now }
 {
     [
-            angle_at(section3, 47),
-            longitude_at(section3, 51),
-            One(old_flags(section3)),
-            angle_at(section3, 56),
-            longitude_at(section3, 60),
-            increment_at(section3, 64),
-            last_number(section3),
-            One(scanning(section3)),
-            Four(0),
+        angle_at(section3, 47),
+        longitude_at(section3, 51),
+        One(old_flags(section3)),
+        angle_at(section3, 56),
+        longitude_at(section3, 60),
+        increment_at(section3, 64),
+        last_number(section3),
+        One(scanning(section3)),
+        Four(0),
     ]
 }
 
@@ -352,18 +352,18 @@ fn mercator_numbers(section3: &[u8]) -> [Number; 12]
     ensures { result ≡ grids.mercator section3.now }
 {
     [
-            angle_at(section3, 39),
-            longitude_at(section3, 43),
-            One(old_flags(section3)),
-            angle_at(section3, 52),
-            longitude_at(section3, 56),
-            angle_at(section3, 48),
-            One(0),
-            One(scanning(section3)),
-            distance_at(section3, 65),
-            distance_at(section3, 69),
-            Four(0),
-            Four(0),
+        angle_at(section3, 39),
+        longitude_at(section3, 43),
+        One(old_flags(section3)),
+        angle_at(section3, 52),
+        longitude_at(section3, 56),
+        angle_at(section3, 48),
+        One(0),
+        One(scanning(section3)),
+        distance_at(section3, 65),
+        distance_at(section3, 69),
+        Four(0),
+        Four(0),
     ]
 }
 
@@ -373,14 +373,14 @@ fn polar_numbers(section3: &[u8]) -> [Number; 8]
     ensures { result ≡ grids.polar section3.now }
 {
     [
-            angle_at(section3, 39),
-            longitude_at(section3, 43),
-            One(old_flags(section3)),
-            longitude_at(section3, 52),
-            distance_at(section3, 56),
-            distance_at(section3, 60),
-            One(u8_at(section3, 64)),
-            One(scanning(section3)),
+        angle_at(section3, 39),
+        longitude_at(section3, 43),
+        One(old_flags(section3)),
+        longitude_at(section3, 52),
+        distance_at(section3, 56),
+        distance_at(section3, 60),
+        One(u8_at(section3, 64)),
+        One(scanning(section3)),
     ]
 }
 
@@ -390,10 +390,10 @@ fn lambert_numbers(section3: &[u8]) -> [Number; 5]
     ensures { result ≡ grids.lambert section3.now }
 {
     [
-            angle_at(section3, 66),
-            angle_at(section3, 70),
-            angle_at(section3, 74),
-            longitude_at(section3, 78),
-            Two(0),
+        angle_at(section3, 66),
+        angle_at(section3, 70),
+        angle_at(section3, 74),
+        longitude_at(section3, 78),
+        Two(0),
     ]
 }

@@ -12,12 +12,11 @@ mod level;
 mod number;
 mod product;
 mod tested;
+#[cfg(test)]
+mod tests;
 mod time;
 mod values;
 mod word;
-
-#[cfg(test)]
-mod tests;
 
 pub use demoting::demote;
 pub use demotion::{DemoteFault, Demotion};

@@ -10,20 +10,32 @@ use std::alloc::Global;
 use std::rt::HostRuntime;
 
 #[derive(Debug, Drop)]
-enum Fail { Table, One, Two, Lost(Demotion), Memory }
+enum Fail {
+    Table,
+    One,
+    Two,
+    Lost(Demotion),
+    Memory,
+}
 
 fn table(alloc: Global) -> Result<Table, Fail> {
     Table::read(alloc, b"98,2,11,0,0,0,2,0\n").map_err(|_| Fail::Table)
 }
 
 fn there(alloc: Global, octets: &[u8]) -> Result<Vec<u8>, Fail> {
-    let Ok(message) = read_message1(alloc, octets) else { return Err(Fail::One); };
-    let Ok(new) = migrate(alloc, &message, &table(alloc)?, true) else { return Err(Fail::One); };
+    let Ok(message) = read_message1(alloc, octets) else {
+        return Err(Fail::One);
+    };
+    let Ok(new) = migrate(alloc, &message, &table(alloc)?, true) else {
+        return Err(Fail::One);
+    };
     Ok(new)
 }
 
 fn back(alloc: Global, octets: &[u8], any: bool) -> Result<Vec<u8>, Fail> {
-    let Ok(message) = read_message(alloc, octets) else { return Err(Fail::Two); };
+    let Ok(message) = read_message(alloc, octets) else {
+        return Err(Fail::Two);
+    };
     match demote(alloc, &message, 1, &table(alloc)?, true, any) {
         Ok(octets) => Ok(octets),
         Err(DemoteFault::Lost(loss)) => Err(Fail::Lost(loss)),

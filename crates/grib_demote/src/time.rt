@@ -78,9 +78,7 @@ pub(crate) fn has_process(section4: &[u8]) -> bool
     if is_interval(section4) {
         return process == 2;
     }
-    (process == 0 && time == 0)
-        || (process == 1 && time <= 255)
-        || (process == 2 && time <= 65_535)
+    (process == 0 && time == 0) || (process == 1 && time <= 255) || (process == 2 && time <= 65_535)
 }
 
 /// The units from the reference time to the end of an interval.
