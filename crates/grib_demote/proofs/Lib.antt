@@ -5,3 +5,4 @@ pub mod Words
 pub mod Holding
 pub mod Products
 pub mod Grids
+pub mod Joining

@@ -1,6 +1,5 @@
 -- The message of edition 1 that has the values of a field of edition 2 (WMO-No. 306, Volume I.2, FM 92 GRIB).
-use Rattle.std.specs.Prelude.{ℕ, ◌+◌, Bool, cond, Option, Some, None, List, [], ◌∷◌, ◌++◌, length, nat_lt, unwrap_or}
-use Rattle.std.specs.Option.{option_map_or}
+use Rattle.std.specs.Prelude.{ℕ, ◌+◌, Bool, cond, Option, Some, None, List, [], ◌∷◌, ◌++◌, length, nat_lt, unwrap_or, option_map}
 use Rattle.grib_bits.specs.Encoding.{octets_of}
 use Rattle.grib_bits.specs.Listed.{numbers_octets}
 use Rattle.grib2_sections.specs.Head.{indicator, end_mark, discipline}
@@ -29,7 +28,7 @@ told_in table discipline s1 s4 = record {
   version = (unwrap_or (pair_in table discipline s1 s4) (0, 0)).0;
   parameter = (unwrap_or (pair_in table discipline s1 s4) (0, 0)).1;
   level = unwrap_or (level_of s4) (level 0 0);
-  unit = option_map_or (λ r. r.old) (unit_of s4) 0;
+  unit = unwrap_or (option_map (λ r. r.old) (unit_of s4)) 0;
 }
 
 -- Section 1
