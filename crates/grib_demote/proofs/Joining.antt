@@ -89,9 +89,9 @@ pub told_is : (table : Entries) (discipline : ℕ) (s1 s4 : List ℕ) (version p
 unfolding told_by
 told_is table discipline s1 s4 version parameter number unit pair_is level_is unit_is =
     sym (
-      ap (λ o. told_by o (level_of s4) (option_map (λ row. row.old) (unit_of s4))) pair_is
-      ∙ ap (λ o. told_by (Some (version, parameter)) o (option_map (λ row. row.old) (unit_of s4))) level_is
-      ∙ ap (λ o. told_by (Some (version, parameter)) (Some number) o) unit_is
+    ap (λ o. told_by o (level_of s4) (option_map (λ row. row.old) (unit_of s4))) pair_is
+    ∙ ap (λ o. told_by (Some (version, parameter)) o (option_map (λ row. row.old) (unit_of s4))) level_is
+    ∙ ap (λ o. told_by (Some (version, parameter)) (Some number) o) unit_is
     )
 
 both_true : (a b : Bool) → not (a && b) ≡ false → (a ≡ true) × (b ≡ true)

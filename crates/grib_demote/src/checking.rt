@@ -167,9 +167,7 @@ fn loses_shape(section3: &[u8], any_earth: bool) -> bool
 
 /// The first vertical coordinate that would be lost.
 pub(crate) fn coordinate_loss(coordinates: &[u32]) -> Option<Demotion>
-    requires { length coordinates.now < 65536 }
-    ensures loss { result ≡ losses.coordinate_loss coordinates.now }
-    ensures few { result ≡ None → length coordinates.now ≤ 255 }
+    ensures { result ≡ losses.coordinate_loss coordinates.now }
 {
     let mut place: u32 = 0;
     for word in coordinates {

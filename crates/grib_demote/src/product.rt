@@ -1,6 +1,7 @@
 //! Section 1: the product.
 
 ghost use Rattle.std.specs.Prelude.{◌≡◌, ◌+◌, ◌*◌, ◌≤◌, ◌<◌, ◌^◌, ◌++◌, true, false, length, OnOk, IfOk};
+ghost use Rattle.grib_bits.specs.Bits.{digit};
 ghost use Rattle.grib_demote.specs.Numbers.{all_octets};
 ghost use Rattle.grib_demote.specs.Dates as dates;
 ghost use Rattle.grib_demote.specs.Times as times;
@@ -64,7 +65,7 @@ fn identification_numbers(field: &Field<'_>, told: &Told, has_bitmap: bool) -> [
         One(u8_at(section1, 7)),
         One(u8_at(field.product, 14)),
         One(255),
-        One(128 + 64 * u8::from(has_bitmap)),
+        One(flags_of(has_bitmap)),
         One(told.parameter),
         One(told.level.level_type),
         Two(u32::from(told.level.number)),
@@ -83,6 +84,13 @@ fn identification_numbers(field: &Field<'_>, told: &Told, has_bitmap: bool) -> [
         One(u8_at(section1, 9)),
         Two(u32::from(u16_at(field.packing, 18))),
     ]
+}
+
+/// Octet 8: Section 2 is there, and Section 3 where there is a bitmap.
+fn flags_of(has_bitmap: bool) -> u8
+    ensures { result ≡ 128 + 64 * digit has_bitmap }
+{
+    128 + 64 * u8::from(has_bitmap)
 }
 
 /// Adds octets 29 and further, where the octets for the centre's own use are kept and there are any.
