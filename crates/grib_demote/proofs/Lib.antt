@@ -8,3 +8,4 @@ pub mod Grids
 pub mod Joining
 pub mod Refused
 pub mod Packing
+pub mod Wholes

@@ -17,7 +17,7 @@ use Rattle.grib_repack.specs.Repacked.{kind_of, packed_field}
 use Rattle.grib_repack.proofs.Packing.{IsOnly}
 use Rattle.grib_demote.specs.declared.demotion.Demotion.TheVariants.{Reference}
 use Rattle.grib_demote.specs.Words.{ibm_of}
-use Rattle.grib_demote.specs.Losses.{first_of, loss_of, column_loss, reference_loss, value_losses}
+use Rattle.grib_demote.specs.Losses.{first_of, loss_of, column_loss, loses_reference, reference_loss, value_losses}
 use Rattle.grib_demote.specs.Held.{HoldsPacked}
 use Rattle.grib_demote.proofs.Joining.{not_here}
 
@@ -34,7 +34,7 @@ same_parts : (p q : Packed) → (p.section5 ≡ q.section5) × (p.section6 ≡ q
 same_parts p q e = λ i. record { section5 = e.0 i; section6 = e.1 i; section7 = e.2 i }
 
 pub packed_found : (message : List ℕ) (i : ℕ) (column : Column) → column ≡ column_of message i → IsOnly → (kind : ℕ) (p : Packed) → kind ≡ kind_of message i
-    → is_none (ibm_of (reference_word (part_octets message i 5))) ≡ false
+    → loses_reference (part_octets message i 5) ≡ false
     → (first_misfit ToSimple column.points ≡ None) × HasPacked ToSimple column kind p.section5 p.section6 p.section7
     → (first_of (value_losses message i) ≡ None) × (p ≡ packed_field ToSimple message i) × HoldsPacked p
 packed_found message i column is only kind p kind_is there h =

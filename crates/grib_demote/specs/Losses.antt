@@ -96,8 +96,11 @@ abbrev pub number_losses : List ℕ → List ℕ → List (Option Demotion)
 number_losses s3 s4 = grid_loss s3 ∷ coordinate_loss (coordinate_list s4) ∷ []
 
 -- those of the values
+abbrev pub loses_reference : List ℕ → Bool
+loses_reference s5 = is_none (ibm_of (reference_word s5))
+
 abbrev pub reference_loss : List ℕ → Option Demotion
-reference_loss s5 = lost_where (is_none (ibm_of (reference_word s5))) losses.Reference
+reference_loss s5 = lost_where (loses_reference s5) losses.Reference
 
 -- The losses of field i, but for the length of its message.
 abbrev pub shape_losses : Bool → Bool → List ℕ → ℕ → List (Option Demotion)

@@ -71,8 +71,16 @@ pub fn demote(
     let grid = grid_octets(alloc, message, field, keep_local, any_earth)?;
     let packed = pack_simply(alloc, message, field)?;
     let points = u32_at(parts.grid, 7);
-    let sections = all_sections(alloc, &parts, &told, keep_local, &grid, &packed, points)?;
-    whole_message(alloc, &sections)
+    let sections = all_sections(
+        alloc,
+        &parts,
+        &told,
+        keep_local,
+        grid.as_slice(),
+        &packed,
+        points,
+    )?;
+    whole_message(alloc, sections.as_slice())
 }
 
 /// Octet 4 and further of Section 2, or the first thing of Section 2 of the field, of its grid or of its vertical
@@ -186,7 +194,7 @@ fn pack_simply(alloc: Global, message: &Message<'_>, field: u32) -> Result<Packe
 {
     one_packing_is_written();
     let section5 = there(message, field, 5).octets;
-    if ibm_of(u32_at(section5, 12)).is_none() {
+    if loses_reference(section5) {
         return Err(DemoteFault::Lost(Demotion::Reference));
     }
     let column = message.column(alloc, field)?;
@@ -199,6 +207,14 @@ fn pack_simply(alloc: Global, message: &Message<'_>, field: u32) -> Result<Packe
         Err(PackFault::DifferenceRange) => unreachable!(),
         Err(PackFault::Memory) => Err(DemoteFault::Memory),
     }
+}
+
+/// Whether the reference value has no IBM word.
+fn loses_reference(section5: &[u8]) -> bool
+    requires { 21 ≤ length section5.now }
+    ensures { result ≡ losses.loses_reference section5.now }
+{
+    ibm_of(u32_at(section5, 12)).is_none()
 }
 
 /// Sections 1 to 4, with these octets of Section 2 and these of simple packing.

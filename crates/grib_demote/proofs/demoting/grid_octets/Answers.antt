@@ -52,6 +52,9 @@ pub grid_section-requires-clause-few : goal.grid_section-requires-clause-few
 grid_section-requires-clause-few c =
     few_coordinates c.as_slice-3.result.now (ap coordinate_loss (c.as_slice-3.ensures ∙ sym c.as_slice-2.ensures) ∙ sym c.coordinate_loss.ensures ∙ c.in_default-coordinate_loss.is)
 
+pub returns-in_err-coordinates : goal.returns-in_err-coordinates
+returns-in_err-coordinates c = memory_carried _ _ c.from_residual-in_err-coordinates.result c.from_residual-in_err-coordinates.ensures.1
+
 pub returns-in_err-grid_section : goal.returns-in_err-grid_section
 returns-in_err-grid_section c = memory_carried _ _ c.from_residual-in_err-grid_section.result c.from_residual-in_err-grid_section.ensures.1
 
