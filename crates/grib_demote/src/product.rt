@@ -62,7 +62,7 @@ fn identification_numbers(field: &Field<'_>, told: &Told, has_bitmap: bool) -> [
     let range = time_range(field.product);
     [
         One(told.version),
-        One(u8_at(section1, 7)),
+        One(u16_at(section1, 6) as u8),
         One(u8_at(field.product, 14)),
         One(255),
         One(flags_of(has_bitmap)),
@@ -81,7 +81,7 @@ fn identification_numbers(field: &Field<'_>, told: &Told, has_bitmap: bool) -> [
         Two(0),
         One(range.missing),
         One(century(section1)),
-        One(u8_at(section1, 9)),
+        One(u16_at(section1, 8) as u8),
         Two(u32::from(u16_at(field.packing, 18))),
     ]
 }
