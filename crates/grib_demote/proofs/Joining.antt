@@ -125,3 +125,6 @@ demoted_holds table field found unit holds parameter times =
       process = times.process;
       range = ranged (is_interval s4) (has_range s4) (has_end s1 s4) times.interval;
     }
+
+pub two_joined : (x1 x2 a b c : List ℕ) → a ≡ [] → b ≡ a ++ x1 → c ≡ b ++ x2 → c ≡ x1 ++ x2
+two_joined x1 x2 a b c at_0 at_1 at_2 = at_2 ∙ ap (λ (xs : List ℕ). xs ++ x2) (at_1 ∙ ap (λ (xs : List ℕ). xs ++ x1) at_0)
