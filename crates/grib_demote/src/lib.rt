@@ -12,8 +12,6 @@ mod level;
 mod number;
 mod product;
 mod tested;
-#[cfg(test)]
-mod tests;
 mod time;
 mod values;
 mod word;

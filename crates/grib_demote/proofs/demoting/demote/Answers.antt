@@ -1,4 +1,4 @@
-use Rattle.std.proofs.Common.{◌≡◌, ℕ, Option, None, Some, List, length, sym, ap, ◌∙◌}
+use Rattle.std.proofs.Common.{◌≡◌, ℕ, Option, None, Some, List, length, sym, ap, ◌∙◌, arith}
 use Rattle.grib2_sections.specs.Head.{discipline}
 use Rattle.grib2_grids.specs.Grid.{grid_points}
 use Rattle.grib2_message.specs.Fields.{part_octets}
@@ -8,6 +8,9 @@ use Rattle.grib_demote.specs.Demoted.{demoted, demoted_sections, first_loss, len
 use Rattle.grib_demote.proofs.Joining.{lost_carried, fault_carried, memory_carried}
 use Rattle.grib_demote.proofs.Wholes.{front_lost, middle_lost, last_lost, none_lost, product_is, sections_are, whole_carried}
 use Rattle.grib_demote.proofs.demoting.demote.Goals as goal
+
+pub u32_at-points-requires-clause-within : goal.u32_at-points-requires-clause-within
+u32_at-points-requires-clause-within c = omega (arith, c.of-parts.ensures.holds.grid.least, ap length c.of-parts.ensures.grid)
 
 pub returns-in_err-told : goal.returns-in_err-told
 returns-in_err-told c =
