@@ -1,21 +1,13 @@
 //! Runs over sources and sinks in memory, in pieces and with calls that fail.
 
-ghost use Rattle.std.specs.Prelude.{◌≤◌};
-
 use grib_base::{Fault, Reason, Refusal};
-use grib_cli::run;
 use grib_engine::Outcome;
-use grib_io::{MemoryShelf, MemorySink, MemorySource, ReadSource, Sink, Source, WriteSink};
+use grib_io::{ReadSource, Sink, Source, WriteSink};
+use grib_runs::{CALM, Failing, run_over};
 use grib_samples::PLAIN;
 use std::alloc::{AllocError, Global};
 use std::io::{self, Write};
 use std::test::Fail;
-
-mod editions;
-mod large;
-mod packing;
-mod selecting;
-mod valued;
 
 const CHECKED: &str =
     "message 1 at 0 edition 2 octets 183 fields 1\nmessages 1 fields 1 skipped 0\n";
@@ -31,79 +23,6 @@ const DUMPED_WITHOUT_BITS: &str = "1.1 ed=2 centre=98 time=2024-01-15T12:00:00 g
                                    product=4.0 param=0.0.0 unit=1 ahead=6 surface=103:0:2 packing=5.0 \
                                    bits=0 values=4\nreference -949*2^-3 binary -3 decimal 1\n1 0\n2 \
                                    0\n3 0\n4 0\n";
-
-// The calls of the input, of the output and of the notes that fail, from 1; 0 is none.
-#[derive(Clone, Copy)]
-struct Failing {
-    input: u64,
-    output: u64,
-    notes: u64,
-}
-
-const CALM: Failing = Failing {
-    input: 0,
-    output: 0,
-    notes: 0,
-};
-
-// How a run ended, and what it wrote.
-#[derive(Drop)]
-struct Ran {
-    outcome: Outcome,
-    output: MemorySink,
-    notes: MemorySink,
-    shelf: MemoryShelf,
-}
-
-impl Ran {
-    // Whether it ended so, with this output and these notes.
-    fn is(&self, outcome: Outcome, output: &str, notes: &str) -> bool {
-        self.outcome == outcome
-            && self.output.octets() == output.as_bytes()
-            && self.notes.octets() == notes.as_bytes()
-    }
-
-    // Whether it ended so, with these octets as output.
-    fn gave(&self, outcome: Outcome, output: &[u8], notes: &str) -> bool {
-        self.outcome == outcome
-            && self.output.octets() == output
-            && self.notes.octets() == notes.as_bytes()
-    }
-}
-
-// A run of words, told apart by spaces, over octets that come and go in pieces of this size.
-fn run_over(
-    alloc: Global,
-    text: &str,
-    octets: &[u8],
-    piece: usize,
-    failing: Failing,
-) -> Result<Ran, AllocError>
-    requires { 1 ≤ piece }
-{
-    let mut words = Vec::new(alloc);
-    for word in text.split_whitespace() {
-        words.push(String::from_str(alloc, word)?)?;
-    }
-    let mut input = MemorySource::new(octets.to_vec(alloc)?, piece, [failing.input].to_vec(alloc)?);
-    let mut output = MemorySink::new(alloc, piece, [failing.output].to_vec(alloc)?);
-    let mut notes = MemorySink::new(alloc, piece, [failing.notes].to_vec(alloc)?);
-    let mut shelf = MemoryShelf::new(alloc, Vec::new(alloc));
-    let outcome = run(
-        alloc,
-        words.as_slice(),
-        &mut input,
-        &mut output,
-        &mut notes,
-        &mut shelf,
-    );
-    Ok(Ran {
-        outcome,
-        output,
-        notes,
-        shelf,
-    })
-}
 
 fn refused(octet: u64, reason: Reason, detail: u64) -> Outcome {
     Outcome::Refused(Refusal {
