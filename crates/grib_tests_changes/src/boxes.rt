@@ -42,11 +42,7 @@ fn a_box_of_the_plain_message(rt: HostRuntime) -> Result<(), Fail> {
 
 // Three columns and three rows of one degree, from 1 north and 359 east to 1 south and 1 east, with these Sections 5
 // to 7.
-fn about_the_origin(
-    alloc: Global,
-    total: u8,
-    parts: &[&[u8]],
-) -> Result<Vec<u8>, AllocError> {
+fn about_the_origin(alloc: Global, total: u8, parts: &[&[u8]]) -> Result<Vec<u8>, AllocError> {
     let mut octets = message(alloc, total, 4, parts)?;
     let counts = [(47, 9), (71, 3), (75, 3)];
     octets = edited(alloc, octets.as_slice(), &counts)?;
@@ -135,7 +131,11 @@ fn masks_are_cut(rt: HostRuntime) -> Result<(), Fail> {
     let words = "crop i0=1 i1=1 j0=0 j1=1";
     assert!(rt; gives_fields(alloc, words, &TWO_FIELDS, 2, column.as_slice())?);
     // A box without a point that is there, and one without a point that is not.
-    let mut nothing = edited(alloc, head_of_two(alloc, 247)?.as_slice(), &[(47, 1), (75, 1)])?;
+    let mut nothing = edited(
+        alloc,
+        head_of_two(alloc, 247)?.as_slice(),
+        &[(47, 1), (75, 1)],
+    )?;
     let north = [(94, 0xfa), (95, 0xf0), (96, 0x80)];
     nothing = edited(alloc, nothing.as_slice(), &north)?;
     for fields in [1, 2] {
@@ -148,7 +148,14 @@ fn masks_are_cut(rt: HostRuntime) -> Result<(), Fail> {
     nothing.extend_from_slice(b"7777")?;
     let words = "crop i0=1 i1=1 j0=0 j1=0";
     assert!(rt; gives_fields(alloc, words, &TWO_FIELDS, 2, nothing.as_slice())?);
-    let south = [(16, 247), (47, 2), (75, 1), (85, 0xeb), (86, 0xae), (87, 0x40)];
+    let south = [
+        (16, 247),
+        (47, 2),
+        (75, 1),
+        (85, 0xeb),
+        (86, 0xae),
+        (87, 0x40),
+    ];
     let mut row = edited(alloc, &TWO_FIELDS[..143], &south)?;
     row.extend_from_slice(&simple(2, 2))?;
     row.extend_from_slice(&[0, 0, 0, 6, 6, 0xff, 0, 0, 0, 6, 7, 0x60])?;
@@ -174,7 +181,15 @@ fn the_first_cause_is_named(rt: HostRuntime) -> Result<(), Fail> {
     let octets = edited(alloc, &PLAIN, &steps)?;
     let northward = edited(alloc, octets.as_slice(), &[(109, 0x40)])?;
     let cause = Cause::ScanMode { field };
-    assert!(rt; keeps(alloc, words, northward.as_slice(), cause, "ScanMode field 1")?);
+    assert!(rt;
+        keeps(
+            alloc,
+            words,
+            northward.as_slice(),
+            cause,
+            "ScanMode field 1"
+        )?
+    );
     let cause = Cause::OutsideBox { field };
     assert!(rt; keeps(alloc, words, octets.as_slice(), cause, "OutsideBox field 1")?);
     assert!(rt; keeps(alloc, words, &PLAIN, cause, "OutsideBox field 1")?);
@@ -221,13 +236,32 @@ fn what_does_not_fit_in_the_box_is_kept(rt: HostRuntime) -> Result<(), Fail> {
     let given = differences(alloc)?;
     let words = "crop i0=1 i1=1 j0=0 j1=1";
     let cause = Cause::DifferenceRange { field };
-    assert!(rt; keeps(alloc, words, given.as_slice(), cause, "DifferenceRange field 1")?);
+    assert!(rt;
+        keeps(
+            alloc,
+            words,
+            given.as_slice(),
+            cause,
+            "DifferenceRange field 1"
+        )?
+    );
     // The fourth of four numbers is 2 to the 32nd, and the second of the second column.
-    let section7 = [
-        0, 0, 0, 12, 7, 0xff, 0xff, 0xff, 0xff, 0x80, 0x0c, 0x10,
-    ];
-    let wide = message(alloc, 212, 4, &[&complex(4, 32, 0, 1), &NO_BITMAP, &section7])?;
+    let section7 = [0, 0, 0, 12, 7, 0xff, 0xff, 0xff, 0xff, 0x80, 0x0c, 0x10];
+    let wide = message(
+        alloc,
+        212,
+        4,
+        &[&complex(4, 32, 0, 1), &NO_BITMAP, &section7],
+    )?;
     let cause = Cause::OutOfRange { field, point: 2 };
-    assert!(rt; keeps(alloc, words, wide.as_slice(), cause, "OutOfRange field 1 point 2")?);
+    assert!(rt;
+        keeps(
+            alloc,
+            words,
+            wide.as_slice(),
+            cause,
+            "OutOfRange field 1 point 2"
+        )?
+    );
     Ok(())
 }

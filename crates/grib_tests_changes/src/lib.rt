@@ -9,6 +9,6 @@ mod orders;
 #[cfg(test)]
 mod packing;
 #[cfg(test)]
-mod selecting;
-#[cfg(test)]
 mod sections;
+#[cfg(test)]
+mod selecting;

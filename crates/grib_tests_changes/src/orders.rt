@@ -26,7 +26,11 @@ const EAST: [u8; 4] = [0x00, 0xa7, 0xd8, 0xc0];
 fn scanned(alloc: Global, octets: &[u8], scanning: u8) -> Result<Vec<u8>, AllocError> {
     let southward = scanning & 0x40 == 0;
     let eastward = scanning & 0x80 == 0;
-    let (first, last) = if southward { (NORTH, SOUTH) } else { (SOUTH, NORTH) };
+    let (first, last) = if southward {
+        (NORTH, SOUTH)
+    } else {
+        (SOUTH, NORTH)
+    };
     let (start, end) = if eastward { (WEST, EAST) } else { (EAST, WEST) };
     let mut scanned = edited(alloc, octets, &[(SCANNING, scanning)])?;
     for (place, angle) in [(83, first), (87, start), (92, last), (96, end)] {
@@ -40,9 +44,7 @@ fn scanned(alloc: Global, octets: &[u8], scanning: u8) -> Result<Vec<u8>, AllocE
 // Two rows of three points with these numbers: 185 octets.
 fn six_points(alloc: Global, numbers: [u8; 6]) -> Result<Vec<u8>, AllocError> {
     let [first, second, third, fourth, fifth, sixth] = numbers;
-    let section7 = [
-        0, 0, 0, 11, 7, first, second, third, fourth, fifth, sixth,
-    ];
+    let section7 = [0, 0, 0, 11, 7, first, second, third, fourth, fifth, sixth];
     let octets = message(alloc, 185, 4, &[&simple(6, 8), &NO_BITMAP, &section7])?;
     edited(alloc, octets.as_slice(), &[(47, 6), (71, 3)])
 }
@@ -125,7 +127,12 @@ fn one_row_one_column_and_one_point(rt: HostRuntime) -> Result<(), Fail> {
     let shape = [(71, 1), (75, 3)];
     let column = edited(alloc, row.as_slice(), &shape)?;
     let turned = edited(alloc, turned.as_slice(), &shape)?;
-    for (scanning, wanted) in [(0x80, &column), (0x90, &column), (0x40, &turned), (0x60, &turned)] {
+    for (scanning, wanted) in [
+        (0x80, &column),
+        (0x90, &column),
+        (0x40, &turned),
+        (0x60, &turned),
+    ] {
         let given = scanned(alloc, column.as_slice(), scanning)?;
         assert!(rt; gives(alloc, "rescan", given.as_slice(), wanted.as_slice())?);
     }
@@ -169,12 +176,29 @@ fn what_has_no_order_is_kept(rt: HostRuntime) -> Result<(), Fail> {
         assert!(rt; keeps(alloc, "rescan", given.as_slice(), cause, "ScanMode field 1")?);
     }
     // Rows of one and of three points.
-    let rows = [(16, 187), (41, 76), (48, 2), (49, 1), (68, 0xff), (69, 0xff), (70, 0xff), (71, 0xff)];
+    let rows = [
+        (16, 187),
+        (41, 76),
+        (48, 2),
+        (49, 1),
+        (68, 0xff),
+        (69, 0xff),
+        (70, 0xff),
+        (71, 0xff),
+    ];
     let mut listed = edited(alloc, &PLAIN[..109], &rows)?;
     listed.extend_from_slice(&[0, 1, 0, 3])?;
     listed.extend_from_slice(&PLAIN[109..])?;
     let cause = Cause::GridKind { field };
-    assert!(rt; keeps(alloc, "rescan", listed.as_slice(), cause, "GridKind field 1")?);
+    assert!(rt;
+        keeps(
+            alloc,
+            "rescan",
+            listed.as_slice(),
+            cause,
+            "GridKind field 1"
+        )?
+    );
     // A rotated grid, whose scanning mode is none either.
     let given = edited(alloc, rotated(alloc)?.as_slice(), &[(SCANNING, 8)])?;
     assert!(rt; keeps(alloc, "rescan", given.as_slice(), cause, "GridKind field 1")?);
@@ -190,15 +214,34 @@ fn what_does_not_fit_in_the_new_order_is_kept(rt: HostRuntime) -> Result<(), Fai
     // 5, -5, 1, 2 from the other end begin with -5.
     let given = scanned(alloc, differences(alloc)?.as_slice(), 0x80)?;
     let cause = Cause::DifferenceRange { field };
-    assert!(rt; keeps(alloc, "rescan", given.as_slice(), cause, "DifferenceRange field 1")?);
+    assert!(rt;
+        keeps(
+            alloc,
+            "rescan",
+            given.as_slice(),
+            cause,
+            "DifferenceRange field 1"
+        )?
+    );
     // The second of four numbers is 2 to the 32nd. With the rows exchanged it is the fourth.
-    let section7 = [
-        0, 0, 0, 12, 7, 0xff, 0xff, 0xff, 0xff, 0x80, 0x0c, 0x40,
-    ];
-    let wide = message(alloc, 212, 4, &[&complex(4, 32, 0, 1), &NO_BITMAP, &section7])?;
+    let section7 = [0, 0, 0, 12, 7, 0xff, 0xff, 0xff, 0xff, 0x80, 0x0c, 0x40];
+    let wide = message(
+        alloc,
+        212,
+        4,
+        &[&complex(4, 32, 0, 1), &NO_BITMAP, &section7],
+    )?;
     let given = scanned(alloc, wide.as_slice(), 0x40)?;
     let cause = Cause::OutOfRange { field, point: 4 };
-    assert!(rt; keeps(alloc, "rescan", given.as_slice(), cause, "OutOfRange field 1 point 4")?);
+    assert!(rt;
+        keeps(
+            alloc,
+            "rescan",
+            given.as_slice(),
+            cause,
+            "OutOfRange field 1 point 4"
+        )?
+    );
     Ok(())
 }
 

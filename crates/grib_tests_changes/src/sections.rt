@@ -25,7 +25,14 @@ pub(crate) fn complex(points: u8, bits: u8, management: u8, width_bits: u8) -> [
 }
 
 /// Section 5 of template 5.3, whose last group has `last` points.
-pub(crate) fn spatial(points: u8, bits: u8, groups: u8, width_bits: u8, last: u8, order: u8) -> [u8; 49] {
+pub(crate) fn spatial(
+    points: u8,
+    bits: u8,
+    groups: u8,
+    width_bits: u8,
+    last: u8,
+    order: u8,
+) -> [u8; 49] {
     [
         0, 0, 0, 0x31, 5, 0, 0, 0, points, 0, 3, 0xc2, 0xed, 0x40, 0, 0x80, 3, 0, 1, bits, 0, 1, 0,
         0xff, 0xff, 0xff, 0xff, 0xff, 0xff, 0xff, 0xff, 0, 0, 0, groups, 0, width_bits, 0, 0, 0, 1,
@@ -35,7 +42,12 @@ pub(crate) fn spatial(points: u8, bits: u8, groups: u8, width_bits: u8, last: u8
 
 /// The plain message of this total length with these sections in place of its Sections 5 to 7, and with one row of this many
 /// points where it is not 4.
-pub(crate) fn message(alloc: Global, total: u8, points: u8, parts: &[&[u8]]) -> Result<Vec<u8>, AllocError> {
+pub(crate) fn message(
+    alloc: Global,
+    total: u8,
+    points: u8,
+    parts: &[&[u8]],
+) -> Result<Vec<u8>, AllocError> {
     let mut head = PLAIN;
     head[15] = total;
     if points != 4 {

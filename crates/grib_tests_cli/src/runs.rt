@@ -2,11 +2,10 @@
 
 use grib_base::{Fault, Reason, Refusal};
 use grib_engine::Outcome;
-use grib_io::{ReadSource, Sink, Source, WriteSink};
+use grib_io::{ReadSource, Source};
 use grib_runs::{CALM, Failing, run_over};
 use grib_samples::PLAIN;
 use std::alloc::{AllocError, Global};
-use std::io::{self, Write};
 use std::test::Fail;
 
 const CHECKED: &str =
@@ -224,45 +223,6 @@ fn words_without_a_reading(rt: HostRuntime) -> Result<(), Fail> {
         let ran = run_over(rt.alloc(), words, &PLAIN, 50, CALM)?;
         assert!(rt; ran.is(Outcome::Usage(word), "", note.as_str()));
     }
-    Ok(())
-}
-
-// A writer that takes whole pieces, and counts its octets, its calls and its flushes.
-#[derive(Drop)]
-struct Counting {
-    octets: usize,
-    writes: u32,
-    flushes: u32,
-}
-
-impl Write for Counting {
-    fn write(&mut self, buf: &[u8]) -> io::Result<usize> {
-        self.octets = self.octets.saturating_add(buf.len());
-        self.writes = self.writes.saturating_add(1);
-        Ok(buf.len())
-    }
-
-    fn flush(&mut self) -> io::Result<()> {
-        self.flushes = self.flushes.saturating_add(1);
-        Ok(())
-    }
-}
-
-#[test]
-fn a_long_piece_is_one_write_and_is_flushed_at_the_end(rt: HostRuntime) -> Result<(), Fail> {
-    let piece = vec![in rt.alloc(); 7u8; 70_000]?;
-    let mut counting = Counting {
-        octets: 0,
-        writes: 0,
-        flushes: 0,
-    };
-    let mut sink = WriteSink::new(&mut counting);
-    assert!(rt; Sink::write(&mut sink, piece.as_slice()) == Ok(70_000));
-    assert!(rt; Sink::finish(&mut sink) == Ok(()));
-    drop(sink);
-    assert_eq!(rt; counting.octets, 70_000);
-    assert_eq!(rt; counting.writes, 1);
-    assert_eq!(rt; counting.flushes, 1);
     Ok(())
 }
 

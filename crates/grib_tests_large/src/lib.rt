@@ -7,3 +7,5 @@ mod changed;
 mod inputs;
 #[cfg(test)]
 mod printed;
+#[cfg(test)]
+mod written;

@@ -49,7 +49,14 @@ fn the_plain_message_is_written_in_edition_2(rt: HostRuntime) -> Result<(), Fail
     let alloc = rt.alloc();
     assert!(rt; gives(alloc, WORDS, FIRST_EDITION, MIGRATED)?);
     assert!(rt; gives(alloc, KEEPING, FIRST_EDITION, MIGRATED)?);
-    assert!(rt; gives(alloc, "migrate local=keep params=t", FIRST_EDITION, MIGRATED)?);
+    assert!(rt;
+        gives(
+            alloc,
+            "migrate local=keep params=t",
+            FIRST_EDITION,
+            MIGRATED
+        )?
+    );
     Ok(())
 }
 
@@ -140,7 +147,6 @@ fn local_octets_are_kept_where_it_is_asked_for(rt: HostRuntime) -> Result<(), Fa
 #[test]
 fn messages_of_edition_2_are_copied(rt: HostRuntime) -> Result<(), Fail> {
     let alloc = rt.alloc();
-    // Octet 15 of Section 1 of the second message is one that a migrated message would not have.
     let mut octets = b"heading".to_vec(alloc)?;
     octets.extend_from_slice(FIRST_EDITION)?;
     octets.extend_from_slice(&TWO_FIELDS)?;

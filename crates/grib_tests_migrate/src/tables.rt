@@ -19,7 +19,9 @@ fn run_unread(alloc: Global, words: &str, shelf: MemoryShelf) -> Result<Ran, All
 fn is_unread(input: &mut MemorySource) -> bool {
     let mut octets = [0u8; 88];
     let first = Source::read(input, &mut octets);
-    first.is_err() && Source::read(input, &mut octets) == Ok(88) && octets.as_slice() == FIRST_EDITION
+    first.is_err()
+        && Source::read(input, &mut octets) == Ok(88)
+        && octets.as_slice() == FIRST_EDITION
 }
 
 // A shelf that has this table under the name `t`.
@@ -38,10 +40,12 @@ fn refuses(
 ) -> Result<bool, AllocError> {
     let shelf = shelf_with(alloc, table)?;
     let mut ran = run_unread(alloc, "migrate params=t", shelf)?;
-    Ok(ran.is(Outcome::TableRefused(refusal), "", note)
-        && ran.outcome.status() == 4
-        && ran.shelf.octets("t") == Some(table)
-        && is_unread(&mut ran.input))
+    Ok(
+        ran.is(Outcome::TableRefused(refusal), "", note)
+            && ran.outcome.status() == 4
+            && ran.shelf.octets("t") == Some(table)
+            && is_unread(&mut ran.input),
+    )
 }
 
 #[test]
@@ -120,7 +124,14 @@ fn a_table_without_records(rt: HostRuntime) -> Result<(), Fail> {
     });
     for text in ["", "\n", "99,2,11,0,0,0,2,0\n"] {
         let shelf = shelf_with(alloc, text.as_bytes())?;
-        let ran = run_with(alloc, "migrate params=t", octets.as_slice(), 50, CALM, shelf)?;
+        let ran = run_with(
+            alloc,
+            "migrate params=t",
+            octets.as_slice(),
+            50,
+            CALM,
+            shelf,
+        )?;
         assert!(rt; ran.gave(outcome, &PLAIN, "kept message 2 Loss Parameter\n"));
         let shelf = shelf_with(alloc, text.as_bytes())?;
         let copied = run_with(alloc, "migrate params=t", &PLAIN, 50, CALM, shelf)?;
