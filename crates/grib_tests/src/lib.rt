@@ -27,3 +27,5 @@ mod params;
 mod products;
 #[cfg(test)]
 mod sections;
+#[cfg(test)]
+mod writers;

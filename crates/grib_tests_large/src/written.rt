@@ -3,7 +3,7 @@
 use crate::inputs::{LARGE, one_field};
 use grib_cli::run;
 use grib_engine::Outcome;
-use grib_io::{MemoryShelf, MemorySink, ReadSource, Sink, WriteSink};
+use grib_io::{MemoryShelf, MemorySink, ReadSource, WriteSink};
 use std::alloc::{AllocError, Global};
 use std::io::{self, Write};
 use std::test::Fail;
@@ -43,21 +43,6 @@ impl Write for Counting {
         self.flushes = self.flushes.saturating_add(1);
         Ok(())
     }
-}
-
-// Refuses a body of `write` that gives up at a long piece, and one of `finish` that does not flush.
-#[test]
-fn a_long_piece_is_one_write_and_is_flushed_at_the_end(rt: HostRuntime) -> Result<(), Fail> {
-    let piece = vec![in rt.alloc(); 7u8; 200_000]?;
-    let mut counting = Counting::new(3);
-    let mut sink = WriteSink::new(&mut counting);
-    assert!(rt; Sink::write(&mut sink, piece.as_slice()) == Ok(200_000));
-    assert!(rt; Sink::finish(&mut sink) == Ok(()));
-    drop(sink);
-    assert_eq!(rt; counting.octets, 200_000);
-    assert_eq!(rt; counting.writes, 1);
-    assert_eq!(rt; counting.flushes, 1);
-    Ok(())
 }
 
 // The outcome of `dump` over a large message, whose output goes to this writer.
