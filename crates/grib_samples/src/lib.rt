@@ -125,3 +125,18 @@ pub fn edited(alloc: Global, octets: &[u8], edits: &[(usize, u8)]) -> Result<Vec
     }
     Ok(copy)
 }
+
+/// The octets behind the first `from` of these, up to the first `to`; none where they do not have so many.
+pub fn between(octets: &[u8], from: usize, to: usize) -> &[u8] {
+    octets.get(from..to).unwrap_or(&[])
+}
+
+/// Puts octets in place of those from a place on, counted from 1, as far as there are any.
+pub fn put(octets: &mut [u8], place: usize, new: &[u8]) {
+    let before = place.saturating_sub(1);
+    for (k, octet) in new.iter().enumerate() {
+        if let Some(there) = octets.get_mut(before.saturating_add(k)) {
+            *there = *octet;
+        }
+    }
+}

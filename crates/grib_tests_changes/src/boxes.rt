@@ -4,7 +4,7 @@ use crate::sections::{
     NO_BITMAP, complex, differences, gives, gives_fields, keeps, message, rotated, simple,
 };
 use grib_engine::Cause;
-use grib_samples::{FIRST_EDITION, PLAIN, TWO_FIELDS, edited};
+use grib_samples::{FIRST_EDITION, PLAIN, TWO_FIELDS, edited, put};
 use std::alloc::{AllocError, Global};
 use std::test::Fail;
 
@@ -52,10 +52,8 @@ fn about_the_origin(alloc: Global, total: u8, parts: &[&[u8]]) -> Result<Vec<u8>
         [0x80, 0x0f, 0x42, 0x40],
         [0x00, 0x0f, 0x42, 0x40],
     ];
-    for (place, angle) in [83, 87, 92, 96].into_iter().zip(corners) {
-        if place + 4 <= octets.len() {
-            octets[place..place + 4].copy_from_slice(&angle);
-        }
+    for (place, angle) in [84, 88, 93, 97].into_iter().zip(corners) {
+        put(&mut octets, place, &angle);
     }
     Ok(octets)
 }

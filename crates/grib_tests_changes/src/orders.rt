@@ -6,7 +6,7 @@ use crate::sections::{
 };
 use grib_engine::{Cause, Kept, Outcome};
 use grib_runs::{CALM, run_over};
-use grib_samples::{FIRST_EDITION, PLAIN, TWO_FIELDS, edited};
+use grib_samples::{FIRST_EDITION, PLAIN, TWO_FIELDS, edited, put};
 use std::alloc::{AllocError, Global};
 use std::test::Fail;
 
@@ -33,10 +33,8 @@ fn scanned(alloc: Global, octets: &[u8], scanning: u8) -> Result<Vec<u8>, AllocE
     };
     let (start, end) = if eastward { (WEST, EAST) } else { (EAST, WEST) };
     let mut scanned = edited(alloc, octets, &[(SCANNING, scanning)])?;
-    for (place, angle) in [(83, first), (87, start), (92, last), (96, end)] {
-        if place + 4 <= scanned.len() {
-            scanned[place..place + 4].copy_from_slice(&angle);
-        }
+    for (place, angle) in [(84, first), (88, start), (93, last), (97, end)] {
+        put(&mut scanned, place, &angle);
     }
     Ok(scanned)
 }

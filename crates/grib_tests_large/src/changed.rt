@@ -5,7 +5,7 @@ use crate::inputs::{
     five_fields_of, messages, migrated, one_field, ran, stream, turned_numbers,
 };
 use grib_engine::Outcome;
-use grib_samples::edited;
+use grib_samples::{between, edited, put};
 use std::alloc::{AllocError, Global};
 use std::test::Fail;
 
@@ -49,10 +49,8 @@ fn keys_are_set_in_all(rt: HostRuntime) -> Result<(), Fail> {
     let mut wanted = one_field(rt.alloc(), &LARGE, 3)?;
     // The hours of the first field stand behind 130 octets.
     let mut five = five_fields(rt.alloc())?;
-    for place in [130, 3_196, 6_262, 9_328, 12_394] {
-        if place < five.len() {
-            five[place] = 3;
-        }
+    for place in [131, 3_197, 6_263, 9_329, 12_395] {
+        put(&mut five, place, &[3]);
     }
     wanted.extend_from_slice(five.as_slice())?;
     for _ in 0..5 {
@@ -89,10 +87,8 @@ fn packing_is_undone_by_simple_packing(rt: HostRuntime) -> Result<(), Fail> {
 // A message that goes northward: its numbers stay, and its first and last latitude are exchanged.
 fn northward(alloc: Global, message: &[u8]) -> Result<Vec<u8>, AllocError> {
     let mut octets = edited(alloc, message, &[(109, 0x40)])?;
-    if octets.len() >= 96 && message.len() >= 96 {
-        octets[83..87].copy_from_slice(&message[92..96]);
-        octets[92..96].copy_from_slice(&message[83..87]);
-    }
+    put(&mut octets, 84, between(message, 92, 96));
+    put(&mut octets, 93, between(message, 83, 87));
     Ok(octets)
 }
 

@@ -4,7 +4,7 @@
 use grib_io::MemoryShelf;
 use grib_runs::{CALM, Ran, run_with};
 use grib_samples::{
-    FIRST_EDITION, FOUR_NUMBERS, GRID, IDENTIFICATION, NO_BITMAP, PRODUCT, message_of,
+    FIRST_EDITION, FOUR_NUMBERS, GRID, IDENTIFICATION, NO_BITMAP, PRODUCT, between, message_of,
 };
 use std::alloc::{AllocError, Global};
 
@@ -118,15 +118,15 @@ pub(crate) fn box_numbers(
 
 /// A Section 3, whose angles are in millionths of a degree, with this shape of the earth.
 fn grid(alloc: Global, size: &Size, shape: u8) -> Result<Vec<u8>, AllocError> {
-    let mut grid = GRID[..6].to_vec(alloc)?;
+    let mut grid = between(GRID, 0, 6).to_vec(alloc)?;
     grid.extend_from_slice(&size.points.to_be_bytes())?;
-    grid.extend_from_slice(&GRID[10..14])?;
+    grid.extend_from_slice(between(GRID, 10, 14))?;
     grid.push(shape)?;
-    grid.extend_from_slice(&GRID[15..30])?;
+    grid.extend_from_slice(between(GRID, 15, 30))?;
     for number in [size.columns, size.rows] {
         grid.extend_from_slice(&u32::from(number).to_be_bytes())?;
     }
-    grid.extend_from_slice(&GRID[38..46])?;
+    grid.extend_from_slice(between(GRID, 38, 46))?;
     for angle in [size.north, size.west] {
         grid.extend_from_slice(&angle.saturating_mul(1000).to_be_bytes())?;
     }
@@ -140,18 +140,18 @@ fn grid(alloc: Global, size: &Size, shape: u8) -> Result<Vec<u8>, AllocError> {
 
 /// A Section 4 of a forecast of this many hours.
 fn product(alloc: Global, hours: u8) -> Result<Vec<u8>, AllocError> {
-    let mut product = PRODUCT[..21].to_vec(alloc)?;
+    let mut product = between(PRODUCT, 0, 21).to_vec(alloc)?;
     product.push(hours)?;
-    product.extend_from_slice(&PRODUCT[22..])?;
+    product.extend_from_slice(between(PRODUCT, 22, PRODUCT.len()))?;
     Ok(product)
 }
 
 /// Sections 5, 6 and 7 of numbers of 8 bits.
 fn data(alloc: Global, numbers: &[u8]) -> Result<Vec<u8>, AllocError> {
-    let count = numbers.len() as u32;
-    let mut data = FOUR_NUMBERS[..5].to_vec(alloc)?;
+    let count = u32::try_from(numbers.len()).unwrap_or(0);
+    let mut data = between(FOUR_NUMBERS, 0, 5).to_vec(alloc)?;
     data.extend_from_slice(&count.to_be_bytes())?;
-    data.extend_from_slice(&FOUR_NUMBERS[9..])?;
+    data.extend_from_slice(between(FOUR_NUMBERS, 9, FOUR_NUMBERS.len()))?;
     data.extend_from_slice(NO_BITMAP)?;
     data.extend_from_slice(&count.saturating_add(5).to_be_bytes())?;
     data.push(7)?;
@@ -233,7 +233,7 @@ fn first_edition(
     let mut octets = b"GRIB".to_vec(alloc)?;
     octets.extend_from_slice(total)?;
     octets.push(1)?;
-    octets.extend_from_slice(&FIRST_EDITION[8..42])?;
+    octets.extend_from_slice(between(FIRST_EDITION, 8, 42))?;
     for number in [size.columns, size.rows] {
         octets.extend_from_slice(&number.to_be_bytes())?;
     }
@@ -270,7 +270,7 @@ pub(crate) fn both_editions(alloc: Global) -> Result<Vec<u8>, AllocError> {
 /// What the message of edition 1 is in edition 2: a forecast of six hours on a level of 50,000 pascals, of which
 /// neither the state of the data nor the process is told, on an earth of the first shape.
 pub(crate) fn migrated(alloc: Global, size: &Size) -> Result<Vec<u8>, AllocError> {
-    let mut identification = IDENTIFICATION[..19].to_vec(alloc)?;
+    let mut identification = between(IDENTIFICATION, 0, 19).to_vec(alloc)?;
     identification.extend_from_slice(b"\xff\xff")?;
     let grid = grid(alloc, size, 0)?;
     let product =

@@ -8,7 +8,7 @@ use grib_causes::Loss;
 use grib_engine::{Cause, Kept, Outcome};
 use grib_io::MemoryShelf;
 use grib_runs::{CALM, Failing, Ran, run_with};
-use grib_samples::{FIRST_EDITION, MASKED, PLAIN, REDUCED, TWO_FIELDS, edited};
+use grib_samples::{FIRST_EDITION, MASKED, PLAIN, REDUCED, TWO_FIELDS, between, edited};
 use std::alloc::{AllocError, Global};
 use std::test::Fail;
 
@@ -67,12 +67,12 @@ fn an_accumulation_gets_its_end(rt: HostRuntime) -> Result<(), Fail> {
     let edits = [(23, 31), (24, 18), (27, 0), (28, 12), (29, 4)];
     let octets = edited(alloc, FIRST_EDITION, &edits)?;
     let changed = migrated(alloc, 207, &[(32, 31), (33, 18)])?;
-    let mut wanted = changed[..109].to_vec(alloc)?;
+    let mut wanted = between(changed.as_slice(), 0, 109).to_vec(alloc)?;
     wanted.extend_from_slice(b"\0\0\0\x3a\x04\0\0\0\x08\0\0\x02\xff\x01\xff\xff\xff\x01\0\0\0\0")?;
     wanted.extend_from_slice(b"\x64\0\0\0\xc3\x50\xff\xff\xff\xff\xff\xff")?;
     wanted.extend_from_slice(b"\x07\xe8\x02\x01\x06\0\0")?;
     wanted.extend_from_slice(b"\x01\0\0\0\0\x01\x02\x01\0\0\0\x0c\x01\0\0\0\0")?;
-    wanted.extend_from_slice(&changed[143..])?;
+    wanted.extend_from_slice(between(changed.as_slice(), 143, changed.len()))?;
     assert!(rt; gives(alloc, WORDS, octets.as_slice(), wanted.as_slice())?);
     Ok(())
 }
@@ -103,14 +103,14 @@ fn a_reduced_grid_and_a_bitmap(rt: HostRuntime) -> Result<(), Fail> {
         (116, 1),
     ];
     let changed = migrated(alloc, 191, &edits)?;
-    let mut wanted = changed[..109].to_vec(alloc)?;
+    let mut wanted = between(changed.as_slice(), 0, 109).to_vec(alloc)?;
     wanted.extend_from_slice(b"\0\x01\0\x03")?;
-    wanted.extend_from_slice(&changed[109..143])?;
+    wanted.extend_from_slice(between(changed.as_slice(), 109, 143))?;
     wanted.extend_from_slice(b"\x3f\x80\0\0")?;
-    wanted.extend_from_slice(&changed[143..])?;
+    wanted.extend_from_slice(between(changed.as_slice(), 143, changed.len()))?;
     assert!(rt; gives(alloc, WORDS, REDUCED, wanted.as_slice())?);
     // Three numbers, which were integers, with the reference value 1.
-    let mut wanted = migrated(alloc, 183, &[])?[..143].to_vec(alloc)?;
+    let mut wanted = between(MIGRATED, 0, 143).to_vec(alloc)?;
     wanted.extend_from_slice(b"\0\0\0\x15\x05\0\0\0\x03\0\0\x3f\x80\0\0\0\x01\x80\x02\x08\0")?;
     wanted.extend_from_slice(b"\0\0\0\x07\x06\0\xb0\0\0\0\x08\x07\x05\x06\x077777")?;
     assert!(rt; gives(alloc, WORDS, MASKED, wanted.as_slice())?);
@@ -120,9 +120,9 @@ fn a_reduced_grid_and_a_bitmap(rt: HostRuntime) -> Result<(), Fail> {
 // The plain message with twelve octets for local use: 112 octets.
 fn with_local_octets(alloc: Global) -> Result<Vec<u8>, AllocError> {
     let mut octets = b"GRIB\0\0\x70\x01\0\0\x34".to_vec(alloc)?;
-    octets.extend_from_slice(&FIRST_EDITION[11..36])?;
+    octets.extend_from_slice(between(FIRST_EDITION, 11, 36))?;
     octets.extend_from_slice(b"\0\0\0\0\0\0\0\0\0\0\0\0abcdefghijkl")?;
-    octets.extend_from_slice(&FIRST_EDITION[36..])?;
+    octets.extend_from_slice(between(FIRST_EDITION, 36, FIRST_EDITION.len()))?;
     Ok(octets)
 }
 
@@ -131,9 +131,9 @@ fn local_octets_are_kept_where_it_is_asked_for(rt: HostRuntime) -> Result<(), Fa
     let alloc = rt.alloc();
     let octets = with_local_octets(alloc)?;
     let changed = migrated(alloc, 200, &[])?;
-    let mut wanted = changed[..37].to_vec(alloc)?;
+    let mut wanted = between(changed.as_slice(), 0, 37).to_vec(alloc)?;
     wanted.extend_from_slice(b"\0\0\0\x11\x02abcdefghijkl")?;
-    wanted.extend_from_slice(&changed[37..])?;
+    wanted.extend_from_slice(between(changed.as_slice(), 37, changed.len()))?;
     assert!(rt; gives(alloc, KEEPING, octets.as_slice(), wanted.as_slice())?);
     let lost = ran(alloc, WORDS, octets.as_slice(), 50)?;
     let outcome = Outcome::Kept(Kept {
@@ -230,12 +230,24 @@ fn each_device_may_fail(rt: HostRuntime) -> Result<(), Fail> {
     // 176 octets come in four reads of 50 at most, and the fifth finds the end.
     for (input, written) in [(1, 0), (2, 0), (3, 183), (4, 183), (5, 366)] {
         let ran = failing(alloc, Failing { input, ..CALM })?;
-        assert!(rt; ran.gave(Outcome::ReadFault, &both[..written], "read fault\n"));
+        assert!(rt;
+            ran.gave(
+                Outcome::ReadFault,
+                between(both.as_slice(), 0, written),
+                "read fault\n"
+            )
+        );
     }
     // Each message takes four writes, and the output is finished behind the note.
     for (output, written) in [(1, 0), (4, 150), (5, 183), (8, 333)] {
         let ran = failing(alloc, Failing { output, ..CALM })?;
-        assert!(rt; ran.gave(Outcome::WriteFault, &both[..written], ""));
+        assert!(rt;
+            ran.gave(
+                Outcome::WriteFault,
+                between(both.as_slice(), 0, written),
+                ""
+            )
+        );
     }
     let ran = failing(alloc, Failing { output: 9, ..CALM })?;
     assert!(rt; ran.gave(Outcome::WriteFault, both.as_slice(), note));

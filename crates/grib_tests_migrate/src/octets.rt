@@ -4,7 +4,7 @@
 use grib_bits::u8_at;
 use grib_migrate::{Loss, MigrateFault, migrate};
 use grib_params::Table;
-use grib_samples::{FIRST_EDITION as PLAIN, MASKED, REDUCED, edited};
+use grib_samples::{FIRST_EDITION as PLAIN, MASKED, REDUCED, between, edited};
 use grib1_sections::read_message1;
 use std::alloc::{AllocError, Global};
 use std::test::Fail;
@@ -206,9 +206,9 @@ fn references_with_and_without_a_word(rt: HostRuntime) -> Result<(), Fail> {
 #[test]
 fn local_octets_become_section_2(rt: HostRuntime) -> Result<(), Fail> {
     let mut local = b"GRIB\0\0\x70\x01\0\0\x34".to_vec(rt.alloc())?;
-    local.extend_from_slice(&PLAIN[11..36])?;
+    local.extend_from_slice(between(PLAIN, 11, 36))?;
     local.extend_from_slice(b"\0\0\0\0\0\0\0\0\0\0\0\0abcdefghijkl")?;
-    local.extend_from_slice(&PLAIN[36..])?;
+    local.extend_from_slice(between(PLAIN, 36, PLAIN.len()))?;
     assert!(rt;
         matches!(
             migrated(rt.alloc(), local.as_slice(), false),
@@ -219,7 +219,7 @@ fn local_octets_become_section_2(rt: HostRuntime) -> Result<(), Fail> {
     assert_eq!(rt; kept.len(), 200);
     assert!(rt; stand(kept.as_slice(), 9, &[0, 0, 0, 0, 0, 0, 0, 200]));
     assert!(rt; stand(kept.as_slice(), 38, b"\0\0\0\x11\x02abcdefghijkl"));
-    assert!(rt; stand(kept.as_slice(), 55, &MIGRATED[37..]));
+    assert!(rt; stand(kept.as_slice(), 55, between(MIGRATED, 37, MIGRATED.len())));
     // Without local octets there is no Section 2.
     let none = migrated(rt.alloc(), PLAIN, true)?;
     assert_eq!(rt; none.as_slice(), MIGRATED);
@@ -254,13 +254,13 @@ fn rows_of_differing_lengths_and_a_coordinate(rt: HostRuntime) -> Result<(), Fai
 #[test]
 fn the_most_coordinates(rt: HostRuntime) -> Result<(), Fail> {
     let mut octets = b"GRIB\0\x04\x54\x01".to_vec(rt.alloc())?;
-    octets.extend_from_slice(&PLAIN[8..36])?;
+    octets.extend_from_slice(between(PLAIN, 8, 36))?;
     octets.extend_from_slice(b"\0\x04\x1c\xff\x21")?;
-    octets.extend_from_slice(&PLAIN[41..68])?;
+    octets.extend_from_slice(between(PLAIN, 41, 68))?;
     for _ in 0..255u32 {
         octets.extend_from_slice(b"\x41\x10\0\0")?;
     }
-    octets.extend_from_slice(&PLAIN[68..])?;
+    octets.extend_from_slice(between(PLAIN, 68, PLAIN.len()))?;
     let migrated_octets = migrated(rt.alloc(), octets.as_slice(), false)?;
     assert_eq!(rt; migrated_octets.len(), 1203);
     assert!(rt;
@@ -324,7 +324,7 @@ fn a_bitmap_is_carried_and_its_padding_is_not(rt: HostRuntime) -> Result<(), Fai
 /// The plain message with numbers of 48 bits: 108 octets.
 fn of_48_bits(alloc: Global) -> Result<Vec<u8>, AllocError> {
     let mut octets = b"GRIB\0\0\x6c\x01".to_vec(alloc)?;
-    octets.extend_from_slice(&PLAIN[8..68])?;
+    octets.extend_from_slice(between(PLAIN, 8, 68))?;
     octets.extend_from_slice(b"\0\0\x24\x28\x80\x03\xc2\x76\xa0\0\x30")?;
     octets.extend_from_slice(
         b"\xff\xff\xff\xff\xff\xff\0\0\0\0\0\0\0\0\0\0\0\x01\x80\0\0\0\0\0\xee",
