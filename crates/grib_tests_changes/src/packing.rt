@@ -231,16 +231,20 @@ fn messages_are_made(rt: HostRuntime) -> Result<(), Fail> {
     Ok(())
 }
 
+// What `make` writes of 65,160 points, by this packing.
+fn made(alloc: Global, packing: &str) -> Result<Vec<u8>, AllocError> {
+    let words = format!(in alloc; "make seed=7 ni=360 nj=181 {packing}")?;
+    let ran = run_over(alloc, words.as_str(), b"", 65_536, CALM)?;
+    ran.output.octets().to_vec(alloc)
+}
+
 #[test]
 fn what_is_made_is_the_same_by_another_packing(rt: HostRuntime) -> Result<(), Fail> {
-    let alloc = rt.alloc();
-    let words = "make seed=7 ni=360 nj=181 to=3 order=2";
-    let spatial = run_over(alloc, words, b"", 65_536, CALM)?;
-    assert!(rt; spatial.outcome == Outcome::Done);
-    let simple = run_over(alloc, "make seed=7 ni=360 nj=181 to=0", b"", 65_536, CALM)?;
-    assert!(rt; simple.outcome == Outcome::Done);
-    let back = run_over(alloc, "repack to=0", spatial.output.octets(), 65_536, CALM)?;
+    let spatial = made(rt.alloc(), "to=3 order=2")?;
+    let simple = made(rt.alloc(), "to=0")?;
+    assert!(rt; 100_000 < simple.len());
+    let back = run_over(rt.alloc(), "repack to=0", spatial.as_slice(), 65_536, CALM)?;
     assert!(rt; back.outcome == Outcome::Done);
-    assert!(rt; back.output.octets() == simple.output.octets());
+    assert!(rt; back.output.octets() == simple.as_slice());
     Ok(())
 }

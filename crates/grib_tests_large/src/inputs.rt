@@ -292,3 +292,8 @@ pub(crate) fn ran(alloc: Global, words: &str, octets: &[u8]) -> Result<Ran, Allo
     shelf.put("t", b"98,2,11,0,0,0,2,0\n")?;
     run_with(alloc, words, octets, 50_000, CALM, shelf)
 }
+
+/// What a run of words over these octets writes.
+pub(crate) fn written(alloc: Global, words: &str, octets: &[u8]) -> Result<Vec<u8>, AllocError> {
+    ran(alloc, words, octets)?.output.octets().to_vec(alloc)
+}
