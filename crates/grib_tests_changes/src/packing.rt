@@ -218,6 +218,15 @@ fn messages_are_made(rt: HostRuntime) -> Result<(), Fail> {
                 .ends_with(b"\0\0\0\x09\x07\x06\x7e\x41\xab7777")
         );
         assert!(rt; made.notes.octets() == note.as_bytes());
+    }
+    Ok(())
+}
+
+#[test]
+fn messages_are_made_in_groups(rt: HostRuntime) -> Result<(), Fail> {
+    let alloc = rt.alloc();
+    let failing = Failing { input: 1, ..CALM };
+    for piece in [1, 7, 300] {
         let made = run_over(alloc, "make to=2 seed=1 nj=2 ni=2", b"", piece, failing)?;
         let note = "made 183 written 212 present 4 sum 368\n";
         assert_eq!(rt; made.output.octets().len(), 212);

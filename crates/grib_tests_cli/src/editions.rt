@@ -30,10 +30,17 @@ fn both_editions_are_checked_in_one_input(rt: HostRuntime) -> Result<(), Fail> {
 }
 
 #[test]
-fn a_message_of_edition_1_is_listed_and_dumped(rt: HostRuntime) -> Result<(), Fail> {
+fn a_message_of_edition_1_is_listed(rt: HostRuntime) -> Result<(), Fail> {
     for piece in [1, 7, 88] {
         let listed = run_over(rt.alloc(), "list", FIRST_EDITION, piece, CALM)?;
         assert!(rt; listed.is(Outcome::Done, LISTED, ""));
+    }
+    Ok(())
+}
+
+#[test]
+fn a_message_of_edition_1_is_dumped(rt: HostRuntime) -> Result<(), Fail> {
+    for piece in [1, 7, 88] {
         let dumped = run_over(rt.alloc(), "dump", FIRST_EDITION, piece, CALM)?;
         assert!(rt; dumped.is(Outcome::Done, DUMPED, ""));
     }

@@ -35,12 +35,26 @@ fn refused(octet: u64, reason: Reason, detail: u64) -> Outcome {
 }
 
 #[test]
-fn answer_is_the_same_in_any_pieces(rt: HostRuntime) -> Result<(), Fail> {
+fn a_message_is_checked_in_any_pieces(rt: HostRuntime) -> Result<(), Fail> {
     for piece in [1, 7, 183] {
         let checked = run_over(rt.alloc(), "check", &PLAIN, piece, CALM)?;
         assert!(rt; checked.is(Outcome::Done, CHECKED, ""));
+    }
+    Ok(())
+}
+
+#[test]
+fn a_message_is_listed_in_any_pieces(rt: HostRuntime) -> Result<(), Fail> {
+    for piece in [1, 7, 183] {
         let listed = run_over(rt.alloc(), "list", &PLAIN, piece, CALM)?;
         assert!(rt; listed.is(Outcome::Done, LISTED, ""));
+    }
+    Ok(())
+}
+
+#[test]
+fn a_message_is_dumped_in_any_pieces(rt: HostRuntime) -> Result<(), Fail> {
+    for piece in [1, 7, 183] {
         let dumped = run_over(rt.alloc(), "dump", &PLAIN, piece, CALM)?;
         assert!(rt; dumped.is(Outcome::Done, DUMPED, ""));
     }
