@@ -185,30 +185,35 @@ const LOSSES: [(Loss, &str, &[(usize, u8)]); 11] = [
     (Loss::Reference, "Reference", &[(107, 0x41)]),
 ];
 
+// Whether a run over the plain message, this one and the plain message again ends at this one, by its loss.
+fn ends_by(
+    alloc: Global,
+    words: &str,
+    lossy: &[u8],
+    loss: Loss,
+    name: &str,
+) -> Result<bool, AllocError> {
+    let mut octets = FIRST_EDITION.to_vec(alloc)?;
+    octets.extend_from_slice(lossy)?;
+    octets.extend_from_slice(FIRST_EDITION)?;
+    let ran = ran(alloc, words, octets.as_slice(), 50)?;
+    let cause = Cause::Lost(loss);
+    let note = format!(in alloc; "kept message 2 Loss {name}\n")?;
+    let outcome = Outcome::Kept(Kept { message: 2, cause });
+    Ok(ran.gave(outcome, MIGRATED, note.as_str()) && ran.outcome.status() == 3)
+}
+
 #[test]
 fn the_first_loss_ends_the_run_behind_what_was_written(rt: HostRuntime) -> Result<(), Fail> {
-    let alloc = rt.alloc();
-    let mut lossy = ALL_LOST.to_vec(alloc)?;
+    let mut lossy = ALL_LOST.to_vec(rt.alloc())?;
     let mut words = WORDS;
     for (loss, name, repair) in LOSSES {
-        let mut octets = FIRST_EDITION.to_vec(alloc)?;
-        octets.extend_from_slice(lossy.as_slice())?;
-        octets.extend_from_slice(FIRST_EDITION)?;
-        let ran = ran(alloc, words, octets.as_slice(), 50)?;
-        let outcome = Outcome::Kept(Kept {
-            message: 2,
-            cause: Cause::Lost(loss),
-        });
-        let note = format!(in alloc; "kept message 2 Loss {name}\n")?;
-        assert!(rt; ran.gave(outcome, MIGRATED, note.as_str()));
-        assert_eq!(rt; ran.outcome.status(), 3);
+        assert!(rt; ends_by(rt.alloc(), words, lossy.as_slice(), loss, name)?);
         if loss == Loss::LocalUse {
             words = KEEPING;
         }
-        lossy = edited(alloc, lossy.as_slice(), repair)?;
+        lossy = edited(rt.alloc(), lossy.as_slice(), repair)?;
     }
-    let whole = ran(alloc, words, lossy.as_slice(), 50)?;
-    assert!(rt; whole.outcome == Outcome::Done);
     Ok(())
 }
 
@@ -221,45 +226,64 @@ fn failing(alloc: Global, failing: Failing) -> Result<Ran, AllocError> {
     run_with(alloc, WORDS, octets.as_slice(), 50, failing, shelf)
 }
 
-#[test]
-fn each_device_may_fail(rt: HostRuntime) -> Result<(), Fail> {
-    let alloc = rt.alloc();
+// What is written where all is calm.
+fn written(alloc: Global) -> Result<Vec<u8>, AllocError> {
     let mut both = MIGRATED.to_vec(alloc)?;
     both.extend_from_slice(MIGRATED)?;
-    let note = "messages 2 fields 2 written 366\n";
+    Ok(both)
+}
+
+const NOTE: &str = "messages 2 fields 2 written 366\n";
+
+#[test]
+fn the_input_may_fail(rt: HostRuntime) -> Result<(), Fail> {
+    let both = written(rt.alloc())?;
     // 176 octets come in four reads of 50 at most, and the fifth finds the end.
     for (input, written) in [(1, 0), (2, 0), (3, 183), (4, 183), (5, 366)] {
-        let ran = failing(alloc, Failing { input, ..CALM })?;
-        assert!(rt;
-            ran.gave(
-                Outcome::ReadFault,
-                between(both.as_slice(), 0, written),
-                "read fault\n"
-            )
-        );
+        let ran = failing(rt.alloc(), Failing { input, ..CALM })?;
+        let output = between(both.as_slice(), 0, written);
+        assert!(rt; ran.gave(Outcome::ReadFault, output, "read fault\n"));
     }
+    Ok(())
+}
+
+#[test]
+fn the_output_may_fail(rt: HostRuntime) -> Result<(), Fail> {
+    let both = written(rt.alloc())?;
     // Each message takes four writes, and the output is finished behind the note.
-    for (output, written) in [(1, 0), (4, 150), (5, 183), (8, 333)] {
-        let ran = failing(alloc, Failing { output, ..CALM })?;
-        assert!(rt;
-            ran.gave(
-                Outcome::WriteFault,
-                between(both.as_slice(), 0, written),
-                ""
-            )
-        );
+    for (output, written, noted) in [
+        (1, 0, ""),
+        (4, 150, ""),
+        (5, 183, ""),
+        (8, 333, ""),
+        (9, 366, NOTE),
+    ] {
+        let ran = failing(rt.alloc(), Failing { output, ..CALM })?;
+        let output = between(both.as_slice(), 0, written);
+        assert!(rt; ran.gave(Outcome::WriteFault, output, noted));
     }
-    let ran = failing(alloc, Failing { output: 9, ..CALM })?;
-    assert!(rt; ran.gave(Outcome::WriteFault, both.as_slice(), note));
-    for (notes, noted) in [(1, ""), (2, note)] {
-        let ran = failing(alloc, Failing { notes, ..CALM })?;
+    Ok(())
+}
+
+#[test]
+fn the_notes_may_fail(rt: HostRuntime) -> Result<(), Fail> {
+    let both = written(rt.alloc())?;
+    for (notes, noted) in [(1, ""), (2, NOTE)] {
+        let ran = failing(rt.alloc(), Failing { notes, ..CALM })?;
         assert!(rt; ran.gave(Outcome::WriteFault, both.as_slice(), noted));
     }
+    Ok(())
+}
+
+#[test]
+fn later_calls_are_not_made(rt: HostRuntime) -> Result<(), Fail> {
+    let both = written(rt.alloc())?;
     let calm = Failing {
         input: 6,
         output: 10,
         notes: 3,
     };
-    assert!(rt; failing(alloc, calm)?.gave(Outcome::Done, both.as_slice(), note));
+    let ran = failing(rt.alloc(), calm)?;
+    assert!(rt; ran.gave(Outcome::Done, both.as_slice(), NOTE));
     Ok(())
 }
