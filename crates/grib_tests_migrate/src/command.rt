@@ -188,11 +188,12 @@ const LOSSES: [(Loss, &str, &[(usize, u8)]); 11] = [
 // Whether a run over the plain message, this one and the plain message again ends at this one, by its loss.
 fn ends_by(
     alloc: Global,
-    words: &str,
+    keep_local: bool,
     lossy: &[u8],
     loss: Loss,
     name: &str,
 ) -> Result<bool, AllocError> {
+    let words = if keep_local { KEEPING } else { WORDS };
     let mut octets = FIRST_EDITION.to_vec(alloc)?;
     octets.extend_from_slice(lossy)?;
     octets.extend_from_slice(FIRST_EDITION)?;
@@ -206,12 +207,10 @@ fn ends_by(
 #[test]
 fn the_first_loss_ends_the_run_behind_what_was_written(rt: HostRuntime) -> Result<(), Fail> {
     let mut lossy = ALL_LOST.to_vec(rt.alloc())?;
-    let mut words = WORDS;
+    let mut keep_local = false;
     for (loss, name, repair) in LOSSES {
-        assert!(rt; ends_by(rt.alloc(), words, lossy.as_slice(), loss, name)?);
-        if loss == Loss::LocalUse {
-            words = KEEPING;
-        }
+        assert!(rt; ends_by(rt.alloc(), keep_local, lossy.as_slice(), loss, name)?);
+        keep_local = keep_local || loss == Loss::LocalUse;
         lossy = edited(rt.alloc(), lossy.as_slice(), repair)?;
     }
     Ok(())
