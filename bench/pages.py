@@ -29,7 +29,7 @@ def hold(so, what):
 
 def has_reading(program, *words):
     run = subprocess.run([program, *words], stdin=subprocess.DEVNULL, capture_output=True)
-    return not run.stderr.startswith(b"usage") and b"not built" not in run.stderr
+    return not run.stderr.startswith(b"usage")
 
 
 def completed(line):

@@ -3,7 +3,7 @@
 ghost use Rattle.std.specs.Prelude.{◌≡◌, ◌≤◌, List, None, length, IfOk};
 ghost use Rattle.grib_base.specs.Rows.{first_fault};
 ghost use Rattle.grib_bitmap.specs.Mask.{bitmap_rows, mask_of, present_count};
-ghost use Rattle.grib_packing.specs.Entries.{column_from};
+ghost use Rattle.grib_packing.specs.Entries.{column_from, entries_of};
 ghost use Rattle.grib_packing.specs.Packing.{value_count};
 ghost use Rattle.grib2_sections.specs.Frame.{Placed};
 ghost use Rattle.grib2_message.specs.View as definitions;
@@ -14,6 +14,7 @@ use crate::places::{Places, section_from};
 use grib_base::{ReadFault, Section};
 use grib_bitmap::{Mask, read_mask};
 use grib_bits::u8_at;
+use grib_complex::Keeper;
 use grib_packing::Column;
 use std::alloc::{AllocError, Global};
 
@@ -44,8 +45,31 @@ pub(crate) fn column_at(alloc: Global, octets: &[u8], places: &Places) -> Result
     }
 }
 
+/// Hands the points of the values of that field on, in their order.
+pub(crate) fn take_values_at<K: Keeper + Drop>(
+    alloc: Global,
+    octets: &[u8],
+    places: &Places,
+    keeper: K,
+) -> Result<K, AllocError>
+    requires { (before : List Placed) × IsField octets.now before places.now }
+    ensures { (before : List Placed) → IsField octets.now before places.now → IfOk result
+        (λ after. K.kept keeper (entries_of (octets_in_force 5 before) (octets_in_force 7 before)) after
+        × (length (entries_of (octets_in_force 5 before) (octets_in_force 7 before))
+        ≡ value_count (octets_in_force 5 before))) }
+{
+    let Some(representation) = places.representation else {
+        unreachable!();
+    };
+    match representation.take_values(alloc, &places.section(octets, 7), keeper) {
+        Ok(after) => Ok(after),
+        Err(ReadFault::Memory) => Err(AllocError),
+        Err(ReadFault::Refused(_)) => unreachable!(),
+    }
+}
+
 /// Which points of that field are present.
-fn mask_at(alloc: Global, octets: &[u8], places: &Places) -> Result<Mask, AllocError>
+pub(crate) fn mask_at(alloc: Global, octets: &[u8], places: &Places) -> Result<Mask, AllocError>
     requires { (before : List Placed) × IsField octets.now before places.now }
     ensures { (before : List Placed) → IsField octets.now before places.now → IfOk result
         (λ mask. (mask ≡ mask_in_force before) × (length mask ≡ points_in_force before)

@@ -3,18 +3,23 @@
 ghost use Rattle.std.specs.Prelude.{◌≡◌, ◌≢◌, ◌≤◌, ℕ, length, None, Some, MatchOption, MatchResult, IfOk, All};
 ghost use Rattle.grib2_sections.specs.Frame.{placed_at};
 ghost use Rattle.grib2_grids.specs.Grid.{grid_points};
+ghost use Rattle.grib_bitmap.specs.Mask.{present_count};
+ghost use Rattle.grib_packing.specs.Entries.{entries_of};
+ghost use Rattle.grib_packing.specs.Packing.{value_count};
 ghost use Rattle.grib2_message.specs.Fields as definitions;
-ghost use Rattle.grib2_message.specs.Fields.{field_count, part_octets, field_bitmap, column_of};
+ghost use Rattle.grib2_message.specs.Fields.{field_count, part_octets, field_bitmap, field_mask, column_of};
 ghost use Rattle.grib2_message.specs.Message.{IsMessage, FieldPasses};
 ghost use Rattle.grib2_message.specs.Assembled.{assembled, assembled_with, IsShort, IsAssembleFault};
 ghost use Rattle.grib2_message.specs.Kept.{Keeps};
 
 use crate::assembling::{assembled_length, put_together};
-use crate::columns::{column_at, own_bitmap};
+use crate::columns::{column_at, mask_at, own_bitmap, take_values_at};
 use crate::new_grid::SameGrid;
 use crate::places::Places;
 use crate::{AssembleFault, NewGrid};
 use grib_base::Section;
+use grib_bitmap::Mask;
+use grib_complex::Keeper;
 use grib_packing::{Column, Packed};
 use std::alloc::{AllocError, Global};
 use std::marker::Model;
@@ -124,6 +129,47 @@ impl<'a> Message<'a> {
     {
         let places = &self.fields[field as usize - 1];
         column_at(alloc, self.octets, places)
+    }
+
+    /// Which grid points of a field have a value of its Section 7. Fields count from 1.
+    ///
+    /// # Errors
+    ///
+    /// There is no memory for the mask.
+    pub fn mask(&self, alloc: Global, field: u32) -> Result<Mask, AllocError>
+        requires first { 1 ≤ field }
+        requires last { field ≤ field_count self.now }
+        ensures mask { IfOk result (λ mask. mask ≡ field_mask self.now field) }
+        ensures long { IfOk result (λ mask. length mask ≡ grid_points (part_octets self.now field 3)) }
+        ensures values { IfOk result (λ mask. present_count mask ≡ value_count (part_octets self.now field 5)) }
+        ensures passes { FieldPasses self.now field }
+    {
+        let places = &self.fields[field as usize - 1];
+        mask_at(alloc, self.octets, places)
+    }
+
+    /// Hands the points of the values of a field on, in their order: one for each grid point that its mask has.
+    /// No column is made. Fields count from 1.
+    ///
+    /// # Errors
+    ///
+    /// There is no memory. What keeps the points is dropped.
+    pub fn take_values<K: Keeper + Drop>(
+        &self,
+        alloc: Global,
+        field: u32,
+        keeper: K,
+    ) -> Result<K, AllocError>
+        requires first { 1 ≤ field }
+        requires last { field ≤ field_count self.now }
+        ensures kept { IfOk result (λ after.
+            K.kept keeper (entries_of (part_octets self.now field 5) (part_octets self.now field 7)) after) }
+        ensures count { IfOk result (λ after.
+            length (entries_of (part_octets self.now field 5) (part_octets self.now field 7))
+            ≡ value_count (part_octets self.now field 5)) }
+    {
+        let places = &self.fields[field as usize - 1];
+        take_values_at(alloc, self.octets, places, keeper)
     }
 
     /// The message with other Sections 5, 6 and 7, one part for each field in their order. All other

@@ -32,4 +32,12 @@ impl<T> List<T> {
     {
         self.items.as_slice()
     }
+
+    /// The items as a `Vec`. It takes no memory.
+    pub fn into_vec(self) -> Vec<T>
+        ensures { result.items ≡ self }
+    {
+        let List { items } = self;
+        items
+    }
 }

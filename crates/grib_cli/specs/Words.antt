@@ -1,7 +1,7 @@
 -- What the words of a command line ask for: the job of the command, by the values of its words.
-use Rattle.std.specs.Prelude.{◌≡◌, ◌⊎◌, ℕ, ◌-◌, ◌^◌, true, cond, Option, option_map, List, [], drop, codes, Result, Ok, Err}
-use Rattle.std.specs.List.{find, filter_map}
-use Rattle.std.specs.Option.{option_map_or, option_and_then}
+use Rattle.std.specs.Prelude.{◌≡◌, ◌⊎◌, ℕ, ◌-◌, ◌^◌, true, cond, Option, option_map, List, drop, codes, Result, Ok, Err}
+use Rattle.std.specs.List.{filter_map}
+use Rattle.std.specs.Option.{option_and_then}
 use Rattle.grib_keys.specs.declared.key.Key.{Key}
 use Rattle.grib_keys.specs.declared.condition.Value.{Value}
 use Rattle.grib_keys.specs.declared.condition.Condition.{Condition}

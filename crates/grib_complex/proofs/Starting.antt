@@ -35,7 +35,7 @@ use Rattle.grib_complex.specs.Kept.{ArePoints, PointsKept}
 use Rattle.grib_complex.specs.Tells.{Tells, ValuesTook}
 use Rattle.grib_complex.specs.Told.{Plainly, told}
 
-told_plain : (ns : List ℕ) → told Plainly (map Present ns) ≡ map (λ n. Scaled (pos n)) ns
+pub told_plain : (ns : List ℕ) → told Plainly (map Present ns) ≡ map (λ n. Scaled (pos n)) ns
 told_plain [] = refl
 told_plain (n ∷ ns) = ap (λ ps. Scaled (pos n) ∷ ps) (told_plain ns)
 

@@ -1,17 +1,18 @@
 //! What Section 5 says of a field, by its packing.
 
-ghost use Rattle.std.specs.Prelude.{◌≡◌, ℕ, List, None, Some, MatchResult};
-ghost use Rattle.grib_base.specs.Faults.{AreTried};
+ghost use Rattle.std.specs.Prelude.{◌≡◌, ℕ, List, length, None, Some, MatchResult};
+ghost use Rattle.grib_base.specs.Faults.{AreTried, IsReadFault};
 ghost use Rattle.grib_base.specs.Rows.{located};
 ghost use Rattle.grib_bitmap.specs.Mask.{present_count};
-ghost use Rattle.grib_packing.specs.Entries.{packing_fault, data_fault};
+ghost use Rattle.grib_packing.specs.Entries.{packing_fault, data_fault, entries_of};
 ghost use Rattle.grib_packing.specs.Packing.{value_count};
 ghost use Rattle.grib_packing.specs.Representation.{Spelled};
 ghost use Rattle.grib_packing.specs.Unpacked.{IsUnpacked};
 ghost use Rattle.grib_complex.specs.Field.{Represents};
 
-use crate::keeping::Nothing;
+use crate::keeping::{Keeper, Nothing};
 use crate::packing::unpack_complex;
+use crate::plain_values::take_simple_values;
 use crate::representation::{Complex, complex_of};
 use crate::unpacking::take_complex_values;
 use grib_base::{Fault, ReadFault, Section};
@@ -84,6 +85,33 @@ impl Representation {
             }
         }
         Ok(())
+    }
+
+    /// Hands the points of all values of the field on, in their order, from its Section 7.
+    ///
+    /// # Errors
+    ///
+    /// Section 7 is refused by the first row of the profile that fails, or there is no memory. What keeps the
+    /// points is dropped.
+    pub fn take_values<K: Keeper + Drop>(
+        &self,
+        alloc: Global,
+        section7: &Section<'_>,
+        keeper: K,
+    ) -> Result<K, ReadFault>
+        requires { (s5 : List ℕ) × Represents self.now s5 }
+        ensures { (s5 : List ℕ) → Represents self.now s5 → MatchResult result
+            (λ after. (data_fault s5 section7.now.octets.now ≡ None)
+            × K.kept keeper (entries_of s5 section7.now.octets.now) after
+            × (length (entries_of s5 section7.now.octets.now) ≡ value_count s5))
+            (IsReadFault (located section7.now.start (data_fault s5 section7.now.octets.now))) }
+    {
+        match self {
+            Representation::Simple(simple) => take_simple_values(alloc, simple, section7, keeper),
+            Representation::Complex(complex) => {
+                take_complex_values(alloc, complex, section7, keeper)
+            }
+        }
     }
 
     /// The column of the field, from its mask, in which as many points are present as Section 7 has values,

@@ -194,7 +194,7 @@ fn take_points<K: Keeper + Drop>(
 }
 
 /// The length that a section states, which is its own.
-fn length_of(section: &Section<'_>) -> u32
+pub(crate) fn length_of(section: &Section<'_>) -> u32
     ensures { result ≡ length section.now.octets.now }
 {
     BigEndian::read_u32(section.octets)

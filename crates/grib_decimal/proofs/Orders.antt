@@ -1,5 +1,5 @@
 -- The order of scaled numbers and of values.
-use Rattle.std.proofs.Common.{◌≡◌, ◌≢◌, ℕ, ◌+◌, ◌-◌, ◌*◌, ◌≤◌, inl, inr, List, length, get_or, Option, Some, None, IfSome, IfNone, ℤ, pos, ◌+ℤ◌, ◌*ℤ◌, ◌≤ℤ◌, ◌<ℤ◌, ap, subst, ◌∙◌, arith}
+use Rattle.std.proofs.Common.{◌≡◌, ◌≢◌, ℕ, ◌+◌, ◌-◌, ◌*◌, ◌<◌, ◌≤◌, inl, inr, List, length, get_or, Option, Some, None, IfSome, IfNone, ℤ, pos, ◌+ℤ◌, ◌*ℤ◌, ◌≤ℤ◌, ◌<ℤ◌, refl, sym, ap, subst, ◌∙◌, arith}
 use Rattle.std.proofs.Math.Nat.{mul-le-mul_right}
 use Rattle.std.proofs.lemmas.Bool.{cases_lt}
 use Rattle.std.proofs.lemmas.Int.{ints}
@@ -11,7 +11,7 @@ use Rattle.grib_decimal.specs.Order.{AtMost}
 use Rattle.grib_packing.specs.declared.column.Point.{Point}
 use Rattle.grib_packing.specs.declared.column.Point.TheVariants.{Scaled, Missing}
 use Rattle.grib_decimal.specs.declared.extreme.Extremes.{Extremes}
-use Rattle.grib_decimal.specs.Bounds.{HasNoNumber, IsBound, AreExtremes, AreExtremesSoFar, BoundAllValues}
+use Rattle.grib_decimal.specs.Bounds.{HasNoNumber, IsBound, AreExtremes, AreExtremesSoFar, BoundAllValues, IsBoundSoFar}
 
 pub times_le : (x y : ℤ) (n : ℕ) → x ≤ℤ y → (x *ℤ pos n) ≤ℤ (y *ℤ pos n)
 times_le x y n le =
@@ -40,19 +40,6 @@ same_number : (points : List Point) (n k : ℕ) (x y : ℤ) → k ≡ n → get_
 same_number points n k x y e here there = let same = ap (λ i. get_or points i Missing) e in cc
 
 module _ (Before : ℤ → ℤ → Type 0) (points : List Point) (n : ℕ) where
-  -- the first number of all
-  pub bound_new : (x : ℤ) → Before x x → get_or points n Missing ≡ Scaled x → HasNoNumber points n → IsBound Before points (n + 1) x (n + 1)
-  bound_new x same here none = record {
-    counted = omega arith;
-    within = omega arith;
-    stands = ap (λ k. get_or points k Missing) (last n) ∙ here;
-    first = λ k before. none k x (omega arith);
-    bound = λ k y within there. elim (cases_lt k n) [
-      | inl l ↦ absurd (none k y l there)
-      | inr g ↦ subst (λ z. Before x z) (same_number points n k x y (omega arith) here there) same
-    ];
-  }
-
   -- the bound stays
   pub bound_kept : (m x : ℤ) (place : ℕ) → Before m x → get_or points n Missing ≡ Scaled x → IsBound Before points n m place → IsBound Before points (n + 1) m place
   bound_kept m x place before here old = record {
@@ -63,19 +50,6 @@ module _ (Before : ℤ → ℤ → Type 0) (points : List Point) (n : ℕ) where
     bound = λ k y within there. elim (cases_lt k n) [
       | inl l ↦ old.bound k y l there
       | inr g ↦ subst (λ z. Before m z) (same_number points n k x y (omega arith) here there) before
-    ];
-  }
-
-  -- a number beyond the bound takes its place
-  pub bound_moved : (m x : ℤ) (place : ℕ) → Before x x → ((y : ℤ) → Before m y → Before x y) → ¬ (Before m x) → get_or points n Missing ≡ Scaled x → IsBound Before points n m place → IsBound Before points (n + 1) x (n + 1)
-  bound_moved m x place same along beyond here old = record {
-    counted = omega arith;
-    within = omega arith;
-    stands = ap (λ k. get_or points k Missing) (last n) ∙ here;
-    first = λ k before there. beyond (old.bound k x (omega arith) there);
-    bound = λ k y within there. elim (cases_lt k n) [
-      | inl l ↦ along y (old.bound k y l there)
-      | inr g ↦ subst (λ z. Before x z) (same_number points n k x y (omega arith) here there) same
     ];
   }
 
@@ -92,54 +66,117 @@ module _ (Before : ℤ → ℤ → Type 0) (points : List Point) (n : ℕ) where
     ];
   }
 
--- the least number is at most the greatest
-pub ordered : (points : List Point) (n : ℕ) (m : Extremes) → AreExtremes points n m → m.least ≤ℤ m.greatest
-ordered points n m is =
-    let g = is.greatest in
-    let some = g.counted in
-    let within = g.within in
-    is.least.bound (m.greatest_place - 1) m.greatest (omega arith) g.stands
-
-pub so_far_past : (points : List Point) (n : ℕ) (found : Option Extremes) → ((x : ℤ) → get_or points n Missing ≢ Scaled x) → AreExtremesSoFar points n found → AreExtremesSoFar points (n + 1) found
-so_far_past points n None none old = λ k x within there. elim (cases_lt k n) [
-  | inl l ↦ old k x l there
-  | inr g ↦ let e : n ≡ k = omega arith in absurd (none x (ap (λ i. get_or points i Missing) e ∙ there))
-]
-so_far_past points n (Some m) none old = record {
-  least = bound_past (λ x y. x ≤ℤ y) points n m.least m.least_place none old.least;
-  greatest = bound_past (λ x y. y ≤ℤ x) points n m.greatest m.greatest_place none old.greatest;
-}
-
 le_self : (x : ℤ) → x ≤ℤ x
 le_self x = omega (arith, ints)
 
-pub extremes_new : (points : List Point) (n : ℕ) (x : ℤ) → get_or points n Missing ≡ Scaled x → HasNoNumber points n → AreExtremes points (n + 1) (record { least = x; least_place = n + 1; greatest = x; greatest_place = n + 1 })
-extremes_new points n x here none = record {
-  least = bound_new (λ x y. x ≤ℤ y) points n x (le_self x) here none;
-  greatest = bound_new (λ x y. y ≤ℤ x) points n x (le_self x) here none;
-}
+-- ---- bounds as numbers come
 
-pub extremes_less : (points : List Point) (n : ℕ) (x : ℤ) (m : Extremes) → x <ℤ m.least → get_or points n Missing ≡ Scaled x → AreExtremes points n m → AreExtremes points (n + 1) (record { least = x; least_place = n + 1; greatest = m.greatest; greatest_place = m.greatest_place })
-extremes_less points n x m less here old =
-    let order = ordered points n m old in
-    record {
-      least = bound_moved (λ x y. x ≤ℤ y) points n m.least x m.least_place (le_self x) (λ y h. omega (arith, ints)) (λ h. omega (arith, ints)) here old.least;
-      greatest = bound_kept (λ x y. y ≤ℤ x) points n m.greatest x m.greatest_place (omega (arith, ints)) here old.greatest;
-    }
+module _ (Before : ℤ → ℤ → Type 0) (begins : ℤ) (points : List Point) (n : ℕ) where
+  pub bound_none : IsBoundSoFar Before begins points 0 begins 0
+  bound_none = record { bound = λ k y within there. absurd (omega arith); none = λ none. refl; some = λ some. absurd (omega arith) }
 
-pub extremes_more : (points : List Point) (n : ℕ) (x : ℤ) (m : Extremes) → m.greatest <ℤ x → get_or points n Missing ≡ Scaled x → AreExtremes points n m → AreExtremes points (n + 1) (record { least = m.least; least_place = m.least_place; greatest = x; greatest_place = n + 1 })
-extremes_more points n x m more here old =
-    let order = ordered points n m old in
-    record {
-      least = bound_kept (λ x y. x ≤ℤ y) points n m.least x m.least_place (omega (arith, ints)) here old.least;
-      greatest = bound_moved (λ x y. y ≤ℤ x) points n m.greatest x m.greatest_place (le_self x) (λ y h. omega (arith, ints)) (λ h. omega (arith, ints)) here old.greatest;
-    }
+  pub number_kept : (m x : ℤ) (place : ℕ) → Before m x → get_or points n Missing ≡ Scaled x → IsBoundSoFar Before begins points n m place → IsBoundSoFar Before begins points (n + 1) m place
+  number_kept m x place before here old = record {
+    bound = λ k y within there. elim (cases_lt k n) [
+      | inl l ↦ old.bound k y l there
+      | inr g ↦ subst (λ z. Before m z) (same_number points n k x y (omega arith) here there) before
+    ];
+    none = old.none;
+    some = λ some. bound_kept Before points n m x place before here (old.some some);
+  }
 
-pub extremes_same : (points : List Point) (n : ℕ) (x : ℤ) (m : Extremes) → m.least ≤ℤ x → x ≤ℤ m.greatest → get_or points n Missing ≡ Scaled x → AreExtremes points n m → AreExtremes points (n + 1) m
-extremes_same points n x m low high here old = record {
-  least = bound_kept (λ x y. x ≤ℤ y) points n m.least x m.least_place low here old.least;
-  greatest = bound_kept (λ x y. y ≤ℤ x) points n m.greatest x m.greatest_place high here old.greatest;
-}
+  pub number_moved : (m x : ℤ) (place next : ℕ) → n + 1 ≡ next → Before x x → ((y : ℤ) → Before m y → Before x y) → ¬ (Before m x) → get_or points n Missing ≡ Scaled x → IsBoundSoFar Before begins points n m place
+      → IsBoundSoFar Before begins points (n + 1) x next
+  number_moved m x place next is same along beyond here old =
+      let all : (k : ℕ) (y : ℤ) → k < n + 1 → get_or points k Missing ≡ Scaled y → Before x y = λ k y within there. elim (cases_lt k n) [
+        | inl l ↦ along y (old.bound k y l there)
+        | inr g ↦ subst (λ z. Before x z) (same_number points n k x y (omega arith) here there) same
+      ] in
+      record {
+        bound = all;
+        none = λ none. absurd (omega arith);
+        some = λ some. subst (IsBound Before points (n + 1) x) is (record {
+          counted = omega arith;
+          within = omega arith;
+          stands = ap (λ k. get_or points k Missing) (last n) ∙ here;
+          first = λ k before there. beyond (old.bound k x (omega arith) there);
+          bound = all;
+        });
+      }
+
+  pub number_past : (m : ℤ) (place : ℕ) → ((x : ℤ) → get_or points n Missing ≢ Scaled x) → IsBoundSoFar Before begins points n m place → IsBoundSoFar Before begins points (n + 1) m place
+  number_past m place none old = record {
+    bound = λ k y within there. elim (cases_lt k n) [
+      | inl l ↦ old.bound k y l there
+      | inr g ↦ let e : n ≡ k = omega arith in absurd (none y (ap (λ i. get_or points i Missing) e ∙ there))
+    ];
+    none = old.none;
+    some = λ some. bound_past Before points n m place none (old.some some);
+  }
+
+pub least_moved : (points : List Point) (n : ℕ) (m x begins : ℤ) (place next : ℕ) → n + 1 ≡ next → x <ℤ m → get_or points n Missing ≡ Scaled x → IsBoundSoFar (λ x y. x ≤ℤ y) begins points n m place
+    → IsBoundSoFar (λ x y. x ≤ℤ y) begins points (n + 1) x next
+least_moved points n m x begins place next is less here old =
+    number_moved (λ x y. x ≤ℤ y) begins points n m x place next is (le_self x) (λ y h. omega (arith, ints)) (λ h. omega (arith, ints)) here old
+
+pub greatest_moved : (points : List Point) (n : ℕ) (m x begins : ℤ) (place next : ℕ) → n + 1 ≡ next → m <ℤ x → get_or points n Missing ≡ Scaled x → IsBoundSoFar (λ x y. y ≤ℤ x) begins points n m place
+    → IsBoundSoFar (λ x y. y ≤ℤ x) begins points (n + 1) x next
+greatest_moved points n m x begins place next is more here old =
+    number_moved (λ x y. y ≤ℤ x) begins points n m x place next is (le_self x) (λ y h. omega (arith, ints)) (λ h. omega (arith, ints)) here old
+
+-- ---- once all numbers came
+
+module _ (points : List Point) (n : ℕ) (l g low high : ℤ) (i j : ℕ) (least : IsBoundSoFar (λ x y. x ≤ℤ y) high points n l i) (greatest : IsBoundSoFar (λ x y. y ≤ℤ x) low points n g j) where
+  pub no_extremes : low <ℤ high → i ≡ 0 → j ≡ 0 → HasNoNumber points n
+  no_extremes order none none' k x within there =
+      let above = least.bound k x within there in
+      let below = greatest.bound k x within there in
+      let a = least.none none in
+      let b = greatest.none none' in
+      omega (arith, ints)
+
+  -- all numbers are the greatest of all
+  pub least_there : g ≤ℤ high → (place : ℕ) → (1 ≤ i → place ≡ i) → (i ≡ 0 → place ≡ j) → (i ≡ 0 → 1 ≤ j) → IsBound (λ x y. x ≤ℤ y) points n l place
+  least_there top place is_some is_none other = elim (cases_lt 0 i) [
+    | inl some ↦ subst (IsBound (λ x y. x ≤ℤ y) points n l) (sym (is_some some)) (least.some some)
+    | inr none ↦
+        let zero' : i ≡ 0 = omega arith in
+        let found = greatest.some (other zero') in
+        let some = found.counted in
+        let within = found.within in
+        let at : j - 1 < n = omega arith in
+        let above = least.bound (j - 1) g at found.stands in
+        let is = least.none zero' in
+        let same : l ≡ g = omega (arith, ints) in
+        subst (IsBound (λ x y. x ≤ℤ y) points n l) (sym (is_none zero')) (record {
+          counted = some;
+          within = within;
+          stands = found.stands ∙ ap Scaled (sym same);
+          first = λ k before there. found.first k before (there ∙ ap Scaled same);
+          bound = least.bound;
+        })
+  ]
+
+  pub greatest_there : low ≤ℤ l → (place : ℕ) → (1 ≤ j → place ≡ j) → (j ≡ 0 → place ≡ i) → (j ≡ 0 → 1 ≤ i) → IsBound (λ x y. y ≤ℤ x) points n g place
+  greatest_there bottom place is_some is_none other = elim (cases_lt 0 j) [
+    | inl some ↦ subst (IsBound (λ x y. y ≤ℤ x) points n g) (sym (is_some some)) (greatest.some some)
+    | inr none ↦
+        let zero' : j ≡ 0 = omega arith in
+        let found = least.some (other zero') in
+        let some = found.counted in
+        let within = found.within in
+        let at : i - 1 < n = omega arith in
+        let below = greatest.bound (i - 1) l at found.stands in
+        let is = greatest.none zero' in
+        let same : g ≡ l = omega (arith, ints) in
+        subst (IsBound (λ x y. y ≤ℤ x) points n g) (sym (is_none zero')) (record {
+          counted = some;
+          within = within;
+          stands = found.stands ∙ ap Scaled (sym same);
+          first = λ k before there. found.first k before (there ∙ ap Scaled same);
+          bound = greatest.bound;
+        })
+  ]
 
 pub so_far_values : (points : List Point) (n : ℕ) (found : Option Extremes) → n ≡ length points → AreExtremesSoFar points n found → IfSome found (λ m. BoundAllValues points m)
 so_far_values points n None e is = tt

@@ -1,5 +1,5 @@
 -- What is summed up of the points of a field.
-use Rattle.std.proofs.Common.{◌≡◌, ◌≢◌, ℕ, zero, suc, ◌+◌, ◌-◌, ◌<◌, ◌≤◌, inl, inr, Bool, true, false, Option, Some, None, List, [], ◌∷◌, length, take, get_or, fold, count_by, Contains, All, ℤ, ◌≤ℤ◌, refl, sym, ap, subst, ◌∙◌, arith}
+use Rattle.std.proofs.Common.{◌≡◌, ◌≢◌, ℕ, zero, suc, ◌+◌, ◌-◌, ◌%◌, ◌^◌, ◌<◌, ◌≤◌, inl, inr, Bool, true, false, cond, Option, Some, None, List, [], ◌∷◌, length, take, get_or, fold, count_by, Contains, All, ℤ, ◌≤ℤ◌, refl, sym, ap, subst, ◌∙◌, arith}
 use Rattle.std.specs.Int.{int_min, int_max}
 use Rattle.std.specs.Ordering.{int_eq}
 use Rattle.std.specs.Option.{option_map_or}
@@ -8,15 +8,18 @@ use Rattle.std.proofs.lemmas.Bool.Decides.{Decides-int_eq}
 use Rattle.std.proofs.lemmas.Int.{ints, fold-int_min_bounds, fold-int_min_reached, fold-int_max_bounds, fold-int_max_reached}
 use Rattle.std.proofs.lemmas.List.{length-take}
 use Rattle.std.proofs.lemmas.List.Elements.{All-cons, All-contains}
-use Rattle.std.proofs.lemmas.List.Sums.{count_by_more_yes, count_by_more_no, count_by-le-length}
+use Rattle.std.proofs.lemmas.List.Sums.{count_by_more_yes, count_by_more_no, count_by-le-length, sum_by-cons}
 use Rattle.grib_packing.specs.declared.column.Point.{Point}
 use Rattle.grib_packing.specs.declared.column.Point.TheVariants.{Scaled, Missing, Missing2}
 use Rattle.grib_packing.specs.Misfits.{is_missing, is_missing2, scaled_numbers}
 use Rattle.grib_decimal.specs.declared.extreme.Extremes.{Extremes}
 use Rattle.grib_decimal.specs.declared.extreme.Summary.{Summary}
-use Rattle.grib_decimal.specs.Bounds.{IsBound, AreExtremes, AreExtremesSoFar}
-use Rattle.grib_decimal.specs.Summary.{is_present, has_number, place_of, extremes_among, extremes_of, summary_of, SumsUp}
-use Rattle.grib_decimal.proofs.Orders.{so_far_past}
+use Rattle.grib_decimal.specs.declared.tally.Tally.{Tally}
+use Rattle.grib_decimal.specs.declared.bounds.Greatest.{Greatest}
+use Rattle.grib_decimal.specs.declared.bounds.Least.{Least}
+use Rattle.grib_decimal.specs.Bounds.{IsBound, AreExtremesSoFar, IsLeastSoFar, IsGreatestSoFar}
+use Rattle.grib_decimal.specs.Summary.{is_present, has_number, place_of, extremes_among, extremes_of, IsTally, SumUp}
+use Rattle.grib_decimal.proofs.Orders.{number_past}
 use Rattle.grib_decimal.proofs.Positions.{position_is}
 
 later : (x y : ℤ) (ys : List ℤ) → Contains ys x → Contains (y ∷ ys) x
@@ -117,18 +120,35 @@ extremes_by points (a ∷ xs) e (Some m) is =
 pub extremes_is : (points : List Point) (found : Option Extremes) → AreExtremesSoFar points (length points) found → found ≡ extremes_of points
 extremes_is points found is = extremes_by points (scaled_numbers points) refl found is
 
--- as many as points that were counted
-pub few : (test : Point → Bool) (points : List Point) (n : ℕ) → count_by test (take n points) ≤ n
-few test points n = omega (arith, count_by-le-length test (take n points), length-take n points)
-
-same_summary : (s : Summary) (present missing missing2 : ℕ) (extremes : Option Extremes) → s.present ≡ present → s.missing ≡ missing → s.missing2 ≡ missing2 → s.extremes ≡ extremes → s ≡ record { present = present; missing = missing; missing2 = missing2; extremes = extremes }
+pub same_summary : (s : Summary) (present missing missing2 : ℕ) (extremes : Option Extremes) → s.present ≡ present → s.missing ≡ missing → s.missing2 ≡ missing2 → s.extremes ≡ extremes → s ≡ record { present = present; missing = missing; missing2 = missing2; extremes = extremes }
 same_summary s present missing missing2 extremes p q r e = rw (← p, ← q, ← r, ← e) refl
 
-pub all_summed : (points : List Point) (n : ℕ) (s : Summary) → n ≡ length points → SumsUp points n s → s ≡ summary_of points
-all_summed points n s e sums =
-    let all : take n points ≡ points = ap (λ k. take k points) e ∙ take-length points in
-    same_summary s _ _ _ _ (sums.present_is ∙ ap (count_by is_present) all) (sums.missing_is ∙ ap (count_by is_missing) all) (sums.missing2_is ∙ ap (count_by is_missing2) all)
-    (extremes_is points s.extremes (subst (λ k. AreExtremesSoFar points k s.extremes) e sums.extremes_are))
+-- one point more at the front
+pub count_first : (test : Point → Bool) (q : Point) (points : List Point) → count_by test (q ∷ points) ≡ cond (test q) 1 0 + count_by test points
+count_first test q points = sum_by-cons (λ p. cond (test p) 1 0) q points
+
+-- each point is counted once
+pub counted : (points : List Point) → count_by is_present points + count_by is_missing points + count_by is_missing2 points ≡ length points
+counted [] = refl
+counted (Scaled x ∷ points) =
+    omega (arith, counted points, count_first is_present (Scaled x) points, count_first is_missing (Scaled x) points, count_first is_missing2 (Scaled x) points)
+counted (Missing ∷ points) =
+    omega (arith, counted points, count_first is_present Missing points, count_first is_missing Missing points, count_first is_missing2 Missing points)
+counted (Missing2 ∷ points) =
+    omega (arith, counted points, count_first is_present Missing2 points, count_first is_missing Missing2 points, count_first is_missing2 Missing2 points)
+
+pub all_summed : (points : List Point) (s : Tally) (present : ℕ) (extremes : Option Extremes) → length points ≤ 33554432
+    → present ≡ ((s.count + (2 ^ 32 - s.missing)) % 2 ^ 32 + (2 ^ 32 - s.missing2)) % 2 ^ 32 → AreExtremesSoFar points (length points) extremes → IsTally points (length points) s
+    → SumUp points (record { present = present; missing = s.missing; missing2 = s.missing2; extremes = extremes })
+all_summed points s present extremes few is are tally =
+    let all : take (length points) points ≡ points = take-length points in
+    let missing : s.missing ≡ count_by is_missing points = tally.missing_is ∙ ap (count_by is_missing) all in
+    let missing2 : s.missing2 ≡ count_by is_missing2 points = tally.missing2_is ∙ ap (count_by is_missing2) all in
+    let present_is : present ≡ count_by is_present points = omega (arith, is, few, missing, missing2, counted points, tally.count_is) in
+    record {
+      summary_is = same_summary _ _ _ _ _ present_is missing missing2 (extremes_is points extremes are);
+      extremes_are = are;
+    }
 
 -- one more point
 more_yes : (test : Point → Bool) (points : List Point) (n : ℕ) (q : Point) (count : ℕ) → n < length points → get_or points n Missing ≡ q → test q ≡ true → count ≡ count_by test (take n points) → count + 1 ≡ count_by test (take (n + 1) points)
@@ -138,29 +158,48 @@ more_yes test points n q count within here passes old =
 more_no : (test : Point → Bool) (points : List Point) (n : ℕ) (q : Point) (count : ℕ) → n < length points → get_or points n Missing ≡ q → test q ≡ false → count ≡ count_by test (take n points) → count ≡ count_by test (take (n + 1) points)
 more_no test points n q count within here fails old = old ∙ sym (count_by_more_no test points n Missing within (ap test here ∙ fails))
 
-pub one_scaled : (points : List Point) (n : ℕ) (x : ℤ) (s : Summary) (m : Extremes) → n < length points → get_or points n Missing ≡ Scaled x → AreExtremes points (n + 1) m → SumsUp points n s → SumsUp points (n + 1) (record { present = s.present + 1; missing = s.missing; missing2 = s.missing2; extremes = Some m })
-one_scaled points n x s m within here are old = record {
-  present_is = more_yes is_present points n (Scaled x) s.present within here refl old.present_is;
+pub one_scaled : (points : List Point) (n : ℕ) (x : ℤ) (s : Tally) (count : ℕ) (least : Least) (greatest : Greatest) → n < length points → get_or points n Missing ≡ Scaled x → count ≡ n + 1
+    → IsLeastSoFar points (n + 1) least → IsGreatestSoFar points (n + 1) greatest → IsTally points n s
+    → IsTally points (n + 1) (record { count = count; missing = s.missing; missing2 = s.missing2; least = least; greatest = greatest })
+one_scaled points n x s count least greatest within here is is_least is_greatest old = record {
+  count_is = is;
   missing_is = more_no is_missing points n (Scaled x) s.missing within here refl old.missing_is;
   missing2_is = more_no is_missing2 points n (Scaled x) s.missing2 within here refl old.missing2_is;
-  extremes_are = are;
+  least_is = is_least;
+  greatest_is = is_greatest;
 }
 
 no_number : (points : List Point) (n : ℕ) (q : Point) → get_or points n Missing ≡ q → ((x : ℤ) → q ≢ Scaled x) → (x : ℤ) → get_or points n Missing ≢ Scaled x
 no_number points n q here other x e = other x (sym here ∙ e)
 
-pub one_missing : (points : List Point) (n : ℕ) (s : Summary) → n < length points → get_or points n Missing ≡ Missing → SumsUp points n s → SumsUp points (n + 1) (record { present = s.present; missing = s.missing + 1; missing2 = s.missing2; extremes = s.extremes })
-one_missing points n s within here old = record {
-  present_is = more_no is_present points n Missing s.present within here refl old.present_is;
-  missing_is = more_yes is_missing points n Missing s.missing within here refl old.missing_is;
-  missing2_is = more_no is_missing2 points n Missing s.missing2 within here refl old.missing2_is;
-  extremes_are = so_far_past points n s.extremes (no_number points n Missing here (λ x e. cc)) old.extremes_are;
-}
+-- as many as points that were counted
+few : (test : Point → Bool) (points : List Point) (n : ℕ) → count_by test (take n points) ≤ n
+few test points n = omega (arith, count_by-le-length test (take n points), length-take n points)
 
-pub one_missing2 : (points : List Point) (n : ℕ) (s : Summary) → n < length points → get_or points n Missing ≡ Missing2 → SumsUp points n s → SumsUp points (n + 1) (record { present = s.present; missing = s.missing; missing2 = s.missing2 + 1; extremes = s.extremes })
-one_missing2 points n s within here old = record {
-  present_is = more_no is_present points n Missing2 s.present within here refl old.present_is;
-  missing_is = more_no is_missing points n Missing2 s.missing within here refl old.missing_is;
-  missing2_is = more_yes is_missing2 points n Missing2 s.missing2 within here refl old.missing2_is;
-  extremes_are = so_far_past points n s.extremes (no_number points n Missing2 here (λ x e. cc)) old.extremes_are;
-}
+pub one_missing : (points : List Point) (n : ℕ) (s : Tally) (count missing : ℕ) → length points ≤ 33554432 → n < length points → get_or points n Missing ≡ Missing → count ≡ n + 1
+    → missing ≡ (s.missing + 1) % 2 ^ 32 → IsTally points n s
+    → IsTally points (n + 1) (record { count = count; missing = missing; missing2 = s.missing2; least = s.least; greatest = s.greatest })
+one_missing points n s count missing short within here is is_missing' old =
+    let exact : missing ≡ s.missing + 1 = omega (arith, is_missing', old.missing_is, few is_missing points n) in
+    let none = no_number points n Missing here (λ x e. cc) in
+    record {
+      count_is = is;
+      missing_is = exact ∙ more_yes is_missing points n Missing s.missing within here refl old.missing_is;
+      missing2_is = more_no is_missing2 points n Missing s.missing2 within here refl old.missing2_is;
+      least_is = number_past _ _ points n s.least.number s.least.place none old.least_is;
+      greatest_is = number_past _ _ points n s.greatest.number s.greatest.place none old.greatest_is;
+    }
+
+pub one_missing2 : (points : List Point) (n : ℕ) (s : Tally) (count missing2 : ℕ) → length points ≤ 33554432 → n < length points → get_or points n Missing ≡ Missing2 → count ≡ n + 1
+    → missing2 ≡ (s.missing2 + 1) % 2 ^ 32 → IsTally points n s
+    → IsTally points (n + 1) (record { count = count; missing = s.missing; missing2 = missing2; least = s.least; greatest = s.greatest })
+one_missing2 points n s count missing2 short within here is is_missing2' old =
+    let exact : missing2 ≡ s.missing2 + 1 = omega (arith, is_missing2', old.missing2_is, few is_missing2 points n) in
+    let none = no_number points n Missing2 here (λ x e. cc) in
+    record {
+      count_is = is;
+      missing_is = more_no is_missing points n Missing2 s.missing within here refl old.missing_is;
+      missing2_is = exact ∙ more_yes is_missing2 points n Missing2 s.missing2 within here refl old.missing2_is;
+      least_is = number_past _ _ points n s.least.number s.least.place none old.least_is;
+      greatest_is = number_past _ _ points n s.greatest.number s.greatest.place none old.greatest_is;
+    }

@@ -1,10 +1,12 @@
 -- The least and the greatest scaled number of some points, and of their values.
-use Rattle.std.specs.Prelude.{◌≡◌, ◌≢◌, ℕ, ◌+◌, ◌-◌, ◌<◌, ◌≤◌, List, length, get_or, Option, Some, None, ℤ, ◌≤ℤ◌}
+use Rattle.std.specs.Prelude.{◌≡◌, ◌≢◌, ℕ, ◌+◌, ◌-◌, ◌^◌, ◌<◌, ◌≤◌, List, length, get_or, Option, Some, None, ℤ, pos, neg_ℤ, ◌≤ℤ◌}
 use Rattle.grib_dyadic.specs.Reference.{Binary}
 use Rattle.grib_dyadic.specs.Value.{value_of}
 use Rattle.grib_decimal.specs.Order.{AtMost}
 use Rattle.grib_packing.specs.declared.column.Point.{Point}
 use Rattle.grib_packing.specs.declared.column.Point.TheVariants.{Scaled, Missing}
+use Rattle.grib_decimal.specs.declared.bounds.Greatest.{Greatest}
+use Rattle.grib_decimal.specs.declared.bounds.Least.{Least}
 use Rattle.grib_decimal.specs.declared.extreme.Extremes.{Extremes}
 
 -- None of the first n points has a scaled number.
@@ -35,3 +37,16 @@ abbrev pub BoundAllValues : List Point → Extremes → Type 0
 BoundAllValues points m =
     (r : Binary) (e d : ℤ) (k : ℕ) (x : ℤ) → k < length points → get_or points k Missing ≡ Scaled x
     → AtMost (value_of r e d m.least) (value_of r e d x) × AtMost (value_of r e d x) (value_of r e d m.greatest)
+
+-- x stands before or beside each scaled number of the first n points; it is where it began while its place is 0, and
+-- itself first at its place then.
+pub record IsBoundSoFar (Before : ℤ → ℤ → Type 0) (begins : ℤ) (points : List Point) (n : ℕ) (x : ℤ) (place : ℕ) : Type 0 where
+  pub bound : (k : ℕ) (y : ℤ) → k < n → get_or points k Missing ≡ Scaled y → Before x y
+  pub none : place ≡ 0 → x ≡ begins
+  pub some : 1 ≤ place → IsBound Before points n x place
+
+abbrev pub IsLeastSoFar : List Point → ℕ → Least → Type 0
+IsLeastSoFar points n m = IsBoundSoFar (λ x y. x ≤ℤ y) (pos (2 ^ 63 - 1)) points n m.number m.place
+
+abbrev pub IsGreatestSoFar : List Point → ℕ → Greatest → Type 0
+IsGreatestSoFar points n m = IsBoundSoFar (λ x y. y ≤ℤ x) (neg_ℤ (pos (2 ^ 63))) points n m.number m.place

@@ -1,14 +1,15 @@
 -- What is summed up of the points of a field.
-use Rattle.std.specs.Prelude.{◌≡◌, ℕ, Bool, true, false, Option, Some, None, List, [], ◌∷◌, take, fold, count_by, ℤ}
+use Rattle.std.specs.Prelude.{◌≡◌, ℕ, Bool, true, false, Option, Some, None, List, [], ◌∷◌, length, take, fold, count_by, ℤ}
 use Rattle.std.specs.Int.{int_min, int_max}
 use Rattle.std.specs.Ordering.{int_eq}
 use Rattle.grib_base.specs.Rows.{first_place}
 use Rattle.grib_packing.specs.declared.column.Point.{Point}
 use Rattle.grib_packing.specs.declared.column.Point.TheVariants.{Scaled, Missing, Missing2}
 use Rattle.grib_packing.specs.Misfits.{is_missing, is_missing2, scaled_numbers}
-use Rattle.grib_decimal.specs.Bounds.{AreExtremesSoFar}
+use Rattle.grib_decimal.specs.Bounds.{AreExtremesSoFar, IsLeastSoFar, IsGreatestSoFar}
 use Rattle.grib_decimal.specs.declared.extreme.Extremes.{Extremes}
 use Rattle.grib_decimal.specs.declared.extreme.Summary.{Summary}
+use Rattle.grib_decimal.specs.declared.tally.Tally.{Tally}
 
 abbrev pub is_present : Point → Bool
 is_present (Scaled x) = true
@@ -48,9 +49,15 @@ summary_of points = record {
   extremes = extremes_of points;
 }
 
--- it sums up the first n points
-pub record SumsUp (points : List Point) (n : ℕ) (s : Summary) : Type 0 where
-  pub present_is : s.present ≡ count_by is_present (take n points)
+-- this is the tally of the first n points
+pub record IsTally (points : List Point) (n : ℕ) (s : Tally) : Type 0 where
+  pub count_is : s.count ≡ n
   pub missing_is : s.missing ≡ count_by is_missing (take n points)
   pub missing2_is : s.missing2 ≡ count_by is_missing2 (take n points)
-  pub extremes_are : AreExtremesSoFar points n s.extremes
+  pub least_is : IsLeastSoFar points n s.least
+  pub greatest_is : IsGreatestSoFar points n s.greatest
+
+-- this is the summary of the points, and the extremes are their extremes
+pub record SumUp (points : List Point) (s : Summary) : Type 0 where
+  pub summary_is : s ≡ summary_of points
+  pub extremes_are : AreExtremesSoFar points (length points) s.extremes

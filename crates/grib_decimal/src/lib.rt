@@ -15,6 +15,7 @@ mod rounded;
 mod rounding;
 mod scale;
 mod summing;
+mod tally;
 mod text;
 mod wide;
 
@@ -23,3 +24,4 @@ pub use extreme::{Extremes, Summary};
 pub use fault::DecimalFault;
 pub use scale::{DecimalScale, decimal_text};
 pub use summing::summary;
+pub use tally::Tally;

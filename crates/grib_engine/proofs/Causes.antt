@@ -1,11 +1,13 @@
 -- The first cause by which a message is kept from being printed with its values.
-use Rattle.std.proofs.Common.{◌≡◌, ℕ, zero, suc, ◌+◌, ◌-◌, ◌<◌, ◌≤◌, Bool, true, false, Option, Some, None, is_some, is_none, option_map, List, [], refl, sym, ap, subst, ◌∙◌, arith}
+use Rattle.std.proofs.Common.{◌≡◌, ℕ, zero, suc, ◌+◌, ◌-◌, ◌<◌, ◌≤◌, true, false, Option, Some, None, is_some, is_none, option_map, List, [], refl, ap, ◌∙◌, arith}
 use Rattle.grib_dyadic.specs.Reference.{Binary, ieee, ibm, reduced}
 use Rattle.grib_packing.specs.declared.column.Column.{Column}
 use Rattle.grib2_message.specs.Fields.{field_count, column_of}
 use Rattle.grib1_sections.specs.Column.{column1_of}
 use Rattle.grib_causes.specs.declared.cause.Cause.{Cause}
 use Rattle.grib_causes.specs.declared.cause.Cause.TheVariants.{DecimalRange}
+use Rattle.grib_bits.specs.Bits.{bits_of, signed}
+use Rattle.grib_decimal.specs.Decimal.{scale}
 use Rattle.grib_decimal.specs.Range.{first_too_large}
 use Rattle.grib_stream.specs.Acts.{world}
 use Rattle.grib_stream.specs.Task.{Given}
@@ -95,3 +97,11 @@ by_no_memory contents faults m given a = record {
   write_stays = λ other. refl;
   unshelved = λ no. cc;
 }
+
+-- the scale of a field, by its numbers
+pub scale_of : (places : ℕ) (column : Column) (form : ℕ → Binary) (reference : Binary) (word e d : ℕ) → reference ≡ reduced (form word) → word ≡ column.reference → e ≡ column.e → d ≡ column.d
+    → scale reference (signed (bits_of 16 e)) (signed (bits_of 16 d)) places ≡ scale_by places (reduced (form column.reference)) column
+scale_of places column form reference word e d is_reference is_word is_e is_d =
+    ap (λ r. scale r (signed (bits_of 16 e)) (signed (bits_of 16 d)) places) (is_reference ∙ ap (λ w. reduced (form w)) is_word)
+    ∙ ap (λ n. scale (reduced (form column.reference)) (signed (bits_of 16 n)) (signed (bits_of 16 d)) places) is_e
+    ∙ ap (λ n. scale (reduced (form column.reference)) (signed (bits_of 16 column.e)) (signed (bits_of 16 n)) places) is_d

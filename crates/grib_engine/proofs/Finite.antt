@@ -28,3 +28,6 @@ finite_word m i passes =
 
 pub finite_column : (m : List ℕ) (i : ℕ) (column : Column) → FieldPasses m i → column ≡ column_of m i → ieee_exponent column.reference < 255
 finite_column m i column passes is = subst (λ x. ieee_exponent x.reference < 255) (sym is) (finite_word m i passes)
+
+pub finite_reference : (m : List ℕ) (i word : ℕ) → FieldPasses m i → word ≡ (column_of m i).reference → ieee_exponent word < 255
+finite_reference m i word passes is = subst (λ w. ieee_exponent w < 255) (sym is) (finite_word m i passes)

@@ -1,5 +1,5 @@
 -- What is written of an input that is repacked, message for message.
-use Rattle.std.proofs.Common.{◌≡◌, ℕ, zero, suc, ◌+◌, ◌-◌, ◌^◌, ◌<◌, ◌≤◌, ◌==◌, Bool, true, false, Option, Some, None, List, [], ◌∷◌, ◌++◌, length, map, take, All, refl, sym, ap, ◌∙◌, subst, arith, ⊎_elim}
+use Rattle.std.proofs.Common.{◌≡◌, ℕ, zero, suc, ◌+◌, ◌-◌, ◌^◌, ◌<◌, ◌≤◌, ◌==◌, Bool, true, false, Option, Some, None, option_map, List, [], ◌∷◌, ◌++◌, length, map, take, All, refl, sym, ap, ◌∙◌, subst, arith, ⊎_elim}
 use Rattle.std.specs.List.{concat}
 use Rattle.std.proofs.lemmas.Bool.{cases_Bool, cases_lt, false≢true}
 use Rattle.std.proofs.lemmas.List.{take_all}
@@ -22,11 +22,11 @@ use Rattle.grib_stream.specs.Task.{Task}
 use Rattle.grib_stream.specs.Answer.{Answer, after, on_given, answers, on_end, place_of, at_limit, answer_of, answer_within}
 use Rattle.grib_stream.proofs.Exits.{within_short, within_long, closed_at_limit, open_at_limit}
 use Rattle.grib_stream.proofs.Streams.{stream_skip, stream_begun}
-use Rattle.grib_engine.specs.Command.{kept_first, task}
+use Rattle.grib_engine.specs.Command.{given_unless, task}
 use Rattle.grib_engine.specs.Judging.{judge}
 use Rattle.grib_engine.specs.Lawful.{IsFirst, IsOther, message_judged, least_message, there_message, edition_alone, message_alone, first_alone_message}
 use Rattle.grib_engine.specs.Same.{SameValues, AllSame, kept_then, before_kept}
-use Rattle.grib_engine.specs.Repacking.{given_unless, repack_command}
+use Rattle.grib_engine.specs.Repacking.{cause_of, repack_command}
 
 -- ---- the messages of an input
 
@@ -89,7 +89,7 @@ written_of (octet ∷ octets) = ap (λ xs. octet ∷ xs) (written_of octets)
 
 step : (target : Target) (misfit : Option RepackMisfit) (m : ℕ) (message : List ℕ) (t : Task) (next : List Act → ℕ → Answer) (rest : List (List ℕ))
     → ((acts : List Act) (more : ℕ) → written (next acts more).acts ≡ written acts ++ concat (map (repacked target) rest))
-    → written (on_given t (given_unless misfit m (repacked target message)) next).acts ≡ concat (map (repacked target) (kept_then misfit message rest))
+    → written (on_given t (given_unless (option_map cause_of misfit) m (repacked target message)) next).acts ≡ concat (map (repacked target) (kept_then misfit message rest))
 step target None m message t next rest goes =
     goes (writes (repacked target message)) (length (repacked target message))
     ∙ ap (λ xs. xs ++ concat (map (repacked target) rest)) (written_of (repacked target message))

@@ -2,7 +2,7 @@ pub mod Outside
 pub mod Pending
 pub mod Noted
 pub mod Answers
-pub mod Edited
+pub mod KeptBy
 pub mod Filtered
 pub mod Made
 pub mod Editions
@@ -14,3 +14,4 @@ pub mod Standing
 pub mod Tabled
 pub mod Migrations
 pub mod Causes
+pub mod Cutting

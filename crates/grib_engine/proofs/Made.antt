@@ -75,12 +75,21 @@ one_packed : (target : Target) (message : List ℕ) (column : Column) → column
     → map (packed_field target message) (range_with_len 1 1) ≡ packed target column 0 ∷ []
 one_packed target message column is kind = ap (λ c. packed target c (kind_of message 1) ∷ []) is ∙ ap (λ k. packed target column k ∷ []) kind
 
+one_part : (target : Target) (message : List ℕ) (column : Column) → field_count message ≡ 1 → column_of message 1 ≡ column → kind_of message 1 ≡ 0
+    → packed_fields target message ≡ packed target column 0 ∷ []
+one_part target message column one is kind =
+    ap (λ n. map (packed_field target message) (range_with_len 1 n)) one ∙ one_packed target message column is kind
+
+-- a message of one field that its column gives again stays as it is
+pub stays_same : (target : Target) (message : List ℕ) (column : Column) → field_count message ≡ 1 → column_of message 1 ≡ column → kind_of message 1 ≡ 0
+    → assembled message (packed target column 0 ∷ []) ≡ message → repacked target message ≡ message
+stays_same target message column one is kind same = ap (assembled message) (one_part target message column one is kind) ∙ same
+
 -- a message of one field whose column fits, and which does not become too long
 pub nothing_lost : (target : Target) (message : List ℕ) (column : Column) → field_count message ≡ 1 → column_of message 1 ≡ column → kind_of message 1 ≡ 0
     → first_misfit target column.points ≡ None → length (assembled message (packed target column 0 ∷ [])) ≤ 268435456 → repack_misfit target message ≡ None
 nothing_lost target message column one is kind none few =
-    let parts : packed_fields target message ≡ packed target column 0 ∷ [] =
-    ap (λ n. map (packed_field target message) (range_with_len 1 n)) one ∙ one_packed target message column is kind in
+    let parts = one_part target message column one is kind in
     let short : length (repacked target message) ≤ 268435456 = subst (λ ps. length (assembled message ps) ≤ 268435456) (sym parts) few in
     let fields : misfit_among target message (range_with_len 1 (field_count message)) ≡ None =
     ap (λ n. misfit_among target message (range_with_len 1 n)) one ∙ ap (λ o. or_later o (λ _. None)) (field_fits target message column is none) in

@@ -1,9 +1,10 @@
 -- What is written of an input that is migrated, message for message.
-use Rattle.std.proofs.Common.{◌≡◌, ◌≢◌, ℕ, ◌+◌, ◌^◌, ◌<◌, ◌==◌, Bool, true, false, ◌&&◌, nat_lt, Option, Some, None, List, [], ◌∷◌, ◌++◌, map, take, All, refl, sym, ap, ◌∙◌, subst, lt-ltb, eqb-true}
+use Rattle.std.proofs.Common.{◌≡◌, ℕ, ◌+◌, ◌^◌, ◌<◌, ◌==◌, Bool, true, false, ◌&&◌, Option, Some, None, option_map, List, [], ◌∷◌, ◌++◌, map, take, All, refl, sym, ap, ◌∙◌, subst, lt-ltb, eqb-true}
 use Rattle.std.specs.List.{concat}
 use Rattle.std.proofs.lemmas.Bool.{false≢true, eq-eqb}
 use Rattle.std.proofs.lemmas.List.Elements.{All-head, All-tail, All-take}
 use Rattle.grib_base.specs.Rows.{choose}
+use Rattle.grib_causes.specs.declared.cause.Cause.TheVariants.{Lost}
 use Rattle.grib_causes.specs.declared.loss.Loss.{Loss}
 use Rattle.grib1_sections.specs.Message.{IsMessage1}
 use Rattle.grib1_sections.specs.Column.{meaning1_of}
@@ -21,9 +22,9 @@ use Rattle.grib_stream.specs.Stream.{Found, End, Over, Refusing, stream}
 use Rattle.grib_stream.specs.Task.{Task, Given, Gives}
 use Rattle.grib_stream.specs.declared.place.Place.{Place}
 use Rattle.grib_stream.specs.Answer.{Answer, after, on_given, answers, on_end, place_of, answer_within}
-use Rattle.grib_engine.specs.Command.{task}
+use Rattle.grib_engine.specs.Command.{given_unless, task}
 use Rattle.grib_engine.specs.Judging.{judge}
-use Rattle.grib_engine.specs.Migrating.{are_octets, given_migrated, migrate_command}
+use Rattle.grib_engine.specs.Migrating.{are_octets, migrate_command}
 use Rattle.grib_engine.specs.SameMigrated.{SameMigrated, AllMigrated, lost_then, before_lost}
 use Rattle.grib_engine.proofs.Keeping.{IsFound, written_join, written_of, found_all, within_acts}
 
@@ -45,7 +46,7 @@ module _ (table : Entries) (keep : Bool) where
 
   step : (loss : Option Loss) (m : ℕ) (message : List ℕ) (t : Task) (next : List Act → ℕ → Answer) (rest : List (List ℕ)) → output_of message ≡ migrated table keep message
       → ((acts : List Act) (more : ℕ) → written (next acts more).acts ≡ written acts ++ concat (map output_of rest))
-      → written (on_given t (given_migrated loss m (migrated table keep message)) next).acts ≡ concat (map output_of (lost_then loss message rest))
+      → written (on_given t (given_unless (option_map Lost loss) m (migrated table keep message)) next).acts ≡ concat (map output_of (lost_then loss message rest))
   step None m message t next rest same goes =
       goes (writes (migrated table keep message)) _ ∙ ap (λ xs. xs ++ concat (map output_of rest)) (written_of (migrated table keep message) ∙ sym same)
   step (Some loss) m message t next rest same goes = refl
@@ -55,7 +56,7 @@ module _ (table : Entries) (keep : Bool) where
       → written (on_given t (choose b (λ _. (migrate_command keep table).first place message) (λ _. (migrate_command keep table).second place message)) next).acts
       ≡ concat (map output_of (choose b (λ _. lost_then (first_loss table keep message) message rest) (λ _. message ∷ rest)))
   chosen true place message t next rest is small goes =
-      let given : Given = given_migrated (first_loss table keep message) place.message (migrated table keep message) in
+      let given : Given = given_unless (option_map Lost (first_loss table keep message)) place.message (migrated table keep message) in
       subst (λ b. written (on_given t (choose b (λ _. given) (λ _. Gives [] 0)) next).acts ≡ concat (map output_of (lost_then (first_loss table keep message) message rest)))
       (sym small) (step (first_loss table keep message) place.message message t next rest (of_first message is) goes)
   chosen false place message t next rest is small goes =

@@ -4,7 +4,7 @@ use Rattle.std.specs.declared.option.Option.{Option}
 use Rattle.std.specs.Io.KnownBytes.{Appends}
 use Rattle.grib_io.specs.Outside.{AppendsFront, Counted}
 use Rattle.grib_stream.specs.declared.outcome.Outcome.{Outcome}
-use Rattle.grib_stream.specs.declared.outcome.Outcome.TheVariants.{Done, Usage, Refused, Kept, TableRefused, ReadFault, WriteFault, ShelfFault, Memory, InputTooLong, NotBuilt}
+use Rattle.grib_stream.specs.declared.outcome.Outcome.TheVariants.{Done, Usage, Refused, Kept, TableRefused, ReadFault, WriteFault, ShelfFault, Memory, InputTooLong}
 use Rattle.grib_stream.specs.declared.place.Totals.{Totals}
 use Rattle.grib_stream.specs.Acts.{World}
 use Rattle.grib_stream.specs.Outcomes.{KeepsOrCuts, is_broken, is_cut_short}
@@ -14,6 +14,7 @@ use Rattle.grib_stream.proofs.Notes.{notes_within}
 use Rattle.grib_engine.specs.Closing.{ClosesRun, EndsInTurn, EndsRun, Unfinished}
 use Rattle.grib_engine.specs.Outcomes.{note_of, note_with, NotesFront, NotesEnd, Noted, NotesRun}
 use Rattle.grib_engine.specs.Command.{Command, task}
+use Rattle.grib_engine.specs.Endings.{ending_note}
 use Rattle.grib_engine.proofs.Outside.{front_of_nothing}
 
 -- the end of a run answers the outcome, or a fault of writing, or Memory
@@ -76,17 +77,17 @@ module _ {Output Notes : Type 0} (contents : Output → Option (List ℕ)) (faul
 -- ---- the whole note
 
 whole_input : (a b : Option (List ℕ)) (left : Option (List ℕ)) (limit : ℕ) (job : Command) (totals : Totals) → Notes (task job) limit totals left
-    → Appends a b (job.note totals) → NotesEnd (task job) limit left Done a b
+    → Appends a b (ending_note job.ending totals) → NotesEnd (task job) limit left Done a b
 whole_input a b None limit job totals notes appended = tt
 whole_input a b (Some input) limit job totals notes appended = subst (Appends a b) (sym notes) appended
 
 -- where the input was read to its end
 pub whole_done : (a b : Option (List ℕ)) (left : Option (List ℕ)) (limit : ℕ) (job : Command) (totals : Totals) (result : Outcome) → Notes (task job) limit totals left
-    → OneOf Done result → (is_cut_short result ≡ false → Appends a b (note_with (job.note totals) result)) → is_cut_short result ≡ false
+    → OneOf Done result → (is_cut_short result ≡ false → Appends a b (note_with (ending_note job.ending totals) result)) → is_cut_short result ≡ false
     → NotesEnd (task job) limit left result a b
 whole_done a b left limit job totals result notes (inl same) appended uncut =
     subst (λ o. NotesEnd (task job) limit left o a b) (sym same)
-    (whole_input a b left limit job totals notes (subst (λ o. Appends a b (note_with (job.note totals) o)) same (appended uncut)))
+    (whole_input a b left limit job totals notes (subst (λ o. Appends a b (note_with (ending_note job.ending totals) o)) same (appended uncut)))
 whole_done a b left limit job totals result notes (inr (inl fault)) appended uncut = let no : ⊥ = cc (ap is_cut_short fault) in absurd no
 whole_done a b left limit job totals result notes (inr (inr memory)) appended uncut = let no : ⊥ = cc (ap is_cut_short memory) in absurd no
 
@@ -102,7 +103,6 @@ whole_other a b left limit job WriteFault done other appended = appended
 whole_other a b left limit job ShelfFault done other appended = appended
 whole_other a b left limit job Memory done other appended = appended
 whole_other a b left limit job InputTooLong done other appended = appended
-whole_other a b left limit job NotBuilt done other appended = appended
 
 -- where it ended before
 pub whole_ended : (a b : Option (List ℕ)) (left : Option (List ℕ)) (limit : ℕ) (job : Command) (outcome result : Outcome) (done : List ℕ) → outcome ≢ Done
@@ -116,14 +116,14 @@ whole_ended a b left limit job outcome result done other (inr (inr memory)) appe
 -- ---- a front of a note
 
 front_input : (a b : Option (List ℕ)) (left : Option (List ℕ)) (limit : ℕ) (job : Command) (totals : Totals) (faults faults_now shelf shelf_now : ℕ)
-    → Notes (task job) limit totals left → NotesFront a b (job.note totals) Done → NotesRun (task job) limit left faults faults_now shelf shelf_now a b
+    → Notes (task job) limit totals left → NotesFront a b (ending_note job.ending totals) Done → NotesRun (task job) limit left faults faults_now shelf shelf_now a b
 front_input a b None limit job totals faults faults_now shelf shelf_now notes noted = tt
 front_input a b (Some input) limit job totals faults faults_now shelf shelf_now notes (inl own) = record { front = inl (subst (AppendsFront a b) (sym notes) own) }
 front_input a b (Some input) limit job totals faults faults_now shelf shelf_now notes (inr memory) = record { front = inr (inr (inr memory)) }
 
 -- where the input was read to its end
 pub front_done : (a b left : Option (List ℕ)) (limit : ℕ) (job : Command) (totals : Totals) (faults faults_now shelf shelf_now : ℕ)
-    → Notes (task job) limit totals left → NotesFront a b (job.note totals) Done → NotesRun (task job) limit left faults faults_now shelf shelf_now a b
+    → Notes (task job) limit totals left → NotesFront a b (ending_note job.ending totals) Done → NotesRun (task job) limit left faults faults_now shelf shelf_now a b
 front_done a b left limit job totals faults faults_now shelf shelf_now notes noted =
     front_input a b left limit job totals faults faults_now shelf shelf_now notes noted
 
@@ -143,7 +143,6 @@ front_other a b job answer (Refused refusal) done f f_now s s_now notes other sa
 front_other a b job answer (Kept kept) done f f_now s s_now notes other same read shelf (inl own) = record { front = inl (own_note a b job answer (Kept kept) notes other (same refl) own) }
 front_other a b job answer (TableRefused refusal) done f f_now s s_now notes other same read shelf (inl own) = record { front = inl (own_note a b job answer (TableRefused refusal) notes other (same refl) own) }
 front_other a b job answer InputTooLong done f f_now s s_now notes other same read shelf (inl own) = record { front = inl (own_note a b job answer InputTooLong notes other (same refl) own) }
-front_other a b job answer NotBuilt done f f_now s s_now notes other same read shelf (inl own) = record { front = inl (own_note a b job answer NotBuilt notes other (same refl) own) }
 front_other a b job answer ReadFault done f f_now s s_now notes other same read shelf (inl own) = record { front = inr (inl (own, (read refl).1)) }
 front_other a b job answer ShelfFault done f f_now s s_now notes other same read shelf (inl own) = record { front = inr (inr (inl (own, (shelf refl).1))) }
 front_other a b job answer Memory done f f_now s s_now notes other same read shelf (inl own) = record { front = inr (inr (inr own)) }

@@ -1,5 +1,5 @@
 -- Octets that go through a buffer to a sink, one step after another.
-use Rattle.std.proofs.Common.{◌≡◌, ℕ, ◌+◌, ◌-◌, ◌<◌, ◌≤◌, zero, suc, refl, Ok, Err, IfOk, OnOk, List, [], ◌∷◌, ◌++◌, length, take, drop, ap, sym, ◌∙◌, arith, append_assoc, append-nil, length-take-le, take-append-drop, subst}
+use Rattle.std.proofs.Common.{◌≡◌, ℕ, ◌+◌, ◌-◌, ◌<◌, ◌≤◌, zero, suc, refl, Ok, Err, IfOk, OnOk, List, [], ◌∷◌, ◌++◌, length, take, drop, ap, sym, ◌∙◌, arith, append_assoc, append-nil, take-append-drop, subst}
 use Rattle.std.specs.declared.option.Option.{Option}
 use Rattle.std.specs.declared.result.Result.{Result}
 use Rattle.std.specs.Result.{IsErr, IsErrAnd}
@@ -21,6 +21,9 @@ use Rattle.grib2_message.specs.Fields.{column_of}
 use Rattle.grib_engine.specs.Command.{texts_from}
 use Rattle.grib_engine.specs.Dumping.{dumped, dump_text_1, dump_text}
 use Rattle.grib_decimal.specs.Decimal.{Scale}
+use Rattle.grib_decimal.specs.Summary.{summary_of}
+use Rattle.grib_decimal.specs.declared.extreme.Summary.{Summary}
+use Rattle.grib_text.specs.Stats.{stats_line}
 use Rattle.grib_text.specs.Values.{value_lines}
 use Rattle.grib_engine.specs.Summing.{summed, stats_text, stats_text_1}
 use Rattle.grib_engine.specs.Valuing.{scale_by, valued, value_text, value_text_1}
@@ -201,15 +204,25 @@ dump_is_1 m number column listed reference is_column is_listed is_reference =
     ∙ (ap (λ r. dumped (list_line1 m number) r column) is_reference ∙ ap (λ x. dumped (list_line1 m number) (reduced (ibm x.reference)) x) is_column)
 
 -- and what `stats` prints
-pub sums_are : (m : List ℕ) (number i : ℕ) (column : Column) (reference : Binary) → column ≡ column_of m i → reference ≡ reduced (ieee column.reference)
-    → summed number i reference column ≡ stats_text m number i
-sums_are m number i column reference is_column is_reference =
-    ap (λ r. summed number i r column) is_reference ∙ ap (λ (x : Column). summed number i (reduced (ieee x.reference)) x) is_column
+summed_is : (number i : ℕ) (column : Column) (summary : Summary) (reference : Binary) (form : ℕ → Binary) (word e d : ℕ) → summary ≡ summary_of column.points → reference ≡ reduced (form word)
+    → word ≡ column.reference → e ≡ column.e → d ≡ column.d
+    → stats_line number i summary ++ reference_line reference (signed (bits_of 16 e)) (signed (bits_of 16 d)) ≡ summed number i (reduced (form column.reference)) column
+summed_is number i column summary reference form word e d is_summary is_reference is_word is_e is_d =
+    let r : reference ≡ reduced (form column.reference) = is_reference ∙ ap (λ w. reduced (form w)) is_word in
+    ap (λ s. stats_line number i s ++ reference_line reference (signed (bits_of 16 e)) (signed (bits_of 16 d))) is_summary
+    ∙ ap (λ x. stats_line number i (summary_of column.points) ++ reference_line x (signed (bits_of 16 e)) (signed (bits_of 16 d))) r
+    ∙ ap (λ n. stats_line number i (summary_of column.points) ++ reference_line (reduced (form column.reference)) (signed (bits_of 16 n)) (signed (bits_of 16 d))) is_e
+    ∙ ap (λ n. stats_line number i (summary_of column.points) ++ reference_line (reduced (form column.reference)) (signed (bits_of 16 column.e)) (signed (bits_of 16 n))) is_d
 
-pub sums_are_1 : (m : List ℕ) (number : ℕ) (column : Column) (reference : Binary) → column ≡ column1_of m → reference ≡ reduced (ibm column.reference)
-    → summed number 1 reference column ≡ stats_text_1 m number
-sums_are_1 m number column reference is_column is_reference =
-    ap (λ r. summed number 1 r column) is_reference ∙ ap (λ (x : Column). summed number 1 (reduced (ibm x.reference)) x) is_column
+pub sums_are : (m : List ℕ) (number i : ℕ) (summary : Summary) (reference : Binary) (word e d : ℕ) → summary ≡ summary_of (column_of m i).points → reference ≡ reduced (ieee word)
+    → word ≡ (column_of m i).reference → e ≡ (column_of m i).e → d ≡ (column_of m i).d
+    → stats_line number i summary ++ reference_line reference (signed (bits_of 16 e)) (signed (bits_of 16 d)) ≡ stats_text m number i
+sums_are m number i summary reference word e d = summed_is number i (column_of m i) summary reference ieee word e d
+
+pub sums_are_1 : (m : List ℕ) (number : ℕ) (summary : Summary) (reference : Binary) (word e d : ℕ) → summary ≡ summary_of (column1_of m).points → reference ≡ reduced (ibm word)
+    → word ≡ (column1_of m).reference → e ≡ (column1_of m).e → d ≡ (column1_of m).d
+    → stats_line number 1 summary ++ reference_line reference (signed (bits_of 16 e)) (signed (bits_of 16 d)) ≡ stats_text_1 m number
+sums_are_1 m number summary reference word e d = summed_is number 1 (column1_of m) summary reference ibm word e d
 
 -- and `dump decimals=`
 pub valued_is : (places : ℕ) (listed numbers : List ℕ) (reference : Binary) (column : Column) (scale : Scale) (points : List Point)

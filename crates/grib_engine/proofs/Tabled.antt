@@ -1,25 +1,24 @@
 -- A run by a table that was read, or was not.
-use Rattle.std.proofs.Common.{◌≡◌, ◌≢◌, ◌⊎◌, ℕ, ◌+◌, ◌^◌, ◌≤◌, true, false, IfSome, Option, Some, None, List, [], ◌++◌, refl, sym, ap, ◌∙◌, subst, inl, inr, arith}
-use Rattle.std.specs.Io.KnownBytes.{Appends, Keeps}
+use Rattle.std.proofs.Common.{◌≡◌, ◌≢◌, ℕ, ◌^◌, true, false, IfSome, Option, Some, None, List, [], ◌++◌, refl, sym, ap, ◌∙◌, subst, inl, inr, arith}
+use Rattle.std.specs.Io.KnownBytes.{Appends}
 use Rattle.std.proofs.KnownBytes.{Consumes-nil}
 use Rattle.std.proofs.lemmas.Bool.{false≢true}
 use Rattle.grib_causes.specs.declared.table.TableRefusal.{TableRefusal}
-use Rattle.grib_io.specs.Outside.{AppendsFront, Counted, Rose}
+use Rattle.grib_io.specs.Outside.{Counted}
 use Rattle.grib_io.specs.Shelves.{Held, Stays}
 use Rattle.grib_params.specs.Table.{Entries}
-use Rattle.grib_stream.specs.Acts.{Act, World, world, Did, DidFront, NamesDid}
+use Rattle.grib_stream.specs.Acts.{World, world, Did}
 use Rattle.grib_stream.specs.Answer.{Answer, answer_of, answer_within}
-use Rattle.grib_stream.specs.Faults.{faults, CountsRun, OneCounted}
-use Rattle.grib_stream.specs.Outcomes.{KeepsOrCuts, is_broken, is_cut_short}
-use Rattle.grib_stream.specs.Run.{Gives, Runs, Took}
+use Rattle.grib_stream.specs.Outcomes.{is_broken, is_cut_short}
+use Rattle.grib_stream.specs.Run.{Gives, Runs}
 use Rattle.grib_stream.specs.Task.{Task}
 use Rattle.grib_stream.specs.declared.outcome.Outcome.{Outcome}
 use Rattle.grib_stream.specs.declared.outcome.Outcome.TheVariants.{Done, TableRefused, ReadFault, WriteFault, ShelfFault, Memory}
 use Rattle.grib_stream.proofs.Exits.{runs_broken}
-use Rattle.grib_stream.proofs.Worlds.{did_none, did_then, did_still, did_keep, front_whole, front_more, front_after}
-use Rattle.grib_table.specs.Tabled.{Tabled, Good, Refused, Stood, tabled}
+use Rattle.grib_stream.proofs.Worlds.{did_none, did_then, front_whole, front_after}
+use Rattle.grib_table.specs.Tabled.{Tabled, Good, Refused, Stood}
 use Rattle.grib_engine.specs.Command.{Command, task}
-use Rattle.grib_engine.specs.Outcomes.{note_of, note_with, NotesFront, NotesEnd, Noted, NotesRun}
+use Rattle.grib_engine.specs.Outcomes.{note_of, note_with, NotesFront, Noted}
 use Rattle.grib_engine.specs.Serving.{RunsTabled, NotesTabled, NotesTabledFront, IfRefused}
 use Rattle.grib_engine.specs.Tasks.{refused_answer}
 use Rattle.grib_engine.proofs.Noted.{OneOf, whole_ended}

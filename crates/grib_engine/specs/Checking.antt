@@ -2,8 +2,8 @@
 use Rattle.std.specs.Prelude.{ℕ, List, length}
 use Rattle.grib2_message.specs.Fields.{field_count}
 use Rattle.grib_stream.specs.declared.place.Place.{Place}
-use Rattle.grib_stream.specs.declared.place.Totals.{Totals}
-use Rattle.grib_text.specs.Lines.{check_line, total_line}
+use Rattle.grib_text.specs.Lines.{check_line}
+use Rattle.grib_engine.specs.declared.ending.Ending.TheVariants.{Total}
 use Rattle.grib_engine.specs.Command.{Command, IsLawfulCommand, printing}
 use Rattle.grib_engine.specs.LawfulCommands.{printing_lawful}
 
@@ -14,11 +14,8 @@ line_of edition fields place message = check_line place.message place.before edi
 abbrev pub line_2 : Place → List ℕ → List ℕ
 line_2 place message = line_of 2 (field_count message) place message
 
-abbrev pub last_line : Totals → List ℕ
-last_line totals = total_line totals.messages totals.fields totals.skipped
-
 abbrev pub check_command : Command
-check_command = printing (line_of 1 1) line_2 last_line
+check_command = printing (line_of 1 1) line_2 Total
 
 pub check_lawful : IsLawfulCommand check_command
-check_lawful = printing_lawful (line_of 1 1) line_2 last_line
+check_lawful = printing_lawful (line_of 1 1) line_2 Total

@@ -4,12 +4,11 @@ use Rattle.std.specs.Prelude.{ℕ, List, ◌++◌}
 use Rattle.grib_bits.specs.Bits.{bits_of, signed}
 use Rattle.grib_dyadic.specs.Reference.{Binary, ieee, ibm, reduced}
 use Rattle.grib_packing.specs.declared.column.Column.{Column}
-use Rattle.grib2_message.specs.Fields.{field_count, column_of}
+use Rattle.grib2_message.specs.Fields.{column_of}
 use Rattle.grib1_sections.specs.Column.{column1_of}
 use Rattle.grib_text.specs.Lines.{list_line, reference_line, point_lines}
 use Rattle.grib_text.specs.Lines1.{list_line1}
-use Rattle.grib_engine.specs.Command.{Command, IsLawfulCommand, texts_from, nothing, printing}
-use Rattle.grib_engine.specs.LawfulCommands.{printing_lawful}
+use Rattle.grib_engine.specs.Command.{Command, printing_fields}
 
 -- what is printed of a field with this list line and this reference value, in both editions
 abbrev pub dumped : List ℕ → Binary → Column → List ℕ
@@ -26,9 +25,4 @@ dump_text message m i =
     let column = column_of message i in dumped (list_line message m i) (reduced (ieee column.reference)) column
 
 abbrev pub dump_command : Command
-dump_command =
-    printing (λ place message. dump_text_1 message place.message)
-    (λ place message. texts_from (dump_text message place.message) (field_count message) 1) nothing
-
-pub dump_lawful : IsLawfulCommand dump_command
-dump_lawful = printing_lawful _ _ _
+dump_command = printing_fields dump_text_1 dump_text

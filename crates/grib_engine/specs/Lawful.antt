@@ -1,5 +1,5 @@
 -- What is said of octets stays said, whatever follows them.
-use Rattle.std.proofs.Common.{◌≡◌, ◌≢◌, ℕ, zero, suc, ◌+◌, ◌*◌, ◌<◌, ◌≤◌, Bool, true, false, cond, ◌⊎◌, inl, inr, Option, Some, None, List, [], ◌∷◌, ◌++◌, length, take, drop, nat_lt, ◌==◌, refl, sym, ap, ◌∙◌, arith, ⊎_elim, lt-ltb, ltb-false, eqb-true, eq-eqb, length-take-le, length-drop, take-append-drop}
+use Rattle.std.proofs.Common.{◌≡◌, ◌≢◌, ℕ, zero, suc, ◌+◌, ◌*◌, ◌<◌, ◌≤◌, Bool, true, false, ◌⊎◌, inl, inr, Option, Some, None, List, [], ◌∷◌, ◌++◌, length, take, drop, nat_lt, ◌==◌, refl, sym, ap, ◌∙◌, arith, ⊎_elim, lt-ltb, eqb-true, eq-eqb, length-take-le, length-drop, take-append-drop}
 use Rattle.std.proofs.lemmas.Bool.{cases_Bool, false≢true, cases_lt}
 use Rattle.std.proofs.lemmas.List.{drop_all, take-append-le}
 use Rattle.std.proofs.lemmas.List.Sums.{count_by-le-length}
@@ -22,7 +22,6 @@ use Rattle.grib2_message.specs.Message.{IsMessage}
 use Rattle.grib1_sections.specs.Message.{IsMessage1}
 use Rattle.grib2_message.proofs.Passed.{passes_from_none}
 use Rattle.grib2_message.proofs.Whole.{head_passes}
-use Rattle.grib2_message.proofs.Parted.{message_least, message_most}
 use Rattle.grib2_message.proofs.Stays.{accepted_stays, refused_stays}
 use Rattle.grib2_message.proofs.Fronts.{accepted_least, accepted_there, accepted_alone}
 use Rattle.grib_stream.specs.Stream.{Judgement, Message, Faulty, begins}

@@ -2,6 +2,7 @@ pub mod Jobs
 pub mod Notes
 pub mod Outcomes
 pub mod Judging
+pub mod Endings
 pub mod Command
 pub mod LawfulCommands
 pub mod FieldOctets
@@ -20,6 +21,7 @@ pub mod Repacking
 pub mod Rescanning
 pub mod Migrating
 pub mod Tasks
+pub mod Each
 pub mod Lawful
 pub mod Serving
 pub mod Same

@@ -1,32 +1,25 @@
 -- `migrate`: each message of edition 1 as one of edition 2, by the rows of a parameter table.
-use Rattle.std.proofs.Common.{◌≡◌, ℕ, zero, suc, ◌+◌, ◌-◌, ◌*◌, ◌<◌, ◌≤◌, Bool, true, false, ◌&&◌, nat_lt, Option, Some, None, List, [], ◌∷◌, length, drop, All, refl, sym, ap, arith, ⊎_elim, ltb-true, length-take, length-drop}
+use Rattle.std.proofs.Common.{◌≡◌, ℕ, ◌+◌, ◌-◌, ◌*◌, ◌<◌, ◌≤◌, Bool, true, false, ◌&&◌, nat_lt, None, option_map, List, [], ◌∷◌, length, drop, All, refl, sym, ap, arith, ⊎_elim, ltb-true, length-take, length-drop}
 use Rattle.std.proofs.lemmas.Bool.{cases_Bool}
 use Rattle.std.proofs.lemmas.List.Elements.{All-nil, All-cons}
 use Rattle.grib_base.specs.Rows.{choose}
 use Rattle.grib_bits.specs.Octets.{octet_list, octets}
-use Rattle.grib_causes.specs.declared.loss.Loss.{Loss}
 use Rattle.grib_causes.specs.declared.cause.Cause.TheVariants.{Lost}
 use Rattle.grib1_sections.specs.Acceptance.{identification}
 use Rattle.grib1_sections.specs.Message.{IsMessage1}
 use Rattle.grib1_sections.proofs.Joined.{message_sections_pass}
-use Rattle.grib2_message.specs.Message.{IsMessage}
 use Rattle.grib2_message.proofs.Parted.{message_most}
 use Rattle.grib_params.specs.Table.{Entries}
 use Rattle.grib_migrate.specs.Losses.{first_loss}
 use Rattle.grib_migrate.specs.Migrated.{migrated}
-use Rattle.grib_migrate_law.specs.Source.{MayBeMigrated}
 use Rattle.grib_migrate_law.proofs.Migrated.{migrated_is_message}
 use Rattle.grib_stream.specs.declared.outcome.Outcome.{Outcome}
 use Rattle.grib_stream.specs.Acts.{Act}
 use Rattle.grib_stream.specs.Outcomes.{is_of_message}
-use Rattle.grib_stream.specs.Task.{Given, Gives, Ends}
-use Rattle.grib_engine.specs.Command.{Command, IsLawfulCommand, given_whole, kept_at, nothing, printing}
-use Rattle.grib_engine.specs.Notes.{written_note}
-
--- these octets are written, or message m is kept by what would be lost
-abbrev pub given_migrated : Option Loss → ℕ → List ℕ → Given
-given_migrated None m octets = given_whole octets
-given_migrated (Some loss) m octets = Ends (kept_at m (Lost loss))
+use Rattle.grib_stream.specs.Task.{Gives, Ends}
+use Rattle.grib_engine.specs.declared.ending.Ending.TheVariants.{Written}
+use Rattle.grib_engine.specs.Command.{Command, IsLawfulCommand, given_whole, given_unless}
+use Rattle.grib_engine.specs.LawfulCommands.{unless_few, unless_ends, unmapped}
 
 -- octets are less than 256
 abbrev pub are_octets : List ℕ → Bool
@@ -38,11 +31,10 @@ abbrev pub migrate_command : Bool → Entries → Command
 migrate_command keep_local table = record {
   first = λ place message.
       choose (are_octets message)
-      (λ _. given_migrated (first_loss table keep_local message) place.message (migrated table keep_local message))
+      (λ _. given_unless (option_map Lost (first_loss table keep_local message)) place.message (migrated table keep_local message))
       (λ _. Gives [] 0);
   second = λ place message. given_whole message;
-  ending = nothing;
-  note = written_note;
+  ending = Written;
   uses_shelf = false;
 }
 
@@ -71,46 +63,38 @@ first_least m h =
     let most : length (identification m) ≤ length m = piece_short m 9 (9 - 1 + octets m 9 (9 + 2)) in
     omega arith
 
-few_migrated : (loss : Option Loss) (m : ℕ) (octets : List ℕ) (acts : List Act) (written : ℕ) → (loss ≡ None → length octets ≤ 268435456)
-    → given_migrated loss m octets ≡ Gives acts written → written ≤ 268435456
-few_migrated None m octets acts written few is = let same : length octets ≡ written = cc in let fits : length octets ≤ 268435456 = few refl in omega arith
-few_migrated (Some loss) m octets acts written few is = let no : ⊥ = cc in absurd no
-
-ends_migrated : (loss : Option Loss) (m : ℕ) (octets : List ℕ) (outcome : Outcome) → given_migrated loss m octets ≡ Ends outcome → is_of_message outcome ≡ true
-ends_migrated None m octets outcome is = let no : ⊥ = cc in absurd no
-ends_migrated (Some loss) m octets outcome is = let same : kept_at m (Lost loss) ≡ outcome = cc in sym (ap is_of_message same)
-
 module _ (keep : Bool) (table : Entries) where
   chosen_few : (m : ℕ) (message : List ℕ) (acts : List Act) (written : ℕ) → IsMessage1 message
-      → choose (are_octets message) (λ _. given_migrated (first_loss table keep message) m (migrated table keep message)) (λ _. Gives [] 0) ≡ Gives acts written
+      → choose (are_octets message) (λ _. given_unless (option_map Lost (first_loss table keep message)) m (migrated table keep message)) (λ _. Gives [] 0) ≡ Gives acts written
       → 20 * written ≤ 268435456 * length message
   chosen_few m message acts written h is =
       ⊎_elim
       (λ (yes : are_octets message ≡ true).
-      let own = ap (λ b. choose b (λ _. given_migrated (first_loss table keep message) m (migrated table keep message)) (λ _. Gives [] 0)) (sym yes) in
-      let gives : given_migrated (first_loss table keep message) m (migrated table keep message) ≡ Gives acts written = cc in
-      let few : (first_loss table keep message ≡ None → length (migrated table keep message) ≤ 268435456) =
-      λ none. message_most (migrated table keep message) (migrated_is_message table keep message (record { accepted = h; small = all_octets message yes; kept = none })) in
-      let most = few_migrated (first_loss table keep message) m (migrated table keep message) acts written few gives in
+      let own = ap (λ b. choose b (λ _. given_unless (option_map Lost (first_loss table keep message)) m (migrated table keep message)) (λ _. Gives [] 0)) (sym yes) in
+      let gives : given_unless (option_map Lost (first_loss table keep message)) m (migrated table keep message) ≡ Gives acts written = cc in
+      let few : (option_map Lost (first_loss table keep message) ≡ None → length (migrated table keep message) ≤ 268435456) =
+      λ none. message_most (migrated table keep message)
+      (migrated_is_message table keep message (record { accepted = h; small = all_octets message yes; kept = unmapped Lost (first_loss table keep message) none })) in
+      let most = unless_few (option_map Lost (first_loss table keep message)) m (migrated table keep message) acts written few gives in
       omega (arith, first_least message h))
       (λ (no : are_octets message ≡ false).
-      let own = ap (λ b. choose b (λ _. given_migrated (first_loss table keep message) m (migrated table keep message)) (λ _. Gives [] 0)) (sym no) in
+      let own = ap (λ b. choose b (λ _. given_unless (option_map Lost (first_loss table keep message)) m (migrated table keep message)) (λ _. Gives [] 0)) (sym no) in
       let none : Gives [] 0 ≡ Gives acts written = cc in
       let zero_written : 0 ≡ written = cc in
       omega arith)
       (cases_Bool (are_octets message))
 
   chosen_ends : (m : ℕ) (message : List ℕ) (outcome : Outcome)
-      → choose (are_octets message) (λ _. given_migrated (first_loss table keep message) m (migrated table keep message)) (λ _. Gives [] 0) ≡ Ends outcome
+      → choose (are_octets message) (λ _. given_unless (option_map Lost (first_loss table keep message)) m (migrated table keep message)) (λ _. Gives [] 0) ≡ Ends outcome
       → is_of_message outcome ≡ true
   chosen_ends m message outcome is =
       ⊎_elim
       (λ (yes : are_octets message ≡ true).
-      let own = ap (λ b. choose b (λ _. given_migrated (first_loss table keep message) m (migrated table keep message)) (λ _. Gives [] 0)) (sym yes) in
-      let ends : given_migrated (first_loss table keep message) m (migrated table keep message) ≡ Ends outcome = cc in
-      ends_migrated (first_loss table keep message) m (migrated table keep message) outcome ends)
+      let own = ap (λ b. choose b (λ _. given_unless (option_map Lost (first_loss table keep message)) m (migrated table keep message)) (λ _. Gives [] 0)) (sym yes) in
+      let ends : given_unless (option_map Lost (first_loss table keep message)) m (migrated table keep message) ≡ Ends outcome = cc in
+      unless_ends (option_map Lost (first_loss table keep message)) m (migrated table keep message) outcome ends)
       (λ (no : are_octets message ≡ false).
-      let own = ap (λ b. choose b (λ _. given_migrated (first_loss table keep message) m (migrated table keep message)) (λ _. Gives [] 0)) (sym no) in
+      let own = ap (λ b. choose b (λ _. given_unless (option_map Lost (first_loss table keep message)) m (migrated table keep message)) (λ _. Gives [] 0)) (sym no) in
       let none : Gives [] 0 ≡ Ends outcome = cc in
       let false_ends : ⊥ = cc in absurd false_ends)
       (cases_Bool (are_octets message))

@@ -7,7 +7,7 @@ use Rattle.std.specs.declared.option.Option.{Option}
 use Rattle.grib_io.specs.Outside.{AppendsFront, Rose}
 use Rattle.grib_text.specs.Notes.{refusal_note}
 use Rattle.grib_stream.specs.declared.outcome.Outcome.{Outcome}
-use Rattle.grib_stream.specs.declared.outcome.Outcome.TheVariants.{Done, Usage, Refused, Kept, TableRefused, ReadFault, WriteFault, ShelfFault, Memory, InputTooLong, NotBuilt}
+use Rattle.grib_stream.specs.declared.outcome.Outcome.TheVariants.{Done, Usage, Refused, Kept, TableRefused, ReadFault, WriteFault, ShelfFault, Memory, InputTooLong}
 use Rattle.grib_stream.specs.Task.{Task}
 use Rattle.grib_stream.specs.Answer.{answer_within}
 use Rattle.grib_engine.specs.Notes.{kept_note, table_note}
@@ -24,7 +24,6 @@ note_of WriteFault = []
 note_of ShelfFault = codes "shelf fault\n"
 note_of Memory = codes "memory\n"
 note_of InputTooLong = codes "input too long\n"
-note_of NotBuilt = codes "not built\n"
 
 -- the line that is noted, where this is noted of an input that was read to its end
 abbrev pub note_with : List ℕ → Outcome → List ℕ

@@ -1,5 +1,5 @@
 -- `rescan` and `crop`: each message in the order of scanning octet 0, or a box of its grids.
-use Rattle.std.proofs.Common.{◌≡◌, ℕ, ◌≤◌, true, false, cond, Option, Some, None, List, length, nat_lt, sym, ap, refl, arith, ⊎_elim, ltb-false}
+use Rattle.std.proofs.Common.{◌≡◌, ℕ, ◌≤◌, true, false, cond, Option, Some, None, option_map, List, length, nat_lt, ap, ⊎_elim, ltb-false}
 use Rattle.std.specs.List.{range_with_len}
 use native.Mathlib.Bridge.{le_prop}
 use mathlib.Core.HLevel.{×_prop, Unit-prop}
@@ -12,16 +12,12 @@ use Rattle.grib_rescanned.specs.declared.edit.GridEdit.TheVariants.{Rescan, Crop
 use Rattle.grib_rescanned.specs.declared.fault.RescanFault.{RescanFault}
 use Rattle.grib_rescanned.specs.declared.fault.RescanFault.TheVariants as faults
 use Rattle.grib_rescanned.specs.Rescanned.{Stands, EditMisfit, OfGrid, OfColumn, TooLong, edited, misfit_among, or_later, length_misfit, edit_misfit}
-use Rattle.grib_stream.specs.declared.outcome.Outcome.{Outcome}
 use Rattle.grib_causes.specs.declared.cause.Cause.{Cause}
 use Rattle.grib_causes.specs.declared.cause.Cause.TheVariants as causes
-use Rattle.grib_stream.specs.Acts.{Act}
-use Rattle.grib_stream.specs.Outcomes.{is_of_message}
-use Rattle.grib_stream.specs.Task.{Given, Gives, Ends}
 use Rattle.grib_engine.specs.declared.answered.Answered.{Answered}
 use Rattle.grib_engine.specs.declared.answered.Answered.TheVariants.{Kept, Memory}
-use Rattle.grib_engine.specs.Command.{Command, IsLawfulCommand, given_whole, kept_at, changing}
-use Rattle.grib_engine.specs.LawfulCommands.{few_each, changing_lawful}
+use Rattle.grib_engine.specs.Command.{Command, IsLawfulCommand, changing_unless}
+use Rattle.grib_engine.specs.LawfulCommands.{unless_lawful, unmapped}
 
 -- the misfit of a message as the cause that it is kept by
 abbrev pub edit_cause : EditMisfit → Cause
@@ -34,13 +30,8 @@ edit_cause (OfColumn field (packing.OutOfRange point)) = causes.OutOfRange field
 edit_cause (OfColumn field packing.DifferenceRange) = causes.DifferenceRange field
 edit_cause (TooLong length) = causes.OutputTooLong length
 
--- these octets are written, or message m is kept by its misfit
-abbrev pub given_edited : Option EditMisfit → ℕ → List ℕ → Given
-given_edited None m octets = given_whole octets
-given_edited (Some misfit) m octets = Ends (kept_at m (edit_cause misfit))
-
 abbrev pub edit_command : GridEdit → Command
-edit_command edit = changing (λ place message. given_edited (edit_misfit edit message) place.message (edited edit message))
+edit_command edit = changing_unless (λ message. option_map edit_cause (edit_misfit edit message)) (edited edit)
 
 -- what comes of a message that is not edited
 abbrev pub answered_unedited : RescanFault → Answered
@@ -61,16 +52,6 @@ Stands-prop (Crop area) = ×_prop le_prop le_prop
 
 -- ---- it is lawful
 
-few_edited : (misfit : Option EditMisfit) (m : ℕ) (octets : List ℕ) (acts : List Act) (written : ℕ) → (misfit ≡ None → length octets ≤ 268435456)
-    → given_edited misfit m octets ≡ Gives acts written → written ≤ 268435456
-few_edited None m octets acts written few is = let same : length octets ≡ written = cc in let fits : length octets ≤ 268435456 = few refl in omega arith
-few_edited (Some misfit) m octets acts written few is = let no : ⊥ = cc in absurd no
-
-ends_edited : (misfit : Option EditMisfit) (m : ℕ) (octets : List ℕ) (outcome : Outcome) → given_edited misfit m octets ≡ Ends outcome
-    → is_of_message outcome ≡ true
-ends_edited None m octets outcome is = let no : ⊥ = cc in absurd no
-ends_edited (Some misfit) m octets outcome is = let same : kept_at m (edit_cause misfit) ≡ outcome = cc in sym (ap is_of_message same)
-
 fits_length : (l : ℕ) → length_misfit l ≡ None → l ≤ 268435456
 fits_length l none =
     ⊎_elim
@@ -90,9 +71,4 @@ few_of edit message none =
     (later_none (misfit_among edit message (range_with_len 1 (field_count message))) (λ _. length_misfit (length (edited edit message))) none)
 
 pub edit_lawful : (edit : GridEdit) → IsLawfulCommand (edit_command edit)
-edit_lawful edit =
-    changing_lawful _
-    (λ place message acts written h is.
-    few_each written message h
-    (few_edited (edit_misfit edit message) place.message (edited edit message) acts written (few_of edit message) is))
-    (λ place message outcome is. ends_edited (edit_misfit edit message) place.message (edited edit message) outcome is)
+edit_lawful edit = unless_lawful _ _ (λ message h none. few_of edit message (unmapped edit_cause (edit_misfit edit message) none))

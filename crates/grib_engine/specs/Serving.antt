@@ -4,7 +4,6 @@
 use Rattle.std.specs.Prelude.{◌≡◌, ◌≢◌, ◌⊎◌, ◌<◌, ℕ, ◌^◌, Bool, true, false, List}
 use Rattle.std.specs.declared.option.Option.{Option}
 use Rattle.std.specs.Io.KnownBytes.{Appends}
-use Rattle.grib_causes.specs.declared.table.TableRefusal.{TableRefusal}
 use Rattle.grib_io.specs.Shelves.{Held, Stays}
 use Rattle.grib_params.specs.Table.{Entries}
 use Rattle.grib_table.specs.Tabled.{Tabled, Good, Refused, tabled, Stood}

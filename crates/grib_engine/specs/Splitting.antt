@@ -1,7 +1,6 @@
 -- `split`: each field as a message of its own, on the shelf.
 use Rattle.std.proofs.Common.{◌≡◌, ℕ, ◌*◌, ◌≤◌, true, List, length, arith}
 use Rattle.grib2_message.specs.Message.{IsMessage}
-use Rattle.grib_stream.specs.declared.place.Place.{Place}
 use Rattle.grib_stream.specs.declared.outcome.Outcome.{Outcome}
 use Rattle.grib_stream.specs.Acts.{Act}
 use Rattle.grib_stream.specs.Outcomes.{is_of_message}

@@ -4,13 +4,12 @@ use Rattle.std.specs.Prelude.{ℕ, List, ◌++◌}
 use Rattle.grib_bits.specs.Bits.{bits_of, signed}
 use Rattle.grib_dyadic.specs.Reference.{Binary, ieee, ibm, reduced}
 use Rattle.grib_packing.specs.declared.column.Column.{Column}
-use Rattle.grib2_message.specs.Fields.{field_count, column_of}
+use Rattle.grib2_message.specs.Fields.{column_of}
 use Rattle.grib1_sections.specs.Column.{column1_of}
 use Rattle.grib_decimal.specs.Summary.{summary_of}
 use Rattle.grib_text.specs.Lines.{reference_line}
 use Rattle.grib_text.specs.Stats.{stats_line}
-use Rattle.grib_engine.specs.Command.{Command, IsLawfulCommand, texts_from, nothing, printing}
-use Rattle.grib_engine.specs.LawfulCommands.{printing_lawful}
+use Rattle.grib_engine.specs.Command.{Command, printing_fields}
 
 -- what is printed of field i of message m, with this reference value, in both editions
 abbrev pub summed : ℕ → ℕ → Binary → Column → List ℕ
@@ -26,9 +25,4 @@ abbrev pub stats_text : List ℕ → ℕ → ℕ → List ℕ
 stats_text message m i = let column = column_of message i in summed m i (reduced (ieee column.reference)) column
 
 abbrev pub stats_command : Command
-stats_command =
-    printing (λ place message. stats_text_1 message place.message)
-    (λ place message. texts_from (stats_text message place.message) (field_count message) 1) nothing
-
-pub stats_lawful : IsLawfulCommand stats_command
-stats_lawful = printing_lawful _ _ _
+stats_command = printing_fields stats_text_1 stats_text

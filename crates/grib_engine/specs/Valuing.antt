@@ -18,7 +18,8 @@ use Rattle.grib_stream.specs.declared.outcome.Outcome.{Outcome}
 use Rattle.grib_stream.specs.Acts.{Act}
 use Rattle.grib_stream.specs.Outcomes.{is_of_message}
 use Rattle.grib_stream.specs.Task.{Given, Gives, Ends}
-use Rattle.grib_engine.specs.Command.{Command, IsLawfulCommand, given_text, kept_at, texts_from, nothing}
+use Rattle.grib_engine.specs.declared.ending.Ending.TheVariants.{Silent}
+use Rattle.grib_engine.specs.Command.{Command, IsLawfulCommand, given_text, kept_at, texts_from}
 use Rattle.grib_engine.specs.LawfulCommands.{none_counted}
 
 abbrev pub scale_by : ℕ → Binary → Column → Scale
@@ -74,8 +75,7 @@ value_command places = record {
   first = λ place message. text_unless (cause_1 places message) place.message (value_text_1 places message place.message);
   second = λ place message.
       text_unless (cause_2 places message) place.message (texts_from (value_text places message place.message) (field_count message) 1);
-  ending = nothing;
-  note = nothing;
+  ending = Silent;
   uses_shelf = false;
 }
 

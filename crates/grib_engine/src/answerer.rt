@@ -1,16 +1,16 @@
 //! What answers the messages of an input as a command says.
 
-ghost use Rattle.std.specs.Prelude.{◌≡◌, ◌≤◌, ◌^◌, false, IfOk};
+ghost use Rattle.std.specs.Prelude.{◌≡◌, ◌≤◌, ◌^◌, false};
 ghost use Rattle.grib_engine.specs.Answering.{AnswersMessage, AnswersByOutput};
 ghost use Rattle.grib_engine.specs.Command.{Command, IsLawfulCommand};
-ghost use Rattle.grib_engine.specs.Pending.{WritesTo};
 
 use crate::answered::Answered;
-use grib_io::{Shelf, Sink, Stop};
-use grib_stream::{Place, Totals};
+use crate::ending::Ending;
+use grib_io::{Shelf, Sink};
+use grib_stream::Place;
 use grib1_sections::Message1;
 use grib2_message::Message;
-use std::alloc::{AllocError, Global};
+use std::alloc::Global;
 
 /// Answers messages by the output or by the shelf. After a fault or without memory some front of a result was
 /// done.
@@ -46,19 +46,9 @@ pub trait Answerer {
             result place.now.message ((definition self.now).second place.now message.now)
             (definition self.now).uses_shelf output.old output.new shelf.old shelf.new };
 
-    /// Writes what is printed at the end of the input.
-    fn write_ending<T: Sink>(
-        &self,
-        alloc: Global,
-        totals: &Totals,
-        output: &mut T,
-    ) -> Result<(), Stop>
-        ensures { WritesTo T.contents T.faults result output.old output.new
-            ((definition self.now).ending totals.now) };
-
-    /// What is noted at the end of the input.
-    fn ending_note(&self, alloc: Global, totals: &Totals) -> Result<Vec<u8>, AllocError>
-        ensures { IfOk result (λ note. note.items ≡ (definition self.now).note totals.now) };
+    /// What is printed and noted at the end of the input.
+    fn ending(&self) -> Ending
+        ensures { result ≡ (definition self.now).ending };
 
     ghost lawful: { (answerer : Self) → IsLawfulCommand (definition answerer) };
 }
@@ -90,19 +80,9 @@ pub trait Writer {
         ensures { AnswersByOutput T.contents T.faults result place.now.message
             ((definition self.now).second place.now message.now) output.old output.new };
 
-    /// Writes what is printed at the end of the input.
-    fn write_ending<T: Sink>(
-        &self,
-        alloc: Global,
-        totals: &Totals,
-        output: &mut T,
-    ) -> Result<(), Stop>
-        ensures { WritesTo T.contents T.faults result output.old output.new
-            ((definition self.now).ending totals.now) };
-
-    /// What is noted at the end of the input.
-    fn ending_note(&self, alloc: Global, totals: &Totals) -> Result<Vec<u8>, AllocError>
-        ensures { IfOk result (λ note. note.items ≡ (definition self.now).note totals.now) };
+    /// What is printed and noted at the end of the input.
+    fn ending(&self) -> Ending
+        ensures { result ≡ (definition self.now).ending };
 
     ghost lawful: { (writer : Self) → IsLawfulCommand (definition writer) };
 
@@ -140,16 +120,7 @@ impl<W: Writer> Answerer for ByOutput<W> {
         self.0.second(alloc, place, message, output)
     }
 
-    fn write_ending<T: Sink>(
-        &self,
-        alloc: Global,
-        totals: &Totals,
-        output: &mut T,
-    ) -> Result<(), Stop> {
-        self.0.write_ending(alloc, totals, output)
-    }
-
-    fn ending_note(&self, alloc: Global, totals: &Totals) -> Result<Vec<u8>, AllocError> {
-        self.0.ending_note(alloc, totals)
+    fn ending(&self) -> Ending {
+        self.0.ending()
     }
 }

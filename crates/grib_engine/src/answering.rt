@@ -9,12 +9,14 @@ ghost use Rattle.grib_engine.specs.Tasks.{IfReads, work_of};
 
 use crate::answered::Answered;
 use crate::answerer::{Answerer, ByOutput};
+use crate::changing::Changing;
 use crate::checking::Checking;
 use crate::dumping::Dumping;
 use crate::filtering::Filtering;
 use crate::job::Job;
 use crate::listing::Listing;
 use crate::migrating::Migrating;
+use crate::printing::Printing;
 use crate::reading::{Held, first_edition, second_edition};
 use crate::repacking::Repacking;
 use crate::rescanning::Rescanning;
@@ -50,10 +52,31 @@ pub fn answer_message<T: Sink, H: Shelf>(
 {
     match job {
         Job::Check => answer_held(&ByOutput(Checking), alloc, place, held, output, shelf),
-        Job::List => answer_held(&ByOutput(Listing), alloc, place, held, output, shelf),
-        Job::Stats => answer_held(&ByOutput(Summing), alloc, place, held, output, shelf),
+        Job::List => answer_held(
+            &ByOutput(Printing(Listing)),
+            alloc,
+            place,
+            held,
+            output,
+            shelf,
+        ),
+        Job::Stats => answer_held(
+            &ByOutput(Printing(Summing)),
+            alloc,
+            place,
+            held,
+            output,
+            shelf,
+        ),
         Job::Dump { decimals: None } => {
-            answer_held(&ByOutput(Dumping), alloc, place, held, output, shelf)
+            answer_held(
+                &ByOutput(Printing(Dumping)),
+                alloc,
+                place,
+                held,
+                output,
+                shelf,
+            )
         }
         Job::Dump {
             decimals: Some(places),
@@ -71,7 +94,7 @@ pub fn answer_message<T: Sink, H: Shelf>(
         Job::Filter(conditions) => {
             let conditions = conditions.as_slice();
             answer_held(
-                &ByOutput(Filtering { conditions }),
+                &ByOutput(Changing(Filtering { conditions })),
                 alloc,
                 place,
                 held,
@@ -83,7 +106,7 @@ pub fn answer_message<T: Sink, H: Shelf>(
         Job::Set(changes) => {
             let changes = changes.as_slice();
             answer_held(
-                &ByOutput(Setting { changes }),
+                &ByOutput(Changing(Setting { changes })),
                 alloc,
                 place,
                 held,
@@ -94,7 +117,7 @@ pub fn answer_message<T: Sink, H: Shelf>(
         Job::Repack(target) => {
             let target = *target;
             answer_held(
-                &ByOutput(Repacking { target }),
+                &ByOutput(Changing(Repacking { target })),
                 alloc,
                 place,
                 held,
@@ -105,7 +128,7 @@ pub fn answer_message<T: Sink, H: Shelf>(
         Job::Rescan => {
             let edit = GridEdit::Rescan;
             answer_held(
-                &ByOutput(Rescanning { edit }),
+                &ByOutput(Changing(Rescanning { edit })),
                 alloc,
                 place,
                 held,
@@ -116,7 +139,7 @@ pub fn answer_message<T: Sink, H: Shelf>(
         Job::Crop(area) => {
             let edit = GridEdit::Crop(*area);
             answer_held(
-                &ByOutput(Rescanning { edit }),
+                &ByOutput(Changing(Rescanning { edit })),
                 alloc,
                 place,
                 held,

@@ -7,13 +7,14 @@ ghost use Rattle.grib_engine.specs.Pending.{WritesTo};
 
 use crate::answered::{Answered, printed};
 use crate::answerer::Writer;
+use crate::ending::Ending;
 use crate::writing::write_whole;
 use grib_io::{Sink, Stop};
-use grib_stream::{Place, Totals};
-use grib_text::{check_line, total_line};
+use grib_stream::Place;
+use grib_text::check_line;
 use grib1_sections::Message1;
 use grib2_message::Message;
-use std::alloc::{AllocError, Global};
+use std::alloc::Global;
 
 /// The command `check`.
 #[derive(Clone, Copy, Debug)]
@@ -49,18 +50,8 @@ impl Writer for Checking {
         printed(write_second(alloc, place, message, output))
     }
 
-    fn write_ending<T: Sink>(
-        &self,
-        alloc: Global,
-        totals: &Totals,
-        output: &mut T,
-    ) -> Result<(), Stop> {
-        let line = total_line(alloc, totals.messages, totals.fields, totals.skipped)?;
-        write_whole(output, line.as_slice())
-    }
-
-    fn ending_note(&self, alloc: Global, _totals: &Totals) -> Result<Vec<u8>, AllocError> {
-        Ok(Vec::new(alloc))
+    fn ending(&self) -> Ending {
+        Ending::Total
     }
 }
 

@@ -78,7 +78,6 @@ pub fn close_with_note<T: Sink, N: Sink>(
         Outcome::ShelfFault => close(outcome, b"shelf fault\n", output, notes),
         Outcome::Memory => close(outcome, b"memory\n", output, notes),
         Outcome::InputTooLong => close(outcome, b"input too long\n", output, notes),
-        Outcome::NotBuilt => close(outcome, b"not built\n", output, notes),
     }
 }
 

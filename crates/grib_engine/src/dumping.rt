@@ -2,80 +2,54 @@
 
 ghost use Rattle.std.specs.Prelude.{◌^◌, ◌<◌, ◌++◌, length};
 ghost use Rattle.grib_engine.specs.Dumping as dumps;
-ghost use Rattle.grib_engine.specs.Pending.{WritesTo, WritesToAllBut};
+ghost use Rattle.grib_engine.specs.Pending.{WritesToAllBut};
 
-use crate::answered::{Answered, printed};
-use crate::answerer::Writer;
-use crate::fields::{FieldPrinter, write_fields};
 use crate::points::{ROOM, append_points, append_text};
+use crate::printing::Printer;
 use crate::references::{first_reference, second_reference};
 use crate::writing::write_whole;
 use grib_dyadic::Dyadic;
 use grib_io::{Sink, Stop};
 use grib_packing::Column;
-use grib_stream::{Place, Totals};
 use grib_text::{list_line, list_line1, reference_line};
 use grib1_sections::Message1;
 use grib2_message::Message;
-use std::alloc::{AllocError, Global};
+use std::alloc::Global;
 
-/// The command `dump`.
+/// Prints the list line, the reference line and the points of a field.
 #[derive(Clone, Copy, Debug)]
 pub struct Dumping;
 
-impl Writer for Dumping {
-    ghost use Rattle.std.specs.Prelude.{refl};
-    ghost use Rattle.grib_engine.specs.Dumping.{dump_command, dump_lawful};
+impl Printer for Dumping {
+    ghost use Rattle.grib_engine.specs.Dumping.{dump_text, dump_text_1};
 
-    ghost definition = { λ dumping. dump_command };
+    ghost first_text = { λ dumping. dump_text_1 };
 
-    ghost lawful = { λ dumping. dump_lawful };
+    ghost field_text = { λ dumping. dump_text };
 
-    ghost unshelved = { λ dumping. refl };
-
-    fn first<T: Sink>(
+    fn write_first<T: Sink>(
         &self,
         alloc: Global,
-        place: &Place,
+        number: u64,
         message: &Message1<'_>,
         output: &mut T,
-    ) -> Answered {
-        printed(write_first(alloc, place.message, message, output))
-    }
-
-    fn second<T: Sink>(
-        &self,
-        alloc: Global,
-        place: &Place,
-        message: &Message<'_>,
-        output: &mut T,
-    ) -> Answered {
-        printed(write_fields(self, alloc, place.message, message, output))
-    }
-
-    fn write_ending<T: Sink>(
-        &self,
-        _alloc: Global,
-        _totals: &Totals,
-        output: &mut T,
     ) -> Result<(), Stop> {
-        write_whole(output, b"")
+        let column = message.column1(alloc)?;
+        let reference = first_reference(&column);
+        let listed = list_line1(alloc, message, number)?;
+        let mut lines = Vec::with_capacity(alloc, ROOM)?;
+        append_dump(
+            alloc,
+            listed.as_slice(),
+            &reference,
+            &column,
+            &mut lines,
+            output,
+        )?;
+        write_whole(output, lines.as_slice())
     }
 
-    fn ending_note(&self, alloc: Global, _totals: &Totals) -> Result<Vec<u8>, AllocError> {
-        Ok(Vec::new(alloc))
-    }
-}
-
-impl FieldPrinter for Dumping {
-    ghost use Rattle.std.specs.Prelude.{true};
-    ghost use Rattle.grib_engine.specs.Dumping.{dump_text};
-
-    ghost text = { λ dumping. dump_text };
-
-    ghost can_print = { λ dumping message. true };
-
-    fn append<T: Sink>(
+    fn append_field<T: Sink>(
         &self,
         alloc: Global,
         number: u64,
@@ -89,31 +63,6 @@ impl FieldPrinter for Dumping {
         let listed = list_line(alloc, message, number, field)?;
         append_dump(alloc, listed.as_slice(), &reference, &column, lines, output)
     }
-}
-
-/// Writes what is printed of the message of edition 1 with this number.
-fn write_first<T: Sink>(
-    alloc: Global,
-    number: u64,
-    message: &Message1<'_>,
-    output: &mut T,
-) -> Result<(), Stop>
-    ensures { WritesTo T.contents T.faults result output.old output.new
-        (dumps.dump_text_1 message.now number) }
-{
-    let column = message.column1(alloc)?;
-    let reference = first_reference(&column);
-    let listed = list_line1(alloc, message, number)?;
-    let mut lines = Vec::with_capacity(alloc, ROOM)?;
-    append_dump(
-        alloc,
-        listed.as_slice(),
-        &reference,
-        &column,
-        &mut lines,
-        output,
-    )?;
-    write_whole(output, lines.as_slice())
 }
 
 /// Appends the list line of a field, the line on its reference value and its scale factors, and the line of

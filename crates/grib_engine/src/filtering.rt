@@ -10,15 +10,12 @@ ghost use Rattle.grib_engine.specs.Command.{texts_from};
 ghost use Rattle.grib_engine.specs.Filtering.{single_if, filtered};
 
 use crate::answered::{Answered, written};
-use crate::answerer::Writer;
-use crate::notes::written_note;
-use crate::writing::{write_counted, write_whole};
+use crate::changing::Changer;
+use crate::writing::write_counted;
 use grib_io::{Sink, Stop};
 use grib_select::{Condition, matches, single};
-use grib_stream::{Cause, Place, Totals};
-use grib1_sections::Message1;
 use grib2_message::Message;
-use std::alloc::{AllocError, Global};
+use std::alloc::Global;
 
 /// The command `filter`.
 #[derive(Debug, Drop)]
@@ -27,47 +24,15 @@ pub struct Filtering<'a> {
     pub conditions: &'a [Condition],
 }
 
-impl Writer for Filtering<'_> {
-    ghost use Rattle.std.specs.Prelude.{refl};
+impl Changer for Filtering<'_> {
     ghost use Rattle.grib_engine.specs.Filtering.{filter_command, filter_lawful};
 
-    ghost definition = { λ filtering. filter_command filtering.conditions.now };
+    ghost gives = { λ filtering. (filter_command filtering.conditions.now).second };
 
     ghost lawful = { λ filtering. filter_lawful filtering.conditions.now };
 
-    ghost unshelved = { λ filtering. refl };
-
-    fn first<T: Sink>(
-        &self,
-        _alloc: Global,
-        _place: &Place,
-        _message: &Message1<'_>,
-        _output: &mut T,
-    ) -> Answered {
-        Answered::Kept(Cause::EditionOne)
-    }
-
-    fn second<T: Sink>(
-        &self,
-        alloc: Global,
-        _place: &Place,
-        message: &Message<'_>,
-        output: &mut T,
-    ) -> Answered {
+    fn change<T: Sink>(&self, alloc: Global, message: &Message<'_>, output: &mut T) -> Answered {
         written(write_filtered(alloc, self.conditions, message, output))
-    }
-
-    fn write_ending<T: Sink>(
-        &self,
-        _alloc: Global,
-        _totals: &Totals,
-        output: &mut T,
-    ) -> Result<(), Stop> {
-        write_whole(output, b"")
-    }
-
-    fn ending_note(&self, alloc: Global, totals: &Totals) -> Result<Vec<u8>, AllocError> {
-        written_note(alloc, totals)
     }
 }
 

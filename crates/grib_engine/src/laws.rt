@@ -1,24 +1,29 @@
 //! Laws over the definitions.
 
-ghost use Rattle.std.specs.Prelude.{◌≡◌, ℕ, ◌+◌, ◌^◌, ◌<◌, ◌≤◌, Bool, true, false, Some, List, length, take, All};
+ghost use Rattle.std.specs.Prelude.{◌≡◌, ℕ, ◌+◌, ◌++◌, ◌^◌, ◌<◌, ◌≤◌, Bool, true, false, Some, List, length, take, All};
 ghost use Rattle.std.specs.declared.option.Option.{Option};
 ghost use Rattle.grib_io.specs.Shelves.{Held};
 ghost use Rattle.grib_repack.specs.declared.target.RepackTarget.{RepackTarget};
 ghost use Rattle.grib_stream.specs.declared.outcome.Outcome.{Outcome};
-ghost use Rattle.grib_stream.specs.Acts.{world, Did};
+ghost use Rattle.grib_stream.specs.declared.outcome.Outcome.TheVariants.{Done};
+ghost use Rattle.grib_stream.specs.Acts.{world, written, Did};
 ghost use Rattle.grib_stream.specs.Answer.{answer_of};
+ghost use Rattle.grib_stream.specs.Cutting.{EndsAtMessage, later_by, message_count};
 ghost use Rattle.grib_stream.specs.Outcomes.{is_broken};
 ghost use Rattle.grib_stream.specs.Run.{Gives};
+ghost use Rattle.grib_engine.specs.declared.job.Job.{Job};
 ghost use Rattle.grib_engine.specs.declared.job.Job.TheVariants.{Split};
 ghost use Rattle.grib_engine.specs.Command.{task};
-ghost use Rattle.grib_engine.specs.Jobs.{is_target};
+ghost use Rattle.grib_engine.specs.Each.{writes_each};
+ghost use Rattle.grib_engine.specs.Jobs.{IsJob, is_target};
+ghost use Rattle.grib_engine.specs.Judging.{judge};
 ghost use Rattle.grib_engine.specs.Same.{KeepsValues};
 ghost use Rattle.grib_engine.specs.SameMigrated.{KeepsMigrated};
 ghost use Rattle.grib_params.specs.Table.{Entries};
 ghost use Rattle.grib_table.specs.Tabled.{Good, tabled};
 ghost use Rattle.grib_engine.specs.Standing.{all_parts, StandFirst, StandAll};
 ghost use Rattle.grib_engine.specs.Splitting.{split_command};
-ghost use Rattle.grib_engine.specs.Tasks.{answer};
+ghost use Rattle.grib_engine.specs.Tasks.{answer, answer_with};
 
 use grib_repack::laws::what_is_repacked_keeps_each_value;
 
@@ -54,4 +59,21 @@ pub fn what_is_split_stands_whole()
     ensures read { (out taken : List ℕ) (before now : Held) (output output_now : Option (List ℕ)) → length taken ≤ 2 ^ 40 + 1
         → Did (world output (Some before)) (world output_now (Some now)) (answer_of (task (split_command out)) taken).acts
         → StandAll (all_parts out taken) before now }
+{}
+
+/// Where an input is cut at the end of one of its messages, and all messages before it are answered, then `filter`,
+/// `set`, `repack`, `rescan`, `crop` and `migrate` write of the whole what they write of the parts, one after the
+/// other, whatever stands on the shelf under the name of the table. The whole ends as the second part does, up to the
+/// numbers of messages.
+pub fn parts_are_written_one_after_the_other()
+    ensures octets { (job : Job) (text : Option (List ℕ)) (front rest : List ℕ) → IsJob job → writes_each job ≡ true
+        → length (front ++ rest) ≤ 2 ^ 40 → EndsAtMessage judge front
+        → (answer_with job text front).outcome ≡ Done
+        → written (answer_with job text (front ++ rest)).acts
+        ≡ written (answer_with job text front).acts ++ written (answer_with job text rest).acts }
+    ensures outcome { (job : Job) (text : Option (List ℕ)) (front rest : List ℕ) → IsJob job → writes_each job ≡ true
+        → length (front ++ rest) ≤ 2 ^ 40 → EndsAtMessage judge front
+        → (answer_with job text front).outcome ≡ Done
+        → (answer_with job text (front ++ rest)).outcome
+        ≡ later_by (message_count judge front) (answer_with job text rest).outcome }
 {}

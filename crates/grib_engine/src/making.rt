@@ -4,6 +4,7 @@ ghost use Rattle.std.specs.Prelude.{◌≡◌, true, None, Option, IfOk};
 ghost use Rattle.grib_io.specs.Shelves.{Held as Names};
 ghost use Rattle.grib2_message.specs.Message.{IsMessage};
 ghost use Rattle.grib_made.specs.Made.{made, MayBeMade};
+ghost use Rattle.grib_packing.specs.Misfits.{ToSimple};
 ghost use Rattle.grib_repack.specs.Faults.{target_of};
 ghost use Rattle.grib_repack.specs.Repacked.{repacked, repack_misfit};
 ghost use Rattle.grib_stream.specs.Acts.{world};
@@ -19,7 +20,10 @@ use crate::notes::made_note;
 use crate::writing::write_whole;
 use grib_base::ReadFault;
 use grib_io::{Sink, Stop};
-use grib_made::laws::{what_is_made_fits, what_is_made_is_accepted, what_is_made_stays_short};
+use grib_made::laws::{
+    what_is_made_fits, what_is_made_is_accepted, what_is_made_is_packed_simply,
+    what_is_made_stays_short,
+};
 use grib_made::{made_message, made_summary};
 use grib_repack::{RepackFault, RepackTarget, repack};
 use grib_stream::Outcome;
@@ -96,15 +100,32 @@ fn make(
     ensures note { IfOk result (λ m. m.note.items ≡ tasks.note_of_made seed ni nj target) }
 {
     what_is_made_is_accepted();
+    what_is_made_is_packed_simply();
     what_is_made_fits();
     what_is_made_stays_short();
     let message = made_message(alloc, seed, ni, nj)?;
-    let octets = repack_whole(alloc, message.as_slice(), target)?;
-    let summary = made_summary(seed, ni, nj);
     let before = message.as_slice().len() as u64;
+    let octets = in_packing(alloc, message, target)?;
+    let summary = made_summary(seed, ni, nj);
     let after = octets.as_slice().len() as u64;
     let note = made_note(alloc, before, after, summary.present, summary.sum)?;
     Ok(Made { octets, note })
+}
+
+/// A message in simple packing, of which nothing is lost, in the packing of the target.
+fn in_packing(alloc: Global, message: Vec<u8>, target: RepackTarget) -> Result<Vec<u8>, AllocError>
+    requires message { IsMessage message.items }
+    requires target { is_target target ≡ true }
+    requires fits { repack_misfit (target_of target) message.items ≡ None }
+    requires simple { repacked ToSimple message.items ≡ message.items }
+    ensures { IfOk result (λ packed. packed.items ≡ repacked (target_of target) message.items) }
+{
+    match target {
+        RepackTarget::Simple => Ok(message),
+        RepackTarget::Complex | RepackTarget::Spatial(_) => {
+            repack_whole(alloc, message.as_slice(), target)
+        }
+    }
 }
 
 /// A message of which nothing is lost, with its fields packed anew.

@@ -6,15 +6,15 @@ ghost use Rattle.grib_engine.specs.Migrating.{are_octets};
 
 use crate::answered::{Answered, written};
 use crate::answerer::Writer;
-use crate::notes::written_note;
-use crate::writing::{write_counted, write_whole};
-use grib_io::{Sink, Stop};
+use crate::ending::Ending;
+use crate::writing::write_counted;
+use grib_io::Sink;
 use grib_migrate::{MigrateFault, migrate};
 use grib_params::Table;
-use grib_stream::{Cause, Place, Totals};
+use grib_stream::{Cause, Place};
 use grib1_sections::Message1;
 use grib2_message::Message;
-use std::alloc::{AllocError, Global};
+use std::alloc::Global;
 
 /// The command `migrate`.
 #[derive(Debug, Drop)]
@@ -59,17 +59,8 @@ impl Writer for Migrating<'_> {
         written(write_counted(output, message.octets()))
     }
 
-    fn write_ending<T: Sink>(
-        &self,
-        _alloc: Global,
-        _totals: &Totals,
-        output: &mut T,
-    ) -> Result<(), Stop> {
-        write_whole(output, b"")
-    }
-
-    fn ending_note(&self, alloc: Global, totals: &Totals) -> Result<Vec<u8>, AllocError> {
-        written_note(alloc, totals)
+    fn ending(&self) -> Ending {
+        Ending::Written
     }
 }
 

@@ -66,14 +66,13 @@ impl<C: Answerer> Performer for Answering<'_, C> {
         }
     }
 
-    fn finish<T: Sink, H: Shelf>(
+    fn finish<T: Sink>(
         &self,
         alloc: Global,
         totals: &Totals,
         output: &mut T,
-        _shelf: &mut H,
     ) -> Result<(), Outcome> {
-        match self.answerer.write_ending(alloc, totals, output) {
+        match self.answerer.ending().write(alloc, totals, output) {
             Ok(()) => Ok(()),
             Err(Stop::Failed) => Err(Outcome::WriteFault),
             Err(Stop::Memory) => Err(Outcome::Memory),

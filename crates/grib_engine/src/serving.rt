@@ -9,11 +9,13 @@ ghost use Rattle.grib_stream.specs.Outcomes.{is_cut_short};
 ghost use Rattle.grib_stream.specs.Faults.{faults, CountsRun};
 ghost use Rattle.grib_stream.specs.declared.outcome.Outcome.TheVariants.{Done, ReadFault, WriteFault, ShelfFault, Memory};
 ghost use Rattle.grib_engine.specs.Closing.{EndsRun, Unfinished};
+ghost use Rattle.grib_engine.specs.Endings.{ending_note};
 ghost use Rattle.grib_engine.specs.Jobs.{IsJob};
 ghost use Rattle.grib_engine.specs.Serving.{RunsJob, NotesJob, NotesJobFront, RefusedJob, Serves};
 ghost use Rattle.grib_engine.specs.Tasks.{Reads, ReadsTable, work_of, makes, reads_table, uses_shelf};
 
 use crate::answerer::{Answerer, ByOutput};
+use crate::changing::Changing;
 use crate::checking::Checking;
 use crate::closing::close_with_note;
 use crate::dumping::Dumping;
@@ -24,6 +26,7 @@ use crate::making::serve_made;
 use crate::migrating::Migrating;
 use crate::name::Name;
 use crate::performing::Answering;
+use crate::printing::Printing;
 use crate::repacking::Repacking;
 use crate::rescanning::Rescanning;
 use crate::setting::Setting;
@@ -97,10 +100,31 @@ fn serve_job<S: Source, T: Sink, N: Sink, H: Shelf>(
 {
     match job {
         Job::Check => serve_messages(&ByOutput(Checking), alloc, input, output, notes, shelf),
-        Job::List => serve_messages(&ByOutput(Listing), alloc, input, output, notes, shelf),
-        Job::Stats => serve_messages(&ByOutput(Summing), alloc, input, output, notes, shelf),
+        Job::List => serve_messages(
+            &ByOutput(Printing(Listing)),
+            alloc,
+            input,
+            output,
+            notes,
+            shelf,
+        ),
+        Job::Stats => serve_messages(
+            &ByOutput(Printing(Summing)),
+            alloc,
+            input,
+            output,
+            notes,
+            shelf,
+        ),
         Job::Dump { decimals: None } => {
-            serve_messages(&ByOutput(Dumping), alloc, input, output, notes, shelf)
+            serve_messages(
+                &ByOutput(Printing(Dumping)),
+                alloc,
+                input,
+                output,
+                notes,
+                shelf,
+            )
         }
         Job::Dump {
             decimals: Some(places),
@@ -111,7 +135,7 @@ fn serve_job<S: Source, T: Sink, N: Sink, H: Shelf>(
         }
         Job::Filter(conditions) => {
             let conditions = conditions.as_slice();
-            let filtering = ByOutput(Filtering { conditions });
+            let filtering = ByOutput(Changing(Filtering { conditions }));
             serve_messages(&filtering, alloc, input, output, notes, shelf)
         }
         Job::Split(name) => {
@@ -119,22 +143,22 @@ fn serve_job<S: Source, T: Sink, N: Sink, H: Shelf>(
         }
         Job::Set(changes) => {
             let changes = changes.as_slice();
-            let setting = ByOutput(Setting { changes });
+            let setting = ByOutput(Changing(Setting { changes }));
             serve_messages(&setting, alloc, input, output, notes, shelf)
         }
         Job::Repack(target) => {
             let target = *target;
-            let repacking = ByOutput(Repacking { target });
+            let repacking = ByOutput(Changing(Repacking { target }));
             serve_messages(&repacking, alloc, input, output, notes, shelf)
         }
         Job::Rescan => {
             let edit = GridEdit::Rescan;
-            let rescanning = ByOutput(Rescanning { edit });
+            let rescanning = ByOutput(Changing(Rescanning { edit }));
             serve_messages(&rescanning, alloc, input, output, notes, shelf)
         }
         Job::Crop(area) => {
             let edit = GridEdit::Crop(*area);
-            let cropping = ByOutput(Rescanning { edit });
+            let cropping = ByOutput(Changing(Rescanning { edit }));
             serve_messages(&cropping, alloc, input, output, notes, shelf)
         }
         Job::Migrate { params, keep_local } => {
@@ -210,10 +234,10 @@ fn close_whole<C: Answerer, T: Sink, N: Sink>(
     notes: &mut N,
 ) -> Outcome
     ensures ends { EndsRun T.contents T.faults T.settled N.contents N.faults N.settled
-        Done ((C.definition answerer.now).note totals.now) result output.old output.new notes.old notes.new }
+        Done (ending_note (C.definition answerer.now).ending totals.now) result output.old output.new notes.old notes.new }
     ensures output_kept { Keeps (T.contents output.old) (T.contents output.new) }
 {
-    match answerer.ending_note(alloc, totals) {
+    match answerer.ending().note(alloc, totals) {
         Ok(note) => close_with_note(alloc, Outcome::Done, note.as_slice(), output, notes),
         Err(_) => close_with_note(alloc, Outcome::Memory, b"", output, notes),
     }

@@ -5,15 +5,13 @@ ghost use Rattle.grib_engine.specs.Answering.{answered_unset};
 ghost use Rattle.grib_engine.specs.Jobs.{CanChange};
 
 use crate::answered::{Answered, written};
-use crate::answerer::Writer;
-use crate::notes::written_note;
-use crate::writing::{write_counted, write_whole};
-use grib_io::{Sink, Stop};
+use crate::changing::Changer;
+use crate::writing::write_counted;
+use grib_io::Sink;
 use grib_select::{Condition, SetFault, set_keys};
-use grib_stream::{Cause, Place, Totals};
-use grib1_sections::Message1;
+use grib_stream::Cause;
 use grib2_message::Message;
-use std::alloc::{AllocError, Global};
+use std::alloc::Global;
 
 /// The command `set`.
 #[derive(Debug, Drop)]
@@ -23,50 +21,18 @@ pub struct Setting<'a> {
     pub ghost changes_stand: { CanChange changes.now },
 }
 
-impl Writer for Setting<'_> {
-    ghost use Rattle.std.specs.Prelude.{refl};
+impl Changer for Setting<'_> {
     ghost use Rattle.grib_engine.specs.Setting.{set_command, set_lawful};
 
-    ghost definition = { λ setting. set_command setting.changes.now };
+    ghost gives = { λ setting. (set_command setting.changes.now).second };
 
     ghost lawful = { λ setting. set_lawful setting.changes.now setting.changes_stand };
 
-    ghost unshelved = { λ setting. refl };
-
-    fn first<T: Sink>(
-        &self,
-        _alloc: Global,
-        _place: &Place,
-        _message: &Message1<'_>,
-        _output: &mut T,
-    ) -> Answered {
-        Answered::Kept(Cause::EditionOne)
-    }
-
-    fn second<T: Sink>(
-        &self,
-        alloc: Global,
-        _place: &Place,
-        message: &Message<'_>,
-        output: &mut T,
-    ) -> Answered {
+    fn change<T: Sink>(&self, alloc: Global, message: &Message<'_>, output: &mut T) -> Answered {
         match set_keys(alloc, message, self.changes) {
             Ok(changed) => written(write_counted(output, changed.as_slice())),
             Err(fault) => unset(fault),
         }
-    }
-
-    fn write_ending<T: Sink>(
-        &self,
-        _alloc: Global,
-        _totals: &Totals,
-        output: &mut T,
-    ) -> Result<(), Stop> {
-        write_whole(output, b"")
-    }
-
-    fn ending_note(&self, alloc: Global, totals: &Totals) -> Result<Vec<u8>, AllocError> {
-        written_note(alloc, totals)
     }
 }
 

@@ -13,12 +13,11 @@ ghost use Rattle.grib_engine.specs.Shelving.{Shelves};
 
 use crate::answered::Answered;
 use crate::answerer::Answerer;
+use crate::ending::Ending;
 use crate::name::Name;
-use crate::notes::written_note;
-use crate::writing::write_whole;
 use grib_io::{Shelf, Sink, Stop};
 use grib_select::single;
-use grib_stream::{Cause, Place, Totals};
+use grib_stream::{Cause, Place};
 use grib1_sections::Message1;
 use grib2_message::Message;
 use std::alloc::{AllocError, Global};
@@ -59,17 +58,8 @@ impl Answerer for Splitting<'_> {
         split(alloc, self.name, place.fields, message, shelf)
     }
 
-    fn write_ending<T: Sink>(
-        &self,
-        _alloc: Global,
-        _totals: &Totals,
-        output: &mut T,
-    ) -> Result<(), Stop> {
-        write_whole(output, b"")
-    }
-
-    fn ending_note(&self, alloc: Global, totals: &Totals) -> Result<Vec<u8>, AllocError> {
-        written_note(alloc, totals)
+    fn ending(&self) -> Ending {
+        Ending::Written
     }
 }
 

@@ -1,82 +1,49 @@
 //! `stats`: for each field a line on what its points sum up to, and its reference line.
 
-ghost use Rattle.std.specs.Prelude.{◌≡◌, ◌≤◌, length, IfOk};
-ghost use Rattle.grib_engine.specs.Pending.{WritesTo};
-ghost use Rattle.grib_engine.specs.Summing as sums;
+ghost use Rattle.std.specs.Prelude.{◌≡◌, ◌++◌, IfOk};
+ghost use Rattle.grib_bits.specs.Bits.{bits_of, signed};
+ghost use Rattle.grib_text.specs.Lines.{reference_line as reference_text};
+ghost use Rattle.grib_text.specs.Stats.{stats_line as sums_text};
 
-use crate::answered::{Answered, printed};
-use crate::answerer::Writer;
-use crate::fields::{FieldPrinter, write_fields};
 use crate::points::append_text;
-use crate::references::{first_reference, second_reference};
+use crate::printing::Printer;
+use crate::references::{ibm_reference, ieee_reference};
 use crate::writing::write_whole;
-use grib_decimal::summary;
+use grib_decimal::Summary;
 use grib_dyadic::Dyadic;
 use grib_io::{Sink, Stop};
-use grib_packing::Column;
-use grib_stream::{Place, Totals};
+use grib_sums::{Scaling, field_scaling, field_sums, message_scaling1, message_sums1};
 use grib_text::{reference_line, stats_line};
 use grib1_sections::Message1;
 use grib2_message::Message;
 use std::alloc::{AllocError, Global};
 
-/// The command `stats`.
+/// Prints what the points of a field sum up to, and its reference line.
 #[derive(Clone, Copy, Debug)]
 pub struct Summing;
 
-impl Writer for Summing {
-    ghost use Rattle.std.specs.Prelude.{refl};
-    ghost use Rattle.grib_engine.specs.Summing.{stats_command, stats_lawful};
+impl Printer for Summing {
+    ghost use Rattle.grib_engine.specs.Summing.{stats_text, stats_text_1};
 
-    ghost definition = { λ summing. stats_command };
+    ghost first_text = { λ summing. stats_text_1 };
 
-    ghost lawful = { λ summing. stats_lawful };
+    ghost field_text = { λ summing. stats_text };
 
-    ghost unshelved = { λ summing. refl };
-
-    fn first<T: Sink>(
+    fn write_first<T: Sink>(
         &self,
         alloc: Global,
-        place: &Place,
+        number: u64,
         message: &Message1<'_>,
         output: &mut T,
-    ) -> Answered {
-        printed(write_first(alloc, place.message, message, output))
-    }
-
-    fn second<T: Sink>(
-        &self,
-        alloc: Global,
-        place: &Place,
-        message: &Message<'_>,
-        output: &mut T,
-    ) -> Answered {
-        printed(write_fields(self, alloc, place.message, message, output))
-    }
-
-    fn write_ending<T: Sink>(
-        &self,
-        _alloc: Global,
-        _totals: &Totals,
-        output: &mut T,
     ) -> Result<(), Stop> {
-        write_whole(output, b"")
+        let summary = message_sums1(alloc, message)?;
+        let scaling = message_scaling1(message);
+        let reference = ibm_reference(scaling.reference);
+        let text = sums_of(alloc, number, 1, &summary, &reference, scaling)?;
+        write_whole(output, text.as_slice())
     }
 
-    fn ending_note(&self, alloc: Global, _totals: &Totals) -> Result<Vec<u8>, AllocError> {
-        Ok(Vec::new(alloc))
-    }
-}
-
-impl FieldPrinter for Summing {
-    ghost use Rattle.std.specs.Prelude.{true};
-    ghost use Rattle.grib_engine.specs.Summing.{stats_text};
-
-    ghost text = { λ summing. stats_text };
-
-    ghost can_print = { λ summing message. true };
-
-    fn append<T: Sink>(
+    fn append_field<T: Sink>(
         &self,
         alloc: Global,
         number: u64,
@@ -85,27 +52,12 @@ impl FieldPrinter for Summing {
         lines: &mut Vec<u8>,
         output: &mut T,
     ) -> Result<(), Stop> {
-        let column = message.column(alloc, field)?;
-        let reference = second_reference(&column);
-        let text = sums_of(alloc, number, field, &reference, &column)?;
+        let summary = field_sums(alloc, message, field)?;
+        let scaling = field_scaling(message, field);
+        let reference = ieee_reference(scaling.reference);
+        let text = sums_of(alloc, number, field, &summary, &reference, scaling)?;
         append_text(lines, text.as_slice(), output)
     }
-}
-
-/// Writes what is printed of the message of edition 1 with this number.
-fn write_first<T: Sink>(
-    alloc: Global,
-    number: u64,
-    message: &Message1<'_>,
-    output: &mut T,
-) -> Result<(), Stop>
-    ensures { WritesTo T.contents T.faults result output.old output.new
-        (sums.stats_text_1 message.now number) }
-{
-    let column = message.column1(alloc)?;
-    let reference = first_reference(&column);
-    let text = sums_of(alloc, number, 1, &reference, &column)?;
-    write_whole(output, text.as_slice())
 }
 
 /// The line on what the points of a field sum up to, and the line on its reference value and its scale factors.
@@ -113,14 +65,15 @@ fn sums_of(
     alloc: Global,
     number: u64,
     field: u32,
+    summary: &Summary,
     reference: &Dyadic,
-    column: &Column,
+    scaling: Scaling,
 ) -> Result<Vec<u8>, AllocError>
-    requires few { length column.now.points ≤ 33554432 }
-    ensures { IfOk result (λ text. text.items ≡ sums.summed number field reference.now column.now) }
+    ensures { IfOk result (λ text. text.items ≡ sums_text number field summary.now
+        ++ reference_text reference.now (signed (bits_of 16 scaling.e)) (signed (bits_of 16 scaling.d))) }
 {
-    let mut text = stats_line(alloc, number, field, &summary(column))?;
-    let numbers = reference_line(alloc, reference, column.e, column.d)?;
+    let mut text = stats_line(alloc, number, field, summary)?;
+    let numbers = reference_line(alloc, reference, scaling.e, scaling.d)?;
     text.extend_from_slice(numbers.as_slice())?;
     Ok(text)
 }

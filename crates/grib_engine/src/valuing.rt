@@ -1,6 +1,6 @@
 //! `dump decimals=`: as `dump`, with the values of points as decimals.
 
-ghost use Rattle.std.specs.Prelude.{◌≡◌, ◌^◌, ◌<◌, ◌≤◌, ◌++◌, None, length, nat_abs, IfOk};
+ghost use Rattle.std.specs.Prelude.{◌≡◌, ◌^◌, ◌<◌, ◌≤◌, ◌++◌, true, None, length, nat_abs, IfOk};
 ghost use Rattle.grib2_message.specs.Fields.{field_count};
 ghost use Rattle.grib_decimal.specs.Range.{first_too_large};
 ghost use Rattle.grib_engine.specs.Pending.{WritesTo, WritesToAllBut};
@@ -8,15 +8,17 @@ ghost use Rattle.grib_engine.specs.Valuing as values;
 
 use crate::answered::{Answered, printed};
 use crate::answerer::Writer;
+use crate::ending::Ending;
 use crate::fields::{FieldPrinter, write_fields};
 use crate::points::{ROOM, append_text, append_values};
-use crate::references::{first_reference, second_reference};
+use crate::references::{first_reference, ibm_reference, ieee_reference, second_reference};
 use crate::writing::write_whole;
 use grib_decimal::DecimalScale;
 use grib_dyadic::Dyadic;
 use grib_io::{Sink, Stop};
 use grib_packing::Column;
-use grib_stream::{Cause, Place, Totals};
+use grib_stream::{Cause, Place};
+use grib_sums::{field_scaling, message_scaling1};
 use grib_text::{list_line, list_line1, reference_line};
 use grib1_sections::Message1;
 use grib2_message::Message;
@@ -67,17 +69,8 @@ impl Writer for Valuing {
         }
     }
 
-    fn write_ending<T: Sink>(
-        &self,
-        _alloc: Global,
-        _totals: &Totals,
-        output: &mut T,
-    ) -> Result<(), Stop> {
-        write_whole(output, b"")
-    }
-
-    fn ending_note(&self, alloc: Global, _totals: &Totals) -> Result<Vec<u8>, AllocError> {
-        Ok(Vec::new(alloc))
+    fn ending(&self) -> Ending {
+        Ending::Silent
     }
 }
 
@@ -122,6 +115,9 @@ fn first_cause(
     requires { places ≤ 18 }
     ensures { IfOk result (λ cause. cause ≡ values.cause_1 places message.now) }
 {
+    if fits_first(message, places) {
+        return Ok(None);
+    }
     let column = message.column1(alloc)?;
     let reference = first_reference(&column);
     Ok(range_cause(&column, &reference, places, 1))
@@ -157,9 +153,36 @@ fn field_cause(
     requires last { field ≤ field_count message.now }
     ensures { IfOk result (λ cause. cause ≡ values.field_cause places message.now field) }
 {
+    if fits_field(message, places, field) {
+        return Ok(None);
+    }
     let column = message.column(alloc, field)?;
     let reference = second_reference(&column);
     Ok(range_cause(&column, &reference, places, field))
+}
+
+/// Whether no value of a message of edition 1 can be too large for a text, by its reference value and its scale
+/// factors alone.
+fn fits_first(message: &Message1<'_>, places: u32) -> bool
+    requires { places ≤ 18 }
+    ensures { result ≡ true → values.cause_1 places message.now ≡ None }
+{
+    let scaling = message_scaling1(message);
+    let reference = ibm_reference(scaling.reference);
+    DecimalScale::of(&reference, scaling.e, scaling.d, places).holds_all()
+}
+
+/// Whether no value of a field of edition 2, counted from 1, can be too large for a text, by its reference value
+/// and its scale factors alone.
+fn fits_field(message: &Message<'_>, places: u32, field: u32) -> bool
+    requires places { places ≤ 18 }
+    requires first { 1 ≤ field }
+    requires last { field ≤ field_count message.now }
+    ensures { result ≡ true → values.field_cause places message.now field ≡ None }
+{
+    let scaling = field_scaling(message, field);
+    let reference = ieee_reference(scaling.reference);
+    DecimalScale::of(&reference, scaling.e, scaling.d, places).holds_all()
 }
 
 /// The cause by the points of a field.

@@ -1,4 +1,4 @@
--- A reader and a writer with a count of their faults.
+-- A reader, a writer and a folder of files with a count of their faults.
 use Rattle.std.specs.Prelude.{ℕ, Bool}
 
 pub record CountedReader (R : Type 0) : Type 0 where
@@ -10,6 +10,6 @@ pub record CountedWriter (W : Type 0) : Type 0 where
   pub faults : ℕ
   pub settled : Bool
 
-pub record CountedFiles (R : Type 0) : Type 0 where
-  pub files : R
+pub record CountedFolder (D : Type 0) : Type 0 where
+  pub folder : D
   pub faults : ℕ

@@ -2,4 +2,5 @@ pub mod Outside
 pub mod Memory
 pub mod Adapters
 pub mod Shelves
+pub mod Folders
 pub mod ShelfInMemory

@@ -17,6 +17,11 @@ pub record Calls : Type 0 where
 abbrev pub next_count : ℕ → ℕ
 next_count n = min (n + 1) (2 ^ 64 - 1)
 
+-- the count after a read that stopped: an absent name is no fault
+abbrev pub next_count_after : ShelfStop → ℕ → ℕ
+next_count_after Absent n = n
+next_count_after ShelfFailed n = next_count n
+
 -- whether the next call is to fail; the calls after the first 2 ^ 64 - 1 have no number
 abbrev pub next_fails : Calls → Bool
 next_fails calls = nat_lt calls.made (2 ^ 64 - 1) && list_any (λ number. number == calls.made + 1) calls.failing

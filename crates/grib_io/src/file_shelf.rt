@@ -1,43 +1,54 @@
 //! A shelf of files.
 
-ghost use Rattle.std.specs.Prelude.{◌≡◌, None, IfErr};
+ghost use Rattle.std.specs.Prelude.{◌≡◌, ◌↔◌, IfErr, MatchResult, OnErr, OnOk};
+ghost use Rattle.std.specs.IoError.{error_kind};
+ghost use Rattle.std.specs.declared.io.ErrorKind.TheVariants.{NotFound};
 ghost use Rattle.std.specs.Io.{ReadsAtMost};
-ghost use Rattle.grib_io.specs.Outside.{CountsStop, CountsStops};
-ghost use Rattle.grib_io.specs.Shelves.{CountsShelfRead, CountsShelfStop};
-ghost use Rattle.grib_io.specs.Memory.{next_count};
+ghost use Rattle.std.specs.Io.KnownBytes.{Appends};
+ghost use Rattle.grib_io.specs.Outside.{AppendsFront, CountsStop, CountsStops};
+ghost use Rattle.grib_io.specs.Shelves.{AddsPiece, CountsShelfRead, CountsShelfStop, Makes, OthersStay, ReadsAt, Stays, Turns};
+ghost use Rattle.grib_io.specs.Memory.{next_count, next_count_after};
 
+use crate::folder::{Folder, OpenedFile};
 use crate::outside::{Shelf, ShelfStop, Stop};
-use std::fs::{self, OpenOptions};
-use std::io::{self, ErrorKind, Read, Seek, SeekFrom, Write};
+use crate::system_folder::SystemFolder;
+use std::fs::OpenOptions;
+use std::io::{self, ErrorKind};
 use std::marker::Model;
 use std::rt::Files;
 
-/// A shelf whose names are paths of files. Each error of the file system is a fault, an interruption too,
-/// and so is a write of nothing; only where a file that is opened to be read is not found, its name is
-/// absent. It tells nothing of what the files hold.
+/// A shelf whose names are those of the files of a folder. Each error of the folder is a fault, an
+/// interruption too, and so is a write of nothing; only where a file that is opened to be read is not found, its
+/// name is absent. It tells what the folder tells.
 #[derive(Debug, Drop)]
-pub struct FileShelf<R> {
-    files: R,
+pub struct FileShelf<D> {
+    folder: D,
     faults: u64,
 }
 
-impl<R> Model for FileShelf<R> {
-    ghost use Rattle.grib_io.specs.Adapters.{CountedFiles};
+impl<D> Model for FileShelf<D> {
+    ghost use Rattle.grib_io.specs.Adapters.{CountedFolder};
 
-    ghost Value = { CountedFiles R };
+    ghost Value = { CountedFolder D };
 
-    ghost view = { λ shelf. record { files = shelf.files; faults = shelf.faults } };
+    ghost view = { λ shelf. record { folder = shelf.folder; faults = shelf.faults } };
 }
 
-impl<R: Files + Drop> FileShelf<R> {
+impl<R: Files + Drop> FileShelf<SystemFolder<R>> {
     /// A shelf of the files of this runtime, without a fault so far. It takes no memory.
-    pub fn new(rt: R) -> FileShelf<R>
-        ensures { result ≡ record { files = rt; faults = 0 } }
+    pub fn new(rt: R) -> FileShelf<SystemFolder<R>>
+        ensures { result.faults ≡ 0 }
     {
-        FileShelf {
-            files: rt,
-            faults: 0,
-        }
+        FileShelf::over(SystemFolder::new(rt))
+    }
+}
+
+impl<D: Folder> FileShelf<D> {
+    /// A shelf of the files of this folder, without a fault so far. It takes no memory.
+    pub fn over(folder: D) -> FileShelf<D>
+        ensures { result ≡ record { folder = folder; faults = 0 } }
+    {
+        FileShelf { folder, faults: 0 }
     }
 
     /// Counts a fault.
@@ -50,81 +61,103 @@ impl<R: Files + Drop> FileShelf<R> {
         Stop::Failed
     }
 
-    /// Why a file could not be opened to be read.
+    /// Counts the fault of a read.
+    fn fail_to_read(&mut self) -> ShelfStop
+        ensures answer { result ≡ ShelfStop.Failed }
+        ensures shelf { self.new ≡ record self.old { faults = next_count self.old.faults } }
+        ensures counted { CountsShelfStop result self.old.faults self.new.faults }
+    {
+        self.fail();
+        ShelfStop::Failed
+    }
+
+    /// Why a file could not be opened to be read: its name is absent exactly where it is not found.
     fn unopened(&mut self, error: io::Error) -> ShelfStop
+        ensures absent { result ≡ ShelfStop.Absent ↔ error_kind error ≡ NotFound }
+        ensures shelf { self.new ≡ record self.old { faults = next_count_after result self.old.faults } }
         ensures counted { CountsShelfStop result self.old.faults self.new.faults }
     {
         if error.kind() == ErrorKind::NotFound {
             return ShelfStop::Absent;
         }
-        self.faults = self.faults.saturating_add(1);
-        ShelfStop::Failed
+        self.fail_to_read()
     }
 }
 
-impl<R: Files + Drop> Shelf for FileShelf<R> {
-    ghost contents = { λ _. None };
+impl<D: Folder> Shelf for FileShelf<D> {
+    ghost contents = { λ shelf. D.held shelf.folder };
 
     ghost faults = { λ shelf. shelf.faults };
 
     fn read_at(&mut self, name: &str, offset: u64, into: &mut [u8]) -> Result<usize, ShelfStop>
         ensures bound { ReadsAtMost result into.new }
+        ensures octets { ReadsAt (D.held self.old.folder) name.now offset result into.new }
+        ensures kept { Stays (D.held self.old.folder) (D.held self.new.folder) }
         ensures counted { CountsShelfRead result self.old.faults self.new.faults }
+        ensures faults { MatchResult result (λ _. self.new.faults ≡ self.old.faults)
+            (λ stop. self.new.faults ≡ next_count_after stop self.old.faults) }
     {
-        let mut file = match fs::open(&self.files, name) {
+        let mut file = match self.folder.open(OpenOptions::new().read(true), name) {
             Ok(file) => file,
             Err(error) => return Err(self.unopened(error)),
         };
-        match read_from(&mut file, offset, into) {
+        match file.read_at(offset, into) {
             Ok(count) => Ok(count),
-            Err(_) => {
-                self.faults = self.faults.saturating_add(1);
-                Err(ShelfStop::Failed)
-            }
+            Err(_) => Err(self.fail_to_read()),
         }
     }
 
     fn make(&mut self, name: &str) -> Result<(), Stop>
+        ensures octets { Turns (D.held self.old.folder) (D.held self.new.folder) name.now (Makes result) }
+        ensures others { OthersStay (D.held self.old.folder) (D.held self.new.folder) name.now }
         ensures counted { CountsStops result self.old.faults self.new.faults }
         ensures stop { IfErr result (λ stop. stop ≡ Stop.Failed) }
+        ensures faults { MatchResult result (λ _. self.new.faults ≡ self.old.faults)
+            (λ _. self.new.faults ≡ next_count self.old.faults) }
     {
-        match fs::create(&self.files, name) {
+        let opened = self.folder.open(
+            OpenOptions::new().write(true).create(true).truncate(true),
+            name,
+        );
+        match opened {
             Ok(_) => Ok(()),
             Err(_) => Err(self.fail()),
         }
     }
 
     fn append(&mut self, name: &str, piece: &[u8]) -> Result<(), Stop>
+        ensures octets { Turns (D.held self.old.folder) (D.held self.new.folder) name.now
+            (AddsPiece result piece.now) }
+        ensures others { OthersStay (D.held self.old.folder) (D.held self.new.folder) name.now }
         ensures counted { CountsStops result self.old.faults self.new.faults }
         ensures stop { IfErr result (λ stop. stop ≡ Stop.Failed) }
+        ensures faults { MatchResult result (λ _. self.new.faults ≡ self.old.faults)
+            (λ _. self.new.faults ≡ next_count self.old.faults) }
     {
-        let opened = OpenOptions::new()
-            .append(true)
-            .create(true)
-            .open(&self.files, name);
+        let opened = self
+            .folder
+            .open(OpenOptions::new().append(true).create(true), name);
         let Ok(mut file) = opened else {
             return Err(self.fail());
         };
-        match write_piece(&mut file, piece) {
+        let written = write_piece(&mut file, piece);
+        self.folder.close(name, file);
+        match written {
             Ok(()) => Ok(()),
             Err(_) => Err(self.fail()),
         }
     }
 }
 
-/// Reads octets of a file from the offset on, once.
-fn read_from<F: Read + Seek>(file: &mut F, offset: u64, into: &mut [u8]) -> io::Result<usize>
-    ensures { ReadsAtMost result into.new }
+/// Adds a whole piece to a file. Nothing is tried twice, and a write of nothing is an error. Where the piece is
+/// not added whole, some front of it is.
+fn write_piece<F: OpenedFile>(file: &mut F, piece: &[u8]) -> io::Result<()>
+    ensures whole { OnOk result (Appends (F.octets file.old) (F.octets file.new) piece.now) }
+    ensures front { OnErr result (AppendsFront (F.octets file.old) (F.octets file.new) piece.now) }
 {
-    file.seek(SeekFrom::Start(offset))?;
-    file.read(into)
-}
-
-/// Writes a whole piece. Nothing is tried twice, and a write of nothing is an error.
-fn write_piece<F: Write>(file: &mut F, piece: &[u8]) -> io::Result<()> {
     let mut written = 0;
     while written < piece.len() {
-        let count = file.write(&piece[written..])?;
+        let count = file.add(&piece[written..])?;
         if count == 0 {
             return Err(io::Error::from(ErrorKind::WriteZero));
         }

@@ -1,4 +1,4 @@
--- A made message with the sections of another packing is never too long.
+-- A made message with the sections of another packing.
 use Rattle.std.proofs.Common.{◌≡◌, ℕ, ◌+◌, ◌==◌, true, false, List, [], ◌∷◌, ◌++◌, length, take, refl, ap, ◌∙◌, arith, length-append, eq-eqb, ne_eqb}
 use Rattle.std.specs.List.{concat}
 use Rattle.grib_packing.specs.declared.column.Column.{Column}
@@ -9,7 +9,7 @@ use Rattle.grib2_sections.specs.Head.{end_mark}
 use Rattle.grib2_message.specs.Assembled.{replaced, assembled_body, assembled}
 use Rattle.grib2_message.proofs.Placing.{placed_from}
 use Rattle.grib2_message.proofs.Whole.{sections_alone}
-use Rattle.grib_made.specs.Made.{MayBeMade, sections_with}
+use Rattle.grib_made.specs.Made.{MayBeMade, sections_with, message_with}
 use Rattle.grib_made.proofs.Accepted.{Parts, sections_of_parts, message_of_parts, grammar}
 
 -- the sections with those of a part in place of theirs
@@ -50,3 +50,10 @@ module _ (seed ni nj : ℕ) (column : Column) (s5 s6 s7 : List ℕ) (may : MayBe
       ap length (body seed ni nj column s5 s6 s7 may parts m is part) ∙ length-sections ni nj part in
       let eight : length (take 8 m) ≡ 8 = ap (λ (xs : List ℕ). length (take 8 xs)) is in
       omega (arith, long, eight, length-append (take 8 m) (octets_of 8 (16 + length inner + 4) ++ (inner ++ end_mark)), length-append inner end_mark)
+
+  -- it has those of the part in place of its own
+  pub assembled_is : assembled m (part ∷ []) ≡ message_with ni nj part
+  assembled_is =
+      let rest : List ℕ = concat (sections_with ni nj part) in
+      ap (λ inner. take 8 m ++ (octets_of 8 (16 + length inner + 4) ++ (inner ++ end_mark))) (body seed ni nj column s5 s6 s7 may parts m is part)
+      ∙ ap (λ (xs : List ℕ). take 8 xs ++ (octets_of 8 (16 + length rest + 4) ++ (rest ++ end_mark))) is

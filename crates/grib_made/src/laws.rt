@@ -2,7 +2,7 @@
 
 ghost use Rattle.std.specs.Prelude.{◌≡◌, ℕ, ◌≤◌, None, [], ◌∷◌, length};
 ghost use Rattle.grib_bits.specs.Octets.{octets};
-ghost use Rattle.grib_packing.specs.Misfits.{Target, first_misfit};
+ghost use Rattle.grib_packing.specs.Misfits.{Target, ToSimple, first_misfit};
 ghost use Rattle.grib_packing.specs.Written.{IsTarget, MayBePacked};
 ghost use Rattle.grib_packed.specs.Written.{packed};
 ghost use Rattle.grib2_message.specs.Assembled.{assembled};
@@ -32,6 +32,14 @@ pub fn what_is_made_fits()
     ensures may_be_packed { (seed ni nj : ℕ) → MayBeMade seed ni nj → MayBePacked (made_column seed ni nj) }
     ensures fits { (target : Target) (seed ni nj : ℕ) → first_misfit target (made_points seed ni nj) ≡ None }
 {}
+
+/// Packed anew in simple packing, it stays as it is.
+pub fn what_is_made_is_packed_simply()
+    ensures { (seed ni nj : ℕ) → MayBeMade seed ni nj
+        → assembled (made seed ni nj) (packed ToSimple (made_column seed ni nj) 0 ∷ []) ≡ made seed ni nj }
+{
+    what_is_packed_simply_reads_back();
+}
 
 /// No packing makes it too long: a message is put together again with what any packing of its column writes.
 pub fn what_is_made_stays_short()

@@ -62,7 +62,7 @@ scaled_within n small = le-ltb (2 ^ 60) n small
 plain_small : (xs : List Bool) (w k : ℕ) → plain_at xs w k < 2 ^ w
 plain_small xs w k = number-lt w (drop (k * w) xs)
 
-plain_within : (xs : List Bool) (w : ℕ) (places : List ℕ) → w ≤ 48 → NoneOf is_out_of_range (map (λ x. Scaled (pos x)) (map (plain_at xs w) places))
+pub plain_within : (xs : List Bool) (w : ℕ) (places : List ℕ) → w ≤ 48 → NoneOf is_out_of_range (map (λ x. Scaled (pos x)) (map (plain_at xs w) places))
 plain_within xs w [] few = tt
 plain_within xs w (k ∷ places) few =
     let power : 2 ^ w ≤ 2 ^ 48 = pow_mono few in

@@ -1,5 +1,7 @@
 mod Turns
 mod Runs
+mod Turned
+mod Bands
 pub mod Rows
 mod Corners
 mod Octets

@@ -13,10 +13,10 @@ use Rattle.grib_rescan.specs.Points.{point, row_of}
 use Rattle.grib_rescan.proofs.Turns.{turned-lt, turned_both, turned_one, point_at-lt}
 
 -- the points from `start` on, by a function that gives each its number
-run_at : (points : List Point) (f : ℕ → ℕ) (start a n k : ℕ) → start + n ≤ length points → k < n → get_or (take n (drop start points)) k Missing ≡ get_or points (start + k) Missing
+pub run_at : (points : List Point) (f : ℕ → ℕ) (start a n k : ℕ) → start + n ≤ length points → k < n → get_or (take n (drop start points)) k Missing ≡ get_or points (start + k) Missing
 run_at points f start a n k within small = get_or-take n (drop start points) k Missing small ∙ get_or-drop start points k Missing
 
-length_run : (points : List Point) (start n : ℕ) → start + n ≤ length points → length (take n (drop start points)) ≡ n
+pub length_run : (points : List Point) (start n : ℕ) → start + n ≤ length points → length (take n (drop start points)) ≡ n
 length_run points start n within = omega (arith, length-take n (drop start points), length-drop start points)
 
 pub row_forwards : (points : List Point) (f : ℕ → ℕ) (start a n : ℕ) → start + n ≤ length points → ((k : ℕ) → k < n → f (a + k) ≡ start + k)
@@ -89,11 +89,6 @@ read_backwards s ni nj points j row turns read differ =
     (λ k small. number_of s ni nj points j row turns k (ni - 1 - k) read (turned_one turns s.westward ni k differ))
 
 -- ---- a row that is read across columns
-
-pub across : (s : Scanning) (ni nj i j row column : ℕ) (turns : Bool) (at : ℕ) → s.by_columns ≡ true → row ≡ turned s.northward nj j → column ≡ turned s.westward ni i
-    → turns ≡ (s.alternates && is_odd column) → at ≡ turned turns nj row → point_at s ni nj i j ≡ column * nj + at
-across s ni nj i j row column turns at columns row_is column_is turns_is at_is =
-    rw columns (rw (at_is, turns_is, column_is, row_is) refl)
 
 pub point_across : (s : Scanning) (ni nj : ℕ) (points : List Point) (i j at : ℕ) (d : Point) → length points ≡ ni * nj → i < ni → j < nj
     → point_at s ni nj i j ≡ at → get_or points at d ≡ point points (point_at s ni nj (0 + i) j)

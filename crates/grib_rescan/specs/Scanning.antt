@@ -1,5 +1,5 @@
 -- Where the points of a grid lie (WMO-No. 306, Volume I.2, FM 92 GRIB edition 2, flag table 3.4, scanning mode).
-use Rattle.std.specs.Prelude.{ℕ, ◌+◌, ◌-◌, ◌*◌, ◌/◌, ◌%◌, Bool, cond, ◌&&◌, ◌==◌}
+use Rattle.std.specs.Prelude.{ℕ, ◌+◌, ◌-◌, ◌*◌, ◌/◌, ◌%◌, Bool, false, cond, ◌&&◌, ◌==◌}
 use Rattle.grib_rescan.specs.declared.scanning.Scanning.{Scanning}
 
 -- Bits 1 to 4 of the octet: points of a row go westward, points of a column go northward, points of a column
@@ -50,3 +50,12 @@ point_at scanning ni nj i j =
     let row = turned scanning.northward nj j in
     cond scanning.by_columns (column * nj + turned (scanning.alternates && is_odd column) nj row)
     (row * ni + turned (scanning.alternates && is_odd row) ni column)
+
+-- the mode of the grid that has the columns, whose points are consecutive, for rows
+abbrev pub exchanged : Scanning → Scanning
+exchanged scanning = record {
+  westward = scanning.northward;
+  northward = scanning.westward;
+  by_columns = false;
+  alternates = scanning.alternates;
+}

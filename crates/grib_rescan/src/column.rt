@@ -6,7 +6,7 @@ ghost use Rattle.grib_rescan.specs.Points.{IsBox, rescanned_column, cropped_colu
 use crate::points::{Area, crop_points, rescan_points};
 use crate::scanning::Scanning;
 use grib_base::List;
-use grib_packing::{Column, Point};
+use grib_packing::Column;
 use std::alloc::{AllocError, Global};
 
 /// The column of a field of `ni` columns and `nj` rows in the order of scanning octet 0: each point with its
@@ -17,16 +17,27 @@ use std::alloc::{AllocError, Global};
 /// There is no memory for it.
 pub fn rescan_column(
     alloc: Global,
-    column: &Column,
+    column: Column,
     scanning: Scanning,
     ni: u32,
     nj: u32,
 ) -> Result<Column, AllocError>
-    requires { length column.now.points ≡ ni * nj }
-    ensures { IfOk result (λ rescanned. rescanned ≡ rescanned_column scanning ni nj column.now) }
+    requires { length column.points ≡ ni * nj }
+    ensures { IfOk result (λ rescanned. rescanned ≡ rescanned_column scanning ni nj column) }
 {
-    let points = rescan_points(alloc, column.points.as_slice(), scanning, ni, nj)?;
-    Ok(with_points(column, points))
+    let Column {
+        reference,
+        e,
+        d,
+        points,
+    } = column;
+    let points = rescan_points(alloc, points.into_vec(), scanning, ni, nj)?;
+    Ok(Column {
+        reference,
+        e,
+        d,
+        points: List::of(points),
+    })
 }
 
 /// The column of a box of a field of `ni` columns and `nj` rows, whose points are in the order of scanning
@@ -47,17 +58,10 @@ pub fn crop_column(
     ensures { IfOk result (λ cropped. cropped ≡ cropped_column area.now ni nj column.now) }
 {
     let points = crop_points(alloc, column.points.as_slice(), ni, nj, area)?;
-    Ok(with_points(column, points))
-}
-
-/// These points with the R, E and D of a column.
-fn with_points(column: &Column, points: Vec<Point>) -> Column
-    ensures { result ≡ record column.now { points = points.items } }
-{
-    Column {
+    Ok(Column {
         reference: column.reference,
         e: column.e,
         d: column.d,
         points: List::of(points),
-    }
+    })
 }

@@ -1,12 +1,16 @@
 //! The points of a grid in another order, and those of a box.
 
 ghost use Rattle.std.specs.Prelude.{◌≡◌, ◌+◌, ◌-◌, ◌*◌, ◌%◌, ◌<◌, ◌≤◌, ◌++◌, ◌==◌, ◌&&◌, cond, true, false, length, take, drop, reverse, OnOk, IfOk};
+ghost use Rattle.std.specs.List.{range_with_len, flat_map};
 ghost use Rattle.grib_rescan.specs.Scanning.{turned, is_odd, scanning_of};
 ghost use Rattle.grib_rescan.specs.Points.{IsBox, row_of, rescanned_points, cropped_points};
 
 use crate::scanning::{Scanning, turn};
 use grib_packing::Point;
 use std::alloc::{AllocError, Global};
+
+/// How many rows are taken out of all columns at a time.
+const BAND_ROWS: usize = 16;
 
 /// A box of a grid: its columns from `i0` to `i1`, counted from the west, and its rows from `j0` to `j1`,
 /// counted from the north, both from 0.
@@ -19,88 +23,140 @@ pub struct Area {
 }
 
 /// The points of a grid of `ni` columns and `nj` rows in the order of scanning octet 0: the rows from the
-/// north, and the points of each from the west.
+/// north, and the points of each from the west. Where the points of a row are consecutive, they are moved in
+/// the memory that they have; else there are two lists of them for a while.
 ///
 /// # Errors
 ///
 /// There is no memory for them.
 pub fn rescan_points(
     alloc: Global,
-    points: &[Point],
+    mut points: Vec<Point>,
     scanning: Scanning,
     ni: u32,
     nj: u32,
 ) -> Result<Vec<Point>, AllocError>
-    requires { length points.now ≡ ni * nj }
-    ensures { IfOk result (λ rescanned. rescanned.items ≡ rescanned_points scanning ni nj points.now) }
+    requires { length points.items ≡ ni * nj }
+    ensures { IfOk result (λ rescanned. rescanned.items ≡ rescanned_points scanning ni nj points.items) }
 {
     let (columns, rows) = (ni as usize, nj as usize);
-    let mut rescanned = Vec::with_capacity(alloc, points.len())?;
+    if scanning.by_columns {
+        order_rows(&mut points, scanning.exchanged(), rows, columns);
+        return transpose(alloc, &points, columns, rows);
+    }
+    order_rows(&mut points, scanning, columns, rows);
+    Ok(points)
+}
+
+/// Puts the rows in their order from the north, and the points of each from the west, where the points of a
+/// row are consecutive.
+fn order_rows(points: &mut [Point], scanning: Scanning, columns: usize, rows: usize)
+    requires rows_stand { scanning.by_columns ≡ false }
+    requires length { length points.old ≡ columns * rows }
+    ensures { points.new ≡ rescanned_points scanning columns rows points.old }
+{
+    if scanning.northward {
+        points.reverse();
+    }
+    turn_rows(points, scanning, columns, rows);
+}
+
+/// Turns each row whose points do not go from the west. Where rows go northward, all points stand the last
+/// first, so that the rows are in their order from the north.
+fn turn_rows(points: &mut [Point], scanning: Scanning, columns: usize, rows: usize)
+    requires rows_stand { scanning.by_columns ≡ false }
+    requires length { length points.old ≡ columns * rows }
+    ensures { points.new
+        ≡ rescanned_points scanning columns rows (cond scanning.northward (reverse points.old) points.old) }
+{
     for row in 0..rows {
-        if scanning.by_columns {
-            add_across(points, scanning, columns, rows, row, &mut rescanned)?;
-        } else {
-            add_row(points, scanning, columns, rows, row, &mut rescanned)?;
+        let place = turn(scanning.northward, rows, row);
+        let turns = scanning.alternates && place % 2 == 1;
+        let from_west = turns == scanning.westward;
+        let start = row * columns;
+        if from_west == scanning.northward {
+            points[start..start + columns].reverse();
         }
     }
-    Ok(rescanned)
 }
 
-/// Adds the points of a row, where those of a row are consecutive.
-fn add_row(
+/// The points row by row, where they stand column by column, and each column goes from the north. Some rows
+/// at a time are taken out of all columns, so that what is read of a column is consecutive.
+fn transpose(
+    alloc: Global,
     points: &[Point],
-    scanning: Scanning,
     columns: usize,
     rows: usize,
-    row: usize,
+) -> Result<Vec<Point>, AllocError>
+    requires { length points.now ≡ columns * rows }
+    ensures { IfOk result (λ transposed. transposed.items
+        ≡ rescanned_points (scanning_of 0x20) columns rows points.now) }
+{
+    let mut transposed = Vec::with_capacity(alloc, points.len())?;
+    let mut band = Vec::new(alloc);
+    for number in 0..rows.div_ceil(BAND_ROWS) {
+        let first = number * BAND_ROWS;
+        let height = BAND_ROWS.min(rows - first);
+        band.clear();
+        add_parts(points, columns, rows, first, height, &mut band)?;
+        add_rows(&band, columns, height, &mut transposed)?;
+    }
+    Ok(transposed)
+}
+
+/// Adds the points of each column that lie in the `height` rows from `first` on.
+fn add_parts(
+    points: &[Point],
+    columns: usize,
+    rows: usize,
+    first: usize,
+    height: usize,
     out: &mut Vec<Point>,
 ) -> Result<(), AllocError>
-    requires rows_stand { scanning.by_columns ≡ false }
     requires length { length points.now ≡ columns * rows }
-    requires row { row < rows }
-    ensures { OnOk result (out.new.items ≡ out.old.items ++ row_of scanning columns rows points.now 0 columns row) }
+    requires within { first + height ≤ rows }
+    ensures { OnOk result (out.new.items ≡ out.old.items
+        ++ flat_map (row_of (scanning_of 0) rows columns points.now first height) (range_with_len 0 columns)) }
 {
-    let place = turn(scanning.northward, rows, row);
-    let turns = scanning.alternates && place % 2 == 1;
-    let start = place * columns;
-    let run = &points[start..start + columns];
-    if turns == scanning.westward {
-        out.extend_from_slice(run)?;
-    } else {
-        add_backwards(run, out)?;
+    for column in 0..columns {
+        let start = column * rows + first;
+        out.extend_from_slice(&points[start..start + height])?;
     }
     Ok(())
 }
 
-/// Adds these points, the last first.
-fn add_backwards(run: &[Point], out: &mut Vec<Point>) -> Result<(), AllocError>
-    ensures { OnOk result (out.new.items ≡ out.old.items ++ reverse run.now) }
+/// Adds the rows of points that stand column by column, each column from the north.
+fn add_rows(
+    points: &[Point],
+    columns: usize,
+    rows: usize,
+    out: &mut Vec<Point>,
+) -> Result<(), AllocError>
+    requires { length points.now ≡ columns * rows }
+    ensures { OnOk result (out.new.items ≡ out.old.items
+        ++ rescanned_points (scanning_of 0x20) columns rows points.now) }
 {
-    let start = out.len();
-    out.extend_from_slice(run)?;
-    out[start..].reverse();
+    for row in 0..rows {
+        add_row(points, columns, rows, row, out)?;
+    }
     Ok(())
 }
 
-/// Adds the points of a row, where those of a column are consecutive.
-fn add_across(
+/// Adds a row of points that stand column by column, each column from the north.
+fn add_row(
     points: &[Point],
-    scanning: Scanning,
     columns: usize,
     rows: usize,
     row: usize,
     out: &mut Vec<Point>,
 ) -> Result<(), AllocError>
-    requires columns_stand { scanning.by_columns ≡ true }
     requires length { length points.now ≡ columns * rows }
     requires row { row < rows }
-    ensures { OnOk result (out.new.items ≡ out.old.items ++ row_of scanning columns rows points.now 0 columns row) }
+    ensures { OnOk result (out.new.items ≡ out.old.items
+        ++ row_of (scanning_of 0x20) columns rows points.now 0 columns row) }
 {
-    let place = turn(scanning.northward, rows, row);
-    for from_west in 0..columns {
-        let column = turn(scanning.westward, columns, from_west);
-        let turns = scanning.alternates && column % 2 == 1;
-        out.push(points[column * rows + turn(turns, rows, place)])?;
+    for column in 0..columns {
+        out.push(points[column * rows + row])?;
     }
     Ok(())
 }

@@ -1,7 +1,7 @@
 //! How the points of a grid follow one another.
 
 ghost use Rattle.std.specs.Prelude.{◌≡◌, ◌<◌};
-ghost use Rattle.grib_rescan.specs.Scanning.{turned, scanning_of};
+ghost use Rattle.grib_rescan.specs.Scanning.{turned, scanning_of, exchanged};
 
 /// The scanning mode of a grid: bits 1 to 4 of its octet (WMO-No. 306, Volume I.2, FM 92 GRIB edition 2, flag
 /// table 3.4).
@@ -27,6 +27,19 @@ impl Scanning {
             northward: octet / 64 % 2 == 1,
             by_columns: octet / 32 % 2 == 1,
             alternates: octet / 16 % 2 == 1,
+        }
+    }
+
+    /// How the points follow one another in the grid that has the columns of this one, whose points are
+    /// consecutive, for rows.
+    pub(crate) fn exchanged(self) -> Scanning
+        ensures { result ≡ exchanged self }
+    {
+        Scanning {
+            westward: self.northward,
+            northward: self.westward,
+            by_columns: false,
+            alternates: self.alternates,
         }
     }
 }

@@ -47,13 +47,13 @@ impl GridEdit {
         &self,
         alloc: Global,
         section3: &[u8],
-        column: &Column,
+        column: Column,
     ) -> Result<Column, AllocError>
         requires stands { Stands self.now }
         requires accepted { first_fault (grid_rows section3.now) ≡ None }
         requires uncaused { cause_of self.now section3.now ≡ None }
-        requires length { length column.now.points ≡ grid_points section3.now }
-        ensures { IfOk result (λ new. new ≡ new_column self.now section3.now column.now) }
+        requires length { length column.points ≡ grid_points section3.now }
+        ensures { IfOk result (λ new. new ≡ new_column self.now section3.now column) }
     {
         what_has_no_cause();
         let (ni, nj) = (u32_at(section3, 31), u32_at(section3, 35));
@@ -61,7 +61,7 @@ impl GridEdit {
             GridEdit::Rescan => {
                 rescan_column(alloc, column, Scanning::of(u8_at(section3, 72)), ni, nj)
             }
-            GridEdit::Crop(area) => crop_column(alloc, column, ni, nj, area),
+            GridEdit::Crop(area) => crop_column(alloc, &column, ni, nj, area),
         }
     }
 }

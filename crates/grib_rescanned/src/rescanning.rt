@@ -20,7 +20,8 @@ use std::alloc::Global;
 /// The message with the points of its grids in the order of scanning octet 0: rows from the north, and points
 /// of a row from the west. Sections 5, 6 and 7 of each field are packed anew as the field is packed, each
 /// Section 3 has the first corner in the north west, and all other octets but the total length stay. It
-/// holds the message, the new sections and two columns at a time.
+/// holds the message, the new sections and one column at a time, two where the points of a column of the
+/// grid are consecutive.
 ///
 /// # Errors
 ///
@@ -147,5 +148,5 @@ fn edit_column(
         return Err(RescanFault::of_grid(field, cause));
     }
     let column = message.column(alloc, field)?;
-    Ok(edit.column(alloc, section3.octets, &column)?)
+    Ok(edit.column(alloc, section3.octets, column)?)
 }

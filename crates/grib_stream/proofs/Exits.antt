@@ -8,7 +8,7 @@ use Rattle.std.proofs.KnownBytes.{Consumes-whole}
 use Rattle.grib_base.specs.Rows.{choose}
 use Rattle.grib_base.specs.declared.fault.Refusal.{Refusal}
 use Rattle.grib_stream.specs.declared.outcome.Outcome.{Outcome}
-use Rattle.grib_stream.specs.declared.outcome.Outcome.TheVariants.{Done, Usage, Refused, Kept, TableRefused, ReadFault, WriteFault, ShelfFault, Memory, InputTooLong, NotBuilt}
+use Rattle.grib_stream.specs.declared.outcome.Outcome.TheVariants.{Done, Usage, Refused, Kept, TableRefused, ReadFault, WriteFault, ShelfFault, Memory, InputTooLong}
 use Rattle.grib_stream.specs.declared.place.Totals.{Totals}
 use Rattle.grib_stream.specs.Acts.{Act, World, Did, DidFront}
 use Rattle.grib_stream.specs.Outcomes.{KeepsOrCuts, is_broken, is_cut_short, is_cut_within, is_open, is_truncated, is_of_message}
@@ -77,7 +77,6 @@ of_message (Refused refusal) is = record {
   not_read = λ e. cc;
 }
 of_message (Kept kept) is = record { closed = refl; not_done = λ e. cc; not_long = λ e. cc; not_read = λ e. cc }
-of_message NotBuilt is = record { closed = refl; not_done = λ e. cc; not_long = λ e. cc; not_read = λ e. cc }
 of_message Done is = absurd (false≢true is)
 of_message (Usage word) is = absurd (false≢true is)
 of_message (TableRefused refusal) is = absurd (false≢true is)
@@ -130,7 +129,6 @@ cut_broken (Kept kept) cut = absurd (false≢true cut)
 cut_broken (TableRefused refusal) cut = absurd (false≢true cut)
 cut_broken ShelfFault cut = absurd (false≢true cut)
 cut_broken InputTooLong cut = absurd (false≢true cut)
-cut_broken NotBuilt cut = absurd (false≢true cut)
 
 -- an outcome with which a run may end within a message
 pub record CutWithin (outcome : Outcome) : Type 0 where
@@ -149,7 +147,6 @@ cut_within (Refused refusal) cut = absurd (false≢true cut)
 cut_within (Kept kept) cut = absurd (false≢true cut)
 cut_within (TableRefused refusal) cut = absurd (false≢true cut)
 cut_within InputTooLong cut = absurd (false≢true cut)
-cut_within NotBuilt cut = absurd (false≢true cut)
 
 -- a front of the acts of an answer, also where it is cut off at the limit
 cut_front : (task : Task) (answer : Answer) (before now : World) → DidFront before now answer.acts

@@ -7,4 +7,6 @@ pub mod Exits
 pub mod Going
 pub mod Stopping
 pub mod Within
+pub mod Cutting
+pub mod Parts
 pub mod Notes

@@ -22,7 +22,7 @@ abbrev found_by : (List ℕ → Judgement) → ℕ → ℕ → ℕ → List ℕ 
 found_by judge place skipped octet octets j =
     on_judgement j (λ total. followed_by (message_after place (take total (octet ∷ octets))) (stream_from judge (total - 1) (place + 1) skipped octets))
 
-begun_by : (judge : List ℕ → Judgement) (place skipped octet : ℕ) (octets : List ℕ) (j : Judgement) → begins (octet ∷ octets) ≡ true → judge (octet ∷ octets) ≡ j
+pub begun_by : (judge : List ℕ → Judgement) (place skipped octet : ℕ) (octets : List ℕ) (j : Judgement) → begins (octet ∷ octets) ≡ true → judge (octet ∷ octets) ≡ j
     → stream_from judge 0 place skipped (octet ∷ octets) ≡ found_by judge place skipped octet octets j
 begun_by judge place skipped octet octets j some is =
     stream_begun judge place skipped octet octets some ∙ ap (found_by judge place skipped octet octets) is
@@ -60,7 +60,7 @@ beyond task lawful n zero place skipped (octet ∷ octets) low =
     (cases_Bool (begins (octet ∷ octets)))
 
 -- fewer octets than four have no message
-few_none : (judge : List ℕ → Judgement) (place skipped : ℕ) (octets : List ℕ) → length octets < 4 → (stream_from judge 0 place skipped octets).messages ≡ []
+pub few_none : (judge : List ℕ → Judgement) (place skipped : ℕ) (octets : List ℕ) → length octets < 4 → (stream_from judge 0 place skipped octets).messages ≡ []
 few_none judge place skipped octets few =
     let markless : Markless (length octets) octets = record {
       none = λ k low. none_in_few (drop k octets) (omega (arith, length-drop k octets));

@@ -1,5 +1,6 @@
 pub mod Stream
 pub mod Within
+pub mod Cutting
 pub mod Searching
 pub mod Acts
 pub mod Outcomes

@@ -3,7 +3,7 @@ use Rattle.std.specs.Prelude.{◌≡◌, ◌⊎◌, ℕ, Bool, true, false, not}
 use Rattle.grib_base.specs.declared.fault.Reason.{Reason}
 use Rattle.grib_base.specs.declared.fault.Reason.TheVariants.{Truncated}
 use Rattle.grib_stream.specs.declared.outcome.Outcome.{Outcome}
-use Rattle.grib_stream.specs.declared.outcome.Outcome.TheVariants.{Done, Usage, Refused, Kept, TableRefused, ReadFault, WriteFault, ShelfFault, Memory, InputTooLong, NotBuilt}
+use Rattle.grib_stream.specs.declared.outcome.Outcome.TheVariants.{Done, Usage, Refused, Kept, TableRefused, ReadFault, WriteFault, ShelfFault, Memory, InputTooLong}
 
 -- the exit status
 abbrev pub status_of : Outcome → ℕ
@@ -17,7 +17,6 @@ status_of WriteFault = 6
 status_of ShelfFault = 7
 status_of Memory = 8
 status_of InputTooLong = 9
-status_of NotBuilt = 10
 
 -- whether a device or a lack of memory ended the run, before or after its answer was found
 abbrev pub is_broken : Outcome → Bool
@@ -31,7 +30,6 @@ is_broken WriteFault = true
 is_broken ShelfFault = true
 is_broken Memory = true
 is_broken InputTooLong = false
-is_broken NotBuilt = false
 
 -- whether writing the output or the notes broke, or memory ran out: then output and notes may wait for the rest
 abbrev pub is_cut_short : Outcome → Bool
@@ -45,7 +43,6 @@ is_cut_short WriteFault = true
 is_cut_short ShelfFault = false
 is_cut_short Memory = true
 is_cut_short InputTooLong = false
-is_cut_short NotBuilt = false
 
 -- whether a run may end with it within what is done for a message: then some front of that was done. After
 -- a fault of the shelf the output and the notes are still brought to their end.
@@ -60,7 +57,6 @@ is_cut_within WriteFault = true
 is_cut_within ShelfFault = true
 is_cut_within Memory = true
 is_cut_within InputTooLong = false
-is_cut_within NotBuilt = false
 
 -- whether octets are refused only for their end, so that more of them may be accepted
 abbrev pub is_truncated : Reason → Bool
@@ -79,7 +75,6 @@ is_open WriteFault = false
 is_open ShelfFault = false
 is_open Memory = false
 is_open InputTooLong = false
-is_open NotBuilt = false
 
 -- whether it is of a message, before which the run ends, whatever follows
 abbrev pub is_of_message : Outcome → Bool
@@ -93,7 +88,6 @@ is_of_message WriteFault = false
 is_of_message ShelfFault = false
 is_of_message Memory = false
 is_of_message InputTooLong = false
-is_of_message NotBuilt = true
 
 -- the end of a run keeps the outcome, or writing the output or the notes broke, or memory ran out
 abbrev pub KeepsOrCuts : Outcome → Outcome → Type 0

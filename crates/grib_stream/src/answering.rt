@@ -41,6 +41,6 @@ pub fn answer_within<K: Performer, S: Source, T: Sink, H: Shelf>(
     ensures not_done { IfErr result (λ outcome. outcome ≢ Done) }
 {
     let totals = answer_messages(performer, alloc, limit, input, output, shelf)?;
-    performer.finish(alloc, &totals, output, shelf)?;
+    performer.finish(alloc, &totals, output)?;
     Ok(totals)
 }

@@ -29,8 +29,6 @@ pub enum Outcome {
     Memory,
     /// The input has more octets than are taken.
     InputTooLong,
-    /// The words or the input ask for what is not built yet.
-    NotBuilt,
 }
 
 impl Outcome {
@@ -49,7 +47,6 @@ impl Outcome {
             Outcome::ShelfFault => 7,
             Outcome::Memory => 8,
             Outcome::InputTooLong => 9,
-            Outcome::NotBuilt => 10,
         }
     }
 }

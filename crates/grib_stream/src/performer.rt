@@ -1,7 +1,8 @@
 //! What answers the messages of an input.
 
-ghost use Rattle.std.specs.Prelude.{◌≡◌, ◌≢◌, ℕ, ◌≤◌, ◌<◌, ◌+◌, ◌^◌, Bool, true, false, List, [], ◌++◌, length, OnOk, OnErr, IfErr};
+ghost use Rattle.std.specs.Prelude.{◌≡◌, ◌≢◌, ℕ, ◌≤◌, ◌<◌, ◌+◌, ◌^◌, Bool, true, false, Option, List, [], ◌++◌, length, OnOk, OnErr, IfErr};
 ghost use Rattle.grib_io.specs.Outside.{Counted};
+ghost use Rattle.grib_io.specs.Shelves.{Held};
 ghost use Rattle.grib_stream.specs.Stream.{begins, Message};
 ghost use Rattle.grib_stream.specs.Acts.{world, Did, DidFront};
 ghost use Rattle.grib_stream.specs.Task.{Task, IsLawful, next_of};
@@ -78,26 +79,23 @@ pub trait Performer {
         ensures shelf { uses_shelf self.now ≡ false → shelf.new ≡ shelf.old }
         ensures unshelved { uses_shelf self.now ≡ false → result ≢ Ends ShelfFault };
 
-    /// Does what is to be done at the end of the input.
-    fn finish<T: Sink, H: Shelf>(
+    /// Does what is to be done at the end of the input, by the output alone.
+    fn finish<T: Sink>(
         &self,
         alloc: Global,
         totals: &Totals,
         output: &mut T,
-        shelf: &mut H,
     ) -> Result<(), Outcome>
-        ensures done { OnOk result (Did (world (T.contents output.old) (H.contents shelf.old))
-            (world (T.contents output.new) (H.contents shelf.new)) ((task self.now).ending totals.now).acts) }
-        ensures front { OnErr result (DidFront (world (T.contents output.old) (H.contents shelf.old))
-            (world (T.contents output.new) (H.contents shelf.new)) ((task self.now).ending totals.now).acts) }
+        ensures done { OnOk result ((names : Option Held) → Did (world (T.contents output.old) names)
+            (world (T.contents output.new) names) ((task self.now).ending totals.now).acts) }
+        ensures front { OnErr result ((names : Option Held) → DidFront (world (T.contents output.old) names)
+            (world (T.contents output.new) names) ((task self.now).ending totals.now).acts) }
         ensures cut { IfErr result (λ outcome. is_cut_short outcome ≡ true) }
         ensures write_fault { IfErr result (λ outcome. outcome ≡ WriteFault
             → Counted (T.faults output.old) (T.faults output.new)) }
         ensures write_calm { IfErr result (λ outcome. outcome ≢ WriteFault
             → T.faults output.new ≡ T.faults output.old) }
-        ensures calm { OnOk result (T.faults output.new ≡ T.faults output.old) }
-        ensures shelf_calm { H.faults shelf.new ≡ H.faults shelf.old }
-        ensures shelf { uses_shelf self.now ≡ false → shelf.new ≡ shelf.old };
+        ensures calm { OnOk result (T.faults output.new ≡ T.faults output.old) };
 
     ghost lawful: { (performer : Self) → IsLawful (task performer) };
 }

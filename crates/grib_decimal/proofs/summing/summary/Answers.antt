@@ -1,33 +1,34 @@
-use Rattle.std.proofs.Common.{◌≡◌, ◌∙◌, length, ap, subst, arith}
-use Rattle.grib_packing.specs.Misfits.{is_missing, is_missing2}
-use Rattle.grib_decimal.specs.Bounds.{AreExtremesSoFar}
-use Rattle.grib_decimal.specs.Summary.{is_present, summary_of}
-use Rattle.grib_decimal.proofs.Summaries.{few, all_summed}
+use Rattle.std.proofs.Common.{◌≡◌, ◌≤◌, List, length, ap, subst, arith, pos}
+use Rattle.std.proofs.lemmas.List.{get_or_default}
+use Rattle.grib_packing.specs.declared.column.Point.{Point}
+use Rattle.grib_packing.specs.declared.column.Point.TheVariants.{Scaled, Missing}
+use Rattle.grib_decimal.specs.Summary.{IsTally, SumUp}
 use Rattle.grib_decimal.proofs.summing.summary.Goals as goal
 
-pub and-summary-requires-clause-present : goal.and-summary-requires-clause-present
-and-summary-requires-clause-present c =
-    let l = c.loop-index in
-    omega (arith, l.invariant.present_is, few is_present c.as_slice-points.result.now l.index)
+few_in : (points items : List Point) → items ≡ points → length points ≤ 33554432 → length items ≤ 33554432
+few_in points items is few = omega (arith, ap length is, few)
 
-pub and-summary-requires-clause-missing : goal.and-summary-requires-clause-missing
-and-summary-requires-clause-missing c =
+summed : (c : goal.After-summary) → SumUp c.args.column.now.points c.summary.result
+summed c =
+    let points = c.as_slice-points.result.now in
     let l = c.loop-index in
-    omega (arith, l.invariant.missing_is, few is_missing c.as_slice-points.result.now l.index)
+    let end : l.index ≡ length points = omega arith in
+    let whole = subst (λ k. IsTally points k l.tally) end l.invariant in
+    subst (λ ps. SumUp ps c.summary.result) c.as_slice-points.ensures
+    (c.summary.ensures points (few_in c.args.column.now.points points c.as_slice-points.ensures c.requires) whole)
 
-pub and-summary-requires-clause-missing2 : goal.and-summary-requires-clause-missing2
-and-summary-requires-clause-missing2 c =
+pub loop-index-init : goal.loop-index-init
+loop-index-init c = c.none-tally.ensures c.as_slice-points.result.now
+
+pub loop-index-preserved : goal.loop-index-preserved
+loop-index-preserved c =
     let l = c.loop-index in
-    omega (arith, l.invariant.missing2_is, few is_missing2 c.as_slice-points.result.now l.index)
+    let points = c.as_slice-points.result.now in
+    c.with-tally.ensures points l.index (few_in c.args.column.now.points points c.as_slice-points.ensures c.requires) c.loop-index-test.true
+    (get_or_default points l.index Missing (Scaled (pos 0)) c.loop-index-test.true) l.invariant
 
 pub returns-clause-summary : goal.returns-clause-summary
-returns-clause-summary c =
-    let l = c.loop-index in
-    let end : l.index ≡ length c.as_slice-points.result.now = omega arith in
-    all_summed c.as_slice-points.result.now l.index l.summary end l.invariant ∙ ap summary_of c.as_slice-points.ensures
+returns-clause-summary c = (summed c).summary_is
 
 pub returns-clause-extremes : goal.returns-clause-extremes
-returns-clause-extremes c =
-    let l = c.loop-index in
-    let end : l.index ≡ length c.as_slice-points.result.now = omega arith in
-    rw (← c.as_slice-points.ensures) (subst (λ k. AreExtremesSoFar c.as_slice-points.result.now k l.summary.extremes) end l.invariant.extremes_are)
+returns-clause-extremes c = (summed c).extremes_are

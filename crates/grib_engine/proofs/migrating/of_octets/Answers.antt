@@ -1,4 +1,4 @@
-use Rattle.std.proofs.Common.{◌≡◌, ℕ, suc, zero, ◌+◌, ◌<◌, Bool, true, ◌&&◌, nat_lt, List, [], ◌∷◌, get_or, refl, ap, ◌∙◌, lt-ltb}
+use Rattle.std.proofs.Common.{◌≡◌, ℕ, suc, zero, ◌<◌, true, ◌&&◌, List, [], ◌∷◌, get_or, refl, ap, ◌∙◌, lt-ltb}
 use Rattle.grib_bits.proofs.OctetNumbers.{AreOctets-known}
 use Rattle.grib_engine.specs.Migrating.{are_octets}
 use Rattle.grib_engine.proofs.migrating.of_octets.Goals as goal

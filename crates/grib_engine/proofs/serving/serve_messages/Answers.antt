@@ -1,4 +1,4 @@
-use Rattle.std.proofs.Common.{◌^◌, refl, rules}
+use Rattle.std.proofs.Common.{◌^◌, rules}
 use Rattle.std.proofs.lemmas.Bool.{false≢true}
 use Rattle.grib_stream.proofs.Exits.{runs_to_the_end}
 use Rattle.grib_stream.proofs.Worlds.{did_keep}

@@ -1,4 +1,4 @@
-use Rattle.std.proofs.Common.{[], ◌≡◌, ◌≢◌, ◌^◌, refl, sym, subst, rules, true, false}
+use Rattle.std.proofs.Common.{[], ◌≡◌, ◌≢◌, ◌^◌, refl, sym, subst, rules}
 use Rattle.std.proofs.lemmas.Bool.{false≢true}
 use Rattle.grib_io.specs.Shelves.{Stays}
 use Rattle.grib_stream.specs.Faults.{faults, CountsRun}

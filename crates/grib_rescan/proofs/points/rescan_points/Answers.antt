@@ -1,15 +1,20 @@
-use Rattle.std.proofs.Common.{◌≡◌, ◌+◌, refl, ap, arith}
-use Rattle.grib_rescan.specs.Points.{row_of}
-use Rattle.grib_rescan.proofs.Rows.{rows_more}
+use Rattle.std.proofs.Common.{◌≡◌, List, IfOk, ap, ap₂, ◌∙◌, subst, arith}
+use Rattle.std.proofs.lemmas.List.{take_at}
+use Rattle.grib_packing.specs.declared.column.Point.{Point}
+use Rattle.grib_rescan.specs.declared.scanning.Scanning.{Scanning}
+use Rattle.grib_rescan.specs.Scanning.{scanning_of}
+use Rattle.grib_rescan.specs.Points.{rescanned_points}
+use Rattle.grib_rescan.proofs.Bands.{exchanged_rows}
 use Rattle.grib_rescan.proofs.points.rescan_points.Goals as goal
-use Rattle.grib_rescan.proofs.points.rescan_points.Goals.{then-scanning+in_ok-add_across, else-scanning+in_ok-add_row}
 
-pub loop-row-preserved : goal.loop-row-preserved
-loop-row-preserved c =
-    let f = row_of c.args.scanning c.args.ni c.args.nj c.args.points.now 0 c.args.ni in
-    let row = c.loop-row.row in
-    let same : f row ≡ f (0 + row) = ap f (omega arith) in
-    elim c.if-scanning.branch [
-      | then-scanning+in_ok-add_across w ↦ rw w.rescanned-is (rows_more f 0 row (row + 1) refl _ _ (f row) c.loop-row.invariant same w.in_ok-add_across.ensures)
-      | else-scanning+in_ok-add_row w ↦ rw w.rescanned-is (rows_more f 0 row (row + 1) refl _ _ (f row) c.loop-row.invariant same w.in_ok-add_row.ensures)
-    ]
+pub returns-then-scanning : goal.returns-then-scanning
+returns-then-scanning c =
+    let s = c.args.scanning in
+    let ni = c.args.ni in
+    let nj = c.args.nj in
+    let is = c.deref.ensures.value
+    ∙ take_at c.order_rows.new.points _ c.args.points.len (omega (arith, c.order_rows.auto.points, c.deref_mut.ensures.len))
+    ∙ c.order_rows.ensures
+    ∙ ap₂ (λ (order : Scanning) (xs : List Point). rescanned_points order nj ni xs) c.exchanged.ensures c.deref_mut.ensures.value in
+    subst (λ (xs : List Point). IfOk c.transpose.result (λ transposed. transposed.items ≡ xs))
+    (ap (rescanned_points (scanning_of 0x20) ni nj) is ∙ exchanged_rows s ni nj c.args.points.items c.if-scanning.true) c.transpose.ensures
