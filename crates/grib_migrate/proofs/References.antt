@@ -25,16 +25,16 @@ found_by test a k p le passes_at fails_before rest (inr h) =
     let e : a ≡ p = omega arith in
     ap (λ b. cond b (Some a) (find test (range_with_len (a + 1) k))) (ap test e ∙ passes_at) ∙ ap Some e
 
-found : (test : ℕ → Bool) (a k p : ℕ) → a ≤ p → p < a + k → test p ≡ true → ((q : ℕ) → a ≤ q → q < p → test q ≡ false) → find test (range_with_len a k) ≡ Some p
+pub found : (test : ℕ → Bool) (a k p : ℕ) → a ≤ p → p < a + k → test p ≡ true → ((q : ℕ) → a ≤ q → q < p → test q ≡ false) → find test (range_with_len a k) ≡ Some p
 found test a zero p le lt passes_at fails_before = absurd (omega arith)
 found test a (suc k) p le lt passes_at fails_before =
     found_by test a k p le passes_at fails_before (λ h. found test (a + 1) k p (omega arith) (omega arith) passes_at (λ q g l. fails_before q (omega arith) l)) (cases_lt a p)
 
-record IsFound (test : ℕ → Bool) (a k p : ℕ) : Type 0 where
-  low : a ≤ p
-  high : p < a + k
-  passes : test p ≡ true
-  first : (q : ℕ) → a ≤ q → q < p → test q ≡ false
+pub record IsFound (test : ℕ → Bool) (a k p : ℕ) : Type 0 where
+  pub low : a ≤ p
+  pub high : p < a + k
+  pub passes : test p ≡ true
+  pub first : (q : ℕ) → a ≤ q → q < p → test q ≡ false
 
 found_more : (test : ℕ → Bool) (a k p q : ℕ) → test a ≡ false → IsFound test (a + 1) k p → a ≤ q → q < p → (q ≤ a) ⊎ (a < q) → test q ≡ false
 found_more test a k p q fails_before is le lt (inl h) = let e : q ≡ a = omega arith in ap test e ∙ fails_before
@@ -58,7 +58,7 @@ found_is_by test a k p false e is rest =
         swap (inl x) = inr x
         swap (inr x) = inl x
 
-found_is : (test : ℕ → Bool) (a k p : ℕ) → find test (range_with_len a k) ≡ Some p → IsFound test a k p
+pub found_is : (test : ℕ → Bool) (a k p : ℕ) → find test (range_with_len a k) ≡ Some p → IsFound test a k p
 found_is test a zero p e = cc
 found_is test a (suc k) p e = found_is_by test a k p (test a) refl e (found_is test (a + 1) k p)
 

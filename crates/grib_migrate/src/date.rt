@@ -11,7 +11,7 @@ use jiff::civil::DateTime;
 
 /// A date and a time of day, as their octets state them.
 #[derive(Clone, Copy, Debug)]
-pub(crate) struct Moment {
+pub struct Moment {
     pub year: u16,
     pub month: u8,
     pub day: u8,
@@ -68,7 +68,7 @@ fn civil(moment: Moment) -> Option<DateTime>
 }
 
 /// Whether the moment is a date and time of years 1 to 9999.
-pub(crate) fn is_civil(moment: Moment) -> bool
+pub fn is_civil(moment: Moment) -> bool
     ensures { result ≡ dates.is_civil moment }
 {
     civil(moment).is_some()
@@ -76,7 +76,7 @@ pub(crate) fn is_civil(moment: Moment) -> bool
 
 /// The moment this number of seconds later, if this one is a date and time of years 1 to 9999 and the later one is
 /// not after them.
-pub(crate) fn later(start: Moment, seconds: u32) -> Option<Moment>
+pub fn later(start: Moment, seconds: u32) -> Option<Moment>
     ensures { result ≡ later_in start seconds }
 {
     let at = civil(start)?;

@@ -65,7 +65,7 @@ fn layer(kind: u8, scale_factor: u8, top: u32, bottom: u32) -> Surfaces
 }
 
 /// The surfaces of a type of level with this number, or with this top and bottom, if it has any.
-fn surfaces_at(level_type: u8, level: u32, top: u32, bottom: u32) -> Option<Surfaces>
+pub fn surfaces_at(level_type: u8, level: u32, top: u32, bottom: u32) -> Option<Surfaces>
     requires level { level < 2 ^ 16 }
     requires top { top < 2 ^ 8 }
     requires bottom { bottom < 2 ^ 8 }

@@ -3,7 +3,7 @@
 #![tactic(auto)]
 
 mod checking;
-mod date;
+pub mod date;
 mod grid;
 pub mod laws;
 mod level;
@@ -18,7 +18,7 @@ mod time;
 mod values;
 
 pub use grib_causes::Loss;
-pub use level::{Surface, Surfaces};
+pub use level::{Surface, Surfaces, surfaces_at};
 pub use loss::MigrateFault;
 pub use migrating::migrate;
 pub use number::Number;

@@ -2,6 +2,8 @@
 
 ghost use Rattle.std.specs.Prelude.{◌≡◌, MatchResult};
 ghost use Rattle.grib_params.specs.Table.{Good, IsFault, lookup_in, table_verdict};
+ghost use Rattle.grib_params.specs.Pairs as pairs;
+ghost use Rattle.grib_params.specs.Pairs.{first_pair};
 
 use crate::fault::TableFault;
 use crate::row::{Key, Target, row_of};
@@ -83,4 +85,57 @@ impl Table {
             None => self.targets.get(&(None, version, parameter)).copied(),
         }
     }
+
+    /// The other way round: the first version and parameter, by version, then parameter, for which a look-up
+    /// with this centre finds this target. It takes no memory.
+    pub fn first_pair(&self, centre: u8, target: &Target) -> Option<(u8, u8)>
+        ensures { result ≡ first_pair self.now centre target.now }
+    {
+        let mut first = None;
+        for (key, found) in &self.targets {
+            let pair = (key.1, key.2);
+            if same_target(target, found) && self.has_target(centre, target, pair) {
+                first = Some(earlier(first, pair));
+            }
+        }
+        first
+    }
+
+    /// Whether a look-up finds this target.
+    fn has_target(&self, centre: u8, target: &Target, pair: (u8, u8)) -> bool
+        ensures { result ≡ pairs.has_target self.now centre target.now pair }
+    {
+        match self.lookup(centre, pair.0, pair.1) {
+            Some(found) => same_target(target, &found),
+            None => false,
+        }
+    }
+}
+
+/// Whether two targets are one.
+fn same_target(a: &Target, b: &Target) -> bool
+    ensures { result ≡ pairs.same_target a.now b.now }
+{
+    a.discipline == b.discipline
+        && a.category == b.category
+        && a.number == b.number
+        && a.master == b.master
+        && a.local == b.local
+}
+
+/// The earlier of two pairs, where there is one already.
+fn earlier(first: Option<(u8, u8)>, pair: (u8, u8)) -> (u8, u8)
+    ensures { result ≡ pairs.earlier first pair }
+{
+    match first {
+        Some(first) if !is_before(pair, first) => first,
+        _ => pair,
+    }
+}
+
+/// Whether a pair stands before another, by version, then parameter.
+fn is_before(a: (u8, u8), b: (u8, u8)) -> bool
+    ensures { result ≡ pairs.is_before a b }
+{
+    a.0 < b.0 || (a.0 == b.0 && a.1 < b.1)
 }

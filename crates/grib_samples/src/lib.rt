@@ -12,6 +12,23 @@ pub const FIRST_EDITION: &[u8] = b"GRIB\0\0\x58\x01\
 \0\0\x10\x08\x80\x03\xc2\x76\xa0\0\x08\0\x01\x02\xff\0\
 7777";
 
+/// A message of edition 1 with a bitmap that leaves out the second of its four points: 95 octets.
+pub const MASKED: &[u8] = b"GRIB\0\0\x5f\x01\
+\0\0\x1c\x02\x62\x01\xff\xc0\x0b\x64\x01\xf4\x18\x01\x0f\x0c\0\x01\x06\0\0\0\0\0\x15\0\x80\x02\
+\0\0\x20\0\xff\0\0\x02\0\x02\0\xc3\x50\0\x27\x10\x80\0\xbf\x68\0\x2a\xf8\x03\xe8\x03\xe8\0\0\0\0\0\
+\0\0\x07\x04\0\0\xbf\
+\0\0\x10\x08\0\x01\x41\x10\0\0\x08\x05\x06\x07\x09\x09\
+7777";
+
+/// A message of edition 1 on a reduced Gaussian grid with rows of one and of three points, with one vertical
+/// coordinate: 96 octets.
+pub const REDUCED: &[u8] = b"GRIB\0\0\x60\x01\
+\0\0\x1c\x02\x62\x01\xff\x80\x0b\x64\x01\xf4\x18\x01\x0f\x0c\0\x01\x06\0\0\0\0\0\x15\0\0\x01\
+\0\0\x28\x01\x21\x04\xff\xff\0\x02\0\xc3\x50\0\x27\x10\0\0\xbf\x68\0\x2a\xf8\xff\xff\0\x01\0\0\0\0\0\
+\x41\x10\0\0\0\x01\0\x03\
+\0\0\x10\x08\x80\x03\xc2\x76\xa0\0\x08\0\x01\x02\xff\0\
+7777";
+
 /// A message of one field of 2 by 2 points, whose numbers are 0, 1, 2 and 255: 183 octets.
 pub const PLAIN: [u8; 183] = [
     0x47, 0x52, 0x49, 0x42, 0x00, 0x00, 0x00, 0x02, 0x00, 0x00, 0x00, 0x00, 0x00, 0x00, 0x00, 0xB7,
@@ -107,4 +124,19 @@ pub fn edited(alloc: Global, octets: &[u8], edits: &[(usize, u8)]) -> Result<Vec
         }
     }
     Ok(copy)
+}
+
+/// The octets behind the first `from` of these, up to the first `to`; none where they do not have so many.
+pub fn between(octets: &[u8], from: usize, to: usize) -> &[u8] {
+    octets.get(from..to).unwrap_or(&[])
+}
+
+/// Puts octets in place of those from a place on, counted from 1, as far as there are any.
+pub fn put(octets: &mut [u8], place: usize, new: &[u8]) {
+    let before = place.saturating_sub(1);
+    for (k, octet) in new.iter().enumerate() {
+        if let Some(there) = octets.get_mut(before.saturating_add(k)) {
+            *there = *octet;
+        }
+    }
 }

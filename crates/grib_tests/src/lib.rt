@@ -1,6 +1,6 @@
-//! Tests of the crates up to the packings, and of decimals, over their public calls alone, a module for each crate. What a
-//! contract says for every input is not tried again: expected values are from outside, worked by hand or
-//! made by another program.
+//! Tests of the crates below the packings, of decimals, the parameter table and the outside, over their public
+//! calls alone, a module for each crate. What a contract says for every input is not tried again: expected
+//! values are from outside, worked by hand or made by another program.
 #![tactic(auto)]
 
 #[cfg(test)]
@@ -10,8 +10,6 @@ mod bitmap;
 #[cfg(test)]
 mod bits;
 #[cfg(test)]
-mod complex;
-#[cfg(test)]
 mod decimal;
 #[cfg(test)]
 mod dyadic;
@@ -19,8 +17,6 @@ mod dyadic;
 mod given;
 #[cfg(test)]
 mod grids;
-#[cfg(test)]
-mod groups;
 #[cfg(test)]
 mod keys;
 #[cfg(test)]
@@ -32,8 +28,4 @@ mod products;
 #[cfg(test)]
 mod sections;
 #[cfg(test)]
-mod simple;
-#[cfg(test)]
-mod spatial;
-#[cfg(test)]
-mod split;
+mod writers;

@@ -219,6 +219,12 @@ fn file_shelf_keeps_octets_in_a_file(rt: HostRuntime) -> Result<(), Fail> {
     assert_eq!(rt; read_two(&mut shelf, name, 1), (Ok(2), [2, 3]));
     assert_eq!(rt; read_two(&mut shelf, name, 3), (Ok(1), [4, 0]));
     assert_eq!(rt; read_two(&mut shelf, name, 4), (Ok(0), [0, 0]));
+    // A file is no folder: what would be in it is no absent name.
+    let inside = "/tmp/grib-io-file-shelf.1/part";
+    assert_eq!(rt;
+        read_two(&mut shelf, inside, 0),
+        (Err(ShelfStop::Failed), [0, 0])
+    );
     fs::remove_file(&rt, name)?;
     assert_eq!(rt;
         read_two(&mut shelf, name, 0),
@@ -230,5 +236,21 @@ fn file_shelf_keeps_octets_in_a_file(rt: HostRuntime) -> Result<(), Fail> {
         read_two(&mut shelf, "/tmp", 0),
         (Err(ShelfStop::Failed), [0, 0])
     );
+    Ok(())
+}
+
+// An `append` that writes a part of a long piece and answers that all was written is refused by this test alone.
+#[test]
+fn file_shelf_keeps_long_pieces(rt: HostRuntime) -> Result<(), Fail> {
+    let name = "/tmp/grib-io-file-shelf.2";
+    let mut shelf = FileShelf::new(rt.clone()?);
+    let piece = vec![in rt.alloc(); 7u8; 200_000]?;
+    assert_eq!(rt; make(&mut shelf, name), Ok(()));
+    assert_eq!(rt; append(&mut shelf, name, piece.as_slice()), Ok(()));
+    assert_eq!(rt; append(&mut shelf, name, &[8, 9]), Ok(()));
+    assert_eq!(rt; read_two(&mut shelf, name, 0), (Ok(2), [7, 7]));
+    assert_eq!(rt; read_two(&mut shelf, name, 199_999), (Ok(2), [7, 8]));
+    assert_eq!(rt; read_two(&mut shelf, name, 200_001), (Ok(1), [9, 0]));
+    fs::remove_file(&rt, name)?;
     Ok(())
 }

@@ -3,6 +3,10 @@
 #![tactic(auto)]
 
 #[cfg(test)]
+mod editions;
+#[cfg(test)]
 mod runs;
+#[cfg(test)]
+mod valued;
 #[cfg(test)]
 mod words;

@@ -1,109 +1,27 @@
 //! Runs over sources and sinks in memory, in pieces and with calls that fail.
 
-ghost use Rattle.std.specs.Prelude.{◌≤◌};
-
 use grib_base::{Fault, Reason, Refusal};
-use grib_cli::run;
 use grib_engine::Outcome;
-use grib_io::{MemoryShelf, MemorySink, MemorySource, ReadSource, Sink, Source, WriteSink};
-use grib_samples::PLAIN;
+use grib_io::{ReadSource, Source};
+use grib_runs::{CALM, Failing, run_over};
+use grib_samples::{PLAIN, edited};
 use std::alloc::{AllocError, Global};
-use std::io::{self, Write};
 use std::test::Fail;
-
-mod editions;
-mod large;
-mod packing;
-mod selecting;
-mod valued;
 
 const CHECKED: &str =
     "message 1 at 0 edition 2 octets 183 fields 1\nmessages 1 fields 1 skipped 0\n";
+
+const LISTED: &str = "1.1 ed=2 centre=98 time=2024-01-15T12:00:00 grid=3.0 points=4 product=4.0 \
+                      param=0.0.0 unit=1 ahead=6 surface=103:0:2 packing=5.0 bits=8 values=4\n";
 
 const DUMPED: &str = "1.1 ed=2 centre=98 time=2024-01-15T12:00:00 grid=3.0 points=4 product=4.0 \
                       param=0.0.0 unit=1 ahead=6 surface=103:0:2 packing=5.0 bits=8 values=4\n\
                       reference -949*2^-3 binary -3 decimal 1\n1 0\n2 1\n3 2\n4 255\n";
 
-// The octets of the first of these lines.
-const LIST_LINE: usize = 145;
-
 const DUMPED_WITHOUT_BITS: &str = "1.1 ed=2 centre=98 time=2024-01-15T12:00:00 grid=3.0 points=4 \
                                    product=4.0 param=0.0.0 unit=1 ahead=6 surface=103:0:2 packing=5.0 \
                                    bits=0 values=4\nreference -949*2^-3 binary -3 decimal 1\n1 0\n2 \
                                    0\n3 0\n4 0\n";
-
-// The calls of the input, of the output and of the notes that fail, from 1; 0 is none.
-#[derive(Clone, Copy)]
-struct Failing {
-    input: u64,
-    output: u64,
-    notes: u64,
-}
-
-const CALM: Failing = Failing {
-    input: 0,
-    output: 0,
-    notes: 0,
-};
-
-// How a run ended, and what it wrote.
-#[derive(Drop)]
-struct Ran {
-    outcome: Outcome,
-    output: MemorySink,
-    notes: MemorySink,
-    shelf: MemoryShelf,
-}
-
-impl Ran {
-    // Whether it ended so, with this output and these notes.
-    fn is(&self, outcome: Outcome, output: &str, notes: &str) -> bool {
-        self.outcome == outcome
-            && self.output.octets() == output.as_bytes()
-            && self.notes.octets() == notes.as_bytes()
-    }
-
-    // Whether it ended so, with these octets as output.
-    fn gave(&self, outcome: Outcome, output: &[u8], notes: &str) -> bool {
-        self.outcome == outcome
-            && self.output.octets() == output
-            && self.notes.octets() == notes.as_bytes()
-    }
-}
-
-// A run of words, told apart by spaces, over octets that come and go in pieces of this size.
-fn run_over(
-    alloc: Global,
-    text: &str,
-    octets: &[u8],
-    piece: usize,
-    failing: Failing,
-) -> Result<Ran, AllocError>
-    requires { 1 ≤ piece }
-{
-    let mut words = Vec::new(alloc);
-    for word in text.split_whitespace() {
-        words.push(String::from_str(alloc, word)?)?;
-    }
-    let mut input = MemorySource::new(octets.to_vec(alloc)?, piece, [failing.input].to_vec(alloc)?);
-    let mut output = MemorySink::new(alloc, piece, [failing.output].to_vec(alloc)?);
-    let mut notes = MemorySink::new(alloc, piece, [failing.notes].to_vec(alloc)?);
-    let mut shelf = MemoryShelf::new(alloc, Vec::new(alloc));
-    let outcome = run(
-        alloc,
-        words.as_slice(),
-        &mut input,
-        &mut output,
-        &mut notes,
-        &mut shelf,
-    );
-    Ok(Ran {
-        outcome,
-        output,
-        notes,
-        shelf,
-    })
-}
 
 fn refused(octet: u64, reason: Reason, detail: u64) -> Outcome {
     Outcome::Refused(Refusal {
@@ -117,12 +35,26 @@ fn refused(octet: u64, reason: Reason, detail: u64) -> Outcome {
 }
 
 #[test]
-fn answer_is_the_same_in_any_pieces(rt: HostRuntime) -> Result<(), Fail> {
+fn a_message_is_checked_in_any_pieces(rt: HostRuntime) -> Result<(), Fail> {
     for piece in [1, 7, 183] {
         let checked = run_over(rt.alloc(), "check", &PLAIN, piece, CALM)?;
         assert!(rt; checked.is(Outcome::Done, CHECKED, ""));
+    }
+    Ok(())
+}
+
+#[test]
+fn a_message_is_listed_in_any_pieces(rt: HostRuntime) -> Result<(), Fail> {
+    for piece in [1, 7, 183] {
         let listed = run_over(rt.alloc(), "list", &PLAIN, piece, CALM)?;
-        assert!(rt; listed.is(Outcome::Done, &DUMPED[..LIST_LINE], ""));
+        assert!(rt; listed.is(Outcome::Done, LISTED, ""));
+    }
+    Ok(())
+}
+
+#[test]
+fn a_message_is_dumped_in_any_pieces(rt: HostRuntime) -> Result<(), Fail> {
+    for piece in [1, 7, 183] {
         let dumped = run_over(rt.alloc(), "dump", &PLAIN, piece, CALM)?;
         assert!(rt; dumped.is(Outcome::Done, DUMPED, ""));
     }
@@ -142,17 +74,15 @@ const STREAM_CHECKED: &str = "message 1 at 12 edition 2 octets 183 fields 1\n\
                               message 2 at 195 edition 2 octets 183 fields 1\n\
                               messages 2 fields 2 skipped 17\n";
 
-// The octets of the first of these lines, and of the second.
-const FIRST_LINE: usize = 46;
+// The first of these lines, and the first two.
+const FIRST_LINE: &str = "message 1 at 12 edition 2 octets 183 fields 1\n";
 
-const SECOND_LINE: usize = 47;
+const BOTH_LINES: &str = "message 1 at 12 edition 2 octets 183 fields 1\n\
+                          message 2 at 195 edition 2 octets 183 fields 1\n";
 
 // The message with a Section 7 of 70,008 octets, of which four are read: 70,182 octets.
 fn long_message(alloc: Global) -> Result<Vec<u8>, AllocError> {
-    let mut octets = PLAIN[..170].to_vec(alloc)?;
-    octets[13] = 0x01;
-    octets[14] = 0x12;
-    octets[15] = 0x26;
+    let mut octets = edited(alloc, &PLAIN[..170], &[(14, 0x01), (15, 0x12), (16, 0x26)])?;
     octets.extend_from_slice(&[0x00, 0x01, 0x11, 0x78, 7])?;
     octets.resize(70_178, 0)?;
     octets.extend_from_slice(b"7777")?;
@@ -191,11 +121,12 @@ fn each_read_may_fail(rt: HostRuntime) -> Result<(), Fail> {
     // 383 octets in pieces of 50 at most, and the read that finds the end. The messages end after 195 and
     // after 378 octets.
     let octets = stream(rt.alloc())?;
-    let one = &STREAM_CHECKED[..FIRST_LINE];
-    let both = &STREAM_CHECKED[..FIRST_LINE + SECOND_LINE];
-    let lines = ["", "", "", "", one, one, one, one, both];
-    for (read, text) in lines.iter().enumerate() {
-        let input = read as u64 + 1;
+    for input in 1..10u64 {
+        let text = match input {
+            1..=4 => "",
+            5..=8 => FIRST_LINE,
+            _ => BOTH_LINES,
+        };
         let failing = Failing { input, ..CALM };
         let checked = run_over(rt.alloc(), "check", octets.as_slice(), 50, failing)?;
         assert!(rt; checked.is(Outcome::ReadFault, text, "read fault\n"));
@@ -210,9 +141,12 @@ fn each_read_may_fail(rt: HostRuntime) -> Result<(), Fail> {
 fn each_write_may_fail(rt: HostRuntime) -> Result<(), Fail> {
     // The output takes 30 and 15 octets of the line of the message, then 30 of the last one, and is then
     // finished.
-    let fronts = ["", &CHECKED[..30], &CHECKED[..45], CHECKED];
-    for (written, front) in fronts.iter().enumerate() {
-        let output = written as u64 + 1;
+    for (output, front) in [
+        (1, ""),
+        (2, "message 1 at 0 edition 2 octet"),
+        (3, "message 1 at 0 edition 2 octets 183 fields 1\n"),
+        (4, CHECKED),
+    ] {
         let checked = run_over(rt.alloc(), "check", &PLAIN, 30, Failing { output, ..CALM })?;
         assert!(rt; checked.is(Outcome::WriteFault, front, ""));
     }
@@ -226,7 +160,7 @@ fn each_write_may_fail(rt: HostRuntime) -> Result<(), Fail> {
 fn each_call_of_the_notes_may_fail(rt: HostRuntime) -> Result<(), Fail> {
     // The note has 40 octets; then the notes are finished.
     let note = "refused message 1 octet 11 Truncated 10\n";
-    for (notes, front) in [(1, ""), (2, &note[..30]), (3, note)] {
+    for (notes, front) in [(1, ""), (2, "refused message 1 octet 11 Tru"), (3, note)] {
         let failing = Failing { notes, ..CALM };
         let refusal = run_over(rt.alloc(), "check", &PLAIN[..10], 30, failing)?;
         assert!(rt; refusal.is(Outcome::WriteFault, "", front));
@@ -237,14 +171,17 @@ fn each_call_of_the_notes_may_fail(rt: HostRuntime) -> Result<(), Fail> {
     Ok(())
 }
 
+// The message with numbers of no bits and a Section 7 of 5 octets, so of 179 octets, and with these other octets.
+fn without_bits(alloc: Global, edits: &[(usize, u8)]) -> Result<Vec<u8>, AllocError> {
+    let mut octets = PLAIN[..175].to_vec(alloc)?;
+    octets.extend_from_slice(b"7777")?;
+    let octets = edited(alloc, octets.as_slice(), &[(16, 179), (163, 0), (174, 5)])?;
+    edited(alloc, octets.as_slice(), edits)
+}
+
 #[test]
 fn numbers_of_no_bits_are_printed(rt: HostRuntime) -> Result<(), Fail> {
-    // M1 with octet 163 = 00 and a Section 7 of 5 octets, so of 179 octets.
-    let mut octets = PLAIN[..175].to_vec(rt.alloc())?;
-    octets.extend_from_slice(&PLAIN[179..])?;
-    octets[15] = 179;
-    octets[162] = 0;
-    octets[173] = 5;
+    let octets = without_bits(rt.alloc(), &[])?;
     for piece in [1, 7, 179] {
         let dumped = run_over(rt.alloc(), "dump", octets.as_slice(), piece, CALM)?;
         assert!(rt; dumped.is(Outcome::Done, DUMPED_WITHOUT_BITS, ""));
@@ -255,17 +192,15 @@ fn numbers_of_no_bits_are_printed(rt: HostRuntime) -> Result<(), Fail> {
 #[test]
 fn lines_are_passed_on_before_the_last(rt: HostRuntime) -> Result<(), Fail> {
     // A field of 200 by 100 points, whose lines take 148,000 octets: the second write of them fails.
-    let mut octets = PLAIN[..175].to_vec(rt.alloc())?;
-    octets.extend_from_slice(&PLAIN[179..])?;
-    octets[15] = 179;
-    octets[45] = 0x4e;
-    octets[46] = 0x20;
-    octets[70] = 200;
-    octets[74] = 100;
-    octets[150] = 0x4e;
-    octets[151] = 0x20;
-    octets[162] = 0;
-    octets[173] = 5;
+    let edits = [
+        (46, 0x4e),
+        (47, 0x20),
+        (71, 200),
+        (75, 100),
+        (151, 0x4e),
+        (152, 0x20),
+    ];
+    let octets = without_bits(rt.alloc(), &edits)?;
     let failing = Failing { output: 2, ..CALM };
     let dumped = run_over(rt.alloc(), "dump", octets.as_slice(), 1_000_000, failing)?;
     assert!(rt; dumped.outcome == Outcome::WriteFault);
@@ -305,45 +240,6 @@ fn words_without_a_reading(rt: HostRuntime) -> Result<(), Fail> {
         let ran = run_over(rt.alloc(), words, &PLAIN, 50, CALM)?;
         assert!(rt; ran.is(Outcome::Usage(word), "", note.as_str()));
     }
-    Ok(())
-}
-
-// A writer that takes whole pieces, and counts its octets, its calls and its flushes.
-#[derive(Drop)]
-struct Counting {
-    octets: usize,
-    writes: u32,
-    flushes: u32,
-}
-
-impl Write for Counting {
-    fn write(&mut self, buf: &[u8]) -> io::Result<usize> {
-        self.octets = self.octets.saturating_add(buf.len());
-        self.writes = self.writes.saturating_add(1);
-        Ok(buf.len())
-    }
-
-    fn flush(&mut self) -> io::Result<()> {
-        self.flushes = self.flushes.saturating_add(1);
-        Ok(())
-    }
-}
-
-#[test]
-fn a_long_piece_is_one_write_and_is_flushed_at_the_end(rt: HostRuntime) -> Result<(), Fail> {
-    let piece = vec![in rt.alloc(); 7u8; 70_000]?;
-    let mut counting = Counting {
-        octets: 0,
-        writes: 0,
-        flushes: 0,
-    };
-    let mut sink = WriteSink::new(&mut counting);
-    assert!(rt; Sink::write(&mut sink, piece.as_slice()) == Ok(70_000));
-    assert!(rt; Sink::finish(&mut sink) == Ok(()));
-    drop(sink);
-    assert_eq!(rt; counting.octets, 70_000);
-    assert_eq!(rt; counting.writes, 1);
-    assert_eq!(rt; counting.flushes, 1);
     Ok(())
 }
 

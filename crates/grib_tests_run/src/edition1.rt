@@ -5,28 +5,12 @@ ghost use Rattle.std.specs.Prelude.{◌≤◌};
 
 use grib_base::{Fault, ReadFault, Reason};
 use grib_bits::u8_at;
-pub(crate) use grib_samples::FIRST_EDITION as PLAIN;
+pub(crate) use grib_samples::{FIRST_EDITION as PLAIN, MASKED, REDUCED};
 use grib1_sections::{Message1, read_message1};
 use std::alloc::Global;
 use std::test::Fail;
 
 mod contents;
-
-/// The grid with a bitmap that leaves out its second point.
-pub(crate) const MASKED: &[u8] = b"GRIB\0\0\x5f\x01\
-\0\0\x1c\x02\x62\x01\xff\xc0\x0b\x64\x01\xf4\x18\x01\x0f\x0c\0\x01\x06\0\0\0\0\0\x15\0\x80\x02\
-\0\0\x20\0\xff\0\0\x02\0\x02\0\xc3\x50\0\x27\x10\x80\0\xbf\x68\0\x2a\xf8\x03\xe8\x03\xe8\0\0\0\0\0\
-\0\0\x07\x04\0\0\xbf\
-\0\0\x10\x08\0\x01\x41\x10\0\0\x08\x05\x06\x07\x09\x09\
-7777";
-
-/// A reduced Gaussian grid with rows of one and of three points, and one vertical coordinate.
-pub(crate) const REDUCED: &[u8] = b"GRIB\0\0\x60\x01\
-\0\0\x1c\x02\x62\x01\xff\x80\x0b\x64\x01\xf4\x18\x01\x0f\x0c\0\x01\x06\0\0\0\0\0\x15\0\0\x01\
-\0\0\x28\x01\x21\x04\xff\xff\0\x02\0\xc3\x50\0\x27\x10\0\0\xbf\x68\0\x2a\xf8\xff\xff\0\x01\0\0\0\0\0\
-\x41\x10\0\0\0\x01\0\x03\
-\0\0\x10\x08\x80\x03\xc2\x76\xa0\0\x08\0\x01\x02\xff\0\
-7777";
 
 /// Reads a message; no memory stands for octets that do not begin one of edition 1.
 pub(crate) fn read(alloc: Global, octets: &[u8]) -> Result<Message1<'_>, ReadFault> {

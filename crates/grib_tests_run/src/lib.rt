@@ -12,8 +12,6 @@ mod made;
 #[cfg(test)]
 mod message;
 #[cfg(test)]
-mod migrate;
-#[cfg(test)]
 mod repack;
 #[cfg(test)]
 mod select;

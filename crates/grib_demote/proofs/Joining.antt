@@ -1,0 +1,130 @@
+-- Losses and octets one after another.
+use Rattle.std.proofs.Common.{◌≡◌, ℕ, ◌+◌, ◌<◌, ◌≤◌, ◌==◌, ◌&&◌, ◌||◌, not, Bool, true, false, Option, Some, None, List, [], ◌∷◌, ◌++◌, length, nat_lt, refl, sym, ap, ap₂, ◌∙◌, subst, append_assoc, arith, ltb-true}
+use Rattle.std.specs.Prelude.{Result, Ok, Err, MatchResult, IfOk, option_map, unwrap_or}
+use Rattle.std.specs.Result.{IsErrAnd}
+use Rattle.grib_base.specs.Rows.{choose}
+use Rattle.grib_params.specs.Table.{Entries}
+use Rattle.grib_params.specs.Pairs.{Pair}
+use Rattle.grib_migrate.specs.Dates.{is_civil}
+use Rattle.grib_migrate.proofs.Later.{civil_parts}
+use Rattle.grib_demote.specs.declared.demotion.Demotion.{Demotion}
+use Rattle.grib_demote.specs.declared.demotion.DemoteFault.{DemoteFault}
+use Rattle.grib_demote.specs.declared.demotion.DemoteFault.TheVariants.{Lost, Memory}
+use Rattle.grib_demote.specs.declared.level.Level.{Level}
+use Rattle.grib_demote.specs.declared.product.Told.{Told}
+use Rattle.grib_demote.specs.declared.field.Field.{Field}
+use Rattle.grib_demote.specs.Answered.{IsDemoteFault}
+use Rattle.grib_demote.specs.Dates.{reference_time, loses_date}
+use Rattle.grib_demote.specs.Levels.{level, level_of}
+use Rattle.grib_demote.specs.Times.{unit_of, is_interval, has_range, has_end, loses_interval}
+use Rattle.grib_demote.specs.Products.{centre, sub_centre, loses_centre, pair_in}
+use Rattle.grib_demote.specs.Losses.{first_of}
+use Rattle.grib_demote.specs.Demoted.{told_in}
+use Rattle.grib_demote.specs.Held.{Holds, IsDemoted, IsParameter, AreTimes}
+
+-- ---- the first loss of some and of others
+
+pub first_lost : (xs ys : List (Option Demotion)) (loss : Demotion) → first_of xs ≡ Some loss → first_of (xs ++ ys) ≡ Some loss
+first_lost [] ys loss e = cc e
+first_lost (Some x ∷ xs) ys loss e = e
+first_lost (None ∷ xs) ys loss e = first_lost xs ys loss e
+
+pub later_lost : (xs ys : List (Option Demotion)) → first_of xs ≡ None → first_of (xs ++ ys) ≡ first_of ys
+later_lost [] ys e = refl
+later_lost (Some x ∷ xs) ys e = cc e
+later_lost (None ∷ xs) ys e = later_lost xs ys e
+
+pub here_lost : (a : Option Demotion) (xs : List (Option Demotion)) (loss : Demotion) → a ≡ Some loss → first_of (a ∷ xs) ≡ Some loss
+here_lost a xs loss e = ap (λ o. first_of (o ∷ xs)) e
+
+pub not_here : (a : Option Demotion) (xs : List (Option Demotion)) → a ≡ None → first_of (a ∷ xs) ≡ first_of xs
+not_here a xs e = ap (λ o. first_of (o ∷ xs)) e
+
+-- ---- what a `?` carries
+
+pub loss_carried : {A : Type 0} (P : A → Type 0) (expected : Option Demotion) (result : Result A Demotion) (loss : Demotion)
+    → IsErrAnd result (λ e. e ≡ loss) → expected ≡ Some loss → MatchResult result P (λ l. expected ≡ Some l)
+loss_carried P expected (Ok value) loss is known = absurd is
+loss_carried P expected (Err e) loss is known = known ∙ ap Some (sym is)
+
+pub lost_carried : {A : Type 0} (P : A → Type 0) (expected : Option Demotion) (result : Result A DemoteFault) (loss : Demotion)
+    → IsErrAnd result (λ fault. fault ≡ Lost loss) → expected ≡ Some loss → MatchResult result P (IsDemoteFault expected)
+lost_carried P expected (Ok value) loss is known = absurd is
+lost_carried P expected (Err fault) loss is known = subst (λ f. IsDemoteFault expected f) (sym is) known
+
+pub fault_carried : {A : Type 0} (P : A → Type 0) (first expected : Option Demotion) (result : Result A DemoteFault) (fault : DemoteFault)
+    → IsErrAnd result (λ carried. carried ≡ fault) → ((loss : Demotion) → first ≡ Some loss → expected ≡ Some loss) → IsDemoteFault first fault → MatchResult result P (IsDemoteFault expected)
+fault_carried P first expected (Ok value) fault is goes known = absurd is
+fault_carried P first expected (Err carried) (Lost loss) is goes known = subst (λ f. IsDemoteFault expected f) (sym is) (goes loss known)
+fault_carried P first expected (Err carried) Memory is goes known = subst (λ f. IsDemoteFault expected f) (sym is) tt
+
+pub memory_carried : {A : Type 0} (P : A → Type 0) (expected : Option Demotion) (result : Result A DemoteFault) → IsErrAnd result (λ e. e ≡ Memory) → MatchResult result P (IsDemoteFault expected)
+memory_carried P expected (Ok x) is = absurd is
+memory_carried P expected (Err e) is = subst (λ f. IsDemoteFault expected f) (sym is) tt
+
+pub none_carried : {A E : Type 0} (P : A → Type 0) (Q : E → Type 0) (result : Result A E) → IsErrAnd result Q → IfOk result P
+none_carried P Q (Ok x) is = absurd is
+none_carried P Q (Err e) is = tt
+
+-- ---- octets
+
+pub four_joined : (x1 x2 x3 x4 a b c d e : List ℕ) → a ≡ [] → b ≡ a ++ x1 → c ≡ b ++ x2 → d ≡ c ++ x3 → e ≡ d ++ x4 → e ≡ x1 ++ (x2 ++ (x3 ++ x4))
+four_joined x1 x2 x3 x4 a b c d e at_0 at_1 at_2 at_3 at_4 =
+    at_4 ∙ ap (λ (xs : List ℕ). xs ++ x4) (at_3 ∙ ap (λ (xs : List ℕ). xs ++ x3) (at_2 ∙ ap (λ (xs : List ℕ). xs ++ x2) (at_1 ∙ ap (λ (xs : List ℕ). xs ++ x1) at_0)))
+    ∙ append_assoc (x1 ++ x2) x3 x4 ∙ append_assoc x1 x2 (x3 ++ x4)
+
+-- ---- the product
+
+told_by : Option Pair → Option Level → Option ℕ → Told
+told_by pair number unit = record {
+  version = (unwrap_or pair (0, 0)).0;
+  parameter = (unwrap_or pair (0, 0)).1;
+  level = unwrap_or number (level 0 0);
+  unit = unwrap_or unit 0;
+}
+
+pub told_is : (table : Entries) (discipline : ℕ) (s1 s4 : List ℕ) (version parameter : ℕ) (number : Level) (unit : ℕ) → pair_in table discipline s1 s4 ≡ Some (version, parameter)
+    → level_of s4 ≡ Some number → option_map (λ row. row.old) (unit_of s4) ≡ Some unit
+    → record { version = version; parameter = parameter; level = number; unit = unit } ≡ told_in table discipline s1 s4
+unfolding told_by
+told_is table discipline s1 s4 version parameter number unit pair_is level_is unit_is =
+    sym (
+    ap (λ o. told_by o (level_of s4) (option_map (λ row. row.old) (unit_of s4))) pair_is
+    ∙ ap (λ o. told_by (Some (version, parameter)) o (option_map (λ row. row.old) (unit_of s4))) level_is
+    ∙ ap (λ o. told_by (Some (version, parameter)) (Some number) o) unit_is
+    )
+
+both_true : (a b : Bool) → not (a && b) ≡ false → (a ≡ true) × (b ≡ true)
+both_true true true e = (refl, refl)
+both_true true false e = cc e
+both_true false b e = cc e
+
+first_true : (a b : Bool) → (not a || b) ≡ false → a ≡ true
+first_true true b e = refl
+first_true false b e = cc e
+
+ranged : (interval range end : Bool) → choose interval (λ _. choose range (λ _. not end) (λ _. true)) (λ _. false) ≡ false → interval ≡ true → range ≡ true
+ranged true true end e is = refl
+ranged true false end e is = cc e
+ranged false range end e is = cc is
+
+pub demoted_holds : (table : Entries) (field : Field) (found : ℕ × ℕ × Level) (unit : ℕ) → Holds field.identification.now field.grid.now field.product.now field.packing.now
+    → IsParameter table field found → AreTimes field.identification.now field.product.now unit → IsDemoted field
+demoted_holds table field found unit holds parameter times =
+    let s1 = field.identification.now in
+    let s4 = field.product.now in
+    let centres = both_true (nat_lt (centre s1) 256) (nat_lt (sub_centre s1) 256) parameter.centre_fits in
+    let civil = civil_parts (reference_time s1) (first_true (is_civil (reference_time s1)) (not ((reference_time s1).second == 0)) times.date) in
+    record {
+      identification = holds.identification;
+      packing = holds.packing;
+      product = holds.product;
+      centre_fits = ltb-true (centre s1) 256 centres.0;
+      sub_centre_fits = ltb-true (sub_centre s1) 256 centres.1;
+      year = civil.1;
+      process = times.process;
+      range = ranged (is_interval s4) (has_range s4) (has_end s1 s4) times.interval;
+    }
+
+pub two_joined : (x1 x2 a b c : List ℕ) → a ≡ [] → b ≡ a ++ x1 → c ≡ b ++ x2 → c ≡ x1 ++ x2
+two_joined x1 x2 a b c at_0 at_1 at_2 = at_2 ∙ ap (λ (xs : List ℕ). xs ++ x2) (at_1 ∙ ap (λ (xs : List ℕ). xs ++ x1) at_0)

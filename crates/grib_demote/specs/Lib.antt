@@ -1,0 +1,12 @@
+pub mod Numbers
+pub mod Words
+pub mod Levels
+pub mod Times
+pub mod Dates
+pub mod Grids
+pub mod Products
+pub mod Values
+pub mod Losses
+pub mod Demoted
+pub mod Answered
+pub mod Held
