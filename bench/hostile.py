@@ -802,4 +802,5 @@ def main():
     sys.exit(counts["findings"] > 0)
 
 
-main()
+if __name__ == "__main__":
+    main()
