@@ -40,6 +40,7 @@ fn codes_of(kind: &str, count: u32) -> Vec<Code> {
                 let turn = place % 8192;
                 Code::Present(u64::from(turn.min(8191 - turn) * 4 + (state >> 28)))
             }
+            "still" if place / 64 % 8 != 0 && state >> 24 != 0 => Code::Present(512),
             "missing" if place / 256 % 20 != 0 => Code::Primary,
             _ => Code::Present(u64::from(state >> 20)),
         }

@@ -9,7 +9,7 @@ use Rattle.grib_bitmap.specs.Mask.{bitmap_indicator, bitmap_rows, own_mask}
 use Rattle.grib_packing.specs.Packing.{value_count}
 use Rattle.grib_complex.specs.Field.{Represents}
 use Rattle.grib_complex.specs.declared.field.Representation.{Representation}
-use Rattle.grib2_message.specs.View.{last_number, section_in_force, octets_in_force, points_in_force, earlier_bitmap, first_octets, earlier_mask}
+use Rattle.grib2_message.specs.View.{last_number, section_in_force, octets_in_force, points_in_force, earlier_bitmap, first_octets, first_start, earlier_mask}
 use Rattle.grib2_message.specs.Acceptance.{section_fault}
 use Rattle.grib2_message.specs.Kept.{StandsAt, ArePlaced, start_in_force, KeepsRepresentation, KeepsBitmap, IsEarlier, HasPlaces, Comes}
 use Rattle.grib2_message.specs.declared.places.Bitmap.{Bitmap}
@@ -87,7 +87,7 @@ module _ (m : List ℕ) (before : List Placed) (number start : ℕ) (s : List �
   -- it is the same where this one has no bits of its own
   earlier_stays : (bitmap : Option Bitmap) (later : List Placed) → earlier_bitmap later ≡ earlier_bitmap before → IsEarlier m bitmap before → IsEarlier m bitmap later
   earlier_stays None later e h = tt
-  earlier_stays (Some bitmap) later e h = h ∙ sym (ap first_octets e)
+  earlier_stays (Some bitmap) later e h = (h.0 ∙ sym (ap first_start e), h.1 ∙ sym (ap first_octets e))
 
   pub earlier_kept_at : (places : Places) → HasPlaces m before places → number ≢ 6 → IsEarlier m places.bitmap (placed_at start s ∷ before)
   earlier_kept_at places h other =
@@ -101,8 +101,10 @@ module _ (m : List ℕ) (before : List Placed) (number start : ℕ) (s : List �
 
   pub earlier_own_at : (bitmap : Bitmap) → number ≡ 6 → bitmap_indicator s ≡ 0 → bitmap.start ≡ start → IsEarlier m (Some bitmap) (placed_at start s ∷ before)
   earlier_own_at bitmap six own is_start =
-      ap (section_at m) is_start ∙ sym comes.octets_are
-      ∙ sym (ap first_octets (own_list (placed_at start s) before (comes.itself.number_stands ∙ six) own))
+      let own_first = own_list (placed_at start s) before (comes.itself.number_stands ∙ six) own in (
+        is_start ∙ sym (ap first_start own_first),
+        ap (section_at m) is_start ∙ sym comes.octets_are ∙ sym (ap first_octets own_first),
+      )
 
   pub bitmap_kept : (places : Places) → HasPlaces m before places → number ≢ 6 → KeepsBitmap m places.bitmap (earlier_mask (placed_at start s ∷ before))
   bitmap_kept places h other =

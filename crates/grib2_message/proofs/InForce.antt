@@ -8,8 +8,8 @@ use Rattle.grib_base.specs.Rows.{choose}
 use Rattle.grib_bitmap.specs.Mask.{bitmap_indicator}
 use Rattle.grib_complex.specs.Field.{Represents}
 use Rattle.grib_complex.specs.declared.field.Representation.{Representation}
-use Rattle.grib2_message.specs.View.{last_number, section_in_force, octets_in_force, earlier_bitmap, first_octets, own_bitmap}
-use Rattle.grib2_message.specs.Kept.{StandsAt, ArePlaced, KeepsRepresentation, HasPlaces}
+use Rattle.grib2_message.specs.View.{last_number, section_in_force, octets_in_force, earlier_bitmap, first_octets, first_start, own_bitmap, own_bitmap_start}
+use Rattle.grib2_message.specs.Kept.{StandsAt, ArePlaced, start_in_force, KeepsRepresentation, HasPlaces}
 use Rattle.grib2_message.specs.declared.places.Places.{Places}
 
 -- a section that stands at its place states its own length and number
@@ -133,6 +133,15 @@ pub own_repeated : (before : List Placed) → bitmap_indicator (octets_in_force 
 own_repeated before repeats =
     let s = octets_in_force 6 before in
     ap (λ (b : Bool). choose b (λ _. first_octets (earlier_bitmap before)) (λ _. s)) (eq-eqb (bitmap_indicator s) 254 repeats)
+
+-- and the octet at which it begins
+pub start_alone : (before : List Placed) → bitmap_indicator (octets_in_force 6 before) ≢ 254 → own_bitmap_start before ≡ start_in_force 6 before
+start_alone before other =
+    ap (λ (b : Bool). choose b (λ _. first_start (earlier_bitmap before)) (λ _. start_in_force 6 before)) (ne_eqb (bitmap_indicator (octets_in_force 6 before)) 254 other)
+
+pub start_repeated : (before : List Placed) → bitmap_indicator (octets_in_force 6 before) ≡ 254 → own_bitmap_start before ≡ first_start (earlier_bitmap before)
+start_repeated before repeats =
+    ap (λ (b : Bool). choose b (λ _. first_start (earlier_bitmap before)) (λ _. start_in_force 6 before)) (eq-eqb (bitmap_indicator (octets_in_force 6 before)) 254 repeats)
 
 -- the section in force by its start and its octets
 placed_by_start : (start : ℕ) (o : Option Placed) → start ≡ option_map_or (λ s. s.start) o 0 → 1 ≤ start

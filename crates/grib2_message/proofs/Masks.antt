@@ -48,7 +48,7 @@ long_alone s points values earlier small other none =
           ∙ length-replicate points true
     ]
 
-present_of : (s : List ℕ) (points values : ℕ) (earlier : Option (List Bool)) → first_fault (bitmap_rows s points values earlier) ≡ None
+pub present_of : (s : List ℕ) (points values : ℕ) (earlier : Option (List Bool)) → first_fault (bitmap_rows s points values earlier) ≡ None
     → present_count (mask_of s points earlier) ≡ values
 present_of s points values earlier none =
     let p = passes_from_none (bitmap_rows s points values earlier) none in

@@ -88,7 +88,7 @@ module _ (u m : List ℕ) (total : ℕ) (front : IsFront u m) (long : length u �
   earlier_alone : (bitmap : Option Bitmap) (mask : Option (List Bool)) (before : List Placed) → KeepsBitmap m bitmap mask → IsEarlier m bitmap before → IsEarlier u bitmap before
   earlier_alone None mask before h e = tt
   earlier_alone (Some bitmap) None before h e = absurd h
-  earlier_alone (Some bitmap) (Some mask) before h e = sym (section_alone bitmap.start 6 h.stands) ∙ e
+  earlier_alone (Some bitmap) (Some mask) before h e = (e.0, sym (section_alone bitmap.start 6 h.stands) ∙ e.1)
 
   places_alone : (before : List Placed) (places : Places) → HasPlaces m before places → HasPlaces u before places
   places_alone before places h = record {

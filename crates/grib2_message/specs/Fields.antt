@@ -11,7 +11,7 @@ use Rattle.grib_packing.specs.declared.column.Point.{Point}
 use Rattle.grib_packing.specs.declared.column.Point.TheVariants.{Scaled, Missing, Missing2}
 use Rattle.grib_packing.specs.declared.column.Column.{Column}
 use Rattle.grib_packing.specs.Entries.{column_from}
-use Rattle.grib2_message.specs.View.{is_numbered, section_in_force, octets_in_force, own_bitmap, mask_in_force}
+use Rattle.grib2_message.specs.View.{is_numbered, section_in_force, octets_in_force, own_bitmap, own_bitmap_start, mask_in_force}
 
 -- the sections from octet q on, up to the end mark; `turns` bounds their number
 abbrev pub sections_from : ℕ → List ℕ → ℕ → List Placed
@@ -48,6 +48,10 @@ part_octets message i k = octets_in_force k (field_sections message i)
 -- the Section 6 with the bits of field i
 abbrev pub field_bitmap : List ℕ → ℕ → List ℕ
 field_bitmap message i = own_bitmap (field_sections message i)
+
+-- the octet at which it begins
+abbrev pub field_bitmap_start : List ℕ → ℕ → ℕ
+field_bitmap_start message i = own_bitmap_start (field_sections message i)
 
 -- which points of field i are present
 abbrev pub field_mask : List ℕ → ℕ → List Bool

@@ -16,7 +16,7 @@ use Rattle.grib_packing.specs.Packing.{value_count}
 use Rattle.grib_packing.specs.Entries.{packing_fault, data_fault}
 use Rattle.grib_complex.specs.Field.{Represents}
 use Rattle.grib_complex.specs.declared.field.Representation.{Representation}
-use Rattle.grib2_message.specs.View.{last_number, section_in_force, octets_in_force, points_in_force, earlier_bitmap, first_octets, earlier_mask, mask_in_force, section_count}
+use Rattle.grib2_message.specs.View.{last_number, section_in_force, octets_in_force, points_in_force, earlier_bitmap, first_octets, first_start, earlier_mask, mask_in_force, section_count}
 use Rattle.grib2_message.specs.Fields.{field_sections, field_count}
 use Rattle.grib2_message.specs.Message.{IsMessage}
 use Rattle.grib2_message.specs.declared.places.Bitmap.{Bitmap}
@@ -65,7 +65,8 @@ KeepsRepresentation (Some representation) (Some s) = Represents representation s
 -- it is the earlier bitmap, where one is kept
 abbrev pub IsEarlier : List ℕ → Option Bitmap → List Placed → Type 0
 IsEarlier message None before = Unit {0}
-IsEarlier message (Some bitmap) before = section_at message bitmap.start ≡ first_octets (earlier_bitmap before)
+IsEarlier message (Some bitmap) before =
+    (bitmap.start ≡ first_start (earlier_bitmap before)) × (section_at message bitmap.start ≡ first_octets (earlier_bitmap before))
 
 -- what the row on bitmaps asks of an earlier one
 abbrev pub TellsBitmap : Option Bitmap → Option (List Bool) → Type 0

@@ -38,12 +38,23 @@ abbrev pub first_octets : List Placed → List ℕ
 first_octets [] = []
 first_octets (s ∷ before) = s.octets
 
+-- the octet of the message at which it begins, 0 where there is none
+abbrev pub first_start : List Placed → ℕ
+first_start [] = 0
+first_start (s ∷ before) = s.start
+
 -- the Section 6 with the bits in force: the last one, or, where that repeats an earlier bitmap (indicator
 -- 254), the last one before it with the indicator 0
 abbrev pub own_bitmap : List Placed → List ℕ
 own_bitmap before =
     let s = octets_in_force 6 before in
     choose (bitmap_indicator s == 254) (λ _. first_octets (earlier_bitmap before)) (λ _. s)
+
+-- the octet of the message at which that Section 6 begins
+abbrev pub own_bitmap_start : List Placed → ℕ
+own_bitmap_start before =
+    choose (bitmap_indicator (octets_in_force 6 before) == 254) (λ _. first_start (earlier_bitmap before))
+    (λ _. option_map_or (λ s. s.start) (section_in_force 6 before) 0)
 
 -- the mask of the first of these sections, in view of the others
 abbrev pub bitmap_mask : List Placed → Option (List Bool)

@@ -92,6 +92,8 @@ pub(crate) fn own_bitmap<'a>(octets: &'a [u8], places: &Places) -> Section<'a>
     requires { (before : List Placed) × IsField octets.now before places.now }
     ensures octets { (before : List Placed) → IsField octets.now before places.now
         → result.octets.now ≡ definitions.own_bitmap before }
+    ensures start { (before : List Placed) → IsField octets.now before places.now
+        → result.start ≡ definitions.own_bitmap_start before }
     ensures number { result.number ≡ 6 }
 {
     let section = places.section(octets, 6);

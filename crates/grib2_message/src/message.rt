@@ -7,7 +7,7 @@ ghost use Rattle.grib_bitmap.specs.Mask.{present_count};
 ghost use Rattle.grib_packing.specs.Entries.{entries_of};
 ghost use Rattle.grib_packing.specs.Packing.{value_count};
 ghost use Rattle.grib2_message.specs.Fields as definitions;
-ghost use Rattle.grib2_message.specs.Fields.{field_count, part_octets, field_bitmap, field_mask, column_of};
+ghost use Rattle.grib2_message.specs.Fields.{field_count, part_octets, field_bitmap, field_bitmap_start, field_mask, column_of};
 ghost use Rattle.grib2_message.specs.Message.{IsMessage, FieldPasses};
 ghost use Rattle.grib2_message.specs.Assembled.{assembled, assembled_with, IsShort, IsAssembleFault};
 ghost use Rattle.grib2_message.specs.Kept.{Keeps};
@@ -107,6 +107,7 @@ impl<'a> Message<'a> {
         requires first { 1 ≤ field }
         requires last { field ≤ field_count self.now }
         ensures octets { result.octets.now ≡ field_bitmap self.now field }
+        ensures start { result.start ≡ field_bitmap_start self.now field }
         ensures number { result.number ≡ 6 }
     {
         let places = &self.fields[field as usize - 1];

@@ -1,7 +1,7 @@
 //! Chooses the least groups for the codes of a field.
 //!
-//! The arguments are the kind of field, `differences`, `smooth`, `noise` or `missing`, how many codes it
-//! has, and how many times its groups are chosen.
+//! The arguments are the kind of field, `differences`, `smooth`, `noise`, `missing` or `still`, how many codes
+//! it has, and how many times its groups are chosen.
 
 ghost use Rattle.std.specs.Prelude.{◌≡◌, ◌+◌, ◌<◌, ◌≤◌, ◌^◌, length, vec_len, All, IfOk};
 ghost use Rattle.grib_packing.specs.Span.{IsBelow};
@@ -40,6 +40,8 @@ enum Kind {
     Noise,
     /// 12 bits of noise at one point of twenty, the others missing in long runs.
     Missing,
+    /// One number at most points, as for second differences of 0, and 12 bits of noise at the others.
+    Still,
 }
 
 impl Kind {
@@ -50,6 +52,7 @@ impl Kind {
             "smooth" => Some(Kind::Smooth),
             "noise" => Some(Kind::Noise),
             "missing" => Some(Kind::Missing),
+            "still" => Some(Kind::Still),
             _ => None,
         }
     }
@@ -70,6 +73,10 @@ fn code_at(kind: Kind, place: u32, random: u32) -> Code
         Kind::Noise => Code::Present(u64::from(random >> 20)),
         Kind::Missing if place / 256 % 20 == 0 => Code::Present(u64::from(random >> 20)),
         Kind::Missing => Code::Primary,
+        Kind::Still if place / 64 % 8 == 0 || random >> 24 == 0 => {
+            Code::Present(u64::from(random >> 20))
+        }
+        Kind::Still => Code::Present(512),
     }
 }
 

@@ -1,9 +1,10 @@
 //! Complex packing, with and without spatial differencing.
 
-ghost use Rattle.std.specs.Prelude.{◌≡◌, ◌⊎◌, ℕ, List as Octets};
+ghost use Rattle.std.specs.Prelude.{◌≡◌, ◌⊎◌, ℕ, refl, cond, List as Octets};
 ghost use Rattle.grib_bitmap.specs.Mask.{present_count};
 ghost use Rattle.grib_packing.specs.Misfits.{ToComplex, ToSpatial};
 ghost use Rattle.grib_packing.specs.Unpacked.{IsUnpacked};
+ghost use Rattle.grib_packing.specs.Written.{order_known};
 ghost use Rattle.grib_complex.specs.Descriptors.{IsAccepted};
 ghost use Rattle.grib_complex.specs.Representation.{Spelled};
 
@@ -40,6 +41,10 @@ impl Packing for ComplexPacking {
     fn pack(&self, alloc: Global, column: &Column, kind: u8) -> Result<Packed, PackFault> {
         pack_complex(alloc, column, kind)
     }
+
+    ghost is_template = { λ _. refl };
+
+    ghost is_target = { λ _. tt };
 }
 
 /// Complex packing of spatial differences: the groups hold what the differences of the numbers are
@@ -47,23 +52,31 @@ impl Packing for ComplexPacking {
 /// differences of either order.
 #[derive(Clone, Copy, Debug, PartialEq, Eq)]
 pub struct SpatialPacking {
-    order: u8,
+    /// Whether it packs differences of order 2, and not of order 1 (code table 5.6).
+    second: bool,
 }
 
 impl SpatialPacking {
     /// Packing by differences of this order (code table 5.6).
     pub fn new(order: u8) -> SpatialPacking
         requires { (order ≡ 1) ⊎ (order ≡ 2) }
-        ensures { result.order ≡ order }
+        ensures { cond result.second 2 1 ≡ order }
     {
-        SpatialPacking { order }
+        SpatialPacking { second: order == 2 }
+    }
+
+    /// The order of the differences that it packs.
+    fn order(self) -> u8
+        ensures { result ≡ cond self.second 2 1 }
+    {
+        if self.second { 2 } else { 1 }
     }
 }
 
 impl Packing for SpatialPacking {
     ghost template = { λ _. 3 };
 
-    ghost target = { λ packing. ToSpatial packing.order };
+    ghost target = { λ packing. ToSpatial (cond packing.second 2 1) };
 
     fn unpack(
         &self,
@@ -77,8 +90,12 @@ impl Packing for SpatialPacking {
     }
 
     fn pack(&self, alloc: Global, column: &Column, kind: u8) -> Result<Packed, PackFault> {
-        pack_spatial(alloc, column, kind, self.order)
+        pack_spatial(alloc, column, kind, self.order())
     }
+
+    ghost is_template = { λ _. refl };
+
+    ghost is_target = { λ packing. order_known packing.second };
 }
 
 /// The column of a field of either template, from the numbers of its Section 5, its mask and its Section 7.

@@ -13,6 +13,12 @@ pub data Target : Type 0 where
   ToComplex : Target
   ToSpatial : ℕ → Target
 
+-- the number of its data representation template (code table 5.0)
+abbrev pub template_of : Target → ℕ
+template_of ToSimple = 0
+template_of ToComplex = 2
+template_of (ToSpatial order) = 3
+
 -- the first cause, with its point, counted from 1
 pub data Misfit : Type 0 where
   SecondaryMissing : ℕ → Misfit

@@ -1,5 +1,6 @@
 -- What a packing may answer when it writes.
-use Rattle.std.specs.Prelude.{◌≡◌, ◌⊎◌, ℕ, ◌≤◌, false, Option, Some, None, Result, MatchResult, length, ◌==◌}
+use Rattle.std.specs.Prelude.{◌≡◌, ◌⊎◌, ℕ, ◌≤◌, Bool, true, false, cond, refl, Option, Some, None, Result, MatchResult, length, ◌==◌}
+use Rattle.std.proofs.Common.{inl, inr}
 use Rattle.std.specs.List.{list_any}
 use Rattle.grib_bits.specs.Binary32.{ieee_exponent}
 use Rattle.grib_packing.specs.declared.column.Column.{Column}
@@ -23,6 +24,11 @@ abbrev pub IsTarget : Target → Type 0
 IsTarget ToSimple = Unit {0}
 IsTarget ToComplex = Unit {0}
 IsTarget (ToSpatial order) = (order ≡ 1) ⊎ (order ≡ 2)
+
+-- order 2 or order 1 is one of them
+pub order_known : (second : Bool) → IsTarget (ToSpatial (cond second 2 1))
+order_known true = inr refl
+order_known false = inl refl
 
 -- the first misfit, or that there is no memory
 abbrev pub IsPackFault : Option Misfit → PackFault → Type 0

@@ -1,7 +1,7 @@
 //! What each packing of the numbers of a field offers.
 
-ghost use Rattle.std.specs.Prelude.{ℕ};
-ghost use Rattle.grib_packing.specs.Misfits.{Target};
+ghost use Rattle.std.specs.Prelude.{◌≡◌, ℕ};
+ghost use Rattle.grib_packing.specs.Misfits.{Target, template_of};
 ghost use Rattle.grib_packing.specs.Unpacked.{IsUnpacked, MayBeUnpacked};
 ghost use Rattle.grib_packing.specs.Written.{IsPacked, IsTarget, MayBePacked};
 
@@ -10,7 +10,8 @@ use grib_base::{ReadFault, Section};
 use grib_bitmap::Mask;
 use std::alloc::Global;
 
-/// A packing of the numbers of a field (WMO-No. 306, Volume I.2, FM 92 GRIB edition 2, code table 5.0).
+/// A packing of the numbers of a field (WMO-No. 306, Volume I.2, FM 92 GRIB edition 2, code table 5.0). It
+/// unpacks what it packs, and other fields in its template.
 pub trait Packing {
     // the number of its data representation template
     ghost template: { Self → ℕ };
@@ -41,7 +42,11 @@ pub trait Packing {
     /// Something of the column does not fit the packing, the first misfit being named, or there is no
     /// memory.
     fn pack(&self, alloc: Global, column: &Column, kind: u8) -> Result<Packed, PackFault>
-        requires target { IsTarget (target self.now) }
-        requires column { MayBePacked column.now }
+        requires { MayBePacked column.now }
         ensures { IsPacked (target self.now) column.now kind result };
+
+    // the template is that of what it packs to
+    ghost is_template: { (packing : Self) → template packing ≡ template_of (target packing) };
+    // what it packs to is one of the packings
+    ghost is_target: { (packing : Self) → IsTarget (target packing) };
 }

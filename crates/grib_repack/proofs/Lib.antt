@@ -5,3 +5,4 @@ pub mod Octets
 pub mod Columns
 pub mod Packing
 pub mod Kept
+pub mod Back

@@ -1,7 +1,14 @@
 //! Laws over the definitions.
 
-ghost use Rattle.std.specs.Prelude.{◌≡◌, ℕ, ◌≤◌, List};
+ghost use Rattle.std.specs.Prelude.{◌≡◌, ℕ, ◌≤◌, List, Bool, Option, Ok, Result, MatchResult, length};
+ghost use Rattle.grib_base.specs.declared.fault.ReadFault as read_fault;
+ghost use Rattle.grib_base.specs.declared.fault.ReadFault.TheVariants.{Memory};
+ghost use Rattle.grib_bitmap.specs.Mask.{mask_of};
+ghost use Rattle.grib_packing.specs.declared.column.Column as column_packing;
+ghost use Rattle.grib_packing.specs.declared.written.Packed as packed_packing;
 ghost use Rattle.grib_packing.specs.Misfits.{Target};
+ghost use Rattle.grib_packing.specs.Unpacked.{IsUnpacked, MayBeUnpacked};
+ghost use Rattle.grib_packing.specs.Written.{IsPacked, MayBePacked};
 ghost use Rattle.grib2_message.specs.Fields.{field_count, part_octets, column_of, meaning_of};
 ghost use Rattle.grib2_message.specs.Message.{IsMessage};
 ghost use Rattle.grib_repack.specs.Repacked.{repacked, MayBeRepacked};
@@ -10,6 +17,7 @@ use grib_complex::laws::{
     what_is_packed_by_differences_reads_back, what_is_packed_in_groups_reads_back,
 };
 use grib_packed::laws::a_packing_is_written;
+use grib_packing::Packing;
 use grib_simple::laws::what_is_packed_simply_reads_back;
 use grib2_message::laws::{field_holds, what_is_assembled_is_accepted};
 
@@ -37,4 +45,20 @@ pub fn what_is_repacked_keeps_each_value()
     what_is_packed_by_differences_reads_back();
     field_holds();
     what_is_assembled_is_accepted();
+}
+
+/// What a packing packs it unpacks: the sections that `pack` gives can be handed to `unpack` with the mask of
+/// their Section 6, and it gives the column that was packed, unless there is no memory.
+pub fn what_is_packed_unpacks<P: Packing>(packing: &P)
+    ensures { (column : column_packing.Column) (kind start : ℕ) (earlier : Option (List Bool)) (packed : packed_packing.Packed)
+        → MayBePacked column → IsPacked (P.target packing.now) column kind (Ok packed)
+        → let mask = mask_of packed.section6 (length column.points) earlier in
+        MayBeUnpacked (P.template packing.now) packed.section5 mask
+        × ((answer : Result column_packing.Column read_fault.ReadFault)
+        → IsUnpacked packed.section5 mask start packed.section7 answer
+        → MatchResult answer (λ again. again ≡ column) (λ fault. fault ≡ Memory)) }
+{
+    what_is_packed_simply_reads_back();
+    what_is_packed_in_groups_reads_back();
+    what_is_packed_by_differences_reads_back();
 }

@@ -49,7 +49,6 @@ fn repack_by<P: Packing>(
     message: &Message<'_>,
     packing: &P,
 ) -> Result<Vec<u8>, RepackFault>
-    requires { IsTarget (P.target packing.now) }
     ensures { MatchResult result
         (λ octets. (repack_misfit (P.target packing.now) message.now ≡ None)
         × (octets.items ≡ repacked (P.target packing.now) message.now))
@@ -65,7 +64,6 @@ fn pack_fields<P: Packing>(
     message: &Message<'_>,
     packing: &P,
 ) -> Result<Vec<Packed>, RepackFault>
-    requires { IsTarget (P.target packing.now) }
     ensures { MatchResult result
         (λ packed. (misfit_among (P.target packing.now) message.now (range_with_len 1 (field_count message.now)) ≡ None)
         × (packed.items ≡ packed_fields (P.target packing.now) message.now)
@@ -90,7 +88,6 @@ fn pack_field<P: Packing>(
     field: u32,
     packing: &P,
 ) -> Result<Packed, RepackFault>
-    requires target { IsTarget (P.target packing.now) }
     requires first { 1 ≤ field }
     requires last { field ≤ field_count message.now }
     ensures { MatchResult result

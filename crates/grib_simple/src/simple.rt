@@ -1,6 +1,6 @@
 //! Sections 5 and 7 of simple packing.
 
-ghost use Rattle.std.specs.Prelude.{◌≡◌, ℕ, ◌+◌, ◌-◌, ◌*◌, ◌≤◌, nat_lt, List as Octets, length, map, pos, None, Some, IfOk, OnOk, MatchResult};
+ghost use Rattle.std.specs.Prelude.{◌≡◌, ℕ, ◌+◌, ◌-◌, ◌*◌, ◌≤◌, refl, nat_lt, List as Octets, length, map, pos, None, Some, IfOk, OnOk, MatchResult};
 ghost use Rattle.grib_base.specs.Rows.{located};
 ghost use Rattle.grib_bits.specs.Bits.{bits as bits_in};
 ghost use Rattle.grib_bits.specs.Plain.{plain};
@@ -43,6 +43,10 @@ impl Packing for SimplePacking {
     fn pack(&self, alloc: Global, column: &Column, kind: u8) -> Result<Packed, PackFault> {
         pack_simply(alloc, column, kind)
     }
+
+    ghost is_template = { λ _. refl };
+
+    ghost is_target = { λ _. tt };
 }
 
 /// The column of a field in simple packing, from the numbers of its Section 5, its mask and its Section 7.

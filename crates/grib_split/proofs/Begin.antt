@@ -57,7 +57,7 @@ run_same k a b p count run s r = record {
 }
 
 -- places that are less than 64 apart are kept apart
-apart : (at m : ℕ) → 1 < m → m ≤ 64 → (at + 1) % 64 ≢ (at + m) % 64
+pub apart : (at m : ℕ) → 1 < m → m ≤ 64 → (at + 1) % 64 ≢ (at + m) % 64
 apart at m below near e = omega arith
 
 pub waits_begun : (k : ℕ) (codes : List Code) (at cost : ℕ) (a b : Slots) → Begun b ((at + 1) % 64) cost
@@ -76,21 +76,27 @@ waits_begun k codes at cost a b here same runs (suc (suc m)) some most =
     (run_same k a b p n (take (suc m) (drop (at + 1) codes)) (same p (apart at n (omega arith) most))
     (subst P e (runs (suc m) (omega arith) (omega arith))))
 
-pub afters_begun : (header k : ℕ) (codes : List Code) (at cost : ℕ) (a b : Slots) → at < length codes → Begun b ((at + 1) % 64) cost
-    → ((p : ℕ) → (at + 1) % 64 ≢ p → Same a b p) → IsLeast header (width_of k) (drop (at + 1) codes) cost
+pub afters_put : (header k : ℕ) (codes : List Code) (at cost : ℕ) (a b : Slots) → at < length codes → slice_index b.after ((at + 1) % 64) ≡ cost
+    → ((p : ℕ) → (at + 1) % 64 ≢ p → slice_index b.after p ≡ slice_index a.after p) → IsLeast header (width_of k) (drop (at + 1) codes) cost
     → Afters header k codes (at + 1) a → Afters header k codes at b
-afters_begun header k codes at cost a b place here same is afters zero some most = absurd (omega arith)
-afters_begun header k codes at cost a b place here same is afters (suc zero) some most = record {
-  some = λ within. let P : ℕ → Type 0 = λ c. IsLeast header (width_of k) (drop (at + 1) codes) c in subst P (sym here.after) is;
+afters_put header k codes at cost a b place here same is afters zero some most = absurd (omega arith)
+afters_put header k codes at cost a b place here same is afters (suc zero) some most = record {
+  some = λ within. let P : ℕ → Type 0 = λ c. IsLeast header (width_of k) (drop (at + 1) codes) c in subst P (sym here) is;
   none = λ outside. absurd (omega arith);
 }
-afters_begun header k codes at cost a b place here same is afters (suc (suc m)) some most =
+afters_put header k codes at cost a b place here same is afters (suc (suc m)) some most =
     let n : ℕ = suc (suc m) in
     let p = (at + n) % 64 in
     let e : at + 1 + suc m ≡ at + n = omega arith in
     let P : ℕ → Type 0 = λ q. After header k codes q (slice_index a.after (q % 64)) in
     let Q : ℕ → Type 0 = λ c. After header k codes (at + n) c in
-    subst Q (sym (same p (apart at n (omega arith) most)).after) (subst P e (afters (suc m) (omega arith) (omega arith)))
+    subst Q (sym (same p (apart at n (omega arith) most))) (subst P e (afters (suc m) (omega arith) (omega arith)))
+
+pub afters_begun : (header k : ℕ) (codes : List Code) (at cost : ℕ) (a b : Slots) → at < length codes → Begun b ((at + 1) % 64) cost
+    → ((p : ℕ) → (at + 1) % 64 ≢ p → Same a b p) → IsLeast header (width_of k) (drop (at + 1) codes) cost
+    → Afters header k codes (at + 1) a → Afters header k codes at b
+afters_begun header k codes at cost a b place here same is afters =
+    afters_put header k codes at cost a b place here.after (λ p other. (same p other).after) is afters
 
 -- ---- before any code
 

@@ -12,7 +12,7 @@ use Rattle.grib_split.proofs.Optimal.{joined}
 -- ---- costs
 
 -- a group of one code has no bits
-single_width : (k : ℕ) (code : Code) → width_of k (code ∷ []) ≡ 0
+pub single_width : (k : ℕ) (code : Code) → width_of k (code ∷ []) ≡ 0
 single_width k (Present n) = rw (eq-eqb (max n 0) n (omega arith)) refl
 single_width k Primary = refl
 single_width k Secondary = refl

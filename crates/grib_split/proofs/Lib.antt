@@ -11,3 +11,5 @@ pub mod Bounds
 pub mod Going
 pub mod Choices
 pub mod Begin
+pub mod Alike
+pub mod Steadily

@@ -2,3 +2,4 @@ pub mod Fewest
 pub mod Least
 pub mod Runs
 pub mod Costs
+pub mod Alike

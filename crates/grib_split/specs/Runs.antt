@@ -1,5 +1,5 @@
 -- The runs of codes from a place on, each kept at the place of its end, counted round 64.
-use Rattle.std.specs.Prelude.{◌≡◌, ℕ, ◌+◌, ◌-◌, ◌*◌, ◌^◌, ◌%◌, ◌<◌, ◌≤◌, ◌⊎◌, cond, false, List, length, take, drop, slice_index}
+use Rattle.std.specs.Prelude.{◌≡◌, ℕ, ◌+◌, ◌-◌, ◌*◌, ◌^◌, ◌%◌, ◌<◌, ◌≤◌, ◌⊎◌, cond, false, List, length, take, drop, replicate, slice_index}
 use Rattle.std.specs.List.{list_any}
 use Rattle.std.specs.Int.{bit_at}
 use Rattle.grib_base.specs.declared.code.Code.{Code}
@@ -76,6 +76,16 @@ after_of slots at l = slice_index slots.after ((at + l) % 64)
 abbrev pub Afters : ℕ → ℕ → List Code → ℕ → Slots → Type 0
 Afters header reserved codes at slots =
     (l : ℕ) → 1 ≤ l → l ≤ 64 → After header reserved codes (at + l) (slice_index slots.after ((at + l) % 64))
+
+-- the least cost does not rise from a place where it is `cost` to the next one, and so on over the 64 after it
+pub record Falls (slots : Slots) (at cost : ℕ) : Type 0 where
+  pub here : after_of slots at 1 ≤ cost
+  pub next : (l : ℕ) → 1 ≤ l → l < 64 → after_of slots at (l + 1) ≤ after_of slots at l
+
+-- each slot holds runs of one code, whatever cost is kept of them
+pub record Holds (reserved : ℕ) (slots : Slots) (code : Code) : Type 0 where
+  pub told : (place n : ℕ) → place < 64 → 1 ≤ n → Told slots place (replicate n code)
+  pub wide : (place n : ℕ) → place < 64 → 1 ≤ n → Wide reserved (slice_index slots.width place) (slice_index slots.limit place) (replicate n code)
 
 -- what of the slots stays the same
 pub record SameNumbers (a b : Slots) : Type 0 where

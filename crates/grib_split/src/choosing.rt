@@ -1,10 +1,11 @@
 //! The choice of the first group at each place, from the last code to the first.
 
-ghost use Rattle.std.specs.Prelude.{◌≡◌, ◌+◌, ◌<◌, length, drop};
+ghost use Rattle.std.specs.Prelude.{◌≡◌, ℕ, ◌+◌, ◌%◌, ◌^◌, ◌<◌, ◌≤◌, length, drop, slice_set};
 ghost use Rattle.grib_packing.specs.Groupings.{width_of};
 ghost use Rattle.grib_split.specs.Costs.{CanSplit, header_of};
-ghost use Rattle.grib_split.specs.Least.{AreHeads, Best, with_first};
-ghost use Rattle.grib_split.specs.Runs.{Runs, Waits, Afters, after_of};
+ghost use Rattle.grib_split.specs.Alike.{Alike, Known};
+ghost use Rattle.grib_split.specs.Least.{AreHeads, IsLeast, Best, with_first};
+ghost use Rattle.grib_split.specs.Runs.{Runs, Waits, Afters, Falls, after_of, SameNumbers, SameMarks, SameWidths};
 
 use crate::slots::{Cheapest, Slots};
 use grib_base::Code;
@@ -29,18 +30,124 @@ pub fn least_choices(codes: &[Code], costs: &Costs, choices: &mut [u8])
     ensures { AreHeads (header_of costs.now) (width_of costs.now.reserved) codes.now choices.new }
 {
     let mut slots = Slots::none();
-    let mut cost = 0;
+    let mut here = Here {
+        best: Cheapest { length: 1, cost: 0 },
+        alike: 0,
+        steady: false,
+    };
     for done in 0..codes.len() {
         let at = codes.len() - 1 - done;
-        slots.lengthen();
-        slots.begin((at + 1) % 64, cost);
-        let best = best_at(&mut slots, codes, at, costs);
-        choices[at] = best.length as u8;
-        cost = best.cost;
+        here = here_at(&mut slots, codes, at, here, costs);
+        choices[at] = here.best.length as u8;
+    }
+}
+
+/// What is known at a place.
+#[derive(Clone, Copy, Debug)]
+struct Here {
+    /// The first group that is chosen there, and the least cost from there on.
+    best: Cheapest,
+    /// How many codes from there on are seen to be the same, up to 64.
+    alike: u32,
+    /// Whether they are 64, and the least cost does not rise from one of these places to the next.
+    steady: bool,
+}
+
+/// Goes on by the code at place `at`, from what is known at the next place.
+#[inline]
+fn here_at(slots: &mut Slots, codes: &[Code], at: usize, next: Here, costs: &Costs) -> Here
+    requires split { CanSplit costs.now codes.now }
+    requires place { at < length codes.now }
+    requires known { Known (header_of costs.now) costs.now.reserved codes.now (at + 1) slots.old next }
+    ensures known { Known (header_of costs.now) costs.now.reserved codes.now at slots.new result }
+    ensures best { Best (header_of costs.now) (width_of costs.now.reserved) (drop at codes.now)
+        (after_of slots.new at) result.best.length }
+{
+    let alike = alike_from(codes, at, next.alike);
+    if next.steady && alike == 64 {
+        let best = best_of_one(slots, at, next.best, costs);
+        return Here {
+            best,
+            alike,
+            steady: true,
+        };
+    }
+    slots.price(next.steady);
+    let best = best_of_all(slots, codes, at, next.best.cost, costs);
+    let steady = alike == 64 && slots.falls(at, best.cost);
+    Here {
+        best,
+        alike,
+        steady,
+    }
+}
+
+/// How many codes from `at` on are the same, up to 64, where so many after it are.
+#[inline]
+fn alike_from(codes: &[Code], at: usize, after: u32) -> u32
+    requires place { at < length codes.now }
+    requires after { Alike codes.now (at + 1) after }
+    ensures { Alike codes.now at result }
+{
+    if after == 0 || codes[at] != codes[at + 1] {
+        return 1;
+    }
+    (after + 1).min(64)
+}
+
+/// The shortest of the runs from `at` on that cost least, where the 64 codes from there on are the same and
+/// the least cost does not rise from one place to the next: none of these runs takes a bit.
+#[inline]
+fn best_of_one(slots: &mut Slots, at: usize, next: Cheapest, costs: &Costs) -> Cheapest
+    requires place { at < 2 ^ 32 }
+    requires some { 1 ≤ next.length }
+    requires most { next.length ≤ 64 }
+    requires falls { Falls slots.old (at + 1) next.cost }
+    requires cost { next.cost ≡ header_of costs.now + after_of slots.old (at + 1) 64 }
+    requires small { next.cost ≤ 1476395040 }
+    requires header { header_of costs.now ≤ 44 }
+    ensures here { after_of slots.new at 1 ≡ next.cost }
+    ensures after { slots.new.after ≡ slice_set slots.old.after ((at + 1) % 64) next.cost }
+    ensures numbers { SameNumbers slots.old slots.new }
+    ensures marks { SameMarks slots.old slots.new }
+    ensures widths { SameWidths slots.old slots.new }
+    ensures some { 1 ≤ result.length }
+    ensures most { result.length ≤ 64 }
+    ensures least { after_of slots.new at result.length ≡ after_of slots.new at 64 }
+    ensures first { (l : ℕ) → 1 ≤ l → l < result.length → after_of slots.new at 64 < after_of slots.new at l }
+    ensures falls { Falls slots.new at result.cost }
+    ensures cost { result.cost ≡ header_of costs.now + after_of slots.new at 64 }
+{
+    slots.put_after((at + 1) % 64, next.cost);
+    let least = slots.soonest(at, (next.length + 1).min(64));
+    Cheapest {
+        length: least.length,
+        cost: least.cost + costs.reference_bits + costs.width_bits + 6,
     }
 }
 
 /// Goes on by the code at place `at`, and gives the best first group and the least cost from there on.
+#[inline]
+fn best_of_all(slots: &mut Slots, codes: &[Code], at: usize, cost: u32, costs: &Costs) -> Cheapest
+    requires split { CanSplit costs.now codes.now }
+    requires place { at < length codes.now }
+    requires runs { Runs costs.now.reserved codes.now (at + 1) slots.old }
+    requires after { Afters (header_of costs.now) costs.now.reserved codes.now (at + 1) slots.old }
+    requires cost { IsLeast (header_of costs.now) (width_of costs.now.reserved) (drop (at + 1) codes.now) cost }
+    ensures runs { Runs costs.now.reserved codes.now at slots.new }
+    ensures after { Afters (header_of costs.now) costs.now.reserved codes.now at slots.new }
+    ensures best { Best (header_of costs.now) (width_of costs.now.reserved) (drop at codes.now)
+        (after_of slots.new at) result.length }
+    ensures cost { result.cost ≡ with_first (header_of costs.now) (width_of costs.now.reserved) (drop at codes.now)
+        result.length (after_of slots.new at result.length) }
+{
+    slots.lengthen();
+    slots.begin((at + 1) % 64, cost);
+    best_at(slots, codes, at, costs)
+}
+
+/// Puts the code at place `at` before the runs that wait for it, and gives the best first group and the least
+/// cost from there on.
 #[inline]
 fn best_at(slots: &mut Slots, codes: &[Code], at: usize, costs: &Costs) -> Cheapest
     requires split { CanSplit costs.now codes.now }

@@ -1,10 +1,10 @@
 //! The runs of codes that begin at one place.
 
-ghost use Rattle.std.specs.Prelude.{◌≡◌, ℕ, ◌+◌, ◌-◌, ◌*◌, ◌%◌, ◌^◌, ◌<◌, ◌≤◌, ◌∷◌, ◌≢◌, ◌⊎◌, List, min, max, replicate, slice_index, slice_set};
+ghost use Rattle.std.specs.Prelude.{◌≡◌, ℕ, true, false, ◌+◌, ◌-◌, ◌*◌, ◌%◌, ◌^◌, ◌<◌, ◌≤◌, ◌∷◌, ◌≢◌, ◌⊎◌, List, min, max, replicate, slice_index, slice_set};
 ghost use Rattle.std.specs.Int.{bit_at};
 ghost use Rattle.grib_base.specs.declared.code.Code as code_io;
 ghost use Rattle.grib_packing.specs.Span.{IsBelow};
-ghost use Rattle.grib_split.specs.Runs.{Tells, Told, Wide, Begun, Priced, PricedBut, length_to, SameNumbers, SameMarks, SameWidths};
+ghost use Rattle.grib_split.specs.Runs.{Tells, Told, Wide, Begun, Priced, PricedBut, Falls, length_to, after_of, SameNumbers, SameMarks, SameWidths};
 
 use grib_base::Code;
 use grib_packing::bit_length;
@@ -243,6 +243,76 @@ impl Slots {
             length: first_from(places, (at + 1) % 64) + 1,
             cost,
         }
+    }
+}
+
+/// The costs after runs of one code.
+impl Slots {
+    /// Prices the runs anew, none of which takes a bit.
+    #[inline]
+    pub(crate) fn price(&mut self, anew: bool)
+        ensures anew { anew ≡ true → self.new.cost ≡ self.old.after }
+        ensures same { anew ≡ false → self.new.cost ≡ self.old.cost }
+        ensures numbers { SameNumbers self.old self.new }
+        ensures marks { SameMarks self.old self.new }
+        ensures widths { SameWidths self.old self.new }
+        ensures after { self.new.after ≡ self.old.after }
+    {
+        if anew {
+            self.cost = self.after;
+        }
+    }
+
+    /// Puts the least cost of the codes after a run.
+    #[inline]
+    pub(crate) fn put_after(&mut self, place: usize, cost: u32)
+        requires { place < 64 }
+        ensures here { slice_index self.new.after place ≡ cost }
+        ensures after { self.new.after ≡ slice_set self.old.after place cost }
+        ensures numbers { SameNumbers self.old self.new }
+        ensures marks { SameMarks self.old self.new }
+        ensures widths { SameWidths self.old self.new }
+    {
+        self.after[place] = cost;
+    }
+
+    /// The shortest of the runs from `at` on with the least cost after them, and this cost. It does not rise from one
+    /// place to the next, so that it is the one after 64 codes; the search begins at a length.
+    #[inline]
+    pub(crate) fn soonest(&self, at: usize, from: u32) -> Cheapest
+        requires place { at < 2 ^ 32 }
+        requires some { 1 ≤ from }
+        requires most { from ≤ 64 }
+        requires falls { (l : ℕ) → 1 ≤ l → l < 64 → after_of self.now at (l + 1) ≤ after_of self.now at l }
+        ensures cost { result.cost ≡ after_of self.now at 64 }
+        ensures some { 1 ≤ result.length }
+        ensures most { result.length ≤ 64 }
+        ensures least { after_of self.now at result.length ≡ result.cost }
+        ensures first { (l : ℕ) → 1 ≤ l → l < result.length → result.cost < after_of self.now at l }
+    {
+        let cost = self.after[at % 64];
+        let mut length = from;
+        if self.after[(at + from as usize) % 64] > cost {
+            length = 64;
+        }
+        while length > 1 && self.after[(at + length as usize - 1) % 64] <= cost {
+            length -= 1;
+        }
+        Cheapest { length, cost }
+    }
+
+    /// Whether the least cost does not rise from `at`, where it is this, over the 64 places after it.
+    #[inline]
+    pub(crate) fn falls(&self, at: usize, cost: u32) -> bool
+        requires { at < 2 ^ 32 }
+        ensures { result ≡ true → Falls self.now at cost }
+    {
+        for length in 1..64 {
+            if self.after[(at + length + 1) % 64] > self.after[(at + length) % 64] {
+                return false;
+            }
+        }
+        self.after[(at + 1) % 64] <= cost
     }
 }
 

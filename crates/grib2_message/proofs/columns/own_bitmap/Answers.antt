@@ -4,7 +4,7 @@ use Rattle.grib2_message.specs.View.{octets_in_force}
 use Rattle.grib2_message.specs.Kept.{IsEarlier}
 use Rattle.grib2_message.specs.declared.places.Bitmap.{Bitmap}
 use Rattle.grib2_message.proofs.Checked.{stands_below}
-use Rattle.grib2_message.proofs.InForce.{own_alone, own_repeated}
+use Rattle.grib2_message.proofs.InForce.{own_alone, own_repeated, start_alone, start_repeated}
 use Rattle.grib2_message.proofs.Masks.{bitmap_there, repeated}
 use Rattle.grib2_message.proofs.columns.own_bitmap.Goals as goal
 
@@ -17,6 +17,12 @@ returns-then-u8_at-clause-octets c = λ before h.
     let section = c.section-section.ensures.octets before h.stand in
     let indicator : bitmap_indicator (octets_in_force 6 before) ≡ c.u8_at.result = ap bitmap_indicator (sym section) ∙ sym c.u8_at.ensures in
     section ∙ sym (own_alone before (λ e. c.if-u8_at.true (sym indicator ∙ e)))
+
+pub returns-then-u8_at-clause-start : goal.returns-then-u8_at-clause-start
+returns-then-u8_at-clause-start c = λ before h.
+    let section = c.section-section.ensures.octets before h.stand in
+    let indicator : bitmap_indicator (octets_in_force 6 before) ≡ c.u8_at.result = ap bitmap_indicator (sym section) ∙ sym c.u8_at.ensures in
+    c.section-section.ensures.start ∙ h.stand.starts 6 (omega arith) ∙ sym (start_alone before (λ e. c.if-u8_at.true (sym indicator ∙ e)))
 
 pub unreachable-requires : goal.unreachable-requires
 unreachable-requires c =
@@ -33,5 +39,13 @@ returns-clause-octets c = λ before h.
     let section = c.section-section.ensures.octets before h.stand in
     let indicator : bitmap_indicator (octets_in_force 6 before) ≡ 254 = ap bitmap_indicator (sym section) ∙ sym c.u8_at.ensures ∙ c.if-u8_at.false in
     c.section_from.ensures.octets
-    ∙ subst (λ (b : Option Bitmap). IsEarlier c.args.octets.now b before) c.in-Some.is h.stand.earlier
+    ∙ (subst (λ (b : Option Bitmap). IsEarlier c.args.octets.now b before) c.in-Some.is h.stand.earlier).1
     ∙ sym (own_repeated before indicator)
+
+pub returns-clause-start : goal.returns-clause-start
+returns-clause-start c = λ before h.
+    let section = c.section-section.ensures.octets before h.stand in
+    let indicator : bitmap_indicator (octets_in_force 6 before) ≡ 254 = ap bitmap_indicator (sym section) ∙ sym c.u8_at.ensures ∙ c.if-u8_at.false in
+    c.section_from.ensures.start
+    ∙ (subst (λ (b : Option Bitmap). IsEarlier c.args.octets.now b before) c.in-Some.is h.stand.earlier).0
+    ∙ sym (start_repeated before indicator)

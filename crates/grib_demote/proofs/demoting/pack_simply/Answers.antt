@@ -22,8 +22,8 @@ u8_at-requires-clause-within c =
     let packing = packing_passes (part_octets m i 5) (grid_points (part_octets m i 3)) c.there.ensures.passes.packing in
     omega (arith, packing.long, ap length c.there.ensures.octets)
 
-pub pack-requires-clause-column : goal.pack-requires-clause-column
-pack-requires-clause-column c =
+pub pack-requires : goal.pack-requires
+pack-requires c =
     let e = c.in_ok-column.ensures in
     packable c.args.message.now c.args.field c.in_ok-column.column e.column e.passes e.some e.few
 

@@ -14,8 +14,8 @@ u8_at-kind-requires-clause-within g c =
     let packing = packing_passes (part_octets m i 5) (grid_points (part_octets m i 3)) c.in-Some.ensures.passes.packing in
     omega (arith, packing.long, ap length c.in-Some.ensures.part.1)
 
-pub pack-requires-clause-column : goal.pack-requires-clause-column
-pack-requires-clause-column g c =
+pub pack-requires : goal.pack-requires
+pack-requires g c =
     let e = c.in_ok-column.ensures in
     packable c.args.message.now c.args.field c.in_ok-column.column e.column e.passes e.some e.few
 

@@ -1,5 +1,5 @@
 use Rattle.std.proofs.Common.{◌≡◌, ℕ, ◌≤◌, List, sym, subst}
-use Rattle.grib2_message.specs.Fields.{field_sections, field_count, field_bitmap}
+use Rattle.grib2_message.specs.Fields.{field_sections, field_count, field_bitmap, field_bitmap_start}
 use Rattle.grib2_message.proofs.Shorter.{field_kept}
 use Rattle.grib2_message.proofs.message.Message.bitmap.Goals as goal
 
@@ -15,4 +15,12 @@ returns-clause-octets c =
     let last = subst (λ (x : List ℕ). c.args.field ≤ field_count x) (sym c.self.view_is) c.requires.last in
     subst (λ (x : List ℕ). c.own_bitmap.result.octets.now ≡ field_bitmap x c.args.field) c.self.view_is
     (c.own_bitmap.ensures.octets (field_sections m c.args.field)
+    (field_kept m c.self.inside.fields.items c.self.invariant c.args.field c.requires.first last _ c.index-places.ensures))
+
+pub returns-clause-start : goal.returns-clause-start
+returns-clause-start c =
+    let m = c.self.inside.octets.now in
+    let last = subst (λ (x : List ℕ). c.args.field ≤ field_count x) (sym c.self.view_is) c.requires.last in
+    subst (λ (x : List ℕ). c.own_bitmap.result.start ≡ field_bitmap_start x c.args.field) c.self.view_is
+    (c.own_bitmap.ensures.start (field_sections m c.args.field)
     (field_kept m c.self.inside.fields.items c.self.invariant c.args.field c.requires.first last _ c.index-places.ensures))

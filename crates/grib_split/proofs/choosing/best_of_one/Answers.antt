@@ -1,0 +1,32 @@
+use Rattle.std.proofs.Common.{◌≡◌, ◌+◌, ◌≤◌, arith}
+use Rattle.grib_split.specs.Costs.{header_of}
+use Rattle.grib_split.specs.Runs.{after_of}
+use Rattle.grib_split.proofs.Steadily.{falls_to, falls_next, falls_here}
+use Rattle.grib_split.proofs.choosing.best_of_one.Goals as goal
+use Rattle.grib_split.proofs.choosing.best_of_one.Goals.{After-soonest-least}
+
+pub soonest-least-requires-clause-falls : goal.soonest-least-requires-clause-falls
+soonest-least-requires-clause-falls c =
+    falls_next c.args.at c.args.next.cost c.args.slots.now c.put_after.new.self c.put_after.ensures.after c.put_after.ensures.here c.requires.falls
+
+-- the cost after 64 codes is at least a header below the one at the next place
+least_cost : (c : After-soonest-least) → c.soonest-least.result.cost ≤ 1476395040
+least_cost c =
+    let next = falls_next c.args.at c.args.next.cost c.args.slots.now c.put_after.new.self c.put_after.ensures.after c.put_after.ensures.here c.requires.falls in
+    omega (arith, c.soonest-least.ensures.cost, c.put_after.ensures.here, c.requires.small, falls_to (after_of c.put_after.new.self c.args.at) next 1 64 (omega arith) (omega arith) (omega arith))
+
+pub overflow_add-result : goal.overflow_add-result
+overflow_add-result c = record { fits = omega (arith, least_cost (goal.at.overflow_add-result c).After-soonest-least, c.requires.header) }
+
+pub overflow_add-result-2 : goal.overflow_add-result-2
+overflow_add-result-2 c = record { fits = omega (arith, least_cost (goal.at.overflow_add-result-2 c).After-soonest-least, c.requires.header) }
+
+pub overflow_add-result-3 : goal.overflow_add-result-3
+overflow_add-result-3 c = record { fits = omega (arith, least_cost (goal.at.overflow_add-result-3 c).After-soonest-least, c.requires.header) }
+
+pub returns-clause-falls : goal.returns-clause-falls
+returns-clause-falls c =
+    let cost = c.soonest-least.result.cost + c.args.costs.now.reference_bits + c.args.costs.now.width_bits + 6 in
+    let is : cost ≡ header_of c.args.costs.now + after_of c.put_after.new.self c.args.at 64 = omega (arith, c.soonest-least.ensures.cost) in
+    falls_here (header_of c.args.costs.now) c.args.at c.args.next.cost cost c.args.slots.now c.put_after.new.self c.put_after.ensures.after c.put_after.ensures.here
+    c.requires.falls c.requires.cost is
