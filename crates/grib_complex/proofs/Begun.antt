@@ -8,7 +8,6 @@ use Rattle.grib_groups.specs.declared.list_feeding.FedLists.{FedLists}
 use Rattle.grib_groups.specs.Feeding.{part, AreFeedable, IsFeedable, ListsFed, WasFed}
 use Rattle.grib_complex.specs.declared.feeding.Beginning.{Beginning}
 use Rattle.grib_complex.specs.declared.feeding.State.{State}
-use Rattle.grib_complex.specs.declared.keeping.Points.{Points}
 use Rattle.grib_complex.specs.declared.representation.Complex.{Complex}
 use Rattle.grib_complex.specs.declared.values.Values.{Values}
 use Rattle.grib_complex.specs.Descriptors.{IsAccepted}
@@ -19,11 +18,14 @@ use Rattle.grib_packing.specs.declared.column.Point.{Point}
 use Rattle.grib_packing.specs.Entries.{data_fault, entries_of, is_out_of_range}
 use Rattle.grib_groups.specs.Taking.{values}
 use Rattle.grib_groups.proofs.Taken.{length-codes_from}
-use Rattle.grib_complex.specs.declared.feeding.Feeder.{Feeder}
-use Rattle.grib_complex.specs.Feeding.{Agrees, BeginningAgrees, Continues, ReadingAgrees, StateAgrees, IsFaultOf, octets_left}
+use Rattle.grib_complex.specs.declared.feeding.Feeding.{Feeding}
+use Rattle.grib_complex.specs.Feeding.{BeginningAgrees, Continues, HasRead, PassingAgrees, ReadingAgrees, StateAgrees, IsFaultOf, octets_left}
 use Rattle.grib_complex.proofs.Told.{length-told}
-use Rattle.grib_complex.specs.Kept.{ArePoints, PointsKept}
 use Rattle.grib_complex.specs.Tells.{ValuesTook}
+use Rattle.grib_complex.specs.Told.{Telling, told}
+use Rattle.grib_packing.specs.declared.group.Group.{Group}
+use Rattle.grib_packing.specs.declared.layout.Layout.{Layout}
+use Rattle.grib_packing.specs.Packing.{value_count}
 use Rattle.grib_complex.proofs.Arriving.{continues_from}
 
 -- there are at most 12 octets of descriptors
@@ -41,12 +43,12 @@ pub noted_count : (octets piece noted : List ℕ) (k : ℕ) → part 0 k (octets
 noted_count octets piece noted k is =
     omega (arith, ap length is, length-append (take k octets) noted, length-take k (octets ++ piece), length-take k octets)
 
-module _ (s5 : List ℕ) (mask : List Bool) (l : ℕ) (octets piece : List ℕ) (b : Beginning) (k m : ℕ) (noted listed descriptors : List ℕ) (lists : FedLists)
+module _ {K : Type 0} (s5 : List ℕ) (keeper : K) (l : ℕ) (octets piece : List ℕ) (b : Beginning K) (k m : ℕ) (noted listed descriptors : List ℕ) (lists : FedLists)
     (is_k : k ≡ (b.complex.order + 1) * b.complex.extra) (is_m : m ≡ min (length octets) k) (is_part : part 0 k (octets ++ piece) ≡ part 0 k octets ++ noted) (is_rest : drop k (octets ++ piece) ≡ drop k octets ++ listed)
     (is_noted : take (m + length noted) (drop 5 descriptors) ≡ take m (drop 5 b.descriptors) ++ noted) (feedable : AreFeedable lists)
     (fed : ListsFed b.complex.layout b.complex.simple.values (drop k octets) b.lists → ListsFed b.complex.layout b.complex.simple.values (drop k octets ++ listed) lists)
-    (agrees : BeginningAgrees s5 mask l octets b) where
-  pub begun_more : BeginningAgrees s5 mask l (octets ++ piece) (record b { descriptors = descriptors; lists = lists })
+    (agrees : BeginningAgrees s5 keeper l octets b) where
+  pub begun_more : BeginningAgrees s5 keeper l (octets ++ piece) (record b { descriptors = descriptors; lists = lists })
   begun_more =
       let before : take (min (length octets) k) (drop 5 b.descriptors) ≡ take k octets = subst (λ (n : ℕ). take (min (length octets) n) (drop 5 b.descriptors) ≡ take n octets) (sym is_k) agrees.descriptors in
       let count : min (length (octets ++ piece)) k ≡ m + length noted = sym (noted_count octets piece noted k is_part) ∙ ap (λ (n : ℕ). n + length noted) (sym is_m) in
@@ -61,12 +63,11 @@ module _ (s5 : List ℕ) (mask : List Bool) (l : ℕ) (octets piece : List ℕ) 
         accepted = agrees.accepted;
         groups = agrees.groups;
         few = agrees.few;
-        counted = agrees.counted;
         within = agrees.within;
         descriptors = subst (λ (n : ℕ). take (min (length (octets ++ piece)) n) (drop 5 descriptors) ≡ take n (octets ++ piece)) is_k now;
         lists = subst (λ (n : ℕ). ListsFed b.complex.layout b.complex.simple.values (drop n (octets ++ piece)) lists) is_k lists_now;
         feedable = feedable;
-        points = agrees.points;
+        keeper_is = agrees.keeper_is;
       }
 
 -- what follows the octets before the packed numbers
@@ -74,10 +75,10 @@ pub first_numbers : (octets piece rest : List ℕ) (whole : ℕ) → length octe
 first_numbers octets piece rest whole below is = sym (is ∙ ap (λ (us : List ℕ). us ++ rest) (drop_all whole octets below))
 
 -- more packed numbers came
-pub reading_more : (s5 : List ℕ) (mask : List Bool) (start l : ℕ) (octets piece : List ℕ) (fed after : Fed (Values Points)) → IsFeedable (2 ^ 49) after
-    → ((layout : _) (groups : _) (first : Values Points) (os : List ℕ) → WasFed (ValuesTook PointsKept) layout groups first os fed → WasFed (ValuesTook PointsKept) layout groups first (os ++ piece) after)
-    → ReadingAgrees s5 mask start l octets fed → ReadingAgrees s5 mask start l (octets ++ piece) after
-reading_more s5 mask start l octets piece fed after feedable more reads = record {
+pub reading_more : {K : Type 0} (kept : K → List Point → K → Type 0) (s5 : List ℕ) (keeper : K) (start l : ℕ) (octets piece : List ℕ) (fed after : Fed (Values K)) → IsFeedable (2 ^ 49) after
+    → ((layout : _) (groups : _) (first : Values K) (os : List ℕ) → WasFed (ValuesTook kept) layout groups first os fed → WasFed (ValuesTook kept) layout groups first (os ++ piece) after)
+    → ReadingAgrees kept s5 keeper start l octets fed → ReadingAgrees kept s5 keeper start l (octets ++ piece) after
+reading_more kept s5 keeper start l octets piece fed after feedable more reads = record {
   layout = reads.layout;
   groups = reads.groups;
   telling = reads.telling;
@@ -85,10 +86,10 @@ reading_more s5 mask start l octets piece fed after feedable more reads = record
   before = reads.before;
   came = omega (arith, reads.came, length-append octets piece);
   feedable = feedable;
-  so_far = subst (λ (os : List ℕ). WasFed (ValuesTook PointsKept) reads.layout reads.groups reads.first os after) (sym (drop-append-le reads.before octets piece reads.came))
+  so_far = subst (λ (os : List ℕ). WasFed (ValuesTook kept) reads.layout reads.groups reads.first os after) (sym (drop-append-le reads.before octets piece reads.came))
       (more reads.layout reads.groups reads.first (drop reads.before octets) reads.so_far);
   fresh = reads.fresh;
-  points = reads.points;
+  keeper_is = reads.keeper_is;
   few = reads.few;
   counted = reads.counted;
   enough = reads.enough;
@@ -97,46 +98,61 @@ reading_more s5 mask start l octets piece fed after feedable more reads = record
   beyond = λ s7 continues. reads.beyond s7 (continues_from octets piece l s7 continues);
 }
 
+pub passing_more : {K : Type 0} (kept : K → List Point → K → Type 0) (s5 : List ℕ) (keeper : K) (l : ℕ) (octets piece : List ℕ) (after : K)
+    → PassingAgrees kept s5 keeper l octets after → PassingAgrees kept s5 keeper l (octets ++ piece) after
+passing_more kept s5 keeper l octets piece after passing = record {
+  passes = λ s7 continues. passing.passes s7 (continues_from octets piece l s7 continues);
+  counted = λ s7 continues. passing.counted s7 (continues_from octets piece l s7 continues);
+  keeps = passing.keeps;
+}
+
 pub fault_more : (s5 : List ℕ) (start l : ℕ) (octets piece : List ℕ) (fault : _) → IsFaultOf s5 start l octets fault → IsFaultOf s5 start l (octets ++ piece) fault
 fault_more s5 start l octets piece fault is = λ s7 continues. is s7 (continues_from octets piece l s7 continues)
 
 -- ---- a feeder
 
-pub push_agrees : (feeder : Feeder) (state after : State) (piece : List ℕ) (pushed : ℕ) → feeder.state ≡ Some state → pushed ≡ feeder.pushed + length piece → length piece ≤ octets_left feeder
-    → ((s5 : List ℕ) (mask : List Bool) (octets : List ℕ) → length octets ≡ feeder.pushed → StateAgrees s5 mask feeder.start feeder.length octets (Some state)
-    → StateAgrees s5 mask feeder.start feeder.length (octets ++ piece) (Some after))
-    → (s5 : List ℕ) (mask : List Bool) (start l : ℕ) (octets : List ℕ) → Agrees s5 mask start l octets feeder
-    → Agrees s5 mask start l (octets ++ piece) (record feeder { pushed = pushed; state = Some after })
-push_agrees feeder state after piece pushed is_state is_pushed room step s5 mask start l octets agrees =
-    let before = subst (λ (o : Option State). StateAgrees s5 mask start l octets o) is_state agrees.state in
-    let at_start = subst (λ (n : ℕ). StateAgrees s5 mask n l octets (Some state)) (sym agrees.start_is) before in
-    let at_length = subst (λ (n : ℕ). StateAgrees s5 mask feeder.start n octets (Some state)) (sym agrees.length_is) at_start in
-    let next = step s5 mask octets (sym agrees.pushed) at_length in
-    let back = subst (λ (n : ℕ). StateAgrees s5 mask n feeder.length (octets ++ piece) (Some after)) agrees.start_is next in
+pub push_read : {K : Type 0} (kept : K → List Point → K → Type 0) (feeding : Feeding K) (state after : State K) (piece : List ℕ) (pushed : ℕ) → feeding.state ≡ Some state → pushed ≡ feeding.pushed + length piece → length piece ≤ octets_left feeding
+    → ((s5 : List ℕ) (keeper : K) (octets : List ℕ) → length octets ≡ feeding.pushed → StateAgrees kept s5 keeper feeding.start feeding.length octets (Some state)
+    → StateAgrees kept s5 keeper feeding.start feeding.length (octets ++ piece) (Some after))
+    → (s5 : List ℕ) (keeper : K) (start l : ℕ) (octets : List ℕ) → HasRead kept s5 keeper start l octets feeding
+    → HasRead kept s5 keeper start l (octets ++ piece) (record feeding { pushed = pushed; state = Some after })
+push_read {K} kept feeding state after piece pushed is_state is_pushed room step s5 keeper start l octets read =
+    let before = subst (λ (o : Option (State K)). StateAgrees kept s5 keeper start l octets o) is_state read.state in
+    let at_start = subst (λ (n : ℕ). StateAgrees kept s5 keeper n l octets (Some state)) (sym read.start_is) before in
+    let at_length = subst (λ (n : ℕ). StateAgrees kept s5 keeper feeding.start n octets (Some state)) (sym read.length_is) at_start in
+    let next = step s5 keeper octets (sym read.pushed) at_length in
+    let back = subst (λ (n : ℕ). StateAgrees kept s5 keeper n feeding.length (octets ++ piece) (Some after)) read.start_is next in
     record {
-      spelled = agrees.spelled;
-      start_is = agrees.start_is;
-      low = agrees.low;
-      high = agrees.high;
-      length_is = agrees.length_is;
-      pushed = omega (arith, is_pushed, agrees.pushed, length-append octets piece);
-      within = omega (arith, room, agrees.pushed, agrees.within, agrees.length_is, length-append octets piece);
-      state = subst (λ (n : ℕ). StateAgrees s5 mask start n (octets ++ piece) (Some after)) agrees.length_is back;
+      spelled = read.spelled;
+      start_is = read.start_is;
+      low = read.low;
+      high = read.high;
+      length_is = read.length_is;
+      pushed = omega (arith, is_pushed, read.pushed, length-append octets piece);
+      within = omega (arith, room, read.pushed, read.within, read.length_is, length-append octets piece);
+      state = subst (λ (n : ℕ). StateAgrees kept s5 keeper start n (octets ++ piece) (Some after)) read.length_is back;
     }
 
 -- a section is what continues its own octets
 pub continues_itself : (s7 : List ℕ) → Continues (drop 5 s7) (length s7) s7
 continues_itself s7 = record { long = refl; rest = []; joined = sym (append-nil (drop 5 s7)) }
 
+-- the codes of some groups tell as many points as the groups have values
+pub told_count : (layout : Layout) (groups : List Group) (telling : Telling) (numbers : List Bool) (entries : List Point) (count : ℕ) → told telling (codes_from layout groups numbers) ≡ entries → values groups ≡ count
+    → length entries ≡ count
+told_count layout groups telling numbers entries count is counted =
+    sym (ap length is) ∙ length-told telling (codes_from layout groups numbers) ∙ length-codes_from layout groups numbers ∙ counted
+
 -- all packed numbers came
-pub record ReadWhole (s5 : List ℕ) (mask : List Bool) (start : ℕ) (s7 : List ℕ) (after : Values Points) : Type 0 where
+pub record ReadWhole {K : Type 0} (kept : K → List Point → K → Type 0) (s5 : List ℕ) (keeper : K) (start : ℕ) (s7 : List ℕ) (after : Values K) : Type 0 where
   pub none : after.teller.beyond ≡ 0 → data_fault s5 s7 ≡ None
   pub some : 0 < after.teller.beyond → located start (data_fault s5 s7) ≡ Some (refusal start ScaledRange after.teller.beyond)
-  pub points : after.teller.beyond ≡ 0 → ArePoints mask (entries_of s5 s7) after.keeper
+  pub keeps : after.teller.beyond ≡ 0 → kept keeper (entries_of s5 s7) after.keeper
+  pub counted : length (entries_of s5 s7) ≡ value_count s5
 
-module _ (s5 : List ℕ) (mask : List Bool) (start : ℕ) (s7 : List ℕ) (fed : Fed (Values Points)) (after : Values Points) (reads : ReadingAgrees s5 mask start (length s7) (drop 5 s7) fed)
-    (whole : packed_bits reads.groups ≤ 8 * length (drop reads.before (drop 5 s7)) → ValuesTook PointsKept reads.first (codes_from reads.layout reads.groups (bits (drop reads.before (drop 5 s7)))) after) where
-  pub read_whole : ReadWhole s5 mask start s7 after
+module _ {K : Type 0} (kept : K → List Point → K → Type 0) (s5 : List ℕ) (keeper : K) (start : ℕ) (s7 : List ℕ) (fed : Fed (Values K)) (after : Values K) (reads : ReadingAgrees kept s5 keeper start (length s7) (drop 5 s7) fed)
+    (whole : packed_bits reads.groups ≤ 8 * length (drop reads.before (drop 5 s7)) → ValuesTook kept reads.first (codes_from reads.layout reads.groups (bits (drop reads.before (drop 5 s7)))) after) where
+  pub read_whole : ReadWhole kept s5 keeper start s7 after
   read_whole =
       let numbers = bits (drop reads.before (drop 5 s7)) in
       let codes = codes_from reads.layout reads.groups numbers in
@@ -155,8 +171,9 @@ module _ (s5 : List ℕ) (mask : List Bool) (start : ℕ) (s7 : List ℕ) (fed :
             let zero_before : reads.first.teller.beyond ≡ 0 = reads.fresh.beyond in
             absurd (omega (arith, stays.1, zero_before, somewhere)))
             ∙ ap (λ (n : ℕ). Some (refusal start ScaledRange n)) (sym place);
-        points = λ nowhere.
-            let kept = took.keeps reads.telling [] (omega arith) reads.fresh nowhere in
-            let are = kept.keeps mask [] (omega (arith, length-told reads.telling codes, count, reads.counted)) reads.points in
-            subst (λ (ps : List Point). ArePoints mask ps after.keeper) entries are;
+        keeps = λ nowhere.
+            let keeps = took.keeps reads.telling [] (omega arith) reads.fresh nowhere in
+            let told_all = subst (λ (ps : List Point). kept reads.first.keeper ps after.keeper) entries keeps in
+            subst (λ (k : K). kept k (entries_of s5 s7) after.keeper) reads.keeper_is told_all;
+        counted = told_count reads.layout reads.groups reads.telling numbers (entries_of s5 s7) (value_count s5) entries reads.counted;
       }

@@ -22,7 +22,7 @@ mod unpacking;
 mod values;
 mod writing;
 
-pub use feeding::Feeder;
+pub use feeding::{Feeder, Feeding};
 pub use field::Representation;
 pub use grib_groups::Layout;
 pub use keeping::{Keeper, Nothing, Points};

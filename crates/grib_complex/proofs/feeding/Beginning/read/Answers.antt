@@ -13,42 +13,42 @@ use Rattle.grib_groups.specs.Feeding.{WasFed}
 use Rattle.grib_groups.proofs.Faults.{fit_from, groups_are}
 use Rattle.grib_groups.proofs.Listed.{values-groups_from}
 use Rattle.grib_complex.specs.declared.values.Values.{Values}
-use Rattle.grib_complex.specs.declared.keeping.Points.{Points}
-use Rattle.grib_complex.specs.Feeding.{BeginningAgrees}
+use Rattle.grib_complex.specs.declared.feeding.Beginning.{Beginning}
+use Rattle.grib_complex.specs.Feeding.{BeginningAgrees, Continues}
 use Rattle.grib_complex.specs.Told.{Telling, Plainly}
 use Rattle.grib_complex.specs.Tells.{Tells, ValuesTook}
-use Rattle.grib_complex.specs.Kept.{PointsKept}
 use Rattle.grib_complex.specs.Descriptors.{telling_by}
 use Rattle.grib_complex.proofs.Arriving.{came_signed, came_refused, came_whole, came_entries, entries_grouped, table_whole, table_narrow}
-use Rattle.grib_complex.proofs.Outcome.{no_signs, no_run, within_range, beyond_range}
+use Rattle.grib_complex.proofs.Outcome.{no_signs, no_run, plain_range, within_range, beyond_range}
+use Rattle.grib_complex.proofs.Begun.{told_count}
 use Rattle.grib_complex.proofs.feeding.Beginning.read.Goals as goal
 
 -- all octets of the descriptors came
-front : (s5 : List ℕ) (mask : List Bool) (l : ℕ) (octets : List ℕ) (b : _) (agrees : BeginningAgrees s5 mask l octets b)
+front : {K : Type 0} (s5 : List ℕ) (keeper : K) (l : ℕ) (octets : List ℕ) (b : Beginning K) (agrees : BeginningAgrees s5 keeper l octets b)
     → (b.complex.order + 1) * b.complex.extra + list_octets b.complex.layout ≤ length octets
     → take ((b.complex.order + 1) * b.complex.extra) (drop 5 b.descriptors) ≡ take ((b.complex.order + 1) * b.complex.extra) octets
-front s5 mask l octets b agrees whole =
+front s5 keeper l octets b agrees whole =
     let k = (b.complex.order + 1) * b.complex.extra in
     let all : min (length octets) k ≡ k = omega (arith, whole) in
     ap (λ (n : ℕ). take n (drop 5 b.descriptors)) (sym all) ∙ agrees.descriptors
 
-long_lists : (s5 : List ℕ) (mask : List Bool) (l : ℕ) (octets : List ℕ) (b : _) (agrees : BeginningAgrees s5 mask l octets b)
+long_lists : {K : Type 0} (s5 : List ℕ) (keeper : K) (l : ℕ) (octets : List ℕ) (b : Beginning K) (agrees : BeginningAgrees s5 keeper l octets b)
     → (b.complex.order + 1) * b.complex.extra + list_octets b.complex.layout ≤ length octets → list_octets b.complex.layout ≤ length (drop ((b.complex.order + 1) * b.complex.extra) octets)
-long_lists s5 mask l octets b agrees whole = omega (arith, whole, length-drop ((b.complex.order + 1) * b.complex.extra) octets)
+long_lists s5 keeper l octets b agrees whole = omega (arith, whole, length-drop ((b.complex.order + 1) * b.complex.extra) octets)
 
 pub returns-then-signed-gt0 : goal.returns-then-signed-gt0
-returns-then-signed-gt0 c = λ s5 mask octets agrees is_numbers whole s7 continues.
+returns-then-signed-gt0 g c = λ s5 keeper octets agrees is_numbers whole. (λ s7 continues.
     let b = c.args.self in
     let extra = b.complex.extra in
     let product = ap₂ ◌*◌ c.from.ensures c.from-then-signed-gt0.ensures in
-    let place : refusal (c.args.start + 5 + (c.signed_first_value-signed.result - 1) * extra) FirstValueSign c.signed_first_value-signed.result ≡ c.at.result =
-    ap₂ (λ (p d : ℕ). refusal (c.args.start + 5 + p) FirstValueSign d) (sym product) (sym c.from-then-signed-gt0-2.ensures) ∙ sym c.at.ensures in
-    came_signed b.complex s5 agrees.spelled agrees.accepted agrees.groups c.args.start c.args.length octets s7 continues agrees.within whole b.descriptors (front s5 mask c.args.length octets b agrees whole)
+    let place : refusal (c.args.start + 5 + (c.signed_first_value-signed.result - 1) * extra) FirstValueSign c.signed_first_value-signed.result ≡ c.at-fault.result =
+    ap₂ (λ (p d : ℕ). refusal (c.args.start + 5 + p) FirstValueSign d) (sym product) (sym c.from-then-signed-gt0-2.ensures) ∙ sym c.at-fault.ensures in
+    came_signed b.complex s5 agrees.spelled agrees.accepted agrees.groups c.args.start c.args.length octets s7 continues agrees.within whole b.descriptors (front s5 keeper c.args.length octets b agrees whole)
     c.signed_first_value-signed.result c.signed_first_value-signed.ensures (omega (arith, c.if-signed-gt0.true))
-    ∙ ap Some place
+    ∙ ap Some place, agrees.keeper_is)
 
 pub fault-requires-clause-read : goal.fault-requires-clause-read
-fault-requires-clause-read c =
+fault-requires-clause-read g c =
     let begun = c.requires.begun in
     let b = c.args.self in
     let os = drop ((b.complex.order + 1) * b.complex.extra) begun.octets in
@@ -58,11 +58,11 @@ fault-requires-clause-read c =
       references = references b.complex.layout os;
       widths = widths b.complex.layout os;
       lengths = lengths b.complex.layout os;
-      are = c.finish-lists.ensures b.complex.simple.values os begun.agrees.lists (long_lists begun.s5 begun.mask c.args.length begun.octets b begun.agrees begun.whole);
+      are = c.finish-lists.ensures b.complex.simple.values os begun.agrees.lists (long_lists begun.s5 begun.keeper c.args.length begun.octets b begun.agrees begun.whole);
     }
 
 pub returns-in-Some : goal.returns-in-Some
-returns-in-Some c = λ s5 mask octets agrees is_numbers whole s7 continues.
+returns-in-Some g c = λ s5 keeper octets agrees is_numbers whole. (λ s7 continues.
     let b = c.args.self in
     let layout = b.complex.layout in
     let k = (b.complex.order + 1) * b.complex.extra in
@@ -71,41 +71,59 @@ returns-in-Some c = λ s5 mask octets agrees is_numbers whole s7 continues.
     let rs = references layout os in
     let ws = widths layout os in
     let ls = lengths layout os in
-    let are = c.finish-lists.ensures count os agrees.lists (long_lists s5 mask c.args.length octets b agrees whole) in
+    let are = c.finish-lists.ensures count os agrees.lists (long_lists s5 keeper c.args.length octets b agrees whole) in
     let no_sign = sym c.signed_first_value-signed.ensures ∙ (let none : c.signed_first_value-signed.result ≡ 0 = omega arith in none) in
     let is = ap (λ (n : ℕ). lists_fault layout c.args.start n c.args.length count rs ws ls) (sym c.skip.ensures) ∙ sym (c.fault.ensures count rs ws ls agrees.few are) ∙ c.in-Some.is in
-    came_refused b.complex s5 agrees.spelled agrees.accepted agrees.groups c.args.start c.args.length octets s7 continues agrees.within whole b.descriptors (front s5 mask c.args.length octets b agrees whole) no_sign c.in-Some.fault is
+    came_refused b.complex s5 agrees.spelled agrees.accepted agrees.groups c.args.start c.args.length octets s7 continues agrees.within whole b.descriptors (front s5 keeper c.args.length octets b agrees whole) no_sign c.in-Some.fault is, agrees.keeper_is)
 
 pub running-requires-clause-first : goal.running-requires-clause-first
-running-requires-clause-first c =
+running-requires-clause-first g c =
     let none : c.signed_first_value-signed.result ≡ 0 = omega arith in
     (no_signs _ _ (sym c.signed_first_value-signed.ensures ∙ none)).0
 
 pub running-requires-clause-second : goal.running-requires-clause-second
-running-requires-clause-second c =
+running-requires-clause-second g c =
     let none : c.signed_first_value-signed.result ≡ 0 = omega arith in
     (no_signs _ _ (sym c.signed_first_value-signed.ensures ∙ none)).1
 
-pub groups-requires-clause-whole : goal.groups-requires-clause-whole
-groups-requires-clause-whole c =
+pub is_steady-requires-clause-whole : goal.is_steady-requires-clause-whole
+is_steady-requires-clause-whole g c =
     let begun = c.requires.begun in
     let b = c.args.self in
     let os = drop ((b.complex.order + 1) * b.complex.extra) begun.octets in
-    table_whole b.complex.layout b.complex.simple.values c.finish-lists.result c.into_table.result (references b.complex.layout os) (widths b.complex.layout os) (lengths b.complex.layout os)
-    (c.finish-lists.ensures b.complex.simple.values os begun.agrees.lists (long_lists begun.s5 begun.mask c.args.length begun.octets b begun.agrees begun.whole))
-    c.into_table.ensures.references c.into_table.ensures.widths c.into_table.ensures.lengths
+    table_whole b.complex.layout b.complex.simple.values c.finish-lists.result c.into_table-table.result (references b.complex.layout os) (widths b.complex.layout os) (lengths b.complex.layout os)
+    (c.finish-lists.ensures b.complex.simple.values os begun.agrees.lists (long_lists begun.s5 begun.keeper c.args.length begun.octets b begun.agrees begun.whole))
+    c.into_table-table.ensures.references c.into_table-table.ensures.widths c.into_table-table.ensures.lengths
+
+pub is_steady-requires-clause-narrow : goal.is_steady-requires-clause-narrow
+is_steady-requires-clause-narrow g c =
+    let begun = c.requires.begun in
+    let b = c.args.self in
+    let os = drop ((b.complex.order + 1) * b.complex.extra) begun.octets in
+    table_narrow b.complex.layout b.complex.simple.values c.finish-lists.result c.into_table-table.result (references b.complex.layout os) (widths b.complex.layout os) (lengths b.complex.layout os)
+    (c.finish-lists.ensures b.complex.simple.values os begun.agrees.lists (long_lists begun.s5 begun.keeper c.args.length begun.octets b begun.agrees begun.whole))
+    c.into_table-table.ensures.references c.into_table-table.ensures.widths c.into_table-table.ensures.lengths
+
+pub groups-requires-clause-whole : goal.groups-requires-clause-whole
+groups-requires-clause-whole g c =
+    let begun = c.requires.begun in
+    let b = c.args.self in
+    let os = drop ((b.complex.order + 1) * b.complex.extra) begun.octets in
+    table_whole b.complex.layout b.complex.simple.values c.finish-lists.result c.into_table-table.result (references b.complex.layout os) (widths b.complex.layout os) (lengths b.complex.layout os)
+    (c.finish-lists.ensures b.complex.simple.values os begun.agrees.lists (long_lists begun.s5 begun.keeper c.args.length begun.octets b begun.agrees begun.whole))
+    c.into_table-table.ensures.references c.into_table-table.ensures.widths c.into_table-table.ensures.lengths
 
 pub groups-requires-clause-narrow : goal.groups-requires-clause-narrow
-groups-requires-clause-narrow c =
+groups-requires-clause-narrow g c =
     let begun = c.requires.begun in
     let b = c.args.self in
     let os = drop ((b.complex.order + 1) * b.complex.extra) begun.octets in
-    table_narrow b.complex.layout b.complex.simple.values c.finish-lists.result c.into_table.result (references b.complex.layout os) (widths b.complex.layout os) (lengths b.complex.layout os)
-    (c.finish-lists.ensures b.complex.simple.values os begun.agrees.lists (long_lists begun.s5 begun.mask c.args.length begun.octets b begun.agrees begun.whole))
-    c.into_table.ensures.references c.into_table.ensures.widths c.into_table.ensures.lengths
+    table_narrow b.complex.layout b.complex.simple.values c.finish-lists.result c.into_table-table.result (references b.complex.layout os) (widths b.complex.layout os) (lengths b.complex.layout os)
+    (c.finish-lists.ensures b.complex.simple.values os begun.agrees.lists (long_lists begun.s5 begun.keeper c.args.length begun.octets b begun.agrees begun.whole))
+    c.into_table-table.ensures.references c.into_table-table.ensures.widths c.into_table-table.ensures.lengths
 
 pub returns : goal.returns
-returns c = λ s5 mask octets agrees is_numbers whole.
+returns g c = λ s5 keeper octets agrees is_numbers whole.
     let b = c.args.self in
     let complex = b.complex in
     let layout = complex.layout in
@@ -118,16 +136,16 @@ returns c = λ s5 mask octets agrees is_numbers whole.
     let ws = widths layout os in
     let ls = lengths layout os in
     let lists = c.finish-lists.result in
-    let table = c.into_table.result in
-    let first : Values Points = record { teller = c.start.result; keeper = b.points } in
-    let are = c.finish-lists.ensures count os agrees.lists (long_lists s5 mask l octets b agrees whole) in
+    let table = c.into_table-table.result in
+    let first : Values _ = record { teller = c.start.result; keeper = b.keeper } in
+    let are = c.finish-lists.ensures count os agrees.lists (long_lists s5 keeper l octets b agrees whole) in
     let no_sign = sym c.signed_first_value-signed.ensures ∙ (let none : c.signed_first_value-signed.result ≡ 0 = omega arith in none) in
     let none = ap (λ (n : ℕ). lists_fault layout start n l count rs ws ls) (sym c.skip.ensures) ∙ sym (c.fault.ensures count rs ws ls agrees.few are) ∙ c.in_default.is in
     let fit = fit_from layout start k l count rs ws ls none in
-    let same = groups_are layout k l count lists table rs ws ls are fit c.into_table.ensures.references c.into_table.ensures.widths c.into_table.ensures.lengths in
+    let same = groups_are layout k l count lists table rs ws ls are fit c.into_table-table.ensures.references c.into_table-table.ensures.widths c.into_table-table.ensures.lengths in
     let total : values (groups layout os) ≡ count = values-groups_from rs ws ls (are.reference_count ∙ sym are.length_count) (are.width_count ∙ sym are.length_count) ∙ fit.right in
-    let fronts = front s5 mask l octets b agrees whole in
-    let took = ValuesTook PointsKept in
+    let fronts = front s5 keeper l octets b agrees whole in
+    let took = ValuesTook g.K.Keeper.kept in
     let pushed = c.push.ensures.fed layout (groups_in table) first [] c.groups.ensures.fed in
     let by_groups = subst (λ (gs : List Group). WasFed took layout gs first c.args.numbers.now c.push.result) same pushed in
     record {
@@ -140,9 +158,9 @@ returns c = λ s5 mask octets agrees is_numbers whole.
       feedable = c.push.ensures.feedable;
       so_far = subst (λ (xs : List ℕ). WasFed took layout (groups layout os) first xs c.push.result) is_numbers by_groups;
       fresh = subst (λ (t : Telling). Tells t [] c.start.result) c.running.ensures c.start.ensures.nothing;
-      points = agrees.points;
+      keeper_is = agrees.keeper_is;
       few = omega (arith, total, agrees.few);
-      counted = total ∙ agrees.counted;
+      counted = total ∙ agrees.spelled.simple.values;
       enough = omega (arith, fit.enough);
       entries = λ s7 continues. came_entries complex s5 agrees.spelled agrees.accepted agrees.groups start l octets s7 continues agrees.within whole b.descriptors fronts;
       within = λ s7 continues nowhere.
