@@ -5,7 +5,10 @@ use Rattle.grib_base.specs.declared.fault.Reason.TheVariants.{FirstValueSign, Sc
 use Rattle.grib_base.specs.Rows.{first_place, located, refusal}
 use Rattle.grib_packing.specs.declared.group.Group.{Group}
 use Rattle.grib_packing.specs.Entries.{entries_of, group_entries, is_out_of_range}
-use Rattle.grib_packing.specs.Groups.{references, widths, lengths, groups, list_octets}
+use Rattle.grib_bits.specs.Bits.{bits}
+use Rattle.grib_packing.specs.declared.column.Point.{Point}
+use Rattle.grib_packing.specs.Packing.{value_count}
+use Rattle.grib_packing.specs.Groups.{references, widths, lengths, groups, list_octets, codes_from}
 use Rattle.grib_groups.specs.Lists.{lists_fault}
 use Rattle.grib_groups.specs.Table.{groups_in}
 use Rattle.grib_groups.specs.Taking.{values}
@@ -15,7 +18,7 @@ use Rattle.grib_groups.proofs.Listed.{values-groups_from}
 use Rattle.grib_complex.specs.declared.values.Values.{Values}
 use Rattle.grib_complex.specs.declared.feeding.Beginning.{Beginning}
 use Rattle.grib_complex.specs.Feeding.{BeginningAgrees, Continues}
-use Rattle.grib_complex.specs.Told.{Telling, Plainly}
+use Rattle.grib_complex.specs.Told.{Telling, Plainly, told}
 use Rattle.grib_complex.specs.Tells.{Tells, ValuesTook}
 use Rattle.grib_complex.specs.Descriptors.{telling_by}
 use Rattle.grib_complex.proofs.Arriving.{came_signed, came_refused, came_whole, came_entries, entries_grouped, table_whole, table_narrow}
@@ -121,6 +124,43 @@ groups-requires-clause-narrow g c =
     table_narrow b.complex.layout b.complex.simple.values c.finish-lists.result c.into_table-table.result (references b.complex.layout os) (widths b.complex.layout os) (lengths b.complex.layout os)
     (c.finish-lists.ensures b.complex.simple.values os begun.agrees.lists (long_lists begun.s5 begun.keeper c.args.length begun.octets b begun.agrees begun.whole))
     c.into_table-table.ensures.references c.into_table-table.ensures.widths c.into_table-table.ensures.lengths
+
+pub returns-then-not-keeps : goal.returns-then-not-keeps
+returns-then-not-keeps g c = λ s5 keeper octets agrees is_numbers whole.
+    let b = c.args.self in
+    let complex = b.complex in
+    let layout = complex.layout in
+    let k = (complex.order + 1) * complex.extra in
+    let count = complex.simple.values in
+    let l = c.args.length in
+    let start = c.args.start in
+    let os = drop k octets in
+    let rs = references layout os in
+    let ws = widths layout os in
+    let ls = lengths layout os in
+    let lists = c.finish-lists.result in
+    let table = c.into_table-table.result in
+    let are = c.finish-lists.ensures count os agrees.lists (long_lists s5 keeper l octets b agrees whole) in
+    let no_sign = sym c.signed_first_value-signed.ensures ∙ (let none : c.signed_first_value-signed.result ≡ 0 = omega arith in none) in
+    let none = ap (λ (n : ℕ). lists_fault layout start n l count rs ws ls) (sym c.skip.ensures) ∙ sym (c.fault.ensures count rs ws ls agrees.few are) ∙ c.in_default.is in
+    let fit = fit_from layout start k l count rs ws ls none in
+    let same = groups_are layout k l count lists table rs ws ls are fit c.into_table-table.ensures.references c.into_table-table.ensures.widths c.into_table-table.ensures.lengths in
+    let total : values (groups layout os) ≡ count = values-groups_from rs ws ls (are.reference_count ∙ sym are.length_count) (are.width_count ∙ sym are.length_count) ∙ fit.right in
+    let fronts = front s5 keeper l octets b agrees whole in
+    let entries = λ (s7 : List ℕ) (continues : Continues octets l s7). came_entries complex s5 agrees.spelled agrees.accepted agrees.groups start l octets s7 continues agrees.within whole b.descriptors fronts in
+    record {
+      passes = λ s7 continues.
+          came_whole complex s5 agrees.spelled agrees.accepted agrees.groups start l octets s7 continues agrees.within whole b.descriptors fronts no_sign none
+          ∙ elim (c.is_steady.ensures c.if-not-keeps.true.1) [
+            | inl plain ↦ plain_range complex s5 s7 agrees.spelled agrees.accepted plain
+            | inr within ↦
+                let numbers = bits (drop (k + list_octets layout) (drop 5 s7)) in
+                let told_all = ap (λ (gs : List Group). told (telling_by complex.order complex.extra b.descriptors) (codes_from layout gs numbers)) same ∙ entries s7 continues ∙ entries_grouped complex s5 agrees.spelled agrees.accepted agrees.groups s7 in
+                within_range s5 s7 (sym (ap (first_place is_out_of_range) told_all) ∙ within layout numbers)
+          ];
+      counted = λ s7 continues. told_count layout (groups layout os) (telling_by complex.order complex.extra b.descriptors) (bits (drop (k + list_octets layout) (drop 5 s7))) (entries_of s5 s7) (value_count s5) (entries s7 continues) (total ∙ agrees.spelled.simple.values);
+      keeps = subst (λ (n : _). (points : List Point) → g.K.Keeper.kept n points b.keeper) agrees.keeper_is (c.keeps.ensures c.if-not-keeps.true.0);
+    }
 
 pub returns : goal.returns
 returns g c = λ s5 keeper octets agrees is_numbers whole.
