@@ -190,7 +190,8 @@ impl Feeding<Points> {
             unreachable!();
         };
         let points = Points::start(alloc, mask)?;
-        Feeding::start(alloc, &representation, points, start, length)
+        let feeder = Feeding::start(alloc, &representation, points, start, length)?;
+        Ok(feeder)
     }
 
     /// The column, once all octets came.

@@ -23,7 +23,7 @@ use Rattle.grib_complex.specs.Tells.{Tells, ValuesTook}
 use Rattle.grib_complex.specs.Descriptors.{telling_by}
 use Rattle.grib_complex.proofs.Arriving.{came_signed, came_refused, came_whole, came_entries, entries_grouped, table_whole, table_narrow}
 use Rattle.grib_complex.proofs.Outcome.{no_signs, no_run, plain_range, within_range, beyond_range}
-use Rattle.grib_complex.proofs.Begun.{told_count}
+use Rattle.grib_complex.proofs.Begun.{few_descriptors, told_count}
 use Rattle.grib_complex.proofs.feeding.Beginning.read.Goals as goal
 
 -- all octets of the descriptors came
@@ -125,8 +125,8 @@ groups-requires-clause-narrow g c =
     (c.finish-lists.ensures b.complex.simple.values os begun.agrees.lists (long_lists begun.s5 begun.keeper c.args.length begun.octets b begun.agrees begun.whole))
     c.into_table-table.ensures.references c.into_table-table.ensures.widths c.into_table-table.ensures.lengths
 
-pub returns-then-not-keeps : goal.returns-then-not-keeps
-returns-then-not-keeps g c = λ s5 keeper octets agrees is_numbers whole.
+pub returns-then-is_steady : goal.returns-then-is_steady
+returns-then-is_steady g c = λ s5 keeper octets agrees is_numbers whole.
     let b = c.args.self in
     let complex = b.complex in
     let layout = complex.layout in
@@ -151,7 +151,7 @@ returns-then-not-keeps g c = λ s5 keeper octets agrees is_numbers whole.
     record {
       passes = λ s7 continues.
           came_whole complex s5 agrees.spelled agrees.accepted agrees.groups start l octets s7 continues agrees.within whole b.descriptors fronts no_sign none
-          ∙ elim (c.is_steady.ensures c.if-not-keeps.true.1) [
+          ∙ elim (c.is_steady.ensures c.if-is_steady.true) [
             | inl plain ↦ plain_range complex s5 s7 agrees.spelled agrees.accepted plain
             | inr within ↦
                 let numbers = bits (drop (k + list_octets layout) (drop 5 s7)) in
@@ -159,7 +159,7 @@ returns-then-not-keeps g c = λ s5 keeper octets agrees is_numbers whole.
                 within_range s5 s7 (sym (ap (first_place is_out_of_range) told_all) ∙ within layout numbers)
           ];
       counted = λ s7 continues. told_count layout (groups layout os) (telling_by complex.order complex.extra b.descriptors) (bits (drop (k + list_octets layout) (drop 5 s7))) (entries_of s5 s7) (value_count s5) (entries s7 continues) (total ∙ agrees.spelled.simple.values);
-      keeps = subst (λ (n : _). (points : List Point) → g.K.Keeper.kept n points b.keeper) agrees.keeper_is (c.keeps.ensures c.if-not-keeps.true.0);
+      keeps = subst (λ (n : _). (points : List Point) → g.K.Keeper.kept n points b.keeper) agrees.keeper_is (c.keeps.ensures c.if-not-keeps.true);
     }
 
 pub returns : goal.returns
@@ -217,3 +217,33 @@ returns g c = λ s5 keeper octets agrees is_numbers whole.
           ]) (omega (arith, here, somewhere)))
           ∙ ap₂ (λ (o d : ℕ). Some (refusal o ScaledRange d)) origin (sym here);
     }
+
+pub is_steady-requires-clause-first : goal.is_steady-requires-clause-first
+is_steady-requires-clause-first g c =
+    let none : c.signed_first_value-signed.result ≡ 0 = omega arith in
+    (no_signs _ _ (sym c.signed_first_value-signed.ensures ∙ none)).0
+
+pub is_steady-requires-clause-second : goal.is_steady-requires-clause-second
+is_steady-requires-clause-second g c =
+    let none : c.signed_first_value-signed.result ≡ 0 = omega arith in
+    (no_signs _ _ (sym c.signed_first_value-signed.ensures ∙ none)).1
+
+pub is_steady-requires-clause-values : goal.is_steady-requires-clause-values
+is_steady-requires-clause-values g c =
+    let begun = c.requires.begun in
+    let b = c.args.self in
+    let layout = b.complex.layout in
+    let k = (b.complex.order + 1) * b.complex.extra in
+    let count = b.complex.simple.values in
+    let os = drop k begun.octets in
+    let rs = references layout os in
+    let ws = widths layout os in
+    let ls = lengths layout os in
+    let are = c.finish-lists.ensures count os begun.agrees.lists (long_lists begun.s5 begun.keeper c.args.length begun.octets b begun.agrees begun.whole) in
+    let none = ap (λ (n : ℕ). lists_fault layout c.args.start n c.args.length count rs ws ls) (sym c.skip.ensures) ∙ sym (c.fault.ensures count rs ws ls begun.agrees.few are) ∙ c.in_default.is in
+    let fit = fit_from layout c.args.start k c.args.length count rs ws ls none in
+    ap values (groups_are layout k c.args.length count c.finish-lists.result c.into_table-table.result rs ws ls are fit c.into_table-table.ensures.references c.into_table-table.ensures.widths c.into_table-table.ensures.lengths)
+    ∙ values-groups_from rs ws ls (are.reference_count ∙ sym are.length_count) (are.width_count ∙ sym are.length_count) ∙ fit.right
+
+pub running-requires-clause-within : goal.running-requires-clause-within
+running-requires-clause-within g c = omega (arith, few_descriptors c.args.self.complex c.requires.begun.agrees.accepted)
