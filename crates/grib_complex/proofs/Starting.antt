@@ -1,7 +1,6 @@
 -- Lemmas on a Section 7 of which no octet came.
-use Rattle.std.proofs.Common.{◌≡◌, ℕ, zero, suc, ◌+◌, ◌*◌, ◌^◌, ◌<◌, ◌≤◌, min, Bool, true, false, cond, eqb, Option, Some, None, List, [], ◌∷◌, length, take, drop, map, replicate, pos, refl, sym, ap, ap₂, ◌∙◌, arith, subst, le-ltb}
+use Rattle.std.proofs.Common.{◌≡◌, ℕ, zero, suc, ◌+◌, ◌*◌, ◌^◌, ◌<◌, ◌≤◌, Bool, true, false, cond, eqb, Option, Some, None, List, [], ◌∷◌, length, drop, map, vec_capacity, replicate, pos, refl, sym, ap, ap₂, ◌∙◌, arith, subst, le-ltb}
 use Rattle.std.proofs.lemmas.Bool.{lt-ltb, eq-eqb}
-use Rattle.std.proofs.lemmas.List.{take_all, drop_all}
 use Rattle.grib_bits.specs.Bits.{bits}
 use Rattle.grib_bits.specs.Octets.{octets}
 use Rattle.grib_bits.specs.Plain.{plain}
@@ -16,9 +15,12 @@ use Rattle.grib_packing.specs.Packing.{packing_template, value_count, bit_width}
 use Rattle.grib_packing.specs.Simple.{plain_bits, simple_rows, simple_entries}
 use Rattle.grib_packing.proofs.Fields.{plain-add}
 use Rattle.grib_groups.specs.declared.feeding.Fed.{Fed}
-use Rattle.grib_groups.specs.Feeding.{AreFeedable, IsFeedable, ListsFed, WasFed, no_marks, plain_groups}
+use Rattle.grib_groups.specs.declared.lists.Lists.{Lists as GroupLists}
+use Rattle.grib_groups.specs.declared.lists.References.{References}
+use Rattle.grib_groups.specs.Feeding.{HasRoom, IsFeedable, WasFed, no_marks, plain_groups}
+use Rattle.grib_groups.specs.Lists.{AreEmpty, ReferencesRoom, ReferencesTook}
 use Rattle.grib_groups.specs.Taking.{values}
-use Rattle.grib_groups.proofs.Pieces.{plain_codes, plain_packed}
+use Rattle.grib_groups.proofs.Pieces.{no_part, plain_codes, plain_packed}
 use Rattle.grib_groups.proofs.Taken.{values-cons}
 use Rattle.grib_packing.specs.declared.column.Point.{Point}
 use Rattle.grib_complex.specs.declared.values.Values.{Values}
@@ -28,7 +30,6 @@ use Rattle.grib_complex.specs.Representation.{Spelled}
 use Rattle.grib_complex.proofs.Arriving.{fault_grouped}
 use Rattle.grib_complex.proofs.Decided.{fault_of_lists}
 use Rattle.grib_complex.proofs.Outcome.{numbers_with, lists_are}
-use Rattle.grib_groups.specs.declared.list_feeding.FedLists.{FedLists}
 use Rattle.grib_complex.proofs.Begun.{told_count}
 use Rattle.grib_complex.specs.Feeding.{ReadingAgrees, PassingAgrees, BeginningAgrees}
 use Rattle.grib_complex.specs.Tells.{Tells, ValuesTook}
@@ -130,27 +131,27 @@ module _ (s5 : List ℕ) (grouped : eqb (packing_template s5) 0 ≡ false) (none
 -- ---- before the lists
 
 -- the descriptors and lists of a section of which nothing came
-pub begins : {K : Type 0} (complex : Complex) (s5 : List ℕ) (l : ℕ) (descriptors : List ℕ) (lists : FedLists) (keeper : K) → Spelled complex s5 → IsAccepted complex → 1 ≤ complex.layout.groups
+pub begins : {K : Type 0} (complex : Complex) (s5 : List ℕ) (l : ℕ) (first : References) (descriptors : Fed References) (lists : GroupLists) (keeper : K) → Spelled complex s5 → IsAccepted complex → 1 ≤ complex.layout.groups
     → complex.simple.values < 2 ^ 32 → 5 + (complex.order + 1) * complex.extra + list_octets complex.layout ≤ l
-    → ListsFed complex.layout complex.simple.values [] lists → AreFeedable lists
+    → first.items.items ≡ [] → 3 ≤ vec_capacity first.items → WasFed ReferencesTook no_marks (plain_groups (8 * complex.extra) (complex.order + 1)) first [] descriptors
+    → IsFeedable (2 ^ 32) descriptors → HasRoom ReferencesRoom descriptors 0 → AreEmpty complex.layout complex.simple.values lists
     → BeginningAgrees s5 keeper l [] (record { complex = complex; descriptors = descriptors; lists = lists; keeper = keeper })
-begins complex s5 l descriptors lists keeper spelled accepted groups few within fed feedable =
-    let k = (complex.order + 1) * complex.extra in
-    let nothing : min 0 k ≡ 0 = omega arith in
-    let none : List ℕ = [] in
-    let nowhere : take k none ≡ none = take_all k none (omega arith) in
-    let rest : drop k none ≡ none = drop_all k none (omega arith) in
-    record {
-      spelled = spelled;
-      accepted = accepted;
-      groups = groups;
-      few = few;
-      within = within;
-      descriptors = ap (λ (n : ℕ). take n (drop 5 descriptors)) nothing ∙ sym nowhere;
-      lists = subst (λ (os : List ℕ). ListsFed complex.layout complex.simple.values os lists) (sym rest) fed;
-      feedable = feedable;
-      keeper_is = refl;
-    }
+begins complex s5 l first descriptors lists keeper spelled accepted groups few within empty memory fed feedable room listed = record {
+  spelled = spelled;
+  accepted = accepted;
+  groups = groups;
+  few = few;
+  within = within;
+  below = omega arith;
+  first = first;
+  empty = empty;
+  memory = memory;
+  descriptors = subst (λ (os : List ℕ). WasFed ReferencesTook no_marks (plain_groups (8 * complex.extra) (complex.order + 1)) first os descriptors) (sym (no_part 0 ((complex.order + 1) * complex.extra))) fed;
+  feedable = feedable;
+  room = room;
+  lists = listed;
+  keeper_is = refl;
+}
 
 -- a section that is shorter than its lists
 pub lists_refused : (complex : Complex) (s5 : List ℕ) (start l : ℕ) → Spelled complex s5 → IsAccepted complex → 1 ≤ complex.layout.groups → l < 5 + (complex.order + 1) * complex.extra + list_octets complex.layout

@@ -1,7 +1,7 @@
 use Rattle.std.proofs.Common.{◌≡◌, ◌+◌, ◌*◌, ◌^◌, ◌≤◌, ℕ, refl, arith, pow_mono}
 use Rattle.grib_complex.specs.declared.values.Values.{Values}
 use Rattle.grib_complex.proofs.Starting.{starts_plain, passes_plain}
-use Rattle.grib_complex.proofs.feeding.start_list.Goals as goal
+use Rattle.grib_complex.proofs.stages.start_list.Goals as goal
 
 pub list-requires-clause-limit : goal.list-requires-clause-limit
 list-requires-clause-limit g c =

@@ -1,7 +1,7 @@
 use Rattle.std.proofs.Common.{◌≡◌, ◌+◌, ◌*◌, ◌≤◌, ℕ, sym, ◌∙◌, arith, ap, Some, refl}
 use Rattle.std.proofs.lemmas.Bool.{ltb-false}
 use Rattle.grib_complex.proofs.Starting.{plain_entries, plain_passes}
-use Rattle.grib_complex.proofs.feeding.start_plain.Goals as goal
+use Rattle.grib_complex.proofs.stages.start_plain.Goals as goal
 
 pub returns : goal.returns
 returns g c = λ s5 spelled zero.

@@ -1,7 +1,7 @@
 use Rattle.std.proofs.Common.{sym, ◌∙◌, subst}
 use Rattle.grib_complex.specs.Field.{Represents}
 use Rattle.grib_complex.proofs.Represented.{simple_width, complex_accepted}
-use Rattle.grib_complex.proofs.feeding.start_state.Goals as goal
+use Rattle.grib_complex.proofs.stages.start_state.Goals as goal
 
 pub returns-in-Simple : goal.returns-in-Simple
 returns-in-Simple g c = λ s5 read.

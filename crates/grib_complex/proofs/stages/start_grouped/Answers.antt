@@ -1,4 +1,4 @@
-use Rattle.std.proofs.Common.{◌≡◌, ◌+◌, ◌*◌, ◌<◌, ◌≤◌, ℕ, Bool, true, false, cond, IsTrue, Option, Some, None, List, [], length, refl, sym, ap, ◌∙◌, arith, inl, inr}
+use Rattle.std.proofs.Common.{◌≡◌, ◌+◌, ◌*◌, ◌<◌, ◌≤◌, ℕ, Bool, true, false, cond, IsTrue, Option, Some, None, List, [], length, pow_mono, subst, refl, sym, ap, ◌∙◌, arith, inl, inr}
 use Rattle.std.proofs.lemmas.Bool.{cases_lt, lt-ltb}
 use Rattle.std.proofs.lemmas.List.{drop_all}
 use Rattle.grib_base.specs.declared.fault.Reason.TheVariants.{DataTooShort}
@@ -6,9 +6,12 @@ use Rattle.grib_base.specs.declared.fault.Fault.{Fault}
 use Rattle.grib_base.specs.Rows.{refusal, first_fault}
 use Rattle.grib_packing.specs.Groups.{list_octets, list_rows}
 use Rattle.grib_complex.specs.declared.representation.Complex.{Complex}
+use Rattle.grib_groups.specs.Feeding.{WasFed, no_marks, plain_groups}
+use Rattle.grib_groups.specs.Lists.{ReferencesTook}
 use Rattle.grib_complex.proofs.Arriving.{lists_pass, template_of}
+use Rattle.grib_complex.proofs.Described.{few_orders}
 use Rattle.grib_complex.proofs.Starting.{zero_entries, zero_passes, begins, lists_refused}
-use Rattle.grib_complex.proofs.feeding.start_grouped.Goals as goal
+use Rattle.grib_complex.proofs.stages.start_grouped.Goals as goal
 
 apart : {P : Type 0} → false ≡ true → P
 apart wrong = absurd (cc)
@@ -46,8 +49,13 @@ returns-then-not-lists_fit g c = λ s5 spelled. (λ s7 continues.
     lists_refused complex s5 c.args.start c.args.length spelled c.requires.accepted (omega arith) short s7 continues.long
     ∙ sym (ap Some (c.at-fault.ensures ∙ ap (λ (n : ℕ). refusal c.args.start DataTooShort n) c.from.ensures)), refl)
 
-pub read-requires-clause-begun : goal.read-requires-clause-begun
-read-requires-clause-begun g c =
+pub list-requires-clause-limit : goal.list-requires-clause-limit
+list-requires-clause-limit g c =
+    let up : 8 * c.args.complex.extra ≤ 32 = omega (arith, c.requires.accepted.extra) in
+    pow_mono up
+
+pub push-requires-clause-begun : goal.push-requires-clause-begun
+push-requires-clause-begun g c =
     let s5 = c.requires.spelled.0 in
     let spelled = c.requires.spelled.1 in
     let complex = c.args.complex in
@@ -55,25 +63,18 @@ read-requires-clause-begun g c =
       s5 = s5;
       keeper = c.args.keeper;
       octets = [];
-      agrees = begins complex s5 c.args.length _ c.in_ok-lists.lists c.args.keeper spelled c.requires.accepted (omega arith) (omega arith)
-          (fits_within complex c.args.length c.skip.result c.lists_fit.result c.skip.ensures c.if-not-lists_fit.false c.lists_fit.ensures.0) c.in_ok-lists.ensures.fed c.in_ok-lists.ensures.feedable;
-      whole = omega (arith, c.if-from-octets_of_lists-eq0.true, c.octets_of_lists.ensures.octets, c.skip-2.ensures, c.from-2.ensures);
+      known = λ i. omega arith;
+      long = refl;
+      agrees = begins complex s5 c.args.length (record { items = c.in_ok-with_capacity.field-0 }) c.list.result c.in_ok-start.field-0 c.args.keeper spelled c.requires.accepted (omega arith) (omega arith)
+    (fits_within complex c.args.length c.skip.result c.lists_fit.result c.skip.ensures c.if-not-lists_fit.false c.lists_fit.ensures.0) c.in_ok-with_capacity.ensures.items (omega (arith, c.in_ok-with_capacity.ensures.capacity))
+    (subst (λ (n : ℕ). WasFed ReferencesTook no_marks (plain_groups (8 * complex.extra) (n + 1)) (record { items = c.in_ok-with_capacity.field-0 }) [] c.list.result) c.from-2.ensures c.list.ensures.fed) c.list.ensures.feedable
+    (c.list.ensures.room 0 (omega (arith, ap length c.in_ok-with_capacity.ensures.items, c.in_ok-with_capacity.ensures.capacity, c.from-2.ensures, few_orders complex c.requires.accepted))) c.in_ok-start.ensures;
     }
-
-pub returns-then-from-octets_of_lists-eq0 : goal.returns-then-from-octets_of_lists-eq0
-returns-then-from-octets_of_lists-eq0 g c = λ s5 spelled.
-    let complex = c.args.complex in
-    let none : List ℕ = [] in
-    let whole : (complex.order + 1) * complex.extra + list_octets complex.layout ≤ length none = omega (arith, c.if-from-octets_of_lists-eq0.true, c.octets_of_lists.ensures.octets, c.skip-2.ensures, c.from-2.ensures) in
-    c.read.ensures s5 c.args.keeper none
-    (begins complex s5 c.args.length _ c.in_ok-lists.lists c.args.keeper spelled c.requires.accepted (omega arith) (omega arith)
-    (fits_within complex c.args.length c.skip.result c.lists_fit.result c.skip.ensures c.if-not-lists_fit.false c.lists_fit.ensures.0) c.in_ok-lists.ensures.fed c.in_ok-lists.ensures.feedable)
-    (sym (drop_all ((complex.order + 1) * complex.extra + list_octets complex.layout) none (omega arith))) whole
 
 pub returns : goal.returns
 returns g c = λ s5 spelled.
-    let complex = c.args.complex in (
-      begins complex s5 c.args.length _ c.in_ok-lists.lists c.args.keeper spelled c.requires.accepted (omega arith) (omega arith)
-          (fits_within complex c.args.length c.skip.result c.lists_fit.result c.skip.ensures c.if-not-lists_fit.false c.lists_fit.ensures.0) c.in_ok-lists.ensures.fed c.in_ok-lists.ensures.feedable,
-      omega (arith, c.if-from-octets_of_lists-eq0.false, c.octets_of_lists.ensures.octets, c.skip-2.ensures, c.from-2.ensures),
-    )
+    let complex = c.args.complex in
+    c.push.ensures s5 c.args.keeper [] refl (λ i. omega arith) (begins complex s5 c.args.length (record { items = c.in_ok-with_capacity.field-0 }) c.list.result c.in_ok-start.field-0 c.args.keeper spelled c.requires.accepted (omega arith) (omega arith)
+    (fits_within complex c.args.length c.skip.result c.lists_fit.result c.skip.ensures c.if-not-lists_fit.false c.lists_fit.ensures.0) c.in_ok-with_capacity.ensures.items (omega (arith, c.in_ok-with_capacity.ensures.capacity))
+    (subst (λ (n : ℕ). WasFed ReferencesTook no_marks (plain_groups (8 * complex.extra) (n + 1)) (record { items = c.in_ok-with_capacity.field-0 }) [] c.list.result) c.from-2.ensures c.list.ensures.fed) c.list.ensures.feedable
+    (c.list.ensures.room 0 (omega (arith, ap length c.in_ok-with_capacity.ensures.items, c.in_ok-with_capacity.ensures.capacity, c.from-2.ensures, few_orders complex c.requires.accepted))) c.in_ok-start.ensures)
