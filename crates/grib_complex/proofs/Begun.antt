@@ -1,23 +1,24 @@
 -- Lemmas on what is known of a Section 7 as more octets come.
-use Rattle.std.proofs.Common.{◌≡◌, ℕ, ◌+◌, ◌-◌, ◌*◌, ◌^◌, ◌<◌, ◌≤◌, min, Bool, Option, Some, None, List, [], ◌++◌, length, map, take, drop, vec_capacity, refl, sym, ap, ◌∙◌, append_assoc, arith, mul_comm, subst, take-append-drop, inl, inr}
+use Rattle.std.proofs.Common.{◌≡◌, ℕ, ◌+◌, ◌-◌, ◌*◌, ◌^◌, ◌<◌, ◌≤◌, min, Bool, Option, Some, None, List, [], ◌∷◌, ◌++◌, length, map, take, drop, vec_capacity, refl, sym, ap, ◌∙◌, append_assoc, add-mul, arith, mul_comm, subst, take-append-drop, inl, inr}
 use Rattle.std.proofs.Math.Nat.{mul-le-mul_right}
 use Rattle.std.proofs.lemmas.Bool.{cases_lt}
-use Rattle.std.proofs.lemmas.List.{length-append, length-drop, drop-append-le, drop_all, take_all, append-nil, get_or_append_left, get_or-append_right, map-append}
+use Rattle.std.proofs.lemmas.List.{length-append, length-drop, drop-append-le, drop_all, take_all, append-nil, get_or_append_left, get_or-append_right, length-map, map-append}
 use Rattle.grib_packing.specs.Groups.{codes_from, packed_bits, list_octets, reference_octets, width_octets, length_octets}
 use Rattle.grib_groups.specs.declared.feeding.Fed.{Fed}
 use Rattle.grib_groups.specs.declared.list_feeding.FedLists.{FedLists}
 use Rattle.grib_groups.specs.declared.list_feeding.FedLists.TheVariants.{AtReferences, AtWidths, AtLengths}
 use Rattle.grib_groups.specs.declared.lists.Lists.{Lists as GroupLists}
 use Rattle.grib_groups.specs.declared.lists.References.{References}
-use Rattle.grib_groups.specs.Feeding.{part, AreFeedable, CanBeFed, IsFeedable, Listing, ListsFed, WasFed, list_pending, no_marks, pending_of, plain_groups}
+use Rattle.grib_groups.specs.Feeding.{part, AreFeedable, CanBeFed, IsCaughtUp, IsFeedable, IsList, Listing, ListsFed, WasFed, list_pending, no_marks, pending_of, plain_groups}
 use Rattle.grib_groups.specs.Going.{left_of}
 use Rattle.grib_groups.specs.Lists.{ReferencesTook}
 use Rattle.grib_groups.specs.Table.{groups_in}
 use Rattle.grib_groups.specs.Taking.{IsEnd, number_of}
 use Rattle.grib_groups.proofs.Coded.{numbers_present}
 use Rattle.grib_groups.proofs.Pieces.{part-append, part_more, plain-part, plain_codes}
-use Rattle.grib_groups.proofs.Taken.{values-cons}
-use Rattle.grib_bits.proofs.OctetBits.{bits-append}
+use Rattle.grib_groups.proofs.Listed.{no_groups}
+use Rattle.grib_groups.proofs.Taken.{packed_bits-cons, values-cons}
+use Rattle.grib_bits.proofs.OctetBits.{bits-append, length-bits}
 use Rattle.grib_base.specs.declared.code.Code.TheVariants.{Present}
 use Rattle.grib_complex.specs.Descriptors.{numbers_at}
 use Rattle.grib_complex.specs.declared.stages.Between.{Between}
@@ -215,6 +216,50 @@ descriptors_fed k size w n first octets piece noted before after is_k is more fe
     subst (λ (os : List ℕ). WasFed ReferencesTook no_marks (plain_groups w n) first os after) (part_more 0 size 0 k octets piece noted refl is_k is)
     (more no_marks (plain_groups w n) first (part 0 size octets) fed)
 
+-- what was read is what the codes tell
+pub read_items : (first : References) (fed : Fed References) (w n : ℕ) (os : List ℕ) → first.items.items ≡ [] → 3 ≤ vec_capacity first.items → n ≤ 3
+    → (was : WasFed ReferencesTook no_marks (plain_groups w n) first os fed) → fed.taker.items.items ≡ map number_of was.went.codes
+read_items first fed w n os empty memory few was =
+    let count : length was.went.codes ≤ 3 = omega (arith, was.went.taken.counted, values-cons (record { reference = 0; width = w; count = n }) []) in
+    let grown = was.went.passed (omega (arith, ap length empty)) in
+    grown.items ∙ ap (λ (us : List ℕ). us ++ map number_of was.went.codes) empty
+
+-- numbers that are whole were read
+pub numbers_read : (first : References) (fed : Fed References) (extra n j : ℕ) (os : List ℕ) → first.items.items ≡ [] → 3 ≤ vec_capacity first.items → n ≤ 3 → IsFeedable (2 ^ 32) fed → IsList (8 * extra) fed → IsCaughtUp fed
+    → WasFed ReferencesTook no_marks (plain_groups (8 * extra) n) first os fed → j < n → (j + 1) * extra ≤ length os → j < length fed.taker.items.items
+numbers_read first fed extra n j os empty memory few feedable list caught was within came =
+    let w = 8 * extra in
+    let codes = was.went.codes in
+    let taken = was.went.taken in
+    let current = fed.numbers.current in
+    let no_more = no_groups fed.table feedable.whole fed.numbers.next (omega (arith, list.all)) in
+    let left = ap (λ (gs : List Group). values (current ∷ gs)) no_more in
+    let packed = ap (λ (gs : List Group). packed_bits (current ∷ gs)) no_more in
+    let all = values-cons (record { reference = 0; width = w; count = n }) [] in
+    let items = ap length (read_items first fed w n os empty memory few was) in
+    let long = length-map codes number_of in
+    elim (cases_lt 0 (values (left_of fed.numbers (groups_in fed.table)))) [
+      | inl some ↦
+          let short = caught.waits some in
+          let rest = values-cons current [] in
+          let bits_left = packed_bits-cons current [] in
+          let bits_all = packed_bits-cons (record { reference = 0; width = w; count = n }) [] in
+          let used = taken.used some in
+          let counts : n ≡ length codes + current.count = omega (arith, taken.counted, all, left, rest) in
+          let width : current.count * current.width ≡ current.count * w = ap (λ (k : ℕ). current.count * k) list.current in
+          let product : n * w ≡ length codes * w + current.count * w = ap (λ (k : ℕ). k * w) counts ∙ add-mul (length codes) current.count w in
+          let size = length-bits os in
+          let pending : 8 * length os ≡ length codes * w + length fed.numbers.pending = omega (arith, used, packed, bits_left, bits_all, width, product, size) in
+          elim (cases_lt j (length codes)) [
+            | inl below ↦ omega (arith, items, long)
+            | inr past ↦
+                let up : (length codes + 1) * w ≤ (j + 1) * w = mul-le-mul_right w (omega arith) in
+                let eight : (j + 1) * w ≡ 8 * ((j + 1) * extra) = omega arith in
+                absurd (omega (arith, up, eight, pending, short.short, list.current, came, add-mul (length codes) 1 w))
+          ]
+      | inr none ↦ omega (arith, taken.counted, all, items, long)
+    ]
+
 -- what was read are the first of the numbers of each section that continues
 pub record ReadNumbers (items numbers : List ℕ) : Type 0 where
   pub more : List ℕ
@@ -240,9 +285,7 @@ module _ (first : References) (fed : Fed References) (order extra l : ℕ) (all 
       ∙ ap (λ (os : List ℕ). codes_from no_marks groups (bits os)) front
       ∙ ap (codes_from no_marks groups) (bits-append (part 0 k all) tail)
       ∙ went.taken.agree (bits tail) in
-      let count : length went.codes ≤ 3 = omega (arith, went.taken.counted, values-cons (record { reference = 0; width = w; count = n }) []) in
-      let grown = went.passed (omega (arith, ap length empty)) in
-      let items : fed.taker.items.items ≡ map number_of went.codes = grown.items ∙ ap (λ (us : List ℕ). us ++ map number_of went.codes) empty in
+      let items = read_items first fed w n (part 0 k all) empty memory (omega arith) was in
       record {
         more = map number_of left;
         joined = ap (λ (us : List ℕ). us ++ map number_of left) items ∙ sym (map-append number_of went.codes left) ∙ ap (map number_of) (sym whole) ∙ numbers_present (numbers_at order extra xs);

@@ -1,6 +1,6 @@
 -- Lemmas on extra descriptors that come in pieces.
-use Rattle.std.proofs.Common.{◌≡◌, ℕ, ◌+◌, ◌*◌, ◌^◌, ◌<◌, ◌≤◌, Bool, false, cond, eqb, Some, None, List, [], ◌++◌, length, map, drop, refl, sym, ap, ap₂, ◌∙◌, arith, mul_comm, subst, inl, inr}
-use Rattle.std.proofs.lemmas.List.{length-append, length-drop, drop_all}
+use Rattle.std.proofs.Common.{◌≡◌, ℕ, zero, suc, ◌+◌, ◌*◌, ◌^◌, ◌<◌, ◌≤◌, Bool, false, cond, eqb, Some, None, List, [], ◌++◌, length, map, drop, refl, sym, ap, ap₂, ◌∙◌, arith, mul_comm, subst, inl, inr}
+use Rattle.std.proofs.lemmas.List.{length-append, length-drop, drop_all, take_all}
 use Rattle.grib_bits.specs.Bits.{bits}
 use Rattle.grib_bits.specs.Plain.{plain}
 use Rattle.grib_base.specs.declared.code.Code.{Code}
@@ -15,7 +15,7 @@ use Rattle.grib_packing.proofs.Fields.{length-plain}
 use Rattle.grib_groups.specs.declared.feeding.Fed.{Fed}
 use Rattle.grib_groups.specs.declared.list_feeding.FedLists.{FedLists}
 use Rattle.grib_groups.specs.declared.lists.References.{References}
-use Rattle.grib_groups.specs.Feeding.{part, AreFeedable, HasRoom, IsFeedable, ListsFed, WasFed, no_marks, plain_groups}
+use Rattle.grib_groups.specs.Feeding.{part, AreFeedable, HasRoom, IsCaughtUp, IsFeedable, IsList, ListsFed, WasFed, no_marks, plain_groups}
 use Rattle.grib_groups.specs.Lists.{ReferencesRoom, ReferencesTook}
 use Rattle.grib_groups.proofs.Pieces.{part_codes, part_enough, part_more, plain-front}
 use Rattle.grib_groups.proofs.Reading.{references_read}
@@ -23,11 +23,11 @@ use Rattle.grib_complex.specs.declared.noted.Told.{Told}
 use Rattle.grib_complex.specs.declared.representation.Complex.{Complex}
 use Rattle.grib_complex.specs.declared.stages.Beginning.{Beginning}
 use Rattle.grib_complex.specs.Descriptors.{AreTold, IsAccepted, descriptors_by, descriptors_in, descriptors_told, is_signed_at, is_signed_number, numbers_at, sign_fault}
-use Rattle.grib_complex.specs.Feeding.{BeginningAgrees, Continues, IsFaultOf, ListingAgrees}
+use Rattle.grib_complex.specs.Feeding.{AreClear, BeginningAgrees, Continues, IsFaultOf, ListingAgrees}
 use Rattle.grib_complex.specs.Told.{Telling, Plainly, After}
 use Rattle.grib_complex.proofs.Arriving.{signs_refuse}
-use Rattle.grib_complex.proofs.Begun.{descriptors_fed, read_numbers}
-use Rattle.grib_complex.proofs.NotedNumbers.{sign_stays, signed_is, told_by_numbers}
+use Rattle.grib_complex.proofs.Begun.{descriptors_fed, numbers_read, read_numbers}
+use Rattle.grib_complex.proofs.NotedNumbers.{among, sign_stays, signed_is, told_by_numbers}
 
 -- there are at most three of them
 pub few_orders : (complex : Complex) → IsAccepted complex → complex.order ≤ 2
@@ -56,8 +56,8 @@ module _ {K : Type 0} (s5 : List ℕ) (keeper : K) (l : ℕ) (octets piece : Lis
   fed_all = descriptors_fed k ((b.complex.order + 1) * b.complex.extra) (8 * b.complex.extra) (b.complex.order + 1) agrees.first octets piece noted b.descriptors after is_k is_part fed agrees.descriptors
 
   -- more of them came
-  pub begun_more : IsFeedable (2 ^ 32) after → HasRoom ReferencesRoom after 0 → length (octets ++ piece) ≤ (b.complex.order + 1) * b.complex.extra → BeginningAgrees s5 keeper l (octets ++ piece) (record b { descriptors = after })
-  begun_more feedable room below = record {
+  pub begun_more : IsFeedable (2 ^ 32) after → IsList (8 * b.complex.extra) after → HasRoom ReferencesRoom after 0 → length (octets ++ piece) ≤ (b.complex.order + 1) * b.complex.extra → BeginningAgrees s5 keeper l (octets ++ piece) (record b { descriptors = after })
+  begun_more feedable list room below = record {
     spelled = agrees.spelled;
     accepted = agrees.accepted;
     groups = agrees.groups;
@@ -69,6 +69,7 @@ module _ {K : Type 0} (s5 : List ℕ) (keeper : K) (l : ℕ) (octets piece : Lis
     memory = agrees.memory;
     descriptors = fed_all;
     feedable = feedable;
+    list = list;
     room = room;
     lists = agrees.lists;
     keeper_is = agrees.keeper_is;
@@ -88,6 +89,27 @@ module _ {K : Type 0} (s5 : List ℕ) (keeper : K) (l : ℕ) (octets piece : Lis
       ap₂ (λ (p q : Bool). cond p (Some (refusal (start + 5) FirstValueSign 1)) (cond q (Some (refusal (start + 5 + extra) FirstValueSign 2)) None))
       (signed_is s7 order extra c.known (long_enough s7 c) 0) (signed_is s7 order extra c.known (long_enough s7 c) 1) in
       signs_refuse b.complex s5 agrees.spelled agrees.accepted agrees.groups start s7 (omega (arith, agrees.within, c.long)) f (signs ∙ on_section)
+
+  -- those that are whole have not
+  pub signs_clear : IsFeedable (2 ^ 32) after → IsList (8 * b.complex.extra) after → IsCaughtUp after → length (octets ++ piece) ≤ (b.complex.order + 1) * b.complex.extra
+      → is_signed_number b.complex.order b.complex.extra after.taker.items.items 0 ≡ false → is_signed_number b.complex.order b.complex.extra after.taker.items.items 1 ≡ false
+      → AreClear b.complex.order b.complex.extra l (octets ++ piece)
+  signs_clear feedable list caught below first_clear second_clear = λ j under came s7 c.
+      let size = (order + 1) * extra in
+      let items = after.taker.items.items in
+      let as_long : length (part 0 size all) ≡ length all = ap length (take_all size all below) in
+      let read = read_numbers agrees.first after order extra l all s7 agrees.empty agrees.memory few (omega (arith, agrees.within)) c fed_all in
+      let among_them = numbers_read agrees.first after extra (order + 1) j (part 0 size all) agrees.empty agrees.memory (omega (arith, few)) feedable list caught fed_all (omega arith) (omega (arith, came, as_long)) in
+      signed_is s7 order extra c.known (long_enough s7 c) j
+      ∙ ap (λ (ns : List ℕ). is_signed_number order extra ns j) (sym read.joined)
+      ∙ sym (among order extra items read.more j among_them)
+      ∙ clear j (omega (arith, under, few)) first_clear second_clear
+    where
+      clear : (i : ℕ) → i < 2 → is_signed_number b.complex.order b.complex.extra after.taker.items.items 0 ≡ false → is_signed_number b.complex.order b.complex.extra after.taker.items.items 1 ≡ false
+          → is_signed_number b.complex.order b.complex.extra after.taker.items.items i ≡ false
+      clear zero below first_clear second_clear = first_clear
+      clear (suc zero) below first_clear second_clear = second_clear
+      clear (suc (suc i)) below first_clear second_clear = absurd (omega arith)
 
   module _ (whole : (b.complex.order + 1) * b.complex.extra ≤ length (octets ++ piece))
       (took : (layout : Layout) (groups : List Group) (start : References) (os : List ℕ) → WasFed ReferencesTook layout groups start os b.descriptors → packed_bits groups ≤ 8 * length (os ++ noted)

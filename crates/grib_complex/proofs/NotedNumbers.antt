@@ -129,7 +129,7 @@ abbrev second_signed : ℕ → ℕ → Option Fault
 second_signed start extra = Some (refusal (start + 5 + extra) FirstValueSign 2)
 
 module _ (order extra : ℕ) (items more : List ℕ) where
-  among : (j : ℕ) → j < length items → is_signed_number order extra items j ≡ is_signed_number order extra (items ++ more) j
+  pub among : (j : ℕ) → j < length items → is_signed_number order extra items j ≡ is_signed_number order extra (items ++ more) j
   among j below =
       let test : Bool → ℕ → Bool = λ b n. b && ltb j order && ltb 0 extra && ltb 127 (n / 2 ^ (8 * extra - 8)) in
       ap₂ test (lt-ltb j (length items) below ∙ sym (lt-ltb j (length (items ++ more)) (omega (arith, length-append items more)))) (sym (get_or_append_left items more 0 j below))

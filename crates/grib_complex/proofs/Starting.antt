@@ -17,7 +17,7 @@ use Rattle.grib_packing.proofs.Fields.{plain-add}
 use Rattle.grib_groups.specs.declared.feeding.Fed.{Fed}
 use Rattle.grib_groups.specs.declared.lists.Lists.{Lists as GroupLists}
 use Rattle.grib_groups.specs.declared.lists.References.{References}
-use Rattle.grib_groups.specs.Feeding.{HasRoom, IsFeedable, WasFed, no_marks, plain_groups}
+use Rattle.grib_groups.specs.Feeding.{HasRoom, IsFeedable, IsList, WasFed, no_marks, plain_groups}
 use Rattle.grib_groups.specs.Lists.{AreEmpty, ReferencesRoom, ReferencesTook}
 use Rattle.grib_groups.specs.Taking.{values}
 use Rattle.grib_groups.proofs.Pieces.{no_part, plain_codes, plain_packed}
@@ -134,9 +134,9 @@ module _ (s5 : List ℕ) (grouped : eqb (packing_template s5) 0 ≡ false) (none
 pub begins : {K : Type 0} (complex : Complex) (s5 : List ℕ) (l : ℕ) (first : References) (descriptors : Fed References) (lists : GroupLists) (keeper : K) → Spelled complex s5 → IsAccepted complex → 1 ≤ complex.layout.groups
     → complex.simple.values < 2 ^ 32 → 5 + (complex.order + 1) * complex.extra + list_octets complex.layout ≤ l
     → first.items.items ≡ [] → 3 ≤ vec_capacity first.items → WasFed ReferencesTook no_marks (plain_groups (8 * complex.extra) (complex.order + 1)) first [] descriptors
-    → IsFeedable (2 ^ 32) descriptors → HasRoom ReferencesRoom descriptors 0 → AreEmpty complex.layout complex.simple.values lists
+    → IsFeedable (2 ^ 32) descriptors → IsList (8 * complex.extra) descriptors → HasRoom ReferencesRoom descriptors 0 → AreEmpty complex.layout complex.simple.values lists
     → BeginningAgrees s5 keeper l [] (record { complex = complex; descriptors = descriptors; lists = lists; keeper = keeper })
-begins complex s5 l first descriptors lists keeper spelled accepted groups few within empty memory fed feedable room listed = record {
+begins complex s5 l first descriptors lists keeper spelled accepted groups few within empty memory fed feedable list room listed = record {
   spelled = spelled;
   accepted = accepted;
   groups = groups;
@@ -148,6 +148,7 @@ begins complex s5 l first descriptors lists keeper spelled accepted groups few w
   memory = memory;
   descriptors = subst (λ (os : List ℕ). WasFed ReferencesTook no_marks (plain_groups (8 * complex.extra) (complex.order + 1)) first os descriptors) (sym (no_part 0 ((complex.order + 1) * complex.extra))) fed;
   feedable = feedable;
+  list = list;
   room = room;
   lists = listed;
   keeper_is = refl;

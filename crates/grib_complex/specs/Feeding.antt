@@ -14,7 +14,7 @@ use Rattle.grib_packing.specs.Representation as simple
 use Rattle.grib_packing.specs.declared.column.Point.{Point}
 use Rattle.grib_groups.specs.declared.feeding.Fed.{Fed}
 use Rattle.grib_groups.specs.declared.lists.References.{References}
-use Rattle.grib_groups.specs.Feeding.{AreFeedable, HasRoom, IsFeedable, ListsFed, WasFed, list_pending, no_marks, part, pending_of, plain_groups}
+use Rattle.grib_groups.specs.Feeding.{AreFeedable, HasRoom, IsFeedable, IsList, ListsFed, WasFed, list_pending, no_marks, part, pending_of, plain_groups}
 use Rattle.grib_groups.specs.Lists.{AreEmpty, ReferencesRoom, ReferencesTook}
 use Rattle.grib_groups.specs.Taking.{IsEnd, values}
 use Rattle.grib_complex.specs.declared.stages.Beginning.{Beginning}
@@ -44,7 +44,11 @@ pub record Continues (octets : List ℕ) (l : ℕ) (s7 : List ℕ) : Type 0 wher
 abbrev pub IsFaultOf : List ℕ → ℕ → ℕ → List ℕ → Fault → Type 0
 IsFaultOf s5 start l octets fault = (s7 : List ℕ) → Continues octets l s7 → located start (data_fault s5 s7) ≡ Some fault
 
--- Not all octets of the extra descriptors came. No first value that did has its top bit set.
+-- No first value that is whole in these octets has its top bit set.
+abbrev pub AreClear : ℕ → ℕ → ℕ → List ℕ → Type 0
+AreClear order extra l octets = (j : ℕ) → j < order → (j + 1) * extra ≤ length octets → (s7 : List ℕ) → Continues octets l s7 → is_signed_at order extra s7 j ≡ false
+
+-- Not all octets of the extra descriptors came.
 pub record BeginningAgrees {K : Type 0} (s5 : List ℕ) (keeper : K) (l : ℕ) (octets : List ℕ) (beginning : Beginning K) : Type 0 where
   pub spelled : Spelled beginning.complex s5
   pub accepted : IsAccepted beginning.complex
@@ -57,6 +61,7 @@ pub record BeginningAgrees {K : Type 0} (s5 : List ℕ) (keeper : K) (l : ℕ) (
   pub memory : 3 ≤ vec_capacity first.items
   pub descriptors : WasFed ReferencesTook no_marks (plain_groups (8 * beginning.complex.extra) (beginning.complex.order + 1)) first (part 0 ((beginning.complex.order + 1) * beginning.complex.extra) octets) beginning.descriptors
   pub feedable : IsFeedable (2 ^ 32) beginning.descriptors
+  pub list : IsList (8 * beginning.complex.extra) beginning.descriptors
   pub room : HasRoom ReferencesRoom beginning.descriptors 0
   pub lists : AreEmpty beginning.complex.layout beginning.complex.simple.values beginning.lists
   pub keeper_is : beginning.keeper ≡ keeper
@@ -110,7 +115,7 @@ pub record PassingAgrees {K : Type 0} (kept : K → List Point → K → Type 0)
 
 abbrev pub StateAgrees : {K : Type 0} → (K → List Point → K → Type 0) → List ℕ → K → ℕ → ℕ → List ℕ → Option (State K) → Type 0
 StateAgrees kept s5 keeper start l octets None = ⊥
-StateAgrees kept s5 keeper start l octets (Some (Begins beginning)) = BeginningAgrees s5 keeper l octets beginning × (length octets < (beginning.complex.order + 1) * beginning.complex.extra)
+StateAgrees kept s5 keeper start l octets (Some (Begins beginning)) = BeginningAgrees s5 keeper l octets beginning × (length octets < (beginning.complex.order + 1) * beginning.complex.extra) × AreClear beginning.complex.order beginning.complex.extra l octets
 StateAgrees kept s5 keeper start l octets (Some (Lists between)) = ListingAgrees s5 keeper l octets octets between × (length octets < (between.complex.order + 1) * between.complex.extra + list_octets between.complex.layout)
 StateAgrees kept s5 keeper start l octets (Some (Reads fed)) = ReadingAgrees kept s5 keeper start l octets fed
 StateAgrees kept s5 keeper start l octets (Some (Passes after)) = PassingAgrees kept s5 keeper l octets after

@@ -63,6 +63,11 @@ pub record WasFed {S : Type 0} (took : S → List Code → S → Type 0) (layout
 abbrev pub pending_of : {S : Type 0} → Fed S → List Bool
 pending_of fed = fed.numbers.pending
 
+-- All numbers are of this width.
+pub record IsList {S : Type 0} (width : ℕ) (fed : Fed S) : Type 0 where
+  pub all : vec_len fed.table.lengths ≡ 0
+  pub current : fed.numbers.current.width ≡ width
+
 -- No further number ends in the octets that came.
 pub record IsCaughtUp {S : Type 0} (fed : Fed S) : Type 0 where
   pub waits : 0 < values (left_of fed.numbers (groups_in fed.table)) → IsShort fed.numbers

@@ -7,7 +7,7 @@ ghost use Rattle.grib_packing.specs.declared.layout.Layout.{Layout as layout_of_
 ghost use Rattle.grib_packing.specs.Groups.{codes_from, packed_bits};
 ghost use Rattle.grib_groups.specs.Taking.{values};
 ghost use Rattle.grib_groups.specs.Table.{groups_in, IsWhole, IsNarrow};
-ghost use Rattle.grib_groups.specs.Feeding.{HasRoom, IsCaughtUp, IsFeedable, WasFed, no_marks, plain_groups, part};
+ghost use Rattle.grib_groups.specs.Feeding.{HasRoom, IsCaughtUp, IsFeedable, IsList, WasFed, no_marks, plain_groups, part};
 
 use crate::lists::plain_layout;
 use crate::numbers::Numbers;
@@ -52,6 +52,7 @@ impl<T: RunTaker> Fed<T> {
         requires width { bits ≤ 48 }
         requires limit { 2 ^ bits ≤ T.Taker.limit }
         ensures feedable { IsFeedable T.Taker.limit result }
+        ensures list { IsList bits result }
         ensures room { (n : ℕ) → T.Taker.room taker (count + n) → HasRoom T.Taker.room result n }
         ensures fed { WasFed T.Taker.took no_marks (plain_groups bits count) taker [] result }
     {
@@ -76,6 +77,7 @@ impl<T: RunTaker> Fed<T> {
         ensures feedable { IsFeedable T.Taker.limit result }
         ensures room { (n : ℕ) → HasRoom T.Taker.room self n → HasRoom T.Taker.room result n }
         ensures caught_up { IsCaughtUp result }
+        ensures list { (width : ℕ) → IsList width self → IsList width result }
         ensures fed { (layout : layout_of_numbers) (groups : List group_of_numbers) (start : _) (octets : List ℕ)
             → WasFed T.Taker.took layout groups start octets self → WasFed T.Taker.took layout groups start (octets ++ piece.now) result }
         ensures took { (layout : layout_of_numbers) (groups : List group_of_numbers) (start : _) (octets : List ℕ)

@@ -67,7 +67,7 @@ push-requires-clause-begun g c =
       long = refl;
       agrees = begins complex s5 c.args.length (record { items = c.in_ok-with_capacity.field-0 }) c.list.result c.in_ok-start.field-0 c.args.keeper spelled c.requires.accepted (omega arith) (omega arith)
     (fits_within complex c.args.length c.skip.result c.lists_fit.result c.skip.ensures c.if-not-lists_fit.false c.lists_fit.ensures.0) c.in_ok-with_capacity.ensures.items (omega (arith, c.in_ok-with_capacity.ensures.capacity))
-    (subst (λ (n : ℕ). WasFed ReferencesTook no_marks (plain_groups (8 * complex.extra) (n + 1)) (record { items = c.in_ok-with_capacity.field-0 }) [] c.list.result) c.from-2.ensures c.list.ensures.fed) c.list.ensures.feedable
+    (subst (λ (n : ℕ). WasFed ReferencesTook no_marks (plain_groups (8 * complex.extra) (n + 1)) (record { items = c.in_ok-with_capacity.field-0 }) [] c.list.result) c.from-2.ensures c.list.ensures.fed) c.list.ensures.feedable c.list.ensures.list
     (c.list.ensures.room 0 (omega (arith, ap length c.in_ok-with_capacity.ensures.items, c.in_ok-with_capacity.ensures.capacity, c.from-2.ensures, few_orders complex c.requires.accepted))) c.in_ok-start.ensures;
     }
 
@@ -76,5 +76,5 @@ returns g c = λ s5 spelled.
     let complex = c.args.complex in
     c.push.ensures s5 c.args.keeper [] refl (λ i. omega arith) (begins complex s5 c.args.length (record { items = c.in_ok-with_capacity.field-0 }) c.list.result c.in_ok-start.field-0 c.args.keeper spelled c.requires.accepted (omega arith) (omega arith)
     (fits_within complex c.args.length c.skip.result c.lists_fit.result c.skip.ensures c.if-not-lists_fit.false c.lists_fit.ensures.0) c.in_ok-with_capacity.ensures.items (omega (arith, c.in_ok-with_capacity.ensures.capacity))
-    (subst (λ (n : ℕ). WasFed ReferencesTook no_marks (plain_groups (8 * complex.extra) (n + 1)) (record { items = c.in_ok-with_capacity.field-0 }) [] c.list.result) c.from-2.ensures c.list.ensures.fed) c.list.ensures.feedable
+    (subst (λ (n : ℕ). WasFed ReferencesTook no_marks (plain_groups (8 * complex.extra) (n + 1)) (record { items = c.in_ok-with_capacity.field-0 }) [] c.list.result) c.from-2.ensures c.list.ensures.fed) c.list.ensures.feedable c.list.ensures.list
     (c.list.ensures.room 0 (omega (arith, ap length c.in_ok-with_capacity.ensures.items, c.in_ok-with_capacity.ensures.capacity, c.from-2.ensures, few_orders complex c.requires.accepted))) c.in_ok-start.ensures)

@@ -8,7 +8,7 @@ use Rattle.grib_bits.specs.Bits.{bits}
 use Rattle.grib_bits.proofs.OctetNumbers.{AreOctets-known}
 use Rattle.grib_complex.specs.Descriptors.{is_signed_number, sign_fault, AreTold}
 use Rattle.grib_complex.proofs.Begun.{both_octets}
-use Rattle.grib_complex.proofs.Described.{begins_list, begun_more, few_orders, numbers_are, sign_refuses}
+use Rattle.grib_complex.proofs.Described.{begins_list, begun_more, few_orders, numbers_are, sign_refuses, signs_clear}
 use Rattle.grib_complex.proofs.NotedNumbers.{no_sign, numbers_small}
 use Rattle.grib_complex.proofs.stages.Beginning.push.Goals as goal
 
@@ -25,8 +25,21 @@ pub returns-then-before-piece : goal.returns-then-before-piece
 returns-then-before-piece g c = λ s5 keeper octets long known agrees.
     let is_k = c.from-2.ensures ∙ c.skip-skip.ensures in
     let short : length (octets ++ c.args.piece.now) < (c.args.self.complex.order + 1) * c.args.self.complex.extra = omega (arith, length-append octets c.args.piece.now, long, c.if-before-piece.true, c.skip-skip.ensures) in
-    (begun_more s5 keeper c.args.length octets c.args.piece.now c.args.self c.from-2.result c.part_of-part.result.now c.push-descriptors.result is_k
-    (c.part_of-part.ensures.part octets (long ∙ sym c.from.ensures)) c.push-descriptors.ensures.fed agrees c.push-descriptors.ensures.feedable (c.push-descriptors.ensures.room 0 c.requires.begun.agrees.room) (omega (arith, short)), short)
+    let b = c.args.self in
+    let order = b.complex.order in
+    let extra = b.complex.extra in
+    let is_part = c.part_of-part.ensures.part octets (long ∙ sym c.from.ensures) in
+    let list = c.push-descriptors.ensures.list (8 * extra) agrees.list in
+    let none = sym c.signed_fault.ensures ∙ c.in_default.is in
+    let clear = no_sign (is_signed_number order extra c.deref.result.now 0) (is_signed_number order extra c.deref.result.now 1) (refusal (c.args.start + 5) FirstValueSign 1) (refusal (c.args.start + 5 + extra) FirstValueSign 2) none in
+    let items = c.deref.ensures.value ∙ ap (λ t. t.items.items) c.taker.ensures in (
+      begun_more s5 keeper c.args.length octets c.args.piece.now b c.from-2.result c.part_of-part.result.now c.push-descriptors.result is_k is_part c.push-descriptors.ensures.fed agrees
+          c.push-descriptors.ensures.feedable list (c.push-descriptors.ensures.room 0 agrees.room) (omega (arith, short)),
+      short,
+      signs_clear s5 keeper c.args.length octets c.args.piece.now b c.from-2.result c.part_of-part.result.now c.push-descriptors.result is_k is_part c.push-descriptors.ensures.fed agrees
+          c.push-descriptors.ensures.feedable list c.push-descriptors.ensures.caught_up (omega (arith, short))
+          (ap (λ (ns : List ℕ). is_signed_number order extra ns 0) (sym items) ∙ clear.0) (ap (λ (ns : List ℕ). is_signed_number order extra ns 1) (sym items) ∙ clear.1),
+    )
 
 pub of-requires-clause-all : goal.of-requires-clause-all
 of-requires-clause-all g c =

@@ -1,4 +1,4 @@
-use Rattle.std.proofs.Common.{◌+◌, ◌++◌, arith}
+use Rattle.std.proofs.Common.{◌+◌, ◌++◌, ◌∙◌, arith}
 use Rattle.grib_groups.specs.declared.feeding.Fed.{Fed}
 use Rattle.grib_groups.specs.Going.{left_of}
 use Rattle.grib_groups.specs.Table.{groups_in}
@@ -27,3 +27,6 @@ returns-clause-took g c = λ layout groups start octets fed enough.
     let after : Fed g.row.T.Denot = record { layout = c.args.self.layout; table = c.args.self.table; numbers = c.push-taker.new.self; taker = c.push-taker.result } in
     fed_done g.T.Taker.took g.met.T.Taker.none g.met.T.Taker.more layout groups start (octets ++ c.args.piece.now) after
     (fed_more g.T.Taker.took g.met.T.Taker.none g.met.T.Taker.more layout groups start octets c.args.piece.now c.args.self c.push-taker.new.self c.push-taker.result fed c.push-taker.ensures.goes) c.push-taker.ensures.waits enough
+
+pub returns-clause-list : goal.returns-clause-list
+returns-clause-list g c = λ width list. record { all = list.all; current = c.push-taker.ensures.width list.all ∙ list.current }
