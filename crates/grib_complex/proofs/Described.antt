@@ -85,7 +85,7 @@ module _ {K : Type 0} (s5 : List ℕ) (keeper : K) (l : ℕ) (octets piece : Lis
       let read = read_numbers agrees.first after order extra l all s7 agrees.empty agrees.memory few (omega (arith, agrees.within)) c fed_all in
       let on_section = subst (λ (ns : List ℕ). sign_fault start order extra ns ≡ Some f) read.joined (sign_stays order extra items read.more start f is) in
       let signs : cond (is_signed_at order extra s7 0) (Some (refusal (start + 5) FirstValueSign 1)) (cond (is_signed_at order extra s7 1) (Some (refusal (start + 5 + extra) FirstValueSign 2)) None)
-          ≡ sign_fault start order extra (numbers_at order extra (drop 5 s7)) =
+      ≡ sign_fault start order extra (numbers_at order extra (drop 5 s7)) =
       ap₂ (λ (p q : Bool). cond p (Some (refusal (start + 5) FirstValueSign 1)) (cond q (Some (refusal (start + 5 + extra) FirstValueSign 2)) None))
       (signed_is s7 order extra c.known (long_enough s7 c) 0) (signed_is s7 order extra c.known (long_enough s7 c) 1) in
       signs_refuse b.complex s5 agrees.spelled agrees.accepted agrees.groups start s7 (omega (arith, agrees.within, c.long)) f (signs ∙ on_section)
@@ -158,8 +158,8 @@ module _ {K : Type 0} (s5 : List ℕ) (keeper : K) (l : ℕ) (octets piece : Lis
               let same : descriptors_in told ≡ descriptors_by order extra s7 = are.descriptors ∙ numbers ∙ told_by_numbers s7 order extra c.known (long_enough s7 c) in
               ap (λ (d : Descriptors). cond (eqb d.order 0) Plainly (After d NoNumber)) same;
           unsigned = λ s7 c. (
-              signed_is s7 order extra c.known (long_enough s7 c) 0 ∙ ap (λ (ns : List ℕ). is_signed_number order extra ns 0) (section_numbers s7 c) ∙ first_clear,
-              signed_is s7 order extra c.known (long_enough s7 c) 1 ∙ ap (λ (ns : List ℕ). is_signed_number order extra ns 1) (section_numbers s7 c) ∙ second_clear,
+            signed_is s7 order extra c.known (long_enough s7 c) 0 ∙ ap (λ (ns : List ℕ). is_signed_number order extra ns 0) (section_numbers s7 c) ∙ first_clear,
+            signed_is s7 order extra c.known (long_enough s7 c) 1 ∙ ap (λ (ns : List ℕ). is_signed_number order extra ns 1) (section_numbers s7 c) ∙ second_clear,
           );
           lists = subst (λ (os : List ℕ). ListsFed b.complex.layout b.complex.simple.values os lists) (sym (drop_all size octets agrees.below)) listed;
           feedable = feedable;

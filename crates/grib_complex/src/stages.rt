@@ -28,7 +28,9 @@ use crate::representation::Complex;
 use crate::telling::Teller;
 use crate::values::Values;
 use grib_base::{Fault, Reason};
-use grib_groups::{Fed, FedLists, Lists, References, Table, lists_fit, octets_of_lists, part_of, rest_of};
+use grib_groups::{
+    Fed, FedLists, Lists, References, Table, lists_fit, octets_of_lists, part_of, rest_of,
+};
 use grib_packing::Simple;
 use grib_simple::is_too_short;
 use std::alloc::{AllocError, Global};
@@ -166,14 +168,7 @@ fn start_grouped<K: Keeper + Drop>(
 
 impl<K: Keeper + Drop> State<K> {
     /// Reads the next octets, where this many came before.
-    pub fn push(
-        self,
-        alloc: Global,
-        piece: &[u8],
-        before: u32,
-        start: u64,
-        length: u32,
-    ) -> State<K>
+    pub fn push(self, alloc: Global, piece: &[u8], before: u32, start: u64, length: u32) -> State<K>
         requires fed { IsFedState K.kept start length before self }
         requires within { 5 + before + length_of piece.now ≤ length }
         ensures { (s5 : List ℕ) (keeper : _) (octets : List ℕ) → length_of octets ≡ before → AreOctets octets → StateAgrees K.kept s5 keeper start length octets (Some self)
@@ -192,14 +187,7 @@ impl<K: Keeper + Drop> State<K> {
 impl<K: Keeper + Drop> Beginning<K> {
     /// Reads the next octets, where this many came before, and goes on to the lists where the descriptors are
     /// whole. A first value is tried as soon as it is.
-    fn push(
-        self,
-        alloc: Global,
-        piece: &[u8],
-        before: u32,
-        start: u64,
-        length: u32,
-    ) -> State<K>
+    fn push(self, alloc: Global, piece: &[u8], before: u32, start: u64, length: u32) -> State<K>
         requires low { 1 ≤ start }
         requires high { start ≤ 268435456 }
         requires begun { CanBegin length before self }
@@ -240,14 +228,7 @@ impl<K: Keeper + Drop> Beginning<K> {
 impl<K: Keeper + Drop> Between<K> {
     /// Reads the next octets, where this many came before, and goes on to the packed numbers where the lists
     /// are whole.
-    fn push(
-        self,
-        alloc: Global,
-        piece: &[u8],
-        before: u32,
-        start: u64,
-        length: u32,
-    ) -> State<K>
+    fn push(self, alloc: Global, piece: &[u8], before: u32, start: u64, length: u32) -> State<K>
         requires low { 1 ≤ start }
         requires high { start ≤ 268435456 }
         requires begun { CanList length before piece.now self }

@@ -40,14 +40,17 @@ returns-then-complex-eq0 g c = λ s5 spelled.
     (zero_entries s5 grouped none n spelled.simple.values) (λ s7 long. zero_passes s5 grouped none s7)
 
 pub returns-then-not-lists_fit : goal.returns-then-not-lists_fit
-returns-then-not-lists_fit g c = λ s5 spelled. (λ s7 continues.
-    let complex = c.args.complex in
-    let short : c.args.length < 5 + (complex.order + 1) * complex.extra + list_octets complex.layout = elim (cases_lt c.args.length (5 + (complex.order + 1) * complex.extra + list_octets complex.layout)) [
-      | inl below ↦ below
-      | inr enough ↦ apart (sym c.if-not-lists_fit.true ∙ c.lists_fit.ensures.1 (lists_pass complex.layout c.args.length c.skip.result (omega (arith, c.skip.ensures, enough))))
-    ] in
-    lists_refused complex s5 c.args.start c.args.length spelled c.requires.accepted (omega arith) short s7 continues.long
-    ∙ sym (ap Some (c.at-fault.ensures ∙ ap (λ (n : ℕ). refusal c.args.start DataTooShort n) c.from.ensures)), refl)
+returns-then-not-lists_fit g c = λ s5 spelled. (
+  λ s7 continues.
+      let complex = c.args.complex in
+      let short : c.args.length < 5 + (complex.order + 1) * complex.extra + list_octets complex.layout = elim (cases_lt c.args.length (5 + (complex.order + 1) * complex.extra + list_octets complex.layout)) [
+        | inl below ↦ below
+        | inr enough ↦ apart (sym c.if-not-lists_fit.true ∙ c.lists_fit.ensures.1 (lists_pass complex.layout c.args.length c.skip.result (omega (arith, c.skip.ensures, enough))))
+      ] in
+      lists_refused complex s5 c.args.start c.args.length spelled c.requires.accepted (omega arith) short s7 continues.long
+      ∙ sym (ap Some (c.at-fault.ensures ∙ ap (λ (n : ℕ). refusal c.args.start DataTooShort n) c.from.ensures)),
+  refl,
+)
 
 pub list-requires-clause-limit : goal.list-requires-clause-limit
 list-requires-clause-limit g c =
@@ -66,9 +69,9 @@ push-requires-clause-begun g c =
       known = λ i. omega arith;
       long = refl;
       agrees = begins complex s5 c.args.length (record { items = c.in_ok-with_capacity.field-0 }) c.list.result c.in_ok-start.field-0 c.args.keeper spelled c.requires.accepted (omega arith) (omega arith)
-    (fits_within complex c.args.length c.skip.result c.lists_fit.result c.skip.ensures c.if-not-lists_fit.false c.lists_fit.ensures.0) c.in_ok-with_capacity.ensures.items (omega (arith, c.in_ok-with_capacity.ensures.capacity))
-    (subst (λ (n : ℕ). WasFed ReferencesTook no_marks (plain_groups (8 * complex.extra) (n + 1)) (record { items = c.in_ok-with_capacity.field-0 }) [] c.list.result) c.from-2.ensures c.list.ensures.fed) c.list.ensures.feedable c.list.ensures.list
-    (c.list.ensures.room 0 (omega (arith, ap length c.in_ok-with_capacity.ensures.items, c.in_ok-with_capacity.ensures.capacity, c.from-2.ensures, few_orders complex c.requires.accepted))) c.in_ok-start.ensures;
+          (fits_within complex c.args.length c.skip.result c.lists_fit.result c.skip.ensures c.if-not-lists_fit.false c.lists_fit.ensures.0) c.in_ok-with_capacity.ensures.items (omega (arith, c.in_ok-with_capacity.ensures.capacity))
+          (subst (λ (n : ℕ). WasFed ReferencesTook no_marks (plain_groups (8 * complex.extra) (n + 1)) (record { items = c.in_ok-with_capacity.field-0 }) [] c.list.result) c.from-2.ensures c.list.ensures.fed) c.list.ensures.feedable c.list.ensures.list
+          (c.list.ensures.room 0 (omega (arith, ap length c.in_ok-with_capacity.ensures.items, c.in_ok-with_capacity.ensures.capacity, c.from-2.ensures, few_orders complex c.requires.accepted))) c.in_ok-start.ensures;
     }
 
 pub returns : goal.returns

@@ -17,9 +17,11 @@ returns-in-Some g c = λ s5 keeper octets long known agrees.
     let b = c.args.self in
     let is_k = c.from-2.ensures ∙ c.skip-skip.ensures in
     let numbers = c.deref.ensures.value ∙ ap (λ t. t.items.items) c.taker.ensures in
-    let is = ap (λ (ns : List ℕ). sign_fault c.args.start b.complex.order b.complex.extra ns) (sym numbers) ∙ sym c.signed_fault.ensures ∙ c.in-Some.is in
-    (sign_refuses s5 keeper c.args.length octets c.args.piece.now b c.from-2.result c.part_of-part.result.now c.push-descriptors.result is_k
-    (c.part_of-part.ensures.part octets (long ∙ sym c.from.ensures)) c.push-descriptors.ensures.fed agrees c.args.start c.in-Some.fault is, agrees.keeper_is)
+    let is = ap (λ (ns : List ℕ). sign_fault c.args.start b.complex.order b.complex.extra ns) (sym numbers) ∙ sym c.signed_fault.ensures ∙ c.in-Some.is in (
+      sign_refuses s5 keeper c.args.length octets c.args.piece.now b c.from-2.result c.part_of-part.result.now c.push-descriptors.result is_k
+          (c.part_of-part.ensures.part octets (long ∙ sym c.from.ensures)) c.push-descriptors.ensures.fed agrees c.args.start c.in-Some.fault is,
+      agrees.keeper_is,
+    )
 
 pub returns-then-before-piece : goal.returns-then-before-piece
 returns-then-before-piece g c = λ s5 keeper octets long known agrees.

@@ -62,19 +62,22 @@ fault-requires-clause-read g c =
     }
 
 pub returns-in-Some : goal.returns-in-Some
-returns-in-Some g c = λ s5 keeper octets agrees is_numbers whole. (λ s7 continues.
-    let b = c.args.self in
-    let layout = b.complex.layout in
-    let k = (b.complex.order + 1) * b.complex.extra in
-    let count = b.complex.simple.values in
-    let os = drop k octets in
-    let rs = references layout os in
-    let ws = widths layout os in
-    let ls = lengths layout os in
-    let are = c.finish-lists.ensures count os agrees.lists (long_lists s5 keeper c.args.length octets b agrees whole) in
-    let is = ap (λ (n : ℕ). lists_fault layout c.args.start n c.args.length count rs ws ls) (sym c.skip.ensures) ∙ sym (c.fault.ensures count rs ws ls agrees.few are) ∙ c.in-Some.is in
-    came_refused b.complex s5 agrees.spelled agrees.accepted agrees.groups c.args.start c.args.length octets s7 continues agrees.within whole s7 (front_of k octets c.args.length s7 agrees.came continues)
-    (clear s5 keeper c.args.length octets b agrees s7 continues) c.in-Some.fault is, agrees.keeper_is)
+returns-in-Some g c = λ s5 keeper octets agrees is_numbers whole. (
+  λ s7 continues.
+      let b = c.args.self in
+      let layout = b.complex.layout in
+      let k = (b.complex.order + 1) * b.complex.extra in
+      let count = b.complex.simple.values in
+      let os = drop k octets in
+      let rs = references layout os in
+      let ws = widths layout os in
+      let ls = lengths layout os in
+      let are = c.finish-lists.ensures count os agrees.lists (long_lists s5 keeper c.args.length octets b agrees whole) in
+      let is = ap (λ (n : ℕ). lists_fault layout c.args.start n c.args.length count rs ws ls) (sym c.skip.ensures) ∙ sym (c.fault.ensures count rs ws ls agrees.few are) ∙ c.in-Some.is in
+      came_refused b.complex s5 agrees.spelled agrees.accepted agrees.groups c.args.start c.args.length octets s7 continues agrees.within whole s7 (front_of k octets c.args.length s7 agrees.came continues)
+      (clear s5 keeper c.args.length octets b agrees s7 continues) c.in-Some.fault is,
+  agrees.keeper_is,
+)
 
 pub is_steady-requires-clause-whole : goal.is_steady-requires-clause-whole
 is_steady-requires-clause-whole g c =
