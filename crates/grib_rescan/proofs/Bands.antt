@@ -1,11 +1,12 @@
 -- Points that stand column by column, and their rows.
-use Rattle.std.proofs.Common.{◌≡◌, ℕ, zero, suc, ◌+◌, ◌-◌, ◌*◌, ◌<◌, true, List, ◌∷◌, ◌++◌, min, map, refl, sym, ap, ap₂, ◌∙◌, arith, append_assoc}
+use Rattle.std.proofs.Common.{◌≡◌, ℕ, zero, suc, ◌+◌, ◌-◌, ◌*◌, ◌<◌, true, false, List, ◌∷◌, ◌++◌, min, map, refl, sym, ap, ap₂, ◌∙◌, arith, append_assoc}
 use Rattle.std.specs.List.{range_with_len, flat_map}
 use Rattle.std.proofs.lemmas.List.Concat.{flat_map-append}
 use Rattle.grib_packing.specs.declared.column.Point.{Point}
 use Rattle.grib_rescan.specs.declared.scanning.Scanning.{Scanning}
-use Rattle.grib_rescan.specs.Scanning.{scanning_of, point_at, exchanged}
+use Rattle.grib_rescan.specs.Scanning.{scanning_of, turned, point_at, exchanged}
 use Rattle.grib_rescan.specs.Points.{point, row_of, rescanned_points}
+use Rattle.grib_rescan.proofs.Turns.{turned-lt}
 use Rattle.grib_rescan.proofs.Rows.{rows_more, box_at, rescanned_at}
 
 -- ---- rows that hold the same points
@@ -85,6 +86,25 @@ exchanged_rows s ni nj points columns =
     ∙ rescanned_at (exchanged s) nj ni points j i few small
     ∙ ap (point points) place
     ∙ ap₂ (λ k l. point points (point_at s ni nj k l)) column row))
+
+-- ---- columns that go the same way as rows, in their order from the north once they are made
+
+pub by_rows : Scanning → Scanning
+by_rows s = record { westward = s.westward; northward = s.northward; by_columns = false; alternates = s.alternates }
+
+pub rows_of_columns : (s : Scanning) (ni nj : ℕ) (points : List Point) → s.by_columns ≡ true → s.alternates ≡ false
+    → rescanned_points (by_rows s) ni nj (rescanned_points (scanning_of 0x20) ni nj points) ≡ rescanned_points s ni nj points
+rows_of_columns s ni nj points columns one_way =
+    let made = rescanned_points (scanning_of 0x20) ni nj points in
+    rows_same (row_of (by_rows s) ni nj made 0 ni) (row_of s ni nj points 0 ni) 0 0 nj
+    (λ j few. row_same (λ i. point made (point_at (by_rows s) ni nj i (0 + j))) (λ i. point points (point_at s ni nj i (0 + j))) 0 ni
+    (λ i small. let column = turned s.westward ni (0 + i) in
+    let row = turned s.northward nj (0 + j) in
+    let here : point_at (by_rows s) ni nj (0 + i) (0 + j) ≡ row * ni + column = rw one_way refl in
+    let there : point_at (scanning_of 0x20) ni nj column row ≡ point_at s ni nj (0 + i) (0 + j) = rw (columns, one_way) refl in
+    ap (point made) here
+    ∙ rescanned_at (scanning_of 0x20) ni nj points column row (turned-lt s.westward ni (0 + i) (omega (arith, small))) (turned-lt s.northward nj (0 + j) (omega (arith, few)))
+    ∙ ap (point points) there))
 
 -- ---- how many rows are done
 

@@ -57,7 +57,7 @@ pub record IsRead (s : Scanning) (ni nj : ℕ) (points : List Point) (j row : �
   pub row_stands : row ≡ turned s.northward nj j
   pub turns_stand : turns ≡ (s.alternates && is_odd row)
 
-row_within : (ni nj row size : ℕ) → row < nj → size ≡ ni * nj → row * ni + ni ≤ size
+pub row_within : (ni nj row size : ℕ) → row < nj → size ≡ ni * nj → row * ni + ni ≤ size
 row_within ni nj row size small is =
     let h : (row + 1) * ni ≤ nj * ni = mul-le-mul_right ni (omega (arith, small)) in
     omega (arith, h, is, mul_comm ni nj)

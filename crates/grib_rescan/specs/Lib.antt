@@ -1,5 +1,6 @@
 pub mod Scanning
 pub mod Points
+pub mod Source
 pub mod Sections
 pub mod Causes
 pub mod Worked

@@ -1,11 +1,12 @@
 //! The points of a grid in another order, and those of a box.
 
-ghost use Rattle.std.specs.Prelude.{◌≡◌, ◌+◌, ◌-◌, ◌*◌, ◌%◌, ◌<◌, ◌≤◌, ◌++◌, ◌==◌, ◌&&◌, cond, true, false, length, take, drop, reverse, OnOk, IfOk};
+ghost use Rattle.std.specs.Prelude.{◌≡◌, ◌+◌, ◌-◌, ◌*◌, ◌%◌, ◌^◌, ◌<◌, ◌≤◌, ◌++◌, ◌==◌, ◌&&◌, cond, true, false, length, take, drop, reverse, OnOk, IfOk};
 ghost use Rattle.std.specs.List.{range_with_len, flat_map};
 ghost use Rattle.grib_rescan.specs.Scanning.{turned, is_odd, scanning_of};
 ghost use Rattle.grib_rescan.specs.Points.{IsBox, row_of, rescanned_points, cropped_points};
 
 use crate::scanning::{Scanning, turn};
+use crate::source::{GridPoints, Listed};
 use grib_packing::Point;
 use std::alloc::{AllocError, Global};
 
@@ -42,9 +43,38 @@ pub fn rescan_points(
     let (columns, rows) = (ni as usize, nj as usize);
     if scanning.by_columns {
         order_rows(&mut points, scanning.exchanged(), rows, columns);
-        return transpose(alloc, &points, columns, rows);
+        return transpose(alloc, &Listed { points: &points }, columns, rows);
     }
     order_rows(&mut points, scanning, columns, rows);
+    Ok(points)
+}
+
+/// The points of a grid of `ni` columns and `nj` rows in the order of scanning octet 0, where the points of a
+/// column are consecutive, and go the same way in all of them. Each is read once, and there is one list.
+///
+/// # Errors
+///
+/// There is no memory for them.
+pub fn rescan_columns<P: GridPoints>(
+    alloc: Global,
+    points: &P,
+    scanning: Scanning,
+    ni: u32,
+    nj: u32,
+) -> Result<Vec<Point>, AllocError>
+    requires stands { P.stands points.now }
+    requires length { length (P.points points.now) ≡ ni * nj }
+    requires by_columns { scanning.by_columns ≡ true }
+    requires one_way { scanning.alternates ≡ false }
+    ensures { IfOk result (λ rescanned. rescanned.items ≡ rescanned_points scanning ni nj (P.points points.now)) }
+{
+    let (columns, rows) = (ni as usize, nj as usize);
+    let mut points = transpose(alloc, points, columns, rows)?;
+    let by_rows = Scanning {
+        by_columns: false,
+        ..scanning
+    };
+    order_rows(&mut points, by_rows, columns, rows);
     Ok(points)
 }
 
@@ -82,17 +112,19 @@ fn turn_rows(points: &mut [Point], scanning: Scanning, columns: usize, rows: usi
 
 /// The points row by row, where they stand column by column, and each column goes from the north. Some rows
 /// at a time are taken out of all columns, so that what is read of a column is consecutive.
-fn transpose(
+fn transpose<P: GridPoints>(
     alloc: Global,
-    points: &[Point],
+    points: &P,
     columns: usize,
     rows: usize,
 ) -> Result<Vec<Point>, AllocError>
-    requires { length points.now ≡ columns * rows }
+    requires stands { P.stands points.now }
+    requires length { length (P.points points.now) ≡ columns * rows }
+    requires few { columns * rows < 2 ^ 64 }
     ensures { IfOk result (λ transposed. transposed.items
-        ≡ rescanned_points (scanning_of 0x20) columns rows points.now) }
+        ≡ rescanned_points (scanning_of 0x20) columns rows (P.points points.now)) }
 {
-    let mut transposed = Vec::with_capacity(alloc, points.len())?;
+    let mut transposed = Vec::with_capacity(alloc, columns * rows)?;
     let mut band = Vec::new(alloc);
     for number in 0..rows.div_ceil(BAND_ROWS) {
         let first = number * BAND_ROWS;
@@ -105,22 +137,23 @@ fn transpose(
 }
 
 /// Adds the points of each column that lie in the `height` rows from `first` on.
-fn add_parts(
-    points: &[Point],
+fn add_parts<P: GridPoints>(
+    points: &P,
     columns: usize,
     rows: usize,
     first: usize,
     height: usize,
     out: &mut Vec<Point>,
 ) -> Result<(), AllocError>
-    requires length { length points.now ≡ columns * rows }
+    requires stands { P.stands points.now }
+    requires length { length (P.points points.now) ≡ columns * rows }
+    requires few { columns * rows < 2 ^ 64 }
     requires within { first + height ≤ rows }
     ensures { OnOk result (out.new.items ≡ out.old.items
-        ++ flat_map (row_of (scanning_of 0) rows columns points.now first height) (range_with_len 0 columns)) }
+        ++ flat_map (row_of (scanning_of 0) rows columns (P.points points.now) first height) (range_with_len 0 columns)) }
 {
     for column in 0..columns {
-        let start = column * rows + first;
-        out.extend_from_slice(&points[start..start + height])?;
+        points.add_to(column * rows + first, height, out)?;
     }
     Ok(())
 }
@@ -167,23 +200,24 @@ fn add_row(
 /// # Errors
 ///
 /// There is no memory for them.
-pub fn crop_points(
+pub fn crop_points<P: GridPoints>(
     alloc: Global,
-    points: &[Point],
+    points: &P,
     ni: u32,
     nj: u32,
     area: &Area,
 ) -> Result<Vec<Point>, AllocError>
-    requires length { length points.now ≡ ni * nj }
+    requires stands { P.stands points.now }
+    requires length { length (P.points points.now) ≡ ni * nj }
     requires within { IsBox area.now ni nj }
-    ensures { IfOk result (λ cropped. cropped.items ≡ cropped_points area.now ni nj points.now) }
+    ensures { IfOk result (λ cropped. cropped.items ≡ cropped_points area.now ni nj (P.points points.now)) }
 {
     let width = (area.i1 + 1 - area.i0) as usize;
     let height = (area.j1 + 1 - area.j0) as usize;
     let mut cropped = Vec::with_capacity(alloc, width * height)?;
     for row in area.j0..area.j1 + 1 {
         let start = row as usize * ni as usize + area.i0 as usize;
-        cropped.extend_from_slice(&points[start..start + width])?;
+        points.add_to(start, width, &mut cropped)?;
     }
     Ok(cropped)
 }

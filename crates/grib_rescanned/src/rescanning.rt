@@ -9,6 +9,7 @@ ghost use Rattle.grib_rescanned.specs.Faults.{IsRescanFault};
 ghost use Rattle.grib_rescanned.specs.declared.edit.GridEdit.TheVariants as edits;
 
 use crate::packing::pack_as;
+use crate::plain::plain_field;
 use crate::{GridEdit, RescanFault};
 use grib_packed::laws::one_packing_is_written;
 use grib_packing::{Column, PackFault, Packed};
@@ -146,6 +147,11 @@ fn edit_column(
     };
     if let Some(cause) = edit.cause(section3.octets) {
         return Err(RescanFault::of_grid(field, cause));
+    }
+    if edit.takes_numbers(section3.octets) {
+        if let Some(plain) = plain_field(alloc, message, field)? {
+            return Ok(edit.plain_column(alloc, section3.octets, &plain)?);
+        }
     }
     let column = message.column(alloc, field)?;
     Ok(edit.column(alloc, section3.octets, column)?)

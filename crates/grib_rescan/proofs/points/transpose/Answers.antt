@@ -8,19 +8,19 @@ use Rattle.grib_rescan.proofs.Bands.{rows_joined, band_rows, before_next, after_
 use Rattle.grib_rescan.proofs.points.transpose.Goals as goal
 
 pub add_rows-requires : goal.add_rows-requires
-add_rows-requires c =
+add_rows-requires g c =
     let first = c.loop-number.number * 16 in
     let height = c.min-height.result in
-    let band = flat_map (row_of (scanning_of 0) c.args.rows c.args.columns c.args.points.now first height) (range_with_len 0 c.args.columns) in
+    let band = flat_map (row_of (scanning_of 0) c.args.rows c.args.columns (g.P.GridPoints.points c.args.points.now) first height) (range_with_len 0 c.args.columns) in
     let is : c.deref.result.now ≡ band = c.deref.ensures.value ∙ c.in_ok-add_parts.ensures ∙ ap (λ xs. xs ++ band) c.clear.ensures.items in
-    ap length is ∙ box_length (scanning_of 0) c.args.rows c.args.columns c.args.points.now first height 0 c.args.columns
+    ap length is ∙ box_length (scanning_of 0) c.args.rows c.args.columns (g.P.GridPoints.points c.args.points.now) first height 0 c.args.columns
 
 pub loop-number-preserved : goal.loop-number-preserved
-loop-number-preserved c =
+loop-number-preserved g c =
     let number = c.loop-number.number in
     let first = number * 16 in
     let height = c.min-height.result in
-    let points = c.args.points.now in
+    let points = g.P.GridPoints.points c.args.points.now in
     let f = row_of (scanning_of 0x20) c.args.columns c.args.rows points 0 c.args.columns in
     let band = flat_map (row_of (scanning_of 0) c.args.rows c.args.columns points first height) (range_with_len 0 c.args.columns) in
     let is : c.deref.result.now ≡ band = c.deref.ensures.value ∙ c.in_ok-add_parts.ensures ∙ ap (λ xs. xs ++ band) c.clear.ensures.items in

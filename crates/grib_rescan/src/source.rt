@@ -1,0 +1,88 @@
+//! What the points of a grid are read from.
+
+ghost use Rattle.std.specs.Prelude.{◌≡◌, ◌+◌, ◌-◌, ◌*◌, ◌≤◌, ◌++◌, List, length, take, drop, map, pos, OnOk};
+ghost use Rattle.grib_bits.specs.Bits.{bits as bits_in};
+ghost use Rattle.grib_packing.specs.declared.column.Point.{Point as point};
+ghost use Rattle.grib_packing.specs.declared.column.Point.TheVariants.{Scaled};
+ghost use Rattle.grib_simple.specs.Part.{plain_from};
+ghost use Rattle.grib_rescan.specs.Source.{number_points, NumbersStand};
+
+use grib_bits::get_bits;
+use grib_packing::Point;
+use std::alloc::{AllocError, Global};
+
+/// What the points of a grid are read from, some of them at a time.
+pub trait GridPoints {
+    // all of them, in their order
+    ghost points: { Self → List point };
+
+    // what holds of it, so that they can be read
+    ghost stands: { Self → Type 0 };
+
+    /// Adds `count` of the points, from the one at `from` on, counted from 0.
+    fn add_to(&self, from: usize, count: usize, out: &mut Vec<Point>) -> Result<(), AllocError>
+        requires stands { stands self.now }
+        requires within { from + count ≤ length (points self.now) }
+        ensures { OnOk result (out.new.items ≡ out.old.items ++ take count (drop from (points self.now))) };
+}
+
+/// Points that stand in memory.
+#[derive(Clone, Copy, Debug)]
+pub struct Listed<'a> {
+    pub points: &'a [Point],
+}
+
+impl<'a> GridPoints for Listed<'a> {
+    ghost points = { λ listed. listed.points.now };
+
+    ghost stands = { λ _. Unit {0} };
+
+    #[inline]
+    fn add_to(&self, from: usize, count: usize, out: &mut Vec<Point>) -> Result<(), AllocError> {
+        out.extend_from_slice(&self.points[from..from + count])
+    }
+}
+
+/// Points whose scaled numbers stand one after another from the first bit of the octets on, each without sign in
+/// as many bits (WMO-No. 306, Volume I.2, FM 92 GRIB edition 2, data template 7.0).
+#[derive(Clone, Copy, Debug)]
+pub struct Numbers<'a> {
+    pub octets: &'a [u8],
+    /// How many bits each has, 48 at most.
+    pub bits: u32,
+    /// How many there are.
+    pub count: u32,
+}
+
+impl<'a> GridPoints for Numbers<'a> {
+    ghost points = { number_points };
+
+    ghost stands = { NumbersStand };
+
+    #[inline]
+    fn add_to(&self, from: usize, count: usize, out: &mut Vec<Point>) -> Result<(), AllocError> {
+        add_numbers(self.octets, self.bits, from as u32, (from + count) as u32, out)
+    }
+}
+
+/// Adds the points of the numbers of `bits` bits each from the one at `from` up to the one at `to`.
+#[inline]
+fn add_numbers(
+    octets: &[u8],
+    bits: u32,
+    from: u32,
+    to: u32,
+    out: &mut Vec<Point>,
+) -> Result<(), AllocError>
+    requires width { bits ≤ 48 }
+    requires within { to * bits ≤ 8 * length octets.now }
+    requires order { from ≤ to }
+    ensures { OnOk result (out.new.items ≡ out.old.items
+        ++ map (λ x. Scaled (pos x)) (plain_from (bits_in octets.now) bits from (to - from))) }
+{
+    for index in from..to {
+        let at = u64::from(index) * u64::from(bits);
+        out.push(Point::Scaled(get_bits(octets, at, bits) as i64))?;
+    }
+    Ok(())
+}
