@@ -29,7 +29,7 @@ rows_same f g a b (suc n) each =
     let after : b + 1 + k ≡ b + suc k = omega arith in
     ap f next ∙ each (suc k) (omega (arith, small)) ∙ ap g (sym after)))
 
-range_joined : (a n m : ℕ) → range_with_len a n ++ range_with_len (a + n) m ≡ range_with_len a (n + m)
+pub range_joined : (a n m : ℕ) → range_with_len a n ++ range_with_len (a + n) m ≡ range_with_len a (n + m)
 range_joined a zero m =
     let first : a + 0 ≡ a = omega arith in
     let size : zero + m ≡ m = omega arith in
@@ -89,7 +89,7 @@ exchanged_rows s ni nj points columns =
 
 -- ---- columns that go the same way as rows, in their order from the north once they are made
 
-pub by_rows : Scanning → Scanning
+abbrev pub by_rows : Scanning → Scanning
 by_rows s = record { westward = s.westward; northward = s.northward; by_columns = false; alternates = s.alternates }
 
 pub rows_of_columns : (s : Scanning) (ni nj : ℕ) (points : List Point) → s.by_columns ≡ true → s.alternates ≡ false

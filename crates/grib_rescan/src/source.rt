@@ -1,6 +1,6 @@
 //! What the points of a grid are read from.
 
-ghost use Rattle.std.specs.Prelude.{◌≡◌, ◌+◌, ◌-◌, ◌*◌, ◌≤◌, ◌++◌, List, length, take, drop, map, pos, OnOk};
+ghost use Rattle.std.specs.Prelude.{◌≡◌, ◌+◌, ◌*◌, ◌^◌, ◌<◌, ◌≤◌, ◌++◌, List, length, take, drop, map, pos, OnOk};
 ghost use Rattle.grib_bits.specs.Bits.{bits as bits_in};
 ghost use Rattle.grib_packing.specs.declared.column.Point.{Point as point};
 ghost use Rattle.grib_packing.specs.declared.column.Point.TheVariants.{Scaled};
@@ -61,28 +61,37 @@ impl<'a> GridPoints for Numbers<'a> {
 
     #[inline]
     fn add_to(&self, from: usize, count: usize, out: &mut Vec<Point>) -> Result<(), AllocError> {
-        add_numbers(self.octets, self.bits, from as u32, (from + count) as u32, out)
+        add_numbers(self.octets, self.bits, from, count, out)
     }
 }
 
-/// Adds the points of the numbers of `bits` bits each from the one at `from` up to the one at `to`.
+/// Adds the points of `count` numbers of `bits` bits each, from the one at `from` on, counted from 0.
 #[inline]
 fn add_numbers(
     octets: &[u8],
     bits: u32,
-    from: u32,
-    to: u32,
+    from: usize,
+    count: usize,
     out: &mut Vec<Point>,
 ) -> Result<(), AllocError>
     requires width { bits ≤ 48 }
-    requires within { to * bits ≤ 8 * length octets.now }
-    requires order { from ≤ to }
+    requires within { (from + count) * bits ≤ 8 * length octets.now }
+    requires short { from + count < 2 ^ 32 }
     ensures { OnOk result (out.new.items ≡ out.old.items
-        ++ map (λ x. Scaled (pos x)) (plain_from (bits_in octets.now) bits from (to - from))) }
+        ++ map (λ x. Scaled (pos x)) (plain_from (bits_in octets.now) bits from count)) }
 {
-    for index in from..to {
-        let at = u64::from(index) * u64::from(bits);
-        out.push(Point::Scaled(get_bits(octets, at, bits) as i64))?;
+    for index in from..from + count {
+        let at = index as u64 * u64::from(bits);
+        out.push(scaled_point(get_bits(octets, at, bits)))?;
     }
     Ok(())
+}
+
+/// The point with this scaled number.
+#[inline]
+fn scaled_point(number: u64) -> Point
+    requires { number < 2 ^ 48 }
+    ensures { result ≡ Scaled (pos number) }
+{
+    Point::Scaled(number as i64)
 }

@@ -1,28 +1,22 @@
-use Rattle.std.proofs.Common.{◌*◌, ◌<◌, ◌^◌, ℕ, pos, drop, ap₂, refl, sym, subst, arith}
+use Rattle.std.proofs.Common.{◌≡◌, ◌+◌, ◌-◌, ◌*◌, ◌<◌, ◌^◌, ◌++◌, ℕ, map, drop, ap, ◌∙◌, sym, subst, arith}
 use Rattle.grib_bits.specs.Bits.{bits}
 use Rattle.grib_bits.proofs.WordNumbers.{number-lt_48}
-use Rattle.grib_packing.specs.declared.column.Point.{Point}
-use Rattle.grib_packing.specs.declared.column.Point.TheVariants.{Scaled}
-use Rattle.grib_simple.proofs.Unpacking.{pushed, pushed_none, pushed_all}
+use Rattle.grib_simple.specs.Part.{plain_from}
+use Rattle.grib_rescan.proofs.Added.{scaled, number_added, none_added}
 use Rattle.grib_rescan.proofs.source.add_numbers.Goals as goal
 
-pub overflow_cast-get_bits : goal.overflow_cast-get_bits
-overflow_cast-get_bits c =
-    let small = subst (λ (n : ℕ). n < 2 ^ 48) (sym c.get_bits.ensures) (number-lt_48 c.args.bits (drop (c.from.result * c.from-in-loop-index.result) (bits c.args.octets.now)) c.requires.width) in
-    omega (arith, small)
+pub scaled_point-requires : goal.scaled_point-requires
+scaled_point-requires c = subst (λ (n : ℕ). n < 2 ^ 48) (sym c.get_bits.ensures) (number-lt_48 c.args.bits (drop (c.loop-index.index * c.from.result) (bits c.args.octets.now)) c.requires.width)
 
 pub loop-index-init : goal.loop-index-init
-loop-index-init c =
-    let f : ℕ → Point = λ x. Scaled (pos x) in
-    pushed_none f (bits c.args.octets.now) c.args.bits c.args.from c.args.out.now.items
+loop-index-init c = none_added (bits c.args.octets.now) c.args.bits c.args.from c.args.out.now.items
 
 pub loop-index-preserved : goal.loop-index-preserved
 loop-index-preserved c =
-    let f : ℕ → Point = λ x. Scaled (pos x) in
-    pushed f (bits c.args.octets.now) c.args.bits c.args.from c.loop-index.index _ _ _ c.args.out.now.items c.loop-index.out.items c.push.new.self.items
-    (omega arith) c.loop-index.invariant (ap₂ ◌*◌ c.from.ensures c.from-in-loop-index.ensures) c.get_bits.ensures refl c.in_ok-push.ensures.items
+    number_added (bits c.args.octets.now) c.args.bits c.args.from c.loop-index.index _ _ _ c.args.out.now.items c.loop-index.out.items c.push.new.self.items
+    (omega arith) c.loop-index.invariant (ap (λ (w : ℕ). c.loop-index.index * w) c.from.ensures) c.get_bits.ensures c.scaled_point.ensures c.in_ok-push.ensures.items
 
 pub returns : goal.returns
 returns c =
-    let f : ℕ → Point = λ x. Scaled (pos x) in
-    pushed_all f (bits c.args.octets.now) c.args.bits c.args.from c.loop-index.index c.args.to c.args.out.now.items c.loop-index.out.items (omega arith) c.loop-index.invariant
+    let last : c.loop-index.index - c.args.from ≡ c.args.count = omega arith in
+    c.loop-index.invariant ∙ ap (λ (n : ℕ). c.args.out.now.items ++ map scaled (plain_from (bits c.args.octets.now) c.args.bits c.args.from n)) last
