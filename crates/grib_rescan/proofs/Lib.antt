@@ -2,7 +2,7 @@ mod Turns
 mod Runs
 mod Turned
 mod Bands
-mod Added
+pub mod Added
 pub mod Rows
 mod Corners
 mod Octets

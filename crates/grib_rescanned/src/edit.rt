@@ -71,10 +71,11 @@ impl GridEdit {
     /// packed numbers: a box is cut out, or the points of a column are consecutive and go the same way in all of
     /// them.
     pub(crate) fn takes_numbers(&self, section3: &[u8]) -> bool
-        requires template { HasTemplate section3.now }
+        requires accepted { first_fault (grid_rows section3.now) ≡ None }
         requires uncaused { cause_of self.now section3.now ≡ None }
         ensures { result ≡ takes_numbers self.now section3.now }
     {
+        what_has_no_cause();
         match self {
             GridEdit::Rescan => u8_at(section3, 72) / 16 % 4 == 2,
             GridEdit::Crop(_) => true,
