@@ -1,16 +1,17 @@
 -- Points that are added one after another from packed numbers.
-use Rattle.std.proofs.Common.{◌≡◌, ℕ, ◌+◌, ◌-◌, ◌*◌, ◌≤◌, Bool, List, [], ◌∷◌, ◌++◌, length, take, drop, map, pos, refl, sym, ap, ap₂, ◌∙◌, arith, append_assoc}
+use Rattle.std.proofs.Common.{◌≡◌, ℕ, ◌+◌, ◌-◌, ◌*◌, ◌<◌, ◌≤◌, Bool, List, [], ◌∷◌, ◌++◌, length, take, get_or, drop, map, pos, refl, sym, ap, ap₂, ◌∙◌, arith, append_assoc}
 use Rattle.std.specs.List.{range_with_len}
 use Rattle.std.proofs.lemmas.List.{append-nil, map-append, length-map, drop_at, drop-take, drop-map, take-map}
-use Rattle.std.proofs.lemmas.List.FromFn.{map-range_with_len_more, length-map-range_with_len, take-map-range_with_len}
+use Rattle.std.proofs.lemmas.List.FromFn.{map-range_with_len_more, length-map-range_with_len, take-map-range_with_len, get_or-map-range_with_len}
 use Rattle.grib_bits.specs.Bits.{bits, num}
 use Rattle.grib_bits.specs.Plain.{plain, plain_at}
 use Rattle.grib_packing.specs.declared.column.Point.{Point}
-use Rattle.grib_packing.specs.declared.column.Point.TheVariants.{Scaled}
+use Rattle.grib_packing.specs.declared.column.Point.TheVariants.{Scaled, Missing}
 use Rattle.grib_simple.specs.Part.{plain_from}
 use Rattle.grib_rescan.specs.declared.source.Numbers.{Numbers}
+use Rattle.grib_rescan.specs.Points.{point}
 use Rattle.grib_rescan.specs.Source.{number_points}
-use Rattle.grib_rescan.proofs.Bands.{range_joined}
+use Rattle.grib_rescan.proofs.Columns.{range_joined}
 
 abbrev pub scaled : ℕ → Point
 scaled x = Scaled (pos x)
@@ -60,3 +61,14 @@ part_added numbers from count within =
     let g = plain_at (bits numbers.octets.now) numbers.bits in
     let all = map g (range_with_len 0 numbers.count) in
     sym (ap (take count) (drop-map scaled from all) ∙ take-map scaled count (drop from all) ∙ ap (map scaled) (part_of g from count numbers.count within))
+
+map_twice : (f : ℕ → Point) (g : ℕ → ℕ) (ks : List ℕ) → map f (map g ks) ≡ map (λ k. f (g k)) ks
+map_twice f g [] = refl
+map_twice f g (k ∷ ks) = ap (λ points. f (g k) ∷ points) (map_twice f g ks)
+
+pub number_at : (numbers : Numbers) (place : ℕ) → place < numbers.count → scaled (plain_at (bits numbers.octets.now) numbers.bits place) ≡ point (number_points numbers) place
+number_at numbers place within =
+    let g = plain_at (bits numbers.octets.now) numbers.bits in
+    let all = number_points numbers in
+    sym (ap (λ (points : List Point). get_or points place Missing) (map_twice scaled g (range_with_len 0 numbers.count))
+    ∙ get_or-map-range_with_len (λ (k : ℕ). scaled (g k)) 0 numbers.count place place Missing within (omega arith))

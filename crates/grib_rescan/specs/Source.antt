@@ -1,5 +1,5 @@
 -- The points of a grid as packed numbers.
-use Rattle.std.specs.Prelude.{ℕ, ◌*◌, ◌≤◌, List, length, map, pos}
+use Rattle.std.specs.Prelude.{◌*◌, ◌≤◌, List, length, map, pos}
 use Rattle.grib_bits.specs.Bits.{bits}
 use Rattle.grib_bits.specs.Plain.{plain}
 use Rattle.grib_packing.specs.declared.column.Point.{Point}

@@ -5,6 +5,7 @@ ghost use Rattle.grib_bits.specs.Bits.{bits as bits_in};
 ghost use Rattle.grib_packing.specs.declared.column.Point.{Point as point};
 ghost use Rattle.grib_packing.specs.declared.column.Point.TheVariants.{Scaled};
 ghost use Rattle.grib_simple.specs.Part.{plain_from};
+ghost use Rattle.grib_rescan.specs.Points.{point as point_in};
 ghost use Rattle.grib_rescan.specs.Source.{number_points, NumbersStand};
 
 use grib_bits::get_bits;
@@ -24,6 +25,12 @@ pub trait GridPoints {
         requires stands { stands self.now }
         requires within { from + count ≤ length (points self.now) }
         ensures { OnOk result (out.new.items ≡ out.old.items ++ take count (drop from (points self.now))) };
+
+    /// The point at a place, counted from 0.
+    fn point(&self, place: usize) -> Point
+        requires stands { stands self.now }
+        requires within { place < length (points self.now) }
+        ensures { result ≡ point_in (points self.now) place };
 }
 
 /// Points that stand in memory.
@@ -40,6 +47,11 @@ impl<'a> GridPoints for Listed<'a> {
     #[inline]
     fn add_to(&self, from: usize, count: usize, out: &mut Vec<Point>) -> Result<(), AllocError> {
         out.extend_from_slice(&self.points[from..from + count])
+    }
+
+    #[inline]
+    fn point(&self, place: usize) -> Point {
+        self.points[place]
     }
 }
 
@@ -62,6 +74,12 @@ impl<'a> GridPoints for Numbers<'a> {
     #[inline]
     fn add_to(&self, from: usize, count: usize, out: &mut Vec<Point>) -> Result<(), AllocError> {
         add_numbers(self.octets, self.bits, from, count, out)
+    }
+
+    #[inline]
+    fn point(&self, place: usize) -> Point {
+        let at = place as u64 * u64::from(self.bits);
+        scaled_point(get_bits(self.octets, at, self.bits))
     }
 }
 

@@ -21,8 +21,8 @@ use std::alloc::Global;
 /// The message with the points of its grids in the order of scanning octet 0: rows from the north, and points
 /// of a row from the west. Sections 5, 6 and 7 of each field are packed anew as the field is packed, each
 /// Section 3 has the first corner in the north west, and all other octets but the total length stay. It
-/// holds the message, the new sections and one column at a time, two where the points of a column of the
-/// grid are consecutive.
+/// holds the message, the new sections and one column at a time; two where the points of a column of the
+/// grid are consecutive, unless the field is in simple packing without missing points.
 ///
 /// # Errors
 ///
@@ -39,7 +39,8 @@ pub fn rescan(alloc: Global, message: &Message<'_>) -> Result<Vec<u8>, RescanFau
 
 /// The message with a box of its grids alone. Sections 5, 6 and 7 of each field are packed anew as the field
 /// is packed, each Section 3 has the numbers and corners of the box, and all other octets but the total
-/// length stay. It holds the message, the new sections and two columns at a time.
+/// length stay. It holds the message, the new sections and the column of one box at a time, and beside it that
+/// of the whole field, unless the field is in simple packing without missing points.
 ///
 /// # Errors
 ///

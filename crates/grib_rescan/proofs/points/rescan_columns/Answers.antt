@@ -1,9 +1,9 @@
-use Rattle.std.proofs.Common.{◌≡◌, List, length, ap, ◌∙◌, arith}
+use Rattle.std.proofs.Common.{length, ap, ◌∙◌, arith}
 use Rattle.std.proofs.lemmas.List.{take_at}
 use Rattle.grib_rescan.specs.Scanning.{scanning_of}
 use Rattle.grib_rescan.specs.Points.{rescanned_points}
 use Rattle.grib_rescan.proofs.Rows.{rescanned_length}
-use Rattle.grib_rescan.proofs.Bands.{by_rows, rows_of_columns}
+use Rattle.grib_rescan.proofs.Columns.{by_rows, rows_of_columns}
 use Rattle.grib_rescan.proofs.points.rescan_columns.Goals as goal
 
 pub order_rows-requires-clause-length : goal.order_rows-requires-clause-length

@@ -1,4 +1,4 @@
-use Rattle.std.proofs.Common.{◌≡◌, ◌+◌, ◌-◌, ◌*◌, ◌<◌, ◌^◌, ◌++◌, ℕ, map, drop, ap, ◌∙◌, sym, subst, arith}
+use Rattle.std.proofs.Common.{◌≡◌, ◌-◌, ◌*◌, ◌<◌, ◌^◌, ◌++◌, ℕ, map, drop, ap, ◌∙◌, sym, subst, arith}
 use Rattle.grib_bits.specs.Bits.{bits}
 use Rattle.grib_bits.proofs.WordNumbers.{number-lt_48}
 use Rattle.grib_simple.specs.Part.{plain_from}
