@@ -1,8 +1,10 @@
 mod Turns
 mod Runs
 mod Turned
-mod Bands
+mod Columns
+pub mod Added
 pub mod Rows
+mod Placed
 mod Corners
 mod Octets
 pub mod Kept

@@ -1,16 +1,16 @@
 -- Rows as runs of the points.
-use Rattle.std.proofs.Common.{◌≡◌, ℕ, ◌+◌, ◌-◌, ◌*◌, ◌<◌, ◌≤◌, Bool, true, false, ◌&&◌, List, [], ◌∷◌, ◌++◌, length, take, drop, map, reverse, get_or, refl, sym, ap, ap₂, ◌∙◌, arith, append_assoc, length-take, length-drop}
+use Rattle.std.proofs.Common.{◌≡◌, ℕ, ◌+◌, ◌-◌, ◌*◌, ◌<◌, ◌≤◌, Bool, true, false, ◌&&◌, List, length, take, drop, map, reverse, get_or, refl, sym, ap, ◌∙◌, arith, length-take, length-drop}
 use Rattle.std.proofs.Math.Nat.{mul_comm, mul-le-mul_right}
 use Rattle.std.specs.Bool.{beq}
 use Rattle.std.specs.List.{range_with_len}
-use Rattle.std.proofs.lemmas.List.{get_or-drop, get_or-take, get_or-reverse, ext_get_or, length-reverse, get_or_default}
-use Rattle.std.proofs.lemmas.List.FromFn.{length-map-range_with_len, get_or-map-range_with_len, map-range_with_len_more}
+use Rattle.std.proofs.lemmas.List.{get_or-drop, get_or-take, get_or-reverse, ext_get_or, length-reverse}
+use Rattle.std.proofs.lemmas.List.FromFn.{length-map-range_with_len, get_or-map-range_with_len}
 use Rattle.grib_packing.specs.declared.column.Point.{Point}
 use Rattle.grib_packing.specs.declared.column.Point.TheVariants.{Missing}
 use Rattle.grib_rescan.specs.declared.scanning.Scanning.{Scanning}
 use Rattle.grib_rescan.specs.Scanning.{is_odd, turned, scanning_of, point_at}
 use Rattle.grib_rescan.specs.Points.{point, row_of}
-use Rattle.grib_rescan.proofs.Turns.{turned-lt, turned_both, turned_one, point_at-lt}
+use Rattle.grib_rescan.proofs.Turns.{turned-lt, turned_both, turned_one}
 
 -- the points from `start` on, by a function that gives each its number
 pub run_at : (points : List Point) (f : ℕ → ℕ) (start a n k : ℕ) → start + n ≤ length points → k < n → get_or (take n (drop start points)) k Missing ≡ get_or points (start + k) Missing
@@ -57,7 +57,7 @@ pub record IsRead (s : Scanning) (ni nj : ℕ) (points : List Point) (j row : �
   pub row_stands : row ≡ turned s.northward nj j
   pub turns_stand : turns ≡ (s.alternates && is_odd row)
 
-row_within : (ni nj row size : ℕ) → row < nj → size ≡ ni * nj → row * ni + ni ≤ size
+pub row_within : (ni nj row size : ℕ) → row < nj → size ≡ ni * nj → row * ni + ni ≤ size
 row_within ni nj row size small is =
     let h : (row + 1) * ni ≤ nj * ni = mul-le-mul_right ni (omega (arith, small)) in
     omega (arith, h, is, mul_comm ni nj)
@@ -90,26 +90,7 @@ read_backwards s ni nj points j row turns read differ =
 
 -- ---- a row that is read across columns
 
-pub point_across : (s : Scanning) (ni nj : ℕ) (points : List Point) (i j at : ℕ) (d : Point) → length points ≡ ni * nj → i < ni → j < nj
-    → point_at s ni nj i j ≡ at → get_or points at d ≡ point points (point_at s ni nj (0 + i) j)
-point_across s ni nj points i j at d size small within is =
-    let more : i ≡ 0 + i = omega arith in
-    get_or_default points at d Missing (omega (arith, size, point_at-lt s ni nj i j small within, is))
-    ∙ ap (point points) (sym is) ∙ ap (λ n. point points (point_at s ni nj n j)) more
-
-pub row_more : (s : Scanning) (ni nj : ℕ) (points : List Point) (i n j : ℕ) (start before after : List Point) (x : Point)
-    → before ≡ start ++ row_of s ni nj points i n j → after ≡ before ++ x ∷ [] → x ≡ point points (point_at s ni nj (i + n) j)
-    → after ≡ start ++ row_of s ni nj points i (n + 1) j
-row_more s ni nj points i n j start before after x so_far added is =
-    added ∙ ap₂ (λ xs x. xs ++ x ∷ []) so_far is ∙ append_assoc start (row_of s ni nj points i n j) (point points (point_at s ni nj (i + n) j) ∷ [])
-    ∙ ap (λ xs. start ++ xs) (sym (map-range_with_len_more (λ i. point points (point_at s ni nj i j)) i n (i + n) refl))
-
 -- ---- a row of a box
-
-pub run_of : (points : List Point) (start n : ℕ) → take (start + n - start) (drop start points) ≡ take n (drop start points)
-run_of points start n =
-    let size : start + n - start ≡ n = omega arith in
-    ap (λ k. take k (drop start points)) size
 
 pub box_row : (ni nj : ℕ) (points : List Point) (i n j : ℕ) → length points ≡ ni * nj → j < nj → i + n ≤ ni
     → take n (drop (j * ni + i) points) ≡ row_of (scanning_of 0) ni nj points i n j

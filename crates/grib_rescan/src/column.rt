@@ -5,6 +5,7 @@ ghost use Rattle.grib_rescan.specs.Points.{IsBox, rescanned_column, cropped_colu
 
 use crate::points::{Area, crop_points, rescan_points};
 use crate::scanning::Scanning;
+use crate::source::Listed;
 use grib_base::List;
 use grib_packing::Column;
 use std::alloc::{AllocError, Global};
@@ -57,7 +58,8 @@ pub fn crop_column(
     requires within { IsBox area.now ni nj }
     ensures { IfOk result (λ cropped. cropped ≡ cropped_column area.now ni nj column.now) }
 {
-    let points = crop_points(alloc, column.points.as_slice(), ni, nj, area)?;
+    let points = column.points.as_slice();
+    let points = crop_points(alloc, &Listed { points }, ni, nj, area)?;
     Ok(Column {
         reference: column.reference,
         e: column.e,

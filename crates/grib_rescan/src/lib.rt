@@ -7,9 +7,11 @@ pub mod laws;
 mod points;
 mod scanning;
 mod section;
+mod source;
 
 pub use cause::{GridCause, crop_cause, rescan_cause};
 pub use column::{crop_column, rescan_column};
-pub use points::{Area, crop_points, rescan_points};
+pub use points::{Area, crop_points, rescan_columns, rescan_points};
 pub use scanning::Scanning;
 pub use section::{crop_section, rescan_section};
+pub use source::{GridPoints, Listed, Numbers};

@@ -1,16 +1,17 @@
 //! The points of a grid in another order, and those of a box.
 
-ghost use Rattle.std.specs.Prelude.{◌≡◌, ◌+◌, ◌-◌, ◌*◌, ◌%◌, ◌<◌, ◌≤◌, ◌++◌, ◌==◌, ◌&&◌, cond, true, false, length, take, drop, reverse, OnOk, IfOk};
-ghost use Rattle.std.specs.List.{range_with_len, flat_map};
+ghost use Rattle.std.specs.Prelude.{◌≡◌, ◌+◌, ◌-◌, ◌*◌, ◌%◌, ◌^◌, ◌<◌, ◌≤◌, ◌++◌, ◌==◌, ◌&&◌, cond, true, false, ℕ, length, take, drop, reverse, IfOk};
 ghost use Rattle.grib_rescan.specs.Scanning.{turned, is_odd, scanning_of};
-ghost use Rattle.grib_rescan.specs.Points.{IsBox, row_of, rescanned_points, cropped_points};
+ghost use Rattle.grib_rescan.specs.Points.{IsBox, rescanned_points, cropped_points};
+ghost use Rattle.grib_rescan.specs.Put.{IsPut, Keeps};
 
 use crate::scanning::{Scanning, turn};
+use crate::source::{GridPoints, Listed};
 use grib_packing::Point;
 use std::alloc::{AllocError, Global};
 
-/// How many rows are taken out of all columns at a time.
-const BAND_ROWS: usize = 16;
+/// How many columns are put in their places at a time.
+const BLOCK_COLUMNS: usize = 16;
 
 /// A box of a grid: its columns from `i0` to `i1`, counted from the west, and its rows from `j0` to `j1`,
 /// counted from the north, both from 0.
@@ -42,9 +43,38 @@ pub fn rescan_points(
     let (columns, rows) = (ni as usize, nj as usize);
     if scanning.by_columns {
         order_rows(&mut points, scanning.exchanged(), rows, columns);
-        return transpose(alloc, &points, columns, rows);
+        return transpose(alloc, &Listed { points: &points }, columns, rows);
     }
     order_rows(&mut points, scanning, columns, rows);
+    Ok(points)
+}
+
+/// The points of a grid of `ni` columns and `nj` rows in the order of scanning octet 0, where the points of a
+/// column are consecutive, and go the same way in all of them. Each is read once, and there is one list.
+///
+/// # Errors
+///
+/// There is no memory for them.
+pub fn rescan_columns<P: GridPoints>(
+    alloc: Global,
+    points: &P,
+    scanning: Scanning,
+    ni: u32,
+    nj: u32,
+) -> Result<Vec<Point>, AllocError>
+    requires stands { P.stands points.now }
+    requires length { length (P.points points.now) ≡ ni * nj }
+    requires by_columns { scanning.by_columns ≡ true }
+    requires one_way { scanning.alternates ≡ false }
+    ensures { IfOk result (λ rescanned. rescanned.items ≡ rescanned_points scanning ni nj (P.points points.now)) }
+{
+    let (columns, rows) = (ni as usize, nj as usize);
+    let mut points = transpose(alloc, points, columns, rows)?;
+    let by_rows = Scanning {
+        by_columns: false,
+        ..scanning
+    };
+    order_rows(&mut points, by_rows, columns, rows);
     Ok(points)
 }
 
@@ -80,85 +110,79 @@ fn turn_rows(points: &mut [Point], scanning: Scanning, columns: usize, rows: usi
     }
 }
 
-/// The points row by row, where they stand column by column, and each column goes from the north. Some rows
-/// at a time are taken out of all columns, so that what is read of a column is consecutive.
-fn transpose(
+/// The points row by row, where they stand column by column, and each column goes from the north. Some columns
+/// are put in their places at a time, so that what is written of a row is consecutive.
+fn transpose<P: GridPoints>(
     alloc: Global,
-    points: &[Point],
+    points: &P,
     columns: usize,
     rows: usize,
 ) -> Result<Vec<Point>, AllocError>
-    requires { length points.now ≡ columns * rows }
+    requires stands { P.stands points.now }
+    requires length { length (P.points points.now) ≡ columns * rows }
+    requires few { columns * rows < 2 ^ 64 }
     ensures { IfOk result (λ transposed. transposed.items
-        ≡ rescanned_points (scanning_of 0x20) columns rows points.now) }
+        ≡ rescanned_points (scanning_of 0x20) columns rows (P.points points.now)) }
 {
-    let mut transposed = Vec::with_capacity(alloc, points.len())?;
-    let mut band = Vec::new(alloc);
-    for number in 0..rows.div_ceil(BAND_ROWS) {
-        let first = number * BAND_ROWS;
-        let height = BAND_ROWS.min(rows - first);
-        band.clear();
-        add_parts(points, columns, rows, first, height, &mut band)?;
-        add_rows(&band, columns, height, &mut transposed)?;
+    let mut transposed = Vec::new(alloc);
+    transposed.resize(columns * rows, Point::Missing)?;
+    for number in 0..columns.div_ceil(BLOCK_COLUMNS) {
+        let first = number * BLOCK_COLUMNS;
+        let end = first + BLOCK_COLUMNS.min(columns - first);
+        put_columns(points, columns, rows, first, end, &mut transposed);
     }
     Ok(transposed)
 }
 
-/// Adds the points of each column that lie in the `height` rows from `first` on.
-fn add_parts(
-    points: &[Point],
+/// Puts the columns from `first` up to `end` in their places, row by row.
+fn put_columns<P: GridPoints>(
+    points: &P,
     columns: usize,
     rows: usize,
     first: usize,
-    height: usize,
-    out: &mut Vec<Point>,
-) -> Result<(), AllocError>
-    requires length { length points.now ≡ columns * rows }
-    requires within { first + height ≤ rows }
-    ensures { OnOk result (out.new.items ≡ out.old.items
-        ++ flat_map (row_of (scanning_of 0) rows columns points.now first height) (range_with_len 0 columns)) }
-{
-    for column in 0..columns {
-        let start = column * rows + first;
-        out.extend_from_slice(&points[start..start + height])?;
-    }
-    Ok(())
-}
-
-/// Adds the rows of points that stand column by column, each column from the north.
-fn add_rows(
-    points: &[Point],
-    columns: usize,
-    rows: usize,
-    out: &mut Vec<Point>,
-) -> Result<(), AllocError>
-    requires { length points.now ≡ columns * rows }
-    ensures { OnOk result (out.new.items ≡ out.old.items
-        ++ rescanned_points (scanning_of 0x20) columns rows points.now) }
+    end: usize,
+    out: &mut [Point],
+)
+    requires stands { P.stands points.now }
+    requires length { length (P.points points.now) ≡ columns * rows }
+    requires few { columns * rows < 2 ^ 64 }
+    requires within { end ≤ columns }
+    requires size { length out.old ≡ columns * rows }
+    ensures size { length out.new ≡ columns * rows }
+    ensures keeps { Keeps (rescanned_points (scanning_of 0x20) columns rows (P.points points.now)) out.old out.new }
+    ensures made { (i j : ℕ) → first ≤ i → i < end → j < rows
+        → IsPut (rescanned_points (scanning_of 0x20) columns rows (P.points points.now)) out.new (j * columns + i) }
 {
     for row in 0..rows {
-        add_row(points, columns, rows, row, out)?;
+        put_part(points, columns, rows, row, first, end, out);
     }
-    Ok(())
 }
 
-/// Adds a row of points that stand column by column, each column from the north.
-fn add_row(
-    points: &[Point],
+/// Puts the points of these columns that lie in a row in their places.
+#[inline]
+fn put_part<P: GridPoints>(
+    points: &P,
     columns: usize,
     rows: usize,
     row: usize,
-    out: &mut Vec<Point>,
-) -> Result<(), AllocError>
-    requires length { length points.now ≡ columns * rows }
+    first: usize,
+    end: usize,
+    out: &mut [Point],
+)
+    requires stands { P.stands points.now }
+    requires length { length (P.points points.now) ≡ columns * rows }
+    requires few { columns * rows < 2 ^ 64 }
+    requires within { end ≤ columns }
     requires row { row < rows }
-    ensures { OnOk result (out.new.items ≡ out.old.items
-        ++ row_of (scanning_of 0x20) columns rows points.now 0 columns row) }
+    requires size { length out.old ≡ columns * rows }
+    ensures size { length out.new ≡ columns * rows }
+    ensures keeps { Keeps (rescanned_points (scanning_of 0x20) columns rows (P.points points.now)) out.old out.new }
+    ensures made { (i : ℕ) → first ≤ i → i < end
+        → IsPut (rescanned_points (scanning_of 0x20) columns rows (P.points points.now)) out.new (row * columns + i) }
 {
-    for column in 0..columns {
-        out.push(points[column * rows + row])?;
+    for column in first..end {
+        out[row * columns + column] = points.point(column * rows + row);
     }
-    Ok(())
 }
 
 /// The points of a box of a grid of `ni` columns and `nj` rows, whose points are in the order of scanning
@@ -167,23 +191,24 @@ fn add_row(
 /// # Errors
 ///
 /// There is no memory for them.
-pub fn crop_points(
+pub fn crop_points<P: GridPoints>(
     alloc: Global,
-    points: &[Point],
+    points: &P,
     ni: u32,
     nj: u32,
     area: &Area,
 ) -> Result<Vec<Point>, AllocError>
-    requires length { length points.now ≡ ni * nj }
+    requires stands { P.stands points.now }
+    requires length { length (P.points points.now) ≡ ni * nj }
     requires within { IsBox area.now ni nj }
-    ensures { IfOk result (λ cropped. cropped.items ≡ cropped_points area.now ni nj points.now) }
+    ensures { IfOk result (λ cropped. cropped.items ≡ cropped_points area.now ni nj (P.points points.now)) }
 {
     let width = (area.i1 + 1 - area.i0) as usize;
     let height = (area.j1 + 1 - area.j0) as usize;
     let mut cropped = Vec::with_capacity(alloc, width * height)?;
     for row in area.j0..area.j1 + 1 {
         let start = row as usize * ni as usize + area.i0 as usize;
-        cropped.extend_from_slice(&points[start..start + width])?;
+        points.add_to(start, width, &mut cropped)?;
     }
     Ok(cropped)
 }

@@ -2,5 +2,6 @@ mod Grids
 mod Points
 mod Fields
 mod Packs
+mod Numbered
 mod Edits
 mod Kept

@@ -2,3 +2,4 @@ pub mod Rescanned
 pub mod Faults
 pub mod Fields
 pub mod Lengths
+pub mod Plain

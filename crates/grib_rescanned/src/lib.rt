@@ -5,6 +5,7 @@ mod edit;
 mod fault;
 pub mod laws;
 mod packing;
+mod plain;
 mod rescanning;
 
 pub use edit::GridEdit;

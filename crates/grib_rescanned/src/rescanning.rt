@@ -9,6 +9,7 @@ ghost use Rattle.grib_rescanned.specs.Faults.{IsRescanFault};
 ghost use Rattle.grib_rescanned.specs.declared.edit.GridEdit.TheVariants as edits;
 
 use crate::packing::pack_as;
+use crate::plain::plain_field;
 use crate::{GridEdit, RescanFault};
 use grib_packed::laws::one_packing_is_written;
 use grib_packing::{Column, PackFault, Packed};
@@ -20,8 +21,8 @@ use std::alloc::Global;
 /// The message with the points of its grids in the order of scanning octet 0: rows from the north, and points
 /// of a row from the west. Sections 5, 6 and 7 of each field are packed anew as the field is packed, each
 /// Section 3 has the first corner in the north west, and all other octets but the total length stay. It
-/// holds the message, the new sections and one column at a time, two where the points of a column of the
-/// grid are consecutive.
+/// holds the message, the new sections and one column at a time; two where the points of a column of the
+/// grid are consecutive, unless the field is in simple packing without missing points.
 ///
 /// # Errors
 ///
@@ -38,7 +39,8 @@ pub fn rescan(alloc: Global, message: &Message<'_>) -> Result<Vec<u8>, RescanFau
 
 /// The message with a box of its grids alone. Sections 5, 6 and 7 of each field are packed anew as the field
 /// is packed, each Section 3 has the numbers and corners of the box, and all other octets but the total
-/// length stay. It holds the message, the new sections and two columns at a time.
+/// length stay. It holds the message, the new sections and the column of one box at a time, and beside it that
+/// of the whole field, unless the field is in simple packing without missing points.
 ///
 /// # Errors
 ///
@@ -146,6 +148,11 @@ fn edit_column(
     };
     if let Some(cause) = edit.cause(section3.octets) {
         return Err(RescanFault::of_grid(field, cause));
+    }
+    if edit.takes_numbers(section3.octets) {
+        if let Some(plain) = plain_field(alloc, message, field)? {
+            return Ok(edit.plain_column(alloc, section3.octets, &plain)?);
+        }
     }
     let column = message.column(alloc, field)?;
     Ok(edit.column(alloc, section3.octets, column)?)

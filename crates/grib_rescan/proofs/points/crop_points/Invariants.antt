@@ -5,4 +5,4 @@ use Rattle.grib_rescan.specs.Points.{row_of, width}
 use Rattle.grib_rescan.proofs.points.crop_points.Given as goal
 
 abbrev pub invariant-loop-row : goal.invariant-loop-row
-invariant-loop-row l = l.cropped.items ≡ flat_map (row_of (scanning_of 0) l.ni l.nj l.points l.area.i0 (width l.area)) (range_with_len l.area.j0 (l.row - l.area.j0))
+invariant-loop-row g l = l.cropped.items ≡ flat_map (row_of (scanning_of 0) l.ni l.nj (g.P.GridPoints.points l.points) l.area.i0 (width l.area)) (range_with_len l.area.j0 (l.row - l.area.j0))

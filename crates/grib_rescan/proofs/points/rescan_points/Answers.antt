@@ -4,7 +4,7 @@ use Rattle.grib_packing.specs.declared.column.Point.{Point}
 use Rattle.grib_rescan.specs.declared.scanning.Scanning.{Scanning}
 use Rattle.grib_rescan.specs.Scanning.{scanning_of}
 use Rattle.grib_rescan.specs.Points.{rescanned_points}
-use Rattle.grib_rescan.proofs.Bands.{exchanged_rows}
+use Rattle.grib_rescan.proofs.Columns.{exchanged_rows}
 use Rattle.grib_rescan.proofs.points.rescan_points.Goals as goal
 
 pub returns-then-scanning : goal.returns-then-scanning
