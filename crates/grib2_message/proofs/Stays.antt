@@ -93,7 +93,7 @@ is_second e other off =
     let first : (e == 1) ≡ false = ne_eqb e 1 other in
     not-false (e == 2) (second_fails (not (e == 1)) (not (e == 2)) off (not_from_false (e == 1) first))
 
-head_kept : (u w : List ℕ) → IsFront u w → edition u ≢ 1 → Kept (first_fault (head_rows u)) (first_fault (head_rows w))
+pub head_kept : (u w : List ℕ) → IsFront u w → edition u ≢ 1 → Kept (first_fault (head_rows u)) (first_fault (head_rows w))
 head_kept u w h other =
     cut_row (nat_lt (length u) 8) (nat_lt (length w) 8) _ _ _ _ refl (λ pass.
     let eight : 8 ≤ length u = ltb-false (length u) 8 pass in
@@ -177,7 +177,7 @@ parts_kept None mark' false ends' None frame' s s' (inr e) more same =
     let section : s' ≡ s = same refl refl in
     elim (more refl).1 [ inl cut ↦ absurd cut | inr framed ↦ inr (rw (e, off, framed, section)) ]
 
-step_kept : (u w : List ℕ) (total last q : ℕ) → IsFront u w → 1 ≤ q → KeptStep (step u total last q) (step w total last q)
+pub step_kept : (u w : List ℕ) (total last q : ℕ) → IsFront u w → 1 ≤ q → KeptStep (step u total last q) (step w total last q)
 step_kept u w total last q h low =
     parts_kept (first_fault (mark_rows u total last q)) (first_fault (mark_rows w total last q)) (ends_at u q) (ends_at w q)
     (first_fault (frame_rows u total last q)) (first_fault (frame_rows w total last q)) (section_at u q) (section_at w q)

@@ -22,7 +22,7 @@ use std::alloc::Global;
 const MOST_FIELDS: usize = 4096;
 
 /// Tries the row of Section 1.
-pub(crate) fn check_identification(section: &Section<'_>) -> Result<(), ReadFault>
+pub fn check_identification(section: &Section<'_>) -> Result<(), ReadFault>
     ensures { AreTried (first_fault_at section.now.start
         (identification_rows section.now.octets.now)) result }
 {
@@ -31,7 +31,7 @@ pub(crate) fn check_identification(section: &Section<'_>) -> Result<(), ReadFaul
 }
 
 /// Tries the rows of Section 3.
-pub(crate) fn check_grid(alloc: Global, section: &Section<'_>) -> Result<(), ReadFault>
+pub fn check_grid(alloc: Global, section: &Section<'_>) -> Result<(), ReadFault>
     ensures { AreTried (first_fault_at section.now.start
         (grid_rows section.now.octets.now)) result }
 {
@@ -40,7 +40,7 @@ pub(crate) fn check_grid(alloc: Global, section: &Section<'_>) -> Result<(), Rea
 }
 
 /// Tries the rows of a Section 4 that stands after this number of fields.
-pub(crate) fn check_product(
+pub fn check_product(
     alloc: Global,
     fields: usize,
     section: &Section<'_>,
@@ -61,7 +61,7 @@ pub(crate) fn check_product(
 
 /// Tries the rows of a Section 6, where the grid in force has this number of points and Section 5 this number
 /// of values, after the last Section 6 with bits of its own. Memory is taken only for bits of its own.
-pub(crate) fn check_bitmap(
+pub fn check_bitmap(
     alloc: Global,
     section: &Section<'_>,
     points: u32,

@@ -13,9 +13,11 @@ mod places;
 mod reading;
 mod summary;
 
+pub use checking::{check_bitmap, check_grid, check_identification, check_product};
 pub use fault::AssembleFault;
 pub use grib_base::ReadFault;
 pub use message::Message;
 pub use new_grid::NewGrid;
+pub use places::Bitmap;
 pub use reading::read_message;
 pub use summary::{FieldSummary, field_summary};

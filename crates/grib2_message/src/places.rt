@@ -12,7 +12,7 @@ use grib_complex::Representation;
 
 /// The last Section 6 with bits of its own.
 #[derive(Clone, Copy, Debug)]
-pub(crate) struct Bitmap {
+pub struct Bitmap {
     /// The octet of the message at which the section begins.
     pub start: u32,
     /// The number of grid points in force there.
