@@ -1,6 +1,7 @@
 -- What the octets that were gathered tell of what stands there.
-use Rattle.std.proofs.Common.{◌≡◌, ◌≢◌, ℕ, ◌+◌, ◌-◌, ◌<◌, ◌≤◌, IsTrue, List, ◌++◌, length, drop, refl, sym, ap, ◌∙◌, arith, length-append}
+use Rattle.std.proofs.Common.{◌≡◌, ◌≢◌, ℕ, ◌+◌, ◌-◌, ◌<◌, ◌≤◌, IsTrue, List, ◌++◌, length, drop, inl, inr, refl, sym, ap, ◌∙◌, arith, length-append}
 use Rattle.std.proofs.Math.Seq.{take-length}
+use Rattle.std.proofs.lemmas.Bool.{cases_lt}
 use Rattle.grib_bits.specs.Octets.{octets as number_at, StatesItself}
 use Rattle.grib_base.specs.declared.fault.Reason.TheVariants.{Truncated, EndMark}
 use Rattle.grib_base.specs.Rows.{refusal}
@@ -90,7 +91,10 @@ module _ (u : List ℕ) (before : List Placed) (kept : Kept) (h : Stands u befor
 
         pub looks_section : number_at gathered 5 5 ≢ 7 → number_at gathered 5 5 ≤ 7 → number_at gathered 1 4 ≤ length gathered → Looks u kept gathered Section
         looks_section other high enough =
-            let as_long : length gathered ≡ number_at gathered 1 4 = omega (arith, one.within) in (
+            let as_long : length gathered ≡ number_at gathered 1 4 = elim (cases_lt (length gathered) 6) [
+              | inl few ↦ omega arith
+              | inr six ↦ omega (arith, one.within six)
+            ] in (
               next_here u kept.total kept.last kept.place (there_four four) none later (there_five five)
                   (omega (arith, stated, least)) (omega (arith, stated, room)) follows_here (omega (arith, stated, long, low))
                   ∙ ap Next (pending_whole u kept.place (omega (arith, low)) h.walked.within gathered is as_long),

@@ -1,5 +1,5 @@
 -- What is known of some octets, when other octets follow them, and after one more section.
-use Rattle.std.proofs.Common.{◌≡◌, ◌≢◌, ℕ, suc, ◌+◌, ◌-◌, ◌*◌, ◌<◌, ◌≤◌, Option, Some, None, List, [], ◌∷◌, ◌++◌, length, take, drop, slice_get, get_or, inl, inr, refl, sym, ap, ◌∙◌, arith, subst, append-nil, append_assoc, length-append}
+use Rattle.std.proofs.Common.{◌≡◌, ◌≢◌, ℕ, suc, ◌+◌, ◌-◌, ◌*◌, ◌<◌, ◌≤◌, IsTrue, Option, Some, None, List, [], ◌∷◌, ◌++◌, length, take, drop, slice_get, get_or, inl, inr, refl, sym, ap, ◌∙◌, arith, subst, append-nil, append_assoc, length-append}
 use Rattle.std.proofs.lemmas.Bool.{cases_lt}
 use Rattle.std.proofs.lemmas.Option.{slice_get_within, get_or_from_slice_get, slice_get-get_or}
 use Rattle.std.proofs.Math.ListN.{get_or-append}
@@ -12,7 +12,7 @@ use Rattle.grib_base.specs.declared.fault.ReadFault.TheVariants.{Refused as Read
 use Rattle.grib_base.specs.declared.fault.Reason.TheVariants.{Truncated}
 use Rattle.grib2_sections.specs.Verdict.{Verdict, Accepted, Refused}
 use Rattle.grib2_sections.specs.Head.{edition, discipline, total_length}
-use Rattle.grib2_sections.specs.Frame.{Placed, placed_at, Position, position_after, section_number, Step, End, Fails, Next, step, step_from}
+use Rattle.grib2_sections.specs.Frame.{Placed, placed_at, Position, position_after, section_number, may_follow, Step, End, Fails, Next, step, step_from}
 use Rattle.grib2_message.specs.View.{is_numbered, last_number, section_in_force, octets_in_force, earlier_mask, section_count}
 use Rattle.grib2_message.specs.Acceptance.{section_fault, verdict_from, verdict_2}
 use Rattle.grib2_message.specs.Fields.{sections_from, sections_up_to_field, field_sections, field_count}
@@ -20,11 +20,12 @@ use Rattle.grib2_message.specs.Kept.{AreSound, KeepsRepresentation, TellsBitmap,
 use Rattle.grib2_message.specs.Summary.{identification_of, summary_by, summary_of}
 use Rattle.grib2_message.specs.declared.summary.FieldSummary.{FieldSummary}
 use Rattle.grib2_message.proofs.Whole.{octets_before}
-use Rattle.grib2_message.proofs.Stays.{IsCutStep, step_kept, front_of_more, refused_stays}
+use Rattle.grib2_message.proofs.Stays.{step_kept, front_of_more, refused_stays}
 use Rattle.grib2_message.proofs.Ways.{OnWay, GoesOn, way_comes, way_next, way_fails, way_refused, way_end}
 use Rattle.grib2_message.proofs.InForce.{octets_same, octets_other}
 use Rattle.grib2_message.proofs.Sound.{sound_after, count_same, count_other}
 use Rattle.grib2_message.proofs.After.{comes_follows}
+use Rattle.grib2_message.proofs.Order.{follows_tells, in_range}
 use Rattle.grib2_arrival.specs.declared.kept.Kept.{Kept}
 use Rattle.grib2_arrival.specs.Walked.{turns_left, GoesOnFrom, Walked}
 use Rattle.grib2_arrival.specs.Standing.{summary_in_force, Stands}
@@ -55,6 +56,7 @@ module _ (u : List ℕ) (before : List Placed) (kept : Kept) (h : Stands u befor
     most = h.most;
     room = h.room;
     last = h.last;
+    numbered = h.numbered;
     line = h.line ∙ ap (λ (d : ℕ). summary_in_force d before) (sym (same_front more 7 7 (omega arith) (omega arith) (omega arith)));
     representation = h.representation;
     bitmap = h.bitmap;
@@ -105,11 +107,11 @@ module _ (u : List ℕ) (before : List Placed) (kept : Kept) (h : Stands u befor
   pub on_way_here : OnWay u (turns_left u before) before (position_of kept)
   on_way_here = subst (λ (m : List ℕ). OnWay m (turns_left m before) before (position_of kept)) (append-nil u) (on_way [])
 
-  -- a step that asks for no more octets stays
-  pub step_stays : (more : List ℕ) (st : Step) → step_of u kept ≡ st → (IsCutStep st → ⊥) → step_of (u ++ more) kept ≡ st
-  step_stays more st e whole =
+  -- a section that stands whole stays
+  pub next_stays : (more s : List ℕ) → step_of u kept ≡ Next s → step_of (u ++ more) kept ≡ Next s
+  next_stays more s e =
       elim (step_kept u (u ++ more) kept.total kept.last kept.place (front_of_more u more) (omega (arith, h.walked.low))) [
-        | inl cut ↦ absurd (whole (subst IsCutStep e cut))
+        | inl cut ↦ (let bad : ⊥ = rw e at cut in absurd bad)
         | inr same ↦ same ∙ e
       ]
 
@@ -131,11 +133,14 @@ module _ (u : List ℕ) (before : List Placed) (kept : Kept) (h : Stands u befor
   pub end_counted : step_of u kept ≡ End → field_count u ≡ section_count 7 before
   end_counted e = (way_end u (turns_left u before) before (position_of kept) on_way_here e).count
 
+  pub follows_here : (s : List ℕ) (number : ℕ) → step_of u kept ≡ Next s → StatesItself number s → IsTrue (may_follow (last_number before) number)
+  follows_here s number e itself = (way_comes u before (position_of kept) s e (turns_left u before) number on_way_here itself).follows
+
   -- ---- after one more section
 
   module _ (s : List ℕ) (number : ℕ) (e : step_of u kept ≡ Next s) (itself : StatesItself number s) (none : section_fault before (placed_at kept.place s) ≡ None) where
     pub goes_on : (more : List ℕ) → GoesOn (u ++ more) before (position_of kept) (turns_left (u ++ more) before) s
-    goes_on more = way_next (turns_left (u ++ more) before) (u ++ more) before (position_of kept) s (on_way more) (step_stays more (Next s) e (λ x. x)) none
+    goes_on more = way_next (turns_left (u ++ more) before) (u ++ more) before (position_of kept) s (on_way more) (next_stays more s e) none
 
     pub comes : Comes u before number kept.place s
     comes = way_comes u before (position_of kept) s e (turns_left u before) number on_way_here itself
@@ -169,6 +174,7 @@ module _ (u : List ℕ) (before : List Placed) (kept : Kept) (h : Stands u befor
       most = omega (arith, f.total_is, h.most);
       room = omega (arith, f.total_is, f.place_is, (goes_on []).way.within);
       last = f.last_is ∙ sym itself.number_stands;
+      numbered = (let r = in_range (last_number before) number (follows_tells (last_number before) number comes.follows) in omega (arith, f.last_is, r));
       line = f.line_is;
       representation = f.representation_is;
       bitmap = f.bitmap_is;

@@ -3,6 +3,9 @@ use Rattle.std.proofs.Common.{◌≡◌, ◌≢◌, ℕ, ◌+◌, ◌-◌, ◌<�
 use Rattle.std.proofs.lemmas.List.{drop-append-le}
 use Rattle.grib_bits.specs.Octets.{octets as number_at, StatesItself}
 use Rattle.grib_base.specs.declared.fault.Fault.{Fault}
+use Rattle.grib_base.specs.declared.fault.ReadFault.{ReadFault}
+use Rattle.grib_base.specs.declared.fault.ReadFault.TheVariants.{Refused as ReadRefused, Memory as ReadMemory}
+use Rattle.grib_base.specs.Faults.{IsReadFault}
 use Rattle.grib2_sections.specs.Head.{discipline}
 use Rattle.grib2_sections.specs.Frame.{Placed, placed_at, Step, Fails, Next, section_number}
 use Rattle.grib_packing.specs.Entries.{data_fault}
@@ -16,11 +19,12 @@ use Rattle.grib2_arrival.specs.declared.kept.Kept.{Kept}
 use Rattle.grib2_arrival.specs.declared.data.Data.{Data}
 use Rattle.grib2_arrival.specs.Standing.{summary_in_force, Stands}
 use Rattle.grib2_arrival.specs.Fed.{DataAgrees}
-use Rattle.grib2_arrival.specs.Heard.{mark, cut_off, pending, step_of, IsUnfinished, IsOne, IsValues, GathersHeard, FeedsHeard}
+use Rattle.grib2_arrival.specs.Heard.{mark, cut_off, pending, step_of, IsUnfinished, IsOne, IsValues, Stops, GathersHeard, FeedsHeard}
 use Rattle.grib2_arrival.proofs.Rows.{cut_at_mark}
 use Rattle.grib2_arrival.proofs.Pending.{pending_long, pending_more, pending_none}
-use Rattle.grib2_arrival.proofs.Onward.{stands_longer, stands_next, Follows, count_kept, count_more, summaries_more, line_kept}
-use Rattle.grib2_arrival.proofs.Contents.{bitmap_other, fault_number}
+use Rattle.grib2_arrival.proofs.Onward.{stands_longer, stands_next, Follows, count_kept, count_more, summaries_more, line_kept, contents_refused}
+use Rattle.grib2_arrival.proofs.Reasons.{section_other, other_reason}
+use Rattle.grib2_arrival.proofs.Sections.{bitmap_other, fault_number}
 use Rattle.grib2_arrival.proofs.Verdicts.{values_longer}
 
 -- nothing of the next section came
@@ -111,3 +115,12 @@ module _ (u piece : List ℕ) (kept : Kept) (l : ℕ) (before : List Placed) (h 
 
   pub values_stand : IsValues (u ++ piece) kept l
   values_stand = values_longer u kept l low v piece
+
+-- ---- a section is refused
+
+pub stops_contents : (u : List ℕ) (before : List Placed) (kept : Kept) → Stands u before kept → (s : List ℕ) → step_of u kept ≡ Next s
+    → (start : ℕ) → start ≡ kept.place → (error : ReadFault) → IsReadFault (section_fault before (placed_at start s)) error → Stops u error
+stops_contents u before kept h s e start at (ReadRefused fault) refused =
+    let is : section_fault before (placed_at kept.place s) ≡ Some fault = ap (λ (q : ℕ). section_fault before (placed_at q s)) (sym at) ∙ refused in
+    (contents_refused u before kept h s fault e is, other_reason (section_fault before (placed_at kept.place s)) fault (section_other before (placed_at kept.place s)) is)
+stops_contents u before kept h s e start at ReadMemory refused = tt

@@ -1,5 +1,5 @@
 -- What is said of the octets that were heard.
-use Rattle.std.proofs.Common.{◌≡◌, ◌≢◌, ℕ, ◌+◌, ◌-◌, ◌<◌, ◌≤◌, IsTrue, Option, Some, None, List, [], ◌++◌, length, take, drop, refl, sym, ap, ◌∙◌, arith, subst, length-append, length-drop}
+use Rattle.std.proofs.Common.{◌≡◌, ◌≢◌, ℕ, ◌+◌, ◌-◌, ◌<◌, ◌≤◌, Bool, true, false, IsTrue, Option, Some, None, List, [], ◌++◌, length, take, drop, refl, sym, ap, ◌∙◌, arith, subst, append_assoc, take-append-drop, length-append, length-drop}
 use Rattle.std.proofs.lemmas.List.{take_all}
 use Rattle.grib_bits.specs.Octets.{octets as number_at, StatesItself}
 use Rattle.grib_base.specs.declared.fault.Fault.{Fault}
@@ -89,3 +89,45 @@ whole_ended state u listens h e = let cut = open_verdict state u listens h in le
 pub stops_longer : (u more : List ℕ) (stop : ReadFault) → edition u ≡ 2 → Stops u stop → Stops (u ++ more) stop
 stops_longer u more (ReadRefused fault) two h = (refused_stays u more fault (λ one. absurd (omega arith)) h.0 h.1, h.1)
 stops_longer u more ReadMemory two h = tt
+
+-- ---- whether the octets are a whole message
+
+true_unless : (b : Bool) → (b ≡ false → ⊥) → IsTrue b
+true_unless true h = refl
+true_unless false h = absurd (h refl)
+
+pub whole_is : (o : Option State) (u : List ℕ) (b : Bool) → StateHeard o u → (b ≡ false → IsListening o) → (IsTrue b → IsListening o → ⊥)
+    → (IsTrue b → verdict_2 u ≡ Accepted (length u)) × (verdict_2 u ≡ Accepted (length u) → IsTrue b)
+whole_is None u b h listens ended = absurd h
+whole_is (Some (Begins beginning)) u b h listens ended = (λ t. absurd (ended t tt), λ e. absurd (whole_ended (Begins beginning) u tt h e))
+whole_is (Some (Gathers kept gathered)) u b h listens ended = (λ t. absurd (ended t tt), λ e. absurd (whole_ended (Gathers kept gathered) u tt h e))
+whole_is (Some (Feeds kept gathered l feed)) u b h listens ended = (λ t. absurd (ended t tt), λ e. absurd (whole_ended (Feeds kept gathered l feed) u tt h e))
+whole_is (Some (Ended kept)) u b h listens ended = (λ t. ended_verdict kept u h, λ e. true_unless b listens)
+
+pub cut_is : (o : Option State) (u : List ℕ) → StateHeard o u → verdict_2 u ≢ Accepted (length u) → verdict_2 u ≡ Refused (cut_off u)
+cut_is None u h unfinished = absurd h
+cut_is (Some (Begins beginning)) u h unfinished = open_verdict (Begins beginning) u tt h
+cut_is (Some (Gathers kept gathered)) u h unfinished = open_verdict (Gathers kept gathered) u tt h
+cut_is (Some (Feeds kept gathered l feed)) u h unfinished = open_verdict (Feeds kept gathered l feed) u tt h
+cut_is (Some (Ended kept)) u h unfinished = absurd (unfinished (ended_verdict kept u h))
+
+-- what more octets are refused for is not decided by these
+pub undecided : (o : Option State) (u : List ℕ) → StateHeard o u → IsUndecided (verdict_2 u)
+undecided None u h = absurd h
+undecided (Some (Begins beginning)) u h = subst IsUndecided (sym (open_verdict (Begins beginning) u tt h)) refl
+undecided (Some (Gathers kept gathered)) u h = subst IsUndecided (sym (open_verdict (Gathers kept gathered) u tt h)) refl
+undecided (Some (Feeds kept gathered l feed)) u h = subst IsUndecided (sym (open_verdict (Feeds kept gathered l feed) u tt h)) refl
+undecided (Some (Ended kept)) u h = subst IsUndecided (sym (ended_verdict kept u h)) tt
+
+-- ---- a part of a piece
+
+pub parted : (u piece : List ℕ) (k : ℕ) → (u ++ take k piece) ++ drop k piece ≡ u ++ piece
+parted u piece k = append_assoc u (take k piece) (drop k piece) ∙ ap (λ (xs : List ℕ). u ++ xs) (take-append-drop k piece)
+
+pub stops_piece : (u piece : List ℕ) (k : ℕ) (stop : ReadFault) → edition (u ++ take k piece) ≡ 2 → Stops (u ++ take k piece) stop → Stops (u ++ piece) stop
+stops_piece u piece k stop two h =
+    subst (λ (m : List ℕ). Stops m stop) (parted u piece k) (stops_longer (u ++ take k piece) (drop k piece) stop two h)
+
+-- the front of a piece, as a range from its first octet on
+pub front_is : (piece : List ℕ) (k : ℕ) → take (k - 0) piece ≡ take k piece
+front_is piece k = let e : k - 0 ≡ k = omega arith in ap (λ (n : ℕ). take n piece) e

@@ -23,6 +23,7 @@ pub record Stands (octets : List ℕ) (before : List Placed) (kept : Kept) : Typ
   pub most : kept.total ≤ 268435456
   pub room : kept.place + 3 ≤ kept.total
   pub last : kept.last ≡ last_number before
+  pub numbered : kept.last ≤ 7
   pub line : kept.line ≡ summary_in_force (discipline octets) before
   pub representation : KeepsRepresentation kept.representation (section_in_force 5 before)
   pub bitmap : TellsBitmap kept.bitmap (earlier_mask before)

@@ -1,6 +1,6 @@
 //! A message that arrives.
 
-ghost use Rattle.std.specs.Prelude.{◌≡◌, ◌≢◌, ◌↔◌, ℕ, ◌+◌, ◌-◌, ◌≤◌, ◌<◌, ◌++◌, [], IsTrue, List, length, take, MatchResult, OnOk, OnErr, Some};
+ghost use Rattle.std.specs.Prelude.{◌≡◌, ◌≢◌, ◌↔◌, ℕ, ◌+◌, ◌-◌, ◌≤◌, ◌<◌, ◌++◌, [], false, IsTrue, List, None, length, take, MatchResult, OnOk, OnErr, Some};
 ghost use Rattle.grib2_sections.specs.Verdict.{Accepted, Refused as refused_as};
 ghost use Rattle.grib2_message.specs.Acceptance.{verdict_2};
 ghost use Rattle.grib2_message.specs.Fields.{field_count};
@@ -80,7 +80,8 @@ impl Arrival {
 
     /// Whether the end mark came, or nothing is heard any more.
     fn is_ended(&self) -> bool
-        ensures { result ≡ false → IsListening self.now.state }
+        ensures listens { result ≡ false → IsListening self.now.state }
+        ensures ended { IsTrue result → IsListening self.now.state → ⊥ }
     {
         !matches!(
             self.state,

@@ -2,6 +2,10 @@
 
 ghost use Rattle.std.specs.Prelude.{◌≡◌, ◌≢◌, ℕ, ◌+◌, ◌≤◌, ◌∷◌, IsTrue, List, None, length as length_of, MatchResult};
 ghost use Rattle.grib_base.specs.Faults.{AreTried, IsReadFault};
+ghost use Rattle.grib_bits.specs.Octets.{octets as number_at};
+ghost use Rattle.grib_packing.specs.Packing.{packing_template, bit_width, value_count};
+ghost use Rattle.grib2_grids.specs.Grid.{grid_points, grid_template};
+ghost use Rattle.grib2_products.specs.Product.{product_template};
 ghost use Rattle.grib2_sections.specs.Frame.{Placed, Next, placed_at, may_follow};
 ghost use Rattle.grib2_sections.specs.Head.{discipline as discipline_of};
 ghost use Rattle.grib2_message.specs.View.{last_number, section_in_force, earlier_mask, octets_in_force};
@@ -80,32 +84,64 @@ fn line_after(line: FieldSummary, section: &Section<'_>) -> FieldSummary
     ensures { (discipline : ℕ) (before : List Placed) → line ≡ summary_in_force discipline before
         → result ≡ summary_in_force discipline (placed_at section.now.start section.now.octets.now ∷ before) }
 {
-    let octets = section.octets;
     match section.number {
         1 => identified(line, section),
-        3 => FieldSummary {
-            grid: u16_at(octets, 13),
-            points: u32_at(octets, 7),
-            ..line
-        },
-        4 => FieldSummary {
-            product: u16_at(octets, 8),
-            category: u8_at(octets, 10),
-            number: u8_at(octets, 11),
-            unit: u8_at(octets, 18),
-            time: u32_at(octets, 19),
-            surface: u8_at(octets, 23),
-            scale: u8_at(octets, 24),
-            value: u32_at(octets, 25),
-            ..line
-        },
-        5 => FieldSummary {
-            packing: u16_at(octets, 10),
-            bits: u8_at(octets, 20),
-            values: u32_at(octets, 6),
-            ..line
-        },
+        3 => with_grid(line, section.octets),
+        4 => with_product(line, section.octets),
+        5 => with_packing(line, section.octets),
         _ => line,
+    }
+}
+
+/// What describes a field with the numbers of this Section 3.
+fn with_grid(line: FieldSummary, octets: &[u8]) -> FieldSummary
+    requires { 14 ≤ length_of octets.now }
+    ensures { result ≡ record line { grid = grid_template octets.now; points = grid_points octets.now } }
+{
+    FieldSummary {
+        grid: u16_at(octets, 13),
+        points: u32_at(octets, 7),
+        ..line
+    }
+}
+
+/// What describes a field with the numbers of this Section 4.
+fn with_product(line: FieldSummary, octets: &[u8]) -> FieldSummary
+    requires { 28 ≤ length_of octets.now }
+    ensures { result ≡ record line {
+      product = product_template octets.now;
+      category = number_at octets.now 10 10;
+      number = number_at octets.now 11 11;
+      unit = number_at octets.now 18 18;
+      time = number_at octets.now 19 22;
+      surface = number_at octets.now 23 23;
+      scale = number_at octets.now 24 24;
+      value = number_at octets.now 25 28;
+    } }
+{
+    FieldSummary {
+        product: u16_at(octets, 8),
+        category: u8_at(octets, 10),
+        number: u8_at(octets, 11),
+        unit: u8_at(octets, 18),
+        time: u32_at(octets, 19),
+        surface: u8_at(octets, 23),
+        scale: u8_at(octets, 24),
+        value: u32_at(octets, 25),
+        ..line
+    }
+}
+
+/// What describes a field with the numbers of this Section 5.
+fn with_packing(line: FieldSummary, octets: &[u8]) -> FieldSummary
+    requires { 20 ≤ length_of octets.now }
+    ensures { result ≡ record line { packing = packing_template octets.now; bits = bit_width octets.now; values = value_count octets.now } }
+{
+    FieldSummary {
+        packing: u16_at(octets, 10),
+        bits: u8_at(octets, 20),
+        values: u32_at(octets, 6),
+        ..line
     }
 }
 

@@ -40,9 +40,9 @@ impl Beginning {
             × StateHeard (Some next.0) (octets ++ take next.1 piece.now))
             (Stops (octets ++ piece.now)) }
     {
-        let Beginning { mut first, count } = self;
+        let Beginning { first, count } = self;
         let taken = (16 - count).min(piece.len());
-        first[count..count + taken].copy_from_slice(&piece[..taken]);
+        let first = noted(first, count, &piece[..taken]);
         if count + taken < 16 {
             let count = count + taken;
             return Ok((State::Begins(Beginning { first, count }), taken));
@@ -51,4 +51,13 @@ impl Beginning {
         let kept = Kept::new(alloc, head.total, head.discipline);
         Ok((State::Gathers(kept, Vec::new(alloc)), taken))
     }
+}
+
+/// Notes the next octets of Section 0, where this many came before.
+fn noted(mut first: [u8; 16], before: usize, octets: &[u8]) -> [u8; 16]
+    requires { before + length_of octets.now ≤ 16 }
+    ensures { take (before + length_of octets.now) result ≡ take before first ++ octets.now }
+{
+    first[before..before + octets.len()].copy_from_slice(octets);
+    first
 }

@@ -95,8 +95,12 @@ impl Kept {
             → number_at octets (self.now.place + 4) (self.now.place + 4) ≡ number
             → (step_of octets self.now ≡ Fails fault) × (fault.reason ≢ Truncated)) }
     {
-        if length < 5 || self.total < self.place - 1 + u64::from(length) + 4 {
-            return Err(Fault::at(self.place, Reason::SectionLength, u64::from(length)));
+        let misfit = Fault::at(self.place, Reason::SectionLength, u64::from(length));
+        if length < 5 {
+            return Err(misfit);
+        }
+        if self.total < self.place - 1 + u64::from(length) + 4 {
+            return Err(misfit);
         }
         if !may_follow(self.last, number) {
             return Err(Fault::at(self.place + 4, Reason::SectionOrder, u64::from(number)));

@@ -196,7 +196,7 @@ fn go_on(kept: Kept, gathered: Vec<u8>, length: u32, feed: Data) -> Result<State
 /// What is kept after a Section 7 of this length, which no row refused: its field ends.
 fn after_values(kept: Kept, length: u32) -> Result<Kept, ReadFault>
     requires near { kept.place + length < 2 ^ 64 }
-    ensures { IfOk result (λ after. (octets : List ℕ) (before : List Placed) (s7 : List ℕ) → Stands octets before kept
+    ensures stands { IfOk result (λ after. (octets : List ℕ) (before : List Placed) (s7 : List ℕ) → Stands octets before kept
         → step_of octets kept ≡ Next s7 → length_of s7 ≡ length → StatesItself 7 s7
         → section_fault before (placed_at kept.place s7) ≡ None
         → Stands octets (placed_at kept.place s7 ∷ before) after × (after.place ≡ kept.place + length)) }

@@ -78,37 +78,35 @@ module _ (before : List Placed) (start number : ℕ) (s : List ℕ) (itself : St
         e ∙ ap (λ (x : FieldSummary). record x { identification = identification_of s }) is
         ∙ (λ i. summary_by d (identification_of (sym same i)) (sym e3 i) (sym e4 i) (sym e5 i))
 
-    pub line_third : number ≡ 3 → (grid points : ℕ) → grid ≡ number_at s 13 14 → points ≡ number_at s 7 10
-        → record line { grid = grid; points = points } ≡ summary_in_force d (placed_at start s ∷ before)
-    line_third three grid points e_grid e_points =
+    pub line_third : number ≡ 3 → (after : FieldSummary) → after ≡ record line { grid = grid_template s; points = grid_points s }
+        → after ≡ summary_in_force d (placed_at start s ∷ before)
+    line_third three after e =
         let same : octets_in_force 3 (placed_at start s ∷ before) ≡ s = octets_same (placed_at start s) before 3 (here 3 three) in
         let e1 = first (λ x. absurd (omega arith)) in
         let e4 = fourth (λ x. absurd (omega arith)) in
         let e5 = fifth (λ x. absurd (omega arith)) in
-        (λ i. record (is i) { grid = e_grid i; points = e_points i })
+        e ∙ ap (λ (x : FieldSummary). record x { grid = grid_template s; points = grid_points s }) is
         ∙ (λ i. summary_by d (identification_of (sym e1 i)) (sym same i) (sym e4 i) (sym e5 i))
 
-    pub line_fourth : number ≡ 4 → (product category parameter unit time surface scale value : ℕ)
-        → product ≡ number_at s 8 9 → category ≡ number_at s 10 10 → parameter ≡ number_at s 11 11 → unit ≡ number_at s 18 18
-        → time ≡ number_at s 19 22 → surface ≡ number_at s 23 23 → scale ≡ number_at s 24 24 → value ≡ number_at s 25 28
-        → record line { product = product; category = category; number = parameter; unit = unit; time = time; surface = surface; scale = scale; value = value }
-        ≡ summary_in_force d (placed_at start s ∷ before)
-    line_fourth four product category parameter unit time surface scale value a b c e f g j k =
+    pub line_fourth : number ≡ 4 → (after : FieldSummary)
+        → after ≡ record line { product = product_template s; category = number_at s 10 10; number = number_at s 11 11; unit = number_at s 18 18; time = number_at s 19 22; surface = number_at s 23 23; scale = number_at s 24 24; value = number_at s 25 28 }
+        → after ≡ summary_in_force d (placed_at start s ∷ before)
+    line_fourth four after e =
         let same : octets_in_force 4 (placed_at start s ∷ before) ≡ s = octets_same (placed_at start s) before 4 (here 4 four) in
         let e1 = first (λ x. absurd (omega arith)) in
         let e3 = third (λ x. absurd (omega arith)) in
         let e5 = fifth (λ x. absurd (omega arith)) in
-        (λ i. record (is i) { product = a i; category = b i; number = c i; unit = e i; time = f i; surface = g i; scale = j i; value = k i })
+        e ∙ ap (λ (x : FieldSummary). record x { product = product_template s; category = number_at s 10 10; number = number_at s 11 11; unit = number_at s 18 18; time = number_at s 19 22; surface = number_at s 23 23; scale = number_at s 24 24; value = number_at s 25 28 }) is
         ∙ (λ i. summary_by d (identification_of (sym e1 i)) (sym e3 i) (sym same i) (sym e5 i))
 
-    pub line_fifth : number ≡ 5 → (packing bits values : ℕ) → packing ≡ number_at s 10 11 → bits ≡ number_at s 20 20 → values ≡ number_at s 6 9
-        → record line { packing = packing; bits = bits; values = values } ≡ summary_in_force d (placed_at start s ∷ before)
-    line_fifth five packing bits values a b c =
+    pub line_fifth : number ≡ 5 → (after : FieldSummary) → after ≡ record line { packing = packing_template s; bits = bit_width s; values = value_count s }
+        → after ≡ summary_in_force d (placed_at start s ∷ before)
+    line_fifth five after e =
         let same : octets_in_force 5 (placed_at start s ∷ before) ≡ s = octets_same (placed_at start s) before 5 (here 5 five) in
         let e1 = first (λ x. absurd (omega arith)) in
         let e3 = third (λ x. absurd (omega arith)) in
         let e4 = fourth (λ x. absurd (omega arith)) in
-        (λ i. record (is i) { packing = a i; bits = b i; values = c i })
+        e ∙ ap (λ (x : FieldSummary). record x { packing = packing_template s; bits = bit_width s; values = value_count s }) is
         ∙ (λ i. summary_by d (identification_of (sym e1 i)) (sym e3 i) (sym e4 i) (sym same i))
 
   -- the earlier bitmap after it
