@@ -166,3 +166,11 @@ head_two u two =
     let one : Head = record { edition = 1; discipline = 0; total = total_length_1 u } in
     let both : Head = record { edition = 2; discipline = discipline u; total = total_length u } in
     ap (λ (b : Bool). cond b one both) (ne_eqb (edition u) 1 (λ one. absurd (omega arith)))
+
+-- Section 0 was noted whole
+pub noted_whole : (beginning : Beginning) (u part first : List ℕ) → BeginsHeard beginning u
+    → take (beginning.count + length part) first ≡ take beginning.count beginning.first ++ part → length first ≡ 16 → beginning.count + length part ≡ 16
+    → first ≡ u ++ part
+noted_whole beginning u part first h noted long all =
+    let front : take beginning.count beginning.first ≡ u = ap (λ (n : ℕ). take n beginning.first) h.count ∙ h.first in
+    all_sixteen first (u ++ part) long (ap (λ (n : ℕ). take n first) (sym all) ∙ noted ∙ ap (λ (xs : List ℕ). xs ++ part) front)

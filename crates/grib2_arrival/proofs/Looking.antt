@@ -37,6 +37,7 @@ module _ (u : List ℕ) (before : List Placed) (kept : Kept) (h : Stands u befor
   looks_few few = (
     cut_at_mark u kept.total kept.last kept.place (omega (arith, long)),
     record { goes = λ four. absurd (omega arith); wants = λ five. absurd (omega arith); other = λ five. absurd (omega arith) },
+    omega (arith, long, h.room),
   )
 
   pub looks_ended : 4 ≤ length gathered → number_at gathered 1 4 ≡ mark → kept.last ≡ 7 → kept.total ≡ kept.place + 3 → Looks u kept gathered Ends
@@ -61,6 +62,7 @@ module _ (u : List ℕ) (before : List Placed) (kept : Kept) (h : Stands u befor
       looks_four few = (
         cut_at_frame u kept.total kept.last kept.place (there_four four) none later (omega (arith, long)),
         record { goes = λ _. no_mark; wants = λ five. absurd (omega arith); other = λ five. absurd (omega arith) },
+        omega (arith, long, h.room),
       )
 
       module _ (five : 5 ≤ length gathered) (least : 5 ≤ number_at gathered 1 4) (room : kept.place - 1 + number_at gathered 1 4 + 4 ≤ kept.total) (follows : IsTrue (may_follow kept.last (number_at gathered 5 5))) where
@@ -87,6 +89,7 @@ module _ (u : List ℕ) (before : List Placed) (kept : Kept) (h : Stands u befor
           cut_in_section u kept.total kept.last kept.place (there_four four) none later (there_five five)
               (omega (arith, stated, least)) (omega (arith, stated, room)) follows_here (omega (arith, stated, long, low)),
           record { goes = λ _. no_mark; wants = λ _. wants; other = λ _. other },
+          omega (arith, long, room, wants, low),
         )
 
         pub looks_section : number_at gathered 5 5 ≢ 7 → number_at gathered 5 5 ≤ 7 → number_at gathered 1 4 ≤ length gathered → Looks u kept gathered Section

@@ -30,9 +30,10 @@ module _ (u : List ℕ) (q : ℕ) (low : 1 ≤ q) (within : q ≤ length u + 1) 
 pub pending_more : (u more : List ℕ) (q : ℕ) → q ≤ length u + 1 → drop (q - 1) (u ++ more) ≡ drop (q - 1) u ++ more
 pending_more u more q within = drop-append-le (q - 1) u more (omega arith)
 
+pub none_left : (xs : List ℕ) → length xs ≡ 0 → xs ≡ []
+none_left [] e = refl
+none_left (x ∷ xs) e = absurd (omega arith)
+
 -- nothing is pending at the end of the octets
 pub pending_none : (u : List ℕ) (q : ℕ) → q ≡ length u + 1 → drop (q - 1) u ≡ []
-pending_none u q is = none_left (drop (q - 1) u) (omega (arith, length-drop (q - 1) u)) where
-  none_left : (xs : List ℕ) → length xs ≡ 0 → xs ≡ []
-  none_left [] e = refl
-  none_left (x ∷ xs) e = absurd (omega arith)
+pending_none u q is = none_left (drop (q - 1) u) (omega (arith, length-drop (q - 1) u))

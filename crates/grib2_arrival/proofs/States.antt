@@ -1,5 +1,5 @@
 -- What is known of an arriving message, state by state.
-use Rattle.std.proofs.Common.{◌≡◌, ◌≢◌, ℕ, ◌+◌, ◌-◌, ◌<◌, ◌≤◌, Option, Some, None, List, [], ◌∷◌, ◌++◌, length, take, drop, slice_get, refl, sym, ap, ◌∙◌, arith, subst, length-append, length-drop}
+use Rattle.std.proofs.Common.{◌≡◌, ◌≢◌, ℕ, ◌+◌, ◌-◌, ◌<◌, ◌≤◌, Option, Some, None, IsSome, List, [], ◌∷◌, ◌++◌, length, take, drop, slice_get, refl, sym, ap, ◌∙◌, arith, subst, length-append, length-drop}
 use Rattle.std.proofs.lemmas.List.{drop-append-le}
 use Rattle.grib_bits.specs.Octets.{octets as number_at, StatesItself}
 use Rattle.grib_base.specs.declared.fault.Fault.{Fault}
@@ -15,13 +15,17 @@ use Rattle.grib2_message.specs.Acceptance.{section_fault}
 use Rattle.grib2_message.specs.Kept.{KeepsRepresentation, TellsBitmap}
 use Rattle.grib2_message.specs.declared.summary.FieldSummary.{FieldSummary}
 use Rattle.grib2_message.proofs.InForce.{in_force_other}
+use Rattle.std.specs.Option.{option_map_or}
+use Rattle.grib_complex.specs.Field.{Represents}
+use Rattle.grib_complex.specs.declared.field.Representation.{Representation}
+use Rattle.grib2_message.proofs.Order.{one_below, follows_tells}
 use Rattle.grib2_arrival.specs.declared.kept.Kept.{Kept}
 use Rattle.grib2_arrival.specs.declared.data.Data.{Data}
 use Rattle.grib2_arrival.specs.Standing.{summary_in_force, Stands}
 use Rattle.grib2_arrival.specs.Fed.{DataAgrees}
 use Rattle.grib2_arrival.specs.Heard.{mark, cut_off, pending, step_of, IsUnfinished, IsOne, IsValues, Stops, GathersHeard, FeedsHeard}
 use Rattle.grib2_arrival.proofs.Rows.{cut_at_mark}
-use Rattle.grib2_arrival.proofs.Pending.{pending_long, pending_more, pending_none}
+use Rattle.grib2_arrival.proofs.Pending.{pending_long, pending_more, pending_none, none_left}
 use Rattle.grib2_arrival.proofs.Onward.{stands_longer, stands_next, Follows, count_kept, count_more, summaries_more, line_kept, contents_refused}
 use Rattle.grib2_arrival.proofs.Reasons.{section_other, other_reason}
 use Rattle.grib2_arrival.proofs.Sections.{bitmap_other, fault_number}
@@ -35,6 +39,7 @@ fresh u before kept h at = record {
   gathered_are = sym (pending_none u kept.place at);
   cut = cut_at_mark u kept.total kept.last kept.place (omega (arith, at));
   unfinished = record { goes = λ four. absurd (omega arith); wants = λ five. absurd (omega arith); other = λ five. absurd (omega arith) };
+  near = omega (arith, h.room, at);
 }
 
 -- ---- more octets are gathered
@@ -107,6 +112,12 @@ module _ (u piece : List ℕ) (kept : Kept) (l : ℕ) (before : List Placed) (h 
       let long = pending_long u kept.place (omega (arith, low)) h.walked.within (pending u kept) refl in
       omega (arith, long, length-drop 5 (pending u kept), v.there)
 
+  -- and with the first five
+  pub values_long : length (pending u kept) ≡ length (drop 5 (pending u kept)) + 5
+  values_long =
+      let long = pending_long u kept.place (omega (arith, low)) h.walked.within (pending u kept) refl in
+      omega (arith, long, length-drop 5 (pending u kept), v.there)
+
   pub values_more : drop 5 (pending u kept) ++ piece ≡ drop 5 (pending (u ++ piece) kept)
   values_more =
       let long = pending_long u kept.place (omega (arith, low)) h.walked.within (pending u kept) refl in
@@ -124,3 +135,31 @@ stops_contents u before kept h s e start at (ReadRefused fault) refused =
     let is : section_fault before (placed_at kept.place s) ≡ Some fault = ap (λ (q : ℕ). section_fault before (placed_at q s)) (sym at) ∙ refused in
     (contents_refused u before kept h s fault e is, other_reason (section_fault before (placed_at kept.place s)) fault (section_other before (placed_at kept.place s)) is)
 stops_contents u before kept h s e start at ReadMemory refused = tt
+
+-- ---- what the Section 5 in force says
+
+pub representation_there : (o : Option Representation) (p : Option Placed) → KeepsRepresentation o p → IsSome p → o ≡ None → ⊥
+representation_there None None kept some is = cc
+representation_there None (Some s) kept some is = kept
+representation_there (Some x) p kept some is = cc
+
+pub representation_here : (o : Option Representation) (p : Option Placed) (representation : Representation) → KeepsRepresentation o p → o ≡ Some representation
+    → Represents representation (option_map_or (λ s. s.octets) p [])
+representation_here None p representation kept is = cc
+representation_here (Some x) None representation kept is = absurd kept
+representation_here (Some x) (Some s) representation kept is = (let e : x ≡ representation = cc in subst (λ (y : Representation). Represents y s.octets) e kept)
+
+-- Section 7 stands after Section 6, and a Section 5 is in force
+pub values_follow : (u : List ℕ) (before : List Placed) (kept : Kept) (l : ℕ) → Stands u before kept → IsValues u kept l → IsSome (section_in_force 5 before)
+values_follow u before kept l h v =
+    let six = one_below kept.last 7 (follows_tells kept.last 7 v.follows) (omega arith) in
+    h.walked.sound.present 5 (omega arith) (omega (arith, six, h.last)) (λ e. absurd (omega arith))
+
+-- five octets of it came
+pub values_begun : (s : List ℕ) → length s ≡ 5 → drop 5 s ≡ []
+values_begun s five = none_left (drop 5 s) (omega (arith, length-drop 5 s))
+
+-- and it is refused or not by its rows
+pub values_fault : (before : List Placed) (start : ℕ) (s7 : List ℕ) → StatesItself 7 s7
+    → section_fault before (placed_at start s7) ≡ located start (data_fault (octets_in_force 5 before) s7)
+values_fault before start s7 itself = fault_number before start 7 s7 itself 7 refl

@@ -74,6 +74,7 @@ pub record GathersHeard (kept : Kept) (gathered : List ℕ) (octets : List ℕ) 
   pub gathered_are : gathered ≡ pending octets kept
   pub cut : step_of octets kept ≡ Fails (cut_off octets)
   pub unfinished : IsUnfinished gathered
+  pub near : length octets ≤ kept.total
 
 -- A Section 7 of this length has begun, of which five octets and more came.
 pub record IsValues (octets : List ℕ) (kept : Kept) (l : ℕ) : Type 0 where
@@ -135,7 +136,7 @@ IsUndecided (verdicts.Refused fault) = fault.reason ≡ Truncated
 
 -- what a look at what was gathered tells
 abbrev pub Looks : List ℕ → Kept → List ℕ → Look → Type 0
-Looks octets kept gathered More = (step_of octets kept ≡ Fails (cut_off octets)) × IsUnfinished gathered
+Looks octets kept gathered More = (step_of octets kept ≡ Fails (cut_off octets)) × IsUnfinished gathered × (length octets ≤ kept.total)
 Looks octets kept gathered Ends = (step_of octets kept ≡ End) × (length octets ≡ kept.total)
 Looks octets kept gathered Section = (step_of octets kept ≡ Next gathered) × StatesItself (number_at gathered 5 5) gathered × (number_at gathered 5 5 ≢ 7) × (number_at gathered 5 5 ≤ 7)
 Looks octets kept gathered (Values l) = IsValues octets kept l × (length gathered ≡ 5)

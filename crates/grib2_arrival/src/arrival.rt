@@ -101,7 +101,8 @@ impl Arrival {
     /// How many octets were heard.
     pub fn octets(&self) -> u64
         requires live { (octets : List ℕ) × Heard self.now octets }
-        ensures { (octets : List ℕ) → Heard self.now octets → result ≡ length octets }
+        ensures count { (octets : List ℕ) → Heard self.now octets → result ≡ length octets }
+        ensures few { result ≤ 268435456 }
     {
         match &self.state {
             Some(state) => state.octets(),

@@ -49,14 +49,16 @@ impl Beginning {
         }
         let head = read_head(&first)?;
         let kept = Kept::new(alloc, head.total, head.discipline);
-        Ok((State::Gathers(kept, Vec::new(alloc)), taken))
+        let gathered = Vec::new(alloc);
+        Ok((State::Gathers(kept, gathered), taken))
     }
 }
 
 /// Notes the next octets of Section 0, where this many came before.
 fn noted(mut first: [u8; 16], before: usize, octets: &[u8]) -> [u8; 16]
     requires { before + length_of octets.now ≤ 16 }
-    ensures { take (before + length_of octets.now) result ≡ take before first ++ octets.now }
+    ensures long { length_of result ≡ 16 }
+    ensures noted { take (before + length_of octets.now) result ≡ take before first ++ octets.now }
 {
     first[before..before + octets.len()].copy_from_slice(octets);
     first

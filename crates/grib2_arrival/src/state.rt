@@ -59,7 +59,8 @@ impl State {
     /// How many octets came.
     pub fn octets(&self) -> u64
         requires heard { (octets : List ℕ) × StateHeard (Some self.now) octets }
-        ensures { (octets : List ℕ) → StateHeard (Some self.now) octets → result ≡ length_of octets }
+        ensures count { (octets : List ℕ) → StateHeard (Some self.now) octets → result ≡ length_of octets }
+        ensures few { result ≤ 268435456 }
     {
         match self {
             State::Begins(beginning) => beginning.count as u64,
@@ -139,7 +140,8 @@ fn start_values(
     length: u32,
 ) -> Result<State, ReadFault>
     requires stands { (octets : List ℕ) × (before : List Placed) × Stands octets before kept
-        × (gathered.items ≡ pending octets kept) × IsValues octets kept length }
+        × (gathered.items ≡ pending octets kept) × IsValues octets kept length
+        × (length_of gathered.items ≡ 5) }
     ensures { (octets : List ℕ) (before : List Placed) → Stands octets before kept
         → gathered.items ≡ pending octets kept → length_of gathered.items ≡ 5 → IsValues octets kept length
         → MatchResult result (λ state. StateHeard (Some state) octets) (Stops octets) }

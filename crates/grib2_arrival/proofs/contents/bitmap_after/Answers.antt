@@ -18,6 +18,7 @@ returns-then-section-ne6 c = λ u before h follows accepted.
 pub returns : goal.returns
 returns c = λ u before h follows accepted.
     let section = c.args.section.now in
-    bitmap_new before section.start section.number section.octets.now section.itself _ c.if-section-ne6.false
+    bitmap_new before section.start section.number section.octets.now section.itself
+    (record { start = section.start; points = c.args.kept.now.line.points; present = c.args.kept.now.line.values }) c.if-section-ne6.false
     (sym c.u8_at.ensures ∙ c.if-u8_at-ne-OWN_BITS.false) accepted
     (points_kept u before c.args.kept.now h) (values_kept u before c.args.kept.now h)

@@ -15,13 +15,20 @@ pub returns-in-More : goal.returns-in-More
 returns-in-More c = λ u before h is one.
     let v = c.as_slice.ensures.value in
     let looks = rw c.in-More.is at (c.in_ok-look.ensures u before h (v ∙ is) (subst IsOne (sym v) one)) in
-    record { before = before; stands = h; gathered_are = is; cut = looks.0; unfinished = subst IsUnfinished v looks.1 }
+    record { before = before; stands = h; gathered_are = is; cut = looks.0; unfinished = subst IsUnfinished v looks.1; near = looks.2 }
 
 pub returns-in-Ends : goal.returns-in-Ends
 returns-in-Ends c = λ u before h is one.
     let v = c.as_slice.ensures.value in
     let looks = rw c.in-Ends.is at (c.in_ok-look.ensures u before h (v ∙ is) (subst IsOne (sym v) one)) in
     record { before = before; stands = h; ends = looks.0; whole = looks.1 }
+
+pub start_values-requires : goal.start_values-requires
+start_values-requires c =
+    let r = c.requires.stands in
+    let v = c.as_slice.ensures.value in
+    let looks = rw c.in-Values.is at (c.in_ok-look.ensures r.0 r.1 r.2 (v ∙ r.3) (subst IsOne (sym v) r.4)) in
+    record { stands = (r.0, r.1, r.2, r.3, looks.0, ap length (sym v) ∙ looks.1) }
 
 pub returns-in-Values : goal.returns-in-Values
 returns-in-Values c = λ u before h is one.

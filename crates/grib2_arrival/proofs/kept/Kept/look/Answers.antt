@@ -33,7 +33,7 @@ returns-then-self c = λ u before h is one.
     let e = c.u32_at-length.ensures in
     let four : 4 ≤ length g = omega arith in
     let none : number_at g 1 4 ≢ mark = λ x. c.if-length-eq-END_MARK.false (e ∙ x) in
-    let is_fault : c.at.result ≡ refusal kept.place EndMark (number_at g 1 4) = c.at.ensures ∙ ap (λ (n : ℕ). refusal kept.place EndMark n) e in
+    let is_fault : c.at.result ≡ refusal kept.place EndMark (number_at g 1 4) = c.at.ensures ∙ ap (λ (n : ℕ). refusal kept.place EndMark n) (c.from.ensures ∙ e) in
     rw is_fault (missing_fails u before kept h g is one four none c.if-self.true, λ t. cc)
 
 pub returns-then-gathered-lt5 : goal.returns-then-gathered-lt5
