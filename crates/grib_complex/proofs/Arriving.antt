@@ -34,7 +34,7 @@ use Rattle.grib_packing.specs.Differences.{NoNumber}
 -- ---- what continues
 
 pub continues_from : (octets piece : List ℕ) (l : ℕ) (s7 : List ℕ) → Continues (octets ++ piece) l s7 → Continues octets l s7
-continues_from octets piece l s7 c = record { long = c.long; rest = piece ++ c.rest; joined = c.joined ∙ append_assoc octets piece c.rest }
+continues_from octets piece l s7 c = record { long = c.long; known = c.known; rest = piece ++ c.rest; joined = c.joined ∙ append_assoc octets piece c.rest }
 
 pub front_of : (k : ℕ) (octets : List ℕ) (l : ℕ) (s7 : List ℕ) → k ≤ length octets → Continues octets l s7 → take k (drop 5 s7) ≡ take k octets
 front_of k octets l s7 within c = ap (take k) c.joined ∙ take-append-le k octets c.rest within
@@ -156,19 +156,6 @@ module _ (layout : Layout) (skip values l : ℕ) (octets s7 : List ℕ) (c : Con
       ap₂ (λ (rs ws : List ℕ). groups_from rs ws (lengths layout (drop (5 + skip) s7))) references_are widths_are
       ∙ ap (groups_from (references layout (drop skip octets)) (widths layout (drop skip octets))) lengths_are
 
--- ---- first values
-
--- the refusal of the first of them whose top bit is set
-pub signs_refused : (start extra noted : ℕ) (a b : Bool) → noted ≡ cond a 1 (cond b 2 0) → 0 < noted
-    → located start (cond a (Some (refusal 6 FirstValueSign 1)) (cond b (Some (refusal (6 + extra) FirstValueSign 2)) None)) ≡ Some (refusal (start + 5 + (noted - 1) * extra) FirstValueSign noted)
-signs_refused start extra noted true b is some =
-    let place : start + 5 ≡ start + 5 + (noted - 1) * extra = let nothing : (noted - 1) * extra ≡ 0 * extra = ap (λ (n : ℕ). (n - 1) * extra) is in omega arith in
-    ap₂ (λ (o d : ℕ). Some (refusal o FirstValueSign d)) place (sym is)
-signs_refused start extra noted false true is some =
-    let place : start + (6 + extra - 1) ≡ start + 5 + (noted - 1) * extra = let once : (noted - 1) * extra ≡ 1 * extra = ap (λ (n : ℕ). (n - 1) * extra) is in omega arith in
-    ap₂ (λ (o d : ℕ). Some (refusal o FirstValueSign d)) place (sym is)
-signs_refused start extra noted false false is some = absurd (omega arith)
-
 -- ---- rows of a section that continues
 
 module _ (s5 s7 : List ℕ) (start : ℕ) (lists : first_fault (list_rows (layout_of s5) (length s7) (descriptor_octets s5)) ≡ None) where
@@ -180,6 +167,27 @@ pub lists_pass : (layout : Layout) (l skip : ℕ) → 5 + skip + list_octets lay
 lists_pass layout l skip within =
     ap (λ (b : Bool). cond b (Some (refusal 1 DataTooShort l)) None) (le-ltb l (5 + skip + list_octets layout) within)
 
+-- a first value has its top bit set
+module _ (complex : Complex) (s5 : List ℕ) (spelled : Spelled complex s5) (accepted : IsAccepted complex) (some : 1 ≤ complex.layout.groups) (start : ℕ) (s7 : List ℕ)
+    (within : 5 + (complex.order + 1) * complex.extra + list_octets complex.layout ≤ length s7) where
+  pub signs_refuse : (f : Fault)
+      → cond (is_signed_at complex.order complex.extra s7 0) (Some (refusal (start + 5) FirstValueSign 1)) (cond (is_signed_at complex.order complex.extra s7 1) (Some (refusal (start + 5 + complex.extra) FirstValueSign 2)) None) ≡ Some f
+      → located start (data_fault s5 s7) ≡ Some f
+  signs_refuse f is =
+      let order = complex.order in
+      let extra = complex.extra in
+      let numbers = numbers_with complex s5 ((order + 1) * extra) spelled accepted refl in
+      let lists = sym (lists_are s5 s7 complex.layout ((order + 1) * extra) complex.simple.values order extra complex.simple.template numbers (length s7) refl) ∙ lists_pass complex.layout (length s7) ((order + 1) * extra) within in
+      let rows = rows_of_signs s5 s7 complex.layout ((order + 1) * extra) complex.simple.values order extra complex.simple.template numbers in
+      ap (located start) (fault_grouped complex s5 spelled accepted some s7)
+      ∙ signs_fail s5 s7 start lists _ f rows (at_start (is_signed_at order extra s7 0) (is_signed_at order extra s7 1) ∙ is)
+    where
+      at_start : (a b : Bool) → located start (cond a (Some (refusal 6 FirstValueSign 1)) (cond b (Some (refusal (6 + complex.extra) FirstValueSign 2)) None))
+          ≡ cond a (Some (refusal (start + 5) FirstValueSign 1)) (cond b (Some (refusal (start + 5 + complex.extra) FirstValueSign 2)) None)
+      at_start true b = refl
+      at_start false true = let place : start + (6 + complex.extra - 1) ≡ start + 5 + complex.extra = omega arith in ap (λ (o : ℕ). Some (refusal o FirstValueSign 2)) place
+      at_start false false = refl
+
 module _ (complex : Complex) (s5 : List ℕ) (spelled : Spelled complex s5) (accepted : IsAccepted complex) (some : 1 ≤ complex.layout.groups) (start l : ℕ) (octets s7 : List ℕ) (c : Continues octets l s7)
     (within : 5 + (complex.order + 1) * complex.extra + list_octets complex.layout ≤ l) (whole : (complex.order + 1) * complex.extra + list_octets complex.layout ≤ length octets)
     (noted : List ℕ) (front : take ((complex.order + 1) * complex.extra) (drop 5 noted) ≡ take ((complex.order + 1) * complex.extra) octets) where
@@ -188,18 +196,6 @@ module _ (complex : Complex) (s5 : List ℕ) (spelled : Spelled complex s5) (acc
 
   alike : take ((complex.order + 1) * complex.extra) (drop 5 noted) ≡ take ((complex.order + 1) * complex.extra) (drop 5 s7)
   alike = front ∙ sym (front_of ((complex.order + 1) * complex.extra) octets l s7 (omega arith) c)
-
-  -- a first value has its top bit set
-  pub came_signed : (sign : ℕ) → sign ≡ cond (is_signed_at complex.order complex.extra noted 0) 1 (cond (is_signed_at complex.order complex.extra noted 1) 2 0) → 0 < sign
-      → located start (data_fault s5 s7) ≡ Some (refusal (start + 5 + (sign - 1) * complex.extra) FirstValueSign sign)
-  came_signed sign is some_sign =
-      let order = complex.order in
-      let extra = complex.extra in
-      let lists = sym (lists_are s5 s7 complex.layout ((order + 1) * extra) complex.simple.values order extra complex.simple.template numbers l (sym c.long)) ∙ lists_pass complex.layout l ((order + 1) * extra) within in
-      let rows = rows_of_signs s5 s7 complex.layout ((order + 1) * extra) complex.simple.values order extra complex.simple.template numbers in
-      let on_section = is ∙ ap₂ (λ (a b : Bool). cond a 1 (cond b 2 0)) (signed_same noted s7 order extra alike 0) (signed_same noted s7 order extra alike 1) in
-      ap (located start) (fault_grouped complex s5 spelled accepted some s7)
-      ∙ signs_fail s5 s7 start lists _ _ rows (signs_refused start extra sign (is_signed_at order extra s7 0) (is_signed_at order extra s7 1) on_section some_sign)
 
   module _ (no_sign : ◌≡◌ {A = ℕ} (cond (is_signed_at complex.order complex.extra noted 0) 1 (cond (is_signed_at complex.order complex.extra noted 1) 2 0)) 0) where
     signs_pass : ◌≡◌ {A = ℕ} (cond (is_signed_at complex.order complex.extra s7 0) 1 (cond (is_signed_at complex.order complex.extra s7 1) 2 0)) 0

@@ -1,14 +1,29 @@
 -- Lemmas on what is known of a Section 7 as more octets come.
-use Rattle.std.proofs.Common.{◌≡◌, ℕ, ◌+◌, ◌*◌, ◌^◌, ◌<◌, ◌≤◌, min, Bool, Option, Some, None, List, [], ◌++◌, length, take, drop, refl, sym, ap, ◌∙◌, arith, subst, inl, inr}
+use Rattle.std.proofs.Common.{◌≡◌, ℕ, ◌+◌, ◌-◌, ◌*◌, ◌^◌, ◌<◌, ◌≤◌, min, Bool, Option, Some, None, List, [], ◌∷◌, ◌++◌, length, map, take, drop, vec_capacity, refl, sym, ap, ◌∙◌, append_assoc, add-mul, arith, mul_comm, subst, take-append-drop, inl, inr}
 use Rattle.std.proofs.Math.Nat.{mul-le-mul_right}
-use Rattle.std.proofs.lemmas.List.{length-append, length-take, length-drop, drop-append-le, drop_all, append-nil}
-use Rattle.grib_packing.specs.Groups.{codes_from, packed_bits}
+use Rattle.std.proofs.lemmas.Bool.{cases_lt}
+use Rattle.std.proofs.lemmas.List.{length-append, length-drop, drop-append-le, drop_all, take_all, append-nil, get_or_append_left, get_or-append_right, length-map, map-append}
+use Rattle.grib_packing.specs.Groups.{codes_from, packed_bits, list_octets, reference_octets, width_octets, length_octets}
 use Rattle.grib_groups.specs.declared.feeding.Fed.{Fed}
 use Rattle.grib_groups.specs.declared.list_feeding.FedLists.{FedLists}
-use Rattle.grib_groups.specs.Feeding.{part, AreFeedable, IsFeedable, ListsFed, WasFed}
-use Rattle.grib_complex.specs.declared.feeding.Beginning.{Beginning}
-use Rattle.grib_complex.specs.declared.feeding.State.{State}
-use Rattle.grib_complex.specs.declared.keeping.Points.{Points}
+use Rattle.grib_groups.specs.declared.list_feeding.FedLists.TheVariants.{AtReferences, AtWidths, AtLengths}
+use Rattle.grib_groups.specs.declared.lists.Lists.{Lists as GroupLists}
+use Rattle.grib_groups.specs.declared.lists.References.{References}
+use Rattle.grib_groups.specs.Feeding.{part, AreFeedable, CanBeFed, IsCaughtUp, IsFeedable, IsList, Listing, ListsFed, WasFed, list_pending, no_marks, pending_of, plain_groups}
+use Rattle.grib_groups.specs.Going.{left_of}
+use Rattle.grib_groups.specs.Lists.{ReferencesTook}
+use Rattle.grib_groups.specs.Table.{groups_in}
+use Rattle.grib_groups.specs.Taking.{IsEnd, number_of}
+use Rattle.grib_groups.proofs.Coded.{numbers_present}
+use Rattle.grib_groups.proofs.Pieces.{part-append, part_more, plain-part, plain_codes}
+use Rattle.grib_groups.proofs.Listed.{no_groups}
+use Rattle.grib_groups.proofs.Taken.{packed_bits-cons, values-cons}
+use Rattle.grib_bits.proofs.OctetBits.{bits-append, length-bits}
+use Rattle.grib_base.specs.declared.code.Code.TheVariants.{Present}
+use Rattle.grib_complex.specs.Descriptors.{numbers_at}
+use Rattle.grib_complex.specs.declared.stages.Between.{Between}
+use Rattle.grib_complex.specs.declared.stages.State.{State}
+use Rattle.grib_complex.specs.declared.stages.State.TheVariants.{Begins, Lists, Reads, Passes, Refused}
 use Rattle.grib_complex.specs.declared.representation.Complex.{Complex}
 use Rattle.grib_complex.specs.declared.values.Values.{Values}
 use Rattle.grib_complex.specs.Descriptors.{IsAccepted}
@@ -19,11 +34,14 @@ use Rattle.grib_packing.specs.declared.column.Point.{Point}
 use Rattle.grib_packing.specs.Entries.{data_fault, entries_of, is_out_of_range}
 use Rattle.grib_groups.specs.Taking.{values}
 use Rattle.grib_groups.proofs.Taken.{length-codes_from}
-use Rattle.grib_complex.specs.declared.feeding.Feeder.{Feeder}
-use Rattle.grib_complex.specs.Feeding.{Agrees, BeginningAgrees, Continues, ReadingAgrees, StateAgrees, IsFaultOf, octets_left}
+use Rattle.grib_complex.specs.declared.feeding.Feeding.{Feeding}
+use Rattle.grib_complex.specs.Feeding.{AreOctets, Continues, ListingAgrees, HasRead, PassingAgrees, ReadingAgrees, StateAgrees, IsFaultOf, octets_left, pending_in}
 use Rattle.grib_complex.proofs.Told.{length-told}
-use Rattle.grib_complex.specs.Kept.{ArePoints, PointsKept}
 use Rattle.grib_complex.specs.Tells.{ValuesTook}
+use Rattle.grib_complex.specs.Told.{Telling, told}
+use Rattle.grib_packing.specs.declared.group.Group.{Group}
+use Rattle.grib_packing.specs.declared.layout.Layout.{Layout}
+use Rattle.grib_packing.specs.Packing.{value_count}
 use Rattle.grib_complex.proofs.Arriving.{continues_from}
 
 -- there are at most 12 octets of descriptors
@@ -36,48 +54,61 @@ few_descriptors complex accepted =
     let up : (complex.order + 1) * complex.extra ≤ 3 * complex.extra = mul-le-mul_right complex.extra order in
     omega (arith, accepted.extra)
 
--- how many octets of them came
-pub noted_count : (octets piece noted : List ℕ) (k : ℕ) → part 0 k (octets ++ piece) ≡ part 0 k octets ++ noted → min (length octets) k + length noted ≡ min (length (octets ++ piece)) k
-noted_count octets piece noted k is =
-    omega (arith, ap length is, length-append (take k octets) noted, length-take k (octets ++ piece), length-take k octets)
+-- the lists, whatever octets of them come
+pub listing_ahead : {K : Type 0} (s5 : List ℕ) (keeper : K) (l : ℕ) (octets piece : List ℕ) (b : Between K) → ListingAgrees s5 keeper l octets octets b → ListingAgrees s5 keeper l octets (octets ++ piece) b
+listing_ahead s5 keeper l octets piece b agrees = record {
+  spelled = agrees.spelled;
+  accepted = agrees.accepted;
+  groups = agrees.groups;
+  few = agrees.few;
+  within = agrees.within;
+  came = omega (arith, agrees.came, length-append octets piece);
+  order = agrees.order;
+  first = agrees.first;
+  second = agrees.second;
+  minimum = agrees.minimum;
+  told_is = λ s7 c. agrees.told_is s7 (continues_from octets piece l s7 c);
+  unsigned = λ s7 c. agrees.unsigned s7 (continues_from octets piece l s7 c);
+  lists = agrees.lists;
+  feedable = agrees.feedable;
+  keeper_is = agrees.keeper_is;
+}
 
-module _ (s5 : List ℕ) (mask : List Bool) (l : ℕ) (octets piece : List ℕ) (b : Beginning) (k m : ℕ) (noted listed descriptors : List ℕ) (lists : FedLists)
-    (is_k : k ≡ (b.complex.order + 1) * b.complex.extra) (is_m : m ≡ min (length octets) k) (is_part : part 0 k (octets ++ piece) ≡ part 0 k octets ++ noted) (is_rest : drop k (octets ++ piece) ≡ drop k octets ++ listed)
-    (is_noted : take (m + length noted) (drop 5 descriptors) ≡ take m (drop 5 b.descriptors) ++ noted) (feedable : AreFeedable lists)
-    (fed : ListsFed b.complex.layout b.complex.simple.values (drop k octets) b.lists → ListsFed b.complex.layout b.complex.simple.values (drop k octets ++ listed) lists)
-    (agrees : BeginningAgrees s5 mask l octets b) where
-  pub begun_more : BeginningAgrees s5 mask l (octets ++ piece) (record b { descriptors = descriptors; lists = lists })
-  begun_more =
-      let before : take (min (length octets) k) (drop 5 b.descriptors) ≡ take k octets = subst (λ (n : ℕ). take (min (length octets) n) (drop 5 b.descriptors) ≡ take n octets) (sym is_k) agrees.descriptors in
-      let count : min (length (octets ++ piece)) k ≡ m + length noted = sym (noted_count octets piece noted k is_part) ∙ ap (λ (n : ℕ). n + length noted) (sym is_m) in
-      let now : take (min (length (octets ++ piece)) k) (drop 5 descriptors) ≡ take k (octets ++ piece) =
-      ap (λ (n : ℕ). take n (drop 5 descriptors)) count ∙ is_noted
-      ∙ ap (λ (us : List ℕ). us ++ noted) (ap (λ (n : ℕ). take n (drop 5 b.descriptors)) is_m ∙ before)
-      ∙ sym is_part in
-      let lists_before = subst (λ (n : ℕ). ListsFed b.complex.layout b.complex.simple.values (drop n octets) b.lists) (sym is_k) agrees.lists in
-      let lists_now = subst (λ (os : List ℕ). ListsFed b.complex.layout b.complex.simple.values os lists) (sym is_rest) (fed lists_before) in
-      record {
-        spelled = agrees.spelled;
-        accepted = agrees.accepted;
-        groups = agrees.groups;
-        few = agrees.few;
-        counted = agrees.counted;
-        within = agrees.within;
-        descriptors = subst (λ (n : ℕ). take (min (length (octets ++ piece)) n) (drop 5 descriptors) ≡ take n (octets ++ piece)) is_k now;
-        lists = subst (λ (n : ℕ). ListsFed b.complex.layout b.complex.simple.values (drop n (octets ++ piece)) lists) is_k lists_now;
-        feedable = feedable;
-        points = agrees.points;
-      }
+-- more of them came
+pub listing_more : {K : Type 0} (s5 : List ℕ) (keeper : K) (l : ℕ) (octets piece : List ℕ) (b : Between K) (k : ℕ) (listed : List ℕ) (lists : FedLists) → k ≡ (b.complex.order + 1) * b.complex.extra
+    → drop k (octets ++ piece) ≡ drop k octets ++ listed → AreFeedable b.complex.layout lists
+    → (ListsFed b.complex.layout b.complex.simple.values (drop k octets) b.lists → ListsFed b.complex.layout b.complex.simple.values (drop k octets ++ listed) lists)
+    → ListingAgrees s5 keeper l octets (octets ++ piece) b → ListingAgrees s5 keeper l (octets ++ piece) (octets ++ piece) (record b { lists = lists })
+listing_more s5 keeper l octets piece b k listed lists is_k is feedable fed agrees =
+    let before = subst (λ (n : ℕ). ListsFed b.complex.layout b.complex.simple.values (drop n octets) b.lists) (sym is_k) agrees.lists in
+    let now = subst (λ (os : List ℕ). ListsFed b.complex.layout b.complex.simple.values os lists) (sym is) (fed before) in
+    record {
+      spelled = agrees.spelled;
+      accepted = agrees.accepted;
+      groups = agrees.groups;
+      few = agrees.few;
+      within = agrees.within;
+      came = agrees.came;
+      order = agrees.order;
+      first = agrees.first;
+      second = agrees.second;
+      minimum = agrees.minimum;
+      told_is = agrees.told_is;
+      unsigned = agrees.unsigned;
+      lists = subst (λ (n : ℕ). ListsFed b.complex.layout b.complex.simple.values (drop n (octets ++ piece)) lists) is_k now;
+      feedable = feedable;
+      keeper_is = agrees.keeper_is;
+    }
 
 -- what follows the octets before the packed numbers
 pub first_numbers : (octets piece rest : List ℕ) (whole : ℕ) → length octets ≤ whole → drop whole (octets ++ piece) ≡ drop whole octets ++ rest → rest ≡ drop whole (octets ++ piece)
 first_numbers octets piece rest whole below is = sym (is ∙ ap (λ (us : List ℕ). us ++ rest) (drop_all whole octets below))
 
 -- more packed numbers came
-pub reading_more : (s5 : List ℕ) (mask : List Bool) (start l : ℕ) (octets piece : List ℕ) (fed after : Fed (Values Points)) → IsFeedable (2 ^ 49) after
-    → ((layout : _) (groups : _) (first : Values Points) (os : List ℕ) → WasFed (ValuesTook PointsKept) layout groups first os fed → WasFed (ValuesTook PointsKept) layout groups first (os ++ piece) after)
-    → ReadingAgrees s5 mask start l octets fed → ReadingAgrees s5 mask start l (octets ++ piece) after
-reading_more s5 mask start l octets piece fed after feedable more reads = record {
+pub reading_more : {K : Type 0} (kept : K → List Point → K → Type 0) (s5 : List ℕ) (keeper : K) (start l : ℕ) (octets piece : List ℕ) (fed after : Fed (Values K)) → IsFeedable (2 ^ 49) after
+    → ((layout : _) (groups : _) (first : Values K) (os : List ℕ) → WasFed (ValuesTook kept) layout groups first os fed → WasFed (ValuesTook kept) layout groups first (os ++ piece) after)
+    → ReadingAgrees kept s5 keeper start l octets fed → ReadingAgrees kept s5 keeper start l (octets ++ piece) after
+reading_more kept s5 keeper start l octets piece fed after feedable more reads = record {
   layout = reads.layout;
   groups = reads.groups;
   telling = reads.telling;
@@ -85,10 +116,10 @@ reading_more s5 mask start l octets piece fed after feedable more reads = record
   before = reads.before;
   came = omega (arith, reads.came, length-append octets piece);
   feedable = feedable;
-  so_far = subst (λ (os : List ℕ). WasFed (ValuesTook PointsKept) reads.layout reads.groups reads.first os after) (sym (drop-append-le reads.before octets piece reads.came))
+  so_far = subst (λ (os : List ℕ). WasFed (ValuesTook kept) reads.layout reads.groups reads.first os after) (sym (drop-append-le reads.before octets piece reads.came))
       (more reads.layout reads.groups reads.first (drop reads.before octets) reads.so_far);
   fresh = reads.fresh;
-  points = reads.points;
+  keeper_is = reads.keeper_is;
   few = reads.few;
   counted = reads.counted;
   enough = reads.enough;
@@ -97,46 +128,219 @@ reading_more s5 mask start l octets piece fed after feedable more reads = record
   beyond = λ s7 continues. reads.beyond s7 (continues_from octets piece l s7 continues);
 }
 
+pub passing_more : {K : Type 0} (kept : K → List Point → K → Type 0) (s5 : List ℕ) (keeper : K) (l : ℕ) (octets piece : List ℕ) (after : K)
+    → PassingAgrees kept s5 keeper l octets after → PassingAgrees kept s5 keeper l (octets ++ piece) after
+passing_more kept s5 keeper l octets piece after passing = record {
+  passes = λ s7 continues. passing.passes s7 (continues_from octets piece l s7 continues);
+  counted = λ s7 continues. passing.counted s7 (continues_from octets piece l s7 continues);
+  keeps = passing.keeps;
+}
+
 pub fault_more : (s5 : List ℕ) (start l : ℕ) (octets piece : List ℕ) (fault : _) → IsFaultOf s5 start l octets fault → IsFaultOf s5 start l (octets ++ piece) fault
 fault_more s5 start l octets piece fault is = λ s7 continues. is s7 (continues_from octets piece l s7 continues)
 
+-- ---- pending bits
+
+pub both_octets : (xs ys : List ℕ) → AreOctets xs → AreOctets ys → AreOctets (xs ++ ys)
+both_octets xs ys first second = λ i. elim (cases_lt i (length xs)) [
+  | inl within ↦ omega (arith, get_or_append_left xs ys 0 i within, first i)
+  | inr past ↦ omega (arith, get_or-append_right xs ys (length xs) i 0 refl past, second (i - length xs))
+]
+
+-- the end of what stands behind the first octets
+end_behind : (n : ℕ) (xs : List ℕ) (last : List Bool) → IsEnd last (bits (drop n xs)) → IsEnd last (bits xs)
+end_behind n xs last end = record {
+  before = bits (take n xs) ++ end.before;
+  joined = append_assoc (bits (take n xs)) end.before last ∙ ap (λ (bs : List Bool). bits (take n xs) ++ bs) end.joined
+      ∙ sym (bits-append (take n xs) (drop n xs)) ∙ ap bits (take-append-drop n xs);
+}
+
+part_all : (from size : ℕ) (xs : List ℕ) → length xs ≤ from + size → part from size xs ≡ drop from xs
+part_all from size xs short = take_all size (drop from xs) (omega (arith, length-drop from xs))
+
+-- the end of a part that goes on to the end
+end_of_part : (from size : ℕ) (xs : List ℕ) (last : List Bool) → length xs ≤ from + size → IsEnd last (bits (part from size xs)) → IsEnd last (bits xs)
+end_of_part from size xs last short end = end_behind from xs last (subst (λ (os : List ℕ). IsEnd last (bits os)) (part_all from size xs short) end)
+
+-- at most the bits of one number are pending
+few_pending : {S : Type 0} (limit : ℕ) (fed : Fed S) → IsFeedable limit fed → length (pending_of fed) ≤ 64
+few_pending limit fed feedable = elim (cases_lt 0 (length fed.numbers.pending)) [
+  | inl some ↦ let short = feedable.ready.pending some in omega (arith, short.short, feedable.ready.readable.width)
+  | inr none ↦ omega arith
+]
+
+few_listed : (layout : Layout) (lists : FedLists) → CanBeFed layout lists → length (list_pending lists) ≤ 64
+few_listed layout (AtReferences references widths lengths) can = few_pending (2 ^ 32) references can.0
+few_listed layout (AtWidths references widths lengths) can = few_pending (2 ^ 32) widths can.0
+few_listed layout (AtLengths references widths lengths) can = few_pending (2 ^ 32) lengths can.0
+
+end_listed : (layout : Layout) (start : GroupLists) (octets : List ℕ) (lists : FedLists) → length octets ≤ list_octets layout → Listing layout start octets lists → IsEnd (list_pending lists) (bits octets)
+end_listed layout start octets (AtReferences references widths lengths) below listing =
+    end_of_part 0 (reference_octets layout) octets (pending_of references) (omega (arith, listing.short)) listing.reads.went.taken.ends
+end_listed layout start octets (AtWidths references widths lengths) below listing =
+    end_of_part (reference_octets layout) (width_octets layout) octets (pending_of widths) (omega (arith, listing.short)) listing.reads.went.taken.ends
+end_listed layout start octets (AtLengths references widths lengths) below listing =
+    end_of_part (reference_octets layout + width_octets layout) (length_octets layout) octets (pending_of lengths) (omega (arith, below)) listing.reads.went.taken.ends
+
+pub record Pends {K : Type 0} (octets : List ℕ) (state : State K) : Type 0 where
+  pub few : length (pending_in (Some state)) ≤ 64
+  pub last : IsEnd (pending_in (Some state)) (bits octets)
+
+none_pending : (octets : List ℕ) → let none : List Bool = [] in IsEnd none (bits octets)
+none_pending octets = record { before = bits octets; joined = append-nil (bits octets) }
+
+pub state_pends : {K : Type 0} (kept : K → List Point → K → Type 0) (s5 : List ℕ) (keeper : K) (start l : ℕ) (octets : List ℕ) (state : State K) → StateAgrees kept s5 keeper start l octets (Some state) → Pends octets state
+state_pends kept s5 keeper start l octets (Begins b) agrees =
+    let a = agrees.0 in
+    let k = (b.complex.order + 1) * b.complex.extra in
+    record { few = few_pending (2 ^ 32) b.descriptors a.feedable; last = end_of_part 0 k octets (pending_of b.descriptors) (omega (arith, a.below)) a.descriptors.went.taken.ends }
+state_pends kept s5 keeper start l octets (Lists b) agrees =
+    let a = agrees.0 in
+    let k = (b.complex.order + 1) * b.complex.extra in
+    record {
+      few = few_listed b.complex.layout b.lists a.feedable.list;
+      last = end_behind k octets (list_pending b.lists) (end_listed b.complex.layout a.lists.start (drop k octets) b.lists (omega (arith, agrees.1, length-drop k octets)) a.lists.listing);
+    }
+state_pends kept s5 keeper start l octets (Reads fed) agrees =
+    record { few = few_pending (2 ^ 49) fed agrees.feedable; last = end_behind agrees.before octets (pending_of fed) agrees.so_far.went.taken.ends }
+state_pends kept s5 keeper start l octets (Passes after) agrees = record { few = omega arith; last = none_pending octets }
+state_pends kept s5 keeper start l octets (Refused fault after) agrees = record { few = omega arith; last = none_pending octets }
+
+-- ---- the extra descriptors
+
+-- more of them came
+pub descriptors_fed : (k size w n : ℕ) (first : References) (octets piece noted : List ℕ) (before after : Fed References) → k ≡ size → part 0 k (octets ++ piece) ≡ part 0 k octets ++ noted
+    → ((layout : Layout) (groups : List Group) (start : References) (os : List ℕ) → WasFed ReferencesTook layout groups start os before → WasFed ReferencesTook layout groups start (os ++ noted) after)
+    → WasFed ReferencesTook no_marks (plain_groups w n) first (part 0 size octets) before → WasFed ReferencesTook no_marks (plain_groups w n) first (part 0 size (octets ++ piece)) after
+descriptors_fed k size w n first octets piece noted before after is_k is more fed =
+    subst (λ (os : List ℕ). WasFed ReferencesTook no_marks (plain_groups w n) first os after) (part_more 0 size 0 k octets piece noted refl is_k is)
+    (more no_marks (plain_groups w n) first (part 0 size octets) fed)
+
+-- what was read is what the codes tell
+pub read_items : (first : References) (fed : Fed References) (w n : ℕ) (os : List ℕ) → first.items.items ≡ [] → 3 ≤ vec_capacity first.items → n ≤ 3
+    → (was : WasFed ReferencesTook no_marks (plain_groups w n) first os fed) → fed.taker.items.items ≡ map number_of was.went.codes
+read_items first fed w n os empty memory few was =
+    let count : length was.went.codes ≤ 3 = omega (arith, was.went.taken.counted, values-cons (record { reference = 0; width = w; count = n }) []) in
+    let grown = was.went.passed (omega (arith, ap length empty)) in
+    grown.items ∙ ap (λ (us : List ℕ). us ++ map number_of was.went.codes) empty
+
+-- numbers that are whole were read
+pub numbers_read : (first : References) (fed : Fed References) (extra n j : ℕ) (os : List ℕ) → first.items.items ≡ [] → 3 ≤ vec_capacity first.items → n ≤ 3 → IsFeedable (2 ^ 32) fed → IsList (8 * extra) fed → IsCaughtUp fed
+    → WasFed ReferencesTook no_marks (plain_groups (8 * extra) n) first os fed → j < n → (j + 1) * extra ≤ length os → j < length fed.taker.items.items
+numbers_read first fed extra n j os empty memory few feedable list caught was within came =
+    let w = 8 * extra in
+    let codes = was.went.codes in
+    let taken = was.went.taken in
+    let current = fed.numbers.current in
+    let no_more = no_groups fed.table feedable.whole fed.numbers.next (omega (arith, list.all)) in
+    let left = ap (λ (gs : List Group). values (current ∷ gs)) no_more in
+    let packed = ap (λ (gs : List Group). packed_bits (current ∷ gs)) no_more in
+    let all = values-cons (record { reference = 0; width = w; count = n }) [] in
+    let items = ap length (read_items first fed w n os empty memory few was) in
+    let long = length-map codes number_of in
+    elim (cases_lt 0 (values (left_of fed.numbers (groups_in fed.table)))) [
+      | inl some ↦
+          let short = caught.waits some in
+          let rest = values-cons current [] in
+          let bits_left = packed_bits-cons current [] in
+          let bits_all = packed_bits-cons (record { reference = 0; width = w; count = n }) [] in
+          let used = taken.used some in
+          let counts : n ≡ length codes + current.count = omega (arith, taken.counted, all, left, rest) in
+          let width : current.count * current.width ≡ current.count * w = ap (λ (k : ℕ). current.count * k) list.current in
+          let product : n * w ≡ length codes * w + current.count * w = ap (λ (k : ℕ). k * w) counts ∙ add-mul (length codes) current.count w in
+          let size = length-bits os in
+          let pending : 8 * length os ≡ length codes * w + length fed.numbers.pending = omega (arith, used, packed, bits_left, bits_all, width, product, size) in
+          elim (cases_lt j (length codes)) [
+            | inl below ↦ omega (arith, items, long)
+            | inr past ↦
+                let up : (length codes + 1) * w ≤ (j + 1) * w = mul-le-mul_right w (omega arith) in
+                let eight : (j + 1) * w ≡ 8 * ((j + 1) * extra) = omega arith in
+                absurd (omega (arith, up, eight, pending, short.short, list.current, came, add-mul (length codes) 1 w))
+          ]
+      | inr none ↦ omega (arith, taken.counted, all, items, long)
+    ]
+
+-- what was read are the first of the numbers of each section that continues
+pub record ReadNumbers (items numbers : List ℕ) : Type 0 where
+  pub more : List ℕ
+  pub joined : items ++ more ≡ numbers
+
+module _ (first : References) (fed : Fed References) (order extra l : ℕ) (all s7 : List ℕ) (empty : first.items.items ≡ []) (memory : 3 ≤ vec_capacity first.items) (few : order ≤ 2) (within : 5 + (order + 1) * extra ≤ l) (c : Continues all l s7)
+    (was : WasFed ReferencesTook no_marks (plain_groups (8 * extra) (order + 1)) first (part 0 ((order + 1) * extra) all) fed) where
+  pub read_numbers : ReadNumbers fed.taker.items.items (numbers_at order extra (drop 5 s7))
+  read_numbers =
+      let k = (order + 1) * extra in
+      let w = 8 * extra in
+      let n = order + 1 in
+      let xs = drop 5 s7 in
+      let groups = plain_groups w n in
+      let tail = take (min (0 + k - length all) (length c.rest) - min (0 - length all) (length c.rest)) (drop (min (0 - length all) (length c.rest)) c.rest) in
+      let front : part 0 k xs ≡ part 0 k all ++ tail = ap (part 0 k) c.joined ∙ part-append 0 k all c.rest in
+      let went = was.went in
+      let left = codes_from no_marks (left_of fed.numbers (groups_in fed.table)) (fed.numbers.pending ++ bits tail) in
+      let product : w * n ≡ 8 * k = omega (arith, mul_comm extra n) in
+      let whole : map Present (numbers_at order extra xs) ≡ went.codes ++ left =
+      ap (map Present) (sym (plain-part k w n xs (omega (arith, length-drop 5 s7, c.long)) (omega (arith, product))))
+      ∙ sym (plain_codes w n (bits (part 0 k xs)))
+      ∙ ap (λ (os : List ℕ). codes_from no_marks groups (bits os)) front
+      ∙ ap (codes_from no_marks groups) (bits-append (part 0 k all) tail)
+      ∙ went.taken.agree (bits tail) in
+      let items = read_items first fed w n (part 0 k all) empty memory (omega arith) was in
+      record {
+        more = map number_of left;
+        joined = ap (λ (us : List ℕ). us ++ map number_of left) items ∙ sym (map-append number_of went.codes left) ∙ ap (map number_of) (sym whole) ∙ numbers_present (numbers_at order extra xs);
+      }
+
 -- ---- a feeder
 
-pub push_agrees : (feeder : Feeder) (state after : State) (piece : List ℕ) (pushed : ℕ) → feeder.state ≡ Some state → pushed ≡ feeder.pushed + length piece → length piece ≤ octets_left feeder
-    → ((s5 : List ℕ) (mask : List Bool) (octets : List ℕ) → length octets ≡ feeder.pushed → StateAgrees s5 mask feeder.start feeder.length octets (Some state)
-    → StateAgrees s5 mask feeder.start feeder.length (octets ++ piece) (Some after))
-    → (s5 : List ℕ) (mask : List Bool) (start l : ℕ) (octets : List ℕ) → Agrees s5 mask start l octets feeder
-    → Agrees s5 mask start l (octets ++ piece) (record feeder { pushed = pushed; state = Some after })
-push_agrees feeder state after piece pushed is_state is_pushed room step s5 mask start l octets agrees =
-    let before = subst (λ (o : Option State). StateAgrees s5 mask start l octets o) is_state agrees.state in
-    let at_start = subst (λ (n : ℕ). StateAgrees s5 mask n l octets (Some state)) (sym agrees.start_is) before in
-    let at_length = subst (λ (n : ℕ). StateAgrees s5 mask feeder.start n octets (Some state)) (sym agrees.length_is) at_start in
-    let next = step s5 mask octets (sym agrees.pushed) at_length in
-    let back = subst (λ (n : ℕ). StateAgrees s5 mask n feeder.length (octets ++ piece) (Some after)) agrees.start_is next in
+pub push_read : {K : Type 0} (kept : K → List Point → K → Type 0) (feeding : Feeding K) (state after : State K) (piece : List ℕ) (pushed : ℕ) → feeding.state ≡ Some state → pushed ≡ feeding.pushed + length piece → length piece ≤ octets_left feeding
+    → AreOctets piece
+    → ((s5 : List ℕ) (keeper : K) (octets : List ℕ) → length octets ≡ feeding.pushed → AreOctets octets → StateAgrees kept s5 keeper feeding.start feeding.length octets (Some state)
+    → StateAgrees kept s5 keeper feeding.start feeding.length (octets ++ piece) (Some after))
+    → (s5 : List ℕ) (keeper : K) (start l : ℕ) (octets : List ℕ) → HasRead kept s5 keeper start l octets feeding
+    → HasRead kept s5 keeper start l (octets ++ piece) (record feeding { pushed = pushed; state = Some after })
+push_read {K} kept feeding state after piece pushed is_state is_pushed room octets_known step s5 keeper start l octets read =
+    let before = subst (λ (o : Option (State K)). StateAgrees kept s5 keeper start l octets o) is_state read.state in
+    let at_start = subst (λ (n : ℕ). StateAgrees kept s5 keeper n l octets (Some state)) (sym read.start_is) before in
+    let at_length = subst (λ (n : ℕ). StateAgrees kept s5 keeper feeding.start n octets (Some state)) (sym read.length_is) at_start in
+    let next = step s5 keeper octets (sym read.pushed) read.known at_length in
+    let back = subst (λ (n : ℕ). StateAgrees kept s5 keeper n feeding.length (octets ++ piece) (Some after)) read.start_is next in
+    let now = subst (λ (n : ℕ). StateAgrees kept s5 keeper start n (octets ++ piece) (Some after)) read.length_is back in
+    let pends = state_pends kept s5 keeper start l (octets ++ piece) after now in
     record {
-      spelled = agrees.spelled;
-      start_is = agrees.start_is;
-      low = agrees.low;
-      high = agrees.high;
-      length_is = agrees.length_is;
-      pushed = omega (arith, is_pushed, agrees.pushed, length-append octets piece);
-      within = omega (arith, room, agrees.pushed, agrees.within, agrees.length_is, length-append octets piece);
-      state = subst (λ (n : ℕ). StateAgrees s5 mask start n (octets ++ piece) (Some after)) agrees.length_is back;
+      spelled = read.spelled;
+      start_is = read.start_is;
+      low = read.low;
+      high = read.high;
+      length_is = read.length_is;
+      pushed = omega (arith, is_pushed, read.pushed, length-append octets piece);
+      within = omega (arith, room, read.pushed, read.within, read.length_is, length-append octets piece);
+      known = both_octets octets piece read.known octets_known;
+      few = pends.few;
+      last = pends.last;
+      state = now;
     }
 
 -- a section is what continues its own octets
-pub continues_itself : (s7 : List ℕ) → Continues (drop 5 s7) (length s7) s7
-continues_itself s7 = record { long = refl; rest = []; joined = sym (append-nil (drop 5 s7)) }
+pub continues_itself : (s7 : List ℕ) → AreOctets (drop 5 s7) → Continues (drop 5 s7) (length s7) s7
+continues_itself s7 known = record { long = refl; known = known; rest = []; joined = sym (append-nil (drop 5 s7)) }
+
+-- the codes of some groups tell as many points as the groups have values
+pub told_count : (layout : Layout) (groups : List Group) (telling : Telling) (numbers : List Bool) (entries : List Point) (count : ℕ) → told telling (codes_from layout groups numbers) ≡ entries → values groups ≡ count
+    → length entries ≡ count
+told_count layout groups telling numbers entries count is counted =
+    sym (ap length is) ∙ length-told telling (codes_from layout groups numbers) ∙ length-codes_from layout groups numbers ∙ counted
 
 -- all packed numbers came
-pub record ReadWhole (s5 : List ℕ) (mask : List Bool) (start : ℕ) (s7 : List ℕ) (after : Values Points) : Type 0 where
+pub record ReadWhole {K : Type 0} (kept : K → List Point → K → Type 0) (s5 : List ℕ) (keeper : K) (start : ℕ) (s7 : List ℕ) (after : Values K) : Type 0 where
   pub none : after.teller.beyond ≡ 0 → data_fault s5 s7 ≡ None
   pub some : 0 < after.teller.beyond → located start (data_fault s5 s7) ≡ Some (refusal start ScaledRange after.teller.beyond)
-  pub points : after.teller.beyond ≡ 0 → ArePoints mask (entries_of s5 s7) after.keeper
+  pub keeps : after.teller.beyond ≡ 0 → kept keeper (entries_of s5 s7) after.keeper
+  pub counted : length (entries_of s5 s7) ≡ value_count s5
 
-module _ (s5 : List ℕ) (mask : List Bool) (start : ℕ) (s7 : List ℕ) (fed : Fed (Values Points)) (after : Values Points) (reads : ReadingAgrees s5 mask start (length s7) (drop 5 s7) fed)
-    (whole : packed_bits reads.groups ≤ 8 * length (drop reads.before (drop 5 s7)) → ValuesTook PointsKept reads.first (codes_from reads.layout reads.groups (bits (drop reads.before (drop 5 s7)))) after) where
-  pub read_whole : ReadWhole s5 mask start s7 after
+module _ {K : Type 0} (kept : K → List Point → K → Type 0) (s5 : List ℕ) (keeper : K) (start : ℕ) (s7 : List ℕ) (fed : Fed (Values K)) (after : Values K) (reads : ReadingAgrees kept s5 keeper start (length s7) (drop 5 s7) fed)
+    (known : AreOctets (drop 5 s7)) (whole : packed_bits reads.groups ≤ 8 * length (drop reads.before (drop 5 s7)) → ValuesTook kept reads.first (codes_from reads.layout reads.groups (bits (drop reads.before (drop 5 s7)))) after) where
+  pub read_whole : ReadWhole kept s5 keeper start s7 after
   read_whole =
       let numbers = bits (drop reads.before (drop 5 s7)) in
       let codes = codes_from reads.layout reads.groups numbers in
@@ -144,7 +348,7 @@ module _ (s5 : List ℕ) (mask : List Bool) (start : ℕ) (s7 : List ℕ) (fed :
       let count : length codes ≡ values reads.groups = length-codes_from reads.layout reads.groups numbers in
       let room : length codes < 2 ^ 63 = omega (arith, count, reads.few) in
       let tells = took.tells reads.telling [] (omega arith) reads.fresh in
-      let c = continues_itself s7 in
+      let c = continues_itself s7 known in
       let entries = reads.entries s7 c in
       let place : after.teller.beyond ≡ first_place is_out_of_range (entries_of s5 s7) = tells.beyond ∙ ap (first_place is_out_of_range) entries in
       record {
@@ -155,8 +359,9 @@ module _ (s5 : List ℕ) (mask : List Bool) (start : ℕ) (s7 : List ℕ) (fed :
             let zero_before : reads.first.teller.beyond ≡ 0 = reads.fresh.beyond in
             absurd (omega (arith, stays.1, zero_before, somewhere)))
             ∙ ap (λ (n : ℕ). Some (refusal start ScaledRange n)) (sym place);
-        points = λ nowhere.
-            let kept = took.keeps reads.telling [] (omega arith) reads.fresh nowhere in
-            let are = kept.keeps mask [] (omega (arith, length-told reads.telling codes, count, reads.counted)) reads.points in
-            subst (λ (ps : List Point). ArePoints mask ps after.keeper) entries are;
+        keeps = λ nowhere.
+            let keeps = took.keeps reads.telling [] (omega arith) reads.fresh nowhere in
+            let told_all = subst (λ (ps : List Point). kept reads.first.keeper ps after.keeper) entries keeps in
+            subst (λ (k : K). kept k (entries_of s5 s7) after.keeper) reads.keeper_is told_all;
+        counted = told_count reads.layout reads.groups reads.telling numbers (entries_of s5 s7) (value_count s5) entries reads.counted;
       }

@@ -18,4 +18,6 @@ pub mod Back
 pub mod ByDifferences
 pub mod AllTheSame
 pub mod AtOnce
+pub mod NotedNumbers
+pub mod Described
 pub mod Represented

@@ -1,11 +1,9 @@
 -- Lemmas on a Section 7 of which no octet came.
-use Rattle.std.proofs.Common.{◌≡◌, ℕ, zero, suc, ◌+◌, ◌*◌, ◌^◌, ◌<◌, ◌≤◌, min, Bool, true, false, cond, eqb, Option, Some, None, List, [], ◌∷◌, length, take, drop, map, replicate, pos, refl, sym, ap, ap₂, ◌∙◌, arith, subst, le-ltb}
+use Rattle.std.proofs.Common.{◌≡◌, ℕ, zero, suc, ◌+◌, ◌*◌, ◌^◌, ◌<◌, ◌≤◌, Bool, true, false, cond, eqb, Option, Some, None, List, [], ◌∷◌, length, drop, map, vec_capacity, replicate, pos, refl, sym, ap, ap₂, ◌∙◌, arith, subst, le-ltb}
 use Rattle.std.proofs.lemmas.Bool.{lt-ltb, eq-eqb}
-use Rattle.std.proofs.lemmas.List.{take_all, drop_all}
 use Rattle.grib_bits.specs.Bits.{bits}
 use Rattle.grib_bits.specs.Octets.{octets}
 use Rattle.grib_bits.specs.Plain.{plain}
-use Rattle.grib_bitmap.specs.Mask.{present_count}
 use Rattle.grib_base.specs.declared.code.Code.TheVariants.{Present}
 use Rattle.grib_base.specs.declared.fault.Fault.{Fault}
 use Rattle.grib_base.specs.declared.fault.Reason.TheVariants.{DataTooShort}
@@ -17,11 +15,14 @@ use Rattle.grib_packing.specs.Packing.{packing_template, value_count, bit_width}
 use Rattle.grib_packing.specs.Simple.{plain_bits, simple_rows, simple_entries}
 use Rattle.grib_packing.proofs.Fields.{plain-add}
 use Rattle.grib_groups.specs.declared.feeding.Fed.{Fed}
-use Rattle.grib_groups.specs.Feeding.{AreFeedable, IsFeedable, ListsFed, WasFed, no_marks, plain_groups}
+use Rattle.grib_groups.specs.declared.lists.Lists.{Lists as GroupLists}
+use Rattle.grib_groups.specs.declared.lists.References.{References}
+use Rattle.grib_groups.specs.Feeding.{HasRoom, IsFeedable, IsList, WasFed, no_marks, plain_groups}
+use Rattle.grib_groups.specs.Lists.{AreEmpty, ReferencesRoom, ReferencesTook}
 use Rattle.grib_groups.specs.Taking.{values}
-use Rattle.grib_groups.proofs.Pieces.{plain_codes, plain_packed}
+use Rattle.grib_groups.proofs.Pieces.{no_part, plain_codes, plain_packed}
 use Rattle.grib_groups.proofs.Taken.{values-cons}
-use Rattle.grib_complex.specs.declared.keeping.Points.{Points}
+use Rattle.grib_packing.specs.declared.column.Point.{Point}
 use Rattle.grib_complex.specs.declared.values.Values.{Values}
 use Rattle.grib_complex.specs.declared.representation.Complex.{Complex}
 use Rattle.grib_complex.specs.Descriptors.{IsAccepted}
@@ -29,9 +30,8 @@ use Rattle.grib_complex.specs.Representation.{Spelled}
 use Rattle.grib_complex.proofs.Arriving.{fault_grouped}
 use Rattle.grib_complex.proofs.Decided.{fault_of_lists}
 use Rattle.grib_complex.proofs.Outcome.{numbers_with, lists_are}
-use Rattle.grib_groups.specs.declared.list_feeding.FedLists.{FedLists}
-use Rattle.grib_complex.specs.Feeding.{ReadingAgrees, BeginningAgrees}
-use Rattle.grib_complex.specs.Kept.{ArePoints, PointsKept}
+use Rattle.grib_complex.proofs.Begun.{told_count}
+use Rattle.grib_complex.specs.Feeding.{ReadingAgrees, PassingAgrees, BeginningAgrees}
 use Rattle.grib_complex.specs.Tells.{Tells, ValuesTook}
 use Rattle.grib_complex.specs.Told.{Plainly, told}
 
@@ -51,12 +51,12 @@ no_bits xs (suc count) =
 plain_values : (w count : ℕ) → values (plain_groups w count) ≡ count
 plain_values w count = omega (arith, values-cons (record { reference = 0; width = w; count = count }) [])
 
-module _ (s5 : List ℕ) (mask : List Bool) (start l w count : ℕ) (first : Values Points) (fed : Fed (Values Points)) (feedable : IsFeedable (2 ^ 49) fed)
-    (fresh_fed : WasFed (ValuesTook PointsKept) no_marks (plain_groups w count) first [] fed) (no_run : first.teller.running ≡ None) (nothing : Tells Plainly [] first.teller) (points : ArePoints mask [] first.keeper)
-    (few : count < 2 ^ 32) (counted : count ≡ present_count mask) (enough : 40 + count * w ≤ 8 * l)
+module _ {K : Type 0} (kept : K → List Point → K → Type 0) (s5 : List ℕ) (keeper : K) (start l w count : ℕ) (first : Values K) (fed : Fed (Values K)) (feedable : IsFeedable (2 ^ 49) fed)
+    (fresh_fed : WasFed (ValuesTook kept) no_marks (plain_groups w count) first [] fed) (no_run : first.teller.running ≡ None) (nothing : Tells Plainly [] first.teller) (keeper_is : first.keeper ≡ keeper)
+    (few : count < 2 ^ 32) (counted : count ≡ value_count s5) (enough : 40 + count * w ≤ 8 * l)
     (entries : (s7 : List ℕ) → map (λ n. Scaled (pos n)) (plain (bits (drop 5 s7)) w count) ≡ entries_of s5 s7) (passes : (s7 : List ℕ) → length s7 ≡ l → data_fault s5 s7 ≡ None) where
   -- the numbers of all values are one group
-  pub starts_plain : ReadingAgrees s5 mask start l [] fed
+  pub starts_plain : ReadingAgrees kept s5 keeper start l [] fed
   starts_plain = record {
     layout = no_marks;
     groups = plain_groups w count;
@@ -67,7 +67,7 @@ module _ (s5 : List ℕ) (mask : List Bool) (start l w count : ℕ) (first : Val
     feedable = feedable;
     so_far = fresh_fed;
     fresh = nothing;
-    points = points;
+    keeper_is = keeper_is;
     few = omega (arith, plain_values w count);
     counted = plain_values w count ∙ counted;
     enough = omega (arith, plain_packed w count);
@@ -75,6 +75,18 @@ module _ (s5 : List ℕ) (mask : List Bool) (start l w count : ℕ) (first : Val
     within = λ s7 c nowhere. passes s7 c.long;
     beyond = λ s7 c somewhere not_plain. absurd (not_plain no_run);
   }
+
+-- and where nothing is kept of their points
+pub passes_plain : {K : Type 0} (kept : K → List Point → K → Type 0) (s5 : List ℕ) (keeper : K) (l w count : ℕ) → ((points : List Point) → kept keeper points keeper) → count ≡ value_count s5
+    → ((s7 : List ℕ) → map (λ n. Scaled (pos n)) (plain (bits (drop 5 s7)) w count) ≡ entries_of s5 s7) → ((s7 : List ℕ) → length s7 ≡ l → data_fault s5 s7 ≡ None)
+    → PassingAgrees kept s5 keeper l [] keeper
+passes_plain kept s5 keeper l w count keeps is_count entries passes = record {
+  passes = λ s7 c. passes s7 c.long;
+  counted = λ s7 c.
+      told_count no_marks (plain_groups w count) Plainly (bits (drop 5 s7)) (entries_of s5 s7) (value_count s5)
+      (ap (told Plainly) (plain_codes w count (bits (drop 5 s7))) ∙ told_plain (plain (bits (drop 5 s7)) w count) ∙ entries s7) (plain_values w count ∙ is_count);
+  keeps = keeps;
+}
 
 module _ (s5 : List ℕ) (zero_template : packing_template s5 ≡ 0) where
   simple_branch : eqb (packing_template s5) 0 ≡ true
@@ -119,28 +131,28 @@ module _ (s5 : List ℕ) (grouped : eqb (packing_template s5) 0 ≡ false) (none
 -- ---- before the lists
 
 -- the descriptors and lists of a section of which nothing came
-pub begins : (complex : Complex) (s5 : List ℕ) (mask : List Bool) (l : ℕ) (descriptors : List ℕ) (lists : FedLists) (points : Points) → Spelled complex s5 → IsAccepted complex → 1 ≤ complex.layout.groups
-    → complex.simple.values < 2 ^ 32 → complex.simple.values ≡ present_count mask → 5 + (complex.order + 1) * complex.extra + list_octets complex.layout ≤ l
-    → ListsFed complex.layout complex.simple.values [] lists → AreFeedable lists → ArePoints mask [] points
-    → BeginningAgrees s5 mask l [] (record { complex = complex; descriptors = descriptors; lists = lists; points = points })
-begins complex s5 mask l descriptors lists points spelled accepted groups few counted within fed feedable are =
-    let k = (complex.order + 1) * complex.extra in
-    let nothing : min 0 k ≡ 0 = omega arith in
-    let none : List ℕ = [] in
-    let nowhere : take k none ≡ none = take_all k none (omega arith) in
-    let rest : drop k none ≡ none = drop_all k none (omega arith) in
-    record {
-      spelled = spelled;
-      accepted = accepted;
-      groups = groups;
-      few = few;
-      counted = counted;
-      within = within;
-      descriptors = ap (λ (n : ℕ). take n (drop 5 descriptors)) nothing ∙ sym nowhere;
-      lists = subst (λ (os : List ℕ). ListsFed complex.layout complex.simple.values os lists) (sym rest) fed;
-      feedable = feedable;
-      points = are;
-    }
+pub begins : {K : Type 0} (complex : Complex) (s5 : List ℕ) (l : ℕ) (first : References) (descriptors : Fed References) (lists : GroupLists) (keeper : K) → Spelled complex s5 → IsAccepted complex → 1 ≤ complex.layout.groups
+    → complex.simple.values < 2 ^ 32 → 5 + (complex.order + 1) * complex.extra + list_octets complex.layout ≤ l
+    → first.items.items ≡ [] → 3 ≤ vec_capacity first.items → WasFed ReferencesTook no_marks (plain_groups (8 * complex.extra) (complex.order + 1)) first [] descriptors
+    → IsFeedable (2 ^ 32) descriptors → IsList (8 * complex.extra) descriptors → HasRoom ReferencesRoom descriptors 0 → AreEmpty complex.layout complex.simple.values lists
+    → BeginningAgrees s5 keeper l [] (record { complex = complex; descriptors = descriptors; lists = lists; keeper = keeper })
+begins complex s5 l first descriptors lists keeper spelled accepted groups few within empty memory fed feedable list room listed = record {
+  spelled = spelled;
+  accepted = accepted;
+  groups = groups;
+  few = few;
+  within = within;
+  below = omega arith;
+  first = first;
+  empty = empty;
+  memory = memory;
+  descriptors = subst (λ (os : List ℕ). WasFed ReferencesTook no_marks (plain_groups (8 * complex.extra) (complex.order + 1)) first os descriptors) (sym (no_part 0 ((complex.order + 1) * complex.extra))) fed;
+  feedable = feedable;
+  list = list;
+  room = room;
+  lists = listed;
+  keeper_is = refl;
+}
 
 -- a section that is shorter than its lists
 pub lists_refused : (complex : Complex) (s5 : List ℕ) (start l : ℕ) → Spelled complex s5 → IsAccepted complex → 1 ≤ complex.layout.groups → l < 5 + (complex.order + 1) * complex.extra + list_octets complex.layout

@@ -1,5 +1,5 @@
 -- A Section 7 that comes in pieces: what is known of it by the octets that came after its fifth.
-use Rattle.std.specs.Prelude.{◌≡◌, ℕ, ◌+◌, ◌-◌, ◌*◌, ◌^◌, ◌<◌, ◌≤◌, Bool, Option, None, Some, List, [], ◌++◌, length, take, drop, min}
+use Rattle.std.specs.Prelude.{◌≡◌, ℕ, ◌+◌, ◌-◌, ◌*◌, ◌^◌, ◌<◌, ◌≤◌, Bool, false, Option, None, Some, List, [], ◌++◌, get_or, length, drop, nat_abs, vec_capacity}
 use Rattle.grib_bits.specs.Bits.{bits}
 use Rattle.grib_bitmap.specs.Mask.{present_count}
 use Rattle.grib_base.specs.declared.fault.Fault.{Fault}
@@ -9,25 +9,34 @@ use Rattle.grib_packing.specs.declared.group.Group.{Group}
 use Rattle.grib_packing.specs.declared.layout.Layout.{Layout}
 use Rattle.grib_packing.specs.Entries.{data_fault, entries_of, is_out_of_range}
 use Rattle.grib_packing.specs.Groups.{codes_from, list_octets, packed_bits}
+use Rattle.grib_packing.specs.Packing.{value_count}
 use Rattle.grib_packing.specs.Representation as simple
+use Rattle.grib_packing.specs.declared.column.Point.{Point}
 use Rattle.grib_groups.specs.declared.feeding.Fed.{Fed}
-use Rattle.grib_groups.specs.Feeding.{AreFeedable, IsFeedable, ListsFed, WasFed}
-use Rattle.grib_groups.specs.Taking.{values}
-use Rattle.grib_complex.specs.declared.feeding.Beginning.{Beginning}
-use Rattle.grib_complex.specs.declared.feeding.Feeder.{Feeder}
-use Rattle.grib_complex.specs.declared.feeding.State.{State}
-use Rattle.grib_complex.specs.declared.feeding.State.TheVariants.{Begins, Reads, Refused}
+use Rattle.grib_groups.specs.declared.lists.References.{References}
+use Rattle.grib_groups.specs.Feeding.{AreFeedable, HasRoom, IsFeedable, IsList, ListsFed, WasFed, list_pending, no_marks, part, pending_of, plain_groups}
+use Rattle.grib_groups.specs.Lists.{AreEmpty, ReferencesRoom, ReferencesTook}
+use Rattle.grib_groups.specs.Taking.{IsEnd, values}
+use Rattle.grib_complex.specs.declared.stages.Beginning.{Beginning}
+use Rattle.grib_complex.specs.declared.stages.Between.{Between}
+use Rattle.grib_complex.specs.declared.feeding.Feeding.{Feeding}
+use Rattle.grib_complex.specs.declared.stages.State.{State}
+use Rattle.grib_complex.specs.declared.stages.State.TheVariants.{Begins, Lists, Reads, Passes, Refused}
 use Rattle.grib_complex.specs.declared.keeping.Points.{Points}
 use Rattle.grib_complex.specs.declared.values.Values.{Values}
-use Rattle.grib_complex.specs.Descriptors.{IsAccepted}
+use Rattle.grib_complex.specs.Descriptors.{IsAccepted, is_signed_at, telling_by, telling_told}
 use Rattle.grib_complex.specs.Kept.{ArePoints, PointsKept}
 use Rattle.grib_complex.specs.Representation.{Spelled}
 use Rattle.grib_complex.specs.Tells.{Tells, ValuesTook}
 use Rattle.grib_complex.specs.Told.{Telling, told}
 
+abbrev pub AreOctets : List ℕ → Type 0
+AreOctets xs = (i : ℕ) → get_or xs i 0 < 256
+
 -- A Section 7 of l octets of which those from the sixth on begin with these.
 pub record Continues (octets : List ℕ) (l : ℕ) (s7 : List ℕ) : Type 0 where
   pub long : length s7 ≡ l
+  pub known : AreOctets (drop 5 s7)
   pub rest : List ℕ
   pub joined : drop 5 s7 ≡ octets ++ rest
 
@@ -35,87 +44,161 @@ pub record Continues (octets : List ℕ) (l : ℕ) (s7 : List ℕ) : Type 0 wher
 abbrev pub IsFaultOf : List ℕ → ℕ → ℕ → List ℕ → Fault → Type 0
 IsFaultOf s5 start l octets fault = (s7 : List ℕ) → Continues octets l s7 → located start (data_fault s5 s7) ≡ Some fault
 
--- Not all octets of the extra descriptors and of the three lists came: each has those that are its own. The
--- descriptors stand where they stand in the section.
-pub record BeginningAgrees (s5 : List ℕ) (mask : List Bool) (l : ℕ) (octets : List ℕ) (beginning : Beginning) : Type 0 where
+-- No first value that is whole in these octets has its top bit set.
+abbrev pub AreClear : ℕ → ℕ → ℕ → List ℕ → Type 0
+AreClear order extra l octets = (j : ℕ) → j < order → (j + 1) * extra ≤ length octets → (s7 : List ℕ) → Continues octets l s7 → is_signed_at order extra s7 j ≡ false
+
+-- Not all octets of the extra descriptors came.
+pub record BeginningAgrees {K : Type 0} (s5 : List ℕ) (keeper : K) (l : ℕ) (octets : List ℕ) (beginning : Beginning K) : Type 0 where
   pub spelled : Spelled beginning.complex s5
   pub accepted : IsAccepted beginning.complex
   pub groups : 1 ≤ beginning.complex.layout.groups
   pub few : beginning.complex.simple.values < 2 ^ 32
-  pub counted : beginning.complex.simple.values ≡ present_count mask
   pub within : 5 + (beginning.complex.order + 1) * beginning.complex.extra + list_octets beginning.complex.layout ≤ l
-  pub descriptors : take (min (length octets) ((beginning.complex.order + 1) * beginning.complex.extra)) (drop 5 beginning.descriptors) ≡ take ((beginning.complex.order + 1) * beginning.complex.extra) octets
-  pub lists : ListsFed beginning.complex.layout beginning.complex.simple.values (drop ((beginning.complex.order + 1) * beginning.complex.extra) octets) beginning.lists
-  pub feedable : AreFeedable beginning.lists
-  pub points : ArePoints mask [] beginning.points
+  pub below : length octets ≤ (beginning.complex.order + 1) * beginning.complex.extra
+  pub first : References
+  pub empty : first.items.items ≡ []
+  pub memory : 3 ≤ vec_capacity first.items
+  pub descriptors : WasFed ReferencesTook no_marks (plain_groups (8 * beginning.complex.extra) (beginning.complex.order + 1)) first (part 0 ((beginning.complex.order + 1) * beginning.complex.extra) octets) beginning.descriptors
+  pub feedable : IsFeedable (2 ^ 32) beginning.descriptors
+  pub list : IsList (8 * beginning.complex.extra) beginning.descriptors
+  pub room : HasRoom ReferencesRoom beginning.descriptors 0
+  pub lists : AreEmpty beginning.complex.layout beginning.complex.simple.values beginning.lists
+  pub keeper_is : beginning.keeper ≡ keeper
+
+-- The extra descriptors are whole in `all`, and of the octets of the lists these came: each list has those that are
+-- its own. What the codes are undone with is what the descriptors tell, and no first value has its top bit set.
+pub record ListingAgrees {K : Type 0} (s5 : List ℕ) (keeper : K) (l : ℕ) (octets all : List ℕ) (between : Between K) : Type 0 where
+  pub spelled : Spelled between.complex s5
+  pub accepted : IsAccepted between.complex
+  pub groups : 1 ≤ between.complex.layout.groups
+  pub few : between.complex.simple.values < 2 ^ 32
+  pub within : 5 + (between.complex.order + 1) * between.complex.extra + list_octets between.complex.layout ≤ l
+  pub came : (between.complex.order + 1) * between.complex.extra ≤ length all
+  pub order : between.told.order ≡ between.complex.order
+  pub first : nat_abs between.told.first ≤ 2 ^ 31
+  pub second : nat_abs between.told.second ≤ 2 ^ 31
+  pub minimum : nat_abs between.told.minimum ≤ 2 ^ 31
+  pub told_is : (s7 : List ℕ) → Continues all l s7 → telling_told between.told ≡ telling_by between.complex.order between.complex.extra s7
+  pub unsigned : (s7 : List ℕ) → Continues all l s7 → (is_signed_at between.complex.order between.complex.extra s7 0 ≡ false) × (is_signed_at between.complex.order between.complex.extra s7 1 ≡ false)
+  pub lists : ListsFed between.complex.layout between.complex.simple.values (drop ((between.complex.order + 1) * between.complex.extra) octets) between.lists
+  pub feedable : AreFeedable between.complex.layout between.lists
+  pub keeper_is : between.keeper ≡ keeper
 
 -- The packed numbers of some groups stand after the first `before` octets: those that came went to what keeps
 -- the points. No row but that on the range of the numbers fails, and each such section has the entries that the
 -- codes of these groups tell.
-pub record ReadingAgrees (s5 : List ℕ) (mask : List Bool) (start l : ℕ) (octets : List ℕ) (fed : Fed (Values Points)) : Type 0 where
+pub record ReadingAgrees {K : Type 0} (kept : K → List Point → K → Type 0) (s5 : List ℕ) (keeper : K) (start l : ℕ) (octets : List ℕ) (fed : Fed (Values K)) : Type 0 where
   pub layout : Layout
   pub groups : List Group
   pub telling : Telling
-  pub first : Values Points
+  pub first : Values K
   pub before : ℕ
   pub came : before ≤ length octets
   pub feedable : IsFeedable (2 ^ 49) fed
-  pub so_far : WasFed (ValuesTook PointsKept) layout groups first (drop before octets) fed
+  pub so_far : WasFed (ValuesTook kept) layout groups first (drop before octets) fed
   pub fresh : Tells telling [] first.teller
-  pub points : ArePoints mask [] first.keeper
+  pub keeper_is : first.keeper ≡ keeper
   pub few : values groups < 2 ^ 32
-  pub counted : values groups ≡ present_count mask
+  pub counted : values groups ≡ value_count s5
   pub enough : 8 * (5 + before) + packed_bits groups ≤ 8 * l
   pub entries : (s7 : List ℕ) → Continues octets l s7 → told telling (codes_from layout groups (bits (drop before (drop 5 s7)))) ≡ entries_of s5 s7
   pub within : (s7 : List ℕ) → Continues octets l s7 → first_place is_out_of_range (entries_of s5 s7) ≡ 0 → data_fault s5 s7 ≡ None
   pub beyond : (s7 : List ℕ) → Continues octets l s7 → 0 < first_place is_out_of_range (entries_of s5 s7) → (first.teller.running ≡ None → ⊥)
       → located start (data_fault s5 s7) ≡ Some (refusal start ScaledRange (first_place is_out_of_range (entries_of s5 s7)))
 
-abbrev pub StateAgrees : List ℕ → List Bool → ℕ → ℕ → List ℕ → Option State → Type 0
-StateAgrees s5 mask start l octets None = ⊥
-StateAgrees s5 mask start l octets (Some (Begins beginning)) = BeginningAgrees s5 mask l octets beginning × (length octets < (beginning.complex.order + 1) * beginning.complex.extra + list_octets beginning.complex.layout)
-StateAgrees s5 mask start l octets (Some (Reads fed)) = ReadingAgrees s5 mask start l octets fed
-StateAgrees s5 mask start l octets (Some (Refused fault)) = IsFaultOf s5 start l octets fault
+-- No row fails, whatever comes, and no points are kept.
+pub record PassingAgrees {K : Type 0} (kept : K → List Point → K → Type 0) (s5 : List ℕ) (keeper : K) (l : ℕ) (octets : List ℕ) (after : K) : Type 0 where
+  pub passes : (s7 : List ℕ) → Continues octets l s7 → data_fault s5 s7 ≡ None
+  pub counted : (s7 : List ℕ) → Continues octets l s7 → length (entries_of s5 s7) ≡ value_count s5
+  pub keeps : (points : List Point) → kept keeper points after
+
+abbrev pub StateAgrees : {K : Type 0} → (K → List Point → K → Type 0) → List ℕ → K → ℕ → ℕ → List ℕ → Option (State K) → Type 0
+StateAgrees kept s5 keeper start l octets None = ⊥
+StateAgrees kept s5 keeper start l octets (Some (Begins beginning)) = BeginningAgrees s5 keeper l octets beginning × (length octets < (beginning.complex.order + 1) * beginning.complex.extra) × AreClear beginning.complex.order beginning.complex.extra l octets
+StateAgrees kept s5 keeper start l octets (Some (Lists between)) = ListingAgrees s5 keeper l octets octets between × (length octets < (between.complex.order + 1) * between.complex.extra + list_octets between.complex.layout)
+StateAgrees kept s5 keeper start l octets (Some (Reads fed)) = ReadingAgrees kept s5 keeper start l octets fed
+StateAgrees kept s5 keeper start l octets (Some (Passes after)) = PassingAgrees kept s5 keeper l octets after
+StateAgrees kept s5 keeper start l octets (Some (Refused fault after)) = IsFaultOf s5 start l octets fault × (after ≡ keeper)
 
 -- The state of some octets, this many of them.
-pub record IsFedState (start l count : ℕ) (state : State) : Type 0 where
+pub record IsFedState {K : Type 0} (kept : K → List Point → K → Type 0) (start l count : ℕ) (state : State K) : Type 0 where
   pub s5 : List ℕ
-  pub mask : List Bool
+  pub keeper : K
   pub octets : List ℕ
+  pub known : AreOctets octets
   pub low : 1 ≤ start
   pub high : start ≤ 268435456
   pub long : length octets ≡ count
-  pub agrees : StateAgrees s5 mask start l octets (Some state)
+  pub agrees : StateAgrees kept s5 keeper start l octets (Some state)
+
+-- Some octets came before, this many, and not all of the extra descriptors.
+pub record CanBegin {K : Type 0} (l count : ℕ) (beginning : Beginning K) : Type 0 where
+  pub s5 : List ℕ
+  pub keeper : K
+  pub octets : List ℕ
+  pub known : AreOctets octets
+  pub long : length octets ≡ count
+  pub agrees : BeginningAgrees s5 keeper l octets beginning
+
+-- Some octets came before, this many, and the extra descriptors are whole with the next ones.
+pub record CanList {K : Type 0} (l count : ℕ) (piece : List ℕ) (between : Between K) : Type 0 where
+  pub s5 : List ℕ
+  pub keeper : K
+  pub octets : List ℕ
+  pub long : length octets ≡ count
+  pub agrees : ListingAgrees s5 keeper l octets (octets ++ piece) between
 
 -- All octets before the packed numbers came.
-pub record IsWholeBeginning (l : ℕ) (beginning : Beginning) : Type 0 where
+pub record IsWholeListing {K : Type 0} (l : ℕ) (between : Between K) : Type 0 where
   pub s5 : List ℕ
-  pub mask : List Bool
+  pub keeper : K
   pub octets : List ℕ
-  pub agrees : BeginningAgrees s5 mask l octets beginning
-  pub whole : (beginning.complex.order + 1) * beginning.complex.extra + list_octets beginning.complex.layout ≤ length octets
+  pub agrees : ListingAgrees s5 keeper l octets octets between
+  pub whole : (between.complex.order + 1) * between.complex.extra + list_octets between.complex.layout ≤ length octets
 
--- With this Section 5 and this mask, and a Section 7 of l octets that begins at octet `start` of the message,
--- of which these came after the fifth.
-pub record Agrees (s5 : List ℕ) (mask : List Bool) (start l : ℕ) (octets : List ℕ) (feeder : Feeder) : Type 0 where
-  pub spelled : simple.Spelled feeder.simple s5
-  pub start_is : feeder.start ≡ start
+-- the bits that came and are not decoded
+abbrev pub pending_in : {K : Type 0} → Option (State K) → List Bool
+pending_in (Some (Begins beginning)) = pending_of beginning.descriptors
+pending_in (Some (Lists between)) = list_pending between.lists
+pending_in (Some (Reads fed)) = pending_of fed
+pending_in _ = []
+
+abbrev pub pending : {K : Type 0} → Feeding K → List Bool
+pending feeding = pending_in feeding.state
+
+-- With this Section 5, and with what keeps the points at first, of a Section 7 of l octets that begins at octet
+-- `start` of the message these octets were read after the fifth.
+pub record HasRead {K : Type 0} (kept : K → List Point → K → Type 0) (s5 : List ℕ) (keeper : K) (start l : ℕ) (octets : List ℕ) (feeding : Feeding K) : Type 0 where
+  pub spelled : simple.Spelled feeding.simple s5
+  pub start_is : feeding.start ≡ start
   pub low : 1 ≤ start
   pub high : start ≤ 268435456
-  pub length_is : feeder.length ≡ l
-  pub pushed : feeder.pushed ≡ length octets
+  pub length_is : feeding.length ≡ l
+  pub pushed : feeding.pushed ≡ length octets
   pub within : 5 + length octets ≤ l
-  pub state : StateAgrees s5 mask start l octets feeder.state
+  pub known : AreOctets octets
+  pub few : length (pending feeding) ≤ 64
+  pub last : IsEnd (pending feeding) (bits octets)
+  pub state : StateAgrees kept s5 keeper start l octets feeding.state
 
 -- how many octets are still to come
-abbrev pub octets_left : Feeder → ℕ
-octets_left feeder = feeder.length - (5 + feeder.pushed)
+abbrev pub octets_left : {K : Type 0} → Feeding K → ℕ
+octets_left feeding = feeding.length - (5 + feeding.pushed)
 
--- It agrees with some octets.
-pub record IsFed (feeder : Feeder) : Type 0 where
+-- It has read some octets.
+pub record IsFed {K : Type 0} (kept : K → List Point → K → Type 0) (feeding : Feeding K) : Type 0 where
   pub s5 : List ℕ
-  pub mask : List Bool
+  pub keeper : K
   pub start : ℕ
   pub l : ℕ
   pub octets : List ℕ
-  pub agrees : Agrees s5 mask start l octets feeder
+  pub read : HasRead kept s5 keeper start l octets feeding
+
+-- With this Section 5 and this mask, and a Section 7 of l octets that begins at octet `start` of the message,
+-- of which these came after the fifth.
+pub record Agrees (s5 : List ℕ) (mask : List Bool) (start l : ℕ) (octets : List ℕ) (feeder : Feeding Points) : Type 0 where
+  pub first : Points
+  pub empty : ArePoints mask [] first
+  pub counted : present_count mask ≡ value_count s5
+  pub read : HasRead PointsKept s5 first start l octets feeder

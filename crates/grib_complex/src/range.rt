@@ -7,11 +7,13 @@ ghost use Rattle.grib_packing.specs.Entries.{is_out_of_range};
 ghost use Rattle.grib_packing.specs.Groups.{codes_from};
 ghost use Rattle.grib_groups.specs.Taking.{values as values_of};
 ghost use Rattle.grib_groups.specs.Table.{groups_in, IsWhole, IsNarrow};
-ghost use Rattle.grib_complex.specs.Told.{told};
-ghost use Rattle.grib_complex.specs.Descriptors.{is_signed_at, telling_by};
+ghost use Rattle.grib_packing.specs.Differences.{NoNumber};
+ghost use Rattle.grib_complex.specs.Told.{told as points_of, After};
+ghost use Rattle.grib_complex.specs.Descriptors.{descriptors_in, is_signed_at, telling_by};
 ghost use Rattle.grib_complex.specs.Range.{stretch as stretch_of, reach as reach_of};
 
 use crate::descriptors::{first_value, minimum, second_value};
+use crate::noted::Told;
 use grib_groups::{Group, Table};
 
 /// Whether the numbers of a field cannot leave plus and minus 2^60, whatever the codes of its groups are:
@@ -29,13 +31,33 @@ pub fn stays_within(section: &[u8], order: u8, extra: u8, table: &Table, values:
     requires values { values_of (groups_in table.now) ≤ values }
     requires some { 1 ≤ values }
     ensures { result ≡ true → (layout : layout_of_groups) (numbers : List Bool)
-        → first_place is_out_of_range (told (telling_by order extra section.now) (codes_from layout (groups_in table.now) numbers)) ≡ 0 }
+        → first_place is_out_of_range (points_of (telling_by order extra section.now) (codes_from layout (groups_in table.now) numbers)) ≡ 0 }
 {
-    let first = first_value(section, order, extra, 0).unsigned_abs();
-    let second = second_value(section, order, extra).unsigned_abs();
-    let far = first + second;
-    let each = far.saturating_add(reach(table, minimum(section, order, extra)));
-    far.saturating_add(each.saturating_mul(times(order, values))) <= 1 << 60
+    let told = Told {
+        order,
+        first: first_value(section, order, extra, 0),
+        second: second_value(section, order, extra),
+        minimum: minimum(section, order, extra),
+    };
+    stays_by(&told, table, values)
+}
+
+/// Whether the numbers cannot leave plus and minus 2^60 that are undone with this.
+pub fn stays_by(told: &Told, table: &Table, values: u32) -> bool
+    requires order { (told.now.order ≡ 1) ⊎ (told.now.order ≡ 2) }
+    requires first { nat_abs told.now.first ≤ 2 ^ 31 }
+    requires second { nat_abs told.now.second ≤ 2 ^ 31 }
+    requires minimum { nat_abs told.now.minimum ≤ 2 ^ 31 }
+    requires whole { IsWhole table.now }
+    requires narrow { IsNarrow table.now }
+    requires values { values_of (groups_in table.now) ≤ values }
+    requires some { 1 ≤ values }
+    ensures { result ≡ true → (layout : layout_of_groups) (numbers : List Bool)
+        → first_place is_out_of_range (points_of (After (descriptors_in told.now) NoNumber) (codes_from layout (groups_in table.now) numbers)) ≡ 0 }
+{
+    let far = told.first.unsigned_abs() + told.second.unsigned_abs();
+    let each = far.saturating_add(reach(table, told.minimum));
+    far.saturating_add(each.saturating_mul(times(told.order, values))) <= 1 << 60
 }
 
 /// How often a difference moves the numbers at most: each of the values once, where the differences

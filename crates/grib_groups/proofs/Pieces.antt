@@ -1,7 +1,7 @@
 -- Lemmas on numbers that come in pieces.
 use Rattle.std.proofs.Common.{◌≡◌, ℕ, Bool, ◌+◌, ◌-◌, ◌*◌, ◌<◌, ◌≤◌, List, [], ◌∷◌, ◌++◌, length, take, drop, map, min, slice_set, refl, sym, ap, ap₂, ◌∙◌, arith, inl, inr, subst, mul_comm, take-append-drop}
 use Rattle.std.proofs.lemmas.Bool.{cases_lt}
-use Rattle.std.proofs.lemmas.List.{append-nil, drop-append-le, take-append-le, drop_all, take_all, length-drop, length-take}
+use Rattle.std.proofs.lemmas.List.{append-nil, length-append, drop-append-le, take-append-le, drop_all, take_all, length-drop, length-take}
 use Rattle.std.proofs.Math.Seq.{drop-append-add, take-append-add}
 use Rattle.grib_bits.specs.Bits.{bits}
 use Rattle.grib_bits.specs.Plain.{plain}
@@ -16,7 +16,11 @@ use Rattle.grib_groups.specs.declared.numbers.Numbers.{Numbers}
 use Rattle.grib_groups.specs.Taking.{Taken, values}
 use Rattle.grib_groups.specs.Table.{groups_in}
 use Rattle.grib_groups.specs.Going.{left_of, IsShort, Went}
-use Rattle.grib_groups.specs.Feeding.{part, no_marks, plain_groups, WasFed}
+use Rattle.grib_groups.specs.declared.lists.Lists.{Lists}
+use Rattle.grib_groups.specs.declared.lists.References.{References}
+use Rattle.grib_groups.specs.declared.lists.Widths.{Widths}
+use Rattle.grib_groups.specs.Lists.{ReferencesTook, WidthsTook}
+use Rattle.grib_groups.specs.Feeding.{part, no_marks, plain_groups, HasReferences, HasWidths, WasFed}
 use Rattle.grib_groups.proofs.Coded.{plain_code}
 use Rattle.grib_groups.proofs.Moves.{went_same, went_then}
 use Rattle.grib_groups.proofs.Plain.{plain-append}
@@ -30,6 +34,10 @@ pub no_part : (from size : ℕ) → part from size [] ≡ []
 no_part from size =
     let none : List ℕ = [] in
     ap (take size) (drop_all from none (omega arith)) ∙ nothing_of size
+
+-- a part of which nothing came
+pub part_none : (from size : ℕ) (octets : List ℕ) → length octets ≤ from → part from size octets ≡ []
+part_none from size octets short = ap (take size) (drop_all from octets short) ∙ nothing_of size
 
 -- a part of a piece, by its ends within the piece
 clipped : (k n : ℕ) (ys : List ℕ) → take n (drop k ys) ≡ take (min (k + n) (length ys) - min k (length ys)) (drop (min k (length ys)) ys)
@@ -92,6 +100,12 @@ part-append from size xs ys = elim (cases_lt from (length xs)) [
       ∙ ap₂ (λ (us : List ℕ) (j : ℕ). us ++ take (min j (length ys) - min k (length ys)) (drop (min k (length ys)) ys)) (sym none) (sym end)
 ]
 
+pub part_more : (from size first count : ℕ) (octets piece noted : List ℕ) → first ≡ from → count ≡ size → part first count (octets ++ piece) ≡ part first count octets ++ noted
+    → part from size octets ++ noted ≡ part from size (octets ++ piece)
+part_more from size first count octets piece noted is_first is_count is =
+    subst (λ (f : ℕ). part f size octets ++ noted ≡ part f size (octets ++ piece)) is_first
+    (subst (λ (n : ℕ). part first n octets ++ noted ≡ part first n (octets ++ piece)) is_count (sym is))
+
 -- what stands behind the first octets of a list with a piece behind it
 pub rest-append : (from : ℕ) (xs ys : List ℕ) → drop from (xs ++ ys) ≡ drop from xs ++ drop (min (from - length xs) (length ys)) ys
 rest-append from xs ys = elim (cases_lt from (length xs)) [
@@ -116,7 +130,7 @@ rest-append from xs ys = elim (cases_lt from (length xs)) [
 ]
 
 -- numbers within the first octets, whatever follows
-plain-front : (at w count : ℕ) (octets more : List ℕ) → at ≤ length octets → w * count ≤ 8 * (length octets - at) → plain (bits (drop at (octets ++ more))) w count ≡ plain (bits (drop at octets)) w count
+pub plain-front : (at w count : ℕ) (octets more : List ℕ) → at ≤ length octets → w * count ≤ 8 * (length octets - at) → plain (bits (drop at (octets ++ more))) w count ≡ plain (bits (drop at octets)) w count
 plain-front at w count octets more within fits =
     ap (λ (os : List ℕ). plain (bits os) w count) (drop-append-le at octets more within)
     ∙ ap (λ xs. plain xs w count) (bits-append (drop at octets) more)
@@ -135,6 +149,21 @@ module _ (layout : Layout) (octets more : List ℕ) (within : list_octets layout
   lengths-front =
       ap (λ (ns : List ℕ). slice_set (map (λ n. layout.length_reference + layout.length_increment * n) ns) (layout.groups - 1) layout.last_length)
       (plain-front (reference_octets layout + width_octets layout) layout.length_bits layout.groups octets more (omega arith) (omega (arith, mul_comm layout.length_bits layout.groups)))
+
+-- lists that are whole stay so
+pub references_more : (layout : Layout) (start : Lists) (octets more : List ℕ) (now : References) → HasReferences layout start octets now → HasReferences layout start (octets ++ more) now
+references_more layout start octets more now has = record {
+  came = omega (arith, has.came, length-append octets more);
+  took = subst (λ (ns : List ℕ). ReferencesTook start.references (map Present ns) now)
+      (sym (plain-front 0 layout.reference_bits layout.groups octets more (omega arith) (omega (arith, has.came, mul_comm layout.reference_bits layout.groups)))) has.took;
+}
+
+pub widths_more : (layout : Layout) (start : Lists) (octets more : List ℕ) (now : Widths) → HasWidths layout start octets now → HasWidths layout start (octets ++ more) now
+widths_more layout start octets more now has = record {
+  came = omega (arith, has.came, length-append octets more);
+  took = subst (λ (ns : List ℕ). WidthsTook start.widths (map Present ns) now)
+      (sym (plain-front (reference_octets layout) layout.width_bits layout.groups octets more (omega (arith, has.came)) (omega (arith, has.came, mul_comm layout.width_bits layout.groups)))) has.took;
+}
 
 -- numbers within a part
 pub plain-part : (n w count : ℕ) (octets : List ℕ) → n ≤ length octets → w * count ≤ 8 * n → plain (bits (take n octets)) w count ≡ plain (bits octets) w count
@@ -220,6 +249,17 @@ module _ {S : Type 0} (took : S → List Code → S → Type 0) (none : (taker :
         layout_is = fed.layout_is;
         went = subst (λ (bs : List Bool). Went took layout groups bs start last numbers.pending taker) (sym (bits-append octets piece)) (went_then took none more layout behind step);
       }
+
+  -- all octets came, and no further number ends in them
+  pub fed_done : (layout : Layout) (groups : List Group) (start : S) (octets : List ℕ) (fed : Fed S) → WasFed took layout groups start octets fed
+      → (0 < values (left_of fed.numbers (groups_in fed.table)) → IsShort fed.numbers) → packed_bits groups ≤ 8 * length octets → took start (codes_from layout groups (bits octets)) fed.taker
+  fed_done layout groups start octets fed was waits enough =
+      let went = was.went in
+      let whole : went.codes ≡ codes_from layout groups (bits octets) =
+      taken_whole went.taken (omega (arith, length-bits octets)) (λ some.
+      let short = waits some in
+      short_of_group fed.numbers.current (drop fed.numbers.next (groups_in fed.table)) (length fed.numbers.pending) short.some short.short) in
+      subst (λ (cs : List Code). took start cs fed.taker) whole went.passed
 
   -- all octets came
   pub fed_whole : (layout : Layout) (groups : List Group) (start : S) (octets : List ℕ) (before : Fed S) (numbers : Numbers) (taker : S) → WasFed took layout groups start octets before

@@ -7,7 +7,7 @@ ghost use Rattle.grib_packing.specs.declared.layout.Layout.{Layout as layout_of_
 ghost use Rattle.grib_packing.specs.Groups.{codes_from, packed_bits};
 ghost use Rattle.grib_groups.specs.Taking.{values};
 ghost use Rattle.grib_groups.specs.Table.{groups_in, IsWhole, IsNarrow};
-ghost use Rattle.grib_groups.specs.Feeding.{HasRoom, IsFeedable, WasFed, no_marks, plain_groups, part};
+ghost use Rattle.grib_groups.specs.Feeding.{HasRoom, IsCaughtUp, IsFeedable, IsList, WasFed, no_marks, plain_groups, part};
 
 use crate::lists::plain_layout;
 use crate::numbers::Numbers;
@@ -52,6 +52,7 @@ impl<T: RunTaker> Fed<T> {
         requires width { bits ≤ 48 }
         requires limit { 2 ^ bits ≤ T.Taker.limit }
         ensures feedable { IsFeedable T.Taker.limit result }
+        ensures list { IsList bits result }
         ensures room { (n : ℕ) → T.Taker.room taker (count + n) → HasRoom T.Taker.room result n }
         ensures fed { WasFed T.Taker.took no_marks (plain_groups bits count) taker [] result }
     {
@@ -75,8 +76,13 @@ impl<T: RunTaker> Fed<T> {
         requires short { length piece.now < 2 ^ 32 }
         ensures feedable { IsFeedable T.Taker.limit result }
         ensures room { (n : ℕ) → HasRoom T.Taker.room self n → HasRoom T.Taker.room result n }
+        ensures caught_up { IsCaughtUp result }
+        ensures list { (width : ℕ) → IsList width self → IsList width result }
         ensures fed { (layout : layout_of_numbers) (groups : List group_of_numbers) (start : _) (octets : List ℕ)
             → WasFed T.Taker.took layout groups start octets self → WasFed T.Taker.took layout groups start (octets ++ piece.now) result }
+        ensures took { (layout : layout_of_numbers) (groups : List group_of_numbers) (start : _) (octets : List ℕ)
+            → WasFed T.Taker.took layout groups start octets self → packed_bits groups ≤ 8 * length (octets ++ piece.now)
+            → T.Taker.took start (codes_from layout groups (bits_in (octets ++ piece.now))) result.taker }
     {
         let Fed {
             layout,
@@ -91,6 +97,13 @@ impl<T: RunTaker> Fed<T> {
             numbers,
             taker,
         }
+    }
+
+    /// What took the codes so far.
+    pub fn taker(&self) -> &T
+        ensures { result.now ≡ self.now.taker }
+    {
+        &self.taker
     }
 
     /// What took the codes, once the octets of all numbers came.

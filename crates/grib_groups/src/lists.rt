@@ -206,8 +206,8 @@ impl Lists {
         ensures { IfOk result (λ lists. ListsAre layout.now values lists (all_references layout.now octets.now)
             (all_widths layout.now octets.now) (all_lengths layout.now octets.now)) }
     {
-        let lists = FedLists::start(alloc, layout, values)?;
-        Ok(lists.push(layout, 0, octets).finish(layout))
+        let lists = FedLists::start(alloc, layout, Lists::start(alloc, layout, values)?);
+        Ok(lists.push(alloc, layout, 0, octets).finish(layout))
     }
 
     /// The refusal of a Section 7 of `length` octets that begins at octet `start` of the message and

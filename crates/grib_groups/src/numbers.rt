@@ -46,6 +46,7 @@ impl Numbers {
         requires read { CanRead T.Taker.limit layout.now table.now piece.now 0 }
         requires room { T.Taker.room taker (values (left_of self.old (groups_in table.now))) }
         requires ready { IsReady T.Taker.limit self.old }
+        ensures width { vec_len table.now.lengths ≡ 0 → self.new.current.width ≡ self.old.current.width }
         ensures goes { Went T.Taker.took layout.now (left_of self.old (groups_in table.now)) (self.old.pending ++ bits_in piece.now) taker
             (left_of self.new (groups_in table.now)) self.new.pending result }
         ensures ready { IsReady T.Taker.limit self.new }
@@ -106,6 +107,7 @@ impl Numbers {
         requires room { T.Taker.room taker (values (left_of self.old (groups_in table.now))) }
         requires readable { IsReadable T.Taker.limit self.old.current }
         requires pending { self.old.pending ≡ [] }
+        ensures width { vec_len table.now.lengths ≡ 0 → self.new.current.width ≡ self.old.current.width }
         ensures goes { Went T.Taker.took layout.now (left_of self.old (groups_in table.now)) (drop at (bits_in piece.now)) taker
             (left_of self.new (groups_in table.now)) self.new.pending result }
         ensures ready { IsReady T.Taker.limit self.new }
@@ -134,6 +136,7 @@ impl Numbers {
         requires readable { IsReadable T.Taker.limit self.old.current }
         requires none { self.old.current.count ≡ 0 }
         requires pending { self.old.pending ≡ [] }
+        ensures width { vec_len table.now.lengths ≡ 0 → self.new.current.width ≡ self.old.current.width }
         ensures goes { Went T.Taker.took layout.now (left_of self.old (groups_in table.now)) (drop at (bits_in piece.now)) taker
             (left_of self.new (groups_in table.now)) self.new.pending result }
         ensures ready { IsReady T.Taker.limit self.new }
@@ -223,6 +226,7 @@ impl Numbers {
         requires readable { IsReadable T.Taker.limit self.old.current }
         requires room { T.Taker.room taker self.old.current.count }
         requires within { at.old ≤ 8 * length piece.now }
+        ensures width { self.new.current.width ≡ self.old.current.width }
         ensures goes { (groups : _) → Went T.Taker.took layout.now (left_of self.old groups) (drop at.old (bits_in piece.now)) taker
             (left_of self.new groups) (drop at.new (bits_in piece.now)) result }
         ensures to { IsReadTo T.Taker.limit piece.now self.old self.new at.new }

@@ -6,13 +6,15 @@ ghost use Rattle.grib_bits.specs.Octets.{StatesItself};
 ghost use Rattle.grib_bitmap.specs.Mask.{present_count};
 ghost use Rattle.grib_packing.specs.Entries.{packing_fault};
 ghost use Rattle.grib_packing.specs.Packing.{packing_template, value_count};
-ghost use Rattle.grib_complex.specs.Feeding.{IsFed};
+ghost use Rattle.grib_complex.specs.Feeding.{IsFed, octets_left};
+ghost use Rattle.grib_complex.specs.Kept.{PointsKept};
 
 use crate::given::section;
 use grib_base::{Fault, ReadFault, Reason, Section};
 use grib_bitmap::{Mask, ones, read_mask};
 use grib_complex::{
-    Complex, ComplexPacking, Feeder, Layout, Nothing, SpatialPacking, read_complex, take_values,
+    Complex, ComplexPacking, Feeder, Feeding, Keeper, Layout, Nothing, Representation,
+    SpatialPacking, read_complex, take_values,
 };
 use grib_packing::{Column, Packing, Point, read_simple};
 use std::alloc::Global;
@@ -34,6 +36,8 @@ fn unpacked(
     for size in [1, 7, 1000] {
         let pieces = in_pieces(rt, alloc, representation, mask, data, size);
         assert!(rt; is_same(&pieces, &answer));
+        let checked = checked_in_pieces(rt, alloc, representation, mask.len(), data, size);
+        assert!(rt; checked.err() == answer.as_ref().err().and_then(refused));
     }
     answer
 }
@@ -101,16 +105,17 @@ fn in_pieces(
         panic!(rt; "the groups are refused");
     };
     assert!(rt; data.len() < 1_000_000);
-    let feeder = feeder(rt, alloc, &section5, mask, data.len() as u32);
+    let feeder = feeder(rt, alloc, &section5, mask, 200, data.len() as u32);
     fed(rt, feeder, data, size)
 }
 
-/// What reads a Section 7 of this length that begins at octet 200.
+/// What reads a Section 7 of this length that begins at this octet.
 fn feeder(
     rt: &impl Abort,
     alloc: Global,
     section5: &Section<'_>,
     mask: &Mask,
+    start: u64,
     length: u32,
 ) -> Feeder
     requires itself { StatesItself section5.now.number section5.now.octets.now }
@@ -118,29 +123,90 @@ fn feeder(
     requires high { section5.now.start ≤ 268435456 }
     requires accepted { packing_fault section5.now.octets.now (length_of mask.now) ≡ None }
     requires values { present_count mask.now ≡ value_count section5.now.octets.now }
-    ensures { IsFed result }
+    ensures { IsFed PointsKept result }
 {
-    assert!(rt; length >= 5);
+    assert!(rt; length >= 5 && start >= 1 && start <= 268_435_456);
     let Ok(copy) = mask.copy(alloc) else {
         panic!(rt; "there is no memory for the mask");
     };
-    match Feeder::new(alloc, section5, copy, 200, length) {
+    match Feeder::new(alloc, section5, copy, start, length) {
         Ok(feeder) => feeder,
         Err(_) => panic!(rt; "there is no memory for the field"),
     }
 }
 
 /// The answer where a Section 7 comes in pieces of this many octets.
-fn fed(rt: &impl Abort, mut feeder: Feeder, data: &[u8], size: usize) -> Result<Column, Fault>
-    requires { IsFed feeder }
+fn fed(rt: &impl Abort, feeder: Feeder, data: &[u8], size: usize) -> Result<Column, Fault>
+    requires { IsFed PointsKept feeder }
+{
+    pushed(rt, feeder, data, size).finish()
+}
+
+/// What reads a Section 7, once its octets came in pieces of this many.
+fn pushed<K: Keeper + Drop>(
+    rt: &impl Abort,
+    mut feeding: Feeding<K>,
+    data: &[u8],
+    size: usize,
+) -> Feeding<K>
+    requires { IsFed K.kept feeding }
+    ensures fed { IsFed K.kept result }
+    ensures all { octets_left result ≡ 0 }
 {
     assert!(rt; size >= 1 && data.len() >= 5);
     for piece in data[5..].chunks(size) {
-        assert!(rt; piece.len() <= feeder.left() as usize);
-        feeder.push(piece);
+        assert!(rt; piece.len() <= feeding.left() as usize);
+        feeding.push(piece);
     }
-    assert!(rt; feeder.left() == 0);
-    feeder.finish()
+    assert!(rt; feeding.left() == 0);
+    feeding
+}
+
+/// Whether a Section 7 that begins at octet 200 passes all rows where it comes in pieces of this many octets.
+/// No point is kept.
+fn checked_in_pieces(
+    rt: &impl Abort,
+    alloc: Global,
+    representation: &[u8],
+    points: u32,
+    data: &[u8],
+    size: usize,
+) -> Result<(), Fault> {
+    checked_from(rt, alloc, representation, points, 200, data, size)
+}
+
+/// Whether a Section 7 that begins at this octet passes all rows where it comes in pieces of this many octets.
+fn checked_from(
+    rt: &impl Abort,
+    alloc: Global,
+    representation: &[u8],
+    points: u32,
+    start: u64,
+    data: &[u8],
+    size: usize,
+) -> Result<(), Fault> {
+    let section5 = section(rt, 5, 144, representation);
+    let Ok(representation) = Representation::read(&section5, points) else {
+        panic!(rt; "the representation is refused");
+    };
+    assert!(rt; data.len() >= 5 && data.len() < 1_000_000);
+    assert!(rt; start >= 1 && start <= 268_435_456);
+    let length = data.len() as u32;
+    match Feeding::start(alloc, &representation, Nothing, start, length) {
+        Ok(feeding) => {
+            let Nothing = pushed(rt, feeding, data, size).end()?;
+            Ok(())
+        }
+        Err(_) => panic!(rt; "there is no memory for the groups"),
+    }
+}
+
+/// The refusal of a field that is refused.
+fn refused(fault: &ReadFault) -> Option<Fault> {
+    match fault {
+        ReadFault::Refused(fault) => Some(*fault),
+        ReadFault::Memory => None,
+    }
 }
 
 /// Whether a field that came in pieces has the answer of the whole.
@@ -320,6 +386,40 @@ fn refusals_of_section_7(rt: HostRuntime) -> Result<(), Fail> {
     Ok(())
 }
 
+#[test]
+fn m3_octet_by_octet(rt: HostRuntime) -> Result<(), Fail> {
+    let section5 = section(&rt, 5, 144, &M3);
+    let four = Mask::all(rt.alloc(), 4)?;
+    let Ok(simple) = read_simple(&section5, 4) else {
+        panic!(rt; "the representation is refused");
+    };
+    assert!(rt; simple.values == ones(&four) && simple.template == 3);
+    let Ok(_complex) = read_complex(&section5, 4) else {
+        panic!(rt; "the groups are refused");
+    };
+    let feeder_m3 = feeder(&rt, rt.alloc(), &section5, &four, 199, 13);
+    let points = [5, -5, 1, 2].map(Point::Scaled);
+    match fed(&rt, feeder_m3, &M3_DATA, 1) {
+        Ok(column) => assert!(rt; column.points.as_slice() == points.as_slice()),
+        Err(_) => panic!(rt; "the field is refused"),
+    }
+    assert!(rt; checked_from(&rt, rt.alloc(), &M3, 4, 199, &M3_DATA, 1) == Ok(()));
+
+    let mut negative = M3_DATA;
+    negative[5] = 0x85;
+    let refusal = Fault {
+        octet: 204,
+        reason: Reason::FirstValueSign,
+        detail: 1,
+    };
+    let feeder_negative = feeder(&rt, rt.alloc(), &section5, &four, 199, 13);
+    let answer = fed(&rt, feeder_negative, &negative, 1);
+    assert!(rt; answer.err() == Some(refusal));
+    let answer = checked_from(&rt, rt.alloc(), &M3, 4, 199, &negative, 1);
+    assert!(rt; answer == Err(refusal));
+    Ok(())
+}
+
 /// One group of 33,000 values of width 0, whose second differences are the greatest that there are.
 const STEEP: [u8; 49] = [
     0, 0, 0, 49, 5, 0, 0, 0x80, 0xe8, 0, 3, 0xc2, 0xed, 0x40, 0x00, 0x80, 0x03, 0x00, 0x01, 32, 0,
@@ -400,7 +500,7 @@ fn simple_packing_in_pieces(rt: HostRuntime) -> Result<(), Fail> {
     let mut data = [0xab; 36];
     data[..5].copy_from_slice(&[0, 0, 0, 36, 7]);
     for size in [1, 7, 36] {
-        let feeder = feeder(&rt, rt.alloc(), &section5, &mask, 36);
+        let feeder = feeder(&rt, rt.alloc(), &section5, &mask, 200, 36);
         let column = match fed(&rt, feeder, &data, size) {
             Ok(column) => column,
             Err(_) => panic!(rt; "the field is refused"),
@@ -410,7 +510,7 @@ fn simple_packing_in_pieces(rt: HostRuntime) -> Result<(), Fail> {
         assert!(rt; points[0] == Point::Scaled(0xaba) && points[1] == Point::Scaled(0xbab));
         assert!(rt; points[18] == Point::Scaled(0xaba) && points[19] == Point::Scaled(0xbab));
     }
-    let feeder = feeder(&rt, rt.alloc(), &section5, &mask, 34);
+    let feeder = feeder(&rt, rt.alloc(), &section5, &mask, 200, 34);
     let answer = fed(&rt, feeder, &data[..34], 7);
     assert!(rt;
         matches!(

@@ -1,5 +1,6 @@
 use Rattle.grib_complex.specs.Feeding.{IsFed}
+use Rattle.grib_complex.specs.Kept.{PointsKept}
 use Rattle.grib_bench.proofs.complex.fed_column.Given as goal
 
 abbrev pub invariant-loop-piece : goal.invariant-loop-piece
-invariant-loop-piece l = (goal.iterator-loop-piece).can_next l.piece-iterator × (goal.iterator-loop-piece).is_finite l.piece-iterator × IsFed l.feeder
+invariant-loop-piece l = (goal.iterator-loop-piece).can_next l.piece-iterator × (goal.iterator-loop-piece).is_finite l.piece-iterator × IsFed PointsKept l.feeder

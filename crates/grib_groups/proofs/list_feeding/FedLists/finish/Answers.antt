@@ -6,7 +6,8 @@ use Rattle.grib_base.specs.declared.code.Code.{Code}
 use Rattle.grib_packing.specs.Groups.{reference_octets, width_octets, length_octets}
 use Rattle.grib_packing.proofs.Fields.{length-plain}
 use Rattle.grib_groups.specs.Lists.{ReferencesTook, WidthsTook, LengthsAre, LengthsTook, LengthAdded}
-use Rattle.grib_groups.specs.Feeding.{part, no_marks, plain_groups}
+use Rattle.grib_groups.specs.declared.list_feeding.FedLists.{FedLists}
+use Rattle.grib_groups.specs.Feeding.{part, no_marks, plain_groups, CanBeFed, Listing}
 use Rattle.grib_groups.proofs.Pieces.{part_enough, part_codes}
 use Rattle.grib_groups.proofs.Reading.{references_read, widths_read, lengths_read, last_set}
 use Rattle.grib_groups.proofs.list_feeding.FedLists.finish.Goals as goal
@@ -26,24 +27,23 @@ returns c = λ values octets fed enough.
     let length_numbers = plain length_bits layout.length_bits (n - 1) in
     let code_width = λ (coded : ℕ). layout.width_reference + coded in
     let code_length = λ (coded : ℕ). layout.length_reference + layout.length_increment * coded in
-    let whole : (n - 1) + 1 ≡ n = omega (arith, c.requires.groups) in
+    let whole : (n - 1) + 1 ≡ n = omega (arith, c.requires.feedable.groups.groups) in
     let product : (n - 1) * layout.length_bits + layout.length_bits ≡ n * layout.length_bits = subst (λ (k : ℕ). (n - 1) * layout.length_bits + layout.length_bits ≡ k * layout.length_bits) whole (omega (arith, add-mul (n - 1) 1 layout.length_bits)) in
     let fits_3 : (n - 1) * layout.length_bits ≤ 8 * third = omega (arith, product) in
-    let references_took = subst (λ (cs : List Code). ReferencesTook start.references cs c.finish.result) (part_codes 0 first layout.reference_bits n octets (omega arith) (omega arith))
-    (c.finish.ensures.took no_marks (plain_groups layout.reference_bits n) start.references (part 0 first octets) fed.references (part_enough 0 first layout.reference_bits n octets (omega arith) (omega arith))) in
-    let widths_took = subst (λ (cs : List Code). WidthsTook start.widths cs c.finish-2.result) (part_codes first second layout.width_bits n octets (omega arith) (omega arith))
-    (c.finish-2.ensures.took no_marks (plain_groups layout.width_bits n) start.widths (part first second octets) fed.widths (part_enough first second layout.width_bits n octets (omega arith) (omega arith))) in
+    let here = subst (λ (lists : FedLists). Listing layout start octets lists) c.in-AtLengths.is fed.listing in
+    let references_took = here.references_are.took in
+    let widths_took = here.widths_are.took in
     let lengths_took = subst (λ (cs : List Code). LengthsTook start.lengths cs c.finish-lengths.result) (part_codes (first + second) third layout.length_bits (n - 1) octets (omega arith) fits_3)
-    (c.finish-lengths.ensures.took no_marks (plain_groups layout.length_bits (n - 1)) start.lengths (part (first + second) third octets) fed.lengths (part_enough (first + second) third layout.length_bits (n - 1) octets (omega arith) fits_3)) in
+    (c.finish-lengths.ensures.took no_marks (plain_groups layout.length_bits (n - 1)) start.lengths (part (first + second) third octets) here.reads (part_enough (first + second) third layout.length_bits (n - 1) octets (omega arith) fits_3)) in
     let added = subst (λ (k : ℕ). LengthAdded c.finish-lengths.result k c.add.result) c.from.ensures c.add.ensures in
     let lengths_are = lengths_read values start.lengths c.finish-lengths.result c.add.result layout.length_reference layout.length_increment layout.last_length length_numbers
     empty.length_reference empty.length_increment empty.lengths (omega (arith, empty.length_memory, length-plain length_bits layout.length_bits (n - 1))) lengths_took added in
     record {
-      references_are = references_read start.references c.finish.result reference_numbers empty.references
+      references_are = references_read start.references c.in-AtLengths.references reference_numbers empty.references
           (omega (arith, empty.reference_memory, length-plain (bits octets) layout.reference_bits n)) references_took;
-      widths_are = widths_read start.widths c.finish-2.result layout.width_reference width_numbers empty.width_reference empty.widths
+      widths_are = widths_read start.widths c.in-AtLengths.widths layout.width_reference width_numbers empty.width_reference empty.widths
           (omega (arith, empty.width_memory, length-plain (bits (drop first octets)) layout.width_bits n)) widths_took;
-      lengths_are = subst (λ (xs : List ℕ). LengthsAre values c.add.result xs) (last_set code_length length_bits layout.length_bits n layout.last_length c.requires.groups) lengths_are;
+      lengths_are = subst (λ (xs : List ℕ). LengthsAre values c.add.result xs) (last_set code_length length_bits layout.length_bits n layout.last_length c.requires.feedable.groups.groups) lengths_are;
       reference_count = length-plain (bits octets) layout.reference_bits n;
       width_count = length-map width_numbers code_width ∙ length-plain (bits (drop first octets)) layout.width_bits n;
       length_count = length-set (map code_length (plain length_bits layout.length_bits n)) (n - 1) layout.last_length
@@ -51,4 +51,6 @@ returns c = λ values octets fed enough.
     }
 
 pub add-requires : goal.add-requires
-add-requires c = c.finish-lengths.ensures.room 1 c.requires.feedable.length_room
+add-requires c =
+    let can = subst (λ (lists : FedLists). CanBeFed c.args.layout.now lists) c.in-AtLengths.is c.requires.feedable.list in
+    c.finish-lengths.ensures.room 1 can.1

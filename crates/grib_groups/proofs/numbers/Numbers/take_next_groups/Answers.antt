@@ -27,6 +27,7 @@ loop-self-preserved g c =
       room = room_left took g.T.Taker.room g.met.T.Taker.room_after c.take_next_group-taker.ensures.goes
           (room_left took g.T.Taker.room g.met.T.Taker.room_after c.take_ready_groups-taker.ensures.goes c.loop-self.invariant.room);
       readable = c.take_next_group-taker.ensures.to.readable;
+      width = λ none. absurd (omega (arith, none));
       pending = c.take_next_group-taker.ensures.to.pending ∙ c.take_ready_groups-taker.ensures.pending ∙ c.loop-self.invariant.pending;
       within = c.take_next_group-taker.ensures.to.within;
       no_more = c.take_next_group-taker.ensures.to.no_more;

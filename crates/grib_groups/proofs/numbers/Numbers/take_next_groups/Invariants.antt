@@ -9,6 +9,7 @@ abbrev pub invariant-loop-self : goal.invariant-loop-self
 invariant-loop-self g l = record {
   went : Went g.T.Taker.took l.layout (left_of l.fn.self (groups_in l.table)) (drop l.fn.at (bits l.piece)) l.fn.taker (left_of l.self (groups_in l.table)) (drop l.at (bits l.piece)) l.taker;
   readable : IsReadable g.T.Taker.limit l.self.current;
+  width : vec_len l.table.lengths ≡ 0 → l.self.current.width ≡ l.fn.self.current.width;
   pending : l.self.pending ≡ [];
   within : l.at ≤ 8 * length l.piece;
   room : g.T.Taker.room l.taker (values (left_of l.self (groups_in l.table)));

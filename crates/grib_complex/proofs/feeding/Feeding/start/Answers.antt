@@ -1,0 +1,50 @@
+use Rattle.std.proofs.Common.{◌≡◌, ℕ, List, Some, [], refl, arith}
+use Rattle.grib_complex.specs.Field.{Represents}
+use Rattle.grib_complex.specs.Feeding.{HasRead}
+use Rattle.grib_complex.proofs.Begun.{state_pends}
+use Rattle.grib_complex.proofs.feeding.Feeding.start.Goals as goal
+use Rattle.grib_complex.proofs.feeding.Feeding.start.Goals.{In_ok-state}
+
+pub returns-clause-read : goal.returns-clause-read
+returns-clause-read g c = λ s5 is.
+    let state = c.in_ok-state.ensures s5 is in
+    let pends = state_pends g.K.Keeper.kept s5 c.args.keeper c.args.start c.args.length [] c.in_ok-state.state state in
+    record {
+      spelled = c.shared.ensures s5 is;
+      start_is = refl;
+      low = c.requires.low;
+      high = c.requires.high;
+      length_is = refl;
+      pushed = refl;
+      within = c.requires.least;
+      known = λ i. omega arith;
+      few = pends.few;
+      last = pends.last;
+      state = state;
+    }
+
+pub returns-clause-fed : goal.returns-clause-fed
+returns-clause-fed g c =
+    let s5 = c.requires.read.0 in
+    let state = c.in_ok-state.ensures s5 c.requires.read.1 in
+    let pends = state_pends g.K.Keeper.kept s5 c.args.keeper c.args.start c.args.length [] c.in_ok-state.state state in
+    record {
+      s5 = s5;
+      keeper = c.args.keeper;
+      start = c.args.start;
+      l = c.args.length;
+      octets = [];
+      read = record {
+        spelled = c.shared.ensures s5 c.requires.read.1;
+        start_is = refl;
+        low = c.requires.low;
+        high = c.requires.high;
+        length_is = refl;
+        pushed = refl;
+        within = c.requires.least;
+        known = λ i. omega arith;
+        few = pends.few;
+        last = pends.last;
+        state = state;
+      };
+    }

@@ -1,0 +1,240 @@
+use Rattle.std.proofs.Common.{◌≡◌, ℕ, ◌+◌, ◌-◌, ◌*◌, ◌≤◌, Bool, false, cond, Some, None, List, length, drop, eqb, [], refl, sym, ap, ap₂, ◌∙◌, arith, subst, inl, inr}
+use Rattle.std.proofs.lemmas.Bool.{cases_eq, cond-false, cond-true, eq-eqb, ne_eqb}
+use Rattle.std.proofs.lemmas.List.{length-drop}
+use Rattle.grib_bits.specs.Bits.{bits}
+use Rattle.grib_base.specs.declared.fault.Reason.TheVariants.{ScaledRange}
+use Rattle.grib_base.specs.Rows.{first_place, located, refusal}
+use Rattle.grib_packing.specs.declared.column.Point.{Point}
+use Rattle.grib_packing.specs.declared.group.Group.{Group}
+use Rattle.grib_packing.specs.Differences.{NoNumber}
+use Rattle.grib_packing.specs.Entries.{entries_of, group_entries, is_out_of_range}
+use Rattle.grib_packing.specs.Groups.{references, widths, lengths, groups, list_octets, codes_from}
+use Rattle.grib_packing.specs.Packing.{value_count}
+use Rattle.grib_groups.specs.Lists.{ListsAre, lists_fault}
+use Rattle.grib_groups.specs.Table.{groups_in}
+use Rattle.grib_groups.specs.Taking.{values}
+use Rattle.grib_groups.specs.Feeding.{WasFed}
+use Rattle.grib_groups.proofs.Faults.{fit_from, groups_are}
+use Rattle.grib_groups.proofs.Listed.{values-groups_from}
+use Rattle.grib_complex.specs.declared.stages.Between.{Between}
+use Rattle.grib_complex.specs.declared.values.Values.{Values}
+use Rattle.grib_complex.specs.Feeding.{Continues, IsWholeListing, ListingAgrees}
+use Rattle.grib_complex.specs.Told.{Telling, Plainly, After, told}
+use Rattle.grib_complex.specs.Tells.{Tells, ValuesTook}
+use Rattle.grib_complex.specs.Descriptors.{descriptors_in, is_signed_at, telling_by, telling_told}
+use Rattle.grib_complex.proofs.Arriving.{front_of, came_refused, came_whole, came_entries, entries_grouped, table_whole, table_narrow}
+use Rattle.grib_complex.proofs.Begun.{told_count}
+use Rattle.grib_complex.proofs.Outcome.{no_run, plain_range, within_range, beyond_range}
+use Rattle.grib_complex.proofs.stages.Between.read.Goals as goal
+
+long_lists : {K : Type 0} (s5 : List ℕ) (keeper : K) (l : ℕ) (octets : List ℕ) (b : Between K) (agrees : ListingAgrees s5 keeper l octets octets b)
+    → (b.complex.order + 1) * b.complex.extra + list_octets b.complex.layout ≤ length octets → list_octets b.complex.layout ≤ length (drop ((b.complex.order + 1) * b.complex.extra) octets)
+long_lists s5 keeper l octets b agrees whole = omega (arith, whole, length-drop ((b.complex.order + 1) * b.complex.extra) octets)
+
+-- no first value has its top bit set
+clear : {K : Type 0} (s5 : List ℕ) (keeper : K) (l : ℕ) (octets : List ℕ) (b : Between K) (agrees : ListingAgrees s5 keeper l octets octets b) (s7 : List ℕ) → Continues octets l s7
+    → ◌≡◌ {A = ℕ} (cond (is_signed_at b.complex.order b.complex.extra s7 0) 1 (cond (is_signed_at b.complex.order b.complex.extra s7 1) 2 0)) 0
+clear s5 keeper l octets b agrees s7 c = let unsigned = agrees.unsigned s7 c in ap₂ (λ (p q : Bool). cond p 1 (cond q 2 0)) unsigned.0 unsigned.1
+
+pub finish-lists-requires-clause-whole : goal.finish-lists-requires-clause-whole
+finish-lists-requires-clause-whole g c =
+    let begun = c.requires.begun in
+    let b = c.args.self in
+    record {
+      total = b.complex.simple.values;
+      octets = drop ((b.complex.order + 1) * b.complex.extra) begun.octets;
+      fed = begun.agrees.lists;
+      enough = long_lists begun.s5 begun.keeper c.args.length begun.octets b begun.agrees begun.whole;
+    }
+
+pub fault-requires-clause-read : goal.fault-requires-clause-read
+fault-requires-clause-read g c =
+    let begun = c.requires.begun in
+    let b = c.args.self in
+    let os = drop ((b.complex.order + 1) * b.complex.extra) begun.octets in
+    record {
+      values = b.complex.simple.values;
+      small = begun.agrees.few;
+      references = references b.complex.layout os;
+      widths = widths b.complex.layout os;
+      lengths = lengths b.complex.layout os;
+      are = c.finish-lists.ensures b.complex.simple.values os begun.agrees.lists (long_lists begun.s5 begun.keeper c.args.length begun.octets b begun.agrees begun.whole);
+    }
+
+pub returns-in-Some : goal.returns-in-Some
+returns-in-Some g c = λ s5 keeper octets agrees is_numbers whole. (
+  λ s7 continues.
+      let b = c.args.self in
+      let layout = b.complex.layout in
+      let k = (b.complex.order + 1) * b.complex.extra in
+      let count = b.complex.simple.values in
+      let os = drop k octets in
+      let rs = references layout os in
+      let ws = widths layout os in
+      let ls = lengths layout os in
+      let are = c.finish-lists.ensures count os agrees.lists (long_lists s5 keeper c.args.length octets b agrees whole) in
+      let is = ap (λ (n : ℕ). lists_fault layout c.args.start n c.args.length count rs ws ls) (sym c.skip.ensures) ∙ sym (c.fault.ensures count rs ws ls agrees.few are) ∙ c.in-Some.is in
+      came_refused b.complex s5 agrees.spelled agrees.accepted agrees.groups c.args.start c.args.length octets s7 continues agrees.within whole s7 (front_of k octets c.args.length s7 agrees.came continues)
+      (clear s5 keeper c.args.length octets b agrees s7 continues) c.in-Some.fault is,
+  agrees.keeper_is,
+)
+
+pub is_steady-requires-clause-whole : goal.is_steady-requires-clause-whole
+is_steady-requires-clause-whole g c =
+    let begun = c.requires.begun in
+    let b = c.args.self in
+    let os = drop ((b.complex.order + 1) * b.complex.extra) begun.octets in
+    table_whole b.complex.layout b.complex.simple.values c.finish-lists.result c.into_table-table.result (references b.complex.layout os) (widths b.complex.layout os) (lengths b.complex.layout os)
+    (c.finish-lists.ensures b.complex.simple.values os begun.agrees.lists (long_lists begun.s5 begun.keeper c.args.length begun.octets b begun.agrees begun.whole))
+    c.into_table-table.ensures.references c.into_table-table.ensures.widths c.into_table-table.ensures.lengths
+
+pub is_steady-requires-clause-narrow : goal.is_steady-requires-clause-narrow
+is_steady-requires-clause-narrow g c =
+    let begun = c.requires.begun in
+    let b = c.args.self in
+    let os = drop ((b.complex.order + 1) * b.complex.extra) begun.octets in
+    table_narrow b.complex.layout b.complex.simple.values c.finish-lists.result c.into_table-table.result (references b.complex.layout os) (widths b.complex.layout os) (lengths b.complex.layout os)
+    (c.finish-lists.ensures b.complex.simple.values os begun.agrees.lists (long_lists begun.s5 begun.keeper c.args.length begun.octets b begun.agrees begun.whole))
+    c.into_table-table.ensures.references c.into_table-table.ensures.widths c.into_table-table.ensures.lengths
+
+pub groups-requires-clause-whole : goal.groups-requires-clause-whole
+groups-requires-clause-whole g c =
+    let begun = c.requires.begun in
+    let b = c.args.self in
+    let os = drop ((b.complex.order + 1) * b.complex.extra) begun.octets in
+    table_whole b.complex.layout b.complex.simple.values c.finish-lists.result c.into_table-table.result (references b.complex.layout os) (widths b.complex.layout os) (lengths b.complex.layout os)
+    (c.finish-lists.ensures b.complex.simple.values os begun.agrees.lists (long_lists begun.s5 begun.keeper c.args.length begun.octets b begun.agrees begun.whole))
+    c.into_table-table.ensures.references c.into_table-table.ensures.widths c.into_table-table.ensures.lengths
+
+pub groups-requires-clause-narrow : goal.groups-requires-clause-narrow
+groups-requires-clause-narrow g c =
+    let begun = c.requires.begun in
+    let b = c.args.self in
+    let os = drop ((b.complex.order + 1) * b.complex.extra) begun.octets in
+    table_narrow b.complex.layout b.complex.simple.values c.finish-lists.result c.into_table-table.result (references b.complex.layout os) (widths b.complex.layout os) (lengths b.complex.layout os)
+    (c.finish-lists.ensures b.complex.simple.values os begun.agrees.lists (long_lists begun.s5 begun.keeper c.args.length begun.octets b begun.agrees begun.whole))
+    c.into_table-table.ensures.references c.into_table-table.ensures.widths c.into_table-table.ensures.lengths
+
+pub is_steady-requires-clause-values : goal.is_steady-requires-clause-values
+is_steady-requires-clause-values g c =
+    let begun = c.requires.begun in
+    let b = c.args.self in
+    let layout = b.complex.layout in
+    let k = (b.complex.order + 1) * b.complex.extra in
+    let count = b.complex.simple.values in
+    let os = drop k begun.octets in
+    let rs = references layout os in
+    let ws = widths layout os in
+    let ls = lengths layout os in
+    let are = c.finish-lists.ensures count os begun.agrees.lists (long_lists begun.s5 begun.keeper c.args.length begun.octets b begun.agrees begun.whole) in
+    let none = ap (λ (n : ℕ). lists_fault layout c.args.start n c.args.length count rs ws ls) (sym c.skip.ensures) ∙ sym (c.fault.ensures count rs ws ls begun.agrees.few are) ∙ c.in_default.is in
+    let fit = fit_from layout c.args.start k c.args.length count rs ws ls none in
+    ap values (groups_are layout k c.args.length count c.finish-lists.result c.into_table-table.result rs ws ls are fit c.into_table-table.ensures.references c.into_table-table.ensures.widths c.into_table-table.ensures.lengths)
+    ∙ values-groups_from rs ws ls (are.reference_count ∙ sym are.length_count) (are.width_count ∙ sym are.length_count) ∙ fit.right
+
+pub is_steady-requires-clause-order : goal.is_steady-requires-clause-order
+is_steady-requires-clause-order g c =
+    let agrees = c.requires.begun.agrees in
+    elim agrees.accepted.order [
+      | inl two ↦ omega (arith, two.1, agrees.order)
+      | inr three ↦ elim three.1 [ inl one ↦ omega (arith, one, agrees.order) | inr other ↦ omega (arith, other, agrees.order) ]
+    ]
+
+pub returns-then-is_steady : goal.returns-then-is_steady
+returns-then-is_steady g c = λ s5 keeper octets agrees is_numbers whole.
+    let b = c.args.self in
+    let complex = b.complex in
+    let layout = complex.layout in
+    let k = (complex.order + 1) * complex.extra in
+    let count = complex.simple.values in
+    let l = c.args.length in
+    let start = c.args.start in
+    let os = drop k octets in
+    let rs = references layout os in
+    let ws = widths layout os in
+    let ls = lengths layout os in
+    let lists = c.finish-lists.result in
+    let table = c.into_table-table.result in
+    let are = c.finish-lists.ensures count os agrees.lists (long_lists s5 keeper l octets b agrees whole) in
+    let none = ap (λ (n : ℕ). lists_fault layout start n l count rs ws ls) (sym c.skip.ensures) ∙ sym (c.fault.ensures count rs ws ls agrees.few are) ∙ c.in_default.is in
+    let fit = fit_from layout start k l count rs ws ls none in
+    let same = groups_are layout k l count lists table rs ws ls are fit c.into_table-table.ensures.references c.into_table-table.ensures.widths c.into_table-table.ensures.lengths in
+    let total : values (groups layout os) ≡ count = values-groups_from rs ws ls (are.reference_count ∙ sym are.length_count) (are.width_count ∙ sym are.length_count) ∙ fit.right in
+    let numbers = λ (s7 : List ℕ). bits (drop (k + list_octets layout) (drop 5 s7)) in
+    let entries = λ (s7 : List ℕ) (continues : Continues octets l s7).
+    came_entries complex s5 agrees.spelled agrees.accepted agrees.groups start l octets s7 continues agrees.within whole s7 (front_of k octets l s7 agrees.came continues) in
+    record {
+      passes = λ s7 continues.
+          came_whole complex s5 agrees.spelled agrees.accepted agrees.groups start l octets s7 continues agrees.within whole s7 (front_of k octets l s7 agrees.came continues) (clear s5 keeper l octets b agrees s7 continues) none
+          ∙ elim (c.is_steady.ensures c.if-is_steady.true) [
+            | inl plain ↦ plain_range complex s5 s7 agrees.spelled agrees.accepted (sym agrees.order ∙ plain)
+            | inr within ↦ elim (cases_eq b.told.order 0) [
+              | inl plain ↦ plain_range complex s5 s7 agrees.spelled agrees.accepted (sym agrees.order ∙ plain)
+              | inr some ↦
+                  let after : After (descriptors_in b.told) NoNumber ≡ telling_by complex.order complex.extra s7 =
+                  sym (cond-false (eqb b.told.order 0) Plainly (After (descriptors_in b.told) NoNumber) (ne_eqb b.told.order 0 some)) ∙ agrees.told_is s7 continues in
+                  let told_all =
+                  ap₂ (λ (t : Telling) (gs : List Group). told t (codes_from layout gs (numbers s7))) after same
+                  ∙ entries s7 continues ∙ entries_grouped complex s5 agrees.spelled agrees.accepted agrees.groups s7 in
+                  within_range s5 s7 (sym (ap (first_place is_out_of_range) told_all) ∙ within layout (numbers s7))
+            ]
+          ];
+      counted = λ s7 continues. told_count layout (groups layout os) (telling_by complex.order complex.extra s7) (numbers s7) (entries_of s5 s7) (value_count s5) (entries s7 continues) (total ∙ agrees.spelled.simple.values);
+      keeps = subst (λ (n : _). (points : List Point) → g.K.Keeper.kept n points b.keeper) agrees.keeper_is (c.keeps.ensures c.if-not-keeps.true);
+    }
+
+pub returns : goal.returns
+returns g c = λ s5 keeper octets agrees is_numbers whole.
+    let b = c.args.self in
+    let complex = b.complex in
+    let layout = complex.layout in
+    let k = (complex.order + 1) * complex.extra in
+    let count = complex.simple.values in
+    let l = c.args.length in
+    let start = c.args.start in
+    let os = drop k octets in
+    let rs = references layout os in
+    let ws = widths layout os in
+    let ls = lengths layout os in
+    let lists = c.finish-lists.result in
+    let table = c.into_table-table.result in
+    let first : Values _ = record { teller = c.start.result; keeper = b.keeper } in
+    let are = c.finish-lists.ensures count os agrees.lists (long_lists s5 keeper l octets b agrees whole) in
+    let none = ap (λ (n : ℕ). lists_fault layout start n l count rs ws ls) (sym c.skip.ensures) ∙ sym (c.fault.ensures count rs ws ls agrees.few are) ∙ c.in_default.is in
+    let fit = fit_from layout start k l count rs ws ls none in
+    let same = groups_are layout k l count lists table rs ws ls are fit c.into_table-table.ensures.references c.into_table-table.ensures.widths c.into_table-table.ensures.lengths in
+    let total : values (groups layout os) ≡ count = values-groups_from rs ws ls (are.reference_count ∙ sym are.length_count) (are.width_count ∙ sym are.length_count) ∙ fit.right in
+    let took = ValuesTook g.K.Keeper.kept in
+    let pushed = c.push.ensures.fed layout (groups_in table) first [] c.groups.ensures.fed in
+    let by_groups = subst (λ (gs : List Group). WasFed took layout gs first c.args.numbers.now c.push.result) same pushed in
+    record {
+      layout = layout;
+      groups = groups layout os;
+      telling = telling_told b.told;
+      first = first;
+      before = k + list_octets layout;
+      came = whole;
+      feedable = c.push.ensures.feedable;
+      so_far = subst (λ (xs : List ℕ). WasFed took layout (groups layout os) first xs c.push.result) is_numbers by_groups;
+      fresh = subst (λ (t : Telling). Tells t [] c.start.result) c.running.ensures c.start.ensures.nothing;
+      keeper_is = agrees.keeper_is;
+      few = omega (arith, total, agrees.few);
+      counted = total ∙ agrees.spelled.simple.values;
+      enough = omega (arith, fit.enough);
+      entries = λ s7 continues.
+          ap (λ (t : Telling). told t (codes_from layout (groups layout os) (bits (drop (k + list_octets layout) (drop 5 s7))))) (agrees.told_is s7 continues)
+          ∙ came_entries complex s5 agrees.spelled agrees.accepted agrees.groups start l octets s7 continues agrees.within whole s7 (front_of k octets l s7 agrees.came continues);
+      within = λ s7 continues nowhere.
+          came_whole complex s5 agrees.spelled agrees.accepted agrees.groups start l octets s7 continues agrees.within whole s7 (front_of k octets l s7 agrees.came continues) (clear s5 keeper l octets b agrees s7 continues) none
+          ∙ within_range s5 s7 (sym (ap (first_place is_out_of_range) (entries_grouped complex s5 agrees.spelled agrees.accepted agrees.groups s7)) ∙ nowhere);
+      beyond = λ s7 continues somewhere not_plain.
+          let entries = entries_grouped complex s5 agrees.spelled agrees.accepted agrees.groups s7 in
+          let here : first_place is_out_of_range (entries_of s5 s7) ≡ first_place is_out_of_range (group_entries s5 s7) = ap (first_place is_out_of_range) entries in
+          let origin : start + 0 ≡ start = omega arith in
+          ap (located start) (came_whole complex s5 agrees.spelled agrees.accepted agrees.groups start l octets s7 continues agrees.within whole s7 (front_of k octets l s7 agrees.came continues) (clear s5 keeper l octets b agrees s7 continues) none
+          ∙ beyond_range s5 s7 (elim agrees.accepted.order [
+            | inl two ↦ absurd (not_plain (c.start.ensures.running ∙ no_run c.running.result (c.running.ensures ∙ cond-true (eqb b.told.order 0) Plainly _ (eq-eqb b.told.order 0 (agrees.order ∙ two.1)))))
+            | inr three ↦ sym agrees.spelled.simple.template ∙ three.0
+          ]) (omega (arith, here, somewhere)))
+          ∙ ap₂ (λ (o d : ℕ). Some (refusal o ScaledRange d)) origin (sym here);
+    }

@@ -1,0 +1,19 @@
+use Rattle.std.proofs.Common.{◌≡◌, ◌+◌, ◌*◌, ◌^◌, ◌≤◌, ℕ, refl, arith, pow_mono}
+use Rattle.grib_complex.specs.declared.values.Values.{Values}
+use Rattle.grib_complex.proofs.Starting.{starts_plain, passes_plain}
+use Rattle.grib_complex.proofs.stages.start_list.Goals as goal
+
+pub list-requires-clause-limit : goal.list-requires-clause-limit
+list-requires-clause-limit g c =
+    let power : 2 ^ c.args.bits ≤ 2 ^ 48 = pow_mono c.requires.width in
+    omega arith
+
+pub returns-then-not-keeps : goal.returns-then-not-keeps
+returns-then-not-keeps g c = λ s5 start l counted enough entries passes.
+    passes_plain g.K.Keeper.kept s5 c.args.keeper l c.args.bits c.args.count (c.keeps.ensures c.if-not-keeps.true) counted entries passes
+
+pub returns : goal.returns
+returns g c = λ s5 start l counted enough entries passes.
+    let first : Values _ = record { teller = c.start.result; keeper = c.args.keeper } in
+    starts_plain g.K.Keeper.kept s5 c.args.keeper start l c.args.bits c.args.count first c.list.result c.list.ensures.feedable c.list.ensures.fed c.start.ensures.running c.start.ensures.nothing refl
+    (omega arith) counted enough entries passes

@@ -1,0 +1,12 @@
+use Rattle.std.proofs.Common.{◌≡◌, ◌+◌, ◌*◌, ◌≤◌, ℕ, sym, ◌∙◌, arith, ap, Some, refl}
+use Rattle.std.proofs.lemmas.Bool.{ltb-false}
+use Rattle.grib_complex.proofs.Starting.{plain_entries, plain_passes}
+use Rattle.grib_complex.proofs.stages.start_plain.Goals as goal
+
+pub returns : goal.returns
+returns g c = λ s5 spelled zero.
+    let w = c.args.simple.bits in
+    let n = c.args.simple.values in
+    let enough : n * w + 40 ≤ 8 * c.args.length = omega (arith, c.from.ensures, ltb-false (8 * c.from.result) (n * w + 40) (sym c.is_too_short.ensures ∙ c.if-is_too_short.false)) in
+    c.start_list.ensures s5 c.args.start c.args.length spelled.values (omega (arith, enough))
+    (plain_entries s5 zero w n spelled.bits spelled.values) (plain_passes s5 zero c.args.length w n spelled.bits spelled.values enough)

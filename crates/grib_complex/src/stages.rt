@@ -1,0 +1,312 @@
+//! How far a Section 7 was read that comes in pieces.
+
+ghost use Rattle.std.specs.Prelude.{◌≡◌, ◌⊎◌, ℕ, ◌+◌, ◌-◌, ◌*◌, ◌^◌, ◌<◌, ◌≤◌, Some, None, List, Bool, true, map, pos, [], ◌++◌, length as length_of, drop, nat_abs, vec_capacity, cond, IfOk, MatchResult, All};
+ghost use Rattle.grib_bits.specs.Bits.{bits as bits_in};
+ghost use Rattle.grib_bits.specs.Plain.{plain};
+ghost use Rattle.grib_base.specs.Rows.{first_place, refusal};
+ghost use Rattle.grib_base.specs.declared.fault.Reason.TheVariants.{FirstValueSign};
+ghost use Rattle.grib_packing.specs.declared.column.Point.TheVariants.{Scaled};
+ghost use Rattle.grib_packing.specs.declared.layout.Layout.{Layout as layout_of_groups};
+ghost use Rattle.grib_packing.specs.Differences.{NoNumber};
+ghost use Rattle.grib_packing.specs.Entries.{data_fault, entries_of, is_out_of_range};
+ghost use Rattle.grib_packing.specs.Groups.{codes_from, list_octets};
+ghost use Rattle.grib_packing.specs.Packing.{packing_template, value_count};
+ghost use Rattle.grib_packing.specs.Representation as shared;
+ghost use Rattle.grib_groups.specs.Table.{groups_in, IsNarrow, IsWhole};
+ghost use Rattle.grib_groups.specs.Taking.{values as values_in};
+ghost use Rattle.grib_complex.specs.Representation.{Spelled};
+ghost use Rattle.grib_complex.specs.Descriptors.{IsAccepted, descriptors_in, is_signed_number};
+ghost use Rattle.grib_complex.specs.Field.{Represents};
+ghost use Rattle.grib_complex.specs.Told.{After, told as points_of};
+ghost use Rattle.grib_complex.specs.Feeding.{AreOctets, BeginningAgrees, CanBegin, CanList, IsFedState, IsWholeListing, ListingAgrees, StateAgrees};
+
+use crate::field::Representation;
+use crate::keeping::Keeper;
+use crate::noted::{Told, signed_fault};
+use crate::range::stays_by;
+use crate::representation::Complex;
+use crate::telling::Teller;
+use crate::values::Values;
+use grib_base::{Fault, Reason};
+use grib_groups::{
+    Fed, FedLists, Lists, References, Table, lists_fit, octets_of_lists, part_of, rest_of,
+};
+use grib_packing::Simple;
+use grib_simple::is_too_short;
+use std::alloc::{AllocError, Global};
+
+/// How far a Section 7 was read. At most one list of numbers is read at a time, so that the bits of one number at
+/// most are kept.
+#[derive(Debug, Drop)]
+pub(crate) enum State<K> {
+    /// Octets of the extra descriptors are still to come.
+    Begins(Beginning<K>),
+    /// The extra descriptors are whole, and octets of the lists are still to come.
+    Lists(Between<K>),
+    /// Packed numbers come.
+    Reads(Fed<Values<K>>),
+    /// No row of the profile fails, whatever comes, and no points are kept.
+    Passes(K),
+    /// A row of the profile fails, whatever comes.
+    Refused(Fault, K),
+}
+
+/// The extra descriptors, as far as they came, and what is to take the lists and the points.
+#[derive(Debug, Drop)]
+pub(crate) struct Beginning<K> {
+    complex: Complex,
+    descriptors: Fed<References>,
+    lists: Lists,
+    keeper: K,
+}
+
+/// What the extra descriptors told, the lists, as far as they came, and what is to keep the points.
+#[derive(Debug, Drop)]
+pub(crate) struct Between<K> {
+    complex: Complex,
+    told: Told,
+    lists: FedLists,
+    keeper: K,
+}
+
+/// Before the first octet of a Section 7.
+pub(crate) fn start_state<K: Keeper + Drop>(
+    alloc: Global,
+    representation: &Representation,
+    keeper: K,
+    start: u64,
+    length: u32,
+) -> Result<State<K>, AllocError>
+    requires read { (s5 : List ℕ) × Represents representation.now s5 }
+    requires low { 1 ≤ start }
+    requires high { start ≤ 268435456 }
+    requires least { 5 ≤ length }
+    ensures { (s5 : List ℕ) → Represents representation.now s5
+        → IfOk result (λ state. StateAgrees K.kept s5 keeper start length [] (Some state)) }
+{
+    match representation {
+        Representation::Simple(simple) => Ok(start_plain(alloc, *simple, keeper, start, length)),
+        Representation::Complex(complex) => start_grouped(alloc, *complex, keeper, start, length),
+    }
+}
+
+/// Before the first octet of simple packing: the numbers of all values are one group.
+fn start_plain<K: Keeper>(
+    alloc: Global,
+    simple: Simple,
+    keeper: K,
+    start: u64,
+    length: u32,
+) -> State<K>
+    requires low { 1 ≤ start }
+    requires high { start ≤ 268435456 }
+    requires least { 5 ≤ length }
+    requires width { simple.bits ≤ 48 }
+    ensures { (s5 : List ℕ) → shared.Spelled simple s5 → packing_template s5 ≡ 0 → StateAgrees K.kept s5 keeper start length [] (Some result) }
+{
+    if is_too_short(&simple, u64::from(length)) {
+        let fault = Fault::at(start, Reason::DataTooShort, u64::from(length));
+        return State::Refused(fault, keeper);
+    }
+    start_list(alloc, simple.bits, simple.values, keeper)
+}
+
+/// Before the first octet of `count` numbers of `bits` bits, the scaled numbers themselves. No row fails.
+fn start_list<K: Keeper>(alloc: Global, bits: u8, count: u32, keeper: K) -> State<K>
+    requires width { bits ≤ 48 }
+    ensures { (s5 : List ℕ) (start l : ℕ) → count ≡ value_count s5 → 40 + count * bits ≤ 8 * l
+        → ((s7 : List ℕ) → map (λ n. Scaled (pos n)) (plain (bits_in (drop 5 s7)) bits count) ≡ entries_of s5 s7)
+        → ((s7 : List ℕ) → length_of s7 ≡ l → data_fault s5 s7 ≡ None)
+        → StateAgrees K.kept s5 keeper start l [] (Some result) }
+{
+    if !keeper.keeps() {
+        return State::Passes(keeper);
+    }
+    let values = Values {
+        teller: Teller::start(None),
+        keeper,
+    };
+    State::Reads(Fed::list(alloc, bits, count, values))
+}
+
+/// Before the first octet of complex packing. Where there are no groups, each value is a number of no bits.
+fn start_grouped<K: Keeper + Drop>(
+    alloc: Global,
+    complex: Complex,
+    keeper: K,
+    start: u64,
+    length: u32,
+) -> Result<State<K>, AllocError>
+    requires accepted { IsAccepted complex }
+    requires spelled { (s5 : List ℕ) × Spelled complex s5 }
+    requires low { 1 ≤ start }
+    requires high { start ≤ 268435456 }
+    requires least { 5 ≤ length }
+    ensures { (s5 : List ℕ) → Spelled complex s5
+        → IfOk result (λ state. StateAgrees K.kept s5 keeper start length [] (Some state)) }
+{
+    let count = complex.simple.values;
+    if complex.layout.groups == 0 {
+        return Ok(start_list(alloc, 0, count, keeper));
+    }
+    if !lists_fit(&complex.layout, length, complex.skip()) {
+        let fault = Fault::at(start, Reason::DataTooShort, u64::from(length));
+        return Ok(State::Refused(fault, keeper));
+    }
+    let numbers = References {
+        items: Vec::with_capacity(alloc, 3)?,
+    };
+    let width = 8 * complex.extra;
+    let beginning = Beginning {
+        complex,
+        descriptors: Fed::list(alloc, width, u32::from(complex.order) + 1, numbers),
+        lists: Lists::start(alloc, &complex.layout, count)?,
+        keeper,
+    };
+    Ok(beginning.push(alloc, &[], 0, start, length))
+}
+
+impl<K: Keeper + Drop> State<K> {
+    /// Reads the next octets, where this many came before.
+    pub fn push(self, alloc: Global, piece: &[u8], before: u32, start: u64, length: u32) -> State<K>
+        requires fed { IsFedState K.kept start length before self }
+        requires within { 5 + before + length_of piece.now ≤ length }
+        ensures { (s5 : List ℕ) (keeper : _) (octets : List ℕ) → length_of octets ≡ before → AreOctets octets → StateAgrees K.kept s5 keeper start length octets (Some self)
+            → StateAgrees K.kept s5 keeper start length (octets ++ piece.now) (Some result) }
+    {
+        match self {
+            State::Begins(beginning) => beginning.push(alloc, piece, before, start, length),
+            State::Lists(between) => between.push(alloc, piece, before, start, length),
+            State::Reads(fed) => State::Reads(fed.push(piece)),
+            State::Passes(keeper) => State::Passes(keeper),
+            State::Refused(fault, keeper) => State::Refused(fault, keeper),
+        }
+    }
+}
+
+impl<K: Keeper + Drop> Beginning<K> {
+    /// Reads the next octets, where this many came before, and goes on to the lists where the descriptors are
+    /// whole. A first value is tried as soon as it is.
+    fn push(self, alloc: Global, piece: &[u8], before: u32, start: u64, length: u32) -> State<K>
+        requires low { 1 ≤ start }
+        requires high { start ≤ 268435456 }
+        requires begun { CanBegin length before self }
+        requires within { 5 + before + length_of piece.now ≤ length }
+        ensures { (s5 : List ℕ) (keeper : _) (octets : List ℕ) → length_of octets ≡ before → AreOctets octets → BeginningAgrees s5 keeper length octets self
+            → StateAgrees K.kept s5 keeper start length (octets ++ piece.now) (Some result) }
+    {
+        let Beginning {
+            complex,
+            descriptors,
+            lists,
+            keeper,
+        } = self;
+        let skip = complex.skip();
+        let part = part_of(piece, u64::from(before), 0, u64::from(skip));
+        let descriptors = descriptors.push(part);
+        if let Some(fault) = signed_fault(&descriptors.taker().items, &complex, start) {
+            return State::Refused(fault, keeper);
+        }
+        if before + (piece.len() as u32) < skip {
+            return State::Begins(Beginning {
+                complex,
+                descriptors,
+                lists,
+                keeper,
+            });
+        }
+        let between = Between {
+            complex,
+            told: Told::of(&descriptors.taker().items, complex.order, complex.extra),
+            lists: FedLists::start(alloc, &complex.layout, lists),
+            keeper,
+        };
+        between.push(alloc, piece, before, start, length)
+    }
+}
+
+impl<K: Keeper + Drop> Between<K> {
+    /// Reads the next octets, where this many came before, and goes on to the packed numbers where the lists
+    /// are whole.
+    fn push(self, alloc: Global, piece: &[u8], before: u32, start: u64, length: u32) -> State<K>
+        requires low { 1 ≤ start }
+        requires high { start ≤ 268435456 }
+        requires begun { CanList length before piece.now self }
+        requires within { 5 + before + length_of piece.now ≤ length }
+        ensures { (s5 : List ℕ) (keeper : _) (octets : List ℕ) → length_of octets ≡ before → length_of octets ≤ (self.complex.order + 1) * self.complex.extra + list_octets self.complex.layout
+            → ListingAgrees s5 keeper length octets (octets ++ piece.now) self
+            → StateAgrees K.kept s5 keeper start length (octets ++ piece.now) (Some result) }
+    {
+        let Between {
+            complex,
+            told,
+            lists,
+            keeper,
+        } = self;
+        let before = u64::from(before);
+        let skip = u64::from(complex.skip());
+        let listed = rest_of(piece, before, skip);
+        let between = Between {
+            complex,
+            told,
+            lists: lists.push(alloc, &complex.layout, before.saturating_sub(skip), listed),
+            keeper,
+        };
+        let whole = skip + octets_of_lists(&complex.layout);
+        if before + (piece.len() as u64) < whole {
+            return State::Lists(between);
+        }
+        between.read(rest_of(piece, before, whole), start, length)
+    }
+
+    /// Goes on to the packed numbers, of which these octets came.
+    fn read(self, numbers: &[u8], start: u64, length: u32) -> State<K>
+        requires low { 1 ≤ start }
+        requires high { start ≤ 268435456 }
+        requires begun { IsWholeListing length self }
+        requires short { length_of numbers.now < 2 ^ 32 }
+        ensures { (s5 : List ℕ) (keeper : _) (octets : List ℕ) → ListingAgrees s5 keeper length octets octets self
+            → numbers.now ≡ drop ((self.complex.order + 1) * self.complex.extra + list_octets self.complex.layout) octets
+            → (self.complex.order + 1) * self.complex.extra + list_octets self.complex.layout ≤ length_of octets
+            → StateAgrees K.kept s5 keeper start length octets (Some result) }
+    {
+        let Between {
+            complex,
+            told,
+            lists,
+            keeper,
+        } = self;
+        let lists = lists.finish(&complex.layout);
+        if let Some(fault) = lists.fault(&complex.layout, complex.skip(), length, start) {
+            return State::Refused(fault, keeper);
+        }
+        let table = lists.into_table();
+        if !keeper.keeps() && is_steady(&told, &table, complex.simple.values) {
+            return State::Passes(keeper);
+        }
+        let values = Values {
+            teller: Teller::start(told.running()),
+            keeper,
+        };
+        State::Reads(Fed::groups(complex.layout, table, values).push(numbers))
+    }
+}
+
+/// Whether no number of a field can be out of range, whatever its packed numbers are: without differences
+/// none can, and with them the groups may bound all numbers.
+fn is_steady(told: &Told, table: &Table, values: u32) -> bool
+    requires order { told.now.order ≤ 2 }
+    requires first { nat_abs told.now.first ≤ 2 ^ 31 }
+    requires second { nat_abs told.now.second ≤ 2 ^ 31 }
+    requires minimum { nat_abs told.now.minimum ≤ 2 ^ 31 }
+    requires whole { IsWhole table.now }
+    requires narrow { IsNarrow table.now }
+    requires values { values_in (groups_in table.now) ≡ values }
+    ensures { result ≡ true → (told.now.order ≡ 0) ⊎ ((layout : layout_of_groups) (numbers : List Bool)
+        → first_place is_out_of_range (points_of (After (descriptors_in told.now) NoNumber) (codes_from layout (groups_in table.now) numbers)) ≡ 0) }
+{
+    if told.order == 0 {
+        return true;
+    }
+    stays_by(told, table, values.max(1))
+}
