@@ -1,6 +1,8 @@
 -- What is said of the octets that were heard.
-use Rattle.std.proofs.Common.{◌≡◌, ◌≢◌, ℕ, ◌+◌, ◌-◌, ◌<◌, ◌≤◌, Bool, true, false, IsTrue, Option, Some, None, List, [], ◌++◌, length, take, drop, refl, sym, ap, ◌∙◌, arith, subst, append_assoc, take-append-drop, length-append, length-drop}
+use Rattle.std.proofs.Common.{◌≡◌, ◌≢◌, ℕ, ◌+◌, ◌-◌, ◌<◌, ◌≤◌, Bool, true, false, IsTrue, Option, Some, None, List, [], ◌++◌, length, take, drop, refl, sym, ap, ◌∙◌, arith, subst, get_or, append-nil, append_assoc, take-append-drop, length-append, length-drop}
 use Rattle.std.proofs.lemmas.List.{take_all}
+use Rattle.std.proofs.lemmas.Option.{slice_get-get_or}
+use Rattle.std.proofs.Math.Seq.{take-add}
 use Rattle.grib_bits.specs.Octets.{octets as number_at, StatesItself}
 use Rattle.grib_base.specs.declared.fault.Fault.{Fault}
 use Rattle.grib_base.specs.declared.fault.ReadFault.{ReadFault}
@@ -11,6 +13,9 @@ use Rattle.grib2_sections.specs.Head.{edition}
 use Rattle.grib2_sections.specs.Frame.{Placed, Step, End, Fails, Next, step, may_follow, section_at}
 use Rattle.grib2_sections.proofs.Frames.{states_itself}
 use Rattle.grib2_message.specs.Acceptance.{verdict_2}
+use Rattle.grib2_message.specs.Fields.{field_count}
+use Rattle.grib2_message.specs.Summary.{summary_of}
+use Rattle.grib2_message.specs.declared.summary.FieldSummary.{FieldSummary}
 use Rattle.grib2_message.proofs.Whole.{octets_before}
 use Rattle.grib2_message.proofs.Stays.{refused_stays, accepted_stays}
 use Rattle.grib2_message.proofs.Parts.{section_is}
@@ -21,7 +26,7 @@ use Rattle.grib2_arrival.specs.Standing.{Stands}
 use Rattle.grib2_arrival.specs.Heard.{mark, cut_off, pending, step_of, Stops, IsValues, IsOpen, IsListening, IsUndecided, StateHeard, EndedHeard}
 use Rattle.grib2_arrival.proofs.Rows.{cut_in_section, next_here}
 use Rattle.grib2_arrival.proofs.Pending.{pending_long, pending_whole}
-use Rattle.grib2_arrival.proofs.Onward.{sixteen, cut_refused, end_accepted}
+use Rattle.grib2_arrival.proofs.Onward.{sixteen, cut_refused, end_accepted, end_counted}
 use Rattle.grib2_arrival.proofs.Beginnings.{begins_cut}
 
 -- ---- a Section 7
@@ -131,3 +136,47 @@ stops_piece u piece k stop two h =
 -- the front of a piece, as a range from its first octet on
 pub front_is : (piece : List ℕ) (k : ℕ) → take (k - 0) piece ≡ take k piece
 front_is piece k = let e : k - 0 ≡ k = omega arith in ap (λ (n : ℕ). take n piece) e
+
+-- ---- a whole message
+
+pub record HasEnded (state : State) (u : List ℕ) : Type 0 where
+  pub kept : Kept
+  pub is : state ≡ Ended kept
+  pub heard : EndedHeard kept u
+
+pub ended_of : (state : State) (u : List ℕ) → StateHeard (Some state) u → verdict_2 u ≡ Accepted (length u) → HasEnded state u
+ended_of (Begins beginning) u h e = absurd (whole_ended (Begins beginning) u tt h e)
+ended_of (Gathers kept gathered) u h e = absurd (whole_ended (Gathers kept gathered) u tt h e)
+ended_of (Feeds kept gathered l feed) u h e = absurd (whole_ended (Feeds kept gathered l feed) u tt h e)
+ended_of (Ended kept) u h e = record { kept = kept; is = refl; heard = h }
+
+-- what follows it decides nothing
+pub ended_longer : (o : Option State) (u more : List ℕ) → StateHeard o u → verdict_2 u ≡ Accepted (length u) → IsUndecided (verdict_2 (u ++ more))
+ended_longer None u more h e = absurd h
+ended_longer (Some state) u more h e =
+    let ended = ended_of state u h e in
+    let stays = accepted_stays u more (length u) (λ one. absurd (omega (arith, one, ended.heard.stands.second))) e in
+    subst IsUndecided (sym stays) tt
+
+-- as many fields as are kept
+pub ended_fields : (kept : Kept) (u : List ℕ) → EndedHeard kept u → length kept.summaries.items ≡ field_count u
+ended_fields kept u h = h.stands.count ∙ sym (end_counted u h.before kept h.stands h.ends)
+
+pub ended_few : (kept : Kept) (u : List ℕ) → EndedHeard kept u → length kept.summaries.items ≤ 4096
+ended_few kept u h =
+    let sound = h.stands.walked.sound in
+    omega (arith, h.stands.count, sound.counted, sound.few)
+
+-- a summary by its place
+pub ended_summary : (kept : Kept) (u : List ℕ) → EndedHeard kept u → (field : ℕ) → 1 ≤ field → field ≤ length kept.summaries.items
+    → (d : FieldSummary) → get_or kept.summaries.items (field - 1) d ≡ summary_of u field
+ended_summary kept u h field low high d =
+    let got = slice_get-get_or kept.summaries.items (field - 1) d (omega arith) in
+    let is = h.stands.summaries [] (field - 1) (get_or kept.summaries.items (field - 1) d) got in
+    let same : (field - 1) + 1 ≡ field = omega arith in
+    is ∙ ap (λ (m : List ℕ). summary_of m ((field - 1) + 1)) (append-nil u) ∙ ap (summary_of u) same
+
+-- ---- pieces one after another
+
+pub joined : (u piece : List ℕ) (n k : ℕ) → (u ++ take n piece) ++ take k (drop n piece) ≡ u ++ take (n + k) piece
+joined u piece n k = append_assoc u (take n piece) (take k (drop n piece)) ∙ ap (λ (xs : List ℕ). u ++ xs) (sym (take-add n k piece))

@@ -127,8 +127,8 @@ impl Arrival {
             → result ≡ field_count octets }
     {
         match &self.state {
-            Some(State::Ended(kept)) => kept.summaries.len() as u32,
-            _ => unreachable!(),
+            Some(state) => state.summaries().len() as u32,
+            None => unreachable!(),
         }
     }
 
@@ -141,8 +141,8 @@ impl Arrival {
             → field ≤ field_count octets → result ≡ summary_of octets field }
     {
         match &self.state {
-            Some(State::Ended(kept)) => kept.summaries[field as usize - 1],
-            _ => unreachable!(),
+            Some(state) => state.summaries()[field as usize - 1],
+            None => unreachable!(),
         }
     }
 }

@@ -4,17 +4,16 @@ ghost use Rattle.std.specs.Prelude.{◌≡◌, ℕ, ◌+◌, ◌≤◌, None, So
 ghost use Rattle.grib_base.specs.Rows.{located};
 ghost use Rattle.grib_packing.specs.Entries.{data_fault};
 ghost use Rattle.grib_complex.specs.Field.{Represents};
-ghost use Rattle.grib2_arrival.specs.Fed.{DataAgrees, MayBeFed};
+ghost use Rattle.grib2_arrival.specs.Fed.{DataAgrees, HasAll, MayBeFed};
 
 use grib_base::Fault;
-use grib_complex::Representation;
+use grib_complex::{Feeding, Nothing, Representation};
 use std::alloc::{AllocError, Global};
 
 /// Tries the rows of a Section 7 as its octets come, and keeps none of its values.
 #[derive(Debug, Drop)]
 pub(crate) struct Data {
-    length: u32,
-    pushed: u32,
+    feeding: Feeding<Nothing>,
 }
 
 impl Data {
@@ -33,7 +32,8 @@ impl Data {
         ensures { (s5 : List ℕ) → Represents representation.now s5
             → IfOk result (DataAgrees s5 start length []) }
     {
-        unreachable!();
+        let feeding = Feeding::start(alloc, representation, Nothing, start, length)?;
+        Ok(Data { feeding })
     }
 
     /// How many octets are still to come.
@@ -41,7 +41,7 @@ impl Data {
         ensures { (s5 : List ℕ) (start l : ℕ) (octets : List ℕ) → DataAgrees s5 start l octets self.now
             → 5 + length_of octets + result ≡ l }
     {
-        unreachable!();
+        self.feeding.left()
     }
 
     /// Reads the next octets of the section, no more than are still to come.
@@ -50,16 +50,21 @@ impl Data {
         ensures { (s5 : List ℕ) (start l : ℕ) (octets : List ℕ) → DataAgrees s5 start l octets self
             → DataAgrees s5 start l (octets ++ piece.now) result }
     {
-        unreachable!();
+        let mut feeding = self.feeding;
+        feeding.push(piece);
+        Data { feeding }
     }
 
     /// Whether the section is refused, once all its octets came.
     pub fn finish(self) -> Result<(), Fault>
-        requires { MayBeFed 0 self }
+        requires { HasAll self }
         ensures { (s5 : List ℕ) (start : ℕ) (s7 : List ℕ) → 5 ≤ length_of s7 → DataAgrees s5 start (length_of s7) (drop 5 s7) self
             → MatchResult result (λ _. data_fault s5 s7 ≡ None)
             (λ fault. located start (data_fault s5 s7) ≡ Some fault) }
     {
-        unreachable!();
+        match self.feeding.end() {
+            Ok(_) => Ok(()),
+            Err(fault) => Err(fault),
+        }
     }
 }

@@ -5,6 +5,8 @@ ghost use Rattle.grib_bits.specs.Octets.{octets as number_at, StatesItself};
 ghost use Rattle.grib2_sections.specs.Frame.{Placed, Next, placed_at};
 ghost use Rattle.grib2_message.specs.Acceptance.{section_fault};
 ghost use Rattle.grib2_message.specs.View.{octets_in_force};
+ghost use Rattle.grib2_arrival.specs.declared.kept.Kept.{Kept};
+ghost use Rattle.grib2_arrival.specs.declared.state.State.TheVariants.{Ended};
 ghost use Rattle.grib2_arrival.specs.Standing.{Stands};
 ghost use Rattle.grib2_arrival.specs.Fed.{DataAgrees};
 ghost use Rattle.grib2_arrival.specs.Heard.{pending, step_of, BeginsLikeTwo, FeedsHeard, GathersHeard, IsOne, IsOpen, IsValues, StateHeard, Stops};
@@ -16,6 +18,7 @@ use crate::kept::Kept;
 use crate::look::{Look, wanted};
 use grib_base::{ReadFault, Section};
 use grib_bits::u8_at;
+use grib2_message::FieldSummary;
 use std::alloc::Global;
 
 /// How far a message was judged.
@@ -53,6 +56,16 @@ impl State {
                 kept, gathered, length, feed, piece,
             ),
             State::Ended(_) => unreachable!(),
+        }
+    }
+
+    /// What describes the fields, once the end mark came.
+    pub fn summaries(&self) -> &[FieldSummary]
+        ensures { (kept : Kept) → self.now ≡ Ended kept → result.now ≡ kept.summaries.items }
+    {
+        match self {
+            State::Ended(kept) => kept.summaries.as_slice(),
+            _ => &[],
         }
     }
 

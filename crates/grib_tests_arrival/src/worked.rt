@@ -1,6 +1,6 @@
 //! Messages that arrive in pieces.
 
-ghost use Rattle.std.specs.Prelude.{◌≡◌, ℕ, ◌≤◌, List, length, take, IfOk};
+ghost use Rattle.std.specs.Prelude.{◌≡◌, ℕ, ◌≤◌, [], IsTrue, List, length, take, IfOk};
 ghost use Rattle.grib2_sections.specs.Verdict.{Accepted};
 ghost use Rattle.grib2_message.specs.Acceptance.{verdict_2};
 ghost use Rattle.grib2_arrival.specs.Heard.{BeginsLikeTwo, Heard};

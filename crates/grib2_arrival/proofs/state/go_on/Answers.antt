@@ -47,3 +47,11 @@ returns c = λ u before h v agrees.
     let after = c.in_ok-kept.ensures.stands u before s7 h told.0 whole told.1 none in
     let at = after_whole u before kept s7 h refl in
     subst (λ (xs : List ℕ). GathersHeard c.in_ok-kept.kept xs u) (sym c.requires.empty) (fresh u _ c.in_ok-kept.kept after.0 (omega (arith, after.1, at, whole)))
+
+pub finish-requires : goal.finish-requires
+finish-requires c =
+    let r = c.requires.stands in
+    let kept = c.args.kept in
+    let s5 = octets_in_force 5 r.1 in
+    let left = c.left.ensures s5 kept.place c.args.length (drop 5 (pending r.0 kept)) r.4 in
+    record { s5 = s5; start = kept.place; l = c.args.length; octets = drop 5 (pending r.0 kept); agrees = r.4; whole = omega (arith, left) }

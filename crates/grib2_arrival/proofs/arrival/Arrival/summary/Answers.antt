@@ -1,14 +1,14 @@
+use Rattle.std.proofs.Common.{arith}
+use Rattle.grib2_arrival.proofs.Verdicts.{ended_of, ended_fields, ended_summary}
 use Rattle.grib2_arrival.proofs.arrival.Arrival.summary.Goals as goal
-use Rattle.grib2_arrival.proofs.arrival.Arrival.summary.Goals.{in_default-via-in-Some+in_default, in_default-via-in_default}
 
 pub unreachable-requires : goal.unreachable-requires
-unreachable-requires c = elim c.in_default.branch [
-  | in_default-via-in-Some+in_default w ↦ let x = w.in_default in ?
-  | in_default-via-in_default w ↦ let x = w.in_default in ?
-]
+unreachable-requires c = rw c.in-None.is at c.requires.whole.1
 
 pub returns : goal.returns
-returns c = ?
-
-pub index-requires : goal.index-requires
-index-requires c = ?
+returns c = λ u h e within.
+    let heard = rw c.in-Some.is at h in
+    let w = ended_of c.in-Some.state u heard e in
+    let is = c.summaries.ensures w.kept w.is in
+    let count = ended_fields w.kept u w.heard in
+    rw is (ended_summary w.kept u w.heard c.args.field c.requires.first (omega (arith, count, within)) _)
