@@ -1,0 +1,9 @@
+pub mod Beginnings
+pub mod Looking
+pub mod Onward
+pub mod Pending
+pub mod Reasons
+pub mod Rows
+pub mod Sections
+pub mod States
+pub mod Verdicts

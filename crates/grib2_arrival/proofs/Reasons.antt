@@ -1,0 +1,117 @@
+-- No row on the contents of a section says that the octets end too early.
+use Rattle.std.proofs.Common.{◌≡◌, ◌≢◌, ℕ, zero, suc, Bool, true, false, cond, Option, Some, None, List, [], ◌∷◌, length, get_or, ◌==◌, ◌+◌, ap, ◌∙◌}
+use Rattle.grib_base.specs.declared.fault.Fault.{Fault}
+use Rattle.grib_base.specs.declared.fault.Reason.{Reason}
+use Rattle.grib_base.specs.declared.fault.Reason.TheVariants.{Truncated, Jpeg2000, PngPacked, Ccsds, PackingTemplate}
+use Rattle.grib_base.specs.Rows.{Row, first_fault, located, or_then, choose}
+use Rattle.grib2_sections.specs.Frame.{Placed, section_number}
+use Rattle.grib2_sections.specs.Identification.{identification_rows}
+use Rattle.grib2_grids.specs.Grid.{grid_rows}
+use Rattle.grib2_products.specs.Product.{product_rows}
+use Rattle.grib_bitmap.specs.Mask.{bitmap_rows}
+use Rattle.grib_packing.specs.Packing.{packing_template, template_reason, packing_rows, value_count}
+use Rattle.grib_packing.specs.Complex.{complex_rows, layout_of, descriptor_octets}
+use Rattle.grib_packing.specs.Groups.{list_rows}
+use Rattle.grib_packing.specs.Simple.{simple_rows}
+use Rattle.grib_packing.specs.Entries.{packing_fault, data_fault, complex_data_fault, group_data_fault, group_data_rows, range_rows, has_no_groups}
+use Rattle.grib2_message.specs.View.{octets_in_force, points_in_force, earlier_mask, section_count}
+use Rattle.grib2_message.specs.Acceptance.{section_fault, contents_faults, no_rows}
+
+-- a refusal, if any, is for another reason
+abbrev pub IsOther : Option Fault → Type 0
+IsOther None = Unit {0}
+IsOther (Some fault) = fault.reason ≢ Truncated
+
+abbrev AllOther : List Row → Type 0
+AllOther [] = Unit {0}
+AllOther (r ∷ rows) = (r.fault.reason ≢ Truncated) × AllOther rows
+
+cond_other : (b : Bool) (x y : Option Fault) → IsOther x → IsOther y → IsOther (cond b x y)
+cond_other true x y h k = h
+cond_other false x y h k = k
+
+rows_other : (rows : List Row) → AllOther rows → IsOther (first_fault rows)
+rows_other [] h = tt
+rows_other (r ∷ rows) h = cond_other r.fails (Some r.fault) (first_fault rows) h.0 (rows_other rows h.1)
+
+located_other : (start : ℕ) (o : Option Fault) → IsOther o → IsOther (located start o)
+located_other start None h = tt
+located_other start (Some fault) h = h
+
+then_other : (first : Option Fault) (later : Unit {0} → List Row) → IsOther first → AllOther (later tt) → IsOther (or_then first later)
+then_other (Some fault) later h k = h
+then_other None later h k = rows_other (later tt) k
+
+choose_other : (b : Bool) (x y : Unit {0} → Option Fault) → IsOther (x tt) → IsOther (y tt) → IsOther (choose b x y)
+choose_other true x y h k = h
+choose_other false x y h k = k
+
+choose_rows : (b : Bool) (x y : Unit {0} → List Row) → AllOther (x tt) → AllOther (y tt) → AllOther (choose b x y)
+choose_rows true x y h k = h
+choose_rows false x y h k = k
+
+template_by : (a b c : Bool) → cond a Jpeg2000 (cond b PngPacked (cond c Ccsds PackingTemplate)) ≢ Truncated
+template_by true b c = λ e. cc
+template_by false true c = λ e. cc
+template_by false false true = λ e. cc
+template_by false false false = λ e. cc
+
+template_other : (t : ℕ) → template_reason t ≢ Truncated
+template_other t = template_by (t == 40) (t == 41) (t == 42)
+
+identification_other : (s : List ℕ) → AllOther (identification_rows s)
+identification_other s = (λ e. cc, tt)
+
+grid_other : (s : List ℕ) → AllOther (grid_rows s)
+grid_other s = (λ e. cc, (λ e. cc, (λ e. cc, (λ e. cc, (λ e. cc, (λ e. cc, (λ e. cc, (λ e. cc, (λ e. cc, (λ e. cc, (λ e. cc, tt)))))))))))
+
+product_other : (s : List ℕ) (n : ℕ) → AllOther (product_rows s n)
+product_other s n = (λ e. cc, (λ e. cc, (λ e. cc, (λ e. cc, (λ e. cc, tt)))))
+
+bitmap_other : (s : List ℕ) (points values : ℕ) (earlier : Option (List Bool)) → AllOther (bitmap_rows s points values earlier)
+bitmap_other s points values earlier = (λ e. cc, (λ e. cc, (λ e. cc, (λ e. cc, (λ e. cc, (λ e. cc, tt))))))
+
+complex_other : (s : List ℕ) → AllOther (complex_rows s)
+complex_other s = (λ e. cc, (λ e. cc, (λ e. cc, (λ e. cc, (λ e. cc, (λ e. cc, (λ e. cc, tt)))))))
+
+packing_other : (s : List ℕ) (points : ℕ) → IsOther (packing_fault s points)
+packing_other s points =
+    then_other (first_fault (packing_rows s points)) (λ _. choose (packing_template s == 0) (λ _. []) (λ _. complex_rows s))
+    (rows_other (packing_rows s points) (λ e. cc, (template_other (packing_template s), (λ e. cc, (λ e. cc, (λ e. cc, (λ e. cc, tt)))))))
+    (choose_rows (packing_template s == 0) (λ _. []) (λ _. complex_rows s) tt (complex_other s))
+
+group_other : (s5 s7 : List ℕ) → IsOther (group_data_fault s5 s7)
+group_other s5 s7 =
+    let lists = list_rows (layout_of s5) (length s7) (descriptor_octets s5) in
+    then_other (or_then (first_fault lists) (λ _. group_data_rows s5 s7)) (λ _. range_rows s5 s7)
+    (then_other (first_fault lists) (λ _. group_data_rows s5 s7) (rows_other lists (λ e. cc, tt)) (λ e. cc, (λ e. cc, (λ e. cc, (λ e. cc, (λ e. cc, tt))))))
+    (λ e. cc, tt)
+
+pub data_other : (s5 s7 : List ℕ) → IsOther (data_fault s5 s7)
+data_other s5 s7 =
+    choose_other (packing_template s5 == 0) (λ _. first_fault (simple_rows s5 (length s7))) (λ _. complex_data_fault s5 s7)
+    (rows_other (simple_rows s5 (length s7)) (λ e. cc, tt))
+    (choose_other (has_no_groups s5) (λ _. None) (λ _. group_data_fault s5 s7) tt (group_other s5 s7))
+
+by_number : (n : ℕ) (before : List Placed) (s : Placed) → IsOther (get_or contents_faults n no_rows before s)
+by_number zero before s = tt
+by_number (suc zero) before s = located_other s.start (first_fault (identification_rows s.octets)) (rows_other (identification_rows s.octets) (identification_other s.octets))
+by_number (suc (suc zero)) before s = tt
+by_number (suc (suc (suc zero))) before s = located_other s.start (first_fault (grid_rows s.octets)) (rows_other (grid_rows s.octets) (grid_other s.octets))
+by_number (suc (suc (suc (suc zero)))) before s =
+    let rows = product_rows s.octets (section_count 4 before + 1) in
+    located_other s.start (first_fault rows) (rows_other rows (product_other s.octets (section_count 4 before + 1)))
+by_number (suc (suc (suc (suc (suc zero))))) before s = located_other s.start (packing_fault s.octets (points_in_force before)) (packing_other s.octets (points_in_force before))
+by_number (suc (suc (suc (suc (suc (suc zero)))))) before s =
+    let rows = bitmap_rows s.octets (points_in_force before) (value_count (octets_in_force 5 before)) (earlier_mask before) in
+    located_other s.start (first_fault rows) (rows_other rows (bitmap_other s.octets (points_in_force before) (value_count (octets_in_force 5 before)) (earlier_mask before)))
+by_number (suc (suc (suc (suc (suc (suc (suc zero))))))) before s =
+    located_other s.start (data_fault (octets_in_force 5 before) s.octets) (data_other (octets_in_force 5 before) s.octets)
+by_number (suc (suc (suc (suc (suc (suc (suc (suc n)))))))) before s = tt
+
+pub section_other : (before : List Placed) (s : Placed) → IsOther (section_fault before s)
+section_other before s = by_number (section_number s.octets) before s
+
+pub other_reason : (o : Option Fault) (fault : Fault) → IsOther o → o ≡ Some fault → fault.reason ≢ Truncated
+other_reason None fault h e = cc
+other_reason (Some found) fault h e = λ t. (let same : found ≡ fault = cc in h (ap (λ f. f.reason) same ∙ t))

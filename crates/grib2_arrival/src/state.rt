@@ -1,0 +1,230 @@
+//! How far a message was judged, and its next octets.
+
+ghost use Rattle.std.specs.Prelude.{◌≡◌, ◌≢◌, ℕ, ◌+◌, ◌-◌, ◌≤◌, ◌<◌, ◌^◌, ◌++◌, ◌∷◌, [], List, Some, Err, length as length_of, take, drop, MatchResult, IfOk, OnErr};
+ghost use Rattle.grib_bits.specs.Octets.{octets as number_at, StatesItself};
+ghost use Rattle.grib2_sections.specs.Frame.{Placed, Next, placed_at};
+ghost use Rattle.grib2_message.specs.Acceptance.{section_fault};
+ghost use Rattle.grib2_message.specs.View.{octets_in_force};
+ghost use Rattle.grib2_arrival.specs.declared.kept.Kept.{Kept};
+ghost use Rattle.grib2_arrival.specs.declared.state.State.TheVariants.{Ended};
+ghost use Rattle.grib2_arrival.specs.Standing.{Stands};
+ghost use Rattle.grib2_arrival.specs.Fed.{DataAgrees};
+ghost use Rattle.grib2_arrival.specs.Heard.{pending, step_of, BeginsLikeTwo, FeedsHeard, GathersHeard, IsOne, IsOpen, IsValues, StateHeard, Stops};
+
+use crate::contents::after_section;
+use crate::data::Data;
+use crate::head::Beginning;
+use crate::kept::Kept;
+use crate::look::{Look, wanted};
+use grib_base::{ReadFault, Section};
+use grib_bits::u8_at;
+use grib2_message::FieldSummary;
+use std::alloc::Global;
+
+/// How far a message was judged.
+#[derive(Debug, Drop)]
+pub(crate) enum State {
+    /// Section 0 is not whole.
+    Begins(Beginning),
+    /// What came of the next section or of the end mark, which is not whole, is gathered.
+    Gathers(Kept, Vec<u8>),
+    /// The rows of a Section 7 of this many octets are tried as they come; nothing is gathered.
+    Feeds(Kept, Vec<u8>, u32, Data),
+    /// The end mark came.
+    Ended(Kept),
+}
+
+impl State {
+    /// Takes some of the next octets, and says how many.
+    ///
+    /// # Errors
+    ///
+    /// The message is refused, whatever follows, or there is no memory.
+    pub fn push(self, alloc: Global, piece: &[u8]) -> Result<(State, usize), ReadFault>
+        requires some { 1 ≤ length_of piece.now }
+        requires listens { IsOpen self }
+        requires heard { (octets : List ℕ) × StateHeard (Some self) octets × BeginsLikeTwo (octets ++ piece.now) }
+        ensures { (octets : List ℕ) → StateHeard (Some self) octets
+            → MatchResult result (λ next. (1 ≤ next.1) × (next.1 ≤ length_of piece.now)
+            × StateHeard (Some next.0) (octets ++ take next.1 piece.now))
+            (Stops (octets ++ piece.now)) }
+    {
+        match self {
+            State::Begins(beginning) => beginning.push(alloc, piece),
+            State::Gathers(kept, gathered) => gather(alloc, kept, gathered, piece),
+            State::Feeds(kept, gathered, length, feed) => hand_on(
+                kept, gathered, length, feed, piece,
+            ),
+            State::Ended(_) => unreachable!(),
+        }
+    }
+
+    /// What describes the fields, once the end mark came.
+    pub fn summaries(&self) -> &[FieldSummary]
+        ensures { (kept : Kept) → self.now ≡ Ended kept → result.now ≡ kept.summaries.items }
+    {
+        match self {
+            State::Ended(kept) => kept.summaries.as_slice(),
+            _ => &[],
+        }
+    }
+
+    /// How many octets came.
+    pub fn octets(&self) -> u64
+        requires heard { (octets : List ℕ) × StateHeard (Some self.now) octets }
+        ensures count { (octets : List ℕ) → StateHeard (Some self.now) octets → result ≡ length_of octets }
+        ensures few { result ≤ 268435456 }
+    {
+        match self {
+            State::Begins(beginning) => beginning.count as u64,
+            State::Gathers(kept, gathered) => kept.place - 1 + gathered.len() as u64,
+            State::Feeds(kept, _, length, feed) => {
+                kept.place - 1 + u64::from(*length) - u64::from(feed.left())
+            }
+            State::Ended(kept) => kept.total,
+        }
+    }
+}
+
+/// Gathers the next octets, no more than one section or the end mark wants, and says how many.
+fn gather(
+    alloc: Global,
+    kept: Kept,
+    gathered: Vec<u8>,
+    piece: &[u8],
+) -> Result<(State, usize), ReadFault>
+    requires some { 1 ≤ length_of piece.now }
+    requires heard { (octets : List ℕ) × GathersHeard kept gathered.items octets }
+    ensures { (octets : List ℕ) → GathersHeard kept gathered.items octets
+        → MatchResult result (λ next. (1 ≤ next.1) × (next.1 ≤ length_of piece.now)
+        × StateHeard (Some next.0) (octets ++ take next.1 piece.now))
+        (Stops (octets ++ piece.now)) }
+{
+    let mut gathered = gathered;
+    let taken = wanted(gathered.as_slice()).min(piece.len());
+    gathered.extend_from_slice(&piece[..taken])?;
+    let state = settle(alloc, kept, gathered)?;
+    Ok((state, taken))
+}
+
+/// Goes on by what was gathered.
+fn settle(alloc: Global, kept: Kept, gathered: Vec<u8>) -> Result<State, ReadFault>
+    requires stands { (octets : List ℕ) × (before : List Placed) × Stands octets before kept
+        × (gathered.items ≡ pending octets kept) × IsOne gathered.items }
+    ensures { (octets : List ℕ) (before : List Placed) → Stands octets before kept
+        → gathered.items ≡ pending octets kept → IsOne gathered.items
+        → MatchResult result (λ state. StateHeard (Some state) octets) (Stops octets) }
+{
+    match kept.look(gathered.as_slice())? {
+        Look::More => Ok(State::Gathers(kept, gathered)),
+        Look::Ends => Ok(State::Ended(kept)),
+        Look::Section => take_section(alloc, kept, gathered),
+        Look::Values(length) => start_values(alloc, kept, gathered, length),
+    }
+}
+
+/// Goes past a section that was gathered whole and is no Section 7.
+fn take_section(alloc: Global, kept: Kept, gathered: Vec<u8>) -> Result<State, ReadFault>
+    requires stands { (octets : List ℕ) × (before : List Placed) × Stands octets before kept
+        × (gathered.items ≡ pending octets kept) × (step_of octets kept ≡ Next gathered.items) }
+    requires itself { StatesItself (number_at gathered.items 5 5) gathered.items }
+    requires not_7 { number_at gathered.items 5 5 ≢ 7 }
+    ensures { (octets : List ℕ) (before : List Placed) → Stands octets before kept
+        → gathered.items ≡ pending octets kept → step_of octets kept ≡ Next gathered.items
+        → MatchResult result (λ state. StateHeard (Some state) octets) (Stops octets) }
+{
+    let octets = gathered.as_slice();
+    let section = Section {
+        number: u8_at(octets, 5),
+        start: kept.place,
+        octets,
+    };
+    let kept = after_section(alloc, kept, &section)?;
+    let mut gathered = gathered;
+    gathered.clear();
+    Ok(State::Gathers(kept, gathered))
+}
+
+/// Goes on to the values of a Section 7 of this many octets, of which five were gathered.
+fn start_values(
+    alloc: Global,
+    kept: Kept,
+    gathered: Vec<u8>,
+    length: u32,
+) -> Result<State, ReadFault>
+    requires stands { (octets : List ℕ) × (before : List Placed) × Stands octets before kept
+        × (gathered.items ≡ pending octets kept) × IsValues octets kept length
+        × (length_of gathered.items ≡ 5) }
+    ensures { (octets : List ℕ) (before : List Placed) → Stands octets before kept
+        → gathered.items ≡ pending octets kept → length_of gathered.items ≡ 5 → IsValues octets kept length
+        → MatchResult result (λ state. StateHeard (Some state) octets) (Stops octets) }
+{
+    let Some(representation) = kept.representation else {
+        unreachable!();
+    };
+    let feed = Data::start(alloc, &representation, kept.place, length)?;
+    let mut gathered = gathered;
+    gathered.clear();
+    go_on(kept, gathered, length, feed)
+}
+
+/// Hands the next octets of a Section 7 of this length on, and says how many.
+fn hand_on(
+    kept: Kept,
+    gathered: Vec<u8>,
+    length: u32,
+    feed: Data,
+    piece: &[u8],
+) -> Result<(State, usize), ReadFault>
+    requires some { 1 ≤ length_of piece.now }
+    requires heard { (octets : List ℕ) × FeedsHeard kept length feed octets × (gathered.items ≡ []) }
+    ensures { (octets : List ℕ) → FeedsHeard kept length feed octets
+        → MatchResult result (λ next. (1 ≤ next.1) × (next.1 ≤ length_of piece.now)
+        × StateHeard (Some next.0) (octets ++ take next.1 piece.now))
+        (Stops (octets ++ piece.now)) }
+{
+    let taken = (feed.left() as usize).min(piece.len());
+    let feed = feed.push(&piece[..taken]);
+    let state = go_on(kept, gathered, length, feed)?;
+    Ok((state, taken))
+}
+
+/// Goes past a Section 7 of this length, where it is whole.
+fn go_on(kept: Kept, gathered: Vec<u8>, length: u32, feed: Data) -> Result<State, ReadFault>
+    requires empty { gathered.items ≡ [] }
+    requires stands { (octets : List ℕ) × (before : List Placed) × Stands octets before kept
+        × IsValues octets kept length
+        × DataAgrees (octets_in_force 5 before) kept.place length (drop 5 (pending octets kept)) feed }
+    ensures { (octets : List ℕ) (before : List Placed) → Stands octets before kept
+        → IsValues octets kept length
+        → DataAgrees (octets_in_force 5 before) kept.place length (drop 5 (pending octets kept)) feed
+        → MatchResult result (λ state. StateHeard (Some state) octets) (Stops octets) }
+{
+    if feed.left() > 0 {
+        return Ok(State::Feeds(kept, gathered, length, feed));
+    }
+    feed.finish()?;
+    let kept = after_values(kept, length)?;
+    Ok(State::Gathers(kept, gathered))
+}
+
+/// What is kept after a Section 7 of this length, which no row refused: its field ends.
+fn after_values(kept: Kept, length: u32) -> Result<Kept, ReadFault>
+    requires near { kept.place + length < 2 ^ 64 }
+    ensures stands { IfOk result (λ after. (octets : List ℕ) (before : List Placed) (s7 : List ℕ) → Stands octets before kept
+        → step_of octets kept ≡ Next s7 → length_of s7 ≡ length → StatesItself 7 s7
+        → section_fault before (placed_at kept.place s7) ≡ None
+        → Stands octets (placed_at kept.place s7 ∷ before) after × (after.place ≡ kept.place + length)) }
+    ensures memory { OnErr result (result ≡ Err ReadFault.Memory) }
+{
+    let mut summaries = kept.summaries;
+    let Ok(()) = summaries.push(kept.line) else {
+        return Err(ReadFault::Memory);
+    };
+    Ok(Kept {
+        place: kept.place + u64::from(length),
+        last: 7,
+        summaries,
+        ..kept
+    })
+}
