@@ -11,7 +11,7 @@ use grib_packing::Point;
 use std::alloc::{AllocError, Global};
 
 /// How many columns are put in their places at a time.
-const BLOCK_COLUMNS: usize = 16;
+const BLOCK_COLUMNS: usize = 32;
 
 /// A box of a grid: its columns from `i0` to `i1`, counted from the west, and its rows from `j0` to `j1`,
 /// counted from the north, both from 0.

@@ -9,5 +9,5 @@ invariant-loop-number g l =
     let wanted = rescanned_points (scanning_of 0x20) l.columns l.rows (g.P.GridPoints.points l.points) in
     record {
       size : length l.transposed.items ≡ l.columns * l.rows;
-      made : (i j : ℕ) → i < min (l.number * 16) l.columns → j < l.rows → IsPut wanted l.transposed.items (j * l.columns + i);
+      made : (i j : ℕ) → i < min (l.number * 32) l.columns → j < l.rows → IsPut wanted l.transposed.items (j * l.columns + i);
     }
