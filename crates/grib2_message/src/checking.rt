@@ -40,11 +40,7 @@ pub fn check_grid(alloc: Global, section: &Section<'_>) -> Result<(), ReadFault>
 }
 
 /// Tries the rows of a Section 4 that stands after this number of fields.
-pub fn check_product(
-    alloc: Global,
-    fields: usize,
-    section: &Section<'_>,
-) -> Result<(), ReadFault>
+pub fn check_product(alloc: Global, fields: usize, section: &Section<'_>) -> Result<(), ReadFault>
     ensures { AreTried (first_fault_at section.now.start
         (product_rows section.now.octets.now (fields + 1))) result }
 {
