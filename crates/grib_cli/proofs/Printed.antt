@@ -101,6 +101,6 @@ word_picks m i key value low has =
     let c = condition key value in
     let read : conditions_of (word_of c ∷ []) ≡ c ∷ [] = single (word_is_read key value low) in
     ap (fulfils_all m i) read ∙ (asked_decides m i (c ∷ [])).1 (one_holds (λ d. key_value_of m i d.key ≡ Some d.value) c has)
-    where
-      single : condition_of (word_of (condition key value)) ≡ Some (condition key value) → conditions_of (word_of (condition key value) ∷ []) ≡ condition key value ∷ []
-      single e = rw e refl
+  where
+    single : condition_of (word_of (condition key value)) ≡ Some (condition key value) → conditions_of (word_of (condition key value) ∷ []) ≡ condition key value ∷ []
+    single e = rw e refl

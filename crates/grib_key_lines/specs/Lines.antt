@@ -28,11 +28,14 @@ abbrev pub keys_line : List ℕ → ℕ → ℕ → List ℕ
 keys_line message m i =
     decimal m ++ codes "." ++ decimal i ++ codes " ed=2" ++ words_text message i keys ++ 10 ∷ []
 
--- some numbers of Section 1, each behind a space and its name
+-- a number of Section 1 behind a space and its name
+abbrev pub number_text : List ℕ → Key1 → List ℕ
+number_text message key = codes " " ++ (name1_of key ++ (codes "=" ++ signed_decimal (number1_of message key)))
+
+-- some numbers of Section 1
 abbrev pub numbers_text : List ℕ → List Key1 → List ℕ
 numbers_text message [] = []
-numbers_text message (key ∷ keys) =
-    (codes " " ++ name1_of key ++ codes "=" ++ signed_decimal (number1_of message key)) ++ numbers_text message keys
+numbers_text message (key ∷ keys) = number_text message key ++ numbers_text message keys
 
 -- of message m, of edition 1: the numbers of Section 1
 abbrev pub keys_line1 : List ℕ → ℕ → List ℕ

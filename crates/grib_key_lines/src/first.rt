@@ -1,6 +1,6 @@
 //! The line of a message of edition 1.
 
-ghost use Rattle.std.specs.Prelude.{◌≡◌, ◌++◌, IfOk, OnOk};
+ghost use Rattle.std.specs.Prelude.{◌≡◌, ◌++◌, string_bytes, IfOk, OnOk};
 ghost use Rattle.grib_key_lines.specs.Lines as lines;
 ghost use Rattle.grib_key_lines.specs.Names1 as names;
 
@@ -47,14 +47,28 @@ pub fn keys_line1(alloc: Global, message: &Message1<'_>, number: u64) -> Result<
 
 /// Writes the numbers of Section 1.
 fn write_numbers(line: &mut String, message: &Message1<'_>) -> Result<(), AllocError>
-    ensures { OnOk result (line.new ≡ line.old ++ lines.numbers_text message.now names.keys1) }
+    ensures { OnOk result (string_bytes line.new ≡ string_bytes line.old ++ lines.numbers_text message.now names.keys1) }
 {
-    for key in &KEYS {
-        let name = name_of(*key);
-        let number = number_of(message, *key);
-        write!(line, " {name}={number}")?;
+    for key in all_keys() {
+        write_number(line, message, *key)?;
     }
     Ok(())
+}
+
+/// Writes a number of Section 1 behind a space and its name.
+fn write_number(line: &mut String, message: &Message1<'_>, key: Key1) -> Result<(), AllocError>
+    ensures { OnOk result (string_bytes line.new ≡ string_bytes line.old ++ lines.number_text message.now key) }
+{
+    let name = name_of(key);
+    let number = number_of(message, key);
+    write!(line, " {name}={number}")
+}
+
+/// All numbers of Section 1.
+fn all_keys() -> &'static [Key1]
+    ensures { result.now ≡ names.keys1 }
+{
+    &KEYS
 }
 
 /// The number of the key, with its sign.

@@ -1,6 +1,6 @@
 //! The line of a field of a message of edition 2.
 
-ghost use Rattle.std.specs.Prelude.{◌≡◌, ◌≤◌, ◌++◌, codes, Some, IfOk, OnOk};
+ghost use Rattle.std.specs.Prelude.{◌≡◌, ◌≤◌, ◌++◌, string_bytes, IfOk, OnOk};
 ghost use Rattle.grib2_message.specs.Fields.{field_count};
 ghost use Rattle.grib_keys.specs.Keys.{keys};
 ghost use Rattle.grib_key_lines.specs.Lines as lines;
@@ -32,7 +32,7 @@ pub fn keys_line(
 fn write_words(line: &mut String, message: &Message<'_>, field: u32) -> Result<(), AllocError>
     requires first { 1 ≤ field }
     requires last { field ≤ field_count message.now }
-    ensures { OnOk result (line.new ≡ line.old ++ lines.words_text message.now field keys) }
+    ensures { OnOk result (string_bytes line.new ≡ string_bytes line.old ++ lines.words_text message.now field keys) }
 {
     for key in Key::all() {
         write_word(line, *key, key_value(message, field, *key))?;
@@ -42,7 +42,7 @@ fn write_words(line: &mut String, message: &Message<'_>, field: u32) -> Result<(
 
 /// Writes the word of a key behind a space, nothing where the key has no value.
 fn write_word(line: &mut String, key: Key, value: Option<Value>) -> Result<(), AllocError>
-    ensures { OnOk result (line.new ≡ line.old ++ lines.word_text key value) }
+    ensures { OnOk result (string_bytes line.new ≡ string_bytes line.old ++ lines.word_text key value) }
 {
     match value {
         Some(value) => write!(line, " {}", Condition { key, value }),

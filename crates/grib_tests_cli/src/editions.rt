@@ -8,7 +8,8 @@ use std::test::Fail;
 const LISTED: &str = "1.1 ed=1 centre=98 time=2024-01-15T12:00 grid=0 points=4 param=2.11 unit=1 \
                       range=0 p1=6 p2=0 level=100:500 bits=8 values=4\n";
 
-const KEYS: &str = "1.1 ed=1 Version=2 Centre=98 Process=1 GridNumber=255 Flags=128 Parameter=11 LevelType=100 \
+const KEYS: &str =
+    "1.1 ed=1 Version=2 Centre=98 Process=1 GridNumber=255 Flags=128 Parameter=11 LevelType=100 \
                     Level=500 YearOfCentury=24 Month=1 Day=15 Hour=12 Minute=0 Unit=1 P1=6 P2=0 \
                     TimeRange=0 AverageCount=0 AverageMissing=0 Century=21 SubCentre=0 DecimalScale=1\n";
 

@@ -14,7 +14,8 @@ const CHECKED: &str =
 const LISTED: &str = "1.1 ed=2 centre=98 time=2024-01-15T12:00:00 grid=3.0 points=4 product=4.0 \
                       param=0.0.0 unit=1 ahead=6 surface=103:0:2 packing=5.0 bits=8 values=4\n";
 
-const KEYS: &str = "1.1 ed=2 discipline=0 centre=98 subCentre=0 masterTables=2 localTables=0 significance=1 \
+const KEYS: &str =
+    "1.1 ed=2 discipline=0 centre=98 subCentre=0 masterTables=2 localTables=0 significance=1 \
                     year=2024 month=1 day=15 hour=12 minute=0 second=0 status=0 dataType=1 earthShape=6 \
                     points=4 gridTemplate=0 ni=2 nj=2 scanning=0 la1=50000000 lo1=10000000 \
                     productTemplate=0 category=0 number=0 process=2 generator=1 timeUnit=1 \

@@ -23,8 +23,7 @@ const INTERVAL: &[u8] =
 \xff\xff\xff\xff\xff\xff\x01\x03\x0a\x07\xe8\x01\x0f\x12\0\0\x01\0\0\0\0\x01\x02\x01\0\0\0\x06\x01\0\0\0\0";
 
 /// A sum over an interval of one time range.
-const SUM: &[u8] =
-    b"\0\0\0\x3a\x04\0\0\0\x08\0\0\x02\xff\x01\0\0\0\x01\0\0\0\x06\x67\0\0\0\0\x02\
+const SUM: &[u8] = b"\0\0\0\x3a\x04\0\0\0\x08\0\0\x02\xff\x01\0\0\0\x01\0\0\0\x06\x67\0\0\0\0\x02\
 \x67\0\0\0\0\x0a\x07\xe8\x01\x0f\x12\0\0\x01\0\0\0\0\x01\x02\x01\0\0\0\x06\x01\0\0\0\0";
 
 /// An interval of no time range.
@@ -324,7 +323,10 @@ fn an_interval_without_ranges_has_no_key_of_a_range(rt: HostRuntime) -> Result<(
     let Ok(message) = read(rt.alloc(), octets.as_slice()) else {
         return Err(Fail::from("refused"));
     };
-    assert_eq!(rt; value_of(&message, Key::Surface2Value), Some(Value::Missing));
+    assert_eq!(rt;
+        value_of(&message, Key::Surface2Value),
+        Some(Value::Missing)
+    );
     assert_eq!(rt; value_of(&message, Key::EndSecond), number(0));
     assert_eq!(rt; value_of(&message, Key::RangeProcess), None);
     let absent = SetFault::KeyAbsent {
