@@ -15,11 +15,15 @@ use Rattle.grib_keys.specs.declared.condition.Value.{Value}
 use Rattle.grib_keys.specs.declared.condition.Value.TheVariants.{Number, Missing}
 use Rattle.grib_keys.specs.Keys.{name_of, key_named}
 use Rattle.grib_keys.specs.Words.{value_text, word_of}
-use Rattle.grib_cli.specs.Values.{number, begins_from_one, is_number, is_between, from_zero, below_zero, key_value, IsWithin64}
+use Rattle.grib_cli.specs.Values.{number, begins_from_one, is_number, is_between, from_zero, below_zero, key_value}
 use Rattle.grib_cli.specs.Reading.{name_in, value_in}
 use Rattle.grib_cli.specs.Words.{condition, condition_of, conditions_of}
+use Rattle.grib_select.specs.Bounds.{IsWithin64}
 use Rattle.grib_select.specs.Values.{key_value_of, fulfils_all}
 use Rattle.grib_select.proofs.Asked.{asked_decides}
+use Rattle.grib_select.proofs.Bounded.{values_within}
+use Rattle.grib2_message.specs.Fields.{field_count}
+use Rattle.grib2_message.specs.Message.{IsMessage}
 use Rattle.grib_cli.proofs.Numbers.{own}
 
 -- ---- a printed number is a number
@@ -95,11 +99,11 @@ one_holds : (P : Condition → Type 0) (c : Condition) → P c → All P (c ∷ 
 one_holds P c h zero d low = h
 one_holds P c h (suc k) d low = absurd (omega arith)
 
-pub word_picks : (m : List ℕ) (i : ℕ) (key : Key) (value : Value) → IsWithin64 value → key_value_of m i key ≡ Some value
-    → fulfils_all m i (conditions_of (word_of (condition key value) ∷ [])) ≡ true
-word_picks m i key value low has =
+pub word_picks : (m : List ℕ) (i : ℕ) (key : Key) (value : Value) → IsMessage m → All (λ octet. octet < 256) m → 1 ≤ i → i ≤ field_count m
+    → key_value_of m i key ≡ Some value → fulfils_all m i (conditions_of (word_of (condition key value) ∷ [])) ≡ true
+word_picks m i key value h small low high has =
     let c = condition key value in
-    let read : conditions_of (word_of c ∷ []) ≡ c ∷ [] = single (word_is_read key value low) in
+    let read : conditions_of (word_of c ∷ []) ≡ c ∷ [] = single (word_is_read key value (values_within m i key value h small low high has)) in
     ap (fulfils_all m i) read ∙ (asked_decides m i (c ∷ [])).1 (one_holds (λ d. key_value_of m i d.key ≡ Some d.value) c has)
   where
     single : condition_of (word_of (condition key value)) ≡ Some (condition key value) → conditions_of (word_of (condition key value) ∷ []) ≡ condition key value ∷ []

@@ -1,5 +1,5 @@
 -- The values that the words of a command line may have: numbers, and the values of keys.
-use Rattle.std.specs.Prelude.{ℕ, Bool, cond, ◌&&◌, ◌||◌, ◌==◌, nat_le, nat_lt, ◌+◌, ◌-◌, ◌*◌, ◌^◌, ℤ, pos, neg_ℤ, nat_abs, ◌<◌, Option, Some, None, option_map, List, [], ◌∷◌, length, get_or, drop, codes}
+use Rattle.std.specs.Prelude.{ℕ, Bool, cond, ◌&&◌, ◌||◌, ◌==◌, nat_le, nat_lt, ◌+◌, ◌-◌, ◌*◌, ◌^◌, ℤ, pos, neg_ℤ, Option, Some, None, option_map, List, [], ◌∷◌, length, get_or, drop, codes}
 use Rattle.std.specs.Int.{is_in_range}
 use Rattle.std.specs.Option.{option_or}
 use Rattle.std.specs.Str.{bytes_eq, all_ascii_digits}
@@ -42,8 +42,3 @@ below_zero text =
 abbrev pub key_value : List ℕ → Option Value
 key_value text =
     cond (bytes_eq text (codes "missing")) (Some Missing) (option_map Number (option_or (from_zero text) (below_zero text)))
-
--- a value that 64 bits with sign hold
-abbrev pub IsWithin64 : Value → Type 0
-IsWithin64 (Number x) = nat_abs x < 2 ^ 63
-IsWithin64 Missing = Unit {0}
