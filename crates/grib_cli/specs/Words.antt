@@ -58,6 +58,7 @@ conditions_of words = filter_map condition_of words
 abbrev pub job_of_command : Command → List (List ℕ) → Result Job JobFault
 job_of_command commands.Check words = Ok jobs.Check
 job_of_command commands.List words = Ok jobs.List
+job_of_command commands.Keys words = Ok jobs.Keys
 job_of_command commands.Stats words = Ok jobs.Stats
 job_of_command commands.Dump words = Ok (jobs.Dump (number_if_given (codes "decimals") words))
 job_of_command commands.Filter words = Ok (jobs.Filter (conditions_of words))

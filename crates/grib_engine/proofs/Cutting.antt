@@ -21,7 +21,7 @@ use Rattle.grib_stream.proofs.Exits.{within_short}
 use Rattle.grib_stream.proofs.Parts.{AsParts, parts_done}
 use Rattle.grib_engine.proofs.Keeping.{written_join}
 use Rattle.grib_engine.specs.declared.job.Job.{Job}
-use Rattle.grib_engine.specs.declared.job.Job.TheVariants.{Check, List as Listing, Stats, Dump, Filter, Split, Set, Repack, Rescan, Crop, Migrate, Make}
+use Rattle.grib_engine.specs.declared.job.Job.TheVariants.{Check, List as Listing, Keys, Stats, Dump, Filter, Split, Set, Repack, Rescan, Crop, Migrate, Make}
 use Rattle.grib_engine.specs.Command.{Command, IsLawfulCommand, given_unless, given_whole, kept_at, kept_first, changing_unless, task}
 use Rattle.grib_engine.specs.Each.{writes_each}
 use Rattle.grib_engine.specs.Filtering.{filtered, filter_command, filter_lawful}
@@ -153,6 +153,7 @@ job_parts (Crop area) text front rest is each fits ends done = unless_parts (2 ^
 job_parts (Migrate params keep_local) text front rest is each fits ends done = migrate_parts keep_local (tabled text) front rest fits ends done
 job_parts Check text front rest is each fits ends done = absurd (false≢true each)
 job_parts Listing text front rest is each fits ends done = absurd (false≢true each)
+job_parts Keys text front rest is each fits ends done = absurd (false≢true each)
 job_parts Stats text front rest is each fits ends done = absurd (false≢true each)
 job_parts (Dump decimals) text front rest is each fits ends done = absurd (false≢true each)
 job_parts (Split name) text front rest is each fits ends done = absurd (false≢true each)

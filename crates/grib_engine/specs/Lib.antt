@@ -11,6 +11,7 @@ pub mod PartOctets
 pub mod Shelving
 pub mod Checking
 pub mod Listing
+pub mod Keying
 pub mod Dumping
 pub mod Valuing
 pub mod Summing

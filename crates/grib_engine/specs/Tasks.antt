@@ -13,12 +13,13 @@ use Rattle.grib_causes.specs.declared.table.TableRefusal.{TableRefusal}
 use Rattle.grib_params.specs.Table.{Entries}
 use Rattle.grib_table.specs.Tabled.{Tabled, Good, Refused, tabled}
 use Rattle.grib_engine.specs.declared.job.Job.{Job}
-use Rattle.grib_engine.specs.declared.job.Job.TheVariants.{Check, List as Listing, Stats, Dump, Filter, Split, Set, Repack, Rescan, Crop, Migrate, Make}
+use Rattle.grib_engine.specs.declared.job.Job.TheVariants.{Check, List as Listing, Keys, Stats, Dump, Filter, Split, Set, Repack, Rescan, Crop, Migrate, Make}
 use Rattle.grib_engine.specs.Checking.{check_command}
 use Rattle.grib_engine.specs.Command.{Command, task}
 use Rattle.grib_engine.specs.Dumping.{dump_command}
 use Rattle.grib_engine.specs.Filtering.{filter_command}
 use Rattle.grib_engine.specs.Listing.{list_command}
+use Rattle.grib_engine.specs.Keying.{keys_command}
 use Rattle.grib_engine.specs.Notes.{made_note}
 use Rattle.grib_engine.specs.Migrating.{migrate_command}
 use Rattle.grib_engine.specs.Outcomes.{note_of}
@@ -54,6 +55,7 @@ pub data Work : Type 0 where
 abbrev pub work_of : Job → Work
 work_of Check = Reads check_command
 work_of Listing = Reads list_command
+work_of Keys = Reads keys_command
 work_of Stats = Reads stats_command
 work_of (Dump None) = Reads dump_command
 work_of (Dump (Some places)) = Reads (value_command places)

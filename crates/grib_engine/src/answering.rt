@@ -14,6 +14,7 @@ use crate::checking::Checking;
 use crate::dumping::Dumping;
 use crate::filtering::Filtering;
 use crate::job::Job;
+use crate::keying::Keying;
 use crate::listing::Listing;
 use crate::migrating::Migrating;
 use crate::printing::Printing;
@@ -54,6 +55,14 @@ pub fn answer_message<T: Sink, H: Shelf>(
         Job::Check => answer_held(&ByOutput(Checking), alloc, place, held, output, shelf),
         Job::List => answer_held(
             &ByOutput(Printing(Listing)),
+            alloc,
+            place,
+            held,
+            output,
+            shelf,
+        ),
+        Job::Keys => answer_held(
+            &ByOutput(Printing(Keying)),
             alloc,
             place,
             held,

@@ -16,6 +16,8 @@ pub enum Job {
     Check,
     /// A line for each field.
     List,
+    /// A line for each field with each key that the field has.
+    Keys,
     /// For each field how many of its points are present and missing, its least and its greatest scaled number,
     /// and its reference line.
     Stats,

@@ -13,6 +13,7 @@ mod ending;
 mod fields;
 mod filtering;
 mod job;
+mod keying;
 pub mod laws;
 mod listing;
 mod making;

@@ -21,6 +21,7 @@ use crate::closing::close_with_note;
 use crate::dumping::Dumping;
 use crate::filtering::Filtering;
 use crate::job::Job;
+use crate::keying::Keying;
 use crate::listing::Listing;
 use crate::making::serve_made;
 use crate::migrating::Migrating;
@@ -102,6 +103,14 @@ fn serve_job<S: Source, T: Sink, N: Sink, H: Shelf>(
         Job::Check => serve_messages(&ByOutput(Checking), alloc, input, output, notes, shelf),
         Job::List => serve_messages(
             &ByOutput(Printing(Listing)),
+            alloc,
+            input,
+            output,
+            notes,
+            shelf,
+        ),
+        Job::Keys => serve_messages(
+            &ByOutput(Printing(Keying)),
             alloc,
             input,
             output,

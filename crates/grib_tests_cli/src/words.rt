@@ -19,6 +19,7 @@ fn command_of(asked: &Result<Job, JobFault>) -> &'static str {
     match asked {
         Ok(Job::Check) => "check",
         Ok(Job::List) => "list",
+        Ok(Job::Keys) => "keys",
         Ok(Job::Stats) => "stats",
         Ok(Job::Dump { .. }) => "dump",
         Ok(Job::Filter(_)) => "filter",
@@ -34,10 +35,11 @@ fn command_of(asked: &Result<Job, JobFault>) -> &'static str {
 }
 
 // Lines that are read, each as the command that its first word names.
-const READ: [&str; 42] = [
+const READ: [&str; 45] = [
     // Each command has its name.
     "check",
     "list",
+    "keys",
     "stats",
     "dump",
     "filter centre=98",
@@ -52,9 +54,11 @@ const READ: [&str; 42] = [
     "filter points=4",
     "filter forecastTime=6 centre=98 bits=8",
     "filter surface1Value=missing",
+    "filter surface2=missing rangeLength=6",
     // `set` takes keys that can be set.
     "set month=256",
     "set la1=-5 surface1=missing",
+    "set endHour=18 rangeUnit=1 ensembleMembers=50",
     // Values of keys are numbers within 64 bits, or missing.
     "filter year=0",
     "filter year=9",
@@ -90,7 +94,7 @@ const READ: [&str; 42] = [
 ];
 
 // Lines that are not, with the place of the first word that is not read.
-const UNREAD: [(u64, &str); 120] = [
+const UNREAD: [(u64, &str); 121] = [
     // Others have none.
     (0, ""),
     (0, "Check"),
@@ -101,9 +105,10 @@ const UNREAD: [(u64, &str); 120] = [
     (0, "="),
     (0, "check="),
     (0, "unknown to=0"),
-    // `check`, `list`, `stats` and `rescan` take no word.
+    // `check`, `list`, `keys`, `stats` and `rescan` take no word.
     (1, "check to=0"),
     (1, "list centre=98"),
+    (1, "keys centre=98"),
     (1, "stats decimals=3"),
     (1, "rescan i0=1"),
     (1, "check "),

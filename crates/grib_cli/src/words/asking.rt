@@ -26,6 +26,7 @@ pub(super) fn job_of_command(
     match command {
         Command::Check => Ok(Job::Check),
         Command::List => Ok(Job::List),
+        Command::Keys => Ok(Job::Keys),
         Command::Stats => Ok(Job::Stats),
         Command::Dump => Ok(Job::Dump {
             decimals: number_if_given(words, "decimals"),

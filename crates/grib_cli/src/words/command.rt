@@ -8,6 +8,7 @@ ghost use Rattle.grib_cli.specs.Reading.{command_named};
 pub enum Command {
     Check,
     List,
+    Keys,
     Stats,
     Dump,
     Filter,
@@ -28,6 +29,7 @@ impl Command {
         match word {
             "check" => Some(Command::Check),
             "list" => Some(Command::List),
+            "keys" => Some(Command::Keys),
             "stats" => Some(Command::Stats),
             "dump" => Some(Command::Dump),
             "filter" => Some(Command::Filter),
