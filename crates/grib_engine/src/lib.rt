@@ -8,6 +8,7 @@ mod changing;
 mod checking;
 mod closing;
 mod counting;
+mod demoting;
 mod dumping;
 mod ending;
 mod fields;
@@ -30,6 +31,7 @@ mod serving;
 mod setting;
 mod splitting;
 mod summing;
+mod tabling;
 mod valuing;
 mod writing;
 
