@@ -139,8 +139,8 @@ flag_bits false p few = (
 
 module _ (s5 : List ℕ) (values : Packed) (w n : ℕ) (width_is : bit_width_2 values.section5 ≡ w) (count_is : value_count values.section5 ≡ n)
     (few_bits : w ≤ 48) (room : n * w ≤ 8 * length (drop 5 values.section7)) where
-  abbrev data : List ℕ
-  data = data_section s5 values
+  abbrev written_4 : List ℕ
+  written_4 = data_section s5 values
 
   abbrev octets_7 : List ℕ
   octets_7 = drop 5 values.section7
@@ -151,7 +151,7 @@ module _ (s5 : List ℕ) (values : Packed) (w n : ℕ) (width_is : bit_width_2 v
   abbrev flags : ℕ
   flags = 32 * digit (octets s5 21 21 == 1) + padding (88 + value_count values.section5 * bit_width_2 values.section5)
 
-  length_data : length data ≡ 11 + length octets_7 + length more
+  length_data : length written_4 ≡ 11 + length octets_7 + length more
   length_data = omega (arith, length-append octets_7 more)
 
   flags_known : (bit 1 flags ≡ false) × (bit 2 flags ≡ false) × (bit 4 flags ≡ false) × (flags < 256)
@@ -159,19 +159,19 @@ module _ (s5 : List ℕ) (values : Packed) (w n : ℕ) (width_is : bit_width_2 v
       let bits_of_padding = 88 + value_count values.section5 * bit_width_2 values.section5 in
       flag_bits (octets s5 21 21 == 1) (padding bits_of_padding) (padding_few bits_of_padding)
 
-  flags_stand : data_flags data ≡ flags
+  flags_stand : data_flags written_4 ≡ flags
   flags_stand = num_on-octets_of 1 flags (let known = flags_known.1.1.1 in omega arith)
 
-  width_stands : bit_width data ≡ w
+  width_stands : bit_width written_4 ≡ w
   width_stands = num_on-octets_of 1 (bit_width_2 values.section5) (omega (arith, width_is, few_bits)) ∙ width_is
 
-  pub is_section_4 : length data ≤ 16777215 → IsSection 11 (data_rows n) data
+  pub is_section_4 : length written_4 ≤ 16777215 → IsSection 11 (data_rows n) written_4
   is_section_4 short =
       let known = flags_known in
       record {
         length_stands = stands (data_octets s5 values) (omega (arith, short));
         long = omega (arith, length_data);
-        rows_hold = none_from_passes (data_rows n data) (
+        rows_hold = none_from_passes (data_rows n written_4) (
           ap (bit 1) flags_stand ∙ known.0,
           (
             ap (bit 2) flags_stand ∙ known.1.0,
@@ -180,7 +180,7 @@ module _ (s5 : List ℕ) (values : Packed) (w n : ℕ) (width_is : bit_width_2 v
               (
                 ap (nat_lt 48) width_stands ∙ le-ltb 48 w few_bits,
                 (
-                  ap (λ (k : ℕ). nat_lt (8 * length data) (n * k + 88)) width_stands ∙ le-ltb (8 * length data) (n * w + 88) (omega (arith, length_data, room)),
+                  ap (λ (k : ℕ). nat_lt (8 * length written_4) (n * k + 88)) width_stands ∙ le-ltb (8 * length written_4) (n * w + 88) (omega (arith, length_data, room)),
                   tt,
                 ),
               ),
