@@ -5,3 +5,6 @@ mod Grids
 mod Template
 mod Values
 mod Accepted
+mod Pairs
+mod Levels
+mod Words
