@@ -1,5 +1,7 @@
 -- The fields of a message that are demoted, one after another.
 use Rattle.std.proofs.Common.{◌≡◌, ◌≢◌, ℕ, zero, suc, ◌+◌, ◌-◌, ◌<◌, ◌≤◌, Option, Some, None, List, ◌++◌, refl, sym, ap, ◌∙◌, subst, arith}
+use Rattle.std.specs.Prelude.{Result, Ok, Err, MatchResult}
+use Rattle.std.specs.Result.{IsErrAnd}
 use Rattle.std.specs.Option.{option_or}
 use Rattle.grib_causes.specs.declared.cause.Cause.{Cause}
 use Rattle.grib_engine.specs.declared.answered.Answered.{Answered}
@@ -41,3 +43,9 @@ module _ (cause : ℕ → Option Cause) (k field : ℕ) (is : field ≡ 1 + k) (
 pub text_added : (text : ℕ → List ℕ) (k field : ℕ) (before now : List ℕ) → field ≡ 1 + k → before ≡ texts_from text k 1 → now ≡ before ++ text field → now ≡ texts_from text (k + 1) 1
 text_added text k field before now is so_far added =
     added ∙ ap (λ xs. xs ++ text field) so_far ∙ ap (λ n. texts_from text k 1 ++ text n) is ∙ sym (texts_more text k 1)
+
+-- what comes of the message is handed on
+pub kept_carried : {A : Type 0} (P : A → Type 0) (cause : Option Cause) (result : Result A Answered) (answered : Answered) → IsErrAnd result (λ e. e ≡ answered)
+    → IsKept cause answered → MatchResult result P (IsKept cause)
+kept_carried P cause (Ok x) answered is kept = absurd is
+kept_carried P cause (Err e) answered is kept = subst (IsKept cause) (sym is) kept
