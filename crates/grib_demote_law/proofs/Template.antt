@@ -15,12 +15,13 @@ use Rattle.grib2_grids.specs.Whole.{HasList}
 use Rattle.grib2_grids.proofs.Lists.{row_list-whole, row_list-none}
 use Rattle.grib1_sections.specs.Grid.{grid_types, grid_rows, grid_points, is_regular}
 use Rattle.grib1_sections.specs.Grammar.{IsSection}
+use Rattle.grib_causes.specs.declared.demotion.Demotion.TheVariants.{GridNumber}
 use Rattle.grib_demote.specs.declared.number.Number.{Number}
-use Rattle.grib_demote.specs.declared.number.Number.TheVariants.{Two, Four}
+use Rattle.grib_demote.specs.declared.number.Number.TheVariants.{One, Two, Four}
 use Rattle.grib_demote.specs.declared.tested.Tested.{Tested}
 use Rattle.grib_demote.specs.Numbers.{number_octets, all_octets}
 use Rattle.grib_demote.specs.Words.{ibm_of}
-use Rattle.grib_demote.specs.Grids.{type_of, is_listed, has_long_row, loses_rows, template_numbers, mercator, polar, polar_end, lambert, lat_lon, last_number, loss_among, grid_loss, tested_ni, tested_nj, tested_numbers}
+use Rattle.grib_demote.specs.Grids.{type_of, four, scanning, are_given, increment, is_listed, has_long_row, loses_rows, template_numbers, mercator, polar, polar_end, lambert, lat_lon, last_number, loss_among, grid_loss, tested_ni, tested_nj, tested_numbers}
 use Rattle.grib_demote.specs.Products.{coordinate_numbers}
 use Rattle.grib_demote.specs.Demoted.{grid_octets}
 use Rattle.grib_demote.proofs.Holding.{grid_list}
@@ -48,19 +49,21 @@ record IsTemplate (t : ℕ) (s : List ℕ) : Type 0 where
   irregular : may_have_list t ≡ true → is_regular (unwrap_or (type_of t) 0) ≡ false
 
 lat_lon_long : (s : List ℕ) → 33 ≡ 11 + length (all_octets (lat_lon s))
-lat_lon_long s = omega (arith, last_two (grid_template s == 40) (grid2.grid_points s) (grid2.grid_points s), length-append (number_octets (last_number s)) [])
+lat_lon_long s =
+    let two : length (number_octets (last_number s)) ≡ 2 = last_two (grid_template s == 40) (four s 68) (increment (are_given s) (four s 68)) in
+    omega (arith, two, length-append (number_octets (last_number s)) (all_octets (One (scanning s) ∷ Four 0 ∷ [])))
 
 template_0 : (s : List ℕ) → IsTemplate 0 s
 template_0 s = record { known = refl; small = omega arith; least = omega arith; start_is = lat_lon_long s; start_few = omega arith; irregular = λ may. refl }
 
 template_10 : (s : List ℕ) → IsTemplate 10 s
-template_10 s = record { known = refl; small = omega arith; least = omega arith; start_is = refl; start_few = omega arith; irregular = λ may. cc }
+template_10 s = record { known = refl; small = omega arith; least = omega arith; start_is = refl; start_few = omega arith; irregular = λ may. (let no : ⊥ = cc in absurd no) }
 
 template_20 : (s : List ℕ) → IsTemplate 20 s
-template_20 s = record { known = refl; small = omega arith; least = omega arith; start_is = refl; start_few = omega arith; irregular = λ may. cc }
+template_20 s = record { known = refl; small = omega arith; least = omega arith; start_is = refl; start_few = omega arith; irregular = λ may. (let no : ⊥ = cc in absurd no) }
 
 template_30 : (s : List ℕ) → IsTemplate 30 s
-template_30 s = record { known = refl; small = omega arith; least = omega arith; start_is = refl; start_few = omega arith; irregular = λ may. cc }
+template_30 s = record { known = refl; small = omega arith; least = omega arith; start_is = refl; start_few = omega arith; irregular = λ may. (let no : ⊥ = cc in absurd no) }
 
 template_40 : (s : List ℕ) → IsTemplate 40 s
 template_40 s = record { known = refl; small = omega arith; least = omega arith; start_is = lat_lon_long s; start_few = omega arith; irregular = λ may. refl }
@@ -83,7 +86,7 @@ NoneLost numbers = loss_among numbers ≡ None
 
 first_fits : (x : Tested) (xs : List Tested) → NoneLost (x ∷ xs) → (x.fits ≡ true) × NoneLost xs
 first_fits x xs none = by x.fits refl none where
-  by : (b : Bool) → x.fits ≡ b → option_map _ (cond (not b) (Some x) (find (λ n. not n.fits) xs)) ≡ None → (x.fits ≡ true) × NoneLost xs
+  by : (b : Bool) → x.fits ≡ b → option_map (λ n. GridNumber n.first) (cond (not b) (Some x) (find (λ n. not n.fits) xs)) ≡ None → (x.fits ≡ true) × NoneLost xs
   by true is none = (is, none)
   by false is none = let no : ⊥ = cc in absurd no
 

@@ -12,16 +12,21 @@ use Rattle.grib_engine.specs.Demoting.{first_cause}
 use Rattle.grib_engine.proofs.Pending.{texts_more}
 
 -- the first cause of some fields and of later ones
+none_or : (a b : Option Cause) → option_or a b ≡ None → (a ≡ None) × (b ≡ None)
+none_or None b is = (refl, is)
+none_or (Some x) b is = let no : ⊥ = cc in absurd no
+
 causes_join : (cause : ℕ → Option Cause) (k n i : ℕ) → first_cause cause k i ≡ None → first_cause cause (k + n) i ≡ first_cause cause n (i + k)
-causes_join cause zero n i none = ap (first_cause cause n) (let e : i ≡ i + 0 = omega arith in e)
+causes_join cause zero n i none =
+    let e : 0 + n ≡ n = omega arith in
+    let f : i ≡ i + 0 = omega arith in
+    ap (λ m. first_cause cause m i) e ∙ ap (first_cause cause n) f
 causes_join cause (suc k) n i none =
     let split = none_or (cause i) (first_cause cause k (i + 1)) none in
+    let e : suc k + n ≡ suc (k + n) = omega arith in
     let place : i + 1 + k ≡ i + suc k = omega arith in
-    ap (λ x. option_or x (first_cause cause (k + n) (i + 1))) split.0 ∙ causes_join cause k n (i + 1) split.1 ∙ ap (first_cause cause n) place
-  where
-    none_or : (a b : Option Cause) → option_or a b ≡ None → (a ≡ None) × (b ≡ None)
-    none_or None b is = (refl, is)
-    none_or (Some x) b is = let no : ⊥ = cc in absurd no
+    ap (λ m. first_cause cause m i) e
+    ∙ (ap (λ x. option_or x (first_cause cause (k + n) (i + 1))) split.0 ∙ (causes_join cause k n (i + 1) split.1 ∙ ap (first_cause cause n) place))
 
 module _ (cause : ℕ → Option Cause) (k field : ℕ) (is : field ≡ 1 + k) (before : first_cause cause k 1 ≡ None) where
   -- one field more without a cause

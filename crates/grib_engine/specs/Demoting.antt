@@ -1,5 +1,5 @@
 -- `demote`: each field of a message of edition 2 as a message of edition 1, by the rows of a parameter table.
-use Rattle.std.proofs.Common.{◌≡◌, ◌≢◌, ℕ, zero, suc, ◌+◌, ◌*◌, ◌<◌, ◌≤◌, Bool, true, false, cond, nat_lt, Option, Some, None, option_map, List, length, refl, ap, arith, ⊎_elim, ltb-false}
+use Rattle.std.proofs.Common.{◌≡◌, ◌≢◌, ℕ, zero, suc, ◌+◌, ◌*◌, ◌<◌, ◌≤◌, Bool, true, false, cond, nat_lt, Option, Some, None, option_map, List, length, refl, sym, ap, ◌∙◌, arith, ⊎_elim, ltb-false}
 use Rattle.std.specs.Option.{option_or}
 use Rattle.std.proofs.lemmas.Bool.{cases_Bool, cases_eq}
 use Rattle.grib_causes.specs.declared.cause.Cause.{Cause}
@@ -62,7 +62,7 @@ pub none_each : (cause : ℕ → Option Cause) (n i : ℕ) → first_cause cause
 none_each cause zero i none j low high = absurd (omega arith)
 none_each cause (suc n) i none j low high =
     ⊎_elim
-    (λ (here : i ≡ j). (let same : cause i ≡ cause j = ap cause here in let own : cause i ≡ None = first_none (cause i) (first_cause cause n (i + 1)) none in cc))
+    (λ (here : i ≡ j). sym (ap cause here) ∙ first_none (cause i) (first_cause cause n (i + 1)) none)
     (λ (later : i ≢ j). none_each cause n (i + 1) (rest_none (cause i) (first_cause cause n (i + 1)) none) j (omega (arith, later)) (omega arith))
     (cases_eq i j)
 

@@ -101,12 +101,10 @@ fn demote_field(
     let keep_local = demoting.keep_local;
     let any_earth = demoting.any_earth;
     match demote(alloc, message, field, table, keep_local, any_earth) {
-        Ok(octets) => {
-            if out.extend_from_slice(octets.as_slice()).is_err() {
-                return Err(Answered::Memory);
-            }
-            Ok(())
-        }
+        Ok(octets) => match out.extend_from_slice(octets.as_slice()) {
+            Ok(()) => Ok(()),
+            Err(_) => Err(Answered::Memory),
+        },
         Err(fault) => Err(kept_by(field, fault)),
     }
 }
