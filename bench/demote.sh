@@ -14,6 +14,7 @@ sample=/usr/share/eccodes/samples/regular_ll_pl_grib2.tmpl
 grib=$(our_program)
 cd "$work"
 cp "$top/params/standard.csv" table
+echo "98,200,130,0,0,0,4,0" >>table # the parameter of the sample, by version 4 of the master tables
 
 compare() { # WHAT FILE ROUNDS
   local message=$work/$2
