@@ -24,7 +24,7 @@ use Rattle.grib_packing.proofs.Left.{padded-more}
 use Rattle.grib_packed.specs.Written.{packed}
 use Rattle.grib_packed.proofs.Written.{simple_written}
 use Rattle.grib_simple.proofs.Fitting.{width_few}
-use Rattle.grib_simple.proofs.Bitmaps.{count_present}
+use Rattle.grib_demote_law.proofs.Bitmaps.{count_present}
 use Rattle.grib_repack.specs.Repacked.{kind_of, packed_field}
 use Rattle.grib_repack.proofs.Columns.{column_long, may_be_packed, has_words, kind_small}
 use Rattle.grib_params.specs.Table.{Entries}

@@ -36,22 +36,24 @@ found_too : (t : ℕ) (rows others : List LevelRow) → SameTypes rows others �
 found_too t [] [] same e = e
 found_too t [] (q ∷ others) same e = absurd same
 found_too t (r ∷ rows) [] same e = absurd same
-found_too t (r ∷ rows) (q ∷ others) same e = by (r.level_type == t) refl e
+found_too t (r ∷ rows) (q ∷ others) same e = by (r.level_type == t) refl e (found_too t rows others same.1)
   where
     by : (b : Bool) → (r.level_type == t) ≡ b → is_none (cond b (Some r) (find (λ r. r.level_type == t) rows)) ≡ false
+        → (is_none (find (λ r. r.level_type == t) rows) ≡ false → is_none (find (λ r. r.level_type == t) others) ≡ false)
         → is_none (cond (q.level_type == t) (Some q) (find (λ r. r.level_type == t) others)) ≡ false
-    by true here e = ap (λ b. is_none (cond b (Some q) (find (λ r. r.level_type == t) others))) (ap (λ n. n == t) (sym same.0) ∙ here)
-    by false other e =
+    by true here e later = ap (λ b. is_none (cond b (Some q) (find (λ r. r.level_type == t) others))) (ap (λ n. n == t) (sym same.0) ∙ here)
+    by false other e later =
         ap (λ b. is_none (cond b (Some q) (find (λ r. r.level_type == t) others))) (ap (λ n. n == t) (sym same.0) ∙ other)
-        ∙ found_too t rows others same.1 e
+        ∙ later e
 
 found_small : (t : ℕ) (rows : List LevelRow) → AllSmall rows → is_none (find (λ r. r.level_type == t) rows) ≡ false → t < 256
 found_small t [] small e = let no : ⊥ = cc in absurd no
-found_small t (r ∷ rows) small e = by (r.level_type == t) refl e
+found_small t (r ∷ rows) small e = by (r.level_type == t) refl e (found_small t rows small.1)
   where
-    by : (b : Bool) → (r.level_type == t) ≡ b → is_none (cond b (Some r) (find (λ r. r.level_type == t) rows)) ≡ false → t < 256
-    by true here e = let is = eqb-true r.level_type t here in let low = small.0 in omega (arith, is, low)
-    by false other e = found_small t rows small.1 e
+    by : (b : Bool) → (r.level_type == t) ≡ b → is_none (cond b (Some r) (find (λ r. r.level_type == t) rows)) ≡ false
+        → (is_none (find (λ r. r.level_type == t) rows) ≡ false → t < 256) → t < 256
+    by true here e later = let is = eqb-true r.level_type t here in let low = small.0 in omega (arith, is, low)
+    by false other e later = later e
 
 mapped : {A B : Type 0} (f : A → B) (o : Option A) → is_none (option_map f o) ≡ is_none o
 mapped f None = refl
@@ -65,6 +67,13 @@ record IsType (t : ℕ) (one : Surfaces) : Type 0 where
   small : t < 256
   all : (l a b : ℕ) → is_none (surfaces_at t l a b) ≡ false
   bare_one : lacks_number t ≡ true → one.first.scale_factor ≡ 255
+
+lone : (t : ℕ) (one : Surfaces) → surfaces_at t 1 1 1 ≡ Some one → lacks_number t ≡ true → is_shared t ≡ false → one.first.scale_factor ≡ 255
+lone t one is lacks plain =
+    let here : (t == 102) ≡ true = sym (ap (λ b. b || (t == 102)) plain) ∙ lacks in
+    let at : t ≡ 102 = eqb-true t 102 here in
+    let same : surfaces_at 102 1 1 1 ≡ Some one = ap (λ n. surfaces_at n 1 1 1) (sym at) ∙ is in
+    ap (λ (s : Surfaces). s.first.scale_factor) (sym (same_some (one_surface (bare 101)) one same))
 
 known_type : (t : ℕ) (one : Surfaces) → surfaces_at t 1 1 1 ≡ Some one → IsType t one
 known_type t one is = by (is_shared t) refl
@@ -92,15 +101,8 @@ known_type t one is = by (is_shared t) refl
               ∙ mapped (λ r. r.surfaces_are) (find (λ r. r.level_type == t) (level_rows l a b))
               ∙ found_too t (level_rows 1 1 1) (level_rows l a b)
               (refl, (refl, (refl, (refl, (refl, (refl, (refl, (refl, (refl, (refl, (refl, (refl, (refl, (refl, tt)))))))))))))) some;
-          bare_one = λ lacks. lone lacks e;
+          bare_one = λ lacks. lone t one is lacks e;
         }
-
-    lone : lacks_number t ≡ true → is_shared t ≡ false → one.first.scale_factor ≡ 255
-    lone lacks plain =
-        let here : (t == 102) ≡ true = sym (ap (λ b. b || (t == 102)) plain) ∙ lacks in
-        let at : t ≡ 102 = eqb-true t 102 here in
-        let same : surfaces_at 102 1 1 1 ≡ Some one = ap (λ n. surfaces_at n 1 1 1) (sym at) ∙ is in
-        ap (λ (s : Surfaces). s.first.scale_factor) (sym (same_some (one_surface (bare 101)) one same))
 
 -- ---- the number
 
@@ -171,11 +173,12 @@ with_known first second t found e = by (surfaces_at t 1 1 1) refl e
 
 among_known : (first second : Surface) (types : List ℕ) (found : Level) → level_among first second types ≡ Some found → IsFound found
 among_known first second [] found e = absurd (never found e)
-among_known first second (t ∷ types) found e = by (level_with first second t) refl e
+among_known first second (t ∷ types) found e = by (level_with first second t) refl e (among_known first second types found)
   where
-    by : (o : Option Level) → level_with first second t ≡ o → option_or o (level_among first second types) ≡ Some found → IsFound found
-    by (Some l) is e = subst IsFound (same_some l found e) (with_known first second t l is)
-    by None is e = among_known first second types found e
+    by : (o : Option Level) → level_with first second t ≡ o → option_or o (level_among first second types) ≡ Some found
+        → (level_among first second types ≡ Some found → IsFound found) → IsFound found
+    by (Some l) is e later = subst IsFound (same_some l found e) (with_known first second t l is)
+    by None is e later = later e
 
 pub level_known : (s4 : List ℕ) (found : Level) → level_of s4 ≡ Some found → IsFound found
 level_known s4 found e = among_known (surface_at s4 23) (surface_at s4 29) level_types found e

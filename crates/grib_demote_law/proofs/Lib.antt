@@ -3,6 +3,7 @@ mod Joined
 mod Identification
 mod Grids
 mod Template
+mod Bitmaps
 mod Values
 mod Accepted
 mod Pairs

@@ -1,5 +1,5 @@
 -- Where there is no first loss, nothing is lost.
-use Rattle.std.proofs.Common.{◌≡◌, ℕ, ◌≤◌, Bool, true, false, not, cond, Option, Some, None, List, [], ◌∷◌, ◌++◌, length, nat_lt, refl, ap}
+use Rattle.std.proofs.Common.{◌≡◌, ℕ, ◌≤◌, Bool, true, false, not, cond, ◌&&◌, Option, Some, None, List, [], ◌∷◌, ◌++◌, length, nat_lt, refl, ap}
 use Rattle.std.specs.Prelude.{is_none, option_map}
 use Rattle.std.proofs.lemmas.Bool.{ltb-false}
 use Rattle.grib2_sections.specs.Head.{discipline}
@@ -10,7 +10,8 @@ use Rattle.grib_packing.specs.Misfits.{ToSimple, Misfit, first_misfit}
 use Rattle.grib_params.specs.Table.{Entries}
 use Rattle.grib2_message.specs.Fields.{part_octets, column_of}
 use Rattle.grib_causes.specs.declared.demotion.Demotion.{Demotion}
-use Rattle.grib_demote.specs.Losses.{first_of, lost_where, loss_of, column_loss, field_losses, parameter_losses, time_losses, product_losses, form_losses, number_losses, shape_losses, value_losses, loses_product, loses_shape, loses_reference, coordinate_loss}
+use Rattle.grib_causes.specs.declared.demotion.Demotion.TheVariants.{LocalUse, EarthShape, GridFlags, RowList, Reference, TooLong}
+use Rattle.grib_demote.specs.Losses.{first_of, lost_where, loss_of, column_loss, field_losses, parameter_losses, time_losses, product_losses, form_losses, number_losses, shape_losses, value_losses, loses_product, loses_shape, loses_reference, reference_loss, coordinate_loss}
 use Rattle.grib_demote.specs.Levels.{level_of}
 use Rattle.grib_demote.specs.Times.{unit_of, has_process, loses_interval}
 use Rattle.grib_demote.specs.Dates.{loses_date}
@@ -78,16 +79,28 @@ pub record ShapeKept (keep any : Bool) (s2 s3 s4 : List ℕ) : Type 0 where
   pub numbers : grid_loss s3 ≡ None
   pub coordinates : coordinate_loss (coordinate_list s4) ≡ None
 
+form_kept : (keep any : Bool) (s2 s3 : List ℕ) → first_of (form_losses keep any s2 s3) ≡ None → (loses_flags s3 ≡ false) × (loses_rows s3 ≡ false)
+form_kept keep any s2 s3 e =
+    let flags = lost_where (loses_flags s3) GridFlags in
+    let rows = lost_where (loses_rows s3) RowList in
+    let a = head_none (lost_where (has_local s2 && not keep) LocalUse) (lost_where (loses_shape any s3) EarthShape ∷ flags ∷ rows ∷ []) e in
+    let b = head_none (lost_where (loses_shape any s3) EarthShape) (flags ∷ rows ∷ []) a.1 in
+    let c = head_none flags (rows ∷ []) b.1 in
+    let d = head_none rows [] c.1 in
+    (not_lost (loses_flags s3) GridFlags c.0, not_lost (loses_rows s3) RowList d.0)
+
+numbers_kept : (s3 s4 : List ℕ) → first_of (number_losses s3 s4) ≡ None → (grid_loss s3 ≡ None) × (coordinate_loss (coordinate_list s4) ≡ None)
+numbers_kept s3 s4 e =
+    let n = head_none (grid_loss s3) (coordinate_loss (coordinate_list s4) ∷ []) e in
+    let o = head_none (coordinate_loss (coordinate_list s4)) [] n.1 in
+    (n.0, o.0)
+
 shape_kept : (keep any : Bool) (s2 s3 s4 : List ℕ) → first_of (form_losses keep any s2 s3 ++ number_losses s3 s4) ≡ None → ShapeKept keep any s2 s3 s4
 shape_kept keep any s2 s3 s4 e =
     let both = parts_none (form_losses keep any s2 s3) (number_losses s3 s4) e in
-    let a = head_none _ _ both.0 in
-    let b = head_none _ _ a.1 in
-    let c = head_none _ _ b.1 in
-    let d = head_none _ _ c.1 in
-    let n = head_none _ _ both.1 in
-    let o = head_none _ _ n.1 in
-    record { flags = not_lost _ _ c.0; rows = not_lost _ _ d.0; numbers = n.0; coordinates = o.0 }
+    let form = form_kept keep any s2 s3 both.0 in
+    let numbers = numbers_kept s3 s4 both.1 in
+    record { flags = form.0; rows = form.1; numbers = numbers.0; coordinates = numbers.1 }
 
 -- nothing of a field
 pub record Kept (table : Entries) (keep any : Bool) (message : List ℕ) (i : ℕ) : Type 0 where
@@ -107,13 +120,15 @@ all_kept table keep any message i e =
     let outer = parts_none (product_losses table (discipline message) s1 s3 s4) (shape_losses keep any message i ++ value_losses message i) both.0 in
     let front = parts_none (parameter_losses table (discipline message) s1 s3 s4) (time_losses s1 s4) outer.0 in
     let inner = parts_none (shape_losses keep any message i) (value_losses message i) outer.1 in
-    let r = head_none _ _ inner.1 in
-    let c = head_none _ _ r.1 in
+    let s5 = part_octets message i 5 in
+    let points = (column_of message i).points in
+    let r = head_none (reference_loss s5) (column_loss points ∷ []) inner.1 in
+    let c = head_none (column_loss points) [] r.1 in
     record {
       product = parameter_kept table (discipline message) s1 s3 s4 front.0;
       times = times_kept s1 s4 front.1;
       shape = shape_kept keep any (part_octets message i 2) s3 s4 inner.0;
-      reference = not_lost _ _ r.0;
+      reference = not_lost (loses_reference s5) Reference r.0;
       column = no_misfit (first_misfit ToSimple (column_of message i).points) c.0;
-      short = ltb-false 16777215 (length (demoted table keep message i)) (not_lost _ _ both.1);
+      short = ltb-false 16777215 (length (demoted table keep message i)) (not_lost (nat_lt 16777215 (length (demoted table keep message i))) (TooLong (length (demoted table keep message i))) both.1);
     }

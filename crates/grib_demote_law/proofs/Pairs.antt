@@ -11,18 +11,22 @@ both : (a b : Bool) → (a && b) ≡ true → (a ≡ true) × (b ≡ true)
 both true b e = (refl, e)
 both false b e = let no : ⊥ = cc in absurd no
 
+and_5 : (a b c d e : Bool) → (a && b && c && d && e) ≡ true → (a ≡ true) × (b ≡ true) × (c ≡ true) × (d ≡ true) × (e ≡ true)
+and_5 false b c d e h = let no : ⊥ = cc in absurd no
+and_5 true false c d e h = let no : ⊥ = cc in absurd no
+and_5 true true false d e h = let no : ⊥ = cc in absurd no
+and_5 true true true false e h = let no : ⊥ = cc in absurd no
+and_5 true true true true e h = (refl, refl, refl, refl, h)
+
 -- all numbers of a target are told apart
 target_is : (a b : Target) → same_target a b ≡ true → a ≡ b
 target_is a b e =
-    let one = both (a.discipline == b.discipline) _ e in
-    let two = both (a.category == b.category) _ one.1 in
-    let three = both (a.number == b.number) _ two.1 in
-    let four = both (a.master == b.master) (a.local == b.local) three.1 in
-    let d = eqb-true a.discipline b.discipline one.0 in
-    let c = eqb-true a.category b.category two.0 in
-    let n = eqb-true a.number b.number three.0 in
-    let m = eqb-true a.master b.master four.0 in
-    let l = eqb-true a.local b.local four.1 in
+    let p = and_5 (a.discipline == b.discipline) (a.category == b.category) (a.number == b.number) (a.master == b.master) (a.local == b.local) e in
+    let d = eqb-true a.discipline b.discipline p.0 in
+    let c = eqb-true a.category b.category p.1.0 in
+    let n = eqb-true a.number b.number p.1.1.0 in
+    let m = eqb-true a.master b.master p.1.1.1.0 in
+    let l = eqb-true a.local b.local p.1.1.1.1 in
     λ i. record { discipline = d i; category = c i; number = n i; master = m i; local = l i }
 
 found_target : (target : Target) (found : Option Target) → option_map_or (same_target target) found false ≡ true → found ≡ Some target

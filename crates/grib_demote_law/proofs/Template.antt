@@ -71,7 +71,7 @@ template_40 s = record { known = refl; small = omega arith; least = omega arith;
 known_type : (t : ℕ) (s : List ℕ) → is_none (type_of t) ≡ false → IsTemplate t s
 known_type t s some = by (0 == t) (10 == t) (20 == t) (30 == t) (40 == t) refl refl refl refl refl some where
   by : (a b c d e : Bool) → (0 == t) ≡ a → (10 == t) ≡ b → (20 == t) ≡ c → (30 == t) ≡ d → (40 == t) ≡ e
-      → is_none (cond a (Some 0) (cond b (Some 1) (cond c (Some 5) (cond d (Some 3) (cond e (Some 4) None))))) ≡ false → IsTemplate t s
+      → is_none {T = ℕ} (cond a (Some 0) (cond b (Some 1) (cond c (Some 5) (cond d (Some 3) (cond e (Some 4) None))))) ≡ false → IsTemplate t s
   by true b c d e is_0 is_10 is_20 is_30 is_40 some = subst (λ n. IsTemplate n s) (eqb-true 0 t is_0) (template_0 s)
   by false true c d e is_0 is_10 is_20 is_30 is_40 some = subst (λ n. IsTemplate n s) (eqb-true 10 t is_10) (template_10 s)
   by false false true d e is_0 is_10 is_20 is_30 is_40 some = subst (λ n. IsTemplate n s) (eqb-true 20 t is_20) (template_20 s)

@@ -19,7 +19,7 @@ use Rattle.grib_packing.specs.Packing.{value_count, bit_width as bit_width_2, bi
 use Rattle.grib_packing.specs.Packed.{HasContents, IsSimple, fields, padded, present_bits, simple_numbers, simple_width}
 use Rattle.grib_packing.proofs.Fields.{length-fields}
 use Rattle.grib_packing.proofs.Left.{padded-more}
-use Rattle.grib_simple.proofs.Bitmaps.{all_present, count_present, indicator_is, mask_bits, octets_are}
+use Rattle.grib_demote_law.proofs.Bitmaps.{all_present, count_present, indicator_is, mask_bits, octets_are}
 use Rattle.grib1_sections.specs.Frame.{bit}
 use Rattle.grib1_sections.specs.Bitmap.{bitmap_rows, bitmap_number, mask_of}
 use Rattle.grib1_sections.specs.Data.{data_rows, data_flags, bit_width}
