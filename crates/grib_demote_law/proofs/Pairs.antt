@@ -23,10 +23,10 @@ target_is : (a b : Target) → same_target a b ≡ true → a ≡ b
 target_is a b e =
     let p = and_5 (a.discipline == b.discipline) (a.category == b.category) (a.number == b.number) (a.master == b.master) (a.local == b.local) e in
     let d = eqb-true a.discipline b.discipline p.0 in
-    let c = eqb-true a.category b.category p.1.0 in
-    let n = eqb-true a.number b.number p.1.1.0 in
-    let m = eqb-true a.master b.master p.1.1.1.0 in
-    let l = eqb-true a.local b.local p.1.1.1.1 in
+    let c = eqb-true a.category b.category p.1 in
+    let n = eqb-true a.number b.number p.2 in
+    let m = eqb-true a.master b.master p.3 in
+    let l = eqb-true a.local b.local p.4 in
     λ i. record { discipline = d i; category = c i; number = n i; master = m i; local = l i }
 
 found_target : (target : Target) (found : Option Target) → option_map_or (same_target target) found false ≡ true → found ≡ Some target

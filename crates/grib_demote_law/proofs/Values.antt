@@ -160,7 +160,7 @@ module _ (s5 : List ℕ) (values : Packed) (w n : ℕ) (width_is : bit_width_2 v
       flag_bits (octets s5 21 21 == 1) (padding bits_of_padding) (padding_few bits_of_padding)
 
   flags_stand : data_flags written_4 ≡ flags
-  flags_stand = num_on-octets_of 1 flags (let known = flags_known.1.1.1 in omega arith)
+  flags_stand = num_on-octets_of 1 flags (let known = flags_known.3 in omega arith)
 
   width_stands : bit_width written_4 ≡ w
   width_stands = num_on-octets_of 1 (bit_width_2 values.section5) (omega (arith, width_is, few_bits)) ∙ width_is
@@ -174,9 +174,9 @@ module _ (s5 : List ℕ) (values : Packed) (w n : ℕ) (width_is : bit_width_2 v
         rows_hold = none_from_passes (data_rows n written_4) (
           ap (bit 1) flags_stand ∙ known.0,
           (
-            ap (bit 2) flags_stand ∙ known.1.0,
+            ap (bit 2) flags_stand ∙ known.1,
             (
-              ap (bit 4) flags_stand ∙ known.1.1.0,
+              ap (bit 4) flags_stand ∙ known.2,
               (
                 ap (nat_lt 48) width_stands ∙ le-ltb 48 w few_bits,
                 (
