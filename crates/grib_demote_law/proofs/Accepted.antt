@@ -1,9 +1,10 @@
 -- What a field is demoted to is accepted.
-use Rattle.std.proofs.Common.{◌≡◌, ℕ, ◌+◌, ◌*◌, ◌≤◌, Bool, true, false, cond, Option, Some, None, List, [], ◌∷◌, ◌++◌, length, drop, refl, sym, ap, ap₂, ◌∙◌, subst, arith, append-nil, length-append, eqb-true}
+use Rattle.std.proofs.Common.{◌≡◌, ℕ, ◌+◌, ◌-◌, ◌*◌, ◌^◌, ◌≤◌, Bool, true, false, cond, Option, Some, None, List, [], ◌∷◌, ◌++◌, length, drop, refl, sym, ap, ap₂, ◌∙◌, subst, arith, append-nil, length-append, eqb-true}
 use Rattle.std.specs.Prelude.{unwrap_or, is_some}
 use Rattle.std.specs.List.{list_any}
 use Rattle.grib_bits.proofs.OctetBits.{length-bits}
 use Rattle.grib_bits.proofs.Listed.{AreOctets-from_All}
+use Rattle.grib_base.specs.Rows.{first_place}
 use Rattle.grib_bitmap.specs.Mask.{present_count}
 use Rattle.grib2_sections.specs.Head.{discipline}
 use Rattle.grib2_grids.specs.Grid as grid2
@@ -50,11 +51,13 @@ use Rattle.grib_demote_law.proofs.Template.{points_are, grid_is_section}
 use Rattle.grib_demote_law.proofs.Values.{BitmapStands, section_3, section_3-octets, section_3-some, bitmap_stands, is_section_4}
 
 -- no secondary missing point
+not_first : (b : Bool) (misfit : Misfit) (later : Option Misfit) → misfits.first_of (cond b (Some misfit) None) later ≡ None → b ≡ false
+not_first true misfit later none = let no : ⊥ = cc in absurd no
+not_first false misfit later none = refl
+
 none_secondary : (points : List Point) → first_misfit ToSimple points ≡ None → list_any is_missing2 points ≡ false
-none_secondary points none = by (list_any is_missing2 points) none where
-  by : (b : Bool) {later : Option Misfit} {place : ℕ} → misfits.first_of (cond b (Some (misfits.SecondaryMissing place)) None) later ≡ None → b ≡ false
-  by true none = let no : ⊥ = cc in absurd no
-  by false none = refl
+none_secondary points none =
+    not_first (list_any is_missing2 points) (misfits.SecondaryMissing (first_place is_missing2 points)) (misfits.misfit_at misfits.OutOfRange (misfits.is_scaled_outside (2 ^ 48 - 1)) points) none
 
 module _ (table : Entries) (keep any : Bool) (message : List ℕ) (i : ℕ) (may : MayBeDemoted table keep any message i) where
   abbrev part : ℕ → List ℕ
