@@ -16,7 +16,7 @@ ghost use Rattle.grib_demote_law.specs.Field.{MayBeDemoted};
 /// Where nothing of a field of an accepted message of edition 2 is lost, what it is demoted to is accepted as a
 /// message of edition 1.
 pub fn what_is_demoted_is_accepted()
-    ensures accepted { (table : Entries) (keep_local any_earth : Bool) (message : List ℕ) (field : ℕ)
+    ensures { (table : Entries) (keep_local any_earth : Bool) (message : List ℕ) (field : ℕ)
         → MayBeDemoted table keep_local any_earth message field
         → IsMessage1 (demoted table keep_local message field) }
 {}
