@@ -9,3 +9,6 @@ mod Accepted
 mod Pairs
 mod Levels
 mod Words
+mod Front
+mod Flags
+mod Numbers
