@@ -66,6 +66,8 @@ job_of_command commands.Split words = Ok (jobs.Split (value_of (codes "out") wor
 job_of_command commands.Set words = Ok (jobs.Set (conditions_of words))
 job_of_command commands.Repack words = Ok (jobs.Repack (target_of words))
 job_of_command commands.Migrate words = Ok (jobs.Migrate (value_of (codes "params") words) (has_name (codes "local") words))
+job_of_command commands.Demote words =
+    Ok (jobs.Demote (value_of (codes "params") words) (has_name (codes "local") words) (has_name (codes "earth") words))
 job_of_command commands.Rescan words = Ok jobs.Rescan
 job_of_command commands.Crop words = Ok (jobs.Crop (area_of words))
 job_of_command commands.Make words =

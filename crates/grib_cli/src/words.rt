@@ -125,6 +125,11 @@ fn takes(command: Command, name: &str, value: &str) -> bool
         Command::Migrate => {
             (name == "params" && !value.is_empty()) || (name == "local" && value == "keep")
         }
+        Command::Demote => {
+            (name == "params" && !value.is_empty())
+                || (name == "local" && value == "keep")
+                || (name == "earth" && value == "any")
+        }
         Command::Crop => takes_side(name, value),
         Command::Make => takes_size(name, value) || takes_target(name, value),
     }
@@ -179,7 +184,7 @@ fn is_complete(command: Command, words: &[String]) -> bool
         Command::Filter | Command::Set => !words.is_empty(),
         Command::Split => has_name(words, "out"),
         Command::Repack => has_target(words),
-        Command::Migrate => has_name(words, "params"),
+        Command::Migrate | Command::Demote => has_name(words, "params"),
         Command::Crop => has_box(words),
         Command::Make => {
             has_name(words, "seed")

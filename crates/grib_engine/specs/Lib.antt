@@ -21,6 +21,7 @@ pub mod Setting
 pub mod Repacking
 pub mod Rescanning
 pub mod Migrating
+pub mod Demoting
 pub mod Tasks
 pub mod Each
 pub mod Lawful

@@ -13,7 +13,7 @@ use Rattle.grib_causes.specs.declared.table.TableRefusal.{TableRefusal}
 use Rattle.grib_params.specs.Table.{Entries}
 use Rattle.grib_table.specs.Tabled.{Tabled, Good, Refused, tabled}
 use Rattle.grib_engine.specs.declared.job.Job.{Job}
-use Rattle.grib_engine.specs.declared.job.Job.TheVariants.{Check, List as Listing, Keys, Stats, Dump, Filter, Split, Set, Repack, Rescan, Crop, Migrate, Make}
+use Rattle.grib_engine.specs.declared.job.Job.TheVariants.{Check, List as Listing, Keys, Stats, Dump, Filter, Split, Set, Repack, Rescan, Crop, Migrate, Demote, Make}
 use Rattle.grib_engine.specs.Checking.{check_command}
 use Rattle.grib_engine.specs.Command.{Command, task}
 use Rattle.grib_engine.specs.Dumping.{dump_command}
@@ -22,6 +22,7 @@ use Rattle.grib_engine.specs.Listing.{list_command}
 use Rattle.grib_engine.specs.Keying.{keys_command}
 use Rattle.grib_engine.specs.Notes.{made_note}
 use Rattle.grib_engine.specs.Migrating.{migrate_command}
+use Rattle.grib_engine.specs.Demoting.{demote_command}
 use Rattle.grib_engine.specs.Outcomes.{note_of}
 use Rattle.grib_engine.specs.Repacking.{repack_command}
 use Rattle.grib_engine.specs.Rescanning.{edit_command}
@@ -66,6 +67,7 @@ work_of (Repack target) = Reads (repack_command target)
 work_of Rescan = Reads (edit_command edits.Rescan)
 work_of (Crop area) = Reads (edit_command (edits.Crop area))
 work_of (Migrate params keep_local) = ReadsTable params (migrate_command keep_local)
+work_of (Demote params keep_local any_earth) = ReadsTable params (demote_command keep_local any_earth)
 work_of (Make seed ni nj target) = Makes (made_answer seed ni nj target)
 
 -- what holds of the command of a job that reads its input, by the table where it reads one

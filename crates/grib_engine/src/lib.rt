@@ -8,6 +8,7 @@ mod changing;
 mod checking;
 mod closing;
 mod counting;
+mod demoting;
 mod dumping;
 mod ending;
 mod fields;
@@ -31,6 +32,7 @@ mod serving;
 mod setting;
 mod splitting;
 mod summing;
+mod tabling;
 mod valuing;
 mod writing;
 

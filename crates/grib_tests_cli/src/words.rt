@@ -27,6 +27,7 @@ fn command_of(asked: &Result<Job, JobFault>) -> &'static str {
         Ok(Job::Set(_)) => "set",
         Ok(Job::Repack(_)) => "repack",
         Ok(Job::Migrate { .. }) => "migrate",
+        Ok(Job::Demote { .. }) => "demote",
         Ok(Job::Rescan) => "rescan",
         Ok(Job::Crop(_)) => "crop",
         Ok(Job::Make { .. }) => "make",
@@ -35,7 +36,7 @@ fn command_of(asked: &Result<Job, JobFault>) -> &'static str {
 }
 
 // Lines that are read, each as the command that its first word names.
-const READ: [&str; 45] = [
+const READ: [&str; 48] = [
     // Each command has its name.
     "check",
     "list",
@@ -80,6 +81,10 @@ const READ: [&str; 45] = [
     "migrate params=t",
     "migrate params=t local=keep",
     "migrate local=keep params==t",
+    // `demote` takes a table, may keep local octets, and may take any earth.
+    "demote params=t",
+    "demote params=t earth=any",
+    "demote earth=any local=keep params==t",
     "rescan",
     // `crop` takes the sides of a box, the last not before the first.
     "crop i0=0 i1=0 j0=0 j1=0",
@@ -94,7 +99,7 @@ const READ: [&str; 45] = [
 ];
 
 // Lines that are not, with the place of the first word that is not read.
-const UNREAD: [(u64, &str); 121] = [
+const UNREAD: [(u64, &str); 128] = [
     // Others have none.
     (0, ""),
     (0, "Check"),
@@ -192,6 +197,14 @@ const UNREAD: [(u64, &str); 121] = [
     (2, "migrate local=keep"),
     (2, "migrate params=t local=keeps"),
     (2, "migrate params=t params=t"),
+    (2, "migrate params=t earth=any"),
+    // `demote` takes a table, may keep local octets, and may take any earth.
+    (1, "demote"),
+    (1, "demote params="),
+    (1, "demote earth=0 params=t"),
+    (2, "demote earth=any"),
+    (2, "demote params=t local=keeps"),
+    (3, "demote params=t earth=any earth=any"),
     // `crop` takes the sides of a box, the last not before the first.
     (1, "crop"),
     (1, "crop i0"),

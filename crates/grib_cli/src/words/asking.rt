@@ -45,6 +45,11 @@ pub(super) fn job_of_command(
             params: name_by(alloc, words, "params")?,
             keep_local: has_name(words, "local"),
         }),
+        Command::Demote => Ok(Job::Demote {
+            params: name_by(alloc, words, "params")?,
+            keep_local: has_name(words, "local"),
+            any_earth: has_name(words, "earth"),
+        }),
         Command::Rescan => Ok(Job::Rescan),
         Command::Crop => Ok(Job::Crop(area_of(words))),
     }
