@@ -9,6 +9,3 @@ mod Accepted
 mod Pairs
 mod Levels
 mod Words
-mod Front
-mod Flags
-mod Numbers
