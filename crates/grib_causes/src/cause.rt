@@ -1,5 +1,6 @@
 //! Why a message that is accepted is not changed as asked.
 
+use crate::demotion::Demotion;
 use crate::loss::Loss;
 use grib_keys::Key;
 
@@ -23,6 +24,8 @@ pub enum Cause {
     KeyAbsent { field: u32, key: Key },
     /// Something of a message of edition 1 has no place in edition 2.
     Lost(Loss),
+    /// Something of a field of edition 2 has no place in edition 1.
+    Demoted { field: u32, loss: Demotion },
     /// The grid is not of template 3.0, or has a list of numbers of points.
     GridKind { field: u32 },
     /// The scanning mode is one that the command does not take.

@@ -2,9 +2,11 @@
 #![tactic(auto)]
 
 mod cause;
+mod demotion;
 mod loss;
 mod table;
 
 pub use cause::{Cause, Kept};
+pub use demotion::Demotion;
 pub use loss::Loss;
 pub use table::TableRefusal;

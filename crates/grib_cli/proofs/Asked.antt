@@ -20,7 +20,7 @@ use Rattle.grib_cli.specs.declared.words.JobFault.{JobFault}
 use Rattle.grib_engine.specs.declared.job.Job.TheVariants as jobs
 use Rattle.grib_cli.specs.declared.words.command.Command.{Command}
 use Rattle.grib_cli.specs.declared.words.command.Command.TheVariants as the
-use Rattle.grib_cli.specs.declared.words.command.Command.TheVariants.{Dump, Filter, Split, Set, Repack, Migrate, Crop, Make}
+use Rattle.grib_cli.specs.declared.words.command.Command.TheVariants.{Dump, Filter, Split, Set, Repack, Migrate, Demote, Crop, Make}
 use Rattle.grib_cli.specs.Values.{number, is_number, is_between, key_value}
 use Rattle.grib_cli.specs.Reading.{is, is_equals, has_equals, name_in, value_in, is_key_to_set, is_key_value, entries, takes, is_named, has_name, has_word, is_read, read_count, has_target, is_side, in_order, has_sides, number_if_given, is_complete, command_named, reading_of, reading, value_of, number_of}
 use Rattle.grib_cli.specs.Words.{SidesStand, target_of, condition, conditions_of, job_of_command, job_of_reading, IsUnlessMemory, IsAsked}
@@ -377,6 +377,7 @@ is_job Dump words read = record {
   places_stand = places (number_if_given (codes "decimals") words) (decimals_few words read);
   area_stands = tt;
 }
+is_job the.Keys words read = record { target_stands = refl; size_stands = tt; changes_stand = no_changes; places_stand = tt; area_stands = tt }
 is_job the.Stats words read = record { target_stands = refl; size_stands = tt; changes_stand = no_changes; places_stand = tt; area_stands = tt }
 is_job the.Rescan words read = record { target_stands = refl; size_stands = tt; changes_stand = no_changes; places_stand = tt; area_stands = tt }
 is_job Crop words read =
@@ -389,6 +390,7 @@ is_job Repack words read = record { target_stands = target_is words (repack_stan
 is_job Make words read =
     record { target_stands = target_is words (make_stands words read); size_stands = size_is words (make_sized words read); changes_stand = no_changes; places_stand = tt; area_stands = tt }
 is_job Migrate words read = record { target_stands = refl; size_stands = tt; changes_stand = no_changes; places_stand = tt; area_stands = tt }
+is_job Demote words read = record { target_stands = refl; size_stands = tt; changes_stand = no_changes; places_stand = tt; area_stands = tt }
 
 -- the answer to the words, by that to the words behind their command
 pub asked : (words : List (List ℕ)) (command : Command) (result : Result Job JobFault) → reading words ≡ Ok command

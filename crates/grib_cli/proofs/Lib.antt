@@ -3,3 +3,4 @@ mod Parts
 mod Counts
 mod Asked
 mod Runs
+pub mod Printed

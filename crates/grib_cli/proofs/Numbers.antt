@@ -8,7 +8,7 @@ use Rattle.std.specs.Str.Parse.{ParsesUnsigned, ParsesSigned}
 use Rattle.std.proofs.lemmas.Str.Parse.{IsNumeralModel, numerals_by_fold, parse_plain, parse_signed_plain, parse_signed_minus}
 use Rattle.grib_cli.specs.Values.{number_on, number, begins_from_one, is_number, from_zero, below_zero}
 
-own : IsNumeralModel (λ ds. all_ascii_digits ds ≡ true) number
+pub own : IsNumeralModel (λ ds. all_ascii_digits ds ≡ true) number
 own = numerals_by_fold _ (search rules) number_on (search rules)
 
 -- a call that is Ok just where a test holds

@@ -7,7 +7,7 @@ use Rattle.std.specs.Str.{bytes_eq}
 use Rattle.grib_keys.specs.Keys.{key_named, can_set}
 use Rattle.grib_cli.specs.declared.words.command.Command.{Command}
 use Rattle.grib_cli.specs.declared.words.command.Command.TheVariants as the
-use Rattle.grib_cli.specs.declared.words.command.Command.TheVariants.{Check, Stats, Dump, Filter, Split, Set, Repack, Migrate, Rescan, Crop, Make}
+use Rattle.grib_cli.specs.declared.words.command.Command.TheVariants.{Check, Keys, Stats, Dump, Filter, Split, Set, Repack, Migrate, Demote, Rescan, Crop, Make}
 use Rattle.grib_cli.specs.Values.{number, is_not_empty, is_between, key_value}
 
 -- whether a text is this one
@@ -136,6 +136,7 @@ row name entries is_complete = record { name = name; entries = entries; is_compl
 abbrev pub row_of : Command → Row
 row_of Check = row (codes "check") [] nothing
 row_of the.List = row (codes "list") [] nothing
+row_of Keys = row (codes "keys") [] nothing
 row_of Stats = row (codes "stats") [] nothing
 row_of Dump = row (codes "dump") (entry (is (codes "decimals")) (is_between 0 18) ∷ []) nothing
 row_of Filter = row (codes "filter") (entry is_key is_key_value ∷ []) has_some
@@ -145,6 +146,10 @@ row_of Repack = row (codes "repack") target_entries has_target
 row_of Migrate =
     row (codes "migrate") (entry (is (codes "params")) is_not_empty ∷ entry (is (codes "local")) (is (codes "keep")) ∷ [])
     (has_name (codes "params"))
+row_of Demote =
+    row (codes "demote")
+    (entry (is (codes "params")) is_not_empty ∷ entry (is (codes "local")) (is (codes "keep")) ∷ entry (is (codes "earth")) (is (codes "any")) ∷ [])
+    (has_name (codes "params"))
 row_of Rescan = row (codes "rescan") [] nothing
 row_of Crop = row (codes "crop") box_entries has_box
 row_of Make =
@@ -153,7 +158,7 @@ row_of Make =
 
 abbrev pub commands : List Command
 commands =
-    Check ∷ the.List ∷ Stats ∷ Dump ∷ Filter ∷ Split ∷ Set ∷ Repack ∷ Migrate ∷ Rescan ∷ Crop ∷ Make ∷ []
+    Check ∷ the.List ∷ Keys ∷ Stats ∷ Dump ∷ Filter ∷ Split ∷ Set ∷ Repack ∷ Migrate ∷ Demote ∷ Rescan ∷ Crop ∷ Make ∷ []
 
 -- the command of this name, if there is one
 abbrev pub command_named : List ℕ → Option Command

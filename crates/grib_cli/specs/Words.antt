@@ -58,6 +58,7 @@ conditions_of words = filter_map condition_of words
 abbrev pub job_of_command : Command → List (List ℕ) → Result Job JobFault
 job_of_command commands.Check words = Ok jobs.Check
 job_of_command commands.List words = Ok jobs.List
+job_of_command commands.Keys words = Ok jobs.Keys
 job_of_command commands.Stats words = Ok jobs.Stats
 job_of_command commands.Dump words = Ok (jobs.Dump (number_if_given (codes "decimals") words))
 job_of_command commands.Filter words = Ok (jobs.Filter (conditions_of words))
@@ -65,6 +66,8 @@ job_of_command commands.Split words = Ok (jobs.Split (value_of (codes "out") wor
 job_of_command commands.Set words = Ok (jobs.Set (conditions_of words))
 job_of_command commands.Repack words = Ok (jobs.Repack (target_of words))
 job_of_command commands.Migrate words = Ok (jobs.Migrate (value_of (codes "params") words) (has_name (codes "local") words))
+job_of_command commands.Demote words =
+    Ok (jobs.Demote (value_of (codes "params") words) (has_name (codes "local") words) (has_name (codes "earth") words))
 job_of_command commands.Rescan words = Ok jobs.Rescan
 job_of_command commands.Crop words = Ok (jobs.Crop (area_of words))
 job_of_command commands.Make words =

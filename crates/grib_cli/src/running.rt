@@ -19,9 +19,9 @@ use grib_io::{Shelf, Sink, Source};
 use std::alloc::Global;
 
 /// Does what the words ask for with the messages of `input`, or without it: writes the answer to `output`
-/// and notes how the run ended. The answer is a function of the words, the input and, for `migrate`, the table
-/// that stands on the shelf; it does not depend on how the input comes in pieces. `split` and `migrate` alone use
-/// the shelf, and `migrate` changes nothing of it.
+/// and notes how the run ended. The answer is a function of the words, the input and, for `migrate` and `demote`,
+/// the table that stands on the shelf; it does not depend on how the input comes in pieces. `split`, `migrate` and
+/// `demote` alone use the shelf, and of these only `split` changes it.
 pub fn run<S: Source, T: Sink, N: Sink, H: Shelf>(
     alloc: Global,
     words: &[String],

@@ -116,7 +116,7 @@ fn takes(command: Command, name: &str, value: &str) -> bool
     ensures { result ≡ grammar.takes (entries command) name.now value.now }
 {
     match command {
-        Command::Check | Command::List | Command::Stats | Command::Rescan => false,
+        Command::Check | Command::List | Command::Keys | Command::Stats | Command::Rescan => false,
         Command::Dump => name == "decimals" && is_between(value, 0, 18),
         Command::Filter => Key::of(name).is_some() && key_value(value).is_some(),
         Command::Set => is_key_to_set(name) && key_value(value).is_some(),
@@ -124,6 +124,11 @@ fn takes(command: Command, name: &str, value: &str) -> bool
         Command::Repack => takes_target(name, value),
         Command::Migrate => {
             (name == "params" && !value.is_empty()) || (name == "local" && value == "keep")
+        }
+        Command::Demote => {
+            (name == "params" && !value.is_empty())
+                || (name == "local" && value == "keep")
+                || (name == "earth" && value == "any")
         }
         Command::Crop => takes_side(name, value),
         Command::Make => takes_size(name, value) || takes_target(name, value),
@@ -170,11 +175,16 @@ fn is_complete(command: Command, words: &[String]) -> bool
     ensures { result ≡ grammar.is_complete command (map string_bytes words.now) }
 {
     match command {
-        Command::Check | Command::List | Command::Stats | Command::Dump | Command::Rescan => true,
+        Command::Check
+        | Command::List
+        | Command::Keys
+        | Command::Stats
+        | Command::Dump
+        | Command::Rescan => true,
         Command::Filter | Command::Set => !words.is_empty(),
         Command::Split => has_name(words, "out"),
         Command::Repack => has_target(words),
-        Command::Migrate => has_name(words, "params"),
+        Command::Migrate | Command::Demote => has_name(words, "params"),
         Command::Crop => has_box(words),
         Command::Make => {
             has_name(words, "seed")

@@ -11,7 +11,7 @@ use Rattle.grib_bits.specs.Listed.{numbers_octets}
 use Rattle.grib_bits.proofs.Listed.{numbers_octets-more}
 use Rattle.grib_migrate.specs.declared.level.Surface.{Surface}
 use Rattle.grib_demote.specs.declared.level.Level.{Level}
-use Rattle.grib_demote.specs.declared.demotion.Demotion.TheVariants.{Coordinate}
+use Rattle.grib_causes.specs.declared.demotion.Demotion.TheVariants.{Coordinate}
 use Rattle.grib_demote.specs.declared.number.Number.TheVariants.{Four}
 use Rattle.grib_demote.specs.Numbers.{all_octets}
 use Rattle.grib_demote.specs.Words.{ibm_of}

@@ -45,7 +45,7 @@ parts_low word false = omega (arith, ints)
 ieee_low : (word : ℕ) → neg_ℤ (pos 280) ≤ℤ (ieee word).exponent
 ieee_low word = parts_low word (ieee_exponent word == 0)
 
-abbrev ibm_units : ℕ → ℕ
+abbrev pub ibm_units : ℕ → ℕ
 ibm_units x = ibm_b x * 2 ^ (4 * ibm_a x)
 
 scaled_ibm : (x : ℕ) → scaled (ibm x) (neg_ℤ (pos 280)) ≡ signed (x / 2 ^ 31 == 1) (ibm_units x)
@@ -158,11 +158,11 @@ placed word a small lt is =
     )
 
 -- the word of a number that is not 0
-record HasIbmWord (word x : ℕ) : Type 0 where
-  units_are : ibm_units x ≡ magnitude word
-  sign_is : x / 2 ^ 31 ≡ ieee_sign word
+pub record HasIbmWord (word x : ℕ) : Type 0 where
+  pub units_are : ibm_units x ≡ magnitude word
+  pub sign_is : x / 2 ^ 31 ≡ ieee_sign word
 
-has_word : (word x : ℕ) → word < 2 ^ 32 → 0 < magnitude word → IsIbmFor word x → HasIbmWord word x
+pub has_word : (word x : ℕ) → word < 2 ^ 32 → 0 < magnitude word → IsIbmFor word x → HasIbmWord word x
 has_word word x small some is =
     let n = magnitude word in
     let e = same_scaled word x is.number in
@@ -205,7 +205,7 @@ least_is word x small finite some is least =
         absurd (omega (arith, le, p.1))
 
 -- what is found is a word for the number
-found_stands : (word x : ℕ) → word < 2 ^ 32 → IsFinite word → 0 < magnitude word → ibm_of word ≡ Some x → IsIbmFor word x
+pub found_stands : (word x : ℕ) → word < 2 ^ 32 → IsFinite word → 0 < magnitude word → ibm_of word ≡ Some x → IsIbmFor word x
 found_stands word x small finite some e = by (find (stands_at (magnitude word)) (range_with_len 0 128)) refl (sym (nonzero_is word finite some) ∙ e)
   where
     by : (o : Option ℕ) → find (stands_at (magnitude word)) (range_with_len 0 128) ≡ o → option_map (ibm_at word) (find (stands_at (magnitude word)) (range_with_len 0 128)) ≡ Some x → IsIbmFor word x
@@ -217,7 +217,7 @@ found_stands word x small finite some e = by (find (stands_at (magnitude word)) 
 
 -- ---- zero
 
-zero_is : (word : ℕ) → IsFinite word → magnitude word ≡ 0 → ibm_of word ≡ Some 0
+pub zero_is : (word : ℕ) → IsFinite word → magnitude word ≡ 0 → ibm_of word ≡ Some 0
 zero_is word finite z =
     let rest = option_map (ibm_at word) (find (stands_at (magnitude word)) (range_with_len 0 128)) in
     ap (λ b. cond b None (cond (magnitude word == 0) (Some 0) rest)) (ne_eqb (ieee_exponent word) 255 (λ e. omega arith))

@@ -9,7 +9,6 @@ ghost use Rattle.grib2_products.specs.Whole.{IsWhole};
 ghost use Rattle.grib_demote.specs.Held.{Holds, IsDemoted, IsParameter, AreTimes};
 ghost use Rattle.grib_demote.specs.Products as products;
 
-use crate::Demotion;
 use crate::date::loses_date;
 use crate::field::Field;
 use crate::grid::{loses_flags, loses_rows, type_of};
@@ -18,6 +17,7 @@ use crate::product::{Told, has_local};
 use crate::time::{has_process, loses_interval, unit_of};
 use crate::word::ibm_of;
 use grib_bits::{u8_at, u16_at};
+use grib_causes::Demotion;
 use grib_params::{Table, Target};
 
 /// What Section 1 has of the product of a field, or the first thing of Sections 1 and 4, or of the template of

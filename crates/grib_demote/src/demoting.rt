@@ -19,6 +19,7 @@ ghost use Rattle.grib_demote.specs.Demoted.{demoted, first_loss};
 ghost use Rattle.grib_demote.specs.Answered.{IsDemoteFault};
 ghost use Rattle.grib_demote.specs.Held.{Holds, HoldsPacked, IsDemoted};
 
+use crate::DemoteFault;
 use crate::checking::{check_product, coordinate_loss, form_loss};
 use crate::field::{Field, there};
 use crate::grid::{add_header, add_template, type_of};
@@ -28,9 +29,9 @@ use crate::product::{Told, product_octets};
 use crate::tested::grid_loss;
 use crate::values::{add_bitmap, data_octets, has_bitmap};
 use crate::word::ibm_of;
-use crate::{DemoteFault, Demotion};
 use grib_base::List;
 use grib_bits::{u8_at, u16_at, u32_at};
+use grib_causes::Demotion;
 use grib_packed::laws::one_packing_is_written;
 use grib_packing::{PackFault, Packed, Packing};
 use grib_params::Table;

@@ -17,7 +17,7 @@ mod values;
 mod word;
 
 pub use demoting::demote;
-pub use demotion::{DemoteFault, Demotion};
+pub use demotion::DemoteFault;
 pub use level::Level;
 pub use number::Number;
 pub use tested::Tested;

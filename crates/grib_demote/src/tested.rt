@@ -5,9 +5,9 @@ ghost use Rattle.grib2_grids.specs.Whole.{IsWhole};
 ghost use Rattle.grib2_grids.specs.Grid as grid2;
 ghost use Rattle.grib_demote.specs.Grids as grids;
 
-use crate::Demotion;
 use crate::grid::{are_given, has_bit, is_listed};
 use grib_bits::{u8_at, u16_at, u32_at};
+use grib_causes::Demotion;
 
 /// A number of Section 3, by the first of its octets.
 #[derive(Clone, Copy, Debug)]

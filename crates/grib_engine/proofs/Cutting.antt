@@ -21,7 +21,7 @@ use Rattle.grib_stream.proofs.Exits.{within_short}
 use Rattle.grib_stream.proofs.Parts.{AsParts, parts_done}
 use Rattle.grib_engine.proofs.Keeping.{written_join}
 use Rattle.grib_engine.specs.declared.job.Job.{Job}
-use Rattle.grib_engine.specs.declared.job.Job.TheVariants.{Check, List as Listing, Stats, Dump, Filter, Split, Set, Repack, Rescan, Crop, Migrate, Make}
+use Rattle.grib_engine.specs.declared.job.Job.TheVariants.{Check, List as Listing, Keys, Stats, Dump, Filter, Split, Set, Repack, Rescan, Crop, Migrate, Demote, Make}
 use Rattle.grib_engine.specs.Command.{Command, IsLawfulCommand, given_unless, given_whole, kept_at, kept_first, changing_unless, task}
 use Rattle.grib_engine.specs.Each.{writes_each}
 use Rattle.grib_engine.specs.Filtering.{filtered, filter_command, filter_lawful}
@@ -29,6 +29,7 @@ use Rattle.grib_engine.specs.Jobs.{IsJob}
 use Rattle.grib_engine.specs.Judging.{judge}
 use Rattle.grib_engine.specs.Lawful.{lawful}
 use Rattle.grib_engine.specs.Migrating.{are_octets, migrate_command, migrate_lawful}
+use Rattle.grib_engine.specs.Demoting.{demoted_cause, demoted_fields, demote_command, demote_lawful}
 use Rattle.grib_engine.specs.Repacking.{repack_lawful}
 use Rattle.grib_engine.specs.Rescanning.{edit_lawful}
 use Rattle.grib_engine.specs.Setting.{set_lawful}
@@ -99,6 +100,13 @@ migrate_alone keep table =
     (given_by (option_map Lost (first_loss table keep message)) (migrated table keep message)) (given_always [] 0))
     (λ message. given_always (writes message) (length message))
 
+demote_alone : (keep any : Bool) (table : Entries) → StandsAlone (task (demote_command keep any table))
+demote_alone keep any table =
+    alone_by (task (demote_command keep any table)) (λ message number. given_whole message)
+    (λ message number. given_unless (demoted_cause table keep any message) number (demoted_fields table keep message)) refl
+    (λ message. given_always (writes message) (length message))
+    (λ message. given_by (demoted_cause table keep any message) (demoted_fields table keep message))
+
 -- ---- what is written of the parts
 
 -- what is answered to the whole, by what is answered to its first part, of this many messages, and to its second
@@ -140,6 +148,14 @@ migrate_parts keep (Good table) front rest fits ends done =
     written_parts (2 ^ 40) front rest fits ends (migrate_command keep table) (lawful (migrate_command keep table) (migrate_lawful keep table)) (migrate_alone keep table) done
 migrate_parts keep (Refused refusal) front rest fits ends done = let no : ⊥ = cc in absurd no
 
+demote_parts : (keep any : Bool) (t : Tabled) (front rest : List ℕ) → length (front ++ rest) ≤ 2 ^ 40 → EndsAtMessage judge front
+    → (answer_by t (demote_command keep any) front).outcome ≡ Done
+    → WrittenAsParts (answer_by t (demote_command keep any) (front ++ rest)) (answer_by t (demote_command keep any) front) (answer_by t (demote_command keep any) rest)
+    (message_count judge front)
+demote_parts keep any (Good table) front rest fits ends done =
+    written_parts (2 ^ 40) front rest fits ends (demote_command keep any table) (lawful (demote_command keep any table) (demote_lawful keep any table)) (demote_alone keep any table) done
+demote_parts keep any (Refused refusal) front rest fits ends done = let no : ⊥ = cc in absurd no
+
 pub job_parts : (job : Job) (text : Option (List ℕ)) (front rest : List ℕ) → IsJob job → writes_each job ≡ true → length (front ++ rest) ≤ 2 ^ 40 → EndsAtMessage judge front
     → (answer_with job text front).outcome ≡ Done
     → WrittenAsParts (answer_with job text (front ++ rest)) (answer_with job text front) (answer_with job text rest) (message_count judge front)
@@ -151,8 +167,10 @@ job_parts (Repack target) text front rest is each fits ends done = unless_parts 
 job_parts Rescan text front rest is each fits ends done = unless_parts (2 ^ 40) front rest fits ends _ _ (edit_lawful edits.Rescan) done
 job_parts (Crop area) text front rest is each fits ends done = unless_parts (2 ^ 40) front rest fits ends _ _ (edit_lawful (edits.Crop area)) done
 job_parts (Migrate params keep_local) text front rest is each fits ends done = migrate_parts keep_local (tabled text) front rest fits ends done
+job_parts (Demote params keep_local any_earth) text front rest is each fits ends done = demote_parts keep_local any_earth (tabled text) front rest fits ends done
 job_parts Check text front rest is each fits ends done = absurd (false≢true each)
 job_parts Listing text front rest is each fits ends done = absurd (false≢true each)
+job_parts Keys text front rest is each fits ends done = absurd (false≢true each)
 job_parts Stats text front rest is each fits ends done = absurd (false≢true each)
 job_parts (Dump decimals) text front rest is each fits ends done = absurd (false≢true each)
 job_parts (Split name) text front rest is each fits ends done = absurd (false≢true each)

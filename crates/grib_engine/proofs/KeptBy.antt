@@ -1,8 +1,12 @@
 -- What comes of a message that is kept by its cause, or for which there is no memory.
 use Rattle.std.proofs.Common.{◌≡◌, ℕ, Option, Some, option_map, List, [], refl, sym, ap, subst}
 use Rattle.grib_causes.specs.declared.cause.Cause.{Cause}
-use Rattle.grib_causes.specs.declared.cause.Cause.TheVariants.{Lost}
+use Rattle.grib_causes.specs.declared.cause.Cause.TheVariants.{Lost, Demoted}
+use Rattle.grib_causes.specs.declared.demotion.Demotion.{Demotion}
 use Rattle.grib_causes.specs.declared.loss.Loss.{Loss}
+use Rattle.grib_demote.specs.Answered.{IsDemoteFault}
+use Rattle.grib_demote.specs.declared.demotion.DemoteFault.{DemoteFault}
+use Rattle.grib_demote.specs.declared.demotion.DemoteFault.TheVariants as undemoted
 use Rattle.grib_migrate.specs.Answered.{IsMigrateFault}
 use Rattle.grib_migrate.specs.declared.loss.MigrateFault.{MigrateFault}
 use Rattle.grib_migrate.specs.declared.loss.MigrateFault.TheVariants as unmigrated
@@ -21,19 +25,11 @@ use Rattle.grib_stream.specs.Acts.{world}
 use Rattle.grib_stream.proofs.Worlds.{did_none}
 use Rattle.grib_engine.specs.declared.answered.Answered.{Answered}
 use Rattle.grib_engine.specs.declared.answered.Answered.TheVariants.{Whole, Kept, WriteFault, ShelfFault, Memory}
-use Rattle.grib_engine.specs.Answering.{AnswersByOutput, acts_given, answered_by, answered_unset, answered_lost}
+use Rattle.grib_engine.specs.Answering.{AnswersByOutput, acts_given, answered_by, answered_unset, answered_lost, answered_undemoted, IsKept}
 use Rattle.grib_engine.specs.Command.{given_unless}
 use Rattle.grib_engine.specs.Repacking.{cause_of}
 use Rattle.grib_engine.specs.Rescanning.{edit_cause, answered_unedited}
 use Rattle.grib_engine.specs.Setting.{set_cause}
-
--- a message with this cause is kept by it, or there was no memory
-abbrev pub IsKept : Option Cause → Answered → Type 0
-IsKept cause (Whole written) = ⊥
-IsKept cause (Kept own) = cause ≡ Some own
-IsKept cause WriteFault = ⊥
-IsKept cause ShelfFault = ⊥
-IsKept cause Memory = Unit {0}
 
 -- ---- the faults of what changes messages
 
@@ -63,10 +59,14 @@ pub not_migrated : (loss : Option Loss) (fault : MigrateFault) → IsMigrateFaul
 not_migrated loss (unmigrated.Lost own) is = ap (option_map Lost) is
 not_migrated loss unmigrated.Memory is = tt
 
+pub not_demoted : (field : ℕ) (loss : Option Demotion) (fault : DemoteFault) → IsDemoteFault loss fault → IsKept (option_map (Demoted field) loss) (answered_undemoted field fault)
+not_demoted field loss (undemoted.Lost own) is = ap (option_map (Demoted field)) is
+not_demoted field loss undemoted.Memory is = tt
+
 -- ---- by the output alone, which stays as it is
 
 module _ {Sink : Type 0} (contents : Sink → Option (List ℕ)) (faults : Sink → ℕ) where
-  kept : (answered : Answered) (cause : Option Cause) (m : ℕ) (octets : List ℕ) (a : Sink) → IsKept cause answered
+  pub kept : (answered : Answered) (cause : Option Cause) (m : ℕ) (octets : List ℕ) (a : Sink) → IsKept cause answered
       → AnswersByOutput contents faults answered m (given_unless cause m octets) a a
   kept (Whole written) cause m octets a is = absurd is
   kept (Kept own) cause m octets a is = record {

@@ -13,5 +13,6 @@ pub mod Shelved
 pub mod Standing
 pub mod Tabled
 pub mod Migrations
+pub mod Demoted
 pub mod Causes
 pub mod Cutting

@@ -1,5 +1,5 @@
 -- What answering a message does.
-use Rattle.std.specs.Prelude.{◌≡◌, ◌≢◌, ℕ, Bool, true, false, List, [], Ok, Err}
+use Rattle.std.specs.Prelude.{◌≡◌, ◌≢◌, ℕ, Bool, true, false, Some, List, [], Ok, Err}
 use Rattle.std.specs.declared.option.Option.{Option}
 use Rattle.std.specs.declared.result.Result.{Result}
 use Rattle.grib_io.specs.Outside.{Counted}
@@ -8,11 +8,14 @@ use Rattle.grib_io.specs.declared.outside.Stop.{Stop}
 use Rattle.grib_io.specs.declared.outside.Stop.TheVariants as stops
 use Rattle.grib_stream.specs.Acts.{Act, World, world, Did, DidFront}
 use Rattle.grib_stream.specs.Task.{Given, Gives, Ends}
+use Rattle.grib_causes.specs.declared.cause.Cause.{Cause}
 use Rattle.grib_causes.specs.declared.cause.Cause.TheVariants as causes
 use Rattle.grib_repack.specs.declared.fault.RepackFault.{RepackFault}
 use Rattle.grib_repack.specs.declared.fault.RepackFault.TheVariants as faults
 use Rattle.grib_migrate.specs.declared.loss.MigrateFault.{MigrateFault}
 use Rattle.grib_migrate.specs.declared.loss.MigrateFault.TheVariants as unmigrated
+use Rattle.grib_demote.specs.declared.demotion.DemoteFault.{DemoteFault}
+use Rattle.grib_demote.specs.declared.demotion.DemoteFault.TheVariants as undemoted
 use Rattle.grib_select.specs.declared.changing.SetFault.{SetFault}
 use Rattle.grib_select.specs.declared.changing.SetFault.TheVariants as unset
 use Rattle.grib_engine.specs.declared.answered.Answered.{Answered}
@@ -50,6 +53,19 @@ answered_unset unset.Memory = Memory
 abbrev pub answered_lost : MigrateFault → Answered
 answered_lost (unmigrated.Lost loss) = Kept (causes.Lost loss)
 answered_lost unmigrated.Memory = Memory
+
+-- what comes of a message of which this field is not demoted
+abbrev pub answered_undemoted : ℕ → DemoteFault → Answered
+answered_undemoted field (undemoted.Lost loss) = Kept (causes.Demoted field loss)
+answered_undemoted field undemoted.Memory = Memory
+
+-- a message with this cause is kept by it, or there was no memory
+abbrev pub IsKept : Option Cause → Answered → Type 0
+IsKept cause (Whole written) = ⊥
+IsKept cause (Kept own) = cause ≡ Some own
+IsKept cause WriteFault = ⊥
+IsKept cause ShelfFault = ⊥
+IsKept cause Memory = Unit {0}
 
 -- what comes of a message within whose result the output stopped
 abbrev pub answered_stopped : Stop → Answered

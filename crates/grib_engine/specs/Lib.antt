@@ -11,6 +11,7 @@ pub mod PartOctets
 pub mod Shelving
 pub mod Checking
 pub mod Listing
+pub mod Keying
 pub mod Dumping
 pub mod Valuing
 pub mod Summing
@@ -20,6 +21,7 @@ pub mod Setting
 pub mod Repacking
 pub mod Rescanning
 pub mod Migrating
+pub mod Demoting
 pub mod Tasks
 pub mod Each
 pub mod Lawful

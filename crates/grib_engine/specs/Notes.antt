@@ -4,8 +4,9 @@ use Rattle.std.specs.Fmt.{decimal}
 use Rattle.grib_keys.specs.Keys.{name_of}
 use Rattle.grib_stream.specs.declared.place.Totals.{Totals}
 use Rattle.grib_causes.specs.declared.cause.Cause.{Cause}
-use Rattle.grib_causes.specs.declared.cause.Cause.TheVariants.{EditionOne, SecondaryMissing, OutOfRange, DifferenceRange, OutputTooLong, KeyRange, KeyAbsent, Lost, GridKind, ScanMode, OutsideBox, Increments, DecimalRange}
+use Rattle.grib_causes.specs.declared.cause.Cause.TheVariants.{EditionOne, SecondaryMissing, OutOfRange, DifferenceRange, OutputTooLong, KeyRange, KeyAbsent, Lost, GridKind, ScanMode, OutsideBox, Increments, DecimalRange, Demoted}
 use Rattle.grib_causes.specs.Losses as losses
+use Rattle.grib_causes.specs.Demotions as demotions
 use Rattle.grib_causes.specs.declared.table.TableRefusal.{TableRefusal}
 use Rattle.grib_causes.specs.declared.table.TableRefusal.TheVariants.{Absent, TooLarge, Row, Duplicate}
 
@@ -23,6 +24,12 @@ abbrev pub note_of_loss : ℕ → List ℕ → Option ℕ → List ℕ
 note_of_loss m name None = codes "kept message " ++ decimal m ++ codes " Loss " ++ name ++ 10 ∷ []
 note_of_loss m name (Some number) =
     codes "kept message " ++ decimal m ++ codes " Loss " ++ name ++ codes " " ++ decimal number ++ 10 ∷ []
+
+-- message m is kept by the loss of this name in a field, with the number of the loss where it has one
+abbrev pub note_of_demotion : ℕ → List ℕ → Option ℕ → ℕ → List ℕ
+note_of_demotion m name None field = codes "kept message " ++ decimal m ++ codes " Demotion " ++ name ++ codes " field " ++ decimal field ++ 10 ∷ []
+note_of_demotion m name (Some number) field =
+    codes "kept message " ++ decimal m ++ codes " Demotion " ++ name ++ codes " " ++ decimal number ++ codes " field " ++ decimal field ++ 10 ∷ []
 
 -- message m is kept by the key of this name, whose value does not fit, or which a field has not
 abbrev pub note_at_key : ℕ → List ℕ → List ℕ
@@ -47,6 +54,7 @@ kept_note m (ScanMode field) = note_in_field m (codes "ScanMode") field
 kept_note m (OutsideBox field) = note_in_field m (codes "OutsideBox") field
 kept_note m (Increments field) = note_in_field m (codes "Increments") field
 kept_note m (DecimalRange field point) = note_at_point m (codes "DecimalRange") field point
+kept_note m (Demoted field loss) = note_of_demotion m (demotions.name_of loss) (demotions.number_of loss) field
 
 -- the parameter table is refused, and by what
 abbrev pub table_note : TableRefusal → List ℕ

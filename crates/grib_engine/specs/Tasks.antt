@@ -13,14 +13,16 @@ use Rattle.grib_causes.specs.declared.table.TableRefusal.{TableRefusal}
 use Rattle.grib_params.specs.Table.{Entries}
 use Rattle.grib_table.specs.Tabled.{Tabled, Good, Refused, tabled}
 use Rattle.grib_engine.specs.declared.job.Job.{Job}
-use Rattle.grib_engine.specs.declared.job.Job.TheVariants.{Check, List as Listing, Stats, Dump, Filter, Split, Set, Repack, Rescan, Crop, Migrate, Make}
+use Rattle.grib_engine.specs.declared.job.Job.TheVariants.{Check, List as Listing, Keys, Stats, Dump, Filter, Split, Set, Repack, Rescan, Crop, Migrate, Demote, Make}
 use Rattle.grib_engine.specs.Checking.{check_command}
 use Rattle.grib_engine.specs.Command.{Command, task}
 use Rattle.grib_engine.specs.Dumping.{dump_command}
 use Rattle.grib_engine.specs.Filtering.{filter_command}
 use Rattle.grib_engine.specs.Listing.{list_command}
+use Rattle.grib_engine.specs.Keying.{keys_command}
 use Rattle.grib_engine.specs.Notes.{made_note}
 use Rattle.grib_engine.specs.Migrating.{migrate_command}
+use Rattle.grib_engine.specs.Demoting.{demote_command}
 use Rattle.grib_engine.specs.Outcomes.{note_of}
 use Rattle.grib_engine.specs.Repacking.{repack_command}
 use Rattle.grib_engine.specs.Rescanning.{edit_command}
@@ -54,6 +56,7 @@ pub data Work : Type 0 where
 abbrev pub work_of : Job → Work
 work_of Check = Reads check_command
 work_of Listing = Reads list_command
+work_of Keys = Reads keys_command
 work_of Stats = Reads stats_command
 work_of (Dump None) = Reads dump_command
 work_of (Dump (Some places)) = Reads (value_command places)
@@ -64,6 +67,7 @@ work_of (Repack target) = Reads (repack_command target)
 work_of Rescan = Reads (edit_command edits.Rescan)
 work_of (Crop area) = Reads (edit_command (edits.Crop area))
 work_of (Migrate params keep_local) = ReadsTable params (migrate_command keep_local)
+work_of (Demote params keep_local any_earth) = ReadsTable params (demote_command keep_local any_earth)
 work_of (Make seed ni nj target) = Makes (made_answer seed ni nj target)
 
 -- what holds of the command of a job that reads its input, by the table where it reads one

@@ -11,9 +11,11 @@ use crate::answered::Answered;
 use crate::answerer::{Answerer, ByOutput};
 use crate::changing::Changing;
 use crate::checking::Checking;
+use crate::demoting::Demoting;
 use crate::dumping::Dumping;
 use crate::filtering::Filtering;
 use crate::job::Job;
+use crate::keying::Keying;
 use crate::listing::Listing;
 use crate::migrating::Migrating;
 use crate::printing::Printing;
@@ -23,6 +25,7 @@ use crate::rescanning::Rescanning;
 use crate::setting::Setting;
 use crate::splitting::Splitting;
 use crate::summing::Summing;
+use crate::tabling::ByTable;
 use crate::valuing::Valuing;
 use grib_io::{Shelf, Sink};
 use grib_params::Table;
@@ -54,6 +57,14 @@ pub fn answer_message<T: Sink, H: Shelf>(
         Job::Check => answer_held(&ByOutput(Checking), alloc, place, held, output, shelf),
         Job::List => answer_held(
             &ByOutput(Printing(Listing)),
+            alloc,
+            place,
+            held,
+            output,
+            shelf,
+        ),
+        Job::Keys => answer_held(
+            &ByOutput(Printing(Keying)),
             alloc,
             place,
             held,
@@ -150,8 +161,24 @@ pub fn answer_message<T: Sink, H: Shelf>(
         Job::Migrate { keep_local, .. } => match table {
             Some(table) => {
                 let keep_local = *keep_local;
-                let migrating = ByOutput(Migrating { table, keep_local });
-                answer_held(&migrating, alloc, place, held, output, shelf)
+                let writer = &Migrating { keep_local };
+                let by_table = ByOutput(ByTable { writer, table });
+                answer_held(&by_table, alloc, place, held, output, shelf)
+            }
+            None => Answered::Whole(0),
+        },
+        Job::Demote {
+            keep_local,
+            any_earth,
+            ..
+        } => match table {
+            Some(table) => {
+                let writer = &Demoting {
+                    keep_local: *keep_local,
+                    any_earth: *any_earth,
+                };
+                let by_table = ByOutput(ByTable { writer, table });
+                answer_held(&by_table, alloc, place, held, output, shelf)
             }
             None => Answered::Whole(0),
         },

@@ -16,6 +16,8 @@ pub enum Job {
     Check,
     /// A line for each field.
     List,
+    /// A line for each field with each key that the field has.
+    Keys,
     /// For each field how many of its points are present and missing, its least and its greatest scaled number,
     /// and its reference line.
     Stats,
@@ -43,6 +45,15 @@ pub enum Job {
         params: Name,
         /// Whether octets for the centre's own use are kept.
         keep_local: bool,
+    },
+    /// Each field of a message of edition 2 as a message of edition 1, by the table that stands on the shelf under
+    /// this name, and each message of edition 1 as it is.
+    Demote {
+        params: Name,
+        /// Whether octets for the centre's own use are kept.
+        keep_local: bool,
+        /// Whether the shape of the earth is not told where edition 1 has no place for it.
+        any_earth: bool,
     },
     /// A message of `nj` rows of `ni` points, made from the number `seed`, with its field packed anew. No
     /// input is read.

@@ -62,9 +62,9 @@ pub fn what_is_split_stands_whole()
 {}
 
 /// Where an input is cut at the end of one of its messages, and all messages before it are answered, then `filter`,
-/// `set`, `repack`, `rescan`, `crop` and `migrate` write of the whole what they write of the parts, one after the
-/// other, whatever stands on the shelf under the name of the table. The whole ends as the second part does, up to the
-/// numbers of messages.
+/// `set`, `repack`, `rescan`, `crop`, `migrate` and `demote` write of the whole what they write of the parts, one
+/// after the other, whatever stands on the shelf under the name of the table. The whole ends as the second part
+/// does, up to the numbers of messages.
 pub fn parts_are_written_one_after_the_other()
     ensures octets { (job : Job) (text : Option (List ℕ)) (front rest : List ℕ) → IsJob job → writes_each job ≡ true
         → length (front ++ rest) ≤ 2 ^ 40 → EndsAtMessage judge front

@@ -5,45 +5,44 @@ ghost use Rattle.grib_engine.specs.Answering.{answered_lost};
 ghost use Rattle.grib_engine.specs.Migrating.{are_octets};
 
 use crate::answered::{Answered, written};
-use crate::answerer::Writer;
-use crate::ending::Ending;
+use crate::tabling::TableWriter;
 use crate::writing::write_counted;
 use grib_io::Sink;
 use grib_migrate::{MigrateFault, migrate};
 use grib_params::Table;
-use grib_stream::{Cause, Place};
+use grib_stream::Cause;
 use grib1_sections::Message1;
 use grib2_message::Message;
 use std::alloc::Global;
 
 /// The command `migrate`.
-#[derive(Debug, Drop)]
-pub struct Migrating<'a> {
-    /// The parameters of edition 2 for those of edition 1.
-    pub table: &'a Table,
+#[derive(Clone, Copy, Debug)]
+pub struct Migrating {
     /// Whether octets for the centre's own use are kept.
     pub keep_local: bool,
 }
 
-impl Writer for Migrating<'_> {
+impl TableWriter for Migrating {
     ghost use Rattle.std.specs.Prelude.{refl};
     ghost use Rattle.grib_engine.specs.Migrating.{migrate_command, migrate_lawful};
 
-    ghost definition = { λ migrating. migrate_command migrating.keep_local migrating.table.now };
+    ghost commands = { λ migrating. migrate_command migrating.keep_local };
 
-    ghost lawful = { λ migrating. migrate_lawful migrating.keep_local migrating.table.now };
+    ghost lawful = { λ migrating table. migrate_lawful migrating.keep_local table };
 
-    ghost unshelved = { λ migrating. refl };
+    ghost written = { λ migrating table. refl };
+
+    ghost unshelved = { λ migrating table. refl };
 
     fn first<T: Sink>(
         &self,
         alloc: Global,
-        _place: &Place,
+        table: &Table,
         message: &Message1<'_>,
         output: &mut T,
     ) -> Answered {
         has_octets(message);
-        match migrate(alloc, message, self.table, self.keep_local) {
+        match migrate(alloc, message, table, self.keep_local) {
             Ok(octets) => written(write_counted(output, octets.as_slice())),
             Err(fault) => kept_by(fault),
         }
@@ -52,15 +51,11 @@ impl Writer for Migrating<'_> {
     fn second<T: Sink>(
         &self,
         _alloc: Global,
-        _place: &Place,
+        _table: &Table,
         message: &Message<'_>,
         output: &mut T,
     ) -> Answered {
         written(write_counted(output, message.octets()))
-    }
-
-    fn ending(&self) -> Ending {
-        Ending::Written
     }
 }
 

@@ -1,12 +1,12 @@
 //! The notes on what was changed, kept or made.
 
 ghost use Rattle.std.specs.Prelude.{◌≡◌, string_bytes, IfOk};
-ghost use Rattle.grib_causes.specs.declared.cause.Cause.TheVariants.{Lost};
+ghost use Rattle.grib_causes.specs.declared.cause.Cause.TheVariants.{Demoted, Lost};
 ghost use Rattle.grib_engine.specs.Notes as notes;
 ghost use Rattle.grib_engine.specs.Outcomes.{note_of};
 ghost use Rattle.grib_stream.specs.declared.outcome.Outcome.TheVariants.{Usage};
 
-use grib_causes::{Cause, Kept, Loss, TableRefusal};
+use grib_causes::{Cause, Demotion, Kept, Loss, TableRefusal};
 use grib_stream::Totals;
 use std::alloc::{AllocError, Global};
 
@@ -46,6 +46,7 @@ fn kept_text(alloc: Global, message: u64, cause: &Cause) -> Result<String, Alloc
         Cause::KeyRange { key } => text_at_key(alloc, message, key.name()),
         Cause::KeyAbsent { field, key } => { text_without_key(alloc, message, key.name(), field) }
         Cause::Lost(loss) => lost_text(alloc, message, &loss),
+        Cause::Demoted { field, loss } => demoted_text(alloc, message, &loss, field),
         Cause::GridKind { field } => text_in_field(alloc, message, "GridKind", field),
         Cause::ScanMode { field } => text_in_field(alloc, message, "ScanMode", field),
         Cause::OutsideBox { field } => text_in_field(alloc, message, "OutsideBox", field),
@@ -107,6 +108,51 @@ fn text_of_numbered_loss(
         string_bytes text ≡ notes.note_of_loss message name.now (Some number)) }
 {
     let text = format!(in alloc; "kept message {message} Loss {name} {number}\n")?;
+    Ok(text)
+}
+
+/// The text of that note, by this loss of a field.
+fn demoted_text(
+    alloc: Global,
+    message: u64,
+    loss: &Demotion,
+    field: u32,
+) -> Result<String, AllocError>
+    ensures { IfOk result (λ text. string_bytes text ≡ notes.kept_note message (Demoted field loss.now)) }
+{
+    match loss.number() {
+        Some(number) => text_of_numbered_demotion(alloc, message, loss.name(), number, field),
+        None => text_of_demotion(alloc, message, loss.name(), field),
+    }
+}
+
+/// The text of that note, by a loss of this name of a field that has no number.
+fn text_of_demotion(
+    alloc: Global,
+    message: u64,
+    name: &str,
+    field: u32,
+) -> Result<String, AllocError>
+    ensures { IfOk result (λ text. string_bytes text ≡ notes.note_of_demotion message name.now None field) }
+{
+    let text = format!(in alloc; "kept message {message} Demotion {name} field {field}\n")?;
+    Ok(text)
+}
+
+/// The text of that note, by a loss of this name of a field, with its number.
+fn text_of_numbered_demotion(
+    alloc: Global,
+    message: u64,
+    name: &str,
+    number: u64,
+    field: u32,
+) -> Result<String, AllocError>
+    ensures { IfOk result (λ text.
+        string_bytes text ≡ notes.note_of_demotion message name.now (Some number) field) }
+{
+    let text = format!(in alloc;
+        "kept message {message} Demotion {name} {number} field {field}\n"
+    )?;
     Ok(text)
 }
 

@@ -2,7 +2,6 @@
 
 ghost use Rattle.std.specs.Prelude.{◌≡◌, ◌≢◌, ◌⊎◌, ◌<◌, true, false};
 ghost use Rattle.std.specs.Io.KnownBytes.{Keeps};
-ghost use Rattle.grib_engine.specs.Migrating.{migrate_command};
 ghost use Rattle.grib_io.specs.Shelves.{Stays};
 ghost use Rattle.grib_stream.specs.Acts.{world};
 ghost use Rattle.grib_stream.specs.Outcomes.{is_cut_short};
@@ -18,9 +17,11 @@ use crate::answerer::{Answerer, ByOutput};
 use crate::changing::Changing;
 use crate::checking::Checking;
 use crate::closing::close_with_note;
+use crate::demoting::Demoting;
 use crate::dumping::Dumping;
 use crate::filtering::Filtering;
 use crate::job::Job;
+use crate::keying::Keying;
 use crate::listing::Listing;
 use crate::making::serve_made;
 use crate::migrating::Migrating;
@@ -32,6 +33,7 @@ use crate::rescanning::Rescanning;
 use crate::setting::Setting;
 use crate::splitting::Splitting;
 use crate::summing::Summing;
+use crate::tabling::{ByTable, TableWriter};
 use crate::valuing::Valuing;
 use grib_io::{Shelf, Sink, Source};
 use grib_rescanned::GridEdit;
@@ -40,9 +42,9 @@ use grib_table::{TableStop, read_table};
 use std::alloc::Global;
 
 /// Writes the answer to the job to `output`, and notes how the run ended. The answer is a function of the
-/// job, the input and, for `migrate`, the table that stands on the shelf; it does not depend on how the input
-/// comes in pieces. `make` reads no input. `split` puts fields on the shelf, and `migrate` reads its table there
-/// before any input; no other job uses the shelf.
+/// job, the input and, for `migrate` and `demote`, the table that stands on the shelf; it does not depend on how
+/// the input comes in pieces. `make` reads no input. `split` puts fields on the shelf, `migrate` and `demote` read
+/// their table there before any input, and no other job uses the shelf.
 pub fn serve<S: Source, T: Sink, N: Sink, H: Shelf>(
     alloc: Global,
     job: &Job,
@@ -108,6 +110,14 @@ fn serve_job<S: Source, T: Sink, N: Sink, H: Shelf>(
             notes,
             shelf,
         ),
+        Job::Keys => serve_messages(
+            &ByOutput(Printing(Keying)),
+            alloc,
+            input,
+            output,
+            notes,
+            shelf,
+        ),
         Job::Stats => serve_messages(
             &ByOutput(Printing(Summing)),
             alloc,
@@ -162,7 +172,29 @@ fn serve_job<S: Source, T: Sink, N: Sink, H: Shelf>(
             serve_messages(&cropping, alloc, input, output, notes, shelf)
         }
         Job::Migrate { params, keep_local } => {
-            serve_migrated(alloc, params, *keep_local, input, output, notes, shelf)
+            let keep_local = *keep_local;
+            serve_tabled(
+                &Migrating { keep_local },
+                alloc,
+                params,
+                input,
+                output,
+                notes,
+                shelf,
+            )
+        }
+        Job::Demote {
+            params,
+            keep_local,
+            any_earth,
+        } => {
+            let keep_local = *keep_local;
+            let any_earth = *any_earth;
+            let demoting = Demoting {
+                keep_local,
+                any_earth,
+            };
+            serve_tabled(&demoting, alloc, params, input, output, notes, shelf)
         }
         Job::Make {
             seed,
@@ -174,26 +206,26 @@ fn serve_job<S: Source, T: Sink, N: Sink, H: Shelf>(
 }
 
 /// Reads the table under this name, and then answers the messages of the input by it.
-fn serve_migrated<S: Source, T: Sink, N: Sink, H: Shelf>(
+fn serve_tabled<W: TableWriter, S: Source, T: Sink, N: Sink, H: Shelf>(
+    writer: &W,
     alloc: Global,
     params: &Name,
-    keep_local: bool,
     input: &mut S,
     output: &mut T,
     notes: &mut N,
     shelf: &mut H,
 ) -> Outcome
     ensures { Serves S.left S.faults T.contents T.faults T.settled N.contents N.faults N.settled
-        H.contents H.faults (ReadsTable params.now (migrate_command keep_local)) result input.old input.new
+        H.contents H.faults (ReadsTable params.now (W.commands writer.now)) result input.old input.new
         output.old output.new notes.old notes.new shelf.old shelf.new }
 {
     match read_table(alloc, params.as_str(), shelf) {
         Ok(table) => {
-            let migrating = ByOutput(Migrating {
+            let by_table = ByOutput(ByTable {
+                writer,
                 table: &table,
-                keep_local,
             });
-            serve_messages(&migrating, alloc, input, output, notes, shelf)
+            serve_messages(&by_table, alloc, input, output, notes, shelf)
         }
         Err(TableStop::Refused(refusal)) => {
             close_with_note(alloc, Outcome::TableRefused(refusal), b"", output, notes)

@@ -4,16 +4,17 @@ use Rattle.std.specs.Prelude.{ℕ, Bool, true, false, cond, ◌==◌, ◌+◌, O
 use Rattle.std.specs.List.{find, list_any}
 use Rattle.std.specs.Str.{bytes_eq}
 use Rattle.grib_keys.specs.declared.table.Octets.{Octets}
+use Rattle.grib_keys.specs.declared.table.Layout.{Layout}
 use Rattle.grib_keys.specs.declared.table.Place.{Place}
-use Rattle.grib_keys.specs.declared.table.Place.TheVariants.{At, ScanningMode, FirstPoint, Member}
+use Rattle.grib_keys.specs.declared.table.Place.TheVariants.{At, ScanningMode, FirstPoint, Ensemble, Interval, FirstRange}
 use Rattle.grib_keys.specs.declared.table.Kind.{Kind}
 use Rattle.grib_keys.specs.declared.key.Key.{Key}
-use Rattle.grib_keys.specs.declared.key.Key.TheVariants.{Discipline, Centre, SubCentre, MasterTables, LocalTables, Significance, Year, Month, Day, Hour, Minute, Second, Status, DataType, EarthShape, Points, GridTemplate, Ni, Nj, Scanning, La1, Lo1, ProductTemplate, Category, Number, Process, Generator, TimeUnit, ForecastTime, Surface1, Surface1Scale, Surface1Value, EnsembleNumber, Packing, Bits}
+use Rattle.grib_keys.specs.declared.key.Key.TheVariants.{Discipline, Centre, SubCentre, MasterTables, LocalTables, Significance, Year, Month, Day, Hour, Minute, Second, Status, DataType, EarthShape, Points, GridTemplate, Ni, Nj, Scanning, La1, Lo1, ProductTemplate, Category, Number, Process, Generator, TimeUnit, ForecastTime, Surface1, Surface1Scale, Surface1Value, Surface2, Surface2Scale, Surface2Value, EnsembleType, EnsembleNumber, EnsembleMembers, EndYear, EndMonth, EndDay, EndHour, EndMinute, EndSecond, RangeProcess, RangeIncrementType, RangeUnit, RangeLength, Packing, Bits}
 
--- the octets of a number by the template of its section; none where the template has no such number.
--- Sections 0 and 1 have no template, and theirs are the same for each number.
-abbrev pub at : ℕ → ℕ → ℕ → Option Octets
-at first last template = Some (record { first = first; last = last })
+-- the octets of a number by the layout of its section; none where a section of this layout has no such number.
+-- Sections 0 and 1 have no template, and theirs are the same for each layout.
+abbrev pub at : ℕ → ℕ → Layout → Option Octets
+at first last layout = Some (record { first = first; last = last })
 
 -- whether the template is one of these
 abbrev pub is_of : List ℕ → ℕ → Bool
@@ -24,26 +25,44 @@ abbrev pub is_by_angles : ℕ → Bool
 is_by_angles = is_of (0 ∷ 1 ∷ 40 ∷ [])
 
 -- the scanning mode: templates 3.0, 3.1, 3.40; 3.10; 3.20, 3.30
-abbrev pub scanning_place : ℕ → Option Octets
-scanning_place template =
-    cond (is_by_angles template) (at 72 72 template)
-    (cond (is_of (10 ∷ []) template) (at 60 60 template)
-    (cond (is_of (20 ∷ 30 ∷ []) template) (at 65 65 template) None))
+abbrev pub scanning_place : Layout → Option Octets
+scanning_place layout =
+    cond (is_by_angles layout.template) (at 72 72 layout)
+    (cond (is_of (10 ∷ []) layout.template) (at 60 60 layout)
+    (cond (is_of (20 ∷ 30 ∷ []) layout.template) (at 65 65 layout) None))
 
 -- an angle of the first grid point, four octets from here in grids by latitude and longitude, else from there
-abbrev pub first_point : ℕ → ℕ → ℕ → Option Octets
-first_point here there template = cond (is_by_angles template) (at here (here + 3) template) (at there (there + 3) template)
+abbrev pub first_point : ℕ → ℕ → Layout → Option Octets
+first_point here there layout =
+    cond (is_by_angles layout.template) (at here (here + 3) layout) (at there (there + 3) layout)
 
--- the number of a member of an ensemble: templates 4.1 and 4.11 alone have it
-abbrev pub ensemble_place : ℕ → Option Octets
-ensemble_place template = cond (is_of (1 ∷ 11 ∷ []) template) (at 36 36 template) None
+-- a number of an ensemble: templates 4.1 and 4.11 alone have it
+abbrev pub ensemble_place : ℕ → ℕ → Layout → Option Octets
+ensemble_place first last layout = cond (is_of (1 ∷ 11 ∷ []) layout.template) (at first last layout) None
 
--- the octets of a number that stands at this place, by the template of its section
-abbrev pub octets_by : Place → ℕ → Option Octets
-octets_by (At octets) template = Some octets
-octets_by ScanningMode template = scanning_place template
-octets_by (FirstPoint here there) template = first_point here there template
-octets_by Member template = ensemble_place template
+-- a number of an interval: at these octets in template 4.8, three octets later in template 4.11, whose
+-- octets 35-37 are the ensemble's
+abbrev pub interval_place : ℕ → ℕ → Layout → Option Octets
+interval_place first last layout =
+    cond (layout.template == 8) (at first last layout)
+    (cond (layout.template == 11) (at (first + 3) (last + 3) layout) None)
+
+-- a number of the first time range of an interval, which stands there where the interval has a time range
+abbrev pub range_place : ℕ → ℕ → Layout → Option Octets
+range_place first last layout = cond (layout.ranges == 0) None (interval_place first last layout)
+
+-- the octets of a number that stands at this place, by the layout of its section
+abbrev pub octets_by : Place → Layout → Option Octets
+octets_by (At octets) layout = Some octets
+octets_by ScanningMode layout = scanning_place layout
+octets_by (FirstPoint here there) layout = first_point here there layout
+octets_by (Ensemble octets) layout = ensemble_place octets.first octets.last layout
+octets_by (Interval first last) layout = interval_place first last layout
+octets_by (FirstRange first last) layout = range_place first last layout
+
+-- a layout in which all keys of the section with this number stand: templates 3.1 and 4.11, with a time range
+abbrev pub full_layout : ℕ → Layout
+full_layout section = cond (section == 4) (record { template = 11; ranges = 1 }) (record { template = 1; ranges = 0 })
 
 -- a number with a sign has sign and magnitude; one that may be missing is missing where all its bits are 1
 abbrev pub unsigned : Kind
@@ -65,14 +84,14 @@ fixed = record { is_signed = false; may_be_missing = false; can_set = false }
 abbrev pub fixed_or_missing : Kind
 fixed_or_missing = record { is_signed = false; may_be_missing = true; can_set = false }
 
--- a key's name, its section, its place there by the section's template, and its kind
+-- a key's name, its section, its place there by the section's layout, and its kind
 pub record Row : Type 0 where
   pub name : List ℕ
   pub section : ℕ
-  pub place : ℕ → Option Octets
+  pub place : Layout → Option Octets
   pub kind : Kind
 
-abbrev pub row : List ℕ → ℕ → (ℕ → Option Octets) → Kind → Row
+abbrev pub row : List ℕ → ℕ → (Layout → Option Octets) → Kind → Row
 row name section place kind = record { name = name; section = section; place = place; kind = kind }
 
 abbrev pub row_of : Key → Row
@@ -108,13 +127,28 @@ row_of ForecastTime = row (codes "forecastTime") 4 (at 19 22) signed
 row_of Surface1 = row (codes "surface1") 4 (at 23 23) unsigned_or_missing
 row_of Surface1Scale = row (codes "surface1Scale") 4 (at 24 24) signed_or_missing
 row_of Surface1Value = row (codes "surface1Value") 4 (at 25 28) unsigned_or_missing
-row_of EnsembleNumber = row (codes "ensembleNumber") 4 ensemble_place unsigned
+row_of Surface2 = row (codes "surface2") 4 (at 29 29) unsigned_or_missing
+row_of Surface2Scale = row (codes "surface2Scale") 4 (at 30 30) signed_or_missing
+row_of Surface2Value = row (codes "surface2Value") 4 (at 31 34) unsigned_or_missing
+row_of EnsembleType = row (codes "ensembleType") 4 (ensemble_place 35 35) unsigned
+row_of EnsembleNumber = row (codes "ensembleNumber") 4 (ensemble_place 36 36) unsigned
+row_of EnsembleMembers = row (codes "ensembleMembers") 4 (ensemble_place 37 37) unsigned
+row_of EndYear = row (codes "endYear") 4 (interval_place 35 36) unsigned
+row_of EndMonth = row (codes "endMonth") 4 (interval_place 37 37) unsigned
+row_of EndDay = row (codes "endDay") 4 (interval_place 38 38) unsigned
+row_of EndHour = row (codes "endHour") 4 (interval_place 39 39) unsigned
+row_of EndMinute = row (codes "endMinute") 4 (interval_place 40 40) unsigned
+row_of EndSecond = row (codes "endSecond") 4 (interval_place 41 41) unsigned
+row_of RangeProcess = row (codes "rangeProcess") 4 (range_place 47 47) unsigned
+row_of RangeIncrementType = row (codes "rangeIncrementType") 4 (range_place 48 48) unsigned
+row_of RangeUnit = row (codes "rangeUnit") 4 (range_place 49 49) unsigned
+row_of RangeLength = row (codes "rangeLength") 4 (range_place 50 53) unsigned
 row_of Packing = row (codes "packing") 5 (at 10 11) fixed
 row_of Bits = row (codes "bits") 5 (at 20 20) fixed
 
 -- all keys
 abbrev pub keys : List Key
-keys = Discipline ∷ Centre ∷ SubCentre ∷ MasterTables ∷ LocalTables ∷ Significance ∷ Year ∷ Month ∷ Day ∷ Hour ∷ Minute ∷ Second ∷ Status ∷ DataType ∷ EarthShape ∷ Points ∷ GridTemplate ∷ Ni ∷ Nj ∷ Scanning ∷ La1 ∷ Lo1 ∷ ProductTemplate ∷ Category ∷ Number ∷ Process ∷ Generator ∷ TimeUnit ∷ ForecastTime ∷ Surface1 ∷ Surface1Scale ∷ Surface1Value ∷ EnsembleNumber ∷ Packing ∷ Bits ∷ []
+keys = Discipline ∷ Centre ∷ SubCentre ∷ MasterTables ∷ LocalTables ∷ Significance ∷ Year ∷ Month ∷ Day ∷ Hour ∷ Minute ∷ Second ∷ Status ∷ DataType ∷ EarthShape ∷ Points ∷ GridTemplate ∷ Ni ∷ Nj ∷ Scanning ∷ La1 ∷ Lo1 ∷ ProductTemplate ∷ Category ∷ Number ∷ Process ∷ Generator ∷ TimeUnit ∷ ForecastTime ∷ Surface1 ∷ Surface1Scale ∷ Surface1Value ∷ Surface2 ∷ Surface2Scale ∷ Surface2Value ∷ EnsembleType ∷ EnsembleNumber ∷ EnsembleMembers ∷ EndYear ∷ EndMonth ∷ EndDay ∷ EndHour ∷ EndMinute ∷ EndSecond ∷ RangeProcess ∷ RangeIncrementType ∷ RangeUnit ∷ RangeLength ∷ Packing ∷ Bits ∷ []
 
 abbrev pub name_of : Key → List ℕ
 name_of key = (row_of key).name

@@ -1,6 +1,10 @@
 //! What a key is asked to be, or to become.
 
+ghost use Rattle.std.specs.Prelude.{Some};
+ghost use Rattle.grib_keys.specs.Words.{value_text, word_of};
+
 use crate::key::Key;
+use std::fmt;
 
 /// The value of a key: a number, or missing.
 #[derive(Clone, Copy, Debug, PartialEq, Eq)]
@@ -14,4 +18,24 @@ pub enum Value {
 pub struct Condition {
     pub key: Key,
     pub value: Value,
+}
+
+impl fmt::Display for Value {
+    ghost output = { λ value. Some (value_text value) };
+
+    fn fmt<W: fmt::Write>(&self, f: &mut fmt::Formatter<W>) -> fmt::Result {
+        match *self {
+            Value::Number(number) => write!(f, "{number}"),
+            Value::Missing => f.write_str("missing"),
+        }
+    }
+}
+
+impl fmt::Display for Condition {
+    ghost output = { λ condition. Some (word_of condition) };
+
+    fn fmt<W: fmt::Write>(&self, f: &mut fmt::Formatter<W>) -> fmt::Result {
+        let Condition { key, value } = *self;
+        write!(f, "{key}={value}")
+    }
 }

@@ -1,8 +1,9 @@
 //! The keys of a field: their names, and which of them can be set.
 
-ghost use Rattle.std.specs.Prelude.{◌≡◌, ℕ, Some};
-ghost use Rattle.grib_keys.specs.declared.table.Place.TheVariants.{At, FirstPoint};
-ghost use Rattle.grib_keys.specs.Keys.{row_of, octets_by, name_of, can_set, key_named};
+ghost use Rattle.std.specs.Prelude.{◌≡◌, Some};
+ghost use Rattle.grib_keys.specs.declared.table.Layout.{Layout};
+ghost use Rattle.grib_keys.specs.declared.table.Place.TheVariants.{At, FirstPoint, Ensemble, Interval, FirstRange};
+ghost use Rattle.grib_keys.specs.Keys.{row_of, octets_by, name_of, keys, can_set, key_named};
 
 use crate::table::{Kind, Octets, Place, Row};
 use std::fmt;
@@ -42,13 +43,28 @@ pub enum Key {
     Surface1,
     Surface1Scale,
     Surface1Value,
+    Surface2,
+    Surface2Scale,
+    Surface2Value,
+    EnsembleType,
     EnsembleNumber,
+    EnsembleMembers,
+    EndYear,
+    EndMonth,
+    EndDay,
+    EndHour,
+    EndMinute,
+    EndSecond,
+    RangeProcess,
+    RangeIncrementType,
+    RangeUnit,
+    RangeLength,
     Packing,
     Bits,
 }
 
 /// All keys, in the order of their places.
-const KEYS: [Key; 35] = [
+const KEYS: [Key; 50] = [
     Key::Discipline,
     Key::Centre,
     Key::SubCentre,
@@ -81,7 +97,22 @@ const KEYS: [Key; 35] = [
     Key::Surface1,
     Key::Surface1Scale,
     Key::Surface1Value,
+    Key::Surface2,
+    Key::Surface2Scale,
+    Key::Surface2Value,
+    Key::EnsembleType,
     Key::EnsembleNumber,
+    Key::EnsembleMembers,
+    Key::EndYear,
+    Key::EndMonth,
+    Key::EndDay,
+    Key::EndHour,
+    Key::EndMinute,
+    Key::EndSecond,
+    Key::RangeProcess,
+    Key::RangeIncrementType,
+    Key::RangeUnit,
+    Key::RangeLength,
     Key::Packing,
     Key::Bits,
 ];
@@ -98,8 +129,8 @@ impl Key {
     pub fn row(&self) -> Row
         ensures name { result.name.now ≡ (row_of self.now).name }
         ensures section { result.section ≡ (row_of self.now).section }
-        ensures place { (template : ℕ)
-            → octets_by result.place template ≡ (row_of self.now).place template }
+        ensures place { (layout : Layout)
+            → octets_by result.place layout ≡ (row_of self.now).place layout }
         ensures kind { result.kind ≡ (row_of self.now).kind }
     {
         match self {
@@ -135,7 +166,22 @@ impl Key {
             Key::Surface1 => row("surface1", 4, at(23, 23), UNSIGNED_OR_MISSING),
             Key::Surface1Scale => row("surface1Scale", 4, at(24, 24), SIGNED_OR_MISSING),
             Key::Surface1Value => row("surface1Value", 4, at(25, 28), UNSIGNED_OR_MISSING),
-            Key::EnsembleNumber => row("ensembleNumber", 4, Place::Member, UNSIGNED),
+            Key::Surface2 => row("surface2", 4, at(29, 29), UNSIGNED_OR_MISSING),
+            Key::Surface2Scale => row("surface2Scale", 4, at(30, 30), SIGNED_OR_MISSING),
+            Key::Surface2Value => row("surface2Value", 4, at(31, 34), UNSIGNED_OR_MISSING),
+            Key::EnsembleType => row("ensembleType", 4, of_ensemble(35, 35), UNSIGNED),
+            Key::EnsembleNumber => row("ensembleNumber", 4, of_ensemble(36, 36), UNSIGNED),
+            Key::EnsembleMembers => row("ensembleMembers", 4, of_ensemble(37, 37), UNSIGNED),
+            Key::EndYear => row("endYear", 4, of_interval(35, 36), UNSIGNED),
+            Key::EndMonth => row("endMonth", 4, of_interval(37, 37), UNSIGNED),
+            Key::EndDay => row("endDay", 4, of_interval(38, 38), UNSIGNED),
+            Key::EndHour => row("endHour", 4, of_interval(39, 39), UNSIGNED),
+            Key::EndMinute => row("endMinute", 4, of_interval(40, 40), UNSIGNED),
+            Key::EndSecond => row("endSecond", 4, of_interval(41, 41), UNSIGNED),
+            Key::RangeProcess => row("rangeProcess", 4, of_range(47, 47), UNSIGNED),
+            Key::RangeIncrementType => row("rangeIncrementType", 4, of_range(48, 48), UNSIGNED),
+            Key::RangeUnit => row("rangeUnit", 4, of_range(49, 49), UNSIGNED),
+            Key::RangeLength => row("rangeLength", 4, of_range(50, 53), UNSIGNED),
             Key::Packing => row("packing", 5, at(10, 11), FIXED),
             Key::Bits => row("bits", 5, at(20, 20), FIXED),
         }
@@ -146,6 +192,13 @@ impl Key {
         ensures { result.now ≡ name_of self.now }
     {
         self.row().name
+    }
+
+    /// All keys, in the order of their places.
+    pub fn all() -> &'static [Key]
+        ensures { result.now ≡ keys }
+    {
+        &KEYS
     }
 
     /// Whether a message may get another number at the key. It may not where others are read or
@@ -214,6 +267,27 @@ fn at(first: usize, last: usize) -> Place
     ensures { result ≡ At (record { first = first; last = last }) }
 {
     Place::At(Octets { first, last })
+}
+
+/// A number of an ensemble, at the octets from `first` to `last`.
+fn of_ensemble(first: usize, last: usize) -> Place
+    ensures { result ≡ Ensemble (record { first = first; last = last }) }
+{
+    Place::Ensemble(Octets { first, last })
+}
+
+/// A number of an interval, at the octets from `first` to `last` of template 4.8.
+fn of_interval(first: u8, last: u8) -> Place
+    ensures { result ≡ Interval first last }
+{
+    Place::Interval { first, last }
+}
+
+/// A number of the first time range, at the octets from `first` to `last` of template 4.8.
+fn of_range(first: u8, last: u8) -> Place
+    ensures { result ≡ FirstRange first last }
+{
+    Place::FirstRange { first, last }
 }
 
 /// An angle of the first grid point, by the octets at which it begins.

@@ -8,4 +8,4 @@ mod table;
 
 pub use condition::{Condition, Value};
 pub use key::Key;
-pub use table::{Kind, Octets, Place, Row};
+pub use table::{Kind, Layout, Octets, Place, Row};

@@ -15,7 +15,16 @@ pub struct Row {
     pub kind: Kind,
 }
 
-/// Where the number of a key stands in its section, by the template of the section.
+/// What decides where the numbers of a section stand.
+#[derive(Clone, Copy, Debug, PartialEq, Eq)]
+pub struct Layout {
+    /// The number of the section's template, 0 in Sections 0 and 1, which have none.
+    pub template: u16,
+    /// How many time ranges the section has, 0 in all but Section 4.
+    pub ranges: u8,
+}
+
+/// Where the number of a key stands in its section, by the layout of the section.
 #[derive(Clone, Copy, Debug, PartialEq, Eq)]
 pub enum Place {
     /// At these octets in every template.
@@ -25,8 +34,14 @@ pub enum Place {
     /// An angle of the first grid point: four octets, from `by_angles` on in grids by latitude and longitude
     /// (templates 3.0, 3.1 and 3.40), from `other` on in other grids.
     FirstPoint { by_angles: u8, other: u8 },
-    /// The number of a member of an ensemble (templates 4.1 and 4.11).
-    Member,
+    /// A number of an ensemble, at these octets (templates 4.1 and 4.11).
+    Ensemble(Octets),
+    /// A number of an interval: the octets from `first` to `last` of template 4.8, three octets later in
+    /// template 4.11.
+    Interval { first: u8, last: u8 },
+    /// A number of the first time range of an interval, where it has one: the octets from `first` to `last` of
+    /// template 4.8, three octets later in template 4.11.
+    FirstRange { first: u8, last: u8 },
 }
 
 /// The octets of a section at which a number stands, counted from 1.
@@ -59,25 +74,45 @@ impl Octets {
     }
 }
 
+impl Layout {
+    /// A layout in which all keys of the section with this number stand: templates 3.1 and 4.11, with a time range.
+    pub fn full(section: u8) -> Layout
+        ensures { result ≡ keys.full_layout section }
+    {
+        match section {
+            4 => Layout {
+                template: 11,
+                ranges: 1,
+            },
+            _ => Layout {
+                template: 1,
+                ranges: 0,
+            },
+        }
+    }
+}
+
 impl Place {
-    /// The octets of the number in a section with this template, `None` where the template lacks it.
-    pub fn octets(&self, template: u16) -> Option<Octets>
-        ensures { result ≡ octets_by self.now template }
+    /// The octets of the number in a section of this layout, `None` where the section lacks it.
+    pub fn octets(&self, layout: Layout) -> Option<Octets>
+        ensures { result ≡ octets_by self.now layout }
     {
         match *self {
             Place::At(octets) => Some(octets),
-            Place::ScanningMode => scanning_place(template),
-            Place::FirstPoint { by_angles, other } => first_point(by_angles, other, template),
-            Place::Member => ensemble_place(template),
+            Place::ScanningMode => scanning_place(layout),
+            Place::FirstPoint { by_angles, other } => first_point(by_angles, other, layout),
+            Place::Ensemble(octets) => ensemble_place(octets, layout),
+            Place::Interval { first, last } => interval_place(first, last, layout),
+            Place::FirstRange { first, last } => range_place(first, last, layout),
         }
     }
 }
 
 /// The octets of the scanning mode of a grid.
-fn scanning_place(template: u16) -> Option<Octets>
-    ensures { result ≡ keys.scanning_place template }
+fn scanning_place(layout: Layout) -> Option<Octets>
+    ensures { result ≡ keys.scanning_place layout }
 {
-    match template {
+    match layout.template {
         0 | 1 | 40 => at(72, 72),
         10 => at(60, 60),
         20 | 30 => at(65, 65),
@@ -86,23 +121,46 @@ fn scanning_place(template: u16) -> Option<Octets>
 }
 
 /// The octets of an angle of the first grid point.
-fn first_point(by_angles: u8, other: u8, template: u16) -> Option<Octets>
-    ensures { result ≡ keys.first_point by_angles other template }
+fn first_point(by_angles: u8, other: u8, layout: Layout) -> Option<Octets>
+    ensures { result ≡ keys.first_point by_angles other layout }
 {
-    let first = match template {
+    let first = match layout.template {
         0 | 1 | 40 => usize::from(by_angles),
         _ => usize::from(other),
     };
     at(first, first + 3)
 }
 
-/// The octets of the number of a member of an ensemble.
-fn ensemble_place(template: u16) -> Option<Octets>
-    ensures { result ≡ keys.ensemble_place template }
+/// The octets of a number of an ensemble.
+fn ensemble_place(octets: Octets, layout: Layout) -> Option<Octets>
+    ensures { result ≡ keys.ensemble_place octets.first octets.last layout }
 {
-    match template {
-        1 | 11 => at(36, 36),
+    match layout.template {
+        1 | 11 => Some(octets),
         _ => None,
+    }
+}
+
+/// The octets of a number of an interval, which stands from `first` to `last` in template 4.8.
+fn interval_place(first: u8, last: u8, layout: Layout) -> Option<Octets>
+    ensures { result ≡ keys.interval_place first last layout }
+{
+    let (first, last) = (usize::from(first), usize::from(last));
+    match layout.template {
+        8 => at(first, last),
+        11 => at(first + 3, last + 3),
+        _ => None,
+    }
+}
+
+/// The octets of a number of the first time range of an interval, which stands from `first` to `last` in
+/// template 4.8.
+fn range_place(first: u8, last: u8, layout: Layout) -> Option<Octets>
+    ensures { result ≡ keys.range_place first last layout }
+{
+    match layout.ranges {
+        0 => None,
+        _ => interval_place(first, last, layout),
     }
 }
 

@@ -2,20 +2,22 @@
 use Rattle.std.proofs.Common.{◌≡◌, ◌≢◌, ℕ, ◌+◌, ◌-◌, ◌≤◌, ◌<◌, Bool, true, false, not, cond, ◌&&◌, ◌||◌, ◌==◌, ◌⊎◌, nat_lt, Option, Some, None, unwrap_or, List, [], ◌∷◌, length, inl, inr, refl, sym, ap, ap₂, ◌∙◌, arith, subst, ltb-false, ltb-true, eq-eqb, ne_eqb, eqb-true}
 use Rattle.std.specs.Option.{option_map_or}
 use Rattle.std.proofs.lemmas.Bool.{cases_eq}
-use Rattle.grib_bits.specs.Octets.{octets}
+use Rattle.grib_bits.specs.Octets.{octets, num_on}
 use Rattle.grib_base.specs.Rows.{choose}
 use Rattle.grib_bits.specs.Encoding.{octets_of}
 use Rattle.grib_bits.proofs.Encoding.{length-octets_of}
 use Rattle.grib_keys.specs.declared.key.Key.{Key}
-use Rattle.grib_keys.specs.declared.key.Key.TheVariants.{Discipline, Scanning, La1, Lo1, EnsembleNumber}
+use Rattle.grib_keys.specs.declared.key.Key.TheVariants.{Discipline, Scanning, La1, Lo1, EnsembleType, EnsembleNumber, EnsembleMembers, EndYear, EndMonth, EndDay, EndHour, EndMinute, EndSecond, RangeProcess, RangeIncrementType, RangeUnit, RangeLength}
 use Rattle.grib_keys.specs.declared.condition.Condition.{Condition}
+use Rattle.grib_keys.specs.declared.table.Layout.{Layout}
 use Rattle.grib_keys.specs.declared.table.Octets.{Octets}
+use Rattle.grib2_products.specs.Product.{time_ranges}
 use Rattle.grib_keys.specs.Keys.{row_of, can_set, at, is_of, is_by_angles}
-use Rattle.grib_select.specs.Values.{template_of, octet_count, HasKeys, IsWithin}
+use Rattle.grib_select.specs.Values.{template_of, ranges_of, count_octet, layout_of, octet_count, HasKeys, IsWithin}
 use Rattle.grib_select.specs.Changed.{key_octets, new_number, put, put_number, with_key, with_changes}
 use Rattle.grib_select.proofs.Puts.{length-put, put-before, put-behind}
-use Rattle.grib_select.proofs.Stand.{outside, is_fixed, AreAlike, alike_self, alike_then, alike_octets}
-use Rattle.grib_select.proofs.Within.{KeysWithin, or_parts_true, and_first, and_second}
+use Rattle.grib_select.proofs.Stand.{outside, is_fixed, KeepsFixed, AreAlike, alike_self, alike_then, template_stays}
+use Rattle.grib_select.proofs.Within.{KeysWithin, laid_out, or_parts_true, and_first, and_second}
 
 -- ---- the keys that can be set stand where nothing else is read
 
@@ -28,68 +30,116 @@ lies_free number p =
     cond (number == 0) (lies_in 7 7 p)
     (cond (number == 1) (lies_in 6 21 p)
     (cond (number == 3) (lies_in 15 30 p || lies_in 39 72 p)
-    (cond (number == 4) (lies_in 10 36 p) false)))
+    (cond (number == 4) (lies_in 10 56 p) false)))
 
--- A key has as many octets in each template that has it, 1 to 4; one that can be set stands free.
-abbrev pub shape : Key → Option Octets → Bool
-shape key o =
+-- whether the octet with the number of time ranges is none of a key's; only Section 4 has one
+abbrev pub clear_of : ℕ → ℕ → Octets → Bool
+clear_of count number p = not (number == 4) || (nat_lt p.last count || nat_lt count p.first)
+
+-- A key has as many octets in each layout that has it, 1 to 4; one that can be set stands free.
+abbrev pub shape : ℕ → Key → Option Octets → Bool
+shape count key o =
     option_map_or
-    (λ p. nat_lt 0 p.first && (nat_lt p.first (p.last + 1) && (nat_lt p.last (p.first + 4) && ((octet_count p == key_octets key) && (not (can_set key) || lies_free (row_of key).section p)))))
+    (λ p. nat_lt 0 p.first && (nat_lt p.first (p.last + 1) && (nat_lt p.last (p.first + 4) && ((octet_count p == key_octets key) && (not (can_set key) || (lies_free (row_of key).section p && clear_of count (row_of key).section p))))))
     o true
 
-scanning_shape : (a b c : Bool) → shape Scanning (cond a (at 72 72 0) (cond b (at 60 60 0) (cond c (at 65 65 0) None))) ≡ true
-scanning_shape true b c = refl
-scanning_shape false true c = refl
-scanning_shape false false true = refl
-scanning_shape false false false = refl
+abbrev any : Layout
+any = record { template = 0; ranges = 0 }
 
-la1_shape : (a : Bool) → shape La1 (cond a (at 47 50 0) (at 39 42 0)) ≡ true
-la1_shape true = refl
-la1_shape false = refl
+scanning_shape : (n : ℕ) (a b c : Bool) → shape n Scanning (cond a (at 72 72 any) (cond b (at 60 60 any) (cond c (at 65 65 any) None))) ≡ true
+scanning_shape n true b c = refl
+scanning_shape n false true c = refl
+scanning_shape n false false true = refl
+scanning_shape n false false false = refl
 
-lo1_shape : (a : Bool) → shape Lo1 (cond a (at 51 54 0) (at 43 46 0)) ≡ true
-lo1_shape true = refl
-lo1_shape false = refl
+la1_shape : (n : ℕ) (a : Bool) → shape n La1 (cond a (at 47 50 any) (at 39 42 any)) ≡ true
+la1_shape n true = refl
+la1_shape n false = refl
 
-member_shape : (a : Bool) → shape EnsembleNumber (cond a (at 36 36 0) None) ≡ true
-member_shape true = refl
-member_shape false = refl
+lo1_shape : (n : ℕ) (a : Bool) → shape n Lo1 (cond a (at 51 54 any) (at 43 46 any)) ≡ true
+lo1_shape n true = refl
+lo1_shape n false = refl
 
-pub shaped : (t : ℕ) (key : Key) → shape key ((row_of key).place t) ≡ true
-shaped t Scanning = scanning_shape (is_by_angles t) (is_of (10 ∷ []) t) (is_of (20 ∷ 30 ∷ []) t)
-shaped t La1 = la1_shape (is_by_angles t)
-shaped t Lo1 = lo1_shape (is_by_angles t)
-shaped t EnsembleNumber = member_shape (is_of (1 ∷ 11 ∷ []) t)
-shaped t Discipline = refl
-shaped t key = refl
+-- the octet with the number of time ranges, by whether the template is 4.8 and whether it is 4.11
+abbrev count_by : Bool → Bool → ℕ
+count_by e f = cond e 42 (cond f 45 0)
+
+-- a place in each template
+module _ (key : Key) (o : Option Octets) (in_8 : shape 42 key o ≡ true) (in_11 : shape 45 key o ≡ true) (in_0 : shape 0 key o ≡ true) where
+  each_shape : (e f : Bool) → shape (count_by e f) key o ≡ true
+  each_shape true f = in_8
+  each_shape false true = in_11
+  each_shape false false = in_0
+
+  -- a place in the templates of ensembles
+  ensemble_shape : (e f d : Bool) → shape (count_by e f) key (cond d o None) ≡ true
+  ensemble_shape e f true = each_shape e f
+  ensemble_shape e f false = refl
+
+-- a place of an interval, and of its first time range
+module _ (key : Key) (first last : ℕ) (in_8 : shape 42 key (at first last any) ≡ true) (in_11 : shape 45 key (at (first + 3) (last + 3) any) ≡ true) where
+  interval_shape : (e f : Bool) → shape (count_by e f) key (cond e (at first last any) (cond f (at (first + 3) (last + 3) any) None)) ≡ true
+  interval_shape true f = in_8
+  interval_shape false true = in_11
+  interval_shape false false = refl
+
+  range_shape : (e f z : Bool) → shape (count_by e f) key (cond z None (cond e (at first last any) (cond f (at (first + 3) (last + 3) any) None))) ≡ true
+  range_shape e f true = refl
+  range_shape e f false = interval_shape e f
+
+pub shaped : (l : Layout) (key : Key) → shape (count_octet l.template) key ((row_of key).place l) ≡ true
+shaped l Scanning = scanning_shape (count_octet l.template) (is_by_angles l.template) (is_of (10 ∷ []) l.template) (is_of (20 ∷ 30 ∷ []) l.template)
+shaped l La1 = la1_shape (count_octet l.template) (is_by_angles l.template)
+shaped l Lo1 = lo1_shape (count_octet l.template) (is_by_angles l.template)
+shaped l EnsembleType = ensemble_shape EnsembleType (at 35 35 any) refl refl refl (l.template == 8) (l.template == 11) (is_of (1 ∷ 11 ∷ []) l.template)
+shaped l EnsembleNumber = ensemble_shape EnsembleNumber (at 36 36 any) refl refl refl (l.template == 8) (l.template == 11) (is_of (1 ∷ 11 ∷ []) l.template)
+shaped l EnsembleMembers = ensemble_shape EnsembleMembers (at 37 37 any) refl refl refl (l.template == 8) (l.template == 11) (is_of (1 ∷ 11 ∷ []) l.template)
+shaped l EndYear = interval_shape EndYear 35 36 refl refl (l.template == 8) (l.template == 11)
+shaped l EndMonth = interval_shape EndMonth 37 37 refl refl (l.template == 8) (l.template == 11)
+shaped l EndDay = interval_shape EndDay 38 38 refl refl (l.template == 8) (l.template == 11)
+shaped l EndHour = interval_shape EndHour 39 39 refl refl (l.template == 8) (l.template == 11)
+shaped l EndMinute = interval_shape EndMinute 40 40 refl refl (l.template == 8) (l.template == 11)
+shaped l EndSecond = interval_shape EndSecond 41 41 refl refl (l.template == 8) (l.template == 11)
+shaped l RangeProcess = range_shape RangeProcess 47 47 refl refl (l.template == 8) (l.template == 11) (l.ranges == 0)
+shaped l RangeIncrementType = range_shape RangeIncrementType 48 48 refl refl (l.template == 8) (l.template == 11) (l.ranges == 0)
+shaped l RangeUnit = range_shape RangeUnit 49 49 refl refl (l.template == 8) (l.template == 11) (l.ranges == 0)
+shaped l RangeLength = range_shape RangeLength 50 53 refl refl (l.template == 8) (l.template == 11) (l.ranges == 0)
+shaped l Discipline = refl
+shaped l key = each_shape key ((row_of key).place l) refl refl refl (l.template == 8) (l.template == 11)
 
 -- what it tells of a place
-pub record HasShape (key : Key) (p : Octets) : Type 0 where
+pub record HasShape (key : Key) (l : Layout) (p : Octets) : Type 0 where
   pub low : 1 ≤ p.first
   pub some : p.first ≤ p.last
   pub few : p.last + 1 ≤ p.first + 4
   pub count : octet_count p ≡ key_octets key
   pub free : can_set key ≡ true → lies_free (row_of key).section p ≡ true
+  pub clear : can_set key ≡ true → clear_of (count_octet l.template) (row_of key).section p ≡ true
 
 free_by : (set free : Bool) → (not set || free) ≡ true → set ≡ true → free ≡ true
 free_by true free e on = e
 free_by false free e on = absurd (cc)
 
-pub shape_tells : (key : Key) (t : ℕ) (p : Octets) → (row_of key).place t ≡ Some p → HasShape key p
-shape_tells key t p place =
-    let e0 : shape key (Some p) ≡ true = sym (ap (shape key) place) ∙ shaped t key in
+pub shape_tells : (key : Key) (l : Layout) (p : Octets) → (row_of key).place l ≡ Some p → HasShape key l p
+shape_tells key l p place =
+    let n = count_octet l.template in
+    let e0 : shape n key (Some p) ≡ true = sym (ap (shape n key) place) ∙ shaped l key in
     let e1 = and_second (nat_lt 0 p.first) _ e0 in
     let e2 = and_second (nat_lt p.first (p.last + 1)) _ e1 in
     let e3 = and_second (nat_lt p.last (p.first + 4)) _ e2 in
+    let e4 = and_second (octet_count p == key_octets key) _ e3 in
     let low : 0 < p.first = ltb-true 0 p.first (and_first (nat_lt 0 p.first) _ e0) in
     let some : p.first < p.last + 1 = ltb-true p.first (p.last + 1) (and_first (nat_lt p.first (p.last + 1)) _ e1) in
     let few : p.last < p.first + 4 = ltb-true p.last (p.first + 4) (and_first (nat_lt p.last (p.first + 4)) _ e2) in
+    let free = lies_free (row_of key).section p in
+    let clear = clear_of n (row_of key).section p in
     record {
       low = omega arith;
       some = omega arith;
       few = omega arith;
       count = eqb-true (octet_count p) (key_octets key) (and_first (octet_count p == key_octets key) _ e3);
-      free = free_by (can_set key) (lies_free (row_of key).section p) (and_second (octet_count p == key_octets key) _ e3);
+      free = λ set. and_first free clear (free_by (can_set key) (free && clear) e4 set);
+      clear = λ set. and_second free clear (free_by (can_set key) (free && clear) e4 set);
     }
 
 -- ---- a free place has no fixed octets
@@ -127,11 +177,11 @@ free_any number p lies = elim (cases_eq number 0) [
     | inr not_1 ↦ elim (cases_eq number 3) [
       | inl e ↦ subst (λ (n : ℕ). IsFree n p) (sym e) (free_3 p (subst (λ (n : ℕ). lies_free n p ≡ true) e lies))
       | inr not_3 ↦ elim (cases_eq number 4) [
-        | inl e ↦ subst (λ (n : ℕ). IsFree n p) (sym e) (apart 10 36 p (subst (λ (n : ℕ). lies_free n p ≡ true) e lies))
+        | inl e ↦ subst (λ (n : ℕ). IsFree n p) (sym e) (apart 10 56 p (subst (λ (n : ℕ). lies_free n p ≡ true) e lies))
         | inr not_4 ↦
             let none : false ≡ true =
             sym (λ i. cond (ne_eqb number 0 not_0 i) (lies_in 7 7 p) (cond (ne_eqb number 1 not_1 i) (lies_in 6 21 p)
-            (cond (ne_eqb number 3 not_3 i) (lies_in 15 30 p || lies_in 39 72 p) (cond (ne_eqb number 4 not_4 i) (lies_in 10 36 p) false)))) ∙ lies in
+            (cond (ne_eqb number 3 not_3 i) (lies_in 15 30 p || lies_in 39 72 p) (cond (ne_eqb number 4 not_4 i) (lies_in 10 56 p) false)))) ∙ lies in
             absurd (cc)
       ]
     ]
@@ -140,87 +190,140 @@ free_any number p lies = elim (cases_eq number 0) [
 
 -- ---- a section in which changes can be made
 
+-- the octet with the number of time ranges is none of a place
+abbrev pub IsClear : ℕ → Octets → Type 0
+IsClear count p = (p.last < count) ⊎ (count < p.first)
+
+clear_tells : (number count : ℕ) (p : Octets) → number ≡ 4 → clear_of count number p ≡ true → IsClear count p
+clear_tells number count p is e =
+    let told : (nat_lt p.last count || nat_lt count p.first) ≡ true =
+    sym (ap (λ (b : Bool). not b || (nat_lt p.last count || nat_lt count p.first)) (eq-eqb number 4 is)) ∙ e in
+    elim (or_parts_true (nat_lt p.last count) (nat_lt count p.first) told) [
+      | inl before ↦ inl (ltb-true p.last count before)
+      | inr behind ↦ inr (ltb-true count p.first behind)
+    ]
+
 -- the keys with this number stand in it, and those that can be set stand free
 pub record IsReady (number : ℕ) (s : List ℕ) : Type 0 where
   pub within : KeysWithin number s
-  pub free : (key : Key) (p : Octets) → (row_of key).section ≡ number → can_set key ≡ true → (row_of key).place (template_of number s) ≡ Some p → IsFree number p
-  pub template : (t : List ℕ) → AreAlike number s t → template_of number t ≡ template_of number s
-
-template_stays : (number : ℕ) (s t : List ℕ) → AreAlike number s t → template_of number t ≡ template_of number s
-template_stays number s t h = elim (cases_eq number 3) [
-  | inl e ↦ subst (λ (n : ℕ). AreAlike n s t → template_of n t ≡ template_of n s) (sym e) (λ k. alike_octets 3 13 14 s t k (omega arith) (omega arith) refl) h
-  | inr not_3 ↦ elim (cases_eq number 4) [
-    | inl e ↦ subst (λ (n : ℕ). AreAlike n s t → template_of n t ≡ template_of n s) (sym e) (λ k. alike_octets 4 8 9 s t k (omega arith) (omega arith) refl) h
-    | inr not_4 ↦ elim (cases_eq number 5) [
-      | inl e ↦ subst (λ (n : ℕ). AreAlike n s t → template_of n t ≡ template_of n s) (sym e) (λ k. alike_octets 5 10 11 s t k (omega arith) (omega arith) refl) h
-      | inr not_5 ↦
-          let other : (u : List ℕ) → template_of number u ≡ 0 =
-          λ u. λ i. cond (ne_eqb number 3 not_3 i) (octets u 13 14) (cond (ne_eqb number 4 not_4 i) (octets u 8 9) (cond (ne_eqb number 5 not_5 i) (octets u 10 11) 0)) in
-          other t ∙ sym (other s)
-    ]
-  ]
-]
+  pub free : (key : Key) (p : Octets) → (row_of key).section ≡ number → can_set key ≡ true → (row_of key).place (layout_of number s) ≡ Some p → IsFree number p
+  pub clear : (key : Key) (p : Octets) → (row_of key).section ≡ number → can_set key ≡ true → (row_of key).place (layout_of number s) ≡ Some p → number ≡ 4
+      → IsClear (count_octet (template_of number s)) p
+  pub counted : number ≡ 4 → count_octet (template_of number s) ≤ length s
 
 pub ready : (number : ℕ) (s : List ℕ) → HasKeys number s → IsReady number s
 ready number s h = record {
   within = λ key p section place.
-      let shape = shape_tells key (template_of number s) p place in
-      record { low = shape.low; high = h key p section place; some = shape.some; few = shape.few };
+      let shape = shape_tells key (layout_of number s) p place in
+      record { low = shape.low; high = h.keys key p section place; some = shape.some; few = shape.few };
   free = λ key p section settable place.
-      subst (λ (n : ℕ). IsFree n p) section (free_any (row_of key).section p ((shape_tells key (template_of number s) p place).free settable));
-  template = λ t k. template_stays number s t k;
+      subst (λ (n : ℕ). IsFree n p) section (free_any (row_of key).section p ((shape_tells key (layout_of number s) p place).free settable));
+  clear = λ key p section settable place four.
+      clear_tells (row_of key).section (count_octet (template_of number s)) p (section ∙ four) ((shape_tells key (layout_of number s) p place).clear settable);
+  counted = h.counted;
 }
 
 pub ready_keys : (number : ℕ) (s : List ℕ) → IsReady number s → HasKeys number s
-ready_keys number s r key p section place = (r.within key p section place).high
+ready_keys number s r = record { keys = λ key p section place. (r.within key p section place).high; counted = r.counted }
 
 pub ready_stays : (number : ℕ) (s t : List ℕ) → AreAlike number s t → IsReady number s → IsReady number t
 ready_stays number s t h r =
-    let same = r.template t h in
+    let same = h.layout in
+    let count : count_octet (template_of number t) ≡ count_octet (template_of number s) = ap (λ (l : Layout). count_octet l.template) same in
+    let back = λ (key : Key) (p : Octets) (place : (row_of key).place (layout_of number t) ≡ Some p). sym (ap (row_of key).place same) ∙ place in
     record {
-      within = λ key p section place.
-          subst (λ (l : ℕ). IsWithin l p) (sym h.long) (r.within key p section (sym (ap (row_of key).place same) ∙ place));
-      free = λ key p section settable place. r.free key p section settable (sym (ap (row_of key).place same) ∙ place);
-      template = λ u k. r.template u (alike_then number s t u h k) ∙ sym same;
+      within = λ key p section place. subst (λ (l : ℕ). IsWithin l p) (sym h.long) (r.within key p section (back key p place));
+      free = λ key p section settable place. r.free key p section settable (back key p place);
+      clear = λ key p section settable place four. subst (λ (n : ℕ). IsClear n p) (sym count) (r.clear key p section settable (back key p place) four);
+      counted = λ four. omega (arith, r.counted four, count, h.long);
     }
 
 -- other octets at the place of a key
-put_alike : (number : ℕ) (s : List ℕ) (p : Octets) (xs : List ℕ) → IsWithin (length s) p → length xs ≡ octet_count p → IsFree number p → AreAlike number s (put s p.first xs)
-put_alike number s p xs within count free =
-    let low : 1 ≤ p.first = within.low in
-    let room : p.first - 1 + length xs ≤ length s = omega (arith, count, within.high, within.some, within.low) in
-    let last : p.first + length xs ≡ p.last + 1 = omega (arith, count, within.some, within.low) in
-    record {
-      long = length-put s p.first xs low room;
-      fixed = λ a b first order e. elim (free a b e) [
-        | inl before ↦ put-before s p.first xs low room a b first order before
-        | inr behind ↦ put-behind s p.first xs low room a b (omega arith)
-      ];
-    }
+module _ (number : ℕ) (s : List ℕ) (p : Octets) (xs : List ℕ) (within : IsWithin (length s) p) (count : length xs ≡ octet_count p) (free : IsFree number p)
+    (clear : number ≡ 4 → IsClear (count_octet (template_of number s)) p) where
+  abbrev t : List ℕ
+  t = put s p.first xs
+
+  room : p.first - 1 + length xs ≤ length s
+  room = omega (arith, count, within.high, within.some, within.low)
+
+  behind_last : p.first + length xs ≡ p.last + 1
+  behind_last = omega (arith, count, within.some, within.low)
+
+  put_fixed : KeepsFixed number s t
+  put_fixed a b first order e = elim (free a b e) [
+    | inl before ↦ put-before s p.first xs within.low room a b first order before
+    | inr behind ↦ put-behind s p.first xs within.low room a b (omega (arith, behind_last))
+  ]
+
+  -- an octet beside the place
+  put_beside : (n : ℕ) → 1 ≤ n → IsClear n p → octets t n n ≡ octets s n n
+  put_beside n some beside = ap (num_on 0) (elim beside [
+    | inl before ↦ put-behind s p.first xs within.low room n n (omega (arith, behind_last, before))
+    | inr behind ↦ put-before s p.first xs within.low room n n some (omega arith) behind
+  ])
+
+  -- the number of time ranges
+  ranges_by : (e f : Bool) → IsClear (count_by e f) p
+      → cond e (octets t 42 42) (cond f (octets t 45 45) 0) ≡ cond e (octets s 42 42) (cond f (octets s 45 45) 0)
+  ranges_by true f beside = put_beside 42 (omega arith) beside
+  ranges_by false true beside = put_beside 45 (omega arith) beside
+  ranges_by false false beside = refl
+
+  -- in Section 4
+  as_template : number ≡ 4 → (u : List ℕ) → template_of number u ≡ octets u 8 9
+  as_template four u = ap (λ (n : ℕ). template_of n u) four
+
+  as_ranges : number ≡ 4 → (u : List ℕ) → ranges_of number u ≡ time_ranges u
+  as_ranges four u = ap (λ (n : ℕ). ranges_of n u) four
+
+  put_ranges : ranges_of number t ≡ ranges_of number s
+  put_ranges = elim (cases_eq number 4) [
+    | inl four ↦
+        let template : octets t 8 9 ≡ octets s 8 9 = sym (as_template four t) ∙ template_stays number s t put_fixed ∙ as_template four s in
+        let beside : IsClear (count_octet (octets s 8 9)) p = subst (λ (n : ℕ). IsClear (count_octet n) p) (as_template four s) (clear four) in
+        as_ranges four t
+        ∙ ap (λ (u : ℕ). cond (u == 8) (octets t 42 42) (cond (u == 11) (octets t 45 45) 0)) template
+        ∙ ranges_by (octets s 8 9 == 8) (octets s 8 9 == 11) beside
+        ∙ sym (as_ranges four s)
+    | inr other ↦
+        let none : (u : List ℕ) → ranges_of number u ≡ 0 = λ u. ap (λ (b : Bool). cond b (time_ranges u) 0) (ne_eqb number 4 other) in
+        none t ∙ sym (none s)
+  ]
+
+  pub put_alike : AreAlike number s t
+  put_alike =
+      let same : template_of number t ≡ template_of number s = template_stays number s t put_fixed in
+      record {
+        long = length-put s p.first xs within.low room;
+        fixed = put_fixed;
+        layout = λ i. laid_out (same i) (put_ranges i);
+      }
 
 -- a change
 number_alike : (number : ℕ) (s : List ℕ) (change : Condition) (o : Option Octets) → IsReady number s → (row_of change.key).section ≡ number → can_set change.key ≡ true
-    → (row_of change.key).place (template_of number s) ≡ o → AreAlike number s (put_number change s o)
+    → (row_of change.key).place (layout_of number s) ≡ o → AreAlike number s (put_number change s o)
 number_alike number s change None r section settable place = alike_self number s
 number_alike number s change (Some p) r section settable place =
     put_alike number s p (octets_of (octet_count p) (unwrap_or (new_number change) 0)) (r.within change.key p section place)
     (length-octets_of (octet_count p) (unwrap_or (new_number change) 0)) (r.free change.key p section settable place)
+    (r.clear change.key p section settable place)
 
 -- where the key stands in the section, and where not
 pub with_key_here : (change : Condition) (number : ℕ) (s : List ℕ) → (row_of change.key).section ≡ number
-    → with_key change number s ≡ put_number change s ((row_of change.key).place (template_of number s))
+    → with_key change number s ≡ put_number change s ((row_of change.key).place (layout_of number s))
 with_key_here change number s section =
-    ap (λ (b : Bool). choose b (λ _. put_number change s ((row_of change.key).place (template_of number s))) (λ _. s)) (eq-eqb (row_of change.key).section number section)
+    ap (λ (b : Bool). choose b (λ _. put_number change s ((row_of change.key).place (layout_of number s))) (λ _. s)) (eq-eqb (row_of change.key).section number section)
 
 pub with_key_other : (change : Condition) (number : ℕ) (s : List ℕ) → (row_of change.key).section ≢ number → with_key change number s ≡ s
 with_key_other change number s other =
-    ap (λ (b : Bool). choose b (λ _. put_number change s ((row_of change.key).place (template_of number s))) (λ _. s)) (ne_eqb (row_of change.key).section number other)
+    ap (λ (b : Bool). choose b (λ _. put_number change s ((row_of change.key).place (layout_of number s))) (λ _. s)) (ne_eqb (row_of change.key).section number other)
 
 pub key_alike : (number : ℕ) (s : List ℕ) (change : Condition) → IsReady number s → can_set change.key ≡ true → AreAlike number s (with_key change number s)
 key_alike number s change r settable = elim (cases_eq (row_of change.key).section number) [
   | inl section ↦
       subst (λ (t : List ℕ). AreAlike number s t) (sym (with_key_here change number s section))
-      (number_alike number s change ((row_of change.key).place (template_of number s)) r section settable refl)
+      (number_alike number s change ((row_of change.key).place (layout_of number s)) r section settable refl)
   | inr other ↦ subst (λ (t : List ℕ). AreAlike number s t) (sym (with_key_other change number s other)) (alike_self number s)
 ]
 

@@ -244,7 +244,7 @@ module _ (m : List ℕ) (changes : List Condition) (h : IsMessage m) (set : CanB
       let least = message_least m h in
       let s = take 16 m in
       let sixteen : length s ≡ 16 = length-take-le 16 m (omega arith) in
-      let alike = changes_alike changes 0 s (ready 0 s (has_keys 0 s (head_within s (omega arith)))) set in
+      let alike = changes_alike changes 0 s (ready 0 s (has_keys 0 s (head_within s (omega arith)) (λ e. omega (arith, e)))) set in
       let t = with_changes changes 0 s in
       record {
         as_long = alike.long ∙ sixteen;

@@ -1,13 +1,14 @@
 -- The places of two keys that can be set do not meet.
-use Rattle.std.proofs.Common.{◌≡◌, ◌≢◌, ℕ, zero, suc, ◌≤◌, ◌<◌, Bool, true, false, not, cond, ◌&&◌, ◌||◌, ◌==◌, ◌⊎◌, nat_lt, Option, Some, None, unwrap_or, List, [], ◌∷◌, length, get_or, inl, inr, refl, sym, ap, ◌∙◌, arith, subst, ltb-true, ltb-false, eqb-true, eq-eqb}
+use Rattle.std.proofs.Common.{◌≡◌, ◌≢◌, ℕ, zero, suc, ◌+◌, ◌≤◌, ◌<◌, Bool, true, false, not, cond, ◌&&◌, ◌||◌, ◌==◌, ◌⊎◌, nat_lt, Option, Some, None, unwrap_or, List, [], ◌∷◌, length, get_or, inl, inr, refl, sym, ap, ◌∙◌, arith, subst, ltb-true, ltb-false, eqb-true, eq-eqb}
 use Rattle.std.specs.Prelude.{position}
 use Rattle.std.specs.List.{list_all}
 use Rattle.std.specs.Option.{option_map_or}
 use Rattle.std.specs.Str.{bytes_eq}
 use Rattle.grib_keys.specs.declared.key.Key.{Key}
-use Rattle.grib_keys.specs.declared.key.Key.TheVariants.{Discipline, Scanning, La1, Lo1, EnsembleNumber}
+use Rattle.grib_keys.specs.declared.key.Key.TheVariants.{Discipline, Scanning, La1, Lo1, EnsembleType, EnsembleNumber, EnsembleMembers, EndYear, EndMonth, EndDay, EndHour, EndMinute, EndSecond, RangeProcess, RangeIncrementType, RangeUnit, RangeLength}
+use Rattle.grib_keys.specs.declared.table.Layout.{Layout}
 use Rattle.grib_keys.specs.declared.table.Octets.{Octets}
-use Rattle.grib_keys.specs.Keys.{row_of, can_set, name_of, keys, at, is_of, is_by_angles}
+use Rattle.grib_keys.specs.Keys.{row_of, can_set, name_of, keys, is_of, is_by_angles}
 use Rattle.grib_select.proofs.Changes.{not_true}
 use Rattle.grib_select.proofs.Within.{or_parts_true, and_first, and_second}
 
@@ -20,7 +21,7 @@ at_index : (key : Key) → get_or keys (index key) Discipline ≡ key
 at_index Discipline = refl
 at_index key = refl
 
-index_low : (key : Key) → nat_lt (index key) 35 ≡ true
+index_low : (key : Key) → nat_lt (index key) 50 ≡ true
 index_low Discipline = refl
 index_low key = refl
 
@@ -32,98 +33,162 @@ all_at f (x ∷ xs) (suc i) low e = all_at f xs i (omega arith) (and_second (f x
 -- what holds of all keys of the table holds of each
 of_each : (f : Key → Bool) → list_all f keys ≡ true → (key : Key) → f key ≡ true
 of_each f e key =
-    let low : index key < 35 = ltb-true (index key) 35 (index_low key) in
+    let low : index key < 50 = ltb-true (index key) 50 (index_low key) in
     subst (λ (k : Key). f k ≡ true) (at_index key) (all_at f keys (index key) low e)
 
--- ---- the lane of a key, in grids by latitude and longitude or in others
+-- ---- the lane of a key, in grids by latitude and longitude or in others, and in template 4.8 or in others
 
-abbrev lane : Bool → Key → Octets
-lane angles Scanning = record { first = 55; last = 72 }
-lane angles La1 = cond angles (record { first = 47; last = 50 }) (record { first = 39; last = 42 })
-lane angles Lo1 = cond angles (record { first = 51; last = 54 }) (record { first = 43; last = 46 })
-lane angles key = unwrap_or ((row_of key).place 1) (record { first = 0; last = 0 })
+abbrev span : ℕ → ℕ → Option Octets
+span first last = Some (record { first = first; last = last })
 
-abbrev lies_within : Octets → Option Octets → Bool
-lies_within l o = option_map_or (λ p. not (nat_lt p.first l.first) && not (nat_lt l.last p.last)) o true
+abbrev shifted : Bool → ℕ → ℕ → Option Octets
+shifted eight first last = cond eight (span first last) (span (first + 3) (last + 3))
 
-scanning_lane : (a b c : Bool) → lies_within (record { first = 55; last = 72 }) (cond a (at 72 72 0) (cond b (at 60 60 0) (cond c (at 65 65 0) None))) ≡ true
+abbrev lane : Bool → Bool → Key → Option Octets
+lane angles eight Scanning = span 55 72
+lane angles eight La1 = cond angles (span 47 50) (span 39 42)
+lane angles eight Lo1 = cond angles (span 51 54) (span 43 46)
+lane angles eight EnsembleType = cond eight None (span 35 35)
+lane angles eight EnsembleNumber = cond eight None (span 36 36)
+lane angles eight EnsembleMembers = cond eight None (span 37 37)
+lane angles eight EndYear = shifted eight 35 36
+lane angles eight EndMonth = shifted eight 37 37
+lane angles eight EndDay = shifted eight 38 38
+lane angles eight EndHour = shifted eight 39 39
+lane angles eight EndMinute = shifted eight 40 40
+lane angles eight EndSecond = shifted eight 41 41
+lane angles eight RangeProcess = shifted eight 47 47
+lane angles eight RangeIncrementType = shifted eight 48 48
+lane angles eight RangeUnit = shifted eight 49 49
+lane angles eight RangeLength = shifted eight 50 53
+lane angles eight key = (row_of key).place (record { template = 0; ranges = 0 })
+
+-- whether a place, if there is one, is within a lane
+abbrev lies_within : Option Octets → Option Octets → Bool
+lies_within lane o = option_map_or (λ p. option_map_or (λ l. not (nat_lt p.first l.first) && not (nat_lt l.last p.last)) lane false) o true
+
+scanning_lane : (a b c : Bool) → lies_within (span 55 72) (cond a (span 72 72) (cond b (span 60 60) (cond c (span 65 65) None))) ≡ true
 scanning_lane true b c = refl
 scanning_lane false true c = refl
 scanning_lane false false true = refl
 scanning_lane false false false = refl
 
-la1_lane : (a : Bool) → lies_within (lane a La1) (cond a (at 47 50 0) (at 39 42 0)) ≡ true
-la1_lane true = refl
-la1_lane false = refl
+la1_lane : (a e : Bool) → lies_within (lane a e La1) (cond a (span 47 50) (span 39 42)) ≡ true
+la1_lane true e = refl
+la1_lane false e = refl
 
-lo1_lane : (a : Bool) → lies_within (lane a Lo1) (cond a (at 51 54 0) (at 43 46 0)) ≡ true
-lo1_lane true = refl
-lo1_lane false = refl
+lo1_lane : (a e : Bool) → lies_within (lane a e Lo1) (cond a (span 51 54) (span 43 46)) ≡ true
+lo1_lane true e = refl
+lo1_lane false e = refl
 
-member_lane : (d : Bool) → lies_within (record { first = 36; last = 36 }) (cond d (at 36 36 0) None) ≡ true
-member_lane true = refl
-member_lane false = refl
+-- template 4.8 has no ensemble
+ensemble_lane : (o : Option Octets) → lies_within o o ≡ true → (t : ℕ) (e : Bool) → (t == 8) ≡ e → lies_within (cond e None o) (cond (is_of (1 ∷ 11 ∷ []) t) o None) ≡ true
+ensemble_lane o itself t true is = subst (λ (n : ℕ). lies_within None (cond (is_of (1 ∷ 11 ∷ []) n) o None) ≡ true) (sym (eqb-true t 8 is)) refl
+ensemble_lane o itself t false is = go (is_of (1 ∷ 11 ∷ []) t) where
+  go : (d : Bool) → lies_within o (cond d o None) ≡ true
+  go true = itself
+  go false = refl
 
-in_lane : (t : ℕ) (key : Key) → lies_within (lane (is_by_angles t) key) ((row_of key).place t) ≡ true
-in_lane t Scanning = scanning_lane (is_by_angles t) (is_of (10 ∷ []) t) (is_of (20 ∷ 30 ∷ []) t)
-in_lane t La1 = la1_lane (is_by_angles t)
-in_lane t Lo1 = lo1_lane (is_by_angles t)
-in_lane t EnsembleNumber = member_lane (is_of (1 ∷ 11 ∷ []) t)
-in_lane t Discipline = refl
-in_lane t key = refl
+module _ (first last : ℕ) (here : lies_within (span first last) (span first last) ≡ true) (there : lies_within (span (first + 3) (last + 3)) (span (first + 3) (last + 3)) ≡ true) where
+  interval_lane : (e f : Bool) → lies_within (shifted e first last) (cond e (span first last) (cond f (span (first + 3) (last + 3)) None)) ≡ true
+  interval_lane true f = here
+  interval_lane false true = there
+  interval_lane false false = refl
 
-record IsIn (l p : Octets) : Type 0 where
+  range_lane : (e f z : Bool) → lies_within (shifted e first last) (cond z None (cond e (span first last) (cond f (span (first + 3) (last + 3)) None))) ≡ true
+  range_lane e f true = refl
+  range_lane e f false = interval_lane e f
+
+abbrev lane_by : Layout → Key → Option Octets
+lane_by l key = lane (is_by_angles l.template) (l.template == 8) key
+
+in_lane : (l : Layout) (key : Key) → lies_within (lane_by l key) ((row_of key).place l) ≡ true
+in_lane l Scanning = scanning_lane (is_by_angles l.template) (is_of (10 ∷ []) l.template) (is_of (20 ∷ 30 ∷ []) l.template)
+in_lane l La1 = la1_lane (is_by_angles l.template) (l.template == 8)
+in_lane l Lo1 = lo1_lane (is_by_angles l.template) (l.template == 8)
+in_lane l EnsembleType = ensemble_lane (span 35 35) refl l.template (l.template == 8) refl
+in_lane l EnsembleNumber = ensemble_lane (span 36 36) refl l.template (l.template == 8) refl
+in_lane l EnsembleMembers = ensemble_lane (span 37 37) refl l.template (l.template == 8) refl
+in_lane l EndYear = interval_lane 35 36 refl refl (l.template == 8) (l.template == 11)
+in_lane l EndMonth = interval_lane 37 37 refl refl (l.template == 8) (l.template == 11)
+in_lane l EndDay = interval_lane 38 38 refl refl (l.template == 8) (l.template == 11)
+in_lane l EndHour = interval_lane 39 39 refl refl (l.template == 8) (l.template == 11)
+in_lane l EndMinute = interval_lane 40 40 refl refl (l.template == 8) (l.template == 11)
+in_lane l EndSecond = interval_lane 41 41 refl refl (l.template == 8) (l.template == 11)
+in_lane l RangeProcess = range_lane 47 47 refl refl (l.template == 8) (l.template == 11) (l.ranges == 0)
+in_lane l RangeIncrementType = range_lane 48 48 refl refl (l.template == 8) (l.template == 11) (l.ranges == 0)
+in_lane l RangeUnit = range_lane 49 49 refl refl (l.template == 8) (l.template == 11) (l.ranges == 0)
+in_lane l RangeLength = range_lane 50 53 refl refl (l.template == 8) (l.template == 11) (l.ranges == 0)
+in_lane l Discipline = refl
+in_lane l key = refl
+
+-- the lane of a key that has a place, and the place within it
+record HasLane (lane : Option Octets) (p : Octets) : Type 0 where
+  pub l : Octets
+  pub is : lane ≡ Some l
   pub low : l.first ≤ p.first
   pub high : p.last ≤ l.last
 
-lane_tells : (t : ℕ) (key : Key) (p : Octets) → (row_of key).place t ≡ Some p → IsIn (lane (is_by_angles t) key) p
-lane_tells t key p place =
-    let l = lane (is_by_angles t) key in
-    let e : (not (nat_lt p.first l.first) && not (nat_lt l.last p.last)) ≡ true = sym (ap (lies_within l) place) ∙ in_lane t key in
-    record {
-      low = ltb-false p.first l.first (not_true (nat_lt p.first l.first) (and_first (not (nat_lt p.first l.first)) _ e));
-      high = ltb-false l.last p.last (not_true (nat_lt l.last p.last) (and_second (not (nat_lt p.first l.first)) _ e));
-    }
+has_lane : (lane : Option Octets) (p : Octets) → lies_within lane (Some p) ≡ true → HasLane lane p
+has_lane None p e = absurd (cc)
+has_lane (Some l) p e = record {
+  l = l;
+  is = refl;
+  low = ltb-false p.first l.first (not_true (nat_lt p.first l.first) (and_first (not (nat_lt p.first l.first)) _ e));
+  high = ltb-false l.last p.last (not_true (nat_lt l.last p.last) (and_second (not (nat_lt p.first l.first)) _ e));
+}
+
+lane_tells : (l : Layout) (key : Key) (p : Octets) → (row_of key).place l ≡ Some p → HasLane (lane_by l key) p
+lane_tells l key p place = has_lane (lane_by l key) p (sym (ap (lies_within (lane_by l key)) place) ∙ in_lane l key)
 
 -- ---- lanes that do not meet
 
-abbrev clear : Octets → Octets → Bool
-clear l k = nat_lt l.last k.first || nat_lt k.last l.first
+abbrev clear : Option Octets → Option Octets → Bool
+clear x y = option_map_or (λ l. option_map_or (λ k. nat_lt l.last k.first || nat_lt k.last l.first) y true) x true
 
-abbrev lanes_apart : Bool → Key → Key → Bool
-lanes_apart a key other =
+abbrev lanes_apart : Bool → Bool → Key → Key → Bool
+lanes_apart a e key other =
     (index key == index other)
-    || (not ((row_of key).section == (row_of other).section) || (not (can_set key) || (not (can_set other) || clear (lane a key) (lane a other))))
+    || (not ((row_of key).section == (row_of other).section) || (not (can_set key) || (not (can_set other) || clear (lane a e key) (lane a e other))))
 
-apart_true : (key : Key) → list_all (lanes_apart true key) keys ≡ true
-apart_true Discipline = refl
-apart_true key = refl
+apart_tt : (key : Key) → list_all (lanes_apart true true key) keys ≡ true
+apart_tt Discipline = refl
+apart_tt key = refl
 
-apart_false : (key : Key) → list_all (lanes_apart false key) keys ≡ true
-apart_false Discipline = refl
-apart_false key = refl
+apart_tf : (key : Key) → list_all (lanes_apart true false key) keys ≡ true
+apart_tf Discipline = refl
+apart_tf key = refl
 
-apart_by : (a : Bool) (key : Key) → list_all (lanes_apart a key) keys ≡ true
-apart_by true key = apart_true key
-apart_by false key = apart_false key
+apart_ft : (key : Key) → list_all (lanes_apart false true key) keys ≡ true
+apart_ft Discipline = refl
+apart_ft key = refl
+
+apart_ff : (key : Key) → list_all (lanes_apart false false key) keys ≡ true
+apart_ff Discipline = refl
+apart_ff key = refl
+
+apart_by : (a e : Bool) (key : Key) → list_all (lanes_apart a e key) keys ≡ true
+apart_by true true key = apart_tt key
+apart_by true false key = apart_tf key
+apart_by false true key = apart_ft key
+apart_by false false key = apart_ff key
 
 -- two keys stand apart in a section
-pub places_apart : (t : ℕ) (key other : Key) (p q : Octets) → key ≢ other → can_set key ≡ true → can_set other ≡ true → (row_of key).section ≡ (row_of other).section
-    → (row_of key).place t ≡ Some p → (row_of other).place t ≡ Some q → (p.last < q.first) ⊎ (q.last < p.first)
-places_apart t key other p q differ set also section here there =
-    let a = is_by_angles t in
-    let l = lane a key in
-    let k = lane a other in
-    let e = of_each (lanes_apart a key) (apart_by a key) other in
-    let told : ((index key == index other) || clear l k) ≡ true =
-    sym (λ i. (index key == index other) || (not (eq-eqb (row_of key).section (row_of other).section section i) || (not (set i) || (not (also i) || clear l k)))) ∙ e in
-    let mine = lane_tells t key p here in
-    let its = lane_tells t other q there in
-    elim (or_parts_true (index key == index other) (clear l k) told) [
+pub places_apart : (l : Layout) (key other : Key) (p q : Octets) → key ≢ other → can_set key ≡ true → can_set other ≡ true → (row_of key).section ≡ (row_of other).section
+    → (row_of key).place l ≡ Some p → (row_of other).place l ≡ Some q → (p.last < q.first) ⊎ (q.last < p.first)
+places_apart l key other p q differ set also section here there =
+    let a = is_by_angles l.template in
+    let e = l.template == 8 in
+    let mine = lane_tells l key p here in
+    let its = lane_tells l other q there in
+    let each = of_each (lanes_apart a e key) (apart_by a e key) other in
+    let told : ((index key == index other) || (nat_lt mine.l.last its.l.first || nat_lt its.l.last mine.l.first)) ≡ true =
+    sym (λ i. (index key == index other) || (not (eq-eqb (row_of key).section (row_of other).section section i) || (not (set i) || (not (also i) || clear (mine.is i) (its.is i))))) ∙ each in
+    elim (or_parts_true (index key == index other) (nat_lt mine.l.last its.l.first || nat_lt its.l.last mine.l.first) told) [
       | inl same ↦
           absurd (differ (sym (at_index key) ∙ ap (λ (n : ℕ). get_or keys n Discipline) (eqb-true (index key) (index other) same) ∙ at_index other))
-      | inr apart ↦ elim (or_parts_true (nat_lt l.last k.first) (nat_lt k.last l.first) apart) [
-        | inl first ↦ (let lt : l.last < k.first = ltb-true l.last k.first first in inl (omega (arith, mine.high, its.low)))
-        | inr second ↦ (let lt : k.last < l.first = ltb-true k.last l.first second in inr (omega (arith, mine.low, its.high)))
+      | inr apart ↦ elim (or_parts_true (nat_lt mine.l.last its.l.first) (nat_lt its.l.last mine.l.first) apart) [
+        | inl first ↦ (let lt : mine.l.last < its.l.first = ltb-true mine.l.last its.l.first first in inl (omega (arith, mine.high, its.low)))
+        | inr second ↦ (let lt : its.l.last < mine.l.first = ltb-true its.l.last mine.l.first second in inr (omega (arith, mine.low, its.high)))
       ]
     ]

@@ -1,6 +1,7 @@
 pub mod Accepted
 pub mod Alone
 pub mod Asked
+pub mod Bounded
 pub mod Changes
 pub mod Composed
 pub mod Cut

@@ -1,5 +1,5 @@
 -- Sections of an accepted message as changes are made in them.
-use Rattle.std.proofs.Common.{◌≡◌, ℕ, ◌+◌, ◌-◌, ◌≤◌, true, false, not, ◌==◌, Some, None, unwrap_or, List, [], ◌∷◌, ◌++◌, length, take, drop, map, inl, inr, refl, sym, ap, ap₂, ◌∙◌, arith, subst, eq-eqb, append_assoc, append-nil, drop-drop, length-drop}
+use Rattle.std.proofs.Common.{◌≡◌, ◌≢◌, ℕ, ◌+◌, ◌-◌, ◌≤◌, true, false, not, ◌==◌, Some, None, unwrap_or, List, [], ◌∷◌, ◌++◌, length, take, drop, map, inl, inr, refl, sym, ap, ap₂, ◌∙◌, arith, subst, eq-eqb, append_assoc, append-nil, drop-drop, length-drop}
 use Rattle.std.specs.List.{concat}
 use Rattle.std.proofs.lemmas.Bool.{cases_eq}
 use Rattle.std.proofs.lemmas.List.{take_rest, drop_all}
@@ -20,10 +20,10 @@ use Rattle.grib_keys.specs.declared.key.Key.TheVariants.{Discipline}
 use Rattle.grib_keys.specs.declared.condition.Condition.{Condition}
 use Rattle.grib_keys.specs.Keys.{row_of}
 use Rattle.grib_keys.specs.declared.table.Octets.{Octets}
-use Rattle.grib_select.specs.Values.{template_of, octet_count, HasKeys, IsWithin}
+use Rattle.grib_select.specs.Values.{layout_of, octet_count, HasKeys, IsWithin}
 use Rattle.grib_select.specs.Changed.{new_number, put_number, with_key, with_changes, changed}
 use Rattle.grib_select.proofs.Changes.{with_key_here}
-use Rattle.grib_select.proofs.Within.{has_keys, identification_within, grid_within, product_within, packing_within}
+use Rattle.grib_select.proofs.Within.{has_keys, product_has_keys, identification_within, grid_within, packing_within}
 
 -- ---- the keys of a section that no row refuses stand in it
 
@@ -40,10 +40,11 @@ nowhere_7 : (key : Key) → not ((row_of key).section == 7) ≡ true
 nowhere_7 Discipline = refl
 nowhere_7 key = refl
 
-none_there : (n : ℕ) (s : List ℕ) → ((key : Key) → not ((row_of key).section == n) ≡ true) → HasKeys n s
-none_there n s nowhere key p section place =
-    let told : false ≡ true = sym (ap not (eq-eqb (row_of key).section n section)) ∙ nowhere key in
-    absurd (cc)
+none_there : (n : ℕ) (s : List ℕ) → ((key : Key) → not ((row_of key).section == n) ≡ true) → n ≢ 4 → HasKeys n s
+none_there n s nowhere other = record {
+  keys = λ key p section place. (let told : false ≡ true = sym (ap not (eq-eqb (row_of key).section n section)) ∙ nowhere key in absurd (cc));
+  counted = λ e. absurd (other e);
+}
 
 pub section_keys : (before : List Placed) (p : Placed) (n : ℕ) → section_number p.octets ≡ n → 1 ≤ n → n ≤ 7 → section_fault before p ≡ None → HasKeys n p.octets
 section_keys before p n is low high none =
@@ -51,22 +52,22 @@ section_keys before p n is low high none =
     let P : ℕ → Type 0 = λ k. HasKeys k s in
     let fault = λ (k : ℕ) (e : n ≡ k). sym (fault_of before p k (is ∙ e)) ∙ none in
     elim (cases_eq n 1) [
-      | inl e ↦ subst P (sym e) (has_keys 1 s (identification_within s (none_located p.start (first_fault (identification_rows s)) (fault 1 e))))
+      | inl e ↦ subst P (sym e) (has_keys 1 s (identification_within s (none_located p.start (first_fault (identification_rows s)) (fault 1 e))) (λ f. omega (arith, f)))
       | inr not_1 ↦ elim (cases_eq n 2) [
-        | inl e ↦ subst P (sym e) (none_there 2 s nowhere_2)
+        | inl e ↦ subst P (sym e) (none_there 2 s nowhere_2 (λ f. omega (arith, f)))
         | inr not_2 ↦ elim (cases_eq n 3) [
-          | inl e ↦ subst P (sym e) (has_keys 3 s (grid_within s (none_located p.start (first_fault (grid_rows s)) (fault 3 e))))
+          | inl e ↦ subst P (sym e) (has_keys 3 s (grid_within s (none_located p.start (first_fault (grid_rows s)) (fault 3 e))) (λ f. omega (arith, f)))
           | inr not_3 ↦ elim (cases_eq n 4) [
             | inl e ↦
-                subst P (sym e) (has_keys 4 s (product_within s (section_count 4 before + 1)
-                (none_located p.start (first_fault (product_rows s (section_count 4 before + 1))) (fault 4 e))))
+                subst P (sym e) (product_has_keys s (section_count 4 before + 1)
+                (none_located p.start (first_fault (product_rows s (section_count 4 before + 1))) (fault 4 e)))
             | inr not_4 ↦ elim (cases_eq n 5) [
               | inl e ↦
                   subst P (sym e) (has_keys 5 s (packing_within s (points_in_force before)
-                  (none_located p.start (packing_fault s (points_in_force before)) (fault 5 e))))
+                  (none_located p.start (packing_fault s (points_in_force before)) (fault 5 e))) (λ f. omega (arith, f)))
               | inr not_5 ↦ elim (cases_eq n 6) [
-                | inl e ↦ subst P (sym e) (none_there 6 s nowhere_6)
-                | inr not_6 ↦ (let e : n ≡ 7 = omega arith in subst P (sym e) (none_there 7 s nowhere_7))
+                | inl e ↦ subst P (sym e) (none_there 6 s nowhere_6 (λ f. omega (arith, f)))
+                | inr not_6 ↦ (let e : n ≡ 7 = omega arith in subst P (sym e) (none_there 7 s nowhere_7 (λ f. omega (arith, f))))
               ]
             ]
           ]
@@ -77,7 +78,7 @@ section_keys before p n is low high none =
 -- ---- a change as it is written
 
 pub put_is : (change : Condition) (number : ℕ) (s : List ℕ) (p : Octets) (ys : List ℕ) → (row_of change.key).section ≡ number
-    → Some p ≡ (row_of change.key).place (template_of (row_of change.key).section s) → IsWithin (length s) p
+    → Some p ≡ (row_of change.key).place (layout_of (row_of change.key).section s) → IsWithin (length s) p
     → ys ≡ octets_of (octet_count p) (unwrap_or (new_number change) 0) ++ drop (octet_count p) (take (length s - (p.first - 1)) (drop (p.first - 1) s))
     → put_mid (p.first - 1) (length s - (p.first - 1)) s ys ≡ with_key change number s
 put_is change number s p ys section place within is =
@@ -94,8 +95,8 @@ put_is change number s p ys section place within is =
     let rest : drop n (take k (drop a s)) ≡ drop (a + length xs) s =
     ap (drop n) (take_rest s a) ∙ drop-drop n a s ∙ ap (λ (j : ℕ). drop j s) (let e : a + n ≡ a + length xs = omega arith in e) in
     let none : post_of a k s ≡ [] = drop_all k (drop a s) (omega (arith, length-drop a s)) in
-    let there : (row_of change.key).place (template_of number s) ≡ Some p =
-    ap (λ (j : ℕ). (row_of change.key).place (template_of j s)) (sym section) ∙ sym place in
+    let there : (row_of change.key).place (layout_of number s) ≡ Some p =
+    ap (λ (j : ℕ). (row_of change.key).place (layout_of j s)) (sym section) ∙ sym place in
     ap₂ (λ (zs ws : List ℕ). take a s ++ (zs ++ ws)) (is ∙ ap (λ (zs : List ℕ). xs ++ zs) rest) none
     ∙ ap (λ (zs : List ℕ). take a s ++ zs) (append-nil (xs ++ drop (a + length xs) s))
     ∙ sym (with_key_here change number s section ∙ ap (put_number change s) there)

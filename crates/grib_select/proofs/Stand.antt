@@ -1,14 +1,17 @@
 -- Octets of a section that no change touches, and what they decide.
-use Rattle.std.proofs.Common.{◌≡◌, ℕ, zero, suc, ◌+◌, ◌-◌, ◌*◌, ◌/◌, ◌≤◌, Bool, true, false, not, cond, ◌&&◌, ◌||◌, ◌==◌, min, nat_lt, List, [], ◌∷◌, length, map, refl, sym, ap, ◌∙◌, arith, lt-ltb}
+use Rattle.std.proofs.Common.{◌≡◌, ℕ, zero, suc, ◌+◌, ◌-◌, ◌*◌, ◌/◌, ◌≤◌, Bool, true, false, not, cond, ◌&&◌, ◌||◌, ◌==◌, min, nat_lt, List, [], ◌∷◌, length, map, inl, inr, refl, sym, ap, ◌∙◌, arith, subst, lt-ltb, ne_eqb}
 use Rattle.std.specs.Prelude.{sum}
 use Rattle.std.specs.List.{range_with_len}
+use Rattle.std.proofs.lemmas.Bool.{cases_eq}
 use Rattle.grib_bits.specs.Octets.{octets, octet_list, num_on, StatesItself}
 use Rattle.grib_base.specs.declared.fault.Reason.TheVariants.{SectionLength, GridSource, GridTemplate, PointCount, ListShape, FieldCount, ProductTemplate}
 use Rattle.grib_base.specs.Rows.{Row, row}
 use Rattle.grib2_sections.specs.Template.{is_template, least_length}
 use Rattle.grib2_sections.specs.Identification.{identification_rows}
 use Rattle.grib2_grids.specs.Grid.{grid_rows, grid_points, grid_template, grid_templates, list_octets, list_start, row_list, ni, nj, may_have_list}
-use Rattle.grib2_products.specs.Product.{product_rows, product_templates}
+use Rattle.grib2_products.specs.Product.{product_rows, product_templates, time_ranges}
+use Rattle.grib_keys.specs.declared.table.Layout.{Layout}
+use Rattle.grib_select.specs.Values.{template_of, layout_of}
 
 -- whether octets a to b are outside the octets first to last
 abbrev pub outside : ℕ → ℕ → ℕ → ℕ → Bool
@@ -20,22 +23,54 @@ is_fixed number a b =
     cond (number == 0) (outside 7 7 a b)
     (cond (number == 1) (outside 6 21 a b)
     (cond (number == 3) (outside 15 30 a b && outside 39 72 a b)
-    (cond (number == 4) (outside 10 36 a b) true)))
+    (cond (number == 4) (outside 10 56 a b) true)))
 
--- two sections with this number that are the same there
+-- the same octets there
+abbrev pub KeepsFixed : ℕ → List ℕ → List ℕ → Type 0
+KeepsFixed number s t = (a b : ℕ) → 1 ≤ a → a ≤ b → is_fixed number a b ≡ true → octet_list t a b ≡ octet_list s a b
+
+-- two sections with this number that are the same there and have one layout
 pub record AreAlike (number : ℕ) (s t : List ℕ) : Type 0 where
   pub long : length t ≡ length s
-  pub fixed : (a b : ℕ) → 1 ≤ a → a ≤ b → is_fixed number a b ≡ true → octet_list t a b ≡ octet_list s a b
+  pub fixed : KeepsFixed number s t
+  pub layout : layout_of number t ≡ layout_of number s
 
 pub alike_self : (number : ℕ) (s : List ℕ) → AreAlike number s s
-alike_self number s = record { long = refl; fixed = λ a b low order e. refl }
+alike_self number s = record { long = refl; fixed = λ a b low order e. refl; layout = refl }
 
 pub alike_then : (number : ℕ) (s t u : List ℕ) → AreAlike number s t → AreAlike number t u → AreAlike number s u
-alike_then number s t u h k = record { long = k.long ∙ h.long; fixed = λ a b low order e. k.fixed a b low order e ∙ h.fixed a b low order e }
+alike_then number s t u h k = record {
+  long = k.long ∙ h.long;
+  fixed = λ a b low order e. k.fixed a b low order e ∙ h.fixed a b low order e;
+  layout = k.layout ∙ h.layout;
+}
 
 -- the number of such octets
 pub alike_octets : (number a b : ℕ) (s t : List ℕ) → AreAlike number s t → 1 ≤ a → a ≤ b → is_fixed number a b ≡ true → octets t a b ≡ octets s a b
 alike_octets number a b s t h low order e = ap (num_on 0) (h.fixed a b low order e)
+
+-- ---- the template
+
+pub template_stays : (number : ℕ) (s t : List ℕ) → KeepsFixed number s t → template_of number t ≡ template_of number s
+template_stays number s t h = elim (cases_eq number 3) [
+  | inl e ↦
+      subst (λ (n : ℕ). KeepsFixed n s t → template_of n t ≡ template_of n s) (sym e)
+      (λ k. ap (num_on 0) (k 13 14 (omega arith) (omega arith) refl)) h
+  | inr not_3 ↦ elim (cases_eq number 4) [
+    | inl e ↦
+        subst (λ (n : ℕ). KeepsFixed n s t → template_of n t ≡ template_of n s) (sym e)
+        (λ k. ap (num_on 0) (k 8 9 (omega arith) (omega arith) refl)) h
+    | inr not_4 ↦ elim (cases_eq number 5) [
+      | inl e ↦
+          subst (λ (n : ℕ). KeepsFixed n s t → template_of n t ≡ template_of n s) (sym e)
+          (λ k. ap (num_on 0) (k 10 11 (omega arith) (omega arith) refl)) h
+      | inr not_5 ↦
+          let other : (u : List ℕ) → template_of number u ≡ 0 =
+          λ u. λ i. cond (ne_eqb number 3 not_3 i) (octets u 13 14) (cond (ne_eqb number 4 not_4 i) (octets u 8 9) (cond (ne_eqb number 5 not_5 i) (octets u 10 11) 0)) in
+          other t ∙ sym (other s)
+    ]
+  ]
+]
 
 -- it states the same length and the same number
 pub alike_itself : (number n : ℕ) (s t : List ℕ) → AreAlike number s t → is_fixed number 1 4 ≡ true → is_fixed number 5 5 ≡ true → StatesItself n s → StatesItself n t
@@ -134,13 +169,13 @@ alike_grid s t h =
 
 -- ---- Section 4
 
-product_by : ℕ → ℕ → ℕ → ℕ → ℕ → ℕ → List Row
-product_by l t n coordinates ranges_8 ranges_11 =
+product_by : ℕ → ℕ → ℕ → ℕ → ℕ → List Row
+product_by l t n coordinates ranges =
     row (nat_lt l 9) 1 SectionLength l
     ∷ row (n == 4097) 1 FieldCount 4097
     ∷ row (not (is_template product_templates t)) 8 ProductTemplate t
     ∷ row (nat_lt l (least_length product_templates t)) 1 SectionLength l
-    ∷ row (nat_lt l (least_length product_templates t + 12 * cond (t == 8) ranges_8 (cond (t == 11) ranges_11 0) + 4 * coordinates)) 1 SectionLength l
+    ∷ row (nat_lt l (least_length product_templates t + 12 * ranges + 4 * coordinates)) 1 SectionLength l
     ∷ []
 
 pub alike_product : (s t : List ℕ) (n : ℕ) → AreAlike 4 s t → product_rows t n ≡ product_rows s n
@@ -148,6 +183,5 @@ unfolding product_by
 alike_product s t n h =
     let template = alike_octets 4 8 9 s t h (omega arith) (omega arith) refl in
     let coordinates = alike_octets 4 6 7 s t h (omega arith) (omega arith) refl in
-    let ranges_8 = alike_octets 4 42 42 s t h (omega arith) (omega arith) refl in
-    let ranges_11 = alike_octets 4 45 45 s t h (omega arith) (omega arith) refl in
-    λ i. product_by (h.long i) (template i) n (coordinates i) (ranges_8 i) (ranges_11 i)
+    let ranges : time_ranges t ≡ time_ranges s = ap (λ (l : Layout). l.ranges) h.layout in
+    λ i. product_by (h.long i) (template i) n (coordinates i) (ranges i)

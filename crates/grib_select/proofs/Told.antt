@@ -16,7 +16,7 @@ use Rattle.grib_keys.specs.declared.table.Octets.{Octets}
 use Rattle.grib_keys.specs.Keys.{row_of}
 use Rattle.grib_select.specs.declared.changing.SetFault.{SetFault}
 use Rattle.grib_select.specs.declared.changing.SetFault.TheVariants.{KeyRange, KeyAbsent}
-use Rattle.grib_select.specs.Values.{key_section, template_of, value_at, value_in, key_value_of}
+use Rattle.grib_select.specs.Values.{key_section, layout_of, value_at, value_in, key_value_of}
 use Rattle.grib_select.specs.Changed.{new_number, with_changes, with_keys, first_without, change_fault, or_later, set_fault}
 use Rattle.grib_select.proofs.Accepted.{field_up_to, sound_of, part_itself}
 use Rattle.grib_select.proofs.Changes.{CanBeSet, IsReady, ready, changes_alike, shape_tells}
@@ -109,7 +109,7 @@ module _ (m : List ℕ) (changes : List Condition) (h : IsMessage m) (set : CanB
   in_head =
       let s = take 16 m in
       let least = message_least m h in
-      let keys = ready 0 s (has_keys 0 s (head_within s (omega (arith, length-take-le 16 m (omega arith))))) in
+      let keys = ready 0 s (has_keys 0 s (head_within s (omega (arith, length-take-le 16 m (omega arith)))) (λ e. omega (arith, e))) in
       let alike = changes_alike changes 0 s keys set in
       record {
         is = take_at (with_changes changes 0 s) _ 16 (alike.long ∙ length-take-le 16 m (omega arith));
@@ -162,9 +162,9 @@ module _ (m : List ℕ) (changes : List Condition) (h : IsMessage m) (set : CanB
       let t = with_changes changes n s in
       let c = in_section key in
       let alike = changes_alike changes n s c.ready set in
-      let at = placed key (value_at (row_of key).kind s) ((row_of key).place (template_of n s)) (made.there i low high) in
+      let at = placed key (value_at (row_of key).kind s) ((row_of key).place (layout_of n s)) (made.there i low high) in
       ap (value_in key) c.is
-      ∙ value_told n s t change made.raw at.0 refl (c.ready.template t alike) at.1 (shape_tells key (template_of n s) at.0 at.1) has made.number
+      ∙ value_told n s t change made.raw at.0 refl (alike.layout) at.1 (shape_tells key (layout_of n s) at.0 at.1) has made.number
 
   pub all_told : set_fault m changes ≡ None → StandOnce changes → All (λ c. key_value_of (with_keys m changes) i c.key ≡ Some c.value) changes
   all_told none once k d within =

@@ -1,84 +1,118 @@
--- Each key that the template of a section has stands within the section, by the rows of the profile.
-use Rattle.std.proofs.Common.{◌≡◌, ◌≢◌, ℕ, ◌+◌, ◌-◌, ◌<◌, ◌≤◌, Bool, true, false, not, ◌||◌, ◌&&◌, ◌==◌, Option, Some, None, List, [], length, nat_lt, ◌⊎◌, inl, inr, refl, sym, ap, ◌∙◌, arith, subst, ltb-false, eqb-true, ltb-true, eq-eqb}
+-- Each key that a section has stands within the section, by the rows of the profile.
+use Rattle.std.proofs.Common.{◌≡◌, ◌≢◌, ℕ, cond, ◌+◌, ◌-◌, ◌*◌, ◌<◌, ◌≤◌, Bool, true, false, not, ◌||◌, ◌&&◌, ◌==◌, Option, Some, None, List, [], length, nat_lt, ◌⊎◌, inl, inr, refl, sym, ap, ◌∙◌, arith, subst, ltb-false, eqb-true, ltb-true, eq-eqb}
 use Rattle.std.specs.Option.{option_map_or}
-use Rattle.std.proofs.lemmas.Bool.{not-false, cases_eq}
+use Rattle.std.proofs.lemmas.Bool.{not-false, cases_eq, eqb-false}
 use Rattle.grib_base.specs.Rows.{Row, first_fault, or_then, choose}
 use Rattle.grib2_sections.specs.Template.{is_template, least_length}
 use Rattle.grib2_sections.specs.Identification.{identification_rows}
 use Rattle.grib2_grids.specs.Grid.{grid_rows, grid_points, grid_template, grid_templates}
 use Rattle.grib2_message.specs.Message.{FieldPasses}
 use Rattle.grib2_message.specs.Fields.{part_octets}
-use Rattle.grib2_products.specs.Product.{product_rows, product_template, product_templates}
+use Rattle.grib2_products.specs.Product.{product_rows, product_template, product_templates, product_length, time_ranges}
 use Rattle.grib_packing.specs.Packing.{packing_template, packing_templates, packing_rows}
 use Rattle.grib_packing.specs.Complex.{complex_rows}
 use Rattle.grib_packing.specs.Entries.{packing_fault}
 use Rattle.grib_base.specs.declared.fault.Fault.{Fault}
 use Rattle.grib_keys.specs.declared.key.Key.{Key}
-use Rattle.grib_keys.specs.declared.key.Key.TheVariants.{Discipline}
+use Rattle.grib_keys.specs.declared.key.Key.TheVariants.{Discipline, RangeProcess, RangeIncrementType, RangeUnit, RangeLength}
+use Rattle.grib_keys.specs.declared.table.Layout.{Layout}
 use Rattle.grib_keys.specs.declared.table.Octets.{Octets}
-use Rattle.grib_keys.specs.Keys.{row_of}
+use Rattle.grib_keys.specs.Keys.{row_of, interval_place}
 use Rattle.grib2_message.proofs.Passed.{passes_from_none}
-use Rattle.grib_select.specs.Values.{template_of, octet_count, HasKeys, IsWithin}
+use Rattle.grib_select.specs.Values.{count_octet, layout_of, octet_count, HasKeys, IsWithin}
 
 -- ---- the places of the keys, template by template
 
--- whether the key, if it stands in a section with this number and template, has 1 to 4 octets and ends
--- within the first l
-abbrev pub ends_within : ℕ → ℕ → ℕ → Key → Bool
-ends_within number t l key =
-    not ((row_of key).section == number) || option_map_or (λ p. nat_lt 0 p.first && (nat_lt p.last (l + 1) && (nat_lt 0 (octet_count p) && nat_lt (octet_count p) 5))) ((row_of key).place t) true
+abbrev pub laid_out : ℕ → ℕ → Layout
+laid_out template ranges = record { template = template; ranges = ranges }
 
-head_keys : (t : ℕ) (key : Key) → ends_within 0 t 16 key ≡ true
+-- whether a place, if there is one, has 1 to 4 octets and ends within the first l
+abbrev pub place_ends : ℕ → Option Octets → Bool
+place_ends l o = option_map_or (λ p. nat_lt 0 p.first && (nat_lt p.last (l + 1) && (nat_lt 0 (octet_count p) && nat_lt (octet_count p) 5))) o true
+
+-- whether the place of a key does, where the key is one of a section with this number
+abbrev pub ends_at : ℕ → ℕ → Key → Option Octets → Bool
+ends_at number l key o = not ((row_of key).section == number) || place_ends l o
+
+-- whether the key, if it stands in a section with this number, template and number of time ranges, does
+abbrev pub ends_within : ℕ → ℕ → ℕ → ℕ → Key → Bool
+ends_within number t n l key = ends_at number l key ((row_of key).place (laid_out t n))
+
+head_keys : (t : ℕ) (key : Key) → ends_within 0 t 0 16 key ≡ true
 head_keys t Discipline = refl
 head_keys t key = refl
 
-identification_keys : (t : ℕ) (key : Key) → ends_within 1 t 21 key ≡ true
+identification_keys : (t : ℕ) (key : Key) → ends_within 1 t 0 21 key ≡ true
 identification_keys t Discipline = refl
 identification_keys t key = refl
 
-packing_keys : (t : ℕ) (key : Key) → ends_within 5 t 21 key ≡ true
+packing_keys : (t : ℕ) (key : Key) → ends_within 5 t 0 21 key ≡ true
 packing_keys t Discipline = refl
 packing_keys t key = refl
 
-grid_0 : (key : Key) → ends_within 3 0 72 key ≡ true
+grid_0 : (key : Key) → ends_within 3 0 0 72 key ≡ true
 grid_0 Discipline = refl
 grid_0 key = refl
 
-grid_1 : (key : Key) → ends_within 3 1 84 key ≡ true
+grid_1 : (key : Key) → ends_within 3 1 0 84 key ≡ true
 grid_1 Discipline = refl
 grid_1 key = refl
 
-grid_10 : (key : Key) → ends_within 3 10 72 key ≡ true
+grid_10 : (key : Key) → ends_within 3 10 0 72 key ≡ true
 grid_10 Discipline = refl
 grid_10 key = refl
 
-grid_20 : (key : Key) → ends_within 3 20 65 key ≡ true
+grid_20 : (key : Key) → ends_within 3 20 0 65 key ≡ true
 grid_20 Discipline = refl
 grid_20 key = refl
 
-grid_30 : (key : Key) → ends_within 3 30 81 key ≡ true
+grid_30 : (key : Key) → ends_within 3 30 0 81 key ≡ true
 grid_30 Discipline = refl
 grid_30 key = refl
 
-grid_40 : (key : Key) → ends_within 3 40 72 key ≡ true
+grid_40 : (key : Key) → ends_within 3 40 0 72 key ≡ true
 grid_40 Discipline = refl
 grid_40 key = refl
 
-product_0 : (key : Key) → ends_within 4 0 34 key ≡ true
-product_0 Discipline = refl
-product_0 key = refl
+-- the place of a key of Section 4 by its template and by whether it has no time range
+abbrev by_ranges : Bool → ℕ → Key → Option Octets
+by_ranges none t RangeProcess = cond none None (interval_place 47 47 (laid_out t 0))
+by_ranges none t RangeIncrementType = cond none None (interval_place 48 48 (laid_out t 0))
+by_ranges none t RangeUnit = cond none None (interval_place 49 49 (laid_out t 0))
+by_ranges none t RangeLength = cond none None (interval_place 50 53 (laid_out t 0))
+by_ranges none t key = (row_of key).place (laid_out t 0)
 
-product_1 : (key : Key) → ends_within 4 1 37 key ≡ true
-product_1 Discipline = refl
-product_1 key = refl
+place_is : (t n : ℕ) (key : Key) → (row_of key).place (laid_out t n) ≡ by_ranges (n == 0) t key
+place_is t n Discipline = refl
+place_is t n key = refl
 
-product_8 : (key : Key) → ends_within 4 8 46 key ≡ true
-product_8 Discipline = refl
-product_8 key = refl
+-- the octets of the first time range, where there is one
+abbrev range_octets : Bool → ℕ
+range_octets none = cond none 0 12
 
-product_11 : (key : Key) → ends_within 4 11 49 key ≡ true
-product_11 Discipline = refl
-product_11 key = refl
+product_0 : (none : Bool) (key : Key) → ends_at 4 (34 + range_octets none) key (by_ranges none 0 key) ≡ true
+product_0 true Discipline = refl
+product_0 true key = refl
+product_0 false Discipline = refl
+product_0 false key = refl
+
+product_1 : (none : Bool) (key : Key) → ends_at 4 (37 + range_octets none) key (by_ranges none 1 key) ≡ true
+product_1 true Discipline = refl
+product_1 true key = refl
+product_1 false Discipline = refl
+product_1 false key = refl
+
+product_8 : (none : Bool) (key : Key) → ends_at 4 (46 + range_octets none) key (by_ranges none 8 key) ≡ true
+product_8 true Discipline = refl
+product_8 true key = refl
+product_8 false Discipline = refl
+product_8 false key = refl
+
+product_11 : (none : Bool) (key : Key) → ends_at 4 (49 + range_octets none) key (by_ranges none 11 key) ≡ true
+product_11 true Discipline = refl
+product_11 true key = refl
+product_11 false Discipline = refl
+product_11 false key = refl
 
 -- ---- the templates of the profile
 
@@ -91,9 +125,9 @@ pub by_template : (P : ℕ → Type 0) (n t : ℕ) (rest : Bool) → ((n == t) |
 by_template P n t rest e here later =
     elim (or_parts_true (n == t) rest e) [ inl same ↦ subst P (eqb-true n t same) here | inr other ↦ later other ]
 
-pub grid_keys_within : (t : ℕ) → is_template grid_templates t ≡ true → (key : Key) → ends_within 3 t (least_length grid_templates t) key ≡ true
+pub grid_keys_within : (t : ℕ) → is_template grid_templates t ≡ true → (key : Key) → ends_within 3 t 0 (least_length grid_templates t) key ≡ true
 grid_keys_within t e key =
-    let P : ℕ → Type 0 = λ n. ends_within 3 n (least_length grid_templates n) key ≡ true in
+    let P : ℕ → Type 0 = λ n. ends_within 3 n 0 (least_length grid_templates n) key ≡ true in
     by_template P 0 t _ e (grid_0 key)
     (λ e1. by_template P 1 t _ e1 (grid_1 key)
     (λ e2. by_template P 10 t _ e2 (grid_10 key)
@@ -101,13 +135,28 @@ grid_keys_within t e key =
     (λ e4. by_template P 30 t _ e4 (grid_30 key)
     (λ e5. by_template P 40 t _ e5 (grid_40 key) (λ e6. cc))))))
 
-pub product_keys_within : (t : ℕ) → is_template product_templates t ≡ true → (key : Key) → ends_within 4 t (least_length product_templates t) key ≡ true
-product_keys_within t e key =
-    let P : ℕ → Type 0 = λ n. ends_within 4 n (least_length product_templates n) key ≡ true in
-    by_template P 0 t _ e (product_0 key)
-    (λ e1. by_template P 1 t _ e1 (product_1 key)
-    (λ e2. by_template P 8 t _ e2 (product_8 key)
-    (λ e3. by_template P 11 t _ e3 (product_11 key) (λ e4. cc))))
+product_by : (none : Bool) (t : ℕ) → is_template product_templates t ≡ true → (key : Key)
+    → ends_at 4 (least_length product_templates t + range_octets none) key (by_ranges none t key) ≡ true
+product_by none t e key =
+    let P : ℕ → Type 0 = λ u. ends_at 4 (least_length product_templates u + range_octets none) key (by_ranges none u key) ≡ true in
+    by_template P 0 t _ e (product_0 none key)
+    (λ e1. by_template P 1 t _ e1 (product_1 none key)
+    (λ e2. by_template P 8 t _ e2 (product_8 none key)
+    (λ e3. by_template P 11 t _ e3 (product_11 none key) (λ e4. cc))))
+
+pub product_keys_within : (t n : ℕ) → is_template product_templates t ≡ true → (key : Key)
+    → ends_within 4 t n (least_length product_templates t + range_octets (n == 0)) key ≡ true
+product_keys_within t n e key =
+    ap (ends_at 4 (least_length product_templates t + range_octets (n == 0)) key) (place_is t n key) ∙ product_by (n == 0) t e key
+
+-- the octet with the number of time ranges stands within the template
+count_within : (t : ℕ) → is_template product_templates t ≡ true → count_octet t ≤ least_length product_templates t
+count_within t e =
+    let P : ℕ → Type 0 = λ u. count_octet u ≤ least_length product_templates u in
+    by_template P 0 t _ e (omega arith)
+    (λ e1. by_template P 1 t _ e1 (omega arith)
+    (λ e2. by_template P 8 t _ e2 (omega arith)
+    (λ e3. by_template P 11 t _ e3 (omega arith) (λ e4. cc))))
 
 -- ---- what the test tells of a place
 
@@ -132,11 +181,12 @@ place_tells l p e =
     let few : p.last + 1 - p.first < 5 = lt_true (octet_count p) 5 (and_second (nat_lt 0 (octet_count p)) _ count) in
     record { low = omega arith; high = omega arith; some = omega arith; few = omega arith }
 
-pub within_tells : (number t l : ℕ) (key : Key) (p : Octets) → ends_within number t l key ≡ true → (row_of key).section ≡ number → (row_of key).place t ≡ Some p → IsWithin l p
-within_tells number t l key p e section place =
+pub within_tells : (number t n l : ℕ) (key : Key) (p : Octets) → ends_within number t n l key ≡ true → (row_of key).section ≡ number → (row_of key).place (laid_out t n) ≡ Some p
+    → IsWithin l p
+within_tells number t n l key p e section place =
     place_tells l p (
-    sym (ap (λ (o : Option Octets). option_map_or (λ p. nat_lt 0 p.first && (nat_lt p.last (l + 1) && (nat_lt 0 (octet_count p) && nat_lt (octet_count p) 5))) o true) place)
-    ∙ sym (ap (λ (b : Bool). not b || option_map_or (λ p. nat_lt 0 p.first && (nat_lt p.last (l + 1) && (nat_lt 0 (octet_count p) && nat_lt (octet_count p) 5))) ((row_of key).place t) true) (eq-eqb (row_of key).section number section))
+    sym (ap (place_ends l) place)
+    ∙ sym (ap (λ (b : Bool). not b || place_ends l ((row_of key).place (laid_out t n))) (eq-eqb (row_of key).section number section))
     ∙ e)
 
 -- ---- sections that no row refuses
@@ -144,18 +194,18 @@ within_tells number t l key p e section place =
 -- each key of a section with this number and these octets stands within it, in 1 to 4 octets
 abbrev pub KeysWithin : ℕ → List ℕ → Type 0
 KeysWithin number s =
-    (key : Key) (p : Octets) → (row_of key).section ≡ number → (row_of key).place (template_of number s) ≡ Some p → IsWithin (length s) p
+    (key : Key) (p : Octets) → (row_of key).section ≡ number → (row_of key).place (layout_of number s) ≡ Some p → IsWithin (length s) p
 
 longer : (l n : ℕ) (p : Octets) → l ≤ n → IsWithin l p → IsWithin n p
 longer l n p more h = record { low = h.low; high = omega (arith, h.high); some = h.some; few = h.few }
 
 pub head_within : (s : List ℕ) → 16 ≤ length s → KeysWithin 0 s
-head_within s long key p section place = longer 16 (length s) p long (within_tells 0 0 16 key p (head_keys 0 key) section place)
+head_within s long key p section place = longer 16 (length s) p long (within_tells 0 0 0 16 key p (head_keys 0 key) section place)
 
 pub identification_within : (s : List ℕ) → first_fault (identification_rows s) ≡ None → KeysWithin 1 s
 identification_within s none key p section place =
     let rows = passes_from_none (identification_rows s) none in
-    longer 21 (length s) p (ltb-false (length s) 21 rows.0) (within_tells 1 0 21 key p (identification_keys 0 key) section place)
+    longer 21 (length s) p (ltb-false (length s) 21 rows.0) (within_tells 1 0 0 21 key p (identification_keys 0 key) section place)
 
 pub grid_within : (s : List ℕ) → first_fault (grid_rows s) ≡ None → KeysWithin 3 s
 grid_within s none key p section place =
@@ -163,15 +213,32 @@ grid_within s none key p section place =
     let t = grid_template s in
     let known : is_template grid_templates t ≡ true = not-false (is_template grid_templates t) rows.1.1.0 in
     longer (least_length grid_templates t) (length s) p (ltb-false (length s) (least_length grid_templates t) rows.1.1.1.0)
-    (within_tells 3 t (least_length grid_templates t) key p (grid_keys_within t known key) section place)
+    (within_tells 3 t 0 (least_length grid_templates t) key p (grid_keys_within t known key) section place)
+
+-- the first time range is one of all
+first_of_all : (n : ℕ) → range_octets (n == 0) ≤ 12 * n
+first_of_all n = go (n == 0) refl where
+  go : (none : Bool) → (n == 0) ≡ none → range_octets none ≤ 12 * n
+  go true e = omega arith
+  go false e = (let some = eqb-false n 0 e in omega arith)
 
 pub product_within : (s : List ℕ) (n : ℕ) → first_fault (product_rows s n) ≡ None → KeysWithin 4 s
 product_within s n none key p section place =
     let rows = passes_from_none (product_rows s n) none in
     let t = product_template s in
+    let ranges = time_ranges s in
     let known : is_template product_templates t ≡ true = not-false (is_template product_templates t) rows.1.1.0 in
-    longer (least_length product_templates t) (length s) p (ltb-false (length s) (least_length product_templates t) rows.1.1.1.0)
-    (within_tells 4 t (least_length product_templates t) key p (product_keys_within t known key) section place)
+    let whole : product_length s ≤ length s = ltb-false (length s) (product_length s) rows.1.1.1.1.0 in
+    longer (least_length product_templates t + range_octets (ranges == 0)) (length s) p (omega (arith, whole, first_of_all ranges))
+    (within_tells 4 t ranges (least_length product_templates t + range_octets (ranges == 0)) key p (product_keys_within t ranges known key) section place)
+
+pub count_counted : (s : List ℕ) (n : ℕ) → first_fault (product_rows s n) ≡ None → count_octet (product_template s) ≤ length s
+count_counted s n none =
+    let rows = passes_from_none (product_rows s n) none in
+    let t = product_template s in
+    let known : is_template product_templates t ≡ true = not-false (is_template product_templates t) rows.1.1.0 in
+    let least : least_length product_templates t ≤ length s = ltb-false (length s) (least_length product_templates t) rows.1.1.1.0 in
+    omega (arith, least, count_within t known)
 
 -- the least lengths of Section 5 are 21 and more
 at_least_21 : (t l : ℕ) → is_template packing_templates t ≡ true → least_length packing_templates t ≤ l → 21 ≤ l
@@ -192,25 +259,31 @@ packing_within s points none key p section place =
     let t = packing_template s in
     let known : is_template packing_templates t ≡ true = not-false (is_template packing_templates t) rows.1.0 in
     let least : least_length packing_templates t ≤ length s = ltb-false (length s) (least_length packing_templates t) rows.1.1.0 in
-    longer 21 (length s) p (at_least_21 t (length s) known least) (within_tells 5 t 21 key p (packing_keys t key) section place)
+    longer 21 (length s) p (at_least_21 t (length s) known least) (within_tells 5 t 0 21 key p (packing_keys t key) section place)
 
 -- ---- the sections in force for a field
 
-pub has_keys : (number : ℕ) (s : List ℕ) → KeysWithin number s → HasKeys number s
-has_keys number s h key place section at = (h key place section at).high
+pub has_keys : (number : ℕ) (s : List ℕ) → KeysWithin number s → number ≢ 4 → HasKeys number s
+has_keys number s h other = record { keys = λ key place section at. (h key place section at).high; counted = λ e. absurd (other e) }
+
+pub product_has_keys : (s : List ℕ) (n : ℕ) → first_fault (product_rows s n) ≡ None → HasKeys 4 s
+product_has_keys s n none = record {
+  keys = λ key place section at. (product_within s n none key place section at).high;
+  counted = λ e. count_counted s n none;
+}
 
 pub part_keys : (m : List ℕ) (i number : ℕ) → FieldPasses m i → number ≤ 5 → number ≢ 2 → number ≢ 0 → HasKeys number (part_octets m i number)
 part_keys m i number h few not_2 not_0 =
     let P : ℕ → Type 0 = λ n. HasKeys n (part_octets m i n) in
     elim (cases_eq number 1) [
-      | inl e ↦ subst P (sym e) (has_keys 1 (part_octets m i 1) (identification_within (part_octets m i 1) h.identification))
+      | inl e ↦ subst P (sym e) (has_keys 1 (part_octets m i 1) (identification_within (part_octets m i 1) h.identification) (λ f. omega (arith, f)))
       | inr not_1 ↦ elim (cases_eq number 3) [
-        | inl e ↦ subst P (sym e) (has_keys 3 (part_octets m i 3) (grid_within (part_octets m i 3) h.grid))
+        | inl e ↦ subst P (sym e) (has_keys 3 (part_octets m i 3) (grid_within (part_octets m i 3) h.grid) (λ f. omega (arith, f)))
         | inr not_3 ↦ elim (cases_eq number 4) [
-          | inl e ↦ subst P (sym e) (has_keys 4 (part_octets m i 4) (product_within (part_octets m i 4) 1 h.product))
+          | inl e ↦ subst P (sym e) (product_has_keys (part_octets m i 4) 1 h.product)
           | inr not_4 ↦
               let e : number ≡ 5 = omega arith in
-              subst P (sym e) (has_keys 5 (part_octets m i 5) (packing_within (part_octets m i 5) (grid_points (part_octets m i 3)) h.packing))
+              subst P (sym e) (has_keys 5 (part_octets m i 5) (packing_within (part_octets m i 5) (grid_points (part_octets m i 3)) h.packing) (λ f. omega (arith, f)))
         ]
       ]
     ]

@@ -13,16 +13,15 @@ use Rattle.grib_keys.specs.declared.condition.Value.TheVariants.{Number, Missing
 use Rattle.grib_keys.specs.declared.condition.Condition.{Condition}
 use Rattle.grib_keys.specs.declared.table.Octets.{Octets}
 use Rattle.grib_keys.specs.declared.table.Kind.{Kind}
-use Rattle.grib_keys.specs.Keys.{row_of}
+use Rattle.grib_keys.specs.Keys.{row_of, full_layout}
 use Rattle.grib2_message.specs.Fields.{sections_of, field_count}
-use Rattle.grib_select.specs.Values.{octet_count, is_all_ones, template_of, key_value_of}
+use Rattle.grib_select.specs.Values.{octet_count, is_all_ones, layout_of, key_value_of}
 use Rattle.grib_select.specs.declared.changing.SetFault.{SetFault}
 use Rattle.grib_select.specs.declared.changing.SetFault.TheVariants.{KeyRange, KeyAbsent, Memory}
 
--- how many octets the number of a key has: as many in each template that has the key, and template 1 of
--- each section has all
+-- how many octets the number of a key has: as many in each layout that has the key
 abbrev pub key_octets : Key → ℕ
-key_octets key = option_map_or octet_count ((row_of key).place 1) 0
+key_octets key = option_map_or octet_count ((row_of key).place (full_layout (row_of key).section)) 0
 
 -- the number of n octets without sign
 abbrev pub unsigned_number : ℕ → ℤ → Option ℕ
@@ -69,7 +68,7 @@ put_number change s (Some place) = put s place.first (octets_of (octet_count pla
 abbrev pub with_key : Condition → ℕ → List ℕ → List ℕ
 with_key change number s =
     let row = row_of change.key in
-    choose (row.section == number) (λ _. put_number change s (row.place (template_of number s))) (λ _. s)
+    choose (row.section == number) (λ _. put_number change s (row.place (layout_of number s))) (λ _. s)
 
 abbrev pub with_changes : List Condition → ℕ → List ℕ → List ℕ
 with_changes [] number s = s

@@ -9,9 +9,11 @@ use Rattle.grib_keys.specs.declared.key.Key.{Key}
 use Rattle.grib_keys.specs.declared.condition.Value.{Value}
 use Rattle.grib_keys.specs.declared.condition.Value.TheVariants.{Number, Missing}
 use Rattle.grib_keys.specs.declared.condition.Condition.{Condition}
+use Rattle.grib_keys.specs.declared.table.Layout.{Layout}
 use Rattle.grib_keys.specs.declared.table.Octets.{Octets}
 use Rattle.grib_keys.specs.declared.table.Kind.{Kind}
 use Rattle.grib_keys.specs.Keys.{row_of}
+use Rattle.grib2_products.specs.Product.{time_ranges}
 use Rattle.grib2_message.specs.Fields.{part_octets}
 
 -- the section with this number that is in force for field i; Section 0 is the same for all fields
@@ -23,6 +25,18 @@ key_section message i number = choose (number == 0) (λ _. take 16 message) (λ 
 abbrev pub template_of : ℕ → List ℕ → ℕ
 template_of number s =
     cond (number == 3) (octets s 13 14) (cond (number == 4) (octets s 8 9) (cond (number == 5) (octets s 10 11) 0))
+
+-- how many time ranges a section with this number has: none but in Section 4
+abbrev pub ranges_of : ℕ → List ℕ → ℕ
+ranges_of number s = cond (number == 4) (time_ranges s) 0
+
+-- the octet of Section 4 with the number of time ranges, 0 where the template has none
+abbrev pub count_octet : ℕ → ℕ
+count_octet template = cond (template == 8) 42 (cond (template == 11) 45 0)
+
+-- the layout of a section with this number
+abbrev pub layout_of : ℕ → List ℕ → Layout
+layout_of number s = record { template = template_of number s; ranges = ranges_of number s }
 
 -- how many octets a number has
 abbrev pub octet_count : Octets → ℕ
@@ -39,11 +53,11 @@ value_at kind s place =
     cond (kind.may_be_missing && is_all_ones (octet_count place) number) Missing
     (Number (cond kind.is_signed (signed_octets s place.first place.last) (pos number)))
 
--- the value of a key in its section, none where the template of the section lacks the key
+-- the value of a key in its section, none where a section of this layout lacks the key
 abbrev pub value_in : Key → List ℕ → Option Value
 value_in key s =
     let row = row_of key in
-    option_map (value_at row.kind s) (row.place (template_of row.section s))
+    option_map (value_at row.kind s) (row.place (layout_of row.section s))
 
 -- the value of a key of field i
 abbrev pub key_value_of : List ℕ → ℕ → Key → Option Value
@@ -76,8 +90,9 @@ pub record IsWithin (l : ℕ) (place : Octets) : Type 0 where
   pub some : place.first ≤ place.last
   pub few : place.last + 1 ≤ place.first + 4
 
--- each key that the template of a section with this number has stands within the section
-abbrev pub HasKeys : ℕ → List ℕ → Type 0
-HasKeys number s =
-    (key : Key) (place : Octets) → (row_of key).section ≡ number → (row_of key).place (template_of number s) ≡ Some place
-    → place.last ≤ length s
+-- each key that a section with this number has stands within the section, and so does the number of its time
+-- ranges
+pub record HasKeys (number : ℕ) (s : List ℕ) : Type 0 where
+  pub keys : (key : Key) (place : Octets) → (row_of key).section ≡ number → (row_of key).place (layout_of number s) ≡ Some place
+      → place.last ≤ length s
+  pub counted : number ≡ 4 → count_octet (template_of number s) ≤ length s

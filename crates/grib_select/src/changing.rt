@@ -24,7 +24,7 @@ pub enum SetFault {
     /// The value does not fit the octets of the key.
     #[error("the value of {key} does not fit")]
     KeyRange { key: Key },
-    /// The template of this field lacks the key; it is the first such field.
+    /// This field lacks the key; it is the first such field.
     #[error("field {field} has no {key}")]
     KeyAbsent { field: u32, key: Key },
     /// There is no memory.
@@ -45,8 +45,8 @@ impl From<AllocError> for SetFault {
 ///
 /// # Errors
 ///
-/// The first change at fault: its value does not fit the octets of the key, or else the first field whose
-/// template lacks the key. Or there is no memory.
+/// The first change at fault: its value does not fit the octets of the key, or else the first field that lacks
+/// the key. Or there is no memory.
 pub fn set_keys(
     alloc: Global,
     message: &Message<'_>,
@@ -73,7 +73,7 @@ fn check_changes(message: &Message<'_>, changes: &[Condition]) -> Result<(), Set
     Ok(())
 }
 
-/// Refuses a change whose value does not fit, or whose key the template of a field lacks.
+/// Refuses a change whose value does not fit, or whose key a field lacks.
 fn check_change(message: &Message<'_>, change: &Condition) -> Result<(), SetFault>
     ensures { MatchResult result (λ _. change_fault message.now change.now ≡ None)
         (λ fault. change_fault message.now change.now ≡ Some fault) }

@@ -1,10 +1,13 @@
 //! Laws over the definitions.
 
-ghost use Rattle.std.specs.Prelude.{◌≡◌, ◌≢◌, ℕ, ◌≤◌, List, None, Some, All, AllPairs, IsTrue};
+ghost use Rattle.std.specs.Prelude.{◌≡◌, ◌≢◌, ℕ, ◌≤◌, ◌<◌, List, None, Some, All, AllPairs, IsTrue};
 ghost use Rattle.grib2_message.specs.Fields.{field_count, column_of};
 ghost use Rattle.grib2_message.specs.Message.{IsMessage};
 ghost use Rattle.grib_keys.specs.declared.condition.Condition.{Condition};
+ghost use Rattle.grib_keys.specs.declared.condition.Value.{Value};
+ghost use Rattle.grib_keys.specs.declared.key.Key.{Key};
 ghost use Rattle.grib_keys.specs.Keys.{can_set};
+ghost use Rattle.grib_select.specs.Bounds.{IsWithin64};
 ghost use Rattle.grib_select.specs.Single.{single_of};
 ghost use Rattle.grib_select.specs.Changed.{with_keys, set_fault};
 ghost use Rattle.grib_select.specs.Values.{key_value_of};
@@ -35,4 +38,11 @@ pub fn what_is_set_keeps_each_column()
         → All (λ c. IsTrue (can_set c.key)) changes → AllPairs (λ a b. a.key ≢ b.key) changes
         → set_fault message changes ≡ None → 1 ≤ i → i ≤ field_count message
         → All (λ c. key_value_of (with_keys message changes) i c.key ≡ Some c.value) changes }
+{}
+
+/// The value of a key of a field of an accepted message is missing, or a number within 64 bits with sign.
+pub fn values_are_within_64_bits()
+    ensures { (message : List ℕ) (i : ℕ) (key : Key) (value : Value) → IsMessage message
+        → All (λ octet. octet < 256) message → 1 ≤ i → i ≤ field_count message
+        → key_value_of message i key ≡ Some value → IsWithin64 value }
 {}

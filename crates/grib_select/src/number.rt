@@ -6,7 +6,7 @@ ghost use Rattle.grib_select.specs.Changed as definitions;
 ghost use Rattle.grib_select.specs.Changed.{key_octets};
 
 use grib_bits::raw_of;
-use grib_keys::{Condition, Key, Kind, Value};
+use grib_keys::{Condition, Key, Kind, Layout, Value};
 
 /// The number that the octets of the key are to make, `None` where the value does not fit.
 pub(crate) fn new_number(change: &Condition) -> Option<u64>
@@ -22,13 +22,14 @@ pub(crate) fn new_number(change: &Condition) -> Option<u64>
     }
 }
 
-/// How many octets the number of the key has, in each template that has the key.
+/// How many octets the number of the key has, in each layout that has the key.
 fn octets_of(key: Key) -> u32
     ensures count { result ≡ key_octets key }
     ensures some { 1 ≤ result }
     ensures few { result ≤ 4 }
 {
-    let Some(place) = key.row().place.octets(1) else {
+    let row = key.row();
+    let Some(place) = row.place.octets(Layout::full(row.section)) else {
         unreachable!();
     };
     place.count() as u32

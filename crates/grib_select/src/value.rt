@@ -9,11 +9,12 @@ ghost use Rattle.grib_select.specs.Values.{key_value_of, HasKeys, IsWithin, octe
 
 use crate::number::is_all_ones;
 use grib_bits::{signed_of, u16_at, uint_at};
-use grib_keys::{Key, Kind, Octets, Value};
+use grib_keys::{Key, Kind, Layout, Octets, Value};
 use grib2_message::Message;
 
 /// The value that a key has in a field, counted from 1: the number at its place in the section that is in
-/// force for the field, or missing; `None` exactly where the template of the section has no such key.
+/// force for the field, or missing; `None` exactly where the section has no such key by its template and the
+/// number of its time ranges.
 pub fn key_value(message: &Message<'_>, field: u32, key: Key) -> Option<Value>
     requires first { 1 ≤ field }
     requires last { field ≤ field_count message.now }
@@ -56,16 +57,39 @@ fn template_of(number: u8, section: &[u8]) -> u16
     }
 }
 
-/// Where the key stands in a section with its number, `None` where the template of the section lacks it.
+/// How many time ranges a section with this number and template has: none but in Section 4.
+fn ranges_of(number: u8, template: u16, section: &[u8]) -> u8
+    requires keys { HasKeys number section.now }
+    requires template { template ≡ definitions.template_of number section.now }
+    ensures { result ≡ definitions.ranges_of number section.now }
+{
+    match (number, template) {
+        (4, 8) => section[41],
+        (4, 11) => section[44],
+        _ => 0,
+    }
+}
+
+/// The layout of a section with this number.
+fn layout_of(number: u8, section: &[u8]) -> Layout
+    requires { HasKeys number section.now }
+    ensures { result ≡ definitions.layout_of number section.now }
+{
+    let template = template_of(number, section);
+    let ranges = ranges_of(number, template, section);
+    Layout { template, ranges }
+}
+
+/// Where the key stands in a section with its number, `None` where the section lacks it.
 pub(crate) fn place_in(section: &[u8], key: Key) -> Option<Octets>
     requires { HasKeys (row_of key).section section.now }
     ensures place { result
-        ≡ (row_of key).place (definitions.template_of (row_of key).section section.now) }
+        ≡ (row_of key).place (definitions.layout_of (row_of key).section section.now) }
     ensures within { IfSome result (λ place. IsWithin (length section.now) place) }
     ensures size { IfSome result (λ place. octet_count place ≡ key_octets key) }
 {
     let row = key.row();
-    row.place.octets(template_of(row.section, section))
+    row.place.octets(layout_of(row.section, section))
 }
 
 /// The value of a key of this kind at this place of its section.

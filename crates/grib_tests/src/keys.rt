@@ -4,7 +4,7 @@ use grib_keys::{Condition, Key, Value};
 use std::test::Fail;
 
 // The names in the order of their places, and whether the key can be set.
-const NAMES: [(&str, Key, bool); 35] = [
+const NAMES: [(&str, Key, bool); 50] = [
     ("discipline", Key::Discipline, true),
     ("centre", Key::Centre, true),
     ("subCentre", Key::SubCentre, true),
@@ -37,7 +37,22 @@ const NAMES: [(&str, Key, bool); 35] = [
     ("surface1", Key::Surface1, true),
     ("surface1Scale", Key::Surface1Scale, true),
     ("surface1Value", Key::Surface1Value, true),
+    ("surface2", Key::Surface2, true),
+    ("surface2Scale", Key::Surface2Scale, true),
+    ("surface2Value", Key::Surface2Value, true),
+    ("ensembleType", Key::EnsembleType, true),
     ("ensembleNumber", Key::EnsembleNumber, true),
+    ("ensembleMembers", Key::EnsembleMembers, true),
+    ("endYear", Key::EndYear, true),
+    ("endMonth", Key::EndMonth, true),
+    ("endDay", Key::EndDay, true),
+    ("endHour", Key::EndHour, true),
+    ("endMinute", Key::EndMinute, true),
+    ("endSecond", Key::EndSecond, true),
+    ("rangeProcess", Key::RangeProcess, true),
+    ("rangeIncrementType", Key::RangeIncrementType, true),
+    ("rangeUnit", Key::RangeUnit, true),
+    ("rangeLength", Key::RangeLength, true),
     ("packing", Key::Packing, false),
     ("bits", Key::Bits, false),
 ];

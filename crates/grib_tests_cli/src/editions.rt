@@ -8,6 +8,11 @@ use std::test::Fail;
 const LISTED: &str = "1.1 ed=1 centre=98 time=2024-01-15T12:00 grid=0 points=4 param=2.11 unit=1 \
                       range=0 p1=6 p2=0 level=100:500 bits=8 values=4\n";
 
+const KEYS: &str =
+    "1.1 ed=1 Version=2 Centre=98 Process=1 GridNumber=255 Flags=128 Parameter=11 LevelType=100 \
+                    Level=500 YearOfCentury=24 Month=1 Day=15 Hour=12 Minute=0 Unit=1 P1=6 P2=0 \
+                    TimeRange=0 AverageCount=0 AverageMissing=0 Century=21 SubCentre=0 DecimalScale=1\n";
+
 const DUMPED: &str = "1.1 ed=1 centre=98 time=2024-01-15T12:00 grid=0 points=4 param=2.11 unit=1 \
                       range=0 p1=6 p2=0 level=100:500 bits=8 values=4\nreference -949*2^-3 binary -3 \
                       decimal 1\n1 0\n2 1\n3 2\n4 255\n";
@@ -35,6 +40,13 @@ fn a_message_of_edition_1_is_listed(rt: HostRuntime) -> Result<(), Fail> {
         let listed = run_over(rt.alloc(), "list", FIRST_EDITION, piece, CALM)?;
         assert!(rt; listed.is(Outcome::Done, LISTED, ""));
     }
+    Ok(())
+}
+
+#[test]
+fn the_keys_of_a_message_of_edition_1_are_printed(rt: HostRuntime) -> Result<(), Fail> {
+    let printed = run_over(rt.alloc(), "keys", FIRST_EDITION, 7, CALM)?;
+    assert!(rt; printed.is(Outcome::Done, KEYS, ""));
     Ok(())
 }
 

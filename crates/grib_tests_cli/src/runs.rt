@@ -14,6 +14,14 @@ const CHECKED: &str =
 const LISTED: &str = "1.1 ed=2 centre=98 time=2024-01-15T12:00:00 grid=3.0 points=4 product=4.0 \
                       param=0.0.0 unit=1 ahead=6 surface=103:0:2 packing=5.0 bits=8 values=4\n";
 
+const KEYS: &str =
+    "1.1 ed=2 discipline=0 centre=98 subCentre=0 masterTables=2 localTables=0 significance=1 \
+                    year=2024 month=1 day=15 hour=12 minute=0 second=0 status=0 dataType=1 earthShape=6 \
+                    points=4 gridTemplate=0 ni=2 nj=2 scanning=0 la1=50000000 lo1=10000000 \
+                    productTemplate=0 category=0 number=0 process=2 generator=1 timeUnit=1 \
+                    forecastTime=6 surface1=103 surface1Scale=0 surface1Value=2 surface2=missing \
+                    surface2Scale=missing surface2Value=missing packing=0 bits=8\n";
+
 const DUMPED: &str = "1.1 ed=2 centre=98 time=2024-01-15T12:00:00 grid=3.0 points=4 product=4.0 \
                       param=0.0.0 unit=1 ahead=6 surface=103:0:2 packing=5.0 bits=8 values=4\n\
                       reference -949*2^-3 binary -3 decimal 1\n1 0\n2 1\n3 2\n4 255\n";
@@ -49,6 +57,13 @@ fn a_message_is_listed_in_any_pieces(rt: HostRuntime) -> Result<(), Fail> {
         let listed = run_over(rt.alloc(), "list", &PLAIN, piece, CALM)?;
         assert!(rt; listed.is(Outcome::Done, LISTED, ""));
     }
+    Ok(())
+}
+
+#[test]
+fn the_keys_of_a_message_are_printed(rt: HostRuntime) -> Result<(), Fail> {
+    let printed = run_over(rt.alloc(), "keys", &PLAIN, 7, CALM)?;
+    assert!(rt; printed.is(Outcome::Done, KEYS, ""));
     Ok(())
 }
 

@@ -19,6 +19,7 @@ fn command_of(asked: &Result<Job, JobFault>) -> &'static str {
     match asked {
         Ok(Job::Check) => "check",
         Ok(Job::List) => "list",
+        Ok(Job::Keys) => "keys",
         Ok(Job::Stats) => "stats",
         Ok(Job::Dump { .. }) => "dump",
         Ok(Job::Filter(_)) => "filter",
@@ -26,6 +27,7 @@ fn command_of(asked: &Result<Job, JobFault>) -> &'static str {
         Ok(Job::Set(_)) => "set",
         Ok(Job::Repack(_)) => "repack",
         Ok(Job::Migrate { .. }) => "migrate",
+        Ok(Job::Demote { .. }) => "demote",
         Ok(Job::Rescan) => "rescan",
         Ok(Job::Crop(_)) => "crop",
         Ok(Job::Make { .. }) => "make",
@@ -34,10 +36,11 @@ fn command_of(asked: &Result<Job, JobFault>) -> &'static str {
 }
 
 // Lines that are read, each as the command that its first word names.
-const READ: [&str; 42] = [
+const READ: [&str; 48] = [
     // Each command has its name.
     "check",
     "list",
+    "keys",
     "stats",
     "dump",
     "filter centre=98",
@@ -52,9 +55,11 @@ const READ: [&str; 42] = [
     "filter points=4",
     "filter forecastTime=6 centre=98 bits=8",
     "filter surface1Value=missing",
+    "filter surface2=missing rangeLength=6",
     // `set` takes keys that can be set.
     "set month=256",
     "set la1=-5 surface1=missing",
+    "set endHour=18 rangeUnit=1 ensembleMembers=50",
     // Values of keys are numbers within 64 bits, or missing.
     "filter year=0",
     "filter year=9",
@@ -76,6 +81,10 @@ const READ: [&str; 42] = [
     "migrate params=t",
     "migrate params=t local=keep",
     "migrate local=keep params==t",
+    // `demote` takes a table, may keep local octets, and may take any earth.
+    "demote params=t",
+    "demote params=t earth=any",
+    "demote earth=any local=keep params==t",
     "rescan",
     // `crop` takes the sides of a box, the last not before the first.
     "crop i0=0 i1=0 j0=0 j1=0",
@@ -90,7 +99,7 @@ const READ: [&str; 42] = [
 ];
 
 // Lines that are not, with the place of the first word that is not read.
-const UNREAD: [(u64, &str); 120] = [
+const UNREAD: [(u64, &str); 128] = [
     // Others have none.
     (0, ""),
     (0, "Check"),
@@ -101,9 +110,10 @@ const UNREAD: [(u64, &str); 120] = [
     (0, "="),
     (0, "check="),
     (0, "unknown to=0"),
-    // `check`, `list`, `stats` and `rescan` take no word.
+    // `check`, `list`, `keys`, `stats` and `rescan` take no word.
     (1, "check to=0"),
     (1, "list centre=98"),
+    (1, "keys centre=98"),
     (1, "stats decimals=3"),
     (1, "rescan i0=1"),
     (1, "check "),
@@ -187,6 +197,14 @@ const UNREAD: [(u64, &str); 120] = [
     (2, "migrate local=keep"),
     (2, "migrate params=t local=keeps"),
     (2, "migrate params=t params=t"),
+    (2, "migrate params=t earth=any"),
+    // `demote` takes a table, may keep local octets, and may take any earth.
+    (1, "demote"),
+    (1, "demote params="),
+    (1, "demote earth=0 params=t"),
+    (2, "demote earth=any"),
+    (2, "demote params=t local=keeps"),
+    (3, "demote params=t earth=any earth=any"),
     // `crop` takes the sides of a box, the last not before the first.
     (1, "crop"),
     (1, "crop i0"),

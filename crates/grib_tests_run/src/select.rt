@@ -22,6 +22,28 @@ const INTERVAL: &[u8] =
     b"\0\0\0\x3d\x04\0\0\0\x0b\0\0\x02\xff\x01\0\0\0\x01\0\0\0\x06\x67\0\0\0\0\x02\
 \xff\xff\xff\xff\xff\xff\x01\x03\x0a\x07\xe8\x01\x0f\x12\0\0\x01\0\0\0\0\x01\x02\x01\0\0\0\x06\x01\0\0\0\0";
 
+/// A sum over an interval of one time range.
+const SUM: &[u8] = b"\0\0\0\x3a\x04\0\0\0\x08\0\0\x02\xff\x01\0\0\0\x01\0\0\0\x06\x67\0\0\0\0\x02\
+\x67\0\0\0\0\x0a\x07\xe8\x01\x0f\x12\0\0\x01\0\0\0\0\x01\x02\x01\0\0\0\x06\x01\0\0\0\0";
+
+/// An interval of no time range.
+const NO_RANGE: &[u8] =
+    b"\0\0\0\x2e\x04\0\0\0\x08\0\0\x02\xff\x01\0\0\0\x01\0\0\0\x06\x67\0\0\0\0\x02\
+\xff\xff\xff\xff\xff\xff\x07\xe8\x01\x0f\x12\0\0\0\0\0\0\0";
+
+/// A message of one field with this product, of this many octets.
+fn of_product(alloc: Global, total: u64, product: &[u8]) -> Result<Vec<u8>, AllocError> {
+    let sections = [
+        IDENTIFICATION,
+        GRID,
+        product,
+        FOUR_NUMBERS,
+        NO_BITMAP,
+        FOUR_VALUES,
+    ];
+    message_of(alloc, total, &sections)
+}
+
 /// The value of a key of the first field.
 fn value_of(message: &Message<'_>, key: Key) -> Option<Value> {
     if message.fields() == 0 {
@@ -243,19 +265,13 @@ fn every_product_is_changed(rt: HostRuntime) -> Result<(), Fail> {
 
 #[test]
 fn a_member_gets_its_number(rt: HostRuntime) -> Result<(), Fail> {
-    let sections = [
-        IDENTIFICATION,
-        GRID,
-        INTERVAL,
-        FOUR_NUMBERS,
-        NO_BITMAP,
-        FOUR_VALUES,
-    ];
-    let octets = message_of(rt.alloc(), 210, &sections)?;
+    let octets = of_product(rt.alloc(), 210, INTERVAL)?;
     let Ok(message) = read(rt.alloc(), octets.as_slice()) else {
         return Err(Fail::from("refused"));
     };
+    assert_eq!(rt; value_of(&message, Key::EnsembleType), number(1));
     assert_eq!(rt; value_of(&message, Key::EnsembleNumber), number(3));
+    assert_eq!(rt; value_of(&message, Key::EnsembleMembers), number(10));
     assert!(rt;
         gives(
             rt.alloc(),
@@ -265,6 +281,59 @@ fn a_member_gets_its_number(rt: HostRuntime) -> Result<(), Fail> {
             &[(145, 5)]
         )?
     );
+    Ok(())
+}
+
+#[test]
+fn an_interval_of_an_ensemble_gets_another_end(rt: HostRuntime) -> Result<(), Fail> {
+    let octets = of_product(rt.alloc(), 210, INTERVAL)?;
+    let Ok(message) = read(rt.alloc(), octets.as_slice()) else {
+        return Err(Fail::from("refused"));
+    };
+    assert_eq!(rt; value_of(&message, Key::EndYear), number(2024));
+    assert_eq!(rt; value_of(&message, Key::EndHour), number(18));
+    assert_eq!(rt; value_of(&message, Key::RangeProcess), number(1));
+    assert_eq!(rt; value_of(&message, Key::RangeLength), number(6));
+    let edits = [(151, 21)];
+    let late = Value::Number(21);
+    assert!(rt; gives(rt.alloc(), &message, Key::EndHour, late, &edits)?);
+    Ok(())
+}
+
+#[test]
+fn an_interval_gets_another_range(rt: HostRuntime) -> Result<(), Fail> {
+    let octets = of_product(rt.alloc(), 207, SUM)?;
+    let Ok(message) = read(rt.alloc(), octets.as_slice()) else {
+        return Err(Fail::from("refused"));
+    };
+    assert_eq!(rt; value_of(&message, Key::Surface2), number(103));
+    assert_eq!(rt; value_of(&message, Key::Surface2Value), number(10));
+    assert_eq!(rt; value_of(&message, Key::EnsembleType), None);
+    assert_eq!(rt; value_of(&message, Key::EndHour), number(18));
+    assert_eq!(rt; value_of(&message, Key::RangeIncrementType), number(2));
+    let edits = [(162, 12)];
+    let long = Value::Number(12);
+    assert!(rt; gives(rt.alloc(), &message, Key::RangeLength, long, &edits)?);
+    Ok(())
+}
+
+#[test]
+fn an_interval_without_ranges_has_no_key_of_a_range(rt: HostRuntime) -> Result<(), Fail> {
+    let octets = of_product(rt.alloc(), 195, NO_RANGE)?;
+    let Ok(message) = read(rt.alloc(), octets.as_slice()) else {
+        return Err(Fail::from("refused"));
+    };
+    assert_eq!(rt;
+        value_of(&message, Key::Surface2Value),
+        Some(Value::Missing)
+    );
+    assert_eq!(rt; value_of(&message, Key::EndSecond), number(0));
+    assert_eq!(rt; value_of(&message, Key::RangeProcess), None);
+    let absent = SetFault::KeyAbsent {
+        field: 1,
+        key: Key::RangeUnit,
+    };
+    assert!(rt; fault_of(rt.alloc(), &message, Key::RangeUnit, Value::Number(1)) == Some(absent));
     Ok(())
 }
 

@@ -26,6 +26,7 @@ pub(super) fn job_of_command(
     match command {
         Command::Check => Ok(Job::Check),
         Command::List => Ok(Job::List),
+        Command::Keys => Ok(Job::Keys),
         Command::Stats => Ok(Job::Stats),
         Command::Dump => Ok(Job::Dump {
             decimals: number_if_given(words, "decimals"),
@@ -43,6 +44,11 @@ pub(super) fn job_of_command(
         Command::Migrate => Ok(Job::Migrate {
             params: name_by(alloc, words, "params")?,
             keep_local: has_name(words, "local"),
+        }),
+        Command::Demote => Ok(Job::Demote {
+            params: name_by(alloc, words, "params")?,
+            keep_local: has_name(words, "local"),
+            any_earth: has_name(words, "earth"),
         }),
         Command::Rescan => Ok(Job::Rescan),
         Command::Crop => Ok(Job::Crop(area_of(words))),

@@ -8,6 +8,7 @@ ghost use Rattle.grib_cli.specs.Reading.{command_named};
 pub enum Command {
     Check,
     List,
+    Keys,
     Stats,
     Dump,
     Filter,
@@ -15,6 +16,7 @@ pub enum Command {
     Set,
     Repack,
     Migrate,
+    Demote,
     Rescan,
     Crop,
     Make,
@@ -28,6 +30,7 @@ impl Command {
         match word {
             "check" => Some(Command::Check),
             "list" => Some(Command::List),
+            "keys" => Some(Command::Keys),
             "stats" => Some(Command::Stats),
             "dump" => Some(Command::Dump),
             "filter" => Some(Command::Filter),
@@ -35,6 +38,7 @@ impl Command {
             "set" => Some(Command::Set),
             "repack" => Some(Command::Repack),
             "migrate" => Some(Command::Migrate),
+            "demote" => Some(Command::Demote),
             "rescan" => Some(Command::Rescan),
             "crop" => Some(Command::Crop),
             "make" => Some(Command::Make),

@@ -1,8 +1,16 @@
-//! The definition of the reading, tried on command lines.
+//! The definition of the reading, tried on command lines, and on what `keys` prints.
 
-ghost use Rattle.std.specs.Prelude.{◌≡◌, [], ◌∷◌, codes, Ok, Err};
-ghost use Rattle.grib_cli.specs.declared.words.command.Command.TheVariants.{Repack, Migrate};
+ghost use Rattle.std.specs.Prelude.{◌≡◌, ◌≤◌, ◌<◌, ℕ, true, List, [], ◌∷◌, All, codes, Some, Ok, Err};
+ghost use Rattle.grib_keys.specs.declared.key.Key.{Key};
+ghost use Rattle.grib_keys.specs.declared.condition.Value.{Value};
+ghost use Rattle.grib_keys.specs.Words.{word_of};
+ghost use Rattle.grib2_message.specs.Fields.{field_count};
+ghost use Rattle.grib2_message.specs.Message.{IsMessage};
+ghost use Rattle.grib_select.specs.Bounds.{IsWithin64};
+ghost use Rattle.grib_select.specs.Values.{key_value_of, fulfils_all};
+ghost use Rattle.grib_cli.specs.declared.words.command.Command.TheVariants.{Repack, Migrate, Demote};
 ghost use Rattle.grib_cli.specs.Reading.{reading};
+ghost use Rattle.grib_cli.specs.Words.{condition, condition_of, conditions_of};
 
 /// Command lines that have no reading, with the place of the first word that is not read.
 pub fn unread_lines()
@@ -14,10 +22,24 @@ pub fn unread_lines()
     ensures order_too_many { reading (codes "repack" ∷ codes "order=1" ∷ codes "to=2" ∷ []) ≡ Err 3 }
     ensures fixed_key { reading (codes "set" ∷ codes "year=2025" ∷ codes "points=3" ∷ []) ≡ Err 2 }
     ensures too_small { reading (codes "filter" ∷ codes "la1=-9223372036854775809" ∷ []) ≡ Err 1 }
+    ensures one_earth { reading (codes "demote" ∷ codes "params=t" ∷ codes "earth=2" ∷ []) ≡ Err 2 }
 {}
 
 /// Command lines that are read.
 pub fn read_lines()
     ensures order { reading (codes "repack" ∷ codes "order=2" ∷ codes "to=3" ∷ []) ≡ Ok Repack }
     ensures equals { reading (codes "migrate" ∷ codes "params==" ∷ codes "local=keep" ∷ []) ≡ Ok Migrate }
+    ensures demotion { reading (codes "demote" ∷ codes "earth=any" ∷ codes "params=t" ∷ []) ≡ Ok Demote }
+{}
+
+/// A key with a value within 64 bits, as it is printed, is read as this key with this value. So each word that `keys`
+/// prints of a field behind its edition is read as a condition that the field fulfils: `filter` with the word picks
+/// the field.
+pub fn printed_words_pick_their_field()
+    ensures read { (key : Key) (value : Value) → IsWithin64 value
+        → condition_of (word_of (condition key value)) ≡ Some (condition key value) }
+    ensures picked { (message : List ℕ) (i : ℕ) (key : Key) (value : Value) → IsMessage message
+        → All (λ octet. octet < 256) message → 1 ≤ i → i ≤ field_count message
+        → key_value_of message i key ≡ Some value
+        → fulfils_all message i (conditions_of (word_of (condition key value) ∷ [])) ≡ true }
 {}

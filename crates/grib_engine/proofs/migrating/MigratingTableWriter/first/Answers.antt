@@ -7,23 +7,23 @@ use Rattle.grib_stream.specs.Task.{Gives}
 use Rattle.grib_engine.specs.Command.{given_unless}
 use Rattle.grib_engine.proofs.Answers.{by_octets, as_given}
 use Rattle.grib_engine.proofs.KeptBy.{by_cause, not_migrated}
-use Rattle.grib_engine.proofs.migrating.MigratingWriter.first.Goals as goal
+use Rattle.grib_engine.proofs.migrating.MigratingTableWriter.first.Goals as goal
 
 pub returns-in-Ok : goal.returns-in-Ok
-returns-in-Ok g c =
-    let m = c.args._place.now.message in
-    let octets = migrated c.args.self.now.table.now c.args.self.now.keep_local c.args.message.now in
-    let cause = option_map Lost (first_loss c.args.self.now.table.now c.args.self.now.keep_local c.args.message.now) in
+returns-in-Ok g c = λ place.
+    let m = place.message in
+    let octets = migrated c.args.table.now c.args.self.now.keep_local c.args.message.now in
+    let cause = option_map Lost (first_loss c.args.table.now c.args.self.now.keep_local c.args.message.now) in
     as_given g.T.Sink.contents g.T.Sink.faults c.written.result m _ (given_unless cause m octets) _ _
     (ap (λ b. choose b (λ _. given_unless cause m octets) (λ _. Gives [] 0)) c.has_octets.ensures)
     (by_octets g.T.Sink.contents g.T.Sink.faults c.write_counted.result c.written.result cause m octets c.as_slice.result.now _ _ c.written.ensures
     (ap (option_map Lost) c.in-Ok.ensures.0) (c.as_slice.ensures.value ∙ c.in-Ok.ensures.1) c.write_counted.ensures.count c.write_counted.ensures.writes)
 
 pub returns-in-Err : goal.returns-in-Err
-returns-in-Err g c =
-    let m = c.args._place.now.message in
-    let octets = migrated c.args.self.now.table.now c.args.self.now.keep_local c.args.message.now in
-    let loss = first_loss c.args.self.now.table.now c.args.self.now.keep_local c.args.message.now in
+returns-in-Err g c = λ place.
+    let m = place.message in
+    let octets = migrated c.args.table.now c.args.self.now.keep_local c.args.message.now in
+    let loss = first_loss c.args.table.now c.args.self.now.keep_local c.args.message.now in
     let cause = option_map Lost loss in
     as_given g.T.Sink.contents g.T.Sink.faults c.kept_by.result m _ (given_unless cause m octets) _ _
     (ap (λ b. choose b (λ _. given_unless cause m octets) (λ _. Gives [] 0)) c.has_octets.ensures)

@@ -6,15 +6,13 @@ use Rattle.grib_stream.proofs.Worlds.{did_keep, did_still}
 use Rattle.grib_stream.specs.declared.outcome.Outcome.TheVariants.{ReadFault, ShelfFault, Memory}
 use Rattle.grib_table.specs.Tabled.{Stood, CountsTableStop}
 use Rattle.grib_engine.specs.Command.{task}
-use Rattle.grib_engine.specs.Migrating.{migrate_command}
 use Rattle.grib_engine.specs.Outcomes.{NotesRun}
 use Rattle.grib_engine.specs.Serving.{RunsTabled, NotesTabled, NotesTabledFront, IfRefused}
 use Rattle.grib_engine.proofs.Tabled.{stands, did_stays, runs_after, runs_none, broken_of, not_read, notes_none, shelf_noted, memory_noted, fronts_none, if_refused}
-use Rattle.grib_engine.proofs.serving.serve_migrated.Goals as goal
+use Rattle.grib_engine.proofs.serving.serve_tabled.Goals as goal
 
 pub returns-in-Ok : goal.returns-in-Ok
 returns-in-Ok g c =
-    let keep = c.args.keep_local in
     let read = c.in-Ok.ensures.read in
     let kept = c.in-Ok.ensures.kept in
     let stood = subst (λ name. Stood (g.H.Shelf.contents c.args.shelf.now) name read.0) c.as_str.ensures read.1 in
@@ -24,15 +22,15 @@ returns-in-Ok g c =
       runs = (
         read.0,
         stood,
-        subst (RunsTabled (migrate_command keep) c.serve_messages.result _ _ _ _) (sym read.2)
-            (runs_after (task (migrate_command keep c.in-Ok.table)) (2 ^ 40) c.serve_messages.result _ _ _ _ _ (did_stays _ _ _ kept) ran.runs),
+        subst (RunsTabled (g.W.TableWriter.commands c.args.writer.now) c.serve_messages.result _ _ _ _) (sym read.2)
+            (runs_after (task (g.W.TableWriter.commands c.args.writer.now c.in-Ok.table)) (2 ^ 40) c.serve_messages.result _ _ _ _ _ (did_stays _ _ _ kept) ran.runs),
       );
-      noted = λ uncut. (read.0, stood, subst (NotesTabled (migrate_command keep) _ c.serve_messages.result _ _) (sym read.2) (ran.noted uncut));
+      noted = λ uncut. (read.0, stood, subst (NotesTabled (g.W.TableWriter.commands c.args.writer.now) _ c.serve_messages.result _ _) (sym read.2) (ran.noted uncut));
       noted_front = (
         read.0,
         stood,
-        subst (NotesTabledFront (migrate_command keep) _ _ _ _ _ _ _) (sym read.2)
-            (subst (λ s. NotesRun (task (migrate_command keep c.in-Ok.table)) (2 ^ 40) (g.S.Source.left c.args.input.now) (g.S.Source.faults c.args.input.now)
+        subst (NotesTabledFront (g.W.TableWriter.commands c.args.writer.now) _ _ _ _ _ _ _) (sym read.2)
+            (subst (λ s. NotesRun (task (g.W.TableWriter.commands c.args.writer.now c.in-Ok.table)) (2 ^ 40) (g.S.Source.left c.args.input.now) (g.S.Source.faults c.args.input.now)
             (g.S.Source.faults c.serve_messages.new.input) s (g.H.Shelf.faults c.serve_messages.new.shelf) (g.N.Sink.contents c.args.notes.now) (g.N.Sink.contents c.serve_messages.new.notes)) counted ran.noted_front),
       );
       settles = ran.settles;
@@ -60,9 +58,9 @@ returns-in-Err-ShelfFault g c =
     let left_alone : (c.args.input.now ≡ c.args.input.now) × (result ≢ ReadFault) = (refl, unread) in
     let counted = subst (λ stop. CountsTableStop stop (g.H.Shelf.faults c.args.shelf.now) (g.H.Shelf.faults c.read_table.new.shelf)) c.in-Err-ShelfFault.field-0-is read.counted in
     record {
-      runs = (stand.0, stand.1, runs_none (migrate_command c.args.keep_local) result _ _ _ _ (broken_of ShelfFault result refl ends.one_of) unread did);
-      noted = λ uncut. (stand.0, stand.1, notes_none (migrate_command c.args.keep_local) _ ShelfFault result _ _ _ (λ e. cc) refl ends.one_of ends.noted uncut);
-      noted_front = (stand.0, stand.1, fronts_none (migrate_command c.args.keep_local) _ _ _ _ _ _ _ _ (λ note. shelf_noted _ _ note _ _ _ _ counted ends.noted_front));
+      runs = (stand.0, stand.1, runs_none (g.W.TableWriter.commands c.args.writer.now) result _ _ _ _ (broken_of ShelfFault result refl ends.one_of) unread did);
+      noted = λ uncut. (stand.0, stand.1, notes_none (g.W.TableWriter.commands c.args.writer.now) _ ShelfFault result _ _ _ (λ e. cc) refl ends.one_of ends.noted uncut);
+      noted_front = (stand.0, stand.1, fronts_none (g.W.TableWriter.commands c.args.writer.now) _ _ _ _ _ _ _ _ (λ note. shelf_noted _ _ note _ _ _ _ counted ends.noted_front));
       settles = ends.settles;
       unfinished = ends.unfinished;
       counts = search rules;
@@ -84,9 +82,9 @@ returns-in-Err-Memory g c =
     let unread = not_read Memory result (λ e. cc) ends.one_of in
     let left_alone : (c.args.input.now ≡ c.args.input.now) × (result ≢ ReadFault) = (refl, unread) in
     record {
-      runs = (stand.0, stand.1, runs_none (migrate_command c.args.keep_local) result _ _ _ _ (broken_of Memory result refl ends.one_of) unread did);
-      noted = λ uncut. (stand.0, stand.1, notes_none (migrate_command c.args.keep_local) _ Memory result _ _ _ (λ e. cc) refl ends.one_of ends.noted uncut);
-      noted_front = (stand.0, stand.1, fronts_none (migrate_command c.args.keep_local) _ _ _ _ _ _ _ _ (λ note. memory_noted _ _ note _ _ _ _ ends.noted_front));
+      runs = (stand.0, stand.1, runs_none (g.W.TableWriter.commands c.args.writer.now) result _ _ _ _ (broken_of Memory result refl ends.one_of) unread did);
+      noted = λ uncut. (stand.0, stand.1, notes_none (g.W.TableWriter.commands c.args.writer.now) _ Memory result _ _ _ (λ e. cc) refl ends.one_of ends.noted uncut);
+      noted_front = (stand.0, stand.1, fronts_none (g.W.TableWriter.commands c.args.writer.now) _ _ _ _ _ _ _ _ (λ note. memory_noted _ _ note _ _ _ _ ends.noted_front));
       settles = ends.settles;
       unfinished = ends.unfinished;
       counts = search rules;

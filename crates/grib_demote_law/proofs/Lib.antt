@@ -1,0 +1,11 @@
+mod Losses
+mod Joined
+mod Identification
+mod Grids
+mod Template
+mod Bitmaps
+mod Values
+mod Accepted
+mod Pairs
+mod Levels
+mod Words
