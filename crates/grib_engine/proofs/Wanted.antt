@@ -1,5 +1,5 @@
 -- How many octets a message has at least, by the octets that are there.
-use Rattle.std.proofs.Common.{◌≡◌, ℕ, ◌≤◌, false, None, List, ◌++◌, length, ◌==◌, sym, ap, ◌∙◌, arith, ⊎_elim, ltb-false}
+use Rattle.std.proofs.Common.{◌≡◌, ℕ, ◌≤◌, false, Some, None, List, ◌++◌, length, ◌==◌, sym, ap, ◌∙◌, arith, ⊎_elim, ltb-false}
 use Rattle.std.proofs.lemmas.Bool.{cond-true, cond-false}
 use Rattle.grib_base.specs.Rows.{first_fault}
 use Rattle.grib2_sections.specs.Head.{edition, total_length, total_length_1, discipline, head_rows, head_of}
@@ -11,7 +11,8 @@ use Rattle.grib2_message.proofs.Whole.{head_passes}
 use Rattle.grib2_message.proofs.Fronts.{accepted_states}
 use Rattle.grib2_message.proofs.Stays.{same_octets, front_of_more}
 use Rattle.grib_stream.specs.Stream.{Message}
-use Rattle.grib_engine.specs.Judging.{judge}
+use Rattle.grib_base.specs.declared.fault.Fault.{Fault}
+use Rattle.grib_engine.specs.Judging.{judge, stated, stated_by}
 use Rattle.grib_engine.specs.Lawful.{IsFirst, IsOther, message_judged, least_message, not_first, same_edition}
 
 pub wanted_least : (octets more : List ℕ) (total : ℕ) → judge (octets ++ more) ≡ Message total → 12 ≤ total
@@ -51,3 +52,14 @@ wanted_stated octets more head total none is_head is =
     let head_total : head.total ≡ total_length octets = ap (λ x. x.total) (is_head ∙ is_second) in
     omega (arith, states_other octets more total none m))
     (message_judged (octets ++ more) total is)
+
+-- what is stated
+pub stated_there : (octets : List ℕ) (head : Head) → first_fault (head_rows octets) ≡ None → head ≡ head_of octets → stated octets ≤ head.total
+stated_there octets head none is_head =
+    let same : stated octets ≡ head.total = ap (λ f. stated_by f octets) none ∙ ap (λ x. x.total) (sym is_head) in
+    omega (arith, same)
+
+pub stated_not : (octets : List ℕ) (fault : Fault) (n : ℕ) → first_fault (head_rows octets) ≡ Some fault → stated octets ≤ n
+stated_not octets fault n some =
+    let nothing : stated octets ≡ 0 = ap (λ f. stated_by f octets) some in
+    omega (arith, nothing)

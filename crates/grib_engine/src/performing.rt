@@ -25,11 +25,14 @@ pub struct Answering<'a, C> {
 
 impl<C: Answerer> Performer for Answering<'_, C> {
     ghost use Rattle.grib_engine.specs.Command as commands;
+    ghost use Rattle.grib_engine.specs.Judging as judging;
     ghost use Rattle.grib_engine.specs.Lawful as laws;
 
     ghost task = { λ answering. commands.task (C.definition answering.answerer.now) };
 
     ghost uses_shelf = { λ answering. (C.definition answering.answerer.now).uses_shelf };
+
+    ghost stated = { λ answering. judging.stated };
 
     ghost lawful = { λ answering. laws.lawful (C.definition answering.answerer.now) (C.lawful answering.answerer.now) };
 

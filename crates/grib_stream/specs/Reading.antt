@@ -8,6 +8,11 @@ use Rattle.grib_stream.specs.declared.outcome.Outcome.{Outcome}
 use Rattle.grib_stream.specs.declared.outcome.Outcome.TheVariants.{ReadFault, InputTooLong}
 use Rattle.std.specs.Io.KnownBytes.{Consumes, Keeps, IsAtEnd}
 
+-- octets that are still to be answered, and how many the buffer has room for in which they lie
+pub record Buffered : Type 0 where
+  pub octets : List ℕ
+  pub room : ℕ
+
 -- this many octets, no more than `most`, were taken and stand behind the others; none only at the end
 pub record Reads (before now : Option (List ℕ)) (old new : List ℕ) (count most : ℕ) : Type 0 where
   pub piece : List ℕ

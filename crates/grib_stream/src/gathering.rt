@@ -1,6 +1,6 @@
 //! The octets that a message still wants are read.
 
-ghost use Rattle.std.specs.Prelude.{◌≡◌, ◌<◌, length, IfOk, OnErr};
+ghost use Rattle.std.specs.Prelude.{◌≡◌, ◌<◌, ◌≤◌, ◌+◌, max, length, IfOk, OnErr};
 ghost use Rattle.grib_io.specs.Outside.{CountsStops};
 ghost use Rattle.grib_stream.specs.Reading.{Gathers};
 ghost use Rattle.grib_stream.specs.Rest.{Stands};
@@ -20,26 +20,29 @@ pub(crate) enum Rest {
 }
 
 /// Reads until this many octets are there, as far as the input goes and no more than `left` of it, from
-/// which what was read is taken away.
+/// which what was read is taken away. No more is read than is wanted, but up to as many octets as one read
+/// asks for at most.
 pub(crate) fn gather<S: Source>(
     window: &mut Window,
     input: &mut S,
     wanted: usize,
     left: &mut u64,
 ) -> Result<Rest, Stop>
-    requires few { length window.old < wanted }
-    ensures gathers { Gathers (S.left input.old) (S.left input.new) window.old window.new
+    requires few { length window.old.octets < wanted }
+    ensures gathers { Gathers (S.left input.old) (S.left input.new) window.old.octets window.new.octets
         left.old left.new }
     ensures stands { IfOk result
-        (λ rest. Stands rest wanted (length window.new) left.new (S.left input.new)) }
-    ensures few { OnErr result (length window.new < wanted) }
+        (λ rest. Stands rest wanted (length window.new.octets) left.new (S.left input.new)) }
+    ensures few { OnErr result (length window.new.octets < wanted) }
+    ensures short { length window.new.octets ≤ max wanted 65536 }
+    ensures room { window.new.room ≤ max window.old.room (wanted + 65536) }
     ensures counted { CountsStops result (S.faults input.old) (S.faults input.new) }
 {
     while window.len() < wanted {
         if *left == 0 {
             return Ok(Rest::Full);
         }
-        let most = (*left).min(READ as u64) as usize;
+        let most = (*left).min(room_for(wanted, window.len()) as u64) as usize;
         let count = window.read(input, most, wanted)?;
         if count == 0 {
             return Ok(Rest::Ended);
@@ -47,4 +50,14 @@ pub(crate) fn gather<S: Source>(
         *left -= count as u64;
     }
     Ok(Rest::Open)
+}
+
+/// How many octets one read asks for, where this many are wanted and this many are there.
+fn room_for(wanted: usize, there: usize) -> usize
+    requires { there < wanted }
+    ensures some { 0 < result }
+    ensures most { result ≤ 65536 }
+    ensures short { there + result ≤ max wanted 65536 }
+{
+    (wanted.max(READ) - there).min(READ)
 }

@@ -48,10 +48,15 @@ pub trait Performer {
     /// Whether the shelf is used. Else it stays as it is, and the run does not end with its fault.
     ghost uses_shelf: { Self → Bool };
 
-    /// How many octets a message has at least that begins with these, which begin with `GRIB`.
+    /// The length that octets from a `GRIB` on state, as far as it stands in them.
+    ghost stated: { Self → List ℕ → ℕ };
+
+    /// How many octets a message has at least that begins with these, which begin with `GRIB`: as many as
+    /// it states.
     fn wanted(&self, octets: &[u8]) -> u64
         requires { begins octets.now ≡ true }
-        ensures { (more : List ℕ) (total : ℕ) → (task self.now).judge (octets.now ++ more) ≡ Message total
+        ensures stated { stated self.now octets.now ≤ result }
+        ensures least { (more : List ℕ) (total : ℕ) → (task self.now).judge (octets.now ++ more) ≡ Message total
             → result ≤ total };
 
     /// Answers the message that these octets begin with, which begin with `GRIB`.

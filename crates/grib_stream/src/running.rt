@@ -1,6 +1,6 @@
 //! The messages of an input, answered one after another in whatever pieces it comes.
 
-ghost use Rattle.std.specs.Prelude.{◌≡◌, ◌≢◌, ◌≤◌, ◌<◌, ◌^◌, ◌+◌, ◌⊎◌, true, false, length, IfOk, IfErr, OnOk, OnErr};
+ghost use Rattle.std.specs.Prelude.{◌≡◌, ◌≢◌, ◌≤◌, ◌<◌, ◌^◌, ◌+◌, ◌⊎◌, max, true, false, length, IfOk, IfErr, OnOk, OnErr};
 ghost use Rattle.grib_io.specs.Outside.{Counted};
 ghost use Rattle.grib_stream.specs.Acts.{world};
 ghost use Rattle.grib_stream.specs.Reading.{Gathers, Probes};
@@ -91,12 +91,14 @@ fn read_on<S: Source>(
     wait: &Wait,
     left: &mut u64,
 ) -> Result<Rest, Outcome>
-    requires few { length window.old < wait.now.wanted }
-    ensures gathers { Gathers (S.left input.old) (S.left input.new) window.old window.new
+    requires few { length window.old.octets < wait.now.wanted }
+    ensures gathers { Gathers (S.left input.old) (S.left input.new) window.old.octets window.new.octets
         left.old left.new }
     ensures stands { IfOk result
-        (λ rest. Stands rest wait.now.wanted (length window.new) left.new (S.left input.new)) }
-    ensures few { OnErr result (length window.new < wait.now.wanted) }
+        (λ rest. Stands rest wait.now.wanted (length window.new.octets) left.new (S.left input.new)) }
+    ensures few { OnErr result (length window.new.octets < wait.now.wanted) }
+    ensures short { length window.new.octets ≤ max wait.now.wanted 65536 }
+    ensures room { window.new.room ≤ max window.old.room (wait.now.wanted + 65536) }
     ensures one_of { IfErr result (λ outcome. (outcome ≡ ReadFault) ⊎ (outcome ≡ Memory)) }
     ensures read_fault { IfErr result (λ outcome. outcome ≡ ReadFault
         → Counted (S.faults input.old) (S.faults input.new)) }

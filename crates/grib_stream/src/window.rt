@@ -1,6 +1,6 @@
 //! The octets of an input that were read and are still to be answered.
 
-ghost use Rattle.std.specs.Prelude.{◌≡◌, ◌≤◌, ◌<◌, ◌+◌, ◌-◌, ℕ, List, [], length, take, drop, IfOk, OnErr, OnOk, vec_len};
+ghost use Rattle.std.specs.Prelude.{◌≡◌, ◌≤◌, ◌<◌, ◌+◌, ◌-◌, max, ℕ, List, [], length, take, drop, IfOk, OnErr, OnOk, vec_len};
 ghost use Rattle.std.specs.Io.KnownBytes.{Consumes, Keeps, IsAtEnd};
 ghost use Rattle.grib_io.specs.Outside.{CountsFailure, CountsStops};
 ghost use Rattle.grib_stream.specs.Reading.{Reads};
@@ -22,11 +22,12 @@ pub(crate) struct Window {
 }
 
 impl Model for Window {
-    ghost use Rattle.std.specs.Prelude.{◌≤◌, ℕ, List, take, drop, vec_len};
+    ghost use Rattle.std.specs.Prelude.{◌≤◌, take, drop, vec_len};
+    ghost use Rattle.grib_stream.specs.Reading.{Buffered};
 
-    ghost Value = { List ℕ };
+    ghost Value = { Buffered };
 
-    ghost view = { λ window. drop window.start (take window.end window.octets.items) };
+    ghost view = { λ window. record { octets = drop window.start (take window.end window.octets.items); room = vec_len window.octets } };
 
     ghost invariant = { λ window. (window.start ≤ window.end) × (window.end ≤ vec_len window.octets) };
 }
@@ -34,7 +35,8 @@ impl Model for Window {
 impl Window {
     /// A window without octets. It takes no memory.
     pub fn new(alloc: Global) -> Window
-        ensures { result ≡ [] }
+        ensures octets { result.octets ≡ [] }
+        ensures room { result.room ≡ 0 }
     {
         Window {
             octets: Vec::new(alloc),
@@ -45,28 +47,30 @@ impl Window {
 
     /// How many octets it has.
     pub fn len(&self) -> usize
-        ensures { result ≡ length self.now }
+        ensures { result ≡ length self.now.octets }
     {
         self.end - self.start
     }
 
     /// The octets.
     pub fn as_slice(&self) -> &[u8]
-        ensures { result.now ≡ self.now }
+        ensures { result.now ≡ self.now.octets }
     {
         &self.octets[self.start..self.end]
     }
 
     /// Passes over the first octets.
     pub fn pass(&mut self, count: usize)
-        requires { count ≤ length self.old }
-        ensures { self.new ≡ drop count self.old }
+        requires { count ≤ length self.old.octets }
+        ensures octets { self.new.octets ≡ drop count self.old.octets }
+        ensures room { self.new.room ≡ self.old.room }
     {
         self.start += count;
     }
 
     /// Reads at most `most` octets, one at least where there is one, into the buffer behind the others.
-    /// Room is made with a view to this many octets that are wanted in the end.
+    /// Room is made with a view to this many octets that are wanted in the end: there is never more than
+    /// for these, or for those that are pending, and one read.
     pub fn read<S: Source>(
         &mut self,
         input: &mut S,
@@ -75,8 +79,9 @@ impl Window {
     ) -> Result<usize, Stop>
         requires some { 0 < most }
         ensures read { IfOk result (λ count. Reads (S.left input.old) (S.left input.new)
-            self.old self.new count most) }
-        ensures kept { OnErr result (self.new ≡ self.old) }
+            self.old.octets self.new.octets count most) }
+        ensures kept { OnErr result (self.new.octets ≡ self.old.octets) }
+        ensures room { self.new.room ≤ max self.old.room (max wanted (length self.old.octets) + 65536) }
         ensures untaken { OnErr result (Keeps (S.left input.old) (S.left input.new)) }
         ensures counted { CountsStops result (S.faults input.old) (S.faults input.new) }
     {
@@ -104,6 +109,7 @@ fn make_room(
     ensures same { IfOk result (λ place. drop place (take (place + (end - start)) octets.new.items)
         ≡ drop start (take end octets.old.items)) }
     ensures room { IfOk result (λ place. (place + (end - start)) + 65536 ≤ vec_len octets.new) }
+    ensures bound { vec_len octets.new ≤ max (vec_len octets.old) (max wanted (end - start) + 65536) }
     ensures kept { OnErr result (octets.new.items ≡ octets.old.items) }
     ensures len { OnErr result (vec_len octets.new ≡ vec_len octets.old) }
 {
@@ -127,6 +133,7 @@ fn enlarge(octets: &mut Vec<u8>, pending: usize, wanted: usize) -> Result<(), Al
     requires little { vec_len octets.old < pending + 65536 }
     ensures front { OnOk result (take (vec_len octets.old) octets.new.items ≡ octets.old.items) }
     ensures room { OnOk result (pending + 65536 ≤ vec_len octets.new) }
+    ensures bound { OnOk result (vec_len octets.new ≤ max wanted pending + 65536) }
     ensures kept { OnErr result (octets.new.items ≡ octets.old.items) }
     ensures len { OnErr result (vec_len octets.new ≡ vec_len octets.old) }
 {

@@ -10,7 +10,7 @@ returns-in-Refused-clause-turns g c =
         refused = refused.0;
         truncated = sym c.is_truncated.ensures ∙ c.if-is_truncated.true;
         no_shorter = λ more total later.
-            omega (arith, c.wanted-stated.ensures more total later, longer _ (g.met.K.Performer.lawful c.args.performer.now) _ c.args.octets.now more _ total refused.0 later);
+            omega (arith, c.wanted-stated.ensures.least more total later, longer _ (g.met.K.Performer.lawful c.args.performer.now) _ c.args.octets.now more _ total refused.0 later);
       },
       omega arith,
       refused.1,

@@ -12,7 +12,7 @@ use Rattle.grib_stream.proofs.running.answer_messages.Goals as goal
 
 pub messages-init : goal.messages-init
 messages-init g c = record {
-  going = going_start (g.K.Performer.task c.args.performer.now) c.args.limit _ _ _ c.new-window.ensures;
+  going = going_start (g.K.Performer.task c.args.performer.now) c.args.limit _ _ _ c.new-window.ensures.octets;
   stands = search rules;
   read_calm = refl;
   write_calm = refl;
@@ -26,18 +26,18 @@ messages-smaller-in-Message g c =
     let turn = c.in-Message.ensures.turns in
     let message = message_next task _ _ _ _ _ turn.1.0 turn.1.1 in
     let lawful = g.met.K.Performer.lawful c.args.performer.now in
-    let passed : length c.pass.new.self ≡ length c.messages.window - c.octets_before_mark-passed.result = ap length c.pass.ensures ∙ length-drop _ c.messages.window in
-    let gone : length c.pass-in-Message.new.self ≡ length c.pass.new.self - c.in-Message.message.octets = ap length c.pass-in-Message.ensures ∙ length-drop _ c.pass.new.self in
-    let shown : length c.as_slice-in-messages.result.now ≡ length c.pass.new.self = ap length c.as_slice-in-messages.ensures in
+    let passed : length c.pass.new.self.octets ≡ length c.messages.window.octets - c.octets_before_mark-passed.result = ap length c.pass.ensures.octets ∙ length-drop _ c.messages.window.octets in
+    let gone : length c.pass-in-Message.new.self.octets ≡ length c.pass.new.self.octets - c.in-Message.message.octets = ap length c.pass-in-Message.ensures.octets ∙ length-drop _ c.pass.new.self.octets in
+    let shown : length c.as_slice-in-messages.result.now ≡ length c.pass.new.self.octets = ap length c.as_slice-in-messages.ensures in
     omega (arith, passed, gone, shown, lawful.least _ _ message.accepted, lawful.there _ _ message.accepted)
 
 pub messages-preserved-in-Message : goal.messages-preserved-in-Message
 messages-preserved-in-Message g c =
     let task = g.K.Performer.task c.args.performer.now in
     let turn = c.in-Message.ensures.turns in
-    let going = going_shown c.octets_before_mark-passed.result c.as_slice.result.now c.pass.new.self c.as_slice-in-messages.result.now c.messages.invariant.going c.as_slice.ensures c.octets_before_mark-passed.ensures.unmarked c.pass.ensures c.as_slice-in-messages.ensures in
+    let going = going_shown c.octets_before_mark-passed.result c.as_slice.result.now c.pass.new.self.octets c.as_slice-in-messages.result.now c.messages.invariant.going c.as_slice.ensures c.octets_before_mark-passed.ensures.unmarked c.pass.ensures.octets c.as_slice-in-messages.ensures in
     record {
-      going = going_on (g.met.K.Performer.lawful c.args.performer.now) _ _ _ _ _ _ going turn.0 turn.1.1 turn.1.2 (c.pass-in-Message.ensures ∙ ap (drop _) (sym c.as_slice-in-messages.ensures));
+      going = going_on (g.met.K.Performer.lawful c.args.performer.now) _ _ _ _ _ _ going turn.0 turn.1.1 turn.1.2 (c.pass-in-Message.ensures.octets ∙ ap (drop _) (sym c.as_slice-in-messages.ensures));
       stands = c.messages.invariant.stands;
       read_calm = c.messages.invariant.read_calm;
       write_calm = c.in-Message.ensures.write_calm (λ e. cc) ∙ c.messages.invariant.write_calm;
@@ -48,21 +48,21 @@ messages-preserved-in-Message g c =
 pub overflow_add-totals-in-Message-2 : goal.overflow_add-totals-in-Message-2
 overflow_add-totals-in-Message-2 g c =
     let turn = c.in-Message.ensures.turns in
-    let going = going_shown c.octets_before_mark-passed.result c.as_slice.result.now c.pass.new.self c.as_slice-in-messages.result.now c.messages.invariant.going c.as_slice.ensures c.octets_before_mark-passed.ensures.unmarked c.pass.ensures c.as_slice-in-messages.ensures in
+    let going = going_shown c.octets_before_mark-passed.result c.as_slice.result.now c.pass.new.self.octets c.as_slice-in-messages.result.now c.messages.invariant.going c.as_slice.ensures c.octets_before_mark-passed.ensures.unmarked c.pass.ensures.octets c.as_slice-in-messages.ensures in
     let next = going_on (g.met.K.Performer.lawful c.args.performer.now) _ _ _ _ _ _ going turn.0 turn.1.1 turn.1.2 refl in
     omega (arith, (few_counted next c.requires.limit).fields)
 
 pub overflow_add-totals-in-Message-3 : goal.overflow_add-totals-in-Message-3
 overflow_add-totals-in-Message-3 g c =
     let turn = c.in-Message.ensures.turns in
-    let going = going_shown c.octets_before_mark-passed.result c.as_slice.result.now c.pass.new.self c.as_slice-in-messages.result.now c.messages.invariant.going c.as_slice.ensures c.octets_before_mark-passed.ensures.unmarked c.pass.ensures c.as_slice-in-messages.ensures in
+    let going = going_shown c.octets_before_mark-passed.result c.as_slice.result.now c.pass.new.self.octets c.as_slice-in-messages.result.now c.messages.invariant.going c.as_slice.ensures c.octets_before_mark-passed.ensures.unmarked c.pass.ensures.octets c.as_slice-in-messages.ensures in
     let next = going_on (g.met.K.Performer.lawful c.args.performer.now) _ _ _ _ _ _ going turn.0 turn.1.1 turn.1.2 refl in
     omega (arith, (few_counted next c.requires.limit).written)
 
 pub returns-in-Ends-clause-reaches : goal.returns-in-Ends-clause-reaches
 returns-in-Ends-clause-reaches g c =
     let lawful = g.met.K.Performer.lawful c.args.performer.now in
-    let going = going_shown c.octets_before_mark-passed.result c.as_slice.result.now c.pass.new.self c.as_slice-in-messages.result.now c.messages.invariant.going c.as_slice.ensures c.octets_before_mark-passed.ensures.unmarked c.pass.ensures c.as_slice-in-messages.ensures in
+    let going = going_shown c.octets_before_mark-passed.result c.as_slice.result.now c.pass.new.self.octets c.as_slice-in-messages.result.now c.messages.invariant.going c.as_slice.ensures c.octets_before_mark-passed.ensures.unmarked c.pass.ensures.octets c.as_slice-in-messages.ensures in
     let turn = c.in-Ends.ensures.turns in
     let (runs, (not_read, not_done)) = turn_ends lawful _ c.in-Ends.outcome going turn.0 turn.1 in (
       runs,
@@ -86,7 +86,7 @@ returns-in-Ends-clause-unshelved g c = λ unused e. c.in-Ends.ensures.unshelved 
 pub returns-in_err-rest-in-Open-clause-reaches : goal.returns-in_err-rest-in-Open-clause-reaches
 returns-in_err-rest-in-Open-clause-reaches g c =
     let lawful = g.met.K.Performer.lawful c.args.performer.now in
-    let going = going_shown c.octets_before_mark-passed.result c.as_slice.result.now c.pass.new.self c.as_slice-in-messages.result.now c.messages.invariant.going c.as_slice.ensures c.octets_before_mark-passed.ensures.unmarked c.pass.ensures c.as_slice-in-messages.ensures in
+    let going = going_shown c.octets_before_mark-passed.result c.as_slice.result.now c.pass.new.self.octets c.as_slice-in-messages.result.now c.messages.invariant.going c.as_slice.ensures c.octets_before_mark-passed.ensures.unmarked c.pass.ensures.octets c.as_slice-in-messages.ensures in
     let turn = c.in-Wait.ensures.turns in
     let outcome = c.in_err-rest-in-Open.field-0.0 in
     let stop = read_stop outcome c.in_err-rest-in-Open.ensures.one_of in
@@ -112,7 +112,7 @@ returns-in_err-rest-in-Open-clause-unshelved g c =
 pub returns-in_err-probe-in-Full-clause-reaches : goal.returns-in_err-probe-in-Full-clause-reaches
 returns-in_err-probe-in-Full-clause-reaches g c =
     let lawful = g.met.K.Performer.lawful c.args.performer.now in
-    let going = going_shown c.octets_before_mark-passed.result c.as_slice.result.now c.pass.new.self c.as_slice-in-messages.result.now c.messages.invariant.going c.as_slice.ensures c.octets_before_mark-passed.ensures.unmarked c.pass.ensures c.as_slice-in-messages.ensures in
+    let going = going_shown c.octets_before_mark-passed.result c.as_slice.result.now c.pass.new.self.octets c.as_slice-in-messages.result.now c.messages.invariant.going c.as_slice.ensures c.octets_before_mark-passed.ensures.unmarked c.pass.ensures.octets c.as_slice-in-messages.ensures in
     let turn = c.in-Wait.ensures.turns in
     let outcome = c.in_err-probe-in-Full.field-0.0 in
     let is : c.probe.result ≡ Err outcome = c.in_err-probe-in-Full.was in
@@ -141,7 +141,7 @@ returns-in_err-probe-in-Full-clause-unshelved g c =
 pub returns-in-Full-clause-reaches : goal.returns-in-Full-clause-reaches
 returns-in-Full-clause-reaches g c =
     let lawful = g.met.K.Performer.lawful c.args.performer.now in
-    let going = going_shown c.octets_before_mark-passed.result c.as_slice.result.now c.pass.new.self c.as_slice-in-messages.result.now c.messages.invariant.going c.as_slice.ensures c.octets_before_mark-passed.ensures.unmarked c.pass.ensures c.as_slice-in-messages.ensures in
+    let going = going_shown c.octets_before_mark-passed.result c.as_slice.result.now c.pass.new.self.octets c.as_slice-in-messages.result.now c.messages.invariant.going c.as_slice.ensures c.octets_before_mark-passed.ensures.unmarked c.pass.ensures.octets c.as_slice-in-messages.ensures in
     let turn = c.in-Wait.ensures.turns in
     let ended = c.in_ok-probe-in-Full.ensures.ended in
     let calm = c.in_ok-probe-in-Full.ensures.calm (λ e. cc) in
@@ -164,7 +164,7 @@ returns-in-Full-clause-unshelved g c =
 pub returns-in-Ended-clause-reaches : goal.returns-in-Ended-clause-reaches
 returns-in-Ended-clause-reaches g c =
     let lawful = g.met.K.Performer.lawful c.args.performer.now in
-    let going = going_shown c.octets_before_mark-passed.result c.as_slice.result.now c.pass.new.self c.as_slice-in-messages.result.now c.messages.invariant.going c.as_slice.ensures c.octets_before_mark-passed.ensures.unmarked c.pass.ensures c.as_slice-in-messages.ensures in
+    let going = going_shown c.octets_before_mark-passed.result c.as_slice.result.now c.pass.new.self.octets c.as_slice-in-messages.result.now c.messages.invariant.going c.as_slice.ensures c.octets_before_mark-passed.ensures.unmarked c.pass.ensures.octets c.as_slice-in-messages.ensures in
     let turn = c.in-Wait.ensures.turns in
     let end = subst (λ rest. Stands rest 0 0 c.messages.left (g.S.Source.left c.messages.input)) c.in-Ended.is c.messages.invariant.stands in
     reaches_end lawful c.conclude-in-Ended.result c.len-in-Ended.result c.in-Wait.wait.fault c.in-Wait.wait.wanted _ _ (going_still _ _ going turn.2 (Consumes-nil _)) turn.0 end
@@ -187,7 +187,7 @@ returns-in-Ended-clause-unshelved g c =
 pub messages-preserved : goal.messages-preserved
 messages-preserved g c =
     let lawful = g.met.K.Performer.lawful c.args.performer.now in
-    let going = going_shown c.octets_before_mark-passed.result c.as_slice.result.now c.pass.new.self c.as_slice-in-messages.result.now c.messages.invariant.going c.as_slice.ensures c.octets_before_mark-passed.ensures.unmarked c.pass.ensures c.as_slice-in-messages.ensures in
+    let going = going_shown c.octets_before_mark-passed.result c.as_slice.result.now c.pass.new.self.octets c.as_slice-in-messages.result.now c.messages.invariant.going c.as_slice.ensures c.octets_before_mark-passed.ensures.unmarked c.pass.ensures.octets c.as_slice-in-messages.ensures in
     let turn = c.in-Wait.ensures.turns in
     record {
       going = going_read _ going c.as_slice-in-messages.ensures turn.2 c.in_ok-rest-in-Open.ensures.gathers;

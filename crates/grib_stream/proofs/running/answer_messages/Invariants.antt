@@ -10,7 +10,7 @@ invariant-messages g l =
     let held = g.T.Sink.contents in
     let names = g.H.Shelf.contents in
     record {
-      going : Going (g.K.Performer.task l.performer) l.limit l.left (left l.fn.input) (left l.input) (world (held l.fn.output) (names l.fn.shelf)) (world (held l.output) (names l.shelf)) l.totals l.place l.window;
+      going : Going (g.K.Performer.task l.performer) l.limit l.left (left l.fn.input) (left l.input) (world (held l.fn.output) (names l.fn.shelf)) (world (held l.output) (names l.shelf)) l.totals l.place l.window.octets;
       stands : Stands l.rest 0 0 l.left (left l.input);
       read_calm : g.S.Source.faults l.input ≡ g.S.Source.faults l.fn.input;
       write_calm : g.T.Sink.faults l.output ≡ g.T.Sink.faults l.fn.output;
@@ -20,4 +20,4 @@ invariant-messages g l =
 
 -- twice what may still be taken, and what was not answered yet
 abbrev pub decreases-messages : goal.decreases-messages
-decreases-messages g l = 2 * l.left + length l.window + turns_left l.rest
+decreases-messages g l = 2 * l.left + length l.window.octets + turns_left l.rest
