@@ -44,7 +44,7 @@ returns-in-Ok g c =
       shelf_stays = λ off. absurd (false≢true (sym off));
       unshelved = λ off. absurd (false≢true (sym off));
       refused_input = (read.0, stood, subst (IfRefused _) (sym read.2) tt);
-      shelf_kept = λ on. subst (λ s. Stays (g.H.Shelf.contents c.args.shelf.now) (g.H.Shelf.contents s)) (sym (ran.shelf_stays refl)) kept;
+      shelf_kept = λ on. subst (λ s. Stays (g.H.Shelf.contents c.args.shelf.now) (g.H.Shelf.contents s)) (sym (ran.shelf_stays (g.met.W.TableWriter.unshelved c.args.writer.now c.in-Ok.table))) kept;
     }
 
 pub returns-in-Err-ShelfFault : goal.returns-in-Err-ShelfFault
