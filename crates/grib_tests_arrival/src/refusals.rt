@@ -55,7 +55,12 @@ fn lengths_and_marks_are_refused(rt: HostRuntime) -> Result<(), Fail> {
     let rows: [(&[(usize, u8)], u64, Reason, u64); 13] = [
         (&[(16, 0x13)], 9, Reason::TotalLength, 19),
         (&[(16, 0x14)], 17, Reason::EndMark, 21),
-        (&[(13, 0x10), (16, 0)], 184, Reason::LengthDisagrees, 268435273),
+        (
+            &[(13, 0x10), (16, 0)],
+            184,
+            Reason::LengthDisagrees,
+            268435273,
+        ),
         (&[(13, 0x10), (16, 1)], 9, Reason::TotalLength, 268435457),
         (&[(20, 4)], 17, Reason::SectionLength, 4),
         (

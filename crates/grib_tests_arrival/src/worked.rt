@@ -22,11 +22,7 @@ pub(crate) fn begins(octets: &[u8]) -> bool
 }
 
 /// Hears these octets in pieces of this many, and says how many were heard.
-pub(crate) fn hear(
-    arrival: &mut Arrival,
-    octets: &[u8],
-    size: usize,
-) -> Result<usize, ReadFault>
+pub(crate) fn hear(arrival: &mut Arrival, octets: &[u8], size: usize) -> Result<usize, ReadFault>
     requires begins { BeginsLikeTwo octets.now }
     requires new { Heard arrival.old [] }
     requires some { 1 ≤ size }
