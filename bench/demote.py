@@ -13,6 +13,7 @@ Prints a line for each file: what was demoted and came back, which losses were n
 differs."""
 import collections
 import os
+import re
 import subprocess
 import sys
 import tempfile
@@ -90,13 +91,15 @@ class Program:
         return self.run("migrate params=table local=keep", message)
 
     def lines(self, command, message):
-        """The lines on each field, without its number and its packing."""
+        """The lines on each field, without its number and its packing. A level that edition 1 tells by its type alone
+        may have the number 0, and then comes back without one."""
         text, _ = self.run(command, message)
         lines = []
         for line in text.decode().splitlines():
             words = line.split()
             if words and "." in words[0] and words[0][0].isdigit() and len(words) > 3:
                 words = [word for word in words[1:] if not word.startswith(("packing=", "bits="))]
+                words = [re.sub(r"^surface=([1-9]|101):0:0$", r"surface=\1:missing:missing", word) for word in words]
             lines.append(" ".join(words))
         return lines
 

@@ -17,7 +17,8 @@ top = os.path.dirname(os.path.dirname(os.path.abspath(__file__)))
 WORDS = {
     "check": [], "list": [], "stats": [], "dump": ["decimals=2"], "filter": ["centre=98"], "set": ["centre=98"],
     "split": ["out=/nonexistent/part"], "repack": ["to=3", "order=1"], "rescan": [], "crop": ["i0=0", "i1=0", "j0=0", "j1=0"],
-    "migrate": ["params=/nonexistent/table", "local=keep"], "make": ["seed=1", "ni=1", "nj=1", "to=3", "order=2"],
+    "migrate": ["params=/nonexistent/table", "local=keep"],
+    "demote": ["params=/nonexistent/table", "local=keep", "earth=any"], "keys": [], "make": ["seed=1", "ni=1", "nj=1", "to=3", "order=2"],
 }
 failed = []
 
@@ -50,7 +51,7 @@ def plain(text):
 
 def listed(text):
     """The keys of a list, without what stands in parentheses behind them."""
-    return re.findall(r"(\w+)[,.]", re.sub(r"\s+\([^)]*\)", "", text))
+    return re.findall(r"(\w+)(?=[,.]| and )", re.sub(r"\s+\([^)]*\)", "", text))
 
 
 def main():
