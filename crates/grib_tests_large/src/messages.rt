@@ -108,7 +108,8 @@ fn number(column: u32, row: u32) -> u8 {
 
 /// Section 7 with these numbers, of eight bits each.
 pub(crate) fn section7(alloc: Global, numbers: &[u8]) -> Result<Vec<u8>, AllocError> {
-    let length = (numbers.len() as u32).saturating_add(5);
+    let count = u32::try_from(numbers.len()).unwrap_or(u32::MAX);
+    let length = count.saturating_add(5);
     let mut section = length.to_be_bytes().to_vec(alloc)?;
     section.push(7)?;
     section.extend_from_slice(numbers)?;
