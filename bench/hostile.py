@@ -33,14 +33,17 @@ ValueCount MissingManagement GroupCount GroupWidth GroupShape DifferenceOrder Ex
 ScaledRange EndMark LengthDisagrees BitWidth FieldCount NoGridSection GridType SecondOrder Harmonics
 ExtraFlags""".split()
 LOSSES = r"(Parameter|LevelType|TimeUnit|TimeRange|Date|AverageCount|LocalUse|GridFlags|Reference|(GridNumber|Coordinate) \d+)"
+DEMOTIONS = r"(Product|GridTemplate|Centre|Parameter|Level|TimeUnit|Process|Date|Interval|LocalUse|EarthShape|GridFlags|RowList|Reference)"
+NUMBERED = r"(GridNumber|Coordinate|SecondaryMissing|OutOfRange|TooLong)"
 CAUSES = {
     "filter": ["EditionOne"], "split": ["EditionOne"], "set": ["EditionOne", r"KeyRange \w+", r"KeyAbsent \w+ field \d+"],
     "repack": ["EditionOne", r"SecondaryMissing field \d+ point \d+", r"OutOfRange field \d+ point \d+",
                r"DifferenceRange field \d+", r"OutputTooLong \d+"],
-    "migrate": ["Loss " + LOSSES], "dump": [r"DecimalRange field \d+ point \d+"],
+    "migrate": ["Loss " + LOSSES], "demote": [rf"Demotion ({DEMOTIONS} field \d+|{NUMBERED} \d+ field \d+)"], "dump": [r"DecimalRange field \d+ point \d+"],
 }
 CAUSES["rescan"] = CAUSES["crop"] = CAUSES["repack"] + [r"(GridKind|ScanMode|OutsideBox|Increments) field \d+"]
-COPIES = ("filter", "split", "set", "repack", "migrate", "rescan", "crop")
+COPIES = ("filter", "split", "set", "repack", "migrate", "demote", "rescan", "crop")
+ALONE = ("make", "help", "version")  # commands that read no input
 FAULTS = {5: "read fault", 6: "", 7: "shelf fault", 8: "memory", 9: "input too long"}
 
 Run = collections.namedtuple("Run", "status output note octets seconds")
@@ -377,7 +380,7 @@ def wrong_words(draw):
 def command_of(draw, has, pool):
     """The words of a command, one that has a reading in most cases."""
     name = draw.choice([one for one in ("check", "list", "dump", "filter", "filter", "split", "set", "set", "repack", "repack", "repack",
-                                        "make", "stats", "rescan", "crop", "migrate", "decimals", "words") if one in has])
+                                        "make", "stats", "keys", "rescan", "crop", "migrate", "demote", "demote", "decimals", "help", "words") if one in has])
     if name == "decimals":
         return ["dump", f"decimals={draw.choice((0, 1, 2, 3, 7, 18))}"]
     if name == "filter":
@@ -393,6 +396,10 @@ def command_of(draw, has, pool):
         return ["crop", f"i0={i0}", f"i1={i0 + draw.choice((0, 1, 9))}", f"j0={j0}", f"j1={j0 + draw.choice((0, 1, 9))}"]
     if name == "migrate":
         return ["migrate", f"params={top}/params/standard.csv"] + draw.choice(([], ["local=keep"]))
+    if name == "demote":
+        return ["demote", f"params={top}/params/standard.csv"] + draw.choice(([], ["local=keep"], ["earth=any"], ["earth=any", "local=keep"]))
+    if name == "help":
+        return draw.choice((["help"], ["version"]))
     if name == "make":
         return ["make", f"seed={draw.getrandbits(31)}", f"ni={draw.randint(1, 40)}", f"nj={draw.randint(1, 40)}"] + \
             draw.choice((["to=0"], ["to=2"], ["to=3", "order=1"], ["to=3", "order=2"]))
@@ -405,7 +412,8 @@ def commands_of(program):
     try:
         has = {"check", "list", "dump", "filter", "split", "set", "repack", "make", "words"}
         for name, words in (("stats", ["stats"]), ("rescan", ["rescan"]), ("crop", ["crop", "i0=0", "i1=0", "j0=0", "j1=0"]),
-                            ("decimals", ["dump", "decimals=2"]), ("migrate", ["migrate", f"params={top}/params/standard.csv"])):
+                            ("decimals", ["dump", "decimals=2"]), ("migrate", ["migrate", f"params={top}/params/standard.csv"]), ("keys", ["keys"]), ("help", ["help"]),
+                            ("demote", ["demote", f"params={top}/params/standard.csv"])):
             if runner.run(words, b"").status == 0:
                 has.add(name)
         return has
@@ -456,7 +464,7 @@ def hold_note(words, plain, checked, accepted, written):
     """The plain run: its status and its note belong together."""
     name, fields = words[0] if words else "", sum(one[3] for one in accepted)
     if plain.status == 0:
-        hold(checked.status == 0 or name == "make", "answered what check refuses")
+        hold(checked.status == 0 or name in ALONE, "answered what check refuses")
         wanted = b""
         if name in COPIES:
             wanted = b"messages %d fields %d written %d\n" % (len(accepted), fields, written)
@@ -546,6 +554,23 @@ def hold_stats(plain, dumped):
     hold(lines_of(plain.output) == wanted, "other stats", plain.output[:200], wanted[:2])
 
 
+def hold_keys(plain, fields, runner, data, accepted):
+    """A line for each field; the words of edition 2 pick their own field, and its numbers are those of the list line."""
+    printed = [dict(word.split("=", 1) for word in line.split()[1:]) for line in lines_of(plain.output)]
+    hold(len(printed) == len(fields), "keys prints other fields", len(printed), len(fields))
+    for line, field in zip(printed, fields):
+        hold(line["ed"] == field["ed"], "keys names another edition")
+        hold(line["ed"] == "1" or (line["points"], "5." + line["packing"]) == (field["points"], field["packing"]), "keys prints other numbers", line)
+    for line in lines_of(plain.output)[:2]:
+        label, edition, *words = line.split()
+        if edition != "ed=2":
+            return
+        message = int(label.split(".")[0])
+        at, octets = accepted[message - 1][:2]
+        picked = runner.run(["filter"] + words, data[at:at + octets])
+        hold(picked.status == 0 and picked.output, "what keys prints does not pick its field", label, picked.note)
+
+
 def listed(runner, data):
     return [dict(word.split("=", 1) for word in line.split()[1:]) for line in lines_of(runner.run(["list"], data).output)]
 
@@ -588,6 +613,9 @@ def hold_written(runner, words, data, plain, accepted, parts):
     written = accepted_of(again)
     hold(lines_of(again.output)[-1].endswith("skipped 0"), "wrote octets of no message", words)
     count = messages_before(plain, accepted) if plain.status in (2, 3) else len(accepted)
+    if name == "demote":
+        hold(all(edition == 1 for _, _, edition, _ in written), "demote wrote edition 2")
+        hold(len(written) == sum(one[3] for one in accepted[:count]), "demote wrote other fields", words)
     if name in ("set", "repack", "migrate", "rescan", "crop"):
         hold([one[3] for one in written] == [one[3] for one in accepted[:count]], "wrote other fields", words)
     messages = [data[at:at + octets] for at, octets, _, _ in accepted[:count]]
@@ -614,6 +642,13 @@ def hold_written(runner, words, data, plain, accepted, parts):
         hold((there.status, there.output) == (simple.status, simple.output), "repack there and back is not repack once", words)
     if name == "rescan":
         hold(runner.run(words, output).output == output, "rescan twice is not rescan once")
+    if name == "demote":
+        hold(column_lines(runner.run(["dump"], output).output) == column_lines(runner.run(["dump"], source).output), "demote changed a value")
+        hold(runner.run(words, output).output == output, "demote of its output is another")
+        back = runner.run(["migrate", words[1]] + [word for word in words[2:] if word == "local=keep"], output)
+        hold(column_lines(runner.run(["dump"], back.output).output) == column_lines(runner.run(["dump"], output).output) or back.status == 3,
+             "demote and migrate changed a value", back.status)
+        hold(back.status == 0 or any(one[2] == 1 for one in accepted[:count]), "what was demoted does not migrate", back.note)
     if name == "migrate":
         old, new = lines_of(runner.run(["dump"], source).output), lines_of(runner.run(["dump"], output).output)
         hold([line for line in old if " ed=" not in line] == [line for line in new if " ed=" not in line], "migrate changed a value")
@@ -621,7 +656,7 @@ def hold_written(runner, words, data, plain, accepted, parts):
 
 def hold_way(words, data, plain, other, way, parts, other_parts):
     """A run in another way answers as the plain one, or says what failed, with a front of the output."""
-    if way in ("directory", "closed input") and words and words[0] != "make" and plain.status != 1:
+    if way in ("directory", "closed input") and words and words[0] not in ALONE and plain.status != 1:
         hold((other.status, other.output, other.note) == (5, b"", b"read fault\n"), "a directory", words, other.status, other.note)
         return
     same = (other.status, other.note) == (plain.status, plain.note)
@@ -673,6 +708,8 @@ def try_case(runner, draw, words, data, way):
         hold((front.status, output, front_parts) == (0, plain.output, parts), "not the output of the messages before", words, front.status, front.note)
     if plain.status in (0, 2, 3) and name in COPIES + ("make",) and points <= MOST_POINTS:
         hold_written(runner, words, data, plain, accepted, parts)
+    if words[:1] == ["keys"]:
+        hold_keys(plain, fields, runner, data, accepted)
     if words[:1] == ["stats"]:
         hold_stats(plain, runner.run(["dump"], data))
     if words[:1] == ["dump"] and len(words) == 2 and plain.status != 1:
