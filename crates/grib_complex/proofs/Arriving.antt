@@ -1,5 +1,5 @@
 -- Lemmas on a Section 7 of which the first octets came.
-use Rattle.std.proofs.Common.{◌≡◌, ℕ, ◌+◌, ◌-◌, ◌*◌, ◌<◌, ◌≤◌, ◌⊎◌, Bool, true, false, cond, ◌&&◌, eqb, ltb, Option, Some, None, List, ◌++◌, length, take, drop, replicate, pos, refl, sym, ap, ap₂, ◌∙◌, arith, append_assoc, subst, add-mul, le-ltb, inl, inr}
+use Rattle.std.proofs.Common.{◌≡◌, ℕ, ◌+◌, ◌-◌, ◌*◌, ◌≤◌, ◌⊎◌, Bool, true, false, cond, ◌&&◌, eqb, ltb, Option, Some, None, List, ◌++◌, length, take, drop, replicate, pos, refl, sym, ap, ap₂, ◌∙◌, arith, append_assoc, subst, add-mul, le-ltb, inl, inr}
 use Rattle.std.proofs.Math.Nat.{mul-le-mul_right}
 use Rattle.std.proofs.lemmas.Bool.{cases_lt, cases_eq, cond-false, ne_eqb}
 use Rattle.std.proofs.lemmas.List.{drop-drop, drop-take, take-take, take-append-le, drop-append-le, length-drop}
@@ -114,7 +114,7 @@ template_of complex s5 spelled accepted = is_grouped (packing_template s5) (elim
 ])
 
 module _ (complex : Complex) (s5 : List ℕ) (spelled : Spelled complex s5) (accepted : IsAccepted complex) (some : 1 ≤ complex.layout.groups) (s7 : List ℕ) where
-  has_groups : eqb (octets s5 32 35) 0 ≡ false
+  pub has_groups : eqb (octets s5 32 35) 0 ≡ false
   has_groups = ne_eqb (octets s5 32 35) 0 (λ none. absurd (omega (arith, none, ap (λ l. l.groups) spelled.layout)))
 
   pub fault_grouped : data_fault s5 s7 ≡ group_data_fault s5 s7

@@ -16,6 +16,7 @@ use Rattle.grib_complex.specs.declared.values.Plain.{Plain}
 use Rattle.grib_complex.specs.declared.values.Values.{Values}
 use Rattle.grib_complex.specs.Told.{Telling, Plainly, point_of, told, after}
 use Rattle.grib_complex.specs.Tells.{IsWithin, telling_of, Tells, PlainTook, SteadilyTook, ValuesTook}
+use Rattle.grib_complex.proofs.Told.{length-told}
 use Rattle.grib_complex.specs.Laws.{told-append, after-append, after-plainly, plain-none, plain-more}
 
 -- ---- the first place out of range
@@ -71,6 +72,7 @@ values_run kept before last codes telling is is_place same plain within after_th
           (λ none. after_them ∙ ap (λ (t : Telling). after t codes) (here start seen tells none));
       keeps = λ start seen room tells none.
           subst (λ (t : Telling). kept before.keeper (told t codes) last.keeper) (here start seen tells (sym same ∙ none)) keeps;
+      went = record { points = told telling codes; counted = length-told telling codes; keeps = keeps };
     }
 
 -- ---- codes that are the scaled numbers themselves

@@ -38,11 +38,12 @@ use Rattle.grib_complex.specs.declared.feeding.Feeding.{Feeding}
 use Rattle.grib_complex.specs.Feeding.{AreOctets, Continues, ListingAgrees, HasRead, PassingAgrees, ReadingAgrees, StateAgrees, IsFaultOf, octets_left, pending_in}
 use Rattle.grib_complex.proofs.Told.{length-told}
 use Rattle.grib_complex.specs.Tells.{ValuesTook}
-use Rattle.grib_complex.specs.Told.{Telling, told}
+use Rattle.grib_complex.specs.Told.{Telling, told, undoing}
 use Rattle.grib_packing.specs.declared.group.Group.{Group}
 use Rattle.grib_packing.specs.declared.layout.Layout.{Layout}
 use Rattle.grib_packing.specs.Packing.{value_count}
 use Rattle.grib_complex.proofs.Arriving.{continues_from}
+use Rattle.grib_complex.proofs.SoFar.{points_agree, undone}
 
 -- there are at most 12 octets of descriptors
 pub few_descriptors : (complex : Complex) → IsAccepted complex → (complex.order + 1) * complex.extra ≤ 12
@@ -106,27 +107,43 @@ first_numbers octets piece rest whole below is = sym (is ∙ ap (λ (us : List �
 
 -- more packed numbers came
 pub reading_more : {K : Type 0} (kept : K → List Point → K → Type 0) (s5 : List ℕ) (keeper : K) (start l : ℕ) (octets piece : List ℕ) (fed after : Fed (Values K)) → IsFeedable (2 ^ 49) after
+    → IsCaughtUp after → after.table ≡ fed.table
     → ((layout : _) (groups : _) (first : Values K) (os : List ℕ) → WasFed (ValuesTook kept) layout groups first os fed → WasFed (ValuesTook kept) layout groups first (os ++ piece) after)
     → ReadingAgrees kept s5 keeper start l octets fed → ReadingAgrees kept s5 keeper start l (octets ++ piece) after
-reading_more kept s5 keeper start l octets piece fed after feedable more reads = record {
-  layout = reads.layout;
-  groups = reads.groups;
-  telling = reads.telling;
-  first = reads.first;
-  before = reads.before;
-  came = omega (arith, reads.came, length-append octets piece);
-  feedable = feedable;
-  so_far = subst (λ (os : List ℕ). WasFed (ValuesTook kept) reads.layout reads.groups reads.first os after) (sym (drop-append-le reads.before octets piece reads.came))
-      (more reads.layout reads.groups reads.first (drop reads.before octets) reads.so_far);
-  fresh = reads.fresh;
-  keeper_is = reads.keeper_is;
-  few = reads.few;
-  counted = reads.counted;
-  enough = reads.enough;
-  entries = λ s7 continues. reads.entries s7 (continues_from octets piece l s7 continues);
-  within = λ s7 continues. reads.within s7 (continues_from octets piece l s7 continues);
-  beyond = λ s7 continues. reads.beyond s7 (continues_from octets piece l s7 continues);
-}
+reading_more kept s5 keeper start l octets piece fed after feedable caught_up same_table more reads =
+    let came : reads.before ≤ length (octets ++ piece) = omega (arith, reads.came, length-append octets piece) in
+    let so_far = subst (λ (os : List ℕ). WasFed (ValuesTook kept) reads.layout reads.groups reads.first os after) (sym (drop-append-le reads.before octets piece reads.came))
+    (more reads.layout reads.groups reads.first (drop reads.before octets) reads.so_far) in
+    let entries = λ (s7 : List ℕ) (c : Continues (octets ++ piece) l s7). reads.entries s7 (continues_from octets piece l s7 c) in
+    record {
+      layout = reads.layout;
+      groups = reads.groups;
+      telling = reads.telling;
+      first = reads.first;
+      before = reads.before;
+      came = came;
+      feedable = feedable;
+      so_far = so_far;
+      fresh = reads.fresh;
+      keeper_is = reads.keeper_is;
+      few = reads.few;
+      counted = reads.counted;
+      enough = reads.enough;
+      entries = entries;
+      within = λ s7 c. reads.within s7 (continues_from octets piece l s7 c);
+      beyond = λ s7 c. reads.beyond s7 (continues_from octets piece l s7 c);
+      caught_up = caught_up;
+      before_is = reads.before_is;
+      groups_are = λ s7 c. reads.groups_are s7 (continues_from octets piece l s7 c);
+      table = λ s7 c. ap groups_in same_table ∙ reads.table s7 (continues_from octets piece l s7 c);
+      telling_is = λ s7 c. reads.telling_is s7 (continues_from octets piece l s7 c);
+      undone_with = λ s7 c none.
+          undone kept s5 keeper l (octets ++ piece) reads.layout reads.groups reads.telling reads.first reads.before after so_far caught_up reads.fresh reads.keeper_is reads.few came none
+          ∙ ap undoing (reads.telling_is s7 (continues_from octets piece l s7 c));
+      points = λ s7 c.
+          points_agree kept s5 keeper l (octets ++ piece) reads.layout reads.groups reads.telling reads.first reads.before after so_far caught_up reads.fresh reads.keeper_is reads.few came s7 c (entries s7 c)
+          (reads.groups_are s7 (continues_from octets piece l s7 c)) reads.before_is;
+    }
 
 pub passing_more : {K : Type 0} (kept : K → List Point → K → Type 0) (s5 : List ℕ) (keeper : K) (l : ℕ) (octets piece : List ℕ) (after : K)
     → PassingAgrees kept s5 keeper l octets after → PassingAgrees kept s5 keeper l (octets ++ piece) after

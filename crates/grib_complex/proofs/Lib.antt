@@ -8,6 +8,7 @@ pub mod Accepting
 pub mod Reach
 pub mod Arriving
 pub mod Begun
+pub mod SoFar
 pub mod Starting
 pub mod CodeByCode
 pub mod GroupByGroup

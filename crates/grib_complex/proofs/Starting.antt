@@ -10,15 +10,16 @@ use Rattle.grib_base.specs.declared.fault.Reason.TheVariants.{DataTooShort}
 use Rattle.grib_base.specs.Rows.{first_fault, located, refusal, choose}
 use Rattle.grib_packing.specs.declared.column.Point.TheVariants.{Scaled}
 use Rattle.grib_packing.specs.Entries.{data_fault, entries_of, group_data_fault, group_entries, complex_data_fault, complex_entries}
-use Rattle.grib_packing.specs.Groups.{list_octets, list_rows}
+use Rattle.grib_packing.specs.Groups.{codes_from, list_octets, list_rows}
 use Rattle.grib_packing.specs.Packing.{packing_template, value_count, bit_width}
 use Rattle.grib_packing.specs.Simple.{plain_bits, simple_rows, simple_entries}
 use Rattle.grib_packing.proofs.Fields.{plain-add}
 use Rattle.grib_groups.specs.declared.feeding.Fed.{Fed}
 use Rattle.grib_groups.specs.declared.lists.Lists.{Lists as GroupLists}
 use Rattle.grib_groups.specs.declared.lists.References.{References}
-use Rattle.grib_groups.specs.Feeding.{HasRoom, IsFeedable, IsList, WasFed, no_marks, plain_groups}
+use Rattle.grib_groups.specs.Feeding.{HasRoom, IsCaughtUp, IsFeedable, IsList, WasFed, no_marks, plain_groups}
 use Rattle.grib_groups.specs.Lists.{AreEmpty, ReferencesRoom, ReferencesTook}
+use Rattle.grib_groups.specs.Table.{groups_in}
 use Rattle.grib_groups.specs.Taking.{values}
 use Rattle.grib_groups.proofs.Pieces.{no_part, plain_codes, plain_packed}
 use Rattle.grib_groups.proofs.Taken.{values-cons}
@@ -31,9 +32,10 @@ use Rattle.grib_complex.proofs.Arriving.{fault_grouped}
 use Rattle.grib_complex.proofs.Decided.{fault_of_lists}
 use Rattle.grib_complex.proofs.Outcome.{numbers_with, lists_are}
 use Rattle.grib_complex.proofs.Begun.{told_count}
-use Rattle.grib_complex.specs.Feeding.{ReadingAgrees, PassingAgrees, BeginningAgrees}
+use Rattle.grib_complex.proofs.SoFar.{no_table, none_before, points_agree, told_plainly, undone}
+use Rattle.grib_complex.specs.Feeding.{ReadingAgrees, PassingAgrees, BeginningAgrees, is_one_list, number_groups}
 use Rattle.grib_complex.specs.Tells.{Tells, ValuesTook}
-use Rattle.grib_complex.specs.Told.{Plainly, told}
+use Rattle.grib_complex.specs.Told.{Plainly, told, undoing}
 
 pub told_plain : (ns : List ℕ) → told Plainly (map Present ns) ≡ map (λ n. Scaled (pos n)) ns
 told_plain [] = refl
@@ -54,7 +56,14 @@ plain_values w count = omega (arith, values-cons (record { reference = 0; width 
 module _ {K : Type 0} (kept : K → List Point → K → Type 0) (s5 : List ℕ) (keeper : K) (start l w count : ℕ) (first : Values K) (fed : Fed (Values K)) (feedable : IsFeedable (2 ^ 49) fed)
     (fresh_fed : WasFed (ValuesTook kept) no_marks (plain_groups w count) first [] fed) (no_run : first.teller.running ≡ None) (nothing : Tells Plainly [] first.teller) (keeper_is : first.keeper ≡ keeper)
     (few : count < 2 ^ 32) (counted : count ≡ value_count s5) (enough : 40 + count * w ≤ 8 * l)
-    (entries : (s7 : List ℕ) → map (λ n. Scaled (pos n)) (plain (bits (drop 5 s7)) w count) ≡ entries_of s5 s7) (passes : (s7 : List ℕ) → length s7 ≡ l → data_fault s5 s7 ≡ None) where
+    (entries : (s7 : List ℕ) → map (λ n. Scaled (pos n)) (plain (bits (drop 5 s7)) w count) ≡ entries_of s5 s7) (passes : (s7 : List ℕ) → length s7 ≡ l → data_fault s5 s7 ≡ None)
+    (caught_up : IsCaughtUp fed) (none_listed : groups_in fed.table ≡ []) (one : is_one_list s5 ≡ true) (one_group : (s7 : List ℕ) → plain_groups w count ≡ number_groups s5 s7) where
+  few_values : values (plain_groups w count) < 2 ^ 32
+  few_values = omega (arith, few, plain_values w count)
+
+  plain_told : (s7 : List ℕ) → told Plainly (codes_from no_marks (plain_groups w count) (bits (drop 5 s7))) ≡ entries_of s5 s7
+  plain_told s7 = ap (told Plainly) (plain_codes w count (bits (drop 5 s7))) ∙ told_plain (plain (bits (drop 5 s7)) w count) ∙ entries s7
+
   -- the numbers of all values are one group
   pub starts_plain : ReadingAgrees kept s5 keeper start l [] fed
   starts_plain = record {
@@ -68,12 +77,21 @@ module _ {K : Type 0} (kept : K → List Point → K → Type 0) (s5 : List ℕ)
     so_far = fresh_fed;
     fresh = nothing;
     keeper_is = keeper_is;
-    few = omega (arith, plain_values w count);
+    few = few_values;
     counted = plain_values w count ∙ counted;
     enough = omega (arith, plain_packed w count);
-    entries = λ s7 c. ap (told Plainly) (plain_codes w count (bits (drop 5 s7))) ∙ told_plain (plain (bits (drop 5 s7)) w count) ∙ entries s7;
+    entries = λ s7 c. plain_told s7;
     within = λ s7 c nowhere. passes s7 c.long;
     beyond = λ s7 c somewhere not_plain. absurd (not_plain no_run);
+    caught_up = caught_up;
+    before_is = none_before s5 one;
+    groups_are = λ s7 c. one_group s7;
+    table = λ s7 c. none_listed ∙ no_table s5 one s7;
+    telling_is = λ s7 c. told_plainly s5 one s7;
+    undone_with = λ s7 c none.
+        undone kept s5 keeper l [] no_marks (plain_groups w count) Plainly first 0 fed fresh_fed caught_up nothing keeper_is few_values (omega arith) none ∙ ap undoing (told_plainly s5 one s7);
+    points = λ s7 c.
+        points_agree kept s5 keeper l [] no_marks (plain_groups w count) Plainly first 0 fed fresh_fed caught_up nothing keeper_is few_values (omega arith) s7 c (plain_told s7) (one_group s7) (none_before s5 one);
   }
 
 -- and where nothing is kept of their points
@@ -89,7 +107,7 @@ passes_plain kept s5 keeper l w count keeps is_count entries passes = record {
 }
 
 module _ (s5 : List ℕ) (zero_template : packing_template s5 ≡ 0) where
-  simple_branch : eqb (packing_template s5) 0 ≡ true
+  pub simple_branch : eqb (packing_template s5) 0 ≡ true
   simple_branch = eq-eqb (packing_template s5) 0 zero_template
 
   pub plain_entries : (w count : ℕ) → w ≡ bit_width s5 → count ≡ value_count s5 → (s7 : List ℕ) → map (λ n. Scaled (pos n)) (plain (bits (drop 5 s7)) w count) ≡ entries_of s5 s7
@@ -113,7 +131,7 @@ module _ (s5 : List ℕ) (zero_template : packing_template s5 ≡ 0) where
 
 -- where there are no groups
 module _ (s5 : List ℕ) (grouped : eqb (packing_template s5) 0 ≡ false) (none : octets s5 32 35 ≡ 0) where
-  no_groups : eqb (octets s5 32 35) 0 ≡ true
+  pub no_groups : eqb (octets s5 32 35) 0 ≡ true
   no_groups = eq-eqb (octets s5 32 35) 0 none
 
   pub zero_entries : (count : ℕ) → count ≡ value_count s5 → (s7 : List ℕ) → map (λ n. Scaled (pos n)) (plain (bits (drop 5 s7)) 0 count) ≡ entries_of s5 s7

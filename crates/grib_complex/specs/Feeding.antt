@@ -1,5 +1,5 @@
 -- A Section 7 that comes in pieces: what is known of it by the octets that came after its fifth.
-use Rattle.std.specs.Prelude.{◌≡◌, ℕ, ◌+◌, ◌-◌, ◌*◌, ◌^◌, ◌<◌, ◌≤◌, Bool, false, Option, None, Some, List, [], ◌++◌, get_or, length, drop, nat_abs, vec_capacity}
+use Rattle.std.specs.Prelude.{◌≡◌, ℕ, ◌+◌, ◌-◌, ◌*◌, ◌^◌, ◌<◌, ◌≤◌, Bool, false, cond, ◌||◌, ◌==◌, Option, None, Some, List, [], ◌++◌, get_or, length, take, drop, nat_abs, vec_capacity}
 use Rattle.grib_bits.specs.Bits.{bits}
 use Rattle.grib_bitmap.specs.Mask.{present_count}
 use Rattle.grib_base.specs.declared.fault.Fault.{Fault}
@@ -7,16 +7,18 @@ use Rattle.grib_base.specs.declared.fault.Reason.TheVariants.{ScaledRange}
 use Rattle.grib_base.specs.Rows.{first_place, located, refusal}
 use Rattle.grib_packing.specs.declared.group.Group.{Group}
 use Rattle.grib_packing.specs.declared.layout.Layout.{Layout}
-use Rattle.grib_packing.specs.Entries.{data_fault, entries_of, is_out_of_range}
-use Rattle.grib_packing.specs.Groups.{codes_from, list_octets, packed_bits}
-use Rattle.grib_packing.specs.Packing.{value_count}
+use Rattle.grib_packing.specs.Complex.{layout_of, descriptor_octets, difference_order, extra_octets}
+use Rattle.grib_packing.specs.Entries.{data_fault, entries_of, has_no_groups, is_out_of_range}
+use Rattle.grib_packing.specs.Groups.{codes_from, groups, list_octets, packed_bits}
+use Rattle.grib_packing.specs.Packing.{bit_width, packing_template, value_count}
 use Rattle.grib_packing.specs.Representation as simple
 use Rattle.grib_packing.specs.declared.column.Point.{Point}
 use Rattle.grib_groups.specs.declared.feeding.Fed.{Fed}
 use Rattle.grib_groups.specs.declared.lists.References.{References}
-use Rattle.grib_groups.specs.Feeding.{AreFeedable, HasRoom, IsFeedable, IsList, ListsFed, WasFed, list_pending, no_marks, part, pending_of, plain_groups}
+use Rattle.grib_groups.specs.Feeding.{AreFeedable, HasRoom, IsCaughtUp, IsFeedable, IsList, ListsFed, WasFed, list_pending, no_marks, part, pending_of, plain_groups}
 use Rattle.grib_groups.specs.Lists.{AreEmpty, ReferencesRoom, ReferencesTook}
-use Rattle.grib_groups.specs.Taking.{IsEnd, values}
+use Rattle.grib_groups.specs.Table.{groups_in}
+use Rattle.grib_groups.specs.Taking.{IsEnd, values, values_within}
 use Rattle.grib_complex.specs.declared.stages.Beginning.{Beginning}
 use Rattle.grib_complex.specs.declared.stages.Between.{Between}
 use Rattle.grib_complex.specs.declared.feeding.Feeding.{Feeding}
@@ -27,8 +29,8 @@ use Rattle.grib_complex.specs.declared.values.Values.{Values}
 use Rattle.grib_complex.specs.Descriptors.{IsAccepted, is_signed_at, telling_by, telling_told}
 use Rattle.grib_complex.specs.Kept.{ArePoints, PointsKept}
 use Rattle.grib_complex.specs.Representation.{Spelled}
-use Rattle.grib_complex.specs.Tells.{Tells, ValuesTook}
-use Rattle.grib_complex.specs.Told.{Telling, told}
+use Rattle.grib_complex.specs.Tells.{Tells, PointsWent, ValuesTook, telling_of}
+use Rattle.grib_complex.specs.Told.{Telling, Plainly, told, undoing}
 
 abbrev pub AreOctets : List ℕ → Type 0
 AreOctets xs = (i : ℕ) → get_or xs i 0 < 256
@@ -47,6 +49,40 @@ IsFaultOf s5 start l octets fault = (s7 : List ℕ) → Continues octets l s7 �
 -- No first value that is whole in these octets has its top bit set.
 abbrev pub AreClear : ℕ → ℕ → ℕ → List ℕ → Type 0
 AreClear order extra l octets = (j : ℕ) → j < order → (j + 1) * extra ≤ length octets → (s7 : List ℕ) → Continues octets l s7 → is_signed_at order extra s7 j ≡ false
+
+-- ---- what a section holds
+
+-- whether the numbers of all values are one list: in simple packing, and where there are no groups
+abbrev pub is_one_list : List ℕ → Bool
+is_one_list s5 = packing_template s5 == 0 || has_no_groups s5
+
+-- the group table: the references, widths and lengths that the three lists tell
+abbrev pub table_of : List ℕ → List ℕ → List Group
+table_of s5 s7 = cond (is_one_list s5) [] (groups (layout_of s5) (drop (5 + descriptor_octets s5) s7))
+
+-- the groups of the packed numbers; where Section 5 has no groups, each value is a number of no bits
+abbrev pub number_groups : List ℕ → List ℕ → List Group
+number_groups s5 s7 =
+    cond (packing_template s5 == 0) (plain_groups (bit_width s5) (value_count s5))
+    (cond (has_no_groups s5) (plain_groups 0 (value_count s5)) (table_of s5 s7))
+
+-- the octets between the fifth and the first packed number
+abbrev pub octets_before : List ℕ → ℕ
+octets_before s5 = cond (is_one_list s5) 0 (descriptor_octets s5 + list_octets (layout_of s5))
+
+-- what the first code is told with: the first values and the minimum that stand in the section, if any
+abbrev pub first_telling : List ℕ → List ℕ → Telling
+first_telling s5 s7 = cond (is_one_list s5) Plainly (telling_by (difference_order s5) (extra_octets s5) s7)
+
+-- how many packed numbers end in these octets, which come after the fifth
+abbrev pub numbers_in : List ℕ → List ℕ → List ℕ → ℕ
+numbers_in s5 s7 octets = values_within (number_groups s5 s7) (8 * (length octets - octets_before s5))
+
+-- and the entries of these numbers
+abbrev pub entries_so_far : List ℕ → List ℕ → List ℕ → List Point
+entries_so_far s5 s7 octets = take (numbers_in s5 s7 octets) (entries_of s5 s7)
+
+-- ---- what is known of it
 
 -- Not all octets of the extra descriptors came.
 pub record BeginningAgrees {K : Type 0} (s5 : List ℕ) (keeper : K) (l : ℕ) (octets : List ℕ) (beginning : Beginning K) : Type 0 where
@@ -85,9 +121,17 @@ pub record ListingAgrees {K : Type 0} (s5 : List ℕ) (keeper : K) (l : ℕ) (oc
   pub feedable : AreFeedable between.complex.layout between.lists
   pub keeper_is : between.keeper ≡ keeper
 
+-- What keeps the points took as many as these, and the place of the first of these that is out of range is known.
+-- Where none is, it took these.
+pub record PointsAgree {K : Type 0} (kept : K → List Point → K → Type 0) (keeper : K) (points : List Point) (after_them : Values K) : Type 0 where
+  pub place : after_them.teller.beyond ≡ first_place is_out_of_range points
+  pub went : PointsWent kept keeper (length points) after_them.keeper
+  pub keeps : after_them.teller.beyond ≡ 0 → kept keeper points after_them.keeper
+
 -- The packed numbers of some groups stand after the first `before` octets: those that came went to what keeps
--- the points. No row but that on the range of the numbers fails, and each such section has the entries that the
--- codes of these groups tell.
+-- the points, and no further number ends in these octets. The groups, their table, what the codes are told with and
+-- the points are those of each such section. No row but that on the range of the numbers fails, and each such
+-- section has the entries that the codes of these groups tell.
 pub record ReadingAgrees {K : Type 0} (kept : K → List Point → K → Type 0) (s5 : List ℕ) (keeper : K) (start l : ℕ) (octets : List ℕ) (fed : Fed (Values K)) : Type 0 where
   pub layout : Layout
   pub groups : List Group
@@ -106,6 +150,13 @@ pub record ReadingAgrees {K : Type 0} (kept : K → List Point → K → Type 0)
   pub within : (s7 : List ℕ) → Continues octets l s7 → first_place is_out_of_range (entries_of s5 s7) ≡ 0 → data_fault s5 s7 ≡ None
   pub beyond : (s7 : List ℕ) → Continues octets l s7 → 0 < first_place is_out_of_range (entries_of s5 s7) → (first.teller.running ≡ None → ⊥)
       → located start (data_fault s5 s7) ≡ Some (refusal start ScaledRange (first_place is_out_of_range (entries_of s5 s7)))
+  pub caught_up : IsCaughtUp fed
+  pub before_is : before ≡ octets_before s5
+  pub groups_are : (s7 : List ℕ) → Continues octets l s7 → groups ≡ number_groups s5 s7
+  pub table : (s7 : List ℕ) → Continues octets l s7 → groups_in fed.table ≡ table_of s5 s7
+  pub telling_is : (s7 : List ℕ) → Continues octets l s7 → telling ≡ first_telling s5 s7
+  pub undone_with : (s7 : List ℕ) → Continues octets l s7 → fed.taker.teller.beyond ≡ 0 → undoing (telling_of fed.taker.teller.running) ≡ undoing (first_telling s5 s7)
+  pub points : (s7 : List ℕ) → Continues octets l s7 → PointsAgree kept keeper (entries_so_far s5 s7 octets) fed.taker
 
 -- No row fails, whatever comes, and no points are kept.
 pub record PassingAgrees {K : Type 0} (kept : K → List Point → K → Type 0) (s5 : List ℕ) (keeper : K) (l : ℕ) (octets : List ℕ) (after : K) : Type 0 where
@@ -195,6 +246,30 @@ pub record IsFed {K : Type 0} (kept : K → List Point → K → Type 0) (feedin
   pub octets : List ℕ
   pub read : HasRead kept s5 keeper start l octets feeding
 
+-- what keeps the points
+abbrev pub keeper_in : {K : Type 0} → State K → K
+keeper_in (Begins beginning) = beginning.keeper
+keeper_in (Lists between) = between.keeper
+keeper_in (Reads fed) = fed.taker.keeper
+keeper_in (Passes keeper) = keeper
+keeper_in (Refused fault keeper) = keeper
+
+-- The mask is there in every state.
+abbrev pub KeepsMask : List Bool → Option (State Points) → Type 0
+KeepsMask mask None = ⊥
+KeepsMask mask (Some state) = (keeper_in state).mask.value ≡ mask
+
+-- The points of the numbers that came stand in the column, as long as none is out of range. They are those of each
+-- section that continues these octets.
+abbrev pub ColumnAgrees : List ℕ → List Bool → ℕ → List ℕ → Option (State Points) → Type 0
+ColumnAgrees s5 mask l octets None = ⊥
+ColumnAgrees s5 mask l octets (Some (Begins beginning)) = ArePoints mask [] beginning.keeper
+ColumnAgrees s5 mask l octets (Some (Lists between)) = ArePoints mask [] between.keeper
+ColumnAgrees s5 mask l octets (Some (Reads fed)) =
+    (s7 : List ℕ) → Continues octets l s7 → fed.taker.teller.beyond ≡ 0 → ArePoints mask (entries_so_far s5 s7 octets) fed.taker.keeper
+ColumnAgrees s5 mask l octets (Some (Passes keeper)) = ArePoints mask [] keeper
+ColumnAgrees s5 mask l octets (Some (Refused fault keeper)) = ArePoints mask [] keeper
+
 -- With this Section 5 and this mask, and a Section 7 of l octets that begins at octet `start` of the message,
 -- of which these came after the fifth.
 pub record Agrees (s5 : List ℕ) (mask : List Bool) (start l : ℕ) (octets : List ℕ) (feeder : Feeding Points) : Type 0 where
@@ -202,3 +277,5 @@ pub record Agrees (s5 : List ℕ) (mask : List Bool) (start l : ℕ) (octets : L
   pub empty : ArePoints mask [] first
   pub counted : present_count mask ≡ value_count s5
   pub read : HasRead PointsKept s5 first start l octets feeder
+  pub mask_stays : KeepsMask mask feeder.state
+  pub column : ColumnAgrees s5 mask l octets feeder.state

@@ -27,6 +27,7 @@ values-none kept none taker = record {
   plain = λ none. (none, refl);
   tells = λ start seen room tells. subst (λ (codes : List Code). Tells start codes taker.teller) (sym (append-nil seen)) tells;
   keeps = λ start seen room tells within. none taker.keeper;
+  went = record { points = []; counted = refl; keeps = none taker.keeper };
 }
 
 pub values-more : {K : Type 0} (kept : K → List Point → K → Type 0)
@@ -59,6 +60,11 @@ values-more kept more before between last codes more_codes first second = record
       let points : told (after start seen) codes ++ told (after start (seen ++ codes)) more_codes ≡ told (after start seen) (codes ++ more_codes) =
       ap (λ (t : Telling). told (after start seen) codes ++ told t more_codes) (after-append start seen codes) ∙ sym (told-append (after start seen) codes more_codes) in
       subst (λ (ps : List Point). kept before.keeper ps last.keeper) points (more before.keeper between.keeper last.keeper _ _ kept_first kept_second);
+  went = record {
+    points = first.went.points ++ second.went.points;
+    counted = omega (arith, length-append first.went.points second.went.points, first.went.counted, second.went.counted, length-append codes more_codes);
+    keeps = more before.keeper between.keeper last.keeper _ _ first.went.keeps second.went.keeps;
+  };
 }
 
 -- codes that are the scaled numbers themselves stay so

@@ -28,13 +28,21 @@ pub record Tells (start : Telling) (seen : List Code) (teller : Teller) : Type 0
   pub beyond : teller.beyond ≡ first_place is_out_of_range (told start seen)
   pub telling : teller.beyond ≡ 0 → telling_of teller.running ≡ after start seen
 
--- The points of these codes went to what keeps them, as long as none is out of range.
+-- This many points went to what keeps them.
+pub record PointsWent {K : Type 0} (kept : K → List Point → K → Type 0) (before : K) (count : ℕ) (after_them : K) : Type 0 where
+  pub points : List Point
+  pub counted : length points ≡ count
+  pub keeps : kept before points after_them
+
+-- The points of these codes went to what keeps them, as long as none is out of range. It keeps as many points
+-- where one is.
 pub record ValuesTook {K : Type 0} (kept : K → List Point → K → Type 0) (before : Values K) (codes : List Code) (after_them : Values K) : Type 0 where
   pub stays : 0 < before.teller.beyond → after_them.teller.beyond ≡ before.teller.beyond
   pub plain : before.teller.running ≡ None → (after_them.teller.running ≡ None) × (after_them.teller.beyond ≡ before.teller.beyond)
   pub tells : (start : Telling) (seen : List Code) → length seen + length codes < 2 ^ 63 → Tells start seen before.teller → Tells start (seen ++ codes) after_them.teller
   pub keeps : (start : Telling) (seen : List Code) → length seen + length codes < 2 ^ 63 → Tells start seen before.teller → after_them.teller.beyond ≡ 0
       → kept before.keeper (told (after start seen) codes) after_them.keeper
+  pub went : PointsWent kept before.keeper (length codes) after_them.keeper
 
 -- The points of these codes, which are the scaled numbers themselves, went to what keeps them.
 abbrev pub PlainTook : {K : Type 0} → (K → List Point → K → Type 0) → Plain K → List Code → Plain K → Type 0

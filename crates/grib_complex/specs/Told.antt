@@ -1,5 +1,5 @@
 -- The points that codes tell, one after another.
-use Rattle.std.specs.Prelude.{List, [], ◌∷◌, pos}
+use Rattle.std.specs.Prelude.{Option, None, Some, List, [], ◌∷◌, pos}
 use Rattle.grib_base.specs.declared.code.Code.{Code}
 use Rattle.grib_base.specs.declared.code.Code.TheVariants.{Present, Primary, Secondary}
 use Rattle.grib_packing.specs.declared.column.Point.{Point}
@@ -35,3 +35,8 @@ told telling (code ∷ codes) = point_of telling code ∷ told (telling_after te
 abbrev pub after : Telling → List Code → Telling
 after telling [] = telling
 after telling (code ∷ codes) = after (telling_after telling code) codes
+
+-- the first values and the minimum that codes are told with, if they are those of differences
+abbrev pub undoing : Telling → Option Descriptors
+undoing Plainly = None
+undoing (After d last) = Some d

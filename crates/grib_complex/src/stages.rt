@@ -12,13 +12,14 @@ ghost use Rattle.grib_packing.specs.Entries.{data_fault, entries_of, is_out_of_r
 ghost use Rattle.grib_packing.specs.Groups.{codes_from, list_octets};
 ghost use Rattle.grib_packing.specs.Packing.{packing_template, value_count};
 ghost use Rattle.grib_packing.specs.Representation as shared;
+ghost use Rattle.grib_groups.specs.Feeding.{plain_groups};
 ghost use Rattle.grib_groups.specs.Table.{groups_in, IsNarrow, IsWhole};
 ghost use Rattle.grib_groups.specs.Taking.{values as values_in};
 ghost use Rattle.grib_complex.specs.Representation.{Spelled};
 ghost use Rattle.grib_complex.specs.Descriptors.{IsAccepted, descriptors_in, is_signed_number};
 ghost use Rattle.grib_complex.specs.Field.{Represents};
 ghost use Rattle.grib_complex.specs.Told.{After, told as points_of};
-ghost use Rattle.grib_complex.specs.Feeding.{AreOctets, BeginningAgrees, CanBegin, CanList, IsFedState, IsWholeListing, ListingAgrees, StateAgrees};
+ghost use Rattle.grib_complex.specs.Feeding.{AreOctets, BeginningAgrees, CanBegin, CanList, IsFedState, IsWholeListing, ListingAgrees, StateAgrees, is_one_list, number_groups};
 
 use crate::field::Representation;
 use crate::keeping::Keeper;
@@ -111,12 +112,14 @@ fn start_plain<K: Keeper>(
     start_list(alloc, simple.bits, simple.values, keeper)
 }
 
-/// Before the first octet of `count` numbers of `bits` bits, the scaled numbers themselves. No row fails.
+/// Before the first octet of `count` numbers of `bits` bits, the scaled numbers themselves. Numbers of no bits are
+/// handed on at once. No row fails.
 fn start_list<K: Keeper>(alloc: Global, bits: u8, count: u32, keeper: K) -> State<K>
     requires width { bits ≤ 48 }
     ensures { (s5 : List ℕ) (start l : ℕ) → count ≡ value_count s5 → 40 + count * bits ≤ 8 * l
         → ((s7 : List ℕ) → map (λ n. Scaled (pos n)) (plain (bits_in (drop 5 s7)) bits count) ≡ entries_of s5 s7)
         → ((s7 : List ℕ) → length_of s7 ≡ l → data_fault s5 s7 ≡ None)
+        → is_one_list s5 ≡ true → ((s7 : List ℕ) → plain_groups bits count ≡ number_groups s5 s7)
         → StateAgrees K.kept s5 keeper start l [] (Some result) }
 {
     if !keeper.keeps() {
@@ -126,7 +129,7 @@ fn start_list<K: Keeper>(alloc: Global, bits: u8, count: u32, keeper: K) -> Stat
         teller: Teller::start(None),
         keeper,
     };
-    State::Reads(Fed::list(alloc, bits, count, values))
+    State::Reads(Fed::list(alloc, bits, count, values).push(&[]))
 }
 
 /// Before the first octet of complex packing. Where there are no groups, each value is a number of no bits.

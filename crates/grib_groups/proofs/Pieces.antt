@@ -13,19 +13,19 @@ use Rattle.grib_packing.specs.declared.layout.Layout.{Layout}
 use Rattle.grib_packing.specs.Groups.{code_of, codes_from, packed_bits, reference_octets, width_octets, list_octets, references, widths, lengths}
 use Rattle.grib_groups.specs.declared.feeding.Fed.{Fed}
 use Rattle.grib_groups.specs.declared.numbers.Numbers.{Numbers}
-use Rattle.grib_groups.specs.Taking.{Taken, values}
+use Rattle.grib_groups.specs.Taking.{Taken, values, values_within}
 use Rattle.grib_groups.specs.Table.{groups_in}
 use Rattle.grib_groups.specs.Going.{left_of, IsShort, Went}
 use Rattle.grib_groups.specs.declared.lists.Lists.{Lists}
 use Rattle.grib_groups.specs.declared.lists.References.{References}
 use Rattle.grib_groups.specs.declared.lists.Widths.{Widths}
 use Rattle.grib_groups.specs.Lists.{ReferencesTook, WidthsTook}
-use Rattle.grib_groups.specs.Feeding.{part, no_marks, plain_groups, HasReferences, HasWidths, WasFed}
+use Rattle.grib_groups.specs.Feeding.{part, no_marks, plain_groups, HasReferences, HasWidths, IsCaughtUp, WasFed}
 use Rattle.grib_groups.proofs.Coded.{plain_code}
 use Rattle.grib_groups.proofs.Moves.{went_same, went_then}
 use Rattle.grib_groups.proofs.Plain.{plain-append}
 use Rattle.grib_groups.proofs.Runs.{map-plain}
-use Rattle.grib_groups.proofs.Taken.{taken_none, taken_on, taken_whole, short_of_group, packed_bits-cons, values-cons}
+use Rattle.grib_groups.proofs.Taken.{taken_before, taken_none, taken_on, taken_whole, taken_within, none_within, within_short, short_of_group, packed_bits-cons}
 
 nothing_of : (n : ℕ) → let none : List ℕ = [] in take n none ≡ none
 nothing_of n = let none : List ℕ = [] in take_all n none (omega arith)
@@ -195,17 +195,6 @@ module _ (from size w count : ℕ) (octets : List ℕ) (within : from + size ≤
 
 -- ---- what is fed
 
--- before the first group
-taken_before : (layout : Layout) (groups : List Group) → Taken layout groups [] [] (record { reference = 0; width = 0; count = 0 } ∷ groups) []
-taken_before layout groups =
-    let nothing : Group = record { reference = 0; width = 0; count = 0 } in
-    record {
-      agree = λ more. refl;
-      counted = omega (arith, values-cons nothing groups);
-      used = λ some. omega (arith, packed_bits-cons nothing groups);
-      ends = record { before = []; joined = refl };
-    }
-
 module _ {S : Type 0} (took : S → List Code → S → Type 0) (none : (taker : S) → took taker [] taker)
     (more : (before between after : S) (codes more_codes : List Code) → took before codes between → took between more_codes after → took before (codes ++ more_codes) after) where
   -- no octet came yet
@@ -219,7 +208,7 @@ module _ {S : Type 0} (took : S → List Code → S → Type 0) (none : (taker :
         layout_is = refl;
         went = went_same took none more layout groups (left_of fed.numbers groups) [] fed.numbers.pending fed.taker
             (subst (λ (gs : List Group). Taken layout groups [] [] gs fed.numbers.pending) left
-            (subst (λ (bs : List Bool). Taken layout groups [] [] (record { reference = 0; width = 0; count = 0 } ∷ groups) bs) (sym is_pending) (taken_before layout groups)));
+            (subst (λ (bs : List Bool). Taken layout groups [] [] (record { reference = 0; width = 0; count = 0 } ∷ groups) bs) (sym is_pending) (taken_before layout (record { reference = 0; width = 0; count = 0 }) groups [] refl)));
       }
 
   pub fed_list : (fed : Fed S) (w count : ℕ) → fed.layout ≡ no_marks → groups_in fed.table ≡ [] → fed.numbers.current ≡ record { reference = 0; width = w; count = count } → fed.numbers.next ≡ 0 → fed.numbers.pending ≡ []
@@ -274,3 +263,18 @@ module _ {S : Type 0} (took : S → List Code → S → Type 0) (none : (taker :
       let short = waits some in
       short_of_group numbers.current (drop numbers.next (groups_in before.table)) (length numbers.pending) short.some short.short) in
       subst (λ (cs : List Code). took start cs taker) whole went.passed
+
+-- ---- how many numbers ended
+
+-- there is a code for each number that ends in the octets that came
+pub fed_within : {S : Type 0} (took : S → List Code → S → Type 0) (layout : Layout) (groups : List Group) (start : S) (octets : List ℕ) (fed : Fed S) (was : WasFed took layout groups start octets fed) → IsCaughtUp fed
+    → length was.went.codes ≡ values_within groups (8 * length octets)
+fed_within took layout groups start octets fed was caught =
+    let behind = drop fed.numbers.next (groups_in fed.table) in
+    let left = left_of fed.numbers (groups_in fed.table) in
+    let size = length fed.numbers.pending in
+    let none : values_within left size ≡ 0 = elim (cases_lt 0 (values left)) [
+      | inl some ↦ let short = caught.waits some in within_short fed.numbers.current behind size short.some short.short
+      | inr none ↦ none_within left size (omega arith)
+    ] in
+    taken_within was.went.taken none ∙ ap (values_within groups) (length-bits octets)

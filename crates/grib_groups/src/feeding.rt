@@ -32,6 +32,7 @@ impl<T: RunTaker> Fed<T> {
         requires limit { 2 ^ 33 ≤ T.Taker.limit }
         ensures feedable { IsFeedable T.Taker.limit result }
         ensures room { (n : ℕ) → T.Taker.room taker (values (groups_in table) + n) → HasRoom T.Taker.room result n }
+        ensures table { result.table ≡ table }
         ensures fed { WasFed T.Taker.took layout (groups_in table) taker [] result }
     {
         let nothing = Group {
@@ -53,6 +54,7 @@ impl<T: RunTaker> Fed<T> {
         requires limit { 2 ^ bits ≤ T.Taker.limit }
         ensures feedable { IsFeedable T.Taker.limit result }
         ensures list { IsList bits result }
+        ensures table { groups_in result.table ≡ [] }
         ensures room { (n : ℕ) → T.Taker.room taker (count + n) → HasRoom T.Taker.room result n }
         ensures fed { WasFed T.Taker.took no_marks (plain_groups bits count) taker [] result }
     {
@@ -78,6 +80,7 @@ impl<T: RunTaker> Fed<T> {
         ensures room { (n : ℕ) → HasRoom T.Taker.room self n → HasRoom T.Taker.room result n }
         ensures caught_up { IsCaughtUp result }
         ensures list { (width : ℕ) → IsList width self → IsList width result }
+        ensures table { result.table ≡ self.table }
         ensures fed { (layout : layout_of_numbers) (groups : List group_of_numbers) (start : _) (octets : List ℕ)
             → WasFed T.Taker.took layout groups start octets self → WasFed T.Taker.took layout groups start (octets ++ piece.now) result }
         ensures took { (layout : layout_of_numbers) (groups : List group_of_numbers) (start : _) (octets : List ℕ)

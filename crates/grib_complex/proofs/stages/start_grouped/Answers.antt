@@ -1,6 +1,5 @@
-use Rattle.std.proofs.Common.{◌≡◌, ◌+◌, ◌*◌, ◌<◌, ◌≤◌, ℕ, Bool, true, false, cond, IsTrue, Option, Some, None, List, [], length, pow_mono, subst, refl, sym, ap, ◌∙◌, arith, inl, inr}
+use Rattle.std.proofs.Common.{◌≡◌, ◌+◌, ◌*◌, ◌<◌, ◌≤◌, ℕ, Bool, true, false, cond, IsTrue, Option, Some, None, [], length, pow_mono, subst, refl, sym, ap, ◌∙◌, arith, inl, inr}
 use Rattle.std.proofs.lemmas.Bool.{cases_lt, lt-ltb}
-use Rattle.std.proofs.lemmas.List.{drop_all}
 use Rattle.grib_base.specs.declared.fault.Reason.TheVariants.{DataTooShort}
 use Rattle.grib_base.specs.declared.fault.Fault.{Fault}
 use Rattle.grib_base.specs.Rows.{refusal, first_fault}
@@ -10,7 +9,8 @@ use Rattle.grib_groups.specs.Feeding.{WasFed, no_marks, plain_groups}
 use Rattle.grib_groups.specs.Lists.{ReferencesTook}
 use Rattle.grib_complex.proofs.Arriving.{lists_pass, template_of}
 use Rattle.grib_complex.proofs.Described.{few_orders}
-use Rattle.grib_complex.proofs.Starting.{zero_entries, zero_passes, begins, lists_refused}
+use Rattle.grib_complex.proofs.SoFar.{one_group_of_none, one_list_of_none}
+use Rattle.grib_complex.proofs.Starting.{zero_entries, zero_passes, begins, lists_refused, no_groups}
 use Rattle.grib_complex.proofs.stages.start_grouped.Goals as goal
 
 apart : {P : Type 0} → false ≡ true → P
@@ -38,6 +38,7 @@ returns-then-complex-eq0 g c = λ s5 spelled.
     let nothing : n * 0 ≡ 0 = omega arith in
     c.start_list.ensures s5 c.args.start c.args.length spelled.simple.values (omega (arith, nothing, c.requires.least))
     (zero_entries s5 grouped none n spelled.simple.values) (λ s7 long. zero_passes s5 grouped none s7)
+    (one_list_of_none s5 grouped (no_groups s5 grouped none)) (one_group_of_none s5 grouped (no_groups s5 grouped none) n spelled.simple.values)
 
 pub returns-then-not-lists_fit : goal.returns-then-not-lists_fit
 returns-then-not-lists_fit g c = λ s5 spelled. (

@@ -1,4 +1,4 @@
-use Rattle.std.proofs.Common.{◌≡◌, ℕ, ◌+◌, ◌-◌, ◌*◌, ◌≤◌, Bool, false, cond, Some, None, List, length, drop, eqb, [], refl, sym, ap, ap₂, ◌∙◌, arith, subst, inl, inr}
+use Rattle.std.proofs.Common.{◌≡◌, ℕ, ◌+◌, ◌*◌, ◌^◌, ◌<◌, ◌≤◌, Bool, cond, Some, List, length, drop, eqb, [], sym, ap, ap₂, ◌∙◌, arith, subst, inl, inr}
 use Rattle.std.proofs.lemmas.Bool.{cases_eq, cond-false, cond-true, eq-eqb, ne_eqb}
 use Rattle.std.proofs.lemmas.List.{length-drop}
 use Rattle.grib_bits.specs.Bits.{bits}
@@ -10,7 +10,7 @@ use Rattle.grib_packing.specs.Differences.{NoNumber}
 use Rattle.grib_packing.specs.Entries.{entries_of, group_entries, is_out_of_range}
 use Rattle.grib_packing.specs.Groups.{references, widths, lengths, groups, list_octets, codes_from}
 use Rattle.grib_packing.specs.Packing.{value_count}
-use Rattle.grib_groups.specs.Lists.{ListsAre, lists_fault}
+use Rattle.grib_groups.specs.Lists.{lists_fault}
 use Rattle.grib_groups.specs.Table.{groups_in}
 use Rattle.grib_groups.specs.Taking.{values}
 use Rattle.grib_groups.specs.Feeding.{WasFed}
@@ -18,12 +18,13 @@ use Rattle.grib_groups.proofs.Faults.{fit_from, groups_are}
 use Rattle.grib_groups.proofs.Listed.{values-groups_from}
 use Rattle.grib_complex.specs.declared.stages.Between.{Between}
 use Rattle.grib_complex.specs.declared.values.Values.{Values}
-use Rattle.grib_complex.specs.Feeding.{Continues, IsWholeListing, ListingAgrees}
-use Rattle.grib_complex.specs.Told.{Telling, Plainly, After, told}
+use Rattle.grib_complex.specs.Feeding.{Continues, ListingAgrees}
+use Rattle.grib_complex.specs.Told.{Telling, Plainly, After, told, undoing}
 use Rattle.grib_complex.specs.Tells.{Tells, ValuesTook}
 use Rattle.grib_complex.specs.Descriptors.{descriptors_in, is_signed_at, telling_by, telling_told}
 use Rattle.grib_complex.proofs.Arriving.{front_of, came_refused, came_whole, came_entries, entries_grouped, table_whole, table_narrow}
 use Rattle.grib_complex.proofs.Begun.{told_count}
+use Rattle.grib_complex.proofs.SoFar.{lists_before, numbers_came, points_agree, table_came, told_by, undone}
 use Rattle.grib_complex.proofs.Outcome.{no_run, plain_range, within_range, beyond_range}
 use Rattle.grib_complex.proofs.stages.Between.read.Goals as goal
 
@@ -207,6 +208,15 @@ returns g c = λ s5 keeper octets agrees is_numbers whole.
     let took = ValuesTook g.K.Keeper.kept in
     let pushed = c.push.ensures.fed layout (groups_in table) first [] c.groups.ensures.fed in
     let by_groups = subst (λ (gs : List Group). WasFed took layout gs first c.args.numbers.now c.push.result) same pushed in
+    let so_far = subst (λ (xs : List ℕ). WasFed took layout (groups layout os) first xs c.push.result) is_numbers by_groups in
+    let fresh = subst (λ (t : Telling). Tells t [] c.start.result) c.running.ensures c.start.ensures.nothing in
+    let few : values (groups layout os) < 2 ^ 32 = omega (arith, total, agrees.few) in
+    let before_is = lists_before complex s5 agrees.spelled agrees.accepted agrees.groups in
+    let entries = λ (s7 : List ℕ) (continues : Continues octets l s7).
+    ap (λ (t : Telling). told t (codes_from layout (groups layout os) (bits (drop (k + list_octets layout) (drop 5 s7))))) (agrees.told_is s7 continues)
+    ∙ came_entries complex s5 agrees.spelled agrees.accepted agrees.groups start l octets s7 continues agrees.within whole s7 (front_of k octets l s7 agrees.came continues) in
+    let telling_is = λ (s7 : List ℕ) (continues : Continues octets l s7). agrees.told_is s7 continues ∙ told_by complex s5 agrees.spelled agrees.accepted agrees.groups s7 in
+    let groups_are = λ (s7 : List ℕ) (continues : Continues octets l s7). numbers_came complex s5 agrees.spelled agrees.accepted agrees.groups l octets s7 continues whole in
     record {
       layout = layout;
       groups = groups layout os;
@@ -215,21 +225,19 @@ returns g c = λ s5 keeper octets agrees is_numbers whole.
       before = k + list_octets layout;
       came = whole;
       feedable = c.push.ensures.feedable;
-      so_far = subst (λ (xs : List ℕ). WasFed took layout (groups layout os) first xs c.push.result) is_numbers by_groups;
-      fresh = subst (λ (t : Telling). Tells t [] c.start.result) c.running.ensures c.start.ensures.nothing;
+      so_far = so_far;
+      fresh = fresh;
       keeper_is = agrees.keeper_is;
-      few = omega (arith, total, agrees.few);
+      few = few;
       counted = total ∙ agrees.spelled.simple.values;
       enough = omega (arith, fit.enough);
-      entries = λ s7 continues.
-          ap (λ (t : Telling). told t (codes_from layout (groups layout os) (bits (drop (k + list_octets layout) (drop 5 s7))))) (agrees.told_is s7 continues)
-          ∙ came_entries complex s5 agrees.spelled agrees.accepted agrees.groups start l octets s7 continues agrees.within whole s7 (front_of k octets l s7 agrees.came continues);
+      entries = entries;
       within = λ s7 continues nowhere.
           came_whole complex s5 agrees.spelled agrees.accepted agrees.groups start l octets s7 continues agrees.within whole s7 (front_of k octets l s7 agrees.came continues) (clear s5 keeper l octets b agrees s7 continues) none
           ∙ within_range s5 s7 (sym (ap (first_place is_out_of_range) (entries_grouped complex s5 agrees.spelled agrees.accepted agrees.groups s7)) ∙ nowhere);
       beyond = λ s7 continues somewhere not_plain.
-          let entries = entries_grouped complex s5 agrees.spelled agrees.accepted agrees.groups s7 in
-          let here : first_place is_out_of_range (entries_of s5 s7) ≡ first_place is_out_of_range (group_entries s5 s7) = ap (first_place is_out_of_range) entries in
+          let all = entries_grouped complex s5 agrees.spelled agrees.accepted agrees.groups s7 in
+          let here : first_place is_out_of_range (entries_of s5 s7) ≡ first_place is_out_of_range (group_entries s5 s7) = ap (first_place is_out_of_range) all in
           let origin : start + 0 ≡ start = omega arith in
           ap (located start) (came_whole complex s5 agrees.spelled agrees.accepted agrees.groups start l octets s7 continues agrees.within whole s7 (front_of k octets l s7 agrees.came continues) (clear s5 keeper l octets b agrees s7 continues) none
           ∙ beyond_range s5 s7 (elim agrees.accepted.order [
@@ -237,4 +245,16 @@ returns g c = λ s5 keeper octets agrees is_numbers whole.
             | inr three ↦ sym agrees.spelled.simple.template ∙ three.0
           ]) (omega (arith, here, somewhere)))
           ∙ ap₂ (λ (o d : ℕ). Some (refusal o ScaledRange d)) origin (sym here);
+      caught_up = c.push.ensures.caught_up;
+      before_is = before_is;
+      groups_are = groups_are;
+      table = λ s7 continues.
+          ap groups_in (c.push.ensures.table ∙ c.groups.ensures.table) ∙ same ∙ table_came complex s5 agrees.spelled agrees.accepted agrees.groups l octets s7 continues whole;
+      telling_is = telling_is;
+      undone_with = λ s7 continues nowhere.
+          undone g.K.Keeper.kept s5 keeper l octets layout (groups layout os) (telling_told b.told) first (k + list_octets layout) c.push.result so_far c.push.ensures.caught_up fresh agrees.keeper_is few whole nowhere
+          ∙ ap undoing (telling_is s7 continues);
+      points = λ s7 continues.
+          points_agree g.K.Keeper.kept s5 keeper l octets layout (groups layout os) (telling_told b.told) first (k + list_octets layout) c.push.result so_far c.push.ensures.caught_up fresh agrees.keeper_is few whole
+          s7 continues (entries s7 continues) (groups_are s7 continues) before_is;
     }

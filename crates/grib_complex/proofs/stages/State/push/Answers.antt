@@ -28,7 +28,7 @@ returns-in-Lists g c = λ s5 keeper octets long known agrees.
 
 pub returns-in-Reads : goal.returns-in-Reads
 returns-in-Reads g c = λ s5 keeper octets long known agrees.
-    reading_more g.K.Keeper.kept s5 keeper c.args.start c.args.length octets c.args.piece.now c.in-Reads.fed c.push-in-Reads.result c.push-in-Reads.ensures.feedable c.push-in-Reads.ensures.fed
+    reading_more g.K.Keeper.kept s5 keeper c.args.start c.args.length octets c.args.piece.now c.in-Reads.fed c.push-in-Reads.result c.push-in-Reads.ensures.feedable c.push-in-Reads.ensures.caught_up c.push-in-Reads.ensures.table c.push-in-Reads.ensures.fed
     (subst (λ (state : State _). StateAgrees g.K.Keeper.kept s5 keeper c.args.start c.args.length octets (Some state)) c.in-Reads.is agrees)
 
 pub returns-in-Passes : goal.returns-in-Passes

@@ -14,3 +14,8 @@ returns-clause-fed g c =
 
 pub returns-clause-list : goal.returns-clause-list
 returns-clause-list g c = record { all = omega (arith, ap length c.empty.ensures.lengths, c.empty.result.lengths.ok.0); current = ap (λ (group : Group). group.width) c.start.ensures.current }
+
+pub returns-clause-table : goal.returns-clause-table
+returns-clause-table g c =
+    let table = c.empty.result in
+    ap (λ (rs : List ℕ). groups_from rs table.widths.items table.lengths.items) c.empty.ensures.references

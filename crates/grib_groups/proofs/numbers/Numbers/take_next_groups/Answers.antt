@@ -1,4 +1,4 @@
-use Rattle.std.proofs.Common.{◌≡◌, ◌+◌, [], List, Bool, drop, length, sym, ap, ◌∙◌, arith, subst}
+use Rattle.std.proofs.Common.{◌≡◌, ◌+◌, [], List, Bool, drop, length, refl, sym, ap, ◌∙◌, arith, subst}
 use Rattle.std.proofs.lemmas.List.{length-drop}
 use Rattle.grib_bits.specs.Bits.{bits}
 use Rattle.grib_bits.proofs.OctetBits.{length-bits}
@@ -6,7 +6,7 @@ use Rattle.grib_packing.specs.declared.group.Group.{Group}
 use Rattle.grib_groups.specs.Taking.{Taken, values}
 use Rattle.grib_groups.specs.Table.{groups_in}
 use Rattle.grib_groups.specs.Going.{left_of, IsReadable, IsShort}
-use Rattle.grib_groups.proofs.Taken.{taken_all, values-cons}
+use Rattle.grib_groups.proofs.Taken.{taken_all, taken_none, values-cons}
 use Rattle.grib_groups.proofs.Listed.{no_groups}
 use Rattle.grib_groups.proofs.Moves.{room_left, went_same, went_then}
 use Rattle.grib_groups.proofs.numbers.Numbers.take_next_groups.Goals as goal
@@ -78,3 +78,17 @@ returns-clause-waits g c = λ _. is_short g c
 pub take_next_group-taker-requires-clause-room : goal.take_next_group-taker-requires-clause-room
 take_next_group-taker-requires-clause-room g c =
     room_left g.T.Taker.took g.T.Taker.room g.met.T.Taker.room_after c.take_ready_groups-taker.ensures.goes c.loop-self.invariant.room
+
+pub loop-self-init : goal.loop-self-init
+loop-self-init g c =
+    let left = left_of c.args.self.now (groups_in c.args.table.now) in
+    let rest = drop c.args.at (bits c.args.piece.now) in
+    record {
+      went = went_same g.T.Taker.took g.met.T.Taker.none g.met.T.Taker.more c.args.layout.now left left rest rest c.args.taker (taken_none c.args.layout.now left rest);
+      readable = c.requires.readable;
+      width = λ none. refl;
+      pending = c.requires.pending;
+      within = c.requires.read.within;
+      room = c.requires.room;
+      no_more = λ some. absurd (omega (arith, some, c.requires.none));
+    }

@@ -4,8 +4,8 @@ use Rattle.grib_bits.proofs.OctetBits.{length-bits}
 use Rattle.grib_packing.specs.declared.group.Group.{Group}
 use Rattle.grib_groups.specs.Taking.{Taken, values}
 use Rattle.grib_groups.specs.Table.{groups_in}
-use Rattle.grib_groups.specs.Going.{Went}
-use Rattle.grib_groups.proofs.Taken.{taken_before, taken_next, values-cons}
+use Rattle.grib_groups.specs.Going.{left_of, Went}
+use Rattle.grib_groups.proofs.Taken.{taken_before, taken_next, taken_none, values-cons}
 use Rattle.grib_groups.proofs.Listed.{groups_from_index, narrow_at}
 use Rattle.grib_groups.proofs.Moves.{room_left, went_run, went_same, went_then}
 use Rattle.grib_groups.proofs.numbers.Numbers.take_ready_groups.Goals as goal
@@ -80,3 +80,16 @@ take_at_once-taker-requires-clause-room g c =
     let few : group.count ≤ values (current ∷ drop next groups) =
     omega (arith, values-cons current (drop next groups), ap values following, values-cons group (drop (next + 1) groups)) in
     g.met.T.Taker.fewer c.loop-self.taker group.count (values (current ∷ drop next groups)) few c.loop-self.invariant.room
+
+pub loop-self-init : goal.loop-self-init
+loop-self-init g c =
+    let left = left_of c.args.self.now (groups_in c.args.table.now) in
+    let rest = drop c.args.at.now (bits c.args.piece.now) in
+    record {
+      went = went_same g.T.Taker.took g.met.T.Taker.none g.met.T.Taker.more c.args.layout.now left left rest rest c.args.taker (taken_none c.args.layout.now left rest);
+      current = refl;
+      next = omega arith;
+      pending = refl;
+      room = c.requires.room;
+      within = c.requires.read.within;
+    }
