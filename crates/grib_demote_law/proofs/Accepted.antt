@@ -1,5 +1,5 @@
 -- What a field is demoted to is accepted.
-use Rattle.std.proofs.Common.{◌≡◌, ℕ, ◌+◌, ◌-◌, ◌*◌, ◌^◌, ◌≤◌, Bool, true, false, cond, Option, Some, None, List, [], ◌∷◌, ◌++◌, length, drop, refl, sym, ap, ap₂, ◌∙◌, subst, arith, append-nil, length-append, eqb-true}
+use Rattle.std.proofs.Common.{◌≡◌, ℕ, ◌+◌, ◌-◌, ◌*◌, ◌^◌, ◌≤◌, Bool, true, false, cond, Option, Some, None, List, [], ◌++◌, length, drop, refl, sym, ap, ◌∙◌, subst, arith, append-nil, length-append}
 use Rattle.std.specs.Prelude.{unwrap_or, is_some}
 use Rattle.std.specs.List.{list_any}
 use Rattle.grib_bits.proofs.OctetBits.{length-bits}
@@ -18,7 +18,7 @@ use Rattle.grib_packing.specs.declared.column.Point.{Point}
 use Rattle.grib_packing.specs.declared.written.Packed.{Packed}
 use Rattle.grib_packing.specs.Misfits.{ToSimple, Misfit, first_misfit, is_missing2}
 use Rattle.grib_packing.specs.Misfits as misfits
-use Rattle.grib_packing.specs.Packed.{IsSimple, fields, padded, present_bits, simple_numbers, simple_width}
+use Rattle.grib_packing.specs.Packed.{IsSimple, fields, present_bits, simple_numbers, simple_width}
 use Rattle.grib_packing.specs.Written.{MayBePacked}
 use Rattle.grib_packing.proofs.Fields.{length-fields}
 use Rattle.grib_packing.proofs.Left.{padded-more}
@@ -60,58 +60,58 @@ none_secondary points none =
     not_first (list_any is_missing2 points) (misfits.SecondaryMissing (first_place is_missing2 points)) (misfits.misfit_at misfits.OutOfRange (misfits.is_scaled_outside (2 ^ 48 - 1)) points) none
 
 module _ (table : Entries) (keep any : Bool) (message : List ℕ) (i : ℕ) (may : MayBeDemoted table keep any message i) where
-  abbrev part : ℕ → List ℕ
+  abbrev pub part : ℕ → List ℕ
   part k = part_octets message i k
 
-  abbrev column : Column
+  abbrev pub column : Column
   column = column_of message i
 
-  abbrev values : Packed
+  abbrev pub values : Packed
   values = packed_field ToSimple message i
 
-  abbrev n : ℕ
+  abbrev pub n : ℕ
   n = grid2.grid_points (part 3)
 
-  kept : Kept table keep any message i
+  pub kept : Kept table keep any message i
   kept = all_kept table keep any message i may.kept
 
-  passes : FieldPasses message i
+  pub passes : FieldPasses message i
   passes = field_passes_alone message i may.accepted may.first may.last
 
-  mask_long : length (field_mask message i) ≡ n
+  pub mask_long : length (field_mask message i) ≡ n
   mask_long = field_mask_long message i may.accepted (AreOctets-from_All message may.small) may.first may.last
 
-  as_long : length column.points ≡ n
+  pub as_long : length column.points ≡ n
   as_long = column_long message i passes mask_long
 
-  packs : MayBePacked column
+  pub packs : MayBePacked column
   packs = may_be_packed message i passes mask_long
 
-  simple : IsSimple column (kind_of message i) values.section5 values.section6 values.section7
+  pub simple : IsSimple column (kind_of message i) values.section5 values.section6 values.section7
   unfolding packed
   simple = simple_written column (kind_of message i) packs (has_words message i may.small) (kind_small message i may.small) kept.column
 
   -- ---- the sections
 
-  abbrev told : Told
+  abbrev pub told : Told
   told = told_in table (discipline message) (part 1) (part 4)
 
-  abbrev local : List ℕ
+  abbrev pub local : List ℕ
   local = local_octets keep (part 2)
 
-  abbrev words : List ℕ
+  abbrev pub words : List ℕ
   words = coordinate_list (part 4)
 
-  abbrev a : List ℕ
+  abbrev pub a : List ℕ
   a = section_1 told (has_bitmap values) (part 1) (part 4) (part 5) local
 
-  abbrev b : List ℕ
+  abbrev pub b : List ℕ
   b = section_of (grid_octets words (part 3))
 
-  abbrev c : Option (List ℕ)
+  abbrev pub c : Option (List ℕ)
   c = section_3 values n
 
-  abbrev d : List ℕ
+  abbrev pub d : List ℕ
   d = data_section (part 5) values
 
   joined : demoted_sections table keep message i ≡ a ++ (b ++ (unwrap_or c [] ++ d))
@@ -127,19 +127,21 @@ module _ (table : Entries) (keep any : Bool) (message : List ℕ) (i : ℕ) (may
   bitmap_short : length (bitmap_section values n) ≤ 16777215
   bitmap_short = let same = ap length (section_3-octets values n) in omega (arith, all_short, same)
 
-  few_words : length words ≤ 255
+  pub few_words : length words ≤ 255
   few_words = few_coordinates words kept.shape.coordinates
 
-  grid_points_are : grid_points b ≡ n
+  pub grid_points_are : grid_points b ≡ n
   grid_points_are = points_are (part 3) words passes.grid kept.product.template kept.shape.numbers kept.shape.rows few_words
 
-  bitmap_is : BitmapStands column.points values n
+  pub bitmap_is : BitmapStands column.points values n
   bitmap_is = bitmap_stands column.points values n as_long simple.bitmap bitmap_short
+
+  pub count_is : present_count (present_bits column.points) ≡ length (simple_numbers column.points)
+  count_is = count_present column.points (none_secondary column.points kept.column)
 
   values_are : present_count (mask_of c (grid_points b)) ≡ length (simple_numbers column.points)
   values_are =
-      ap (λ (k : ℕ). present_count (mask_of c k)) grid_points_are ∙ ap present_count bitmap_is.mask_is
-      ∙ count_present column.points (none_secondary column.points kept.column)
+      ap (λ (k : ℕ). present_count (mask_of c k)) grid_points_are ∙ ap present_count bitmap_is.mask_is ∙ count_is
 
   room : length (simple_numbers column.points) * simple_width column.points ≤ 8 * length (drop 5 values.section7)
   room =

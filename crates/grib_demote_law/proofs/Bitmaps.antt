@@ -1,20 +1,18 @@
 -- Bitmaps that were written, as they are read.
-use Rattle.std.proofs.Common.{◌≡◌, ℕ, ◌+◌, ◌*◌, ◌<◌, ◌==◌, ◌&&◌, Bool, true, false, not, cond, Option, Some, None, is_none, unwrap_or, nat_lt, List, [], ◌∷◌, ◌++◌, length, take, drop, replicate, refl, sym, ap, ◌∙◌, arith, le-ltb, eq-eqb, append_assoc}
+use Rattle.std.proofs.Common.{◌≡◌, ℕ, ◌+◌, ◌*◌, ◌<◌, Bool, true, false, List, [], ◌∷◌, ◌++◌, length, take, drop, replicate, refl, sym, ap, ◌∙◌, arith, append_assoc}
 use Rattle.std.specs.List.{list_any}
-use Rattle.std.proofs.lemmas.List.{length-append, length-map, length-drop, drop-drop, take_at}
+use Rattle.std.proofs.lemmas.List.{length-append, length-drop, drop-drop}
 use Rattle.std.proofs.lemmas.List.Elements.{All-nil, All-cons, All-drop}
 use Rattle.grib_bits.specs.Bits.{bits, bits_of}
 use Rattle.grib_bits.specs.Octets.{num_on}
 use Rattle.grib_bits.specs.Written.{padding}
 use Rattle.grib_bits.proofs.OctetBits.{length-bits}
-use Rattle.grib_base.specs.declared.fault.Fault.{Fault}
-use Rattle.grib_base.specs.Rows.{first_fault}
-use Rattle.grib_bitmap.specs.Mask.{bitmap_indicator, bitmap_rows, mask_of, own_mask, present_count}
+use Rattle.grib_bitmap.specs.Mask.{bitmap_indicator, present_count}
 use Rattle.grib_bitmap.proofs.Runs.{present_count-cons}
 use Rattle.grib_packing.specs.declared.column.Point.{Point}
 use Rattle.grib_packing.specs.declared.column.Point.TheVariants.{Scaled, Missing, Missing2}
 use Rattle.grib_packing.specs.Misfits.{is_missing, is_missing2}
-use Rattle.grib_packing.specs.Packed.{HasContents, IsBitmap, padded, present_bits, simple_numbers}
+use Rattle.grib_packing.specs.Packed.{HasContents, padded, present_bits, simple_numbers}
 use Rattle.grib_packing.proofs.Fields.{segment}
 use Rattle.grib_packing.proofs.Left.{padding-behind}
 use Rattle.grib_packing.proofs.Sections.{front_is}

@@ -1,13 +1,9 @@
 -- Section 2 as it is written passes its rows.
-use Rattle.std.proofs.Common.{◌≡◌, ◌≢◌, ◌⊎◌, ℕ, ◌+◌, ◌-◌, ◌*◌, ◌/◌, ◌^◌, ◌<◌, ◌≤◌, ◌&&◌, ◌||◌, ◌==◌, Bool, true, false, not, cond, min, Option, Some, None, List, [], ◌∷◌, ◌++◌, length, get_or, suc, zero, sum, nat_lt, refl, sym, ap, ap₂, ◌∙◌, subst, arith, inl, inr, lt-ltb, le-ltb, eq-eqb, ne_eqb, length-append, append_assoc}
-use Rattle.std.specs.Prelude.{is_none, find}
-use Rattle.std.specs.List.{list_any}
-use Rattle.std.proofs.lemmas.Bool.{ltb-false, eqb-true, cases_Bool}
+use Rattle.std.proofs.Common.{◌≡◌, ℕ, ◌+◌, ◌-◌, ◌*◌, ◌^◌, ◌<◌, ◌≤◌, ◌&&◌, ◌||◌, ◌==◌, Bool, true, false, not, cond, List, [], ◌∷◌, ◌++◌, length, get_or, sum, nat_lt, refl, sym, ap, ap₂, ◌∙◌, arith, lt-ltb, le-ltb, eq-eqb, ne_eqb, length-append, append_assoc}
 use Rattle.grib_bits.specs.Encoding.{octets_of}
 use Rattle.grib_bits.specs.Listed.{numbers_octets, numbers_at}
 use Rattle.grib_bits.proofs.Encoding.{num_on-octets_of}
-use Rattle.grib_bits.proofs.Listed.{length-numbers_octets, numbers_at-behind}
-use Rattle.grib_base.specs.Rows.{first_fault}
+use Rattle.grib_bits.proofs.Listed.{numbers_at-behind}
 use Rattle.grib_base.proofs.Passing.{none_from_passes}
 use Rattle.grib2_sections.specs.Template.{is_template, least_length}
 use Rattle.grib1_sections.specs.Grid.{grid_types, grid_rows, grid_type, grid_points, nv, ni, nj, list_place, lists_rows, has_list, row_count, row_list, lists_end, is_regular}
@@ -61,13 +57,13 @@ module _ (count start t columns rows : ℕ) (listed : Bool) (numbers coordinates
     by true = omega arith
     by false = let few = is.start_few in omega arith
 
-  count_stands : nv s ≡ count
+  pub count_stands : nv s ≡ count
   count_stands = num_on-octets_of 1 count (let few = is.few_coordinates in omega arith)
 
-  place_stands : list_place s ≡ place
+  pub place_stands : list_place s ≡ place
   place_stands = num_on-octets_of 1 place (let few = place_few in omega arith)
 
-  type_stands : grid_type s ≡ t
+  pub type_stands : grid_type s ≡ t
   type_stands = num_on-octets_of 1 t (let few = is.small in omega arith)
 
   columns_fit : columns < 65536
@@ -76,16 +72,16 @@ module _ (count start t columns rows : ℕ) (listed : Bool) (numbers coordinates
     by true e = let same = is.columns_listed e in omega arith
     by false e = let few = is.columns_plain e in omega arith
 
-  columns_stand : ni s ≡ columns
+  pub columns_stand : ni s ≡ columns
   columns_stand = num_on-octets_of 2 columns (let few = columns_fit in omega arith)
 
-  rows_stand : nj s ≡ rows
+  pub rows_stand : nj s ≡ rows
   rows_stand = num_on-octets_of 2 rows (let few = is.rows_few in omega arith)
 
   pub length_2 : length s ≡ 10 + length numbers + length coordinates + length list
   length_2 = omega (arith, length-append numbers (coordinates ++ list), length-append coordinates list)
 
-  listed_stands : lists_rows s ≡ listed
+  pub listed_stands : lists_rows s ≡ listed
   listed_stands = by listed refl where
     by : (b : Bool) → listed ≡ b → (ni s == 65535) ≡ listed
     by true e = eq-eqb (ni s) 65535 (columns_stand ∙ is.columns_listed e) ∙ sym e
@@ -181,7 +177,7 @@ module _ (count start t columns rows : ℕ) (numbers coordinates xs : List ℕ) 
   abbrev r : List ℕ
   r = section_2 count (place_with count true start) t columns rows numbers coordinates (numbers_octets 2 xs)
 
-  list_stands : row_list r ≡ xs
+  pub list_stands : row_list r ≡ xs
   list_stands =
       let header = all_octets (header_with count (place_with count true start) t columns rows) in
       let size = length (header ++ (numbers ++ (coordinates ++ numbers_octets 2 xs))) in

@@ -1,7 +1,6 @@
 -- A message of edition 1 with these sections is in the grammar.
-use Rattle.std.proofs.Common.{◌≡◌, ℕ, ◌+◌, ◌-◌, ◌*◌, ◌^◌, ◌<◌, ◌≤◌, Option, Some, None, List, [], ◌∷◌, ◌++◌, length, refl, sym, ap, ◌∙◌, arith, length-append}
+use Rattle.std.proofs.Common.{◌≡◌, ℕ, ◌+◌, ◌≤◌, Option, List, [], ◌++◌, length, refl, ◌∙◌, arith, length-append}
 use Rattle.std.specs.Prelude.{unwrap_or, is_some}
-use Rattle.grib_bits.specs.Octets.{octets}
 use Rattle.grib_bits.proofs.Encoding.{num_on-octets_of}
 use Rattle.grib_bitmap.specs.Mask.{present_count}
 use Rattle.grib2_sections.specs.Head.{end_mark}
@@ -10,7 +9,7 @@ use Rattle.grib1_sections.specs.Identification.{identification_rows, flags_bitma
 use Rattle.grib1_sections.specs.Grid.{grid_rows, grid_points}
 use Rattle.grib1_sections.specs.Bitmap.{mask_of}
 use Rattle.grib1_sections.specs.Data.{data_rows}
-use Rattle.grib1_sections.specs.Grammar.{Sections, IsSection, IsBitmap, Grammar1}
+use Rattle.grib1_sections.specs.Grammar.{IsSection, IsBitmap, Grammar1}
 use Rattle.grib_demote.specs.Numbers.{section_of}
 use Rattle.grib_demote.specs.Demoted.{message_with}
 

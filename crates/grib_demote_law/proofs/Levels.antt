@@ -1,5 +1,5 @@
 -- The level of a Section 4 is one that has surfaces.
-use Rattle.std.proofs.Common.{◌≡◌, ℕ, ◌+◌, ◌*◌, ◌<◌, ◌≤◌, ◌&&◌, ◌||◌, ◌==◌, Bool, true, false, not, cond, Option, Some, None, List, [], ◌∷◌, map, nat_lt, refl, sym, ap, ◌∙◌, subst, arith, eqb-true, ltb-true}
+use Rattle.std.proofs.Common.{◌≡◌, ℕ, ◌+◌, ◌*◌, ◌<◌, ◌&&◌, ◌||◌, ◌==◌, Bool, true, false, not, cond, Option, Some, None, List, [], ◌∷◌, nat_lt, refl, sym, ap, ◌∙◌, subst, arith, eqb-true, ltb-true}
 use Rattle.std.specs.Prelude.{is_none, option_map, find}
 use Rattle.std.specs.Option.{option_and_then, option_or}
 use Rattle.grib_migrate.specs.declared.level.Surface.{Surface}

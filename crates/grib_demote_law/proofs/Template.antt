@@ -1,9 +1,7 @@
 -- Section 2 as it is written, by the template of Section 3.
-use Rattle.std.proofs.Common.{◌≡◌, ◌≢◌, ◌⊎◌, ℕ, ◌+◌, ◌-◌, ◌*◌, ◌^◌, ◌<◌, ◌≤◌, ◌&&◌, ◌||◌, ◌==◌, Bool, true, false, not, cond, Option, Some, None, List, [], ◌∷◌, ◌++◌, length, map, get_or, suc, zero, sum, nat_lt, refl, sym, ap, ap₂, ◌∙◌, subst, arith, inl, inr, length-append, eqb-true, ltb-true}
+use Rattle.std.proofs.Common.{◌≡◌, ℕ, ◌+◌, ◌*◌, ◌^◌, ◌<◌, ◌≤◌, ◌&&◌, ◌||◌, ◌==◌, Bool, true, false, not, cond, Some, None, List, [], ◌∷◌, ◌++◌, length, get_or, suc, zero, sum, nat_lt, refl, sym, ap, ◌∙◌, subst, arith, length-append, eqb-true, ltb-true}
 use Rattle.std.specs.Prelude.{is_none, find, unwrap_or, option_map}
-use Rattle.std.specs.List.{list_any}
-use Rattle.std.proofs.lemmas.Bool.{ltb-false, not-false, or_parts, cases_Bool}
-use Rattle.grib_bits.specs.Octets.{octets}
+use Rattle.std.proofs.lemmas.Bool.{ltb-false, not-false, or_parts}
 use Rattle.grib_bits.specs.Listed.{numbers_octets}
 use Rattle.grib_bits.proofs.Listed.{length-numbers_octets, length-numbers_at}
 use Rattle.grib_base.specs.Rows.{first_fault}
@@ -11,7 +9,6 @@ use Rattle.grib_base.proofs.Passing.{passes_from_none, second_fails}
 use Rattle.grib2_sections.specs.Template.{is_template, least_length}
 use Rattle.grib2_grids.specs.Grid as grid2
 use Rattle.grib2_grids.specs.Grid.{grid_template, list_octets, list_meaning, list_start, row_list, may_have_list}
-use Rattle.grib2_grids.specs.Whole.{HasList}
 use Rattle.grib2_grids.proofs.Lists.{row_list-whole, row_list-none}
 use Rattle.grib1_sections.specs.Grid.{grid_types, grid_rows, grid_points, is_regular}
 use Rattle.grib1_sections.specs.Grammar.{IsSection}
@@ -20,10 +17,8 @@ use Rattle.grib_demote.specs.declared.number.Number.{Number}
 use Rattle.grib_demote.specs.declared.number.Number.TheVariants.{One, Two, Four}
 use Rattle.grib_demote.specs.declared.tested.Tested.{Tested}
 use Rattle.grib_demote.specs.Numbers.{number_octets, all_octets}
-use Rattle.grib_demote.specs.Words.{ibm_of}
-use Rattle.grib_demote.specs.Grids.{type_of, four, scanning, are_given, increment, is_listed, has_long_row, loses_rows, template_numbers, mercator, polar, polar_end, lambert, lat_lon, last_number, loss_among, grid_loss, tested_ni, tested_nj, tested_numbers}
+use Rattle.grib_demote.specs.Grids.{type_of, four, scanning, are_given, increment, is_listed, has_long_row, loses_rows, template_numbers, mercator, polar, polar_end, lambert, lat_lon, last_number, loss_among, grid_loss, tested_ni, tested_nj}
 use Rattle.grib_demote.specs.Products.{coordinate_numbers}
-use Rattle.grib_demote.specs.Demoted.{grid_octets}
 use Rattle.grib_demote.proofs.Holding.{grid_list}
 use Rattle.grib_demote_law.proofs.Grids.{MayStand, section_2, place_with, is_section_2, plain_points, listed_points}
 
@@ -33,10 +28,10 @@ last_two : (b : Bool) (x y : ℕ) → length (number_octets (cond b (Two x) (Two
 last_two true x y = refl
 last_two false x y = refl
 
-abbrev numbers_by : ℕ → List ℕ → List Number
+abbrev pub numbers_by : ℕ → List ℕ → List Number
 numbers_by t s = cond (t == 10) (mercator s) (cond (t == 20) (polar s ++ polar_end) (cond (t == 30) (polar s ++ lambert s) (lat_lon s)))
 
-abbrev start_by : ℕ → ℕ
+abbrev pub start_by : ℕ → ℕ
 start_by t = cond ((t == 10) || (t == 30)) 43 33
 
 -- what is known of a template
@@ -81,10 +76,10 @@ known_type t s some = by (0 == t) (10 == t) (20 == t) (30 == t) (40 == t) refl r
 
 -- ---- Ni and Nj fit
 
-abbrev NoneLost : List Tested → Type 0
+abbrev pub NoneLost : List Tested → Type 0
 NoneLost numbers = loss_among numbers ≡ None
 
-first_fits : (x : Tested) (xs : List Tested) → NoneLost (x ∷ xs) → (x.fits ≡ true) × NoneLost xs
+pub first_fits : (x : Tested) (xs : List Tested) → NoneLost (x ∷ xs) → (x.fits ≡ true) × NoneLost xs
 first_fits x xs none = by x.fits refl none where
   by : (b : Bool) → x.fits ≡ b → option_map (λ n. GridNumber n.first) (cond (not b) (Some x) (find (λ n. not n.fits) xs)) ≡ None → (x.fits ≡ true) × NoneLost xs
   by true is none = (is, none)
@@ -106,7 +101,7 @@ length-coordinates : (words : List ℕ) → length (all_octets (coordinate_numbe
 length-coordinates [] = refl
 length-coordinates (word ∷ words) = omega (arith, length-coordinates words)
 
-rows_fit : (xs : List ℕ) → has_long_row xs ≡ false → (k : ℕ) → k < length xs → get_or xs k 0 < 256 ^ 2
+pub rows_fit : (xs : List ℕ) → has_long_row xs ≡ false → (k : ℕ) → k < length xs → get_or xs k 0 < 256 ^ 2
 rows_fit [] e k less = absurd (omega arith)
 rows_fit (x ∷ xs) e zero less =
     let both = or_parts (nat_lt 65535 x) (has_long_row xs) e in
@@ -146,7 +141,7 @@ module _ (s words : List ℕ) (passes : first_fault (grid2.grid_rows s) ≡ None
   is : IsTemplate (grid_template s) s
   is = known_type (grid_template s) s known
 
-  rows_few : grid2.nj s < 65535
+  pub rows_few : grid2.nj s < 65535
   rows_few = ltb-true (grid2.nj s) 65535 (counts_fit s fits).1
 
   -- where there is no list
@@ -163,12 +158,12 @@ module _ (s words : List ℕ) (passes : first_fault (grid2.grid_rows s) ≡ None
     by zero e on = let no : ⊥ = cc in absurd no
     by (suc n) e on = omega arith
 
-  as_many : is_listed s ≡ true → length (row_list s) ≡ grid2.nj s
+  pub as_many : is_listed s ≡ true → length (row_list s) ≡ grid2.nj s
   as_many on =
       ap length (sym (row_list-whole s (list_start s) (list_octets s) (grid2.nj s) (grid_list s passes) refl refl refl (some_octets on)))
       ∙ length-numbers_at s (list_start s) (list_octets s) (grid2.nj s)
 
-  long_rows : is_listed s ≡ true → has_long_row (row_list s) ≡ false
+  pub long_rows : is_listed s ≡ true → has_long_row (row_list s) ≡ false
   long_rows on =
       (or_parts (not (list_meaning s == 1)) (has_long_row (row_list s))
       (second_fails (is_listed s) (not (list_meaning s == 1) || has_long_row (row_list s)) rows_kept on)).1
@@ -196,7 +191,7 @@ module _ (s words : List ℕ) (passes : first_fault (grid2.grid_rows s) ≡ None
   columns_few true e off = let no : ⊥ = cc in absurd no
   columns_few false e off = plain_columns e
 
-  may_stand : (b : Bool) → is_listed s ≡ b → MayStand (length words) start t (columns b) (grid2.nj s) b numbers coordinates (numbers_octets 2 (row_list s))
+  pub may_stand : (b : Bool) → is_listed s ≡ b → MayStand (length words) start t (columns b) (grid2.nj s) b numbers coordinates (numbers_octets 2 (row_list s))
   may_stand b e = record {
     few_coordinates = few;
     known = is.known;

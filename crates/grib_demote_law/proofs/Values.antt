@@ -1,35 +1,31 @@
 -- Sections 3 and 4 as they are written pass their rows.
-use Rattle.std.proofs.Common.{◌≡◌, ◌≢◌, ℕ, ◌+◌, ◌-◌, ◌*◌, ◌/◌, ◌%◌, ◌^◌, ◌<◌, ◌≤◌, ◌&&◌, ◌||◌, ◌==◌, Bool, true, false, not, cond, Option, Some, None, List, [], ◌∷◌, ◌++◌, length, take, drop, replicate, nat_lt, refl, sym, ap, ap₂, ◌∙◌, subst, arith, lt-ltb, le-ltb, eq-eqb, ne_eqb, length-append, append_assoc}
+use Rattle.std.proofs.Common.{◌≡◌, ℕ, ◌+◌, ◌*◌, ◌/◌, ◌%◌, ◌^◌, ◌<◌, ◌≤◌, ◌==◌, Bool, true, false, not, cond, Option, Some, None, List, [], ◌∷◌, ◌++◌, length, take, drop, replicate, nat_lt, refl, sym, ap, ◌∙◌, subst, arith, le-ltb, ne_eqb, length-append}
 use Rattle.std.specs.Prelude.{unwrap_or, is_some}
 use Rattle.std.specs.List.{list_any}
-use Rattle.std.proofs.lemmas.List.{length-map, length-drop, take-append-le, take_at}
+use Rattle.std.proofs.lemmas.List.{length-map, take-append-le, take_at}
 use Rattle.grib_bits.specs.Bits.{bits, bits_of, digit}
 use Rattle.grib_bits.specs.Octets.{octets}
 use Rattle.grib_bits.specs.Written as written
 use Rattle.grib_bits.proofs.Encoding.{num_on-octets_of}
 use Rattle.grib_bits.proofs.OctetBits.{length-bits, bits-append}
-use Rattle.grib_base.specs.Rows.{first_fault}
 use Rattle.grib_base.proofs.Passing.{none_from_passes}
-use Rattle.grib_bitmap.specs.Mask.{present_count}
-use Rattle.grib_packing.specs.declared.column.Column.{Column}
 use Rattle.grib_packing.specs.declared.column.Point.{Point}
 use Rattle.grib_packing.specs.declared.written.Packed.{Packed}
-use Rattle.grib_packing.specs.Misfits.{is_missing, is_missing2}
-use Rattle.grib_packing.specs.Packing.{value_count, bit_width as bit_width_2, binary_scale, reference_word}
-use Rattle.grib_packing.specs.Packed.{HasContents, IsSimple, fields, padded, present_bits, simple_numbers, simple_width}
-use Rattle.grib_packing.proofs.Fields.{length-fields}
+use Rattle.grib_packing.specs.Misfits.{is_missing}
+use Rattle.grib_packing.specs.Packing.{value_count, bit_width as bit_width_2}
+use Rattle.grib_packing.specs.Packed.{HasContents, padded, present_bits}
 use Rattle.grib_packing.proofs.Left.{padded-more}
-use Rattle.grib_demote_law.proofs.Bitmaps.{all_present, count_present, indicator_is, mask_bits, octets_are}
+use Rattle.grib_demote_law.proofs.Bitmaps.{all_present, indicator_is, mask_bits}
 use Rattle.grib1_sections.specs.Frame.{bit}
 use Rattle.grib1_sections.specs.Bitmap.{bitmap_rows, bitmap_number, mask_of}
 use Rattle.grib1_sections.specs.Data.{data_rows, data_flags, bit_width}
 use Rattle.grib1_sections.specs.Grammar.{IsSection, IsBitmap}
-use Rattle.grib_demote.specs.Numbers.{all_octets, section_of, padding, evened}
+use Rattle.grib_demote.specs.Numbers.{all_octets, section_of, padding}
 use Rattle.grib_demote.specs.Values.{has_bitmap, bitmap_numbers, bitmap_octets, bitmap_section, packing_numbers, data_octets, data_section}
 use Rattle.grib_demote_law.proofs.Joined.{stands}
 
 -- what is added to an even number of octets
-abbrev tail_for : ℕ → List ℕ
+abbrev pub tail_for : ℕ → List ℕ
 tail_for n = cond (n % 2 == 0) (0 ∷ []) []
 
 padding_few : (n : ℕ) → padding n < 16

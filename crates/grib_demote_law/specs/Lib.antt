@@ -1,1 +1,3 @@
+pub mod Coordinates
 pub mod Field
+pub mod Keys

@@ -1,17 +1,26 @@
 //! Laws over the definitions.
 
-ghost use Rattle.std.specs.Prelude.{◌≡◌, ◌<◌, ◌^◌, ℕ, Bool, true, false, Some, is_none, List};
-ghost use Rattle.grib_params.specs.Table.{Entries, lookup_in};
+ghost use Rattle.std.specs.Prelude.{◌≡◌, ◌<◌, ◌^◌, ℕ, Bool, true, false, Some, None, is_none, List, All};
+ghost use Rattle.grib_dyadic.specs.Meaning.{SameMeaning};
+ghost use Rattle.grib_params.specs.Table.{Entries, Good, lookup_in, table_verdict};
 ghost use Rattle.grib_params.specs.Pairs.{Pair, first_pair};
 ghost use Rattle.grib_params.specs.declared.row.Target.{Target};
 ghost use Rattle.grib1_sections.specs.Message.{IsMessage1};
+ghost use Rattle.grib1_sections.specs.Column.{column1_of, meaning1_of};
+ghost use Rattle.grib2_products.specs.Spelled.{coordinate_list};
+ghost use Rattle.grib2_message.specs.Fields.{column_of, meaning_of, part_octets};
 ghost use Rattle.grib_migrate.specs.Levels.{lacks_number, surfaces_at};
 ghost use Rattle.grib_migrate.specs.References.{binary32_of};
+ghost use Rattle.grib_migrate.specs.Losses.{first_loss};
+ghost use Rattle.grib_migrate.specs.Migrated.{migrated};
 ghost use Rattle.grib_demote.specs.declared.level.Level.{Level};
 ghost use Rattle.grib_demote.specs.Levels.{level_of};
 ghost use Rattle.grib_demote.specs.Words.{ibm_of};
 ghost use Rattle.grib_demote.specs.Demoted.{demoted};
+ghost use Rattle.grib_select.specs.Values.{key_value_of};
+ghost use Rattle.grib_demote_law.specs.Coordinates.{SameWords};
 ghost use Rattle.grib_demote_law.specs.Field.{MayBeDemoted};
+ghost use Rattle.grib_demote_law.specs.Keys.{kept_keys};
 
 /// Where nothing of a field of an accepted message of edition 2 is lost, what it is demoted to is accepted as a
 /// message of edition 1.
@@ -41,4 +50,58 @@ pub fn the_level_has_surfaces()
 pub fn a_word_comes_back()
     ensures { (word other : ℕ) → word < 2 ^ 32 → ibm_of word ≡ Some other
         → (other < 2 ^ 32) × (is_none (binary32_of other) ≡ false) }
+{}
+
+/// Where nothing of a field is lost, nothing of what it is demoted to is lost when that is migrated with the same
+/// table and the same choice for the octets of the centre. The table is one that was read from a text.
+pub fn nothing_is_lost_on_the_way_back()
+    ensures { (text : List ℕ) (table : Entries) (keep_local any_earth : Bool) (message : List ℕ) (field : ℕ)
+        → table_verdict text ≡ Good table
+        → MayBeDemoted table keep_local any_earth message field
+        → first_loss table keep_local (demoted table keep_local message field) ≡ None }
+{}
+
+/// What a field is demoted to has its scaled numbers and its missing points, and at each grid point its exact
+/// value.
+pub fn what_is_demoted_keeps_its_values()
+    ensures points { (table : Entries) (keep_local any_earth : Bool) (message : List ℕ) (field : ℕ)
+        → MayBeDemoted table keep_local any_earth message field
+        → (column1_of (demoted table keep_local message field)).points ≡ (column_of message field).points }
+    ensures meaning { (table : Entries) (keep_local any_earth : Bool) (message : List ℕ) (field : ℕ)
+        → MayBeDemoted table keep_local any_earth message field
+        → SameMeaning (meaning_of message field) (meaning1_of (demoted table keep_local message field)) }
+{}
+
+/// A field that is demoted and migrated back has its scaled numbers and its missing points, and at each grid point
+/// its exact value.
+pub fn means_what_it_meant()
+    ensures points { (text : List ℕ) (table : Entries) (keep_local any_earth : Bool) (message : List ℕ) (field : ℕ)
+        → table_verdict text ≡ Good table
+        → MayBeDemoted table keep_local any_earth message field
+        → (column_of (migrated table keep_local (demoted table keep_local message field)) 1).points
+        ≡ (column_of message field).points }
+    ensures meaning { (text : List ℕ) (table : Entries) (keep_local any_earth : Bool) (message : List ℕ) (field : ℕ)
+        → table_verdict text ≡ Good table
+        → MayBeDemoted table keep_local any_earth message field
+        → SameMeaning (meaning_of (migrated table keep_local (demoted table keep_local message field)) 1)
+        (meaning_of message field) }
+{}
+
+/// A field that is demoted and migrated back has the values of all keys that edition 1 has a place for.
+pub fn has_its_keys()
+    ensures { (text : List ℕ) (table : Entries) (keep_local any_earth : Bool) (message : List ℕ) (field : ℕ)
+        → table_verdict text ≡ Good table
+        → MayBeDemoted table keep_local any_earth message field
+        → All (λ key. key_value_of (migrated table keep_local (demoted table keep_local message field)) 1 key
+        ≡ key_value_of message field key) kept_keys }
+{}
+
+/// A field that is demoted and migrated back has as many vertical coordinates, and each is the same number.
+pub fn has_its_vertical_coordinates()
+    ensures { (text : List ℕ) (table : Entries) (keep_local any_earth : Bool) (message : List ℕ) (field : ℕ)
+        → table_verdict text ≡ Good table
+        → MayBeDemoted table keep_local any_earth message field
+        → SameWords
+        (coordinate_list (part_octets (migrated table keep_local (demoted table keep_local message field)) 1 4))
+        (coordinate_list (part_octets message field 4)) }
 {}

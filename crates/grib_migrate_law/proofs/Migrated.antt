@@ -38,7 +38,7 @@ use Rattle.grib1_sections.specs.Acceptance.{identification, grid, bitmap, data_s
 use Rattle.grib1_sections.proofs.Joined.{message_sections_pass, points_within}
 use Rattle.grib1_sections.proofs.Columns.{length-mask}
 use Rattle.grib2_message.specs.Message.{IsMessage}
-use Rattle.grib2_message.specs.Fields.{field_count, column_of, meaning_of}
+use Rattle.grib2_message.specs.Fields.{part_octets, field_count, column_of, meaning_of}
 use Rattle.grib2_message.specs.Fields as fields
 use Rattle.grib_causes.specs.declared.loss.Loss.{Loss}
 use Rattle.grib_causes.specs.declared.loss.Loss.TheVariants as losses
@@ -60,7 +60,7 @@ use Rattle.grib_migrate.proofs.Joining.{few_words}
 use Rattle.grib_migrate.proofs.References.{IsWordFor, word_stands}
 use Rattle.grib_migrate_law.specs.Source.{MayBeMigrated}
 use Rattle.grib_migrate_law.proofs.OneField.{FieldPasses}
-use Rattle.grib_migrate_law.proofs.WholeMessage.{FrontPasses, sections_with, message_of, whole_is_message, whole_one_field, whole_column}
+use Rattle.grib_migrate_law.proofs.WholeMessage.{FrontPasses, sections_with, message_of, whole_is_message, whole_one_field, whole_column, whole_identification, whole_grid, whole_product}
 use Rattle.grib_migrate_law.proofs.Grids.{grid_passes, grid_points_stand, grid_itself, grid_short}
 use Rattle.grib_migrate_law.proofs.Products.{identification_passes, identification_itself, product_passes, product_short, product_itself}
 use Rattle.grib_migrate_law.proofs.Packings.{packing_with, MayBeWritten, packing_passes, packing_itself, bitmap_short, bitmap_itself, mask_stands, bitmap_passes, data_passes, entries_stand, data_short, data_itself, values_stand, reference_stands, e_stands, d_stands}
@@ -346,6 +346,29 @@ module _ (table : Entries) (keep : Bool) (m : List ℕ) (r : ℕ) (is : Known m 
       (front_passes target unit surfaces m r is) (field_passes target unit surfaces m r is) (sum_short target unit surfaces m r is has) (migrated table keep m) (same_message table keep m r e)
       (mask m) (mask_is target unit surfaces m r is)
 
+  parts_are :
+      (let s1 = identification m in
+      let target = target_of table s1 in
+      (part_octets (migrated table keep m) 1 1 ≡ written_1 target s1) × (part_octets (migrated table keep m) 1 3 ≡ written_3 m)
+      × (part_octets (migrated table keep m) 1 4 ≡ written_4 target (unwrap_or (unit_of s1) no_unit) (unwrap_or (surfaces_of s1) no_surfaces) m))
+  parts_are =
+      let s1 = identification m in
+      let target = target_of table s1 in
+      let unit = unwrap_or (unit_of s1) no_unit in
+      let surfaces = unwrap_or (surfaces_of s1) no_surfaces in
+      let has = keep && has_local s1 in
+      let front = front_passes target unit surfaces m r is in
+      let field = field_passes target unit surfaces m r is in
+      let short = sum_short target unit surfaces m r is has in
+      let same = same_message table keep m r e in (
+        whole_identification target.discipline has (written_1 target s1) (written_2 s1) (written_3 m) (written_4 target unit surfaces m) (written_5 m r) (written_6 m) (written_7 m) front field short
+            (migrated table keep m) same,
+        whole_grid target.discipline has (written_1 target s1) (written_2 s1) (written_3 m) (written_4 target unit surfaces m) (written_5 m r) (written_6 m) (written_7 m) front field short
+            (migrated table keep m) same,
+        whole_product target.discipline has (written_1 target s1) (written_2 s1) (written_3 m) (written_4 target unit surfaces m) (written_5 m r) (written_6 m) (written_7 m) front field short
+            (migrated table keep m) same,
+      )
+
 module _ (m : List ℕ) (r : ℕ) (is : Known m r) where
   moved_column : column_from (written_5 m r) (mask m) (written_7 m)
       ≡ column_with r (octets (data_section m) 5 6) (key_in (identification m) DecimalScale) (column1_of m).points
@@ -371,6 +394,15 @@ module _ (table : Entries) (keep : Bool) (m : List ℕ) (may : MayBeMigrated tab
   pub migrated_is_message : IsMessage (migrated table keep m)
   migrated_is_message =
       let f = reference_found table keep m may.kept in is_message table keep m f.0 (known table keep m may f.0 f.1) f.1
+
+  -- Sections 1, 3 and 4 in force
+  pub migrated_parts :
+      (let s1 = identification m in
+      let target = target_of table s1 in
+      (part_octets (migrated table keep m) 1 1 ≡ written_1 target s1) × (part_octets (migrated table keep m) 1 3 ≡ written_3 m)
+      × (part_octets (migrated table keep m) 1 4 ≡ written_4 target (unwrap_or (unit_of s1) no_unit) (unwrap_or (surfaces_of s1) no_surfaces) m))
+  migrated_parts =
+      let f = reference_found table keep m may.kept in parts_are table keep m f.0 (known table keep m may f.0 f.1) f.1
 
   pub migrated_one_field : field_count (migrated table keep m) ≡ 1
   migrated_one_field =

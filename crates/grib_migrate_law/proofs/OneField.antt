@@ -1,5 +1,5 @@
 -- Sections of a message with one field, which pass their rows, follow one another.
-use Rattle.std.proofs.Common.{◌≡◌, ◌≢◌, ℕ, ◌+◌, ◌==◌, Bool, true, false, count_by, Option, None, List, [], ◌∷◌, length, refl, ap, ap₂, ◌∙◌, sym, arith, eq-eqb, ne_eqb}
+use Rattle.std.proofs.Common.{◌≡◌, ◌≢◌, ℕ, ◌+◌, ◌≤◌, ◌==◌, Bool, true, false, count_by, Option, None, List, [], ◌∷◌, length, refl, ap, ap₂, ◌∙◌, sym, arith, eq-eqb, ne_eqb}
 use Rattle.grib_bits.specs.Octets.{StatesItself}
 use Rattle.grib_base.specs.Rows.{first_fault, located}
 use Rattle.grib_bitmap.specs.Mask.{bitmap_rows, mask_of}
@@ -196,3 +196,26 @@ module _ (before : List Placed) (start : ℕ) (s3 s4 s5 s6 s7 : List ℕ) (first
 
   pub values_stand : octets_in_force 7 (all_7 before start s3 s4 s5 s6 s7) ≡ s7
   values_stand = octets_same (placed_at (start + length s3 + length s4 + length s5 + length s6) s7) (before_7 before start s3 s4 s5 s6 s7) 7 parts.itself_7.number_stands
+
+  -- what stands before Section 5
+  before_packing : (k : ℕ) → k ≤ 4 → octets_in_force k (all_7 before start s3 s4 s5 s6 s7) ≡ octets_in_force k (before_5 before start s3 s4 s5 s6 s7)
+  before_packing k few =
+      octets_other (placed_at (start + length s3 + length s4 + length s5 + length s6) s7) (before_7 before start s3 s4 s5 s6 s7) k (λ same. omega (arith, parts.itself_7.number_stands, same, few))
+      ∙ octets_other (placed_at (start + length s3 + length s4 + length s5) s6) (before_6 before start s3 s4 s5 s6 s7) k (λ same. omega (arith, parts.itself_6.number_stands, same, few))
+      ∙ octets_other (placed_at (start + length s3 + length s4) s5) (before_5 before start s3 s4 s5 s6 s7) k (λ same. omega (arith, parts.itself_5.number_stands, same, few))
+
+  pub product_stands : octets_in_force 4 (all_7 before start s3 s4 s5 s6 s7) ≡ s4
+  product_stands =
+      before_packing 4 (omega arith) ∙ octets_same (placed_at (start + length s3) s4) (before_4 before start s3 s4 s5 s6 s7) 4 parts.itself_4.number_stands
+
+  pub grid_stands : octets_in_force 3 (all_7 before start s3 s4 s5 s6 s7) ≡ s3
+  grid_stands =
+      before_packing 3 (omega arith)
+      ∙ octets_other (placed_at (start + length s3) s4) (before_4 before start s3 s4 s5 s6 s7) 3 (λ same. omega (arith, parts.itself_4.number_stands, same))
+      ∙ octets_same (placed_at start s3) before 3 parts.itself_3.number_stands
+
+  pub front_stands : (k : ℕ) → k ≤ 2 → octets_in_force k (all_7 before start s3 s4 s5 s6 s7) ≡ octets_in_force k before
+  front_stands k few =
+      before_packing k (omega (arith, few))
+      ∙ octets_other (placed_at (start + length s3) s4) (before_4 before start s3 s4 s5 s6 s7) k (λ same. omega (arith, parts.itself_4.number_stands, same, few))
+      ∙ octets_other (placed_at start s3) before k (λ same. omega (arith, parts.itself_3.number_stands, same, few))

@@ -14,12 +14,13 @@ use Rattle.grib2_message.specs.Acceptance.{verdict_2}
 use Rattle.grib2_message.specs.Grammar.{IsSection, AreSections, Grammar2}
 use Rattle.grib2_message.specs.Message.{IsMessage}
 use Rattle.grib2_message.specs.View.{is_numbered, octets_in_force, mask_in_force, earlier_mask, section_count}
-use Rattle.grib2_message.specs.Fields.{field_count, sections_up_to_field, field_sections, column_of}
+use Rattle.grib2_message.specs.Fields.{field_count, sections_up_to_field, field_sections, part_octets, column_of}
+use Rattle.grib2_message.proofs.InForce.{octets_same, octets_other}
 use Rattle.grib2_message.proofs.Placing.{placed_from}
 use Rattle.grib2_message.proofs.Sound.{fault_of, count_other}
 use Rattle.grib2_message.proofs.Whole.{grammar_accepted, sections_alone}
 use Rattle.grib_migrate.specs.Migrated.{message_with}
-use Rattle.grib_migrate_law.proofs.OneField.{FieldPasses, ComesFirst, before_6, all_7, field_follows, not_last, one_last, up_to_last, mask_stands, packing_stands, values_stand}
+use Rattle.grib_migrate_law.proofs.OneField.{FieldPasses, ComesFirst, before_6, all_7, field_follows, not_last, one_last, up_to_last, mask_stands, packing_stands, values_stand, product_stands, grid_stands, front_stands}
 
 -- Sections 1 and 2, which no row refuses
 pub record FrontPasses (s1 s2 : List ℕ) : Type 0 where
@@ -51,6 +52,12 @@ module _ (s1 s2 : List ℕ) (passes : FrontPasses s1 s2) where
     none_yet = count_other (placed_at (17 + length s1) s2) (placed_at 17 s1 ∷ []) 4 (λ same. omega (arith, passes.itself_2.number_stands, same)) ∙ count_1;
   }
   front_first false = record { follows = ap (λ (n : ℕ). may_follow n 3) passes.itself_1.number_stands; none_yet = count_1 }
+
+  first_1 : (has : Bool) → octets_in_force 1 (front_with has s1 s2) ≡ s1
+  first_1 true =
+      octets_other (placed_at (17 + length s1) s2) (placed_at 17 s1 ∷ []) 1 (λ same. omega (arith, passes.itself_2.number_stands, same))
+      ∙ octets_same (placed_at 17 s1) [] 1 passes.itself_1.number_stands
+  first_1 false = octets_same (placed_at 17 s1) [] 1 passes.itself_1.number_stands
 
   is_1 : IsSection [] 17 s1
   is_1 = record {
@@ -142,6 +149,17 @@ module _ (discipline : ℕ) (has : Bool) (s1 s2 s3 s4 s5 s6 s7 : List ℕ) (fron
   in_force =
       ap (sections_up_to_field 1 []) (sections_alone m (sections_with has s1 s2 s3 s4 s5 s6 s7) grammar)
       ∙ up_to_all s1 s2 s3 s4 s5 s6 s7 front parts has
+
+  pub whole_identification : part_octets m 1 1 ≡ s1
+  whole_identification =
+      ap (octets_in_force 1) in_force ∙ front_stands (front_with has s1 s2) (start_with has s1 s2) s3 s4 s5 s6 s7 (front_first s1 s2 front has) parts 1 (omega arith)
+      ∙ first_1 s1 s2 front has
+
+  pub whole_grid : part_octets m 1 3 ≡ s3
+  whole_grid = ap (octets_in_force 3) in_force ∙ grid_stands (front_with has s1 s2) (start_with has s1 s2) s3 s4 s5 s6 s7 (front_first s1 s2 front has) parts
+
+  pub whole_product : part_octets m 1 4 ≡ s4
+  whole_product = ap (octets_in_force 4) in_force ∙ product_stands (front_with has s1 s2) (start_with has s1 s2) s3 s4 s5 s6 s7 (front_first s1 s2 front has) parts
 
   pub whole_column : (mask : List Bool) → ((earlier : Option (List Bool)) → mask_of s6 (grid_points s3) earlier ≡ mask) → column_of m 1 ≡ column_from s5 mask s7
   whole_column mask stands =
