@@ -1,0 +1,4 @@
+pub mod Smallest
+pub mod Kept
+pub mod Again
+pub mod Tried

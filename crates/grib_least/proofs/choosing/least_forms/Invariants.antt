@@ -1,0 +1,11 @@
+use Rattle.std.proofs.Common.{◌≡◌, All, map}
+use Rattle.std.specs.List.{range_with_len}
+use Rattle.grib2_message.specs.Assembled.{IsShort}
+use Rattle.grib_least.specs.Least.{least_form}
+use Rattle.grib_least.proofs.choosing.least_forms.Given as goal
+
+abbrev pub invariant-loop-before : goal.invariant-loop-before
+invariant-loop-before l = record {
+  forms : l.forms.items ≡ map (least_form l.message) (range_with_len 1 l.before);
+  short : All IsShort l.forms.items;
+}

@@ -1,0 +1,147 @@
+//! Writing a message in the fewest octets.
+
+ghost use Rattle.std.specs.Prelude.{◌≡◌, ◌≤◌, [], ◌∷◌, All, IfOk};
+ghost use Rattle.std.specs.List.{filter_map};
+ghost use Rattle.grib_packing.specs.Written.{MayBePacked};
+ghost use Rattle.grib2_message.specs.Assembled.{IsShort};
+ghost use Rattle.grib2_message.specs.Fields.{field_count};
+ghost use Rattle.grib2_message.specs.Message.{IsMessage};
+ghost use Rattle.grib_least.specs.Least as definitions;
+ghost use Rattle.grib_least.specs.Least.{form_of, least, size_of, smallest};
+
+use grib_base::List;
+use grib_bits::u8_at;
+use grib_complex::{ComplexPacking, SpatialPacking};
+use grib_packed::laws::one_packing_is_written;
+use grib_packing::{Column, PackFault, Packed, Packing};
+use grib_simple::SimplePacking;
+use grib2_message::{AssembleFault, Message};
+use std::alloc::{AllocError, Global};
+
+/// The message with each field in the one of these forms that has the fewest octets in Sections 5, 6 and 7,
+/// the earlier of equal ones: its own sections, simple packing, complex packing, complex packing of the spatial
+/// differences of order 1, and of order 2. A packing that cannot tell the values of the field is left out. Where
+/// that message is not shorter, it is the message itself, octet for octet.
+///
+/// It holds the message, the chosen forms, and one column and one other form at a time.
+///
+/// # Errors
+///
+/// There is no memory.
+pub fn repack_least(alloc: Global, message: &Message<'_>) -> Result<Vec<u8>, AllocError>
+    ensures { IfOk result (λ octets. octets.items ≡ least message.now) }
+{
+    let octets = message.octets();
+    let forms = least_forms(alloc, message)?;
+    match message.assemble(alloc, &forms) {
+        Ok(other) => shorter(alloc, octets, other),
+        Err(AssembleFault::TooLong(_)) => octets.to_vec(alloc),
+        Err(AssembleFault::Memory) => Err(AllocError),
+    }
+}
+
+/// The shorter of a message and another; where they are as long, the message.
+fn shorter(alloc: Global, message: &[u8], other: Vec<u8>) -> Result<Vec<u8>, AllocError>
+    ensures { IfOk result (λ octets. octets.items ≡ definitions.shorter message.now other.items) }
+{
+    if other.len() < message.len() {
+        Ok(other)
+    } else {
+        message.to_vec(alloc)
+    }
+}
+
+/// The form in which each field of the message is written.
+fn least_forms(alloc: Global, message: &Message<'_>) -> Result<Vec<Packed>, AllocError>
+    requires { IsMessage message.now }
+    ensures forms { IfOk result (λ forms. forms.items ≡ definitions.least_forms message.now) }
+    ensures short { IfOk result (λ forms. All IsShort forms.items) }
+{
+    let fields = message.fields();
+    let mut forms = Vec::with_capacity(alloc, fields as usize)?;
+    for before in 0..fields {
+        let form = least_form(alloc, message, before + 1)?;
+        forms.push(form)?;
+    }
+    Ok(forms)
+}
+
+/// The form in which one field is written, counted from 1.
+fn least_form(alloc: Global, message: &Message<'_>, field: u32) -> Result<Packed, AllocError>
+    requires message { IsMessage message.now }
+    requires first { 1 ≤ field }
+    requires last { field ≤ field_count message.now }
+    ensures form { IfOk result (λ form. form ≡ definitions.least_form message.now field) }
+    ensures short { IfOk result IsShort }
+{
+    let column = message.column(alloc, field)?;
+    let own = own_form(alloc, message, field)?;
+    let kind = u8_at(own.section5.as_slice(), 21);
+    let best = or_packed(alloc, &column, kind, &SimplePacking, own)?;
+    let best = or_packed(alloc, &column, kind, &ComplexPacking, best)?;
+    let best = or_packed(alloc, &column, kind, &SpatialPacking::new(1), best)?;
+    or_packed(alloc, &column, kind, &SpatialPacking::new(2), best)
+}
+
+/// The Sections 5, 6 and 7 that a field has, counted from 1.
+fn own_form(alloc: Global, message: &Message<'_>, field: u32) -> Result<Packed, AllocError>
+    requires first { 1 ≤ field }
+    requires last { field ≤ field_count message.now }
+    ensures { IfOk result (λ form. form ≡ definitions.own_form message.now field) }
+{
+    let (Some(section5), Some(section7)) = (message.part(field, 5), message.part(field, 7)) else {
+        unreachable!();
+    };
+    Ok(Packed {
+        section5: List::of(section5.octets.to_vec(alloc)?),
+        section6: List::of(message.bitmap(field).octets.to_vec(alloc)?),
+        section7: List::of(section7.octets.to_vec(alloc)?),
+    })
+}
+
+/// A form of a field, or what this packing writes of its column, where nothing fails to fit and it has fewer
+/// octets.
+fn or_packed<P: Packing>(
+    alloc: Global,
+    column: &Column,
+    kind: u8,
+    packing: &P,
+    best: Packed,
+) -> Result<Packed, AllocError>
+    requires column { MayBePacked column.now }
+    requires short { IsShort best }
+    ensures form { IfOk result (λ form. form
+        ≡ smallest best (filter_map (form_of column.now kind) (P.target packing.now ∷ []))) }
+    ensures short { IfOk result IsShort }
+{
+    one_packing_is_written();
+    match packing.pack(alloc, column, kind) {
+        Ok(form) => Ok(smaller(best, form)),
+        Err(PackFault::Memory) => Err(AllocError),
+        Err(_) => Ok(best),
+    }
+}
+
+/// The smaller of two forms, the first of equal ones.
+fn smaller(best: Packed, form: Packed) -> Packed
+    requires best { IsShort best }
+    requires form { IsShort form }
+    ensures smaller { result ≡ definitions.smaller best form }
+    ensures short { IsShort result }
+{
+    if size(&form) < size(&best) {
+        form
+    } else {
+        best
+    }
+}
+
+/// How many octets the sections of a form have.
+fn size(form: &Packed) -> u64
+    requires { IsShort form.now }
+    ensures { result ≡ size_of form.now }
+{
+    form.section5.as_slice().len() as u64
+        + form.section6.as_slice().len() as u64
+        + form.section7.as_slice().len() as u64
+}
