@@ -13,6 +13,7 @@ use Rattle.grib_keys.specs.declared.condition.Value.{Value}
 use Rattle.grib_keys.specs.declared.condition.Condition.{Condition}
 use Rattle.grib_keys.specs.Keys.{key_named, can_set}
 use Rattle.grib_made.specs.Made.{MayBeMade}
+use Rattle.grib_repack.specs.declared.target.RepackTarget.{RepackTarget}
 use Rattle.grib_repack.specs.declared.target.RepackTarget.TheVariants.{Simple, Complex, Spatial}
 use Rattle.grib_engine.specs.declared.job.Job.{Job}
 use Rattle.grib_engine.specs.Jobs.{IsJob, HasPlaces, is_target}
@@ -201,9 +202,18 @@ target_in words complete to order =
           order_is (value_of (codes "order") words) (order (order_there words (has_word (codes "to=3") words) (has_name (codes "order") words) (not (has_name (codes "order") words)) parts.1 there));
     }
 
-pub repack_stands : (words : List (List ℕ)) → HasRead Repack words → TargetStands words
-repack_stands words read =
-    target_in words read.complete (λ has. value_taken Repack (codes "to") words read.all has) (λ has. value_taken Repack (codes "order") words read.all has)
+unless_least : (target least : Bool) → (target || (least || false)) ≡ true → least ≡ false → (target || false) ≡ true
+unless_least true least h other = refl
+unless_least false true h other = let same : ⊥ = cc in absurd same
+unless_least false false h other = h
+
+pub repack_stands : (words : List (List ℕ)) → HasRead Repack words → is (codes "least") (value_of (codes "to") words) ≡ false → TargetStands words
+repack_stands words read other =
+    target_in words read.complete
+    (λ has.
+    unless_least (is (codes "0") (value_of (codes "to") words) || is (codes "2") (value_of (codes "to") words) || is (codes "3") (value_of (codes "to") words))
+    (is (codes "least") (value_of (codes "to") words)) (value_taken Repack (codes "to") words read.all has) other)
+    (λ has. value_taken Repack (codes "order") words read.all has)
 
 -- ---- numbers
 
@@ -367,6 +377,10 @@ places : (given : Option ℕ) → IfSome given (λ n. n ≤ 18) → HasPlaces (j
 places None few = tt
 places (Some n) few = few
 
+repack_job : (least : Bool) (target : RepackTarget) → (least ≡ false → is_target target ≡ true) → IsJob (cond least jobs.RepackLeast (jobs.Repack target))
+repack_job true target stands = record { target_stands = refl; size_stands = tt; changes_stand = no_changes; places_stand = tt; area_stands = tt }
+repack_job false target stands = record { target_stands = stands refl; size_stands = tt; changes_stand = no_changes; places_stand = tt; area_stands = tt }
+
 pub is_job : (command : Command) (words : List (List ℕ)) → HasRead command words → IfOk (job_of_command command words) IsJob
 is_job the.Check words read = record { target_stands = refl; size_stands = tt; changes_stand = no_changes; places_stand = tt; area_stands = tt }
 is_job the.List words read = record { target_stands = refl; size_stands = tt; changes_stand = no_changes; places_stand = tt; area_stands = tt }
@@ -386,7 +400,8 @@ is_job Crop words read =
 is_job Filter words read = record { target_stands = refl; size_stands = tt; changes_stand = no_changes; places_stand = tt; area_stands = tt }
 is_job Split words read = record { target_stands = refl; size_stands = tt; changes_stand = no_changes; places_stand = tt; area_stands = tt }
 is_job Set words read = record { target_stands = refl; size_stands = tt; changes_stand = changes_can words read.all; places_stand = tt; area_stands = tt }
-is_job Repack words read = record { target_stands = target_is words (repack_stands words read); size_stands = tt; changes_stand = no_changes; places_stand = tt; area_stands = tt }
+is_job Repack words read =
+    repack_job (is (codes "least") (value_of (codes "to") words)) (target_of words) (λ other. target_is words (repack_stands words read other))
 is_job Make words read =
     record { target_stands = target_is words (make_stands words read); size_stands = size_is words (make_sized words read); changes_stand = no_changes; places_stand = tt; area_stands = tt }
 is_job Migrate words read = record { target_stands = refl; size_stands = tt; changes_stand = no_changes; places_stand = tt; area_stands = tt }

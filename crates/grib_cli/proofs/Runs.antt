@@ -10,6 +10,8 @@ use Rattle.grib_stream.specs.Answer.{Answer}
 use Rattle.grib_stream.specs.declared.outcome.Outcome.{Outcome}
 use Rattle.grib_stream.specs.declared.outcome.Outcome.TheVariants.{ReadFault, WriteFault, ShelfFault, Memory}
 use Rattle.grib_engine.specs.declared.job.Job.{Job}
+use Rattle.grib_engine.specs.declared.job.Job.TheVariants as jobs
+use Rattle.grib_engine.specs.Hearing.{IfHears, RefusesInTime}
 use Rattle.grib_engine.specs.Outcomes.{note_of, NotesFront, Noted}
 use Rattle.grib_engine.specs.Command.{task}
 use Rattle.grib_engine.specs.Serving.{RunsWork, RunsJob, NotesWorkFront, NotesJobFront, RefusedWork, RefusedJob}
@@ -146,3 +148,14 @@ memory_front fault a b memory (inr front) = front
 
 pub other_front : (fault : JobFault) (a b : Option (List ℕ)) → AppendsFront a b (note_of Memory) → NotesFront a b [] (outcome_of fault)
 other_front fault a b front = inr front
+
+-- nothing is refused where there is no memory
+if_hears : (job : Job) (P : Type 0) → P → IfHears job P
+if_hears jobs.Check P held = held
+if_hears jobs.List P held = held
+if_hears job P held = tt
+
+pub soon_nothing : (job : Job) (result : Outcome) (a b : Option (List ℕ)) → is_cut_short result ≡ true → IfHears job (RefusesInTime result a b)
+soon_nothing job result a b cut =
+    let soon : RefusesInTime result a b = λ refusal is closed. absurd (false≢true (sym (ap is_cut_short is) ∙ cut)) in
+    if_hears job (RefusesInTime result a b) soon

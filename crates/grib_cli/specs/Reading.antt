@@ -51,6 +51,10 @@ target_entries =
     ∷ entry (is (codes "order")) (λ value. is (codes "1") value || is (codes "2") value)
     ∷ []
 
+-- or in which takes the fewest octets
+abbrev pub repack_entries : List Entry
+repack_entries = target_entries ++ entry (is (codes "to")) (is (codes "least")) ∷ []
+
 -- what a made message is made from: where its numbers begin, and its points along a row and a column
 abbrev pub size_entries : List Entry
 size_entries =
@@ -142,7 +146,7 @@ row_of Dump = row (codes "dump") (entry (is (codes "decimals")) (is_between 0 18
 row_of Filter = row (codes "filter") (entry is_key is_key_value ∷ []) has_some
 row_of Split = row (codes "split") (entry (is (codes "out")) is_not_empty ∷ []) (has_name (codes "out"))
 row_of Set = row (codes "set") (entry is_key_to_set is_key_value ∷ []) has_some
-row_of Repack = row (codes "repack") target_entries has_target
+row_of Repack = row (codes "repack") repack_entries has_target
 row_of Migrate =
     row (codes "migrate") (entry (is (codes "params")) is_not_empty ∷ entry (is (codes "local")) (is (codes "keep")) ∷ [])
     (has_name (codes "params"))

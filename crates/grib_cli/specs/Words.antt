@@ -26,6 +26,10 @@ target_of words =
     let to = value_of (codes "to") words in
     cond (is (codes "0") to) Simple (cond (is (codes "2") to) Complex (Spatial (number_of (codes "order") words)))
 
+-- how the words ask messages to be repacked
+abbrev pub repack_of : List (List ℕ) → Job
+repack_of words = cond (is (codes "least") (value_of (codes "to") words)) jobs.RepackLeast (jobs.Repack (target_of words))
+
 -- the sides of a box fit 32 bits
 pub record SidesStand (words : List (List ℕ)) : Type 0 where
   pub i0 : is_between 0 (2 ^ 32 - 1) (value_of (codes "i0") words) ≡ true
@@ -64,7 +68,7 @@ job_of_command commands.Dump words = Ok (jobs.Dump (number_if_given (codes "deci
 job_of_command commands.Filter words = Ok (jobs.Filter (conditions_of words))
 job_of_command commands.Split words = Ok (jobs.Split (value_of (codes "out") words))
 job_of_command commands.Set words = Ok (jobs.Set (conditions_of words))
-job_of_command commands.Repack words = Ok (jobs.Repack (target_of words))
+job_of_command commands.Repack words = Ok (repack_of words)
 job_of_command commands.Migrate words = Ok (jobs.Migrate (value_of (codes "params") words) (has_name (codes "local") words))
 job_of_command commands.Demote words =
     Ok (jobs.Demote (value_of (codes "params") words) (has_name (codes "local") words) (has_name (codes "earth") words))

@@ -1,19 +1,23 @@
 //! The top call: from the words and the input to the output, the notes and the outcome.
 
-ghost use Rattle.std.specs.Prelude.{◌≡◌, ◌≢◌, ◌<◌, ◌⊎◌, true, false, map, string_bytes, [], IfOk, IfErr, MatchResult};
+ghost use Rattle.std.specs.Prelude.{◌≡◌, ◌≢◌, ◌<◌, ◌⊎◌, true, false, map, string_bytes, [], IfOk, IfErr, IfSome, MatchResult};
 ghost use Rattle.std.specs.Io.KnownBytes.{Appends, Keeps};
 ghost use Rattle.grib_io.specs.Shelves.{Stays};
 ghost use Rattle.grib_stream.specs.Acts.{world};
 ghost use Rattle.grib_stream.specs.Faults.{faults, CountsRun};
-ghost use Rattle.grib_stream.specs.Outcomes.{is_cut_short};
+ghost use Rattle.grib_stream.specs.Outcomes.{is_cut_short, is_broken};
 ghost use Rattle.grib_stream.specs.declared.outcome.Outcome.TheVariants.{Done, ReadFault, WriteFault, ShelfFault, Memory};
 ghost use Rattle.grib_engine.specs.Closing.{Unfinished};
+ghost use Rattle.grib_engine.specs.Hearing.{IfHears, RefusesInTime};
+ghost use Rattle.grib_engine.specs.Judged.{JudgesInput};
+ghost use Rattle.grib_engine.specs.Leaving.{LeavesFields, LeavesParts};
 ghost use Rattle.grib_engine.specs.Outcomes.{note_of, NotesFront};
 ghost use Rattle.grib_engine.specs.Serving.{RunsJob, NotesJob, NotesJobFront, RefusedJob};
 ghost use Rattle.grib_engine.specs.Tasks.{makes, reads_table, uses_shelf};
 ghost use Rattle.grib_cli.specs.Words as asked;
 
 use crate::words::{JobFault, job_of};
+use grib_engine::laws::{what_a_run_answers_is_in_the_grammar, what_a_run_leaves};
 use grib_engine::{Outcome, close_with_note, serve};
 use grib_io::{Shelf, Sink, Source};
 use std::alloc::Global;
@@ -34,6 +38,22 @@ pub fn run<S: Source, T: Sink, N: Sink, H: Shelf>(
     // much of it was taken.
     ensures runs { IfOk (asked.job_of (map string_bytes words.now)) (λ job.
         RunsJob job result (S.left input.old) (S.left input.new)
+        (world (T.contents output.old) (H.contents shelf.old))
+        (world (T.contents output.new) (H.contents shelf.new))) }
+    // What is refused by `check` or `list` is refused in time.
+    ensures soon { IfOk (asked.job_of (map string_bytes words.now)) (λ job.
+        IfHears job (RefusesInTime result (S.left input.old) (S.left input.new))) }
+    // The messages that are answered are in the grammar, and a refusal names the first row that fails.
+    ensures judged { IfOk (asked.job_of (map string_bytes words.now)) (λ job.
+        IfSome (S.left input.old) (JudgesInput result)) }
+    // What is written of the messages keeps the values of their points, or the columns of their fields, and `split`
+    // leaves whole fields under their names.
+    ensures fields { is_broken result ≡ false → IfOk (asked.job_of (map string_bytes words.now)) (λ job.
+        LeavesFields job result (S.left input.old)
+        (world (T.contents output.old) (H.contents shelf.old))
+        (world (T.contents output.new) (H.contents shelf.new))) }
+    ensures parts { IfOk (asked.job_of (map string_bytes words.now)) (λ job.
+        LeavesParts job result (S.left input.old) (S.left input.new)
         (world (T.contents output.old) (H.contents shelf.old))
         (world (T.contents output.new) (H.contents shelf.new))) }
     ensures made_input { IfOk (asked.job_of (map string_bytes words.now)) (λ job.
@@ -77,6 +97,8 @@ pub fn run<S: Source, T: Sink, N: Sink, H: Shelf>(
     ensures unasked_output { IfErr (asked.job_of (map string_bytes words.now)) (λ fault.
         Keeps (T.contents output.old) (T.contents output.new)) }
 {
+    what_a_run_leaves();
+    what_a_run_answers_is_in_the_grammar();
     match job_of(alloc, words) {
         Ok(job) => serve(alloc, &job, input, output, notes, shelf),
         Err(fault) => close_with_note(alloc, outcome_of(fault), b"", output, notes),

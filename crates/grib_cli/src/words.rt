@@ -121,7 +121,7 @@ fn takes(command: Command, name: &str, value: &str) -> bool
         Command::Filter => Key::of(name).is_some() && key_value(value).is_some(),
         Command::Set => is_key_to_set(name) && key_value(value).is_some(),
         Command::Split => name == "out" && !value.is_empty(),
-        Command::Repack => takes_target(name, value),
+        Command::Repack => takes_target(name, value) || (name == "to" && value == "least"),
         Command::Migrate => {
             (name == "params" && !value.is_empty()) || (name == "local" && value == "keep")
         }

@@ -21,7 +21,7 @@ use Rattle.grib_stream.proofs.Exits.{within_short}
 use Rattle.grib_stream.proofs.Parts.{AsParts, parts_done}
 use Rattle.grib_engine.proofs.Keeping.{written_join}
 use Rattle.grib_engine.specs.declared.job.Job.{Job}
-use Rattle.grib_engine.specs.declared.job.Job.TheVariants.{Check, List as Listing, Keys, Stats, Dump, Filter, Split, Set, Repack, Rescan, Crop, Migrate, Demote, Make}
+use Rattle.grib_engine.specs.declared.job.Job.TheVariants.{Check, List as Listing, Keys, Stats, Dump, Filter, Split, Set, Repack, RepackLeast, Rescan, Crop, Migrate, Demote, Make, Print}
 use Rattle.grib_engine.specs.Command.{Command, IsLawfulCommand, given_unless, given_whole, kept_at, kept_first, changing_unless, task}
 use Rattle.grib_engine.specs.Each.{writes_each}
 use Rattle.grib_engine.specs.Filtering.{filtered, filter_command, filter_lawful}
@@ -30,6 +30,8 @@ use Rattle.grib_engine.specs.Judging.{judge}
 use Rattle.grib_engine.specs.Lawful.{lawful}
 use Rattle.grib_engine.specs.Migrating.{are_octets, migrate_command, migrate_lawful}
 use Rattle.grib_engine.specs.Demoting.{demoted_cause, demoted_fields, demote_command, demote_lawful}
+use Rattle.grib_least.specs.Least.{least}
+use Rattle.grib_engine.specs.Least.{least_lawful}
 use Rattle.grib_engine.specs.Repacking.{repack_lawful}
 use Rattle.grib_engine.specs.Rescanning.{edit_lawful}
 use Rattle.grib_engine.specs.Setting.{set_lawful}
@@ -164,6 +166,7 @@ job_parts (Filter conditions) text front rest is each fits ends done =
 job_parts (Set changes) text front rest is each fits ends done =
     unless_parts (2 ^ 40) front rest fits ends _ _ (set_lawful changes is.changes_stand) done
 job_parts (Repack target) text front rest is each fits ends done = unless_parts (2 ^ 40) front rest fits ends _ _ (repack_lawful target) done
+job_parts RepackLeast text front rest is each fits ends done = unless_parts (2 ^ 40) front rest fits ends (λ message. None) least least_lawful done
 job_parts Rescan text front rest is each fits ends done = unless_parts (2 ^ 40) front rest fits ends _ _ (edit_lawful edits.Rescan) done
 job_parts (Crop area) text front rest is each fits ends done = unless_parts (2 ^ 40) front rest fits ends _ _ (edit_lawful (edits.Crop area)) done
 job_parts (Migrate params keep_local) text front rest is each fits ends done = migrate_parts keep_local (tabled text) front rest fits ends done
@@ -175,3 +178,4 @@ job_parts Stats text front rest is each fits ends done = absurd (false≢true ea
 job_parts (Dump decimals) text front rest is each fits ends done = absurd (false≢true each)
 job_parts (Split name) text front rest is each fits ends done = absurd (false≢true each)
 job_parts (Make seed ni nj target) text front rest is each fits ends done = absurd (false≢true each)
+job_parts (Print printed) text front rest is each fits ends done = absurd (false≢true each)

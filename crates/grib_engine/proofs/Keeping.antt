@@ -1,40 +1,31 @@
 -- What is written of an input that is repacked, message for message.
-use Rattle.std.proofs.Common.{◌≡◌, ℕ, zero, suc, ◌+◌, ◌-◌, ◌^◌, ◌<◌, ◌≤◌, ◌==◌, Bool, true, false, Option, Some, None, option_map, List, [], ◌∷◌, ◌++◌, length, map, take, All, refl, sym, ap, ◌∙◌, subst, arith, ⊎_elim}
+use Rattle.std.proofs.Common.{◌≡◌, ℕ, ◌+◌, ◌^◌, ◌<◌, ◌≤◌, ◌==◌, Bool, true, false, Option, Some, None, option_map, List, [], ◌∷◌, ◌++◌, length, map, take, refl, sym, ap, ◌∙◌, arith, ⊎_elim}
 use Rattle.std.specs.List.{concat}
 use Rattle.std.proofs.lemmas.Bool.{cases_Bool, cases_lt, false≢true}
 use Rattle.std.proofs.lemmas.List.{take_all}
-use Rattle.std.proofs.lemmas.List.Elements.{All-nil, All-cons, All-head, All-tail, All-take}
 use Rattle.grib_base.specs.Rows.{choose}
 use Rattle.grib_packing.specs.Misfits.{Target}
-use Rattle.grib_packing.specs.Written.{IsTarget}
 use Rattle.grib2_sections.specs.Head.{edition}
 use Rattle.grib2_sections.specs.Verdict.{Accepted}
 use Rattle.grib1_sections.specs.Message.{IsMessage1}
 use Rattle.grib2_message.specs.Message.{IsMessage}
 use Rattle.grib_repack.specs.declared.target.RepackTarget.{RepackTarget}
 use Rattle.grib_repack.specs.Faults.{target_of}
-use Rattle.grib_repack.specs.Repacked.{RepackMisfit, MayBeRepacked, repacked, repack_misfit}
+use Rattle.grib_repack.specs.Repacked.{RepackMisfit, repacked, repack_misfit}
 use Rattle.grib_stream.specs.Acts.{Act, Writes, Makes, Adds, writes, written}
 use Rattle.grib_stream.specs.Outcomes.{is_open}
-use Rattle.grib_stream.specs.Stream.{begins, Judgement, Message, Faulty, Found, End, Over, Refusing, stream_from, stream, on_judgement, followed_by, message_after}
+use Rattle.grib_stream.specs.Stream.{begins, Message, Found, End, Over, Refusing, stream}
 use Rattle.grib_stream.specs.declared.place.Place.{Place}
 use Rattle.grib_stream.specs.Task.{Task}
 use Rattle.grib_stream.specs.Answer.{Answer, after, on_given, answers, on_end, place_of, at_limit, answer_of, answer_within}
 use Rattle.grib_stream.proofs.Exits.{within_short, within_long, closed_at_limit, open_at_limit}
-use Rattle.grib_stream.proofs.Streams.{stream_skip, stream_begun}
 use Rattle.grib_engine.specs.Command.{given_unless, task}
 use Rattle.grib_engine.specs.Judging.{judge}
 use Rattle.grib_engine.specs.Lawful.{IsFirst, IsOther, message_judged, least_message, there_message, edition_alone, message_alone, first_alone_message}
-use Rattle.grib_engine.specs.Same.{SameValues, AllSame, kept_then, before_kept}
+use Rattle.grib_engine.specs.Same.{kept_then, before_kept}
 use Rattle.grib_engine.specs.Repacking.{cause_of, repack_command}
 
 -- ---- the messages of an input
-
--- accepted, where it is not of edition 1
-pub record IsFound (found : Found) : Type 0 where
-  pub accepted : (edition found.octets == 1) ≡ false → IsMessage found.octets
-  pub first : (edition found.octets == 1) ≡ true → IsMessage1 found.octets
-  pub are_octets : All (λ octet. octet < 256) found.octets
 
 pub alone_other : (rest : List ℕ) (total : ℕ) → begins rest ≡ true → judge rest ≡ Message total → (edition (take total rest) == 1) ≡ false → IsMessage (take total rest)
 alone_other rest total begun is not_one =
@@ -45,7 +36,7 @@ alone_other rest total begun is not_one =
     (λ (m : IsOther rest (Accepted total)). message_alone rest total begun m)
     (message_judged rest total is)
 
-alone_first : (rest : List ℕ) (total : ℕ) → begins rest ≡ true → judge rest ≡ Message total → (edition (take total rest) == 1) ≡ true → IsMessage1 (take total rest)
+pub alone_first : (rest : List ℕ) (total : ℕ) → begins rest ≡ true → judge rest ≡ Message total → (edition (take total rest) == 1) ≡ true → IsMessage1 (take total rest)
 alone_first rest total begun is one =
     let least = least_message rest total is in
     let same = ap (λ n. n == 1) (edition_alone rest total (omega arith) (there_message rest total is)) in
@@ -53,27 +44,6 @@ alone_first rest total begun is one =
     (λ (m : IsFirst rest (Accepted total)). first_alone_message rest total begun m)
     (λ (m : IsOther rest (Accepted total)). absurd (false≢true (sym m.other_edition ∙ (sym same ∙ one))))
     (message_judged rest total is)
-
-found_judged : (place skipped octet : ℕ) (octets : List ℕ) (j : Judgement) → All (λ o. o < 256) (octet ∷ octets) → begins (octet ∷ octets) ≡ true → judge (octet ∷ octets) ≡ j
-    → ((inside : ℕ) → All IsFound (stream_from judge inside (place + 1) skipped octets).messages)
-    → All IsFound (on_judgement j (λ total. followed_by (message_after place (take total (octet ∷ octets))) (stream_from judge (total - 1) (place + 1) skipped octets))).messages
-found_judged place skipped octet octets (Message total) small begun is later =
-    All-cons IsFound (message_after place (take total (octet ∷ octets))) (stream_from judge (total - 1) (place + 1) skipped octets).messages
-    (record { accepted = alone_other (octet ∷ octets) total begun is; first = alone_first (octet ∷ octets) total begun is; are_octets = All-take (λ o. o < 256) total (octet ∷ octets) small }) (later (total - 1))
-found_judged place skipped octet octets (Faulty fault) small begun is later = All-nil IsFound
-
-pub found_all : (inside place skipped : ℕ) (octets : List ℕ) → All (λ o. o < 256) octets → All IsFound (stream_from judge inside place skipped octets).messages
-found_all zero place skipped [] small = All-nil IsFound
-found_all (suc inside) place skipped [] small = All-nil IsFound
-found_all (suc inside) place skipped (octet ∷ octets) small = found_all inside (place + 1) skipped octets (All-tail (λ o. o < 256) octet octets small)
-found_all zero place skipped (octet ∷ octets) small =
-    ⊎_elim
-    (λ begun. subst (λ s. All IsFound s.messages) (sym (stream_begun judge place skipped octet octets begun))
-    (found_judged place skipped octet octets (judge (octet ∷ octets)) small begun refl
-    (λ inside. found_all inside (place + 1) skipped octets (All-tail (λ o. o < 256) octet octets small))))
-    (λ none. subst (λ s. All IsFound s.messages) (sym (stream_skip judge place skipped octet octets none))
-    (found_all zero (place + 1) (skipped + 1) octets (All-tail (λ o. o < 256) octet octets small)))
-    (cases_Bool (begins (octet ∷ octets)))
 
 -- ---- what is written
 
@@ -134,32 +104,3 @@ pub written_are : (target : RepackTarget) (input : List ℕ)
 written_are target input =
     let found = stream judge (take (2 ^ 40) input) in
     ap written (within_acts (task (repack_command target)) (2 ^ 40) input) ∙ acts_are target 0 0 0 found.messages found.end
-
--- ---- equal values
-
-same_then : (target : Target) (misfit : Option RepackMisfit) (message : List ℕ) (rest : List (List ℕ)) → (misfit ≡ None → SameValues message (repacked target message))
-    → AllSame rest (map (repacked target) rest) → AllSame (kept_then misfit message rest) (map (repacked target) (kept_then misfit message rest))
-same_then target None message rest own later = (own refl, later)
-same_then target (Some misfit) message rest own later = tt
-
-same_chosen : (target : Target) (b : Bool) (misfit : Option RepackMisfit) (message : List ℕ) (rest : List (List ℕ))
-    → (b ≡ false → misfit ≡ None → SameValues message (repacked target message)) → AllSame rest (map (repacked target) rest)
-    → AllSame (choose b (λ _. []) (λ _. kept_then misfit message rest)) (map (repacked target) (choose b (λ _. []) (λ _. kept_then misfit message rest)))
-same_chosen target true misfit message rest own later = tt
-same_chosen target false misfit message rest own later = same_then target misfit message rest (own refl) later
-
-same_all : (target : Target) → IsTarget target → ((message : List ℕ) → MayBeRepacked target message → SameValues message (repacked target message))
-    → (founds : List Found) → All IsFound founds → AllSame (before_kept target founds) (map (repacked target) (before_kept target founds))
-same_all target stands law [] all = tt
-same_all target stands law (found ∷ later) all =
-    let first = All-head IsFound found later all in
-    same_chosen target (edition found.octets == 1) (repack_misfit target found.octets) found.octets (before_kept target later)
-    (λ not_one none. law found.octets (record { accepted = first.accepted not_one; are_octets = first.are_octets; target_stands = stands; fits = none }))
-    (same_all target stands law later (All-tail IsFound found later all))
-
-pub same_messages : (target : Target) (limit : ℕ) (input : List ℕ) → IsTarget target → All (λ octet. octet < 256) input
-    → ((message : List ℕ) → MayBeRepacked target message → SameValues message (repacked target message))
-    → AllSame (before_kept target (stream judge (take limit input)).messages) (map (repacked target) (before_kept target (stream judge (take limit input)).messages))
-same_messages target limit input stands small law =
-    same_all target stands law (stream judge (take limit input)).messages
-    (found_all 0 0 0 (take limit input) (All-take (λ octet. octet < 256) limit input small))

@@ -8,6 +8,7 @@ pub mod Made
 pub mod Editions
 pub mod Keeping
 pub mod Wanted
+pub mod HeardMessages
 pub mod Finite
 pub mod Shelved
 pub mod Standing
@@ -16,3 +17,11 @@ pub mod Migrations
 pub mod Demoted
 pub mod Causes
 pub mod Cutting
+pub mod Accepting
+pub mod Settings
+pub mod Picking
+pub mod Complete
+pub mod OfOctets
+pub mod AllGiven
+pub mod Judged
+pub mod Leaving

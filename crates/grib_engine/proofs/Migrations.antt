@@ -2,7 +2,7 @@
 use Rattle.std.proofs.Common.{◌≡◌, ℕ, ◌+◌, ◌^◌, ◌<◌, ◌==◌, Bool, true, false, ◌&&◌, Option, Some, None, option_map, List, [], ◌∷◌, ◌++◌, map, take, All, refl, sym, ap, ◌∙◌, subst, lt-ltb, eqb-true}
 use Rattle.std.specs.List.{concat}
 use Rattle.std.proofs.lemmas.Bool.{false≢true, eq-eqb}
-use Rattle.std.proofs.lemmas.List.Elements.{All-head, All-tail, All-take}
+use Rattle.std.proofs.lemmas.List.Elements.{All-head, All-tail}
 use Rattle.grib_base.specs.Rows.{choose}
 use Rattle.grib_causes.specs.declared.cause.Cause.TheVariants.{Lost}
 use Rattle.grib_causes.specs.declared.loss.Loss.{Loss}
@@ -26,9 +26,11 @@ use Rattle.grib_engine.specs.Command.{given_unless, task}
 use Rattle.grib_engine.specs.Judging.{judge}
 use Rattle.grib_engine.specs.Migrating.{are_octets, migrate_command}
 use Rattle.grib_engine.specs.SameMigrated.{SameMigrated, AllMigrated, lost_then, before_lost}
-use Rattle.grib_engine.proofs.Keeping.{IsFound, written_join, written_of, found_all, within_acts}
+use Rattle.grib_engine.specs.Octets.{AreOctets, AreAllOctets, unless_lost, until_lost}
+use Rattle.grib_engine.proofs.Accepting.{IsAccepted, accepted_all}
+use Rattle.grib_engine.proofs.Keeping.{written_join, written_of, within_acts}
 
-are_small : (xs : List ℕ) → All (λ octet. octet < 256) xs → are_octets xs ≡ true
+pub are_small : (xs : List ℕ) → All (λ octet. octet < 256) xs → are_octets xs ≡ true
 are_small [] all = refl
 are_small (x ∷ xs) all =
     ap (λ b. b && are_octets xs) (lt-ltb x 256 (All-head (λ octet. octet < 256) x xs all)) ∙ are_small xs (All-tail (λ octet. octet < 256) x xs all)
@@ -44,38 +46,45 @@ module _ (table : Entries) (keep : Bool) where
   of_other : (message : List ℕ) → (edition message == 1) ≡ false → output_of message ≡ message
   of_other message not_one = ap (λ b. choose b (λ _. migrated table keep message) (λ _. message)) not_one
 
-  step : (loss : Option Loss) (m : ℕ) (message : List ℕ) (t : Task) (next : List Act → ℕ → Answer) (rest : List (List ℕ)) → output_of message ≡ migrated table keep message
-      → ((acts : List Act) (more : ℕ) → written (next acts more).acts ≡ written acts ++ concat (map output_of rest))
+  step : (loss : Option Loss) (m : ℕ) (message : List ℕ) (t : Task) (next : List Act → ℕ → Answer) (rest until : List (List ℕ)) → output_of message ≡ migrated table keep message
+      → AreAllOctets (unless_lost loss until) → (AreAllOctets until → (acts : List Act) (more : ℕ) → written (next acts more).acts ≡ written acts ++ concat (map output_of rest))
       → written (on_given t (given_unless (option_map Lost loss) m (migrated table keep message)) next).acts ≡ concat (map output_of (lost_then loss message rest))
-  step None m message t next rest same goes =
-      goes (writes (migrated table keep message)) _ ∙ ap (λ xs. xs ++ concat (map output_of rest)) (written_of (migrated table keep message) ∙ sym same)
-  step (Some loss) m message t next rest same goes = refl
+  step None m message t next rest until same small goes =
+      goes small (writes (migrated table keep message)) _ ∙ ap (λ xs. xs ++ concat (map output_of rest)) (written_of (migrated table keep message) ∙ sym same)
+  step (Some loss) m message t next rest until same small goes = refl
 
-  chosen : (b : Bool) (place : Place) (message : List ℕ) (t : Task) (next : List Act → ℕ → Answer) (rest : List (List ℕ)) → (edition message == 1) ≡ b → are_octets message ≡ true
-      → ((acts : List Act) (more : ℕ) → written (next acts more).acts ≡ written acts ++ concat (map output_of rest))
+  chosen : (b : Bool) (place : Place) (message : List ℕ) (t : Task) (next : List Act → ℕ → Answer) (rest until : List (List ℕ)) → (edition message == 1) ≡ b → are_octets message ≡ true
+      → AreAllOctets (choose b (λ _. unless_lost (first_loss table keep message) until) (λ _. until))
+      → (AreAllOctets until → (acts : List Act) (more : ℕ) → written (next acts more).acts ≡ written acts ++ concat (map output_of rest))
       → written (on_given t (choose b (λ _. (migrate_command keep table).first place message) (λ _. (migrate_command keep table).second place message)) next).acts
       ≡ concat (map output_of (choose b (λ _. lost_then (first_loss table keep message) message rest) (λ _. message ∷ rest)))
-  chosen true place message t next rest is small goes =
+  chosen true place message t next rest until is small later goes =
       let given : Given = given_unless (option_map Lost (first_loss table keep message)) place.message (migrated table keep message) in
       subst (λ b. written (on_given t (choose b (λ _. given) (λ _. Gives [] 0)) next).acts ≡ concat (map output_of (lost_then (first_loss table keep message) message rest)))
-      (sym small) (step (first_loss table keep message) place.message message t next rest (of_first message is) goes)
-  chosen false place message t next rest is small goes =
-      goes (writes message) _ ∙ ap (λ xs. xs ++ concat (map output_of rest)) (written_of message ∙ sym (of_other message is))
+      (sym small) (step (first_loss table keep message) place.message message t next rest until (of_first message is) later goes)
+  chosen false place message t next rest until is small later goes =
+      goes later (writes message) _ ∙ ap (λ xs. xs ++ concat (map output_of rest)) (written_of message ∙ sym (of_other message is))
 
   at_end : (m f w : ℕ) (end : End) → written (on_end (task (migrate_command keep table)) m f w end).acts ≡ []
   at_end m f w (Over skipped) = refl
   at_end m f w (Refusing fault) = refl
 
-  acts_are : (m f w : ℕ) (founds : List Found) (end : End) → All IsFound founds
+  -- the messages on which the answer rests behind one
+  abbrev pub after_found : Found → List Found → List (List ℕ)
+  after_found found later =
+      choose (edition found.octets == 1) (λ _. unless_lost (first_loss table keep found.octets) (until_lost table keep later)) (λ _. until_lost table keep later)
+
+  acts_are : (m f w : ℕ) (founds : List Found) (end : End) → AreAllOctets (until_lost table keep founds)
       → written (answers (task (migrate_command keep table)) m f w founds end).acts ≡ concat (map output_of (before_lost table keep founds))
-  acts_are m f w [] end all = at_end m f w end
-  acts_are m f w (found ∷ later) end all =
+  acts_are m f w [] end small = at_end m f w end
+  acts_are m f w (found ∷ later) end small =
       let t = task (migrate_command keep table) in
+      let on : List (List ℕ) = after_found found later in
       chosen (edition found.octets == 1) (place_of m found.before f) found.octets t
-      (λ acts more. after acts (answers t (m + 1) (f + t.fields found.octets) (w + more) later end)) (before_lost table keep later) refl
-      (are_small found.octets (All-head IsFound found later all).are_octets)
-      (λ acts more. written_join acts (answers t (m + 1) (f + t.fields found.octets) (w + more) later end).acts
-      ∙ ap (λ xs. written acts ++ xs) (acts_are (m + 1) (f + t.fields found.octets) (w + more) later end (All-tail IsFound found later all)))
+      (λ acts more. after acts (answers t (m + 1) (f + t.fields found.octets) (w + more) later end)) (before_lost table keep later) (until_lost table keep later) refl
+      (are_small found.octets (All-head AreOctets found.octets on small)) (All-tail AreOctets found.octets on small)
+      (λ rest acts more. written_join acts (answers t (m + 1) (f + t.fields found.octets) (w + more) later end).acts
+      ∙ ap (λ xs. written acts ++ xs) (acts_are (m + 1) (f + t.fields found.octets) (w + more) later end rest))
 
   -- ---- equal values
 
@@ -102,33 +111,34 @@ module _ (table : Entries) (keep : Bool) where
         copied = λ other. same;
       }
 
-  same_then : (loss : Option Loss) (message : List ℕ) (rest : List (List ℕ)) → (loss ≡ None → SameMigrated message (output_of message)) → AllMigrated rest (map output_of rest)
+  same_then : (loss : Option Loss) (message : List ℕ) (rest until : List (List ℕ)) → (loss ≡ None → SameMigrated message (output_of message))
+      → AreAllOctets (unless_lost loss until) → (AreAllOctets until → AllMigrated rest (map output_of rest))
       → AllMigrated (lost_then loss message rest) (map output_of (lost_then loss message rest))
-  same_then None message rest own later = (own refl, later)
-  same_then (Some loss) message rest own later = tt
+  same_then None message rest until own small later = (own refl, later small)
+  same_then (Some loss) message rest until own small later = tt
 
-  same_chosen : (b : Bool) (loss : Option Loss) (message : List ℕ) (rest : List (List ℕ)) → (b ≡ true → loss ≡ None → SameMigrated message (output_of message))
-      → (b ≡ false → SameMigrated message (output_of message)) → AllMigrated rest (map output_of rest)
+  same_chosen : (b : Bool) (loss : Option Loss) (message : List ℕ) (rest until : List (List ℕ)) → (b ≡ true → loss ≡ None → SameMigrated message (output_of message))
+      → (b ≡ false → SameMigrated message (output_of message)) → AreAllOctets (choose b (λ _. unless_lost loss until) (λ _. until))
+      → (AreAllOctets until → AllMigrated rest (map output_of rest))
       → AllMigrated (choose b (λ _. lost_then loss message rest) (λ _. message ∷ rest)) (map output_of (choose b (λ _. lost_then loss message rest) (λ _. message ∷ rest)))
-  same_chosen true loss message rest first other later = same_then loss message rest (first refl) later
-  same_chosen false loss message rest first other later = (other refl, later)
+  same_chosen true loss message rest until first other small later = same_then loss message rest until (first refl) small later
+  same_chosen false loss message rest until first other small later = (other refl, later small)
 
-  same_all : (founds : List Found) → All IsFound founds → AllMigrated (before_lost table keep founds) (map output_of (before_lost table keep founds))
-  same_all [] all = tt
-  same_all (found ∷ later) all =
-      let own = All-head IsFound found later all in
-      same_chosen (edition found.octets == 1) (first_loss table keep found.octets) found.octets (before_lost table keep later)
-      (λ one none. own_first found.octets one (own.first one) own.are_octets none) (λ not_one. own_other found.octets not_one (own.accepted not_one))
-      (same_all later (All-tail IsFound found later all))
+  same_all : (founds : List Found) → All IsAccepted founds → AreAllOctets (until_lost table keep founds) → AllMigrated (before_lost table keep founds) (map output_of (before_lost table keep founds))
+  same_all [] all small = tt
+  same_all (found ∷ later) all small =
+      let own = All-head IsAccepted found later all in
+      let on : List (List ℕ) = after_found found later in
+      same_chosen (edition found.octets == 1) (first_loss table keep found.octets) found.octets (before_lost table keep later) (until_lost table keep later)
+      (λ one none. own_first found.octets one (own.first one) (All-head AreOctets found.octets on small) none) (λ not_one. own_other found.octets not_one (own.second not_one))
+      (All-tail AreOctets found.octets on small) (λ rest. same_all later (All-tail IsAccepted found later all) rest)
 
-  pub migrated_written : (input : List ℕ) → All (λ octet. octet < 256) input
+  pub migrated_written : (input : List ℕ) → AreAllOctets (until_lost table keep (stream judge (take (2 ^ 40) input)).messages)
       → written (answer_within (2 ^ 40) (task (migrate_command keep table)) input).acts ≡ concat (map output_of (before_lost table keep (stream judge (take (2 ^ 40) input)).messages))
   migrated_written input small =
       let found = stream judge (take (2 ^ 40) input) in
-      ap written (within_acts (task (migrate_command keep table)) (2 ^ 40) input)
-      ∙ acts_are 0 0 0 found.messages found.end (found_all 0 0 0 (take (2 ^ 40) input) (All-take (λ octet. octet < 256) (2 ^ 40) input small))
+      ap written (within_acts (task (migrate_command keep table)) (2 ^ 40) input) ∙ acts_are 0 0 0 found.messages found.end small
 
-  pub migrated_same : (limit : ℕ) (input : List ℕ) → All (λ octet. octet < 256) input
+  pub migrated_same : (limit : ℕ) (input : List ℕ) → AreAllOctets (until_lost table keep (stream judge (take limit input)).messages)
       → AllMigrated (before_lost table keep (stream judge (take limit input)).messages) (map output_of (before_lost table keep (stream judge (take limit input)).messages))
-  migrated_same limit input small =
-      same_all (stream judge (take limit input)).messages (found_all 0 0 0 (take limit input) (All-take (λ octet. octet < 256) limit input small))
+  migrated_same limit input small = same_all (stream judge (take limit input)).messages (accepted_all 0 0 0 (take limit input)) small

@@ -50,8 +50,15 @@ module _ {Output Notes : Type 0} (contents : Output → Option (List ℕ)) (faul
   still_unfinished : (note : List ℕ) → EndsInTurn faults settled notes_contents notes_faults notes_settled note output output_now notes notes_now
       → faults output < faults output_now → Unfinished (notes_settled notes) (notes_settled notes_now)
   still_unfinished note (inl (same, unfinished)) rose = unfinished
-  still_unfinished note (inr (inl (appended, stays, waits))) rose = λ all. left_true (notes_settled notes) (length note == 0) (sym waits ∙ all)
+  still_unfinished note (inr (inl (appended, stays, waits, kept))) rose = λ all. left_true (notes_settled notes) (length note == 0) (sym waits ∙ all)
   still_unfinished note (inr (inr (appended, stays, all))) rose = absurd (omega (arith, stays))
+
+  -- nor is the output
+  output_unfinished : (note : List ℕ) → EndsInTurn faults settled notes_contents notes_faults notes_settled note output output_now notes notes_now
+      → faults output < faults output_now → Unfinished (settled output) (settled output_now)
+  output_unfinished note (inl (same, unfinished)) rose = λ all. sym (ap settled same) ∙ all
+  output_unfinished note (inr (inl (appended, stays, waits, kept))) rose = λ all. sym kept ∙ all
+  output_unfinished note (inr (inr (appended, stays, all))) rose = absurd (omega (arith, stays))
 
   -- with the note of the outcome
   closed_by : (outcome : Outcome) (done note : List ℕ) (result : Outcome) → note ≡ note_with done outcome
@@ -65,6 +72,7 @@ module _ {Output Notes : Type 0} (contents : Output → Option (List ℕ)) (faul
     noted_front = inl (subst (AppendsFront (notes_contents notes) (notes_contents notes_now)) is closed.noted_front);
     settles = closed.settles;
     unfinished = still_unfinished note closed.order;
+    output_unfinished = output_unfinished note closed.order;
   }
 
   pub ends_by : (outcome own : Outcome) (done note : List ℕ) (result : Outcome) → own ≡ outcome → note ≡ note_with done own

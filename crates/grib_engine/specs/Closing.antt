@@ -19,14 +19,15 @@ settled_after before octets = before && (length octets == 0)
 abbrev pub Unfinished : Bool → Bool → Type 0
 Unfinished before now = now ≡ true → before ≡ true
 
--- How far the end of a run came: to the note, with the output as it was and nothing finished; to the output, with the
--- note appended and not finished; or past the output, which is settled.
+-- How far the end of a run came: to the note, with the output as it was and nothing finished; to the output, which was
+-- not finished, with the note appended and not finished; or past the output, which is settled.
 abbrev pub EndsInTurn : {Output Notes : Type 0} → (Output → ℕ) → (Output → Bool) → (Notes → Option (List ℕ)) → (Notes → ℕ) → (Notes → Bool) → List ℕ → Output → Output → Notes → Notes → Type 0
 EndsInTurn faults settled notes_contents notes_faults notes_settled note output output_now notes notes_now =
     ((output_now ≡ output) × Unfinished (notes_settled notes) (notes_settled notes_now))
     ⊎ ((Appends (notes_contents notes) (notes_contents notes_now) note
     × (notes_faults notes_now ≡ notes_faults notes)
-    × (notes_settled notes_now ≡ settled_after (notes_settled notes) note))
+    × (notes_settled notes_now ≡ settled_after (notes_settled notes) note)
+    × (settled output_now ≡ settled output))
     ⊎ (Appends (notes_contents notes) (notes_contents notes_now) note
     × (faults output_now ≡ faults output)
     × (settled output_now ≡ true)))
@@ -43,7 +44,7 @@ pub record ClosesRun {Output Notes : Type 0} (contents : Output → Option (List
   pub order : EndsInTurn faults settled notes_contents notes_faults notes_settled note output output_now notes notes_now
 
 -- A run ends with this outcome, and `done` is noted where it is Done. A fault that comes then is counted, and no other;
--- after a fault of the output the notes are not finished.
+-- after a fault of the output neither the notes nor the output are finished.
 pub record EndsRun {Output Notes : Type 0} (contents : Output → Option (List ℕ)) (faults : Output → ℕ) (settled : Output → Bool) (notes_contents : Notes → Option (List ℕ)) (notes_faults : Notes → ℕ) (notes_settled : Notes → Bool) (outcome : Outcome) (done : List ℕ) (result : Outcome) (output output_now : Output) (notes notes_now : Notes) : Type 0 where
   pub one_of : (result ≡ outcome) ⊎ ((result ≡ WriteFault) ⊎ (result ≡ Memory))
   pub fault : outcome ≢ WriteFault → result ≡ WriteFault → OneCounted (faults output) (faults output_now) (notes_faults notes) (notes_faults notes_now)
@@ -52,3 +53,4 @@ pub record EndsRun {Output Notes : Type 0} (contents : Output → Option (List �
   pub noted_front : NotesFront (notes_contents notes) (notes_contents notes_now) done outcome
   pub settles : is_cut_short result ≡ false → (settled output_now ≡ true) × (notes_settled notes_now ≡ true)
   pub unfinished : faults output < faults output_now → Unfinished (notes_settled notes) (notes_settled notes_now)
+  pub output_unfinished : faults output < faults output_now → Unfinished (settled output) (settled output_now)

@@ -39,11 +39,11 @@ use Rattle.grib_engine.specs.Judging.{judged, judge, fields_of}
 first : (octets : List ℕ) → (edition octets == 1) ≡ true → judge octets ≡ judged (verdict_1 octets)
 first octets is = ap (λ b. choose b (λ _. judged (verdict_1 octets)) (λ _. judged (verdict_2 octets))) is
 
-other : (octets : List ℕ) → (edition octets == 1) ≡ false → judge octets ≡ judged (verdict_2 octets)
+pub other : (octets : List ℕ) → (edition octets == 1) ≡ false → judge octets ≡ judged (verdict_2 octets)
 other octets is = ap (λ b. choose b (λ _. judged (verdict_1 octets)) (λ _. judged (verdict_2 octets))) is
 
 -- an octet that is only stands
-short_edition : (octets : List ℕ) → length octets < 8 → edition octets ≡ 0
+pub short_edition : (octets : List ℕ) → length octets < 8 → edition octets ≡ 0
 short_edition octets short = ap (λ xs. num_on 0 (take 1 xs)) (drop_all 7 octets (omega arith))
 
 pub same_edition : (octets more : List ℕ) → 8 ≤ length octets → edition (octets ++ more) ≡ edition octets
@@ -65,7 +65,7 @@ pub record IsOther (octets : List ℕ) (verdict : Verdict) : Type 0 where
   pub other_edition : (edition octets == 1) ≡ false
   pub verdict_is : verdict_2 octets ≡ verdict
 
-message_of : (v : Verdict) (total : ℕ) → judged v ≡ Message total → v ≡ Accepted total
+pub message_of : (v : Verdict) (total : ℕ) → judged v ≡ Message total → v ≡ Accepted total
 message_of (Accepted n) total is = let e : n ≡ total = cc in ap Accepted e
 message_of (Refused fault) total is = let no : ⊥ = cc in absurd no
 
@@ -118,7 +118,7 @@ there_message octets total is =
 long_message : (octets : List ℕ) (total : ℕ) → judge octets ≡ Message total → 8 ≤ length octets
 long_message octets total is = omega (arith, least_message octets total is, there_message octets total is)
 
-message_stays : (octets more : List ℕ) (total : ℕ) → judge octets ≡ Message total → judge (octets ++ more) ≡ Message total
+pub message_stays : (octets more : List ℕ) (total : ℕ) → judge octets ≡ Message total → judge (octets ++ more) ≡ Message total
 message_stays octets more total is =
     let long = long_message octets total is in
     ⊎_elim
@@ -130,7 +130,7 @@ message_stays octets more total is =
     (message_judged octets total is)
 
 -- a refusal of fewer octets than eight is that of their end
-short_verdict : (octets : List ℕ) → length octets < 8 → verdict_2 octets ≡ Refused (record { octet = length octets + 1; reason = Truncated; detail = length octets })
+pub short_verdict : (octets : List ℕ) → length octets < 8 → verdict_2 octets ≡ Refused (record { octet = length octets + 1; reason = Truncated; detail = length octets })
 short_verdict octets short =
     let first_row : nat_lt (length octets) 8 ≡ true = lt-ltb (length octets) 8 short in
     rw first_row refl

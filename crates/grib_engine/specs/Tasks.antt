@@ -13,11 +13,12 @@ use Rattle.grib_causes.specs.declared.table.TableRefusal.{TableRefusal}
 use Rattle.grib_params.specs.Table.{Entries}
 use Rattle.grib_table.specs.Tabled.{Tabled, Good, Refused, tabled}
 use Rattle.grib_engine.specs.declared.job.Job.{Job}
-use Rattle.grib_engine.specs.declared.job.Job.TheVariants.{Check, List as Listing, Keys, Stats, Dump, Filter, Split, Set, Repack, Rescan, Crop, Migrate, Demote, Make}
+use Rattle.grib_engine.specs.declared.job.Job.TheVariants.{Check, List as Listing, Keys, Stats, Dump, Filter, Split, Set, Repack, RepackLeast, Rescan, Crop, Migrate, Demote, Make, Print}
 use Rattle.grib_engine.specs.Checking.{check_command}
 use Rattle.grib_engine.specs.Command.{Command, task}
 use Rattle.grib_engine.specs.Dumping.{dump_command}
 use Rattle.grib_engine.specs.Filtering.{filter_command}
+use Rattle.grib_engine.specs.Least.{least_command}
 use Rattle.grib_engine.specs.Listing.{list_command}
 use Rattle.grib_engine.specs.Keying.{keys_command}
 use Rattle.grib_engine.specs.Notes.{made_note}
@@ -64,11 +65,13 @@ work_of (Filter conditions) = Reads (filter_command conditions)
 work_of (Split name) = Reads (split_command name)
 work_of (Set changes) = Reads (set_command changes)
 work_of (Repack target) = Reads (repack_command target)
+work_of RepackLeast = Reads least_command
 work_of Rescan = Reads (edit_command edits.Rescan)
 work_of (Crop area) = Reads (edit_command (edits.Crop area))
 work_of (Migrate params keep_local) = ReadsTable params (migrate_command keep_local)
 work_of (Demote params keep_local any_earth) = ReadsTable params (demote_command keep_local any_earth)
 work_of (Make seed ni nj target) = Makes (made_answer seed ni nj target)
+work_of (Print text) = Makes (writing text.now [])
 
 -- what holds of the command of a job that reads its input, by the table where it reads one
 abbrev pub IfReads : Work → Option Entries → (Command → Type 0) → Type 0

@@ -23,6 +23,7 @@ use crate::reading::{Held, first_edition, second_edition};
 use crate::repacking::Repacking;
 use crate::rescanning::Rescanning;
 use crate::setting::Setting;
+use crate::shrinking::Shrinking;
 use crate::splitting::Splitting;
 use crate::summing::Summing;
 use crate::tabling::ByTable;
@@ -136,6 +137,14 @@ pub fn answer_message<T: Sink, H: Shelf>(
                 shelf,
             )
         }
+        Job::RepackLeast => answer_held(
+            &ByOutput(Changing(Shrinking)),
+            alloc,
+            place,
+            held,
+            output,
+            shelf,
+        ),
         Job::Rescan => {
             let edit = GridEdit::Rescan;
             answer_held(
@@ -182,7 +191,7 @@ pub fn answer_message<T: Sink, H: Shelf>(
             }
             None => Answered::Whole(0),
         },
-        Job::Make { .. } => Answered::Whole(0),
+        Job::Make { .. } | Job::Print(_) => Answered::Whole(0),
     }
 }
 

@@ -1,6 +1,9 @@
 //! `check`: a line for each message, and one on the whole input.
 
-ghost use Rattle.std.specs.Prelude.{length};
+ghost use Rattle.std.specs.Prelude.{◌≡◌, ℕ, List, length};
+ghost use Rattle.grib2_sections.specs.Verdict.{Accepted};
+ghost use Rattle.grib2_message.specs.Acceptance.{verdict_2};
+ghost use Rattle.grib2_arrival.specs.Heard.{Heard};
 ghost use Rattle.grib2_message.specs.Fields.{field_count};
 ghost use Rattle.grib_text.specs.Lines as printed_lines;
 ghost use Rattle.grib_engine.specs.Pending.{WritesTo};
@@ -8,11 +11,13 @@ ghost use Rattle.grib_engine.specs.Pending.{WritesTo};
 use crate::answered::{Answered, printed};
 use crate::answerer::Writer;
 use crate::ending::Ending;
+use crate::hearing::Listener;
 use crate::writing::write_whole;
 use grib_io::{Sink, Stop};
 use grib_stream::Place;
 use grib_text::check_line;
 use grib1_sections::Message1;
+use grib2_arrival::Arrival;
 use grib2_message::Message;
 use std::alloc::Global;
 
@@ -55,6 +60,18 @@ impl Writer for Checking {
     }
 }
 
+impl Listener for Checking {
+    fn heard<T: Sink>(
+        &self,
+        alloc: Global,
+        place: &Place,
+        arrival: &Arrival,
+        output: &mut T,
+    ) -> Answered {
+        printed(write_heard(alloc, place, arrival, output))
+    }
+}
+
 /// Writes the line of a message of edition 1.
 fn write_first<T: Sink>(
     alloc: Global,
@@ -90,5 +107,24 @@ fn write_second<T: Sink>(
         total,
         message.fields(),
     )?;
+    write_whole(output, line.as_slice())
+}
+
+/// Writes the line of a message of edition 2 that was heard.
+fn write_heard<T: Sink>(
+    alloc: Global,
+    place: &Place,
+    arrival: &Arrival,
+    output: &mut T,
+) -> Result<(), Stop>
+    requires whole { (octets : List ℕ) × Heard arrival.now octets
+        × (verdict_2 octets ≡ Accepted (length octets)) }
+    ensures { (octets : List ℕ) → Heard arrival.now octets → verdict_2 octets ≡ Accepted (length octets)
+        → WritesTo T.contents T.faults result output.old output.new
+        (printed_lines.check_line place.now.message place.now.before 2 (length octets) (field_count octets)) }
+{
+    let total = arrival.octets();
+    let fields = arrival.fields();
+    let line = check_line(alloc, place.message, place.before, 2, total, fields)?;
     write_whole(output, line.as_slice())
 }

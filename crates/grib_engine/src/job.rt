@@ -35,6 +35,8 @@ pub enum Job {
     Set(Conditions),
     /// Each message with its fields packed anew.
     Repack(RepackTarget),
+    /// Each message with each of its fields in the packing that takes the fewest octets, or as it is.
+    RepackLeast,
     /// Each message with the points of its grids in the order of scanning octet 0.
     Rescan,
     /// Each message with a box of its grids alone.
@@ -63,4 +65,6 @@ pub enum Job {
         nj: u32,
         target: RepackTarget,
     },
+    /// This text. No input is read.
+    Print(&'static str),
 }

@@ -67,7 +67,7 @@ pub(crate) fn serve_made<T: Sink, N: Sink>(
 }
 
 /// Writes these octets, and ends a run with this note.
-fn write_noted<T: Sink, N: Sink>(
+pub(crate) fn write_noted<T: Sink, N: Sink>(
     alloc: Global,
     octets: &[u8],
     note: &[u8],

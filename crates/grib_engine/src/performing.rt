@@ -10,7 +10,7 @@ use crate::counting::counted;
 use crate::reading::read_held;
 use grib_base::ReadFault;
 use grib_io::{Shelf, Sink, Stop};
-use grib_stream::{Kept, Outcome, Performed, Performer, Place, Totals};
+use grib_stream::{Deaf, Kept, Outcome, Performed, Performer, Place, Totals, Whole};
 use grib2_sections::read_head;
 use std::alloc::Global;
 
@@ -24,17 +24,25 @@ pub struct Answering<'a, C> {
 }
 
 impl<C: Answerer> Performer for Answering<'_, C> {
+    ghost use Rattle.std.specs.Prelude.{false};
     ghost use Rattle.grib_engine.specs.Command as commands;
     ghost use Rattle.grib_engine.specs.Judging as judging;
     ghost use Rattle.grib_engine.specs.Lawful as laws;
+    ghost use Rattle.grib_engine.specs.HearingLaws as heard_laws;
+
+    type Hearer = Deaf;
 
     ghost task = { λ answering. commands.task (C.definition answering.answerer.now) };
 
     ghost uses_shelf = { λ answering. (C.definition answering.answerer.now).uses_shelf };
 
+    ghost hears = { λ answering first. false };
+
     ghost stated = { λ answering. judging.stated };
 
     ghost lawful = { λ answering. laws.lawful (C.definition answering.answerer.now) (C.lawful answering.answerer.now) };
+
+    ghost alike = { λ answering. heard_laws.deaf_alike };
 
     /// The stated total length, where it stands.
     fn wanted(&self, octets: &[u8]) -> u64 {
@@ -42,6 +50,15 @@ impl<C: Answerer> Performer for Answering<'_, C> {
             Ok(head) => head.total,
             Err(_) => LEAST,
         }
+    }
+
+    /// No message is heard.
+    fn is_heard(&self, _octets: &[u8]) -> bool {
+        false
+    }
+
+    fn hear(&self, _alloc: Global) -> Deaf {
+        Deaf
     }
 
     fn perform<T: Sink, H: Shelf>(
@@ -67,6 +84,17 @@ impl<C: Answerer> Performer for Answering<'_, C> {
             Answered::ShelfFault => Performed::Ends(Outcome::ShelfFault),
             Answered::Memory => Performed::Ends(Outcome::Memory),
         }
+    }
+
+    /// Nothing was heard, so that nothing is done.
+    fn perform_heard<T: Sink>(
+        &self,
+        _alloc: Global,
+        _place: &Place,
+        _hearer: &Deaf,
+        _output: &mut T,
+    ) -> Result<Whole, Outcome> {
+        Err(Outcome::Memory)
     }
 
     fn finish<T: Sink>(

@@ -6,9 +6,12 @@ ghost use Rattle.grib_io.specs.Shelves.{Stays};
 ghost use Rattle.grib_stream.specs.Acts.{world};
 ghost use Rattle.grib_stream.specs.Outcomes.{is_cut_short};
 ghost use Rattle.grib_stream.specs.Faults.{faults, CountsRun};
+ghost use Rattle.grib_stream.specs.Soon.{RefusesSoon};
 ghost use Rattle.grib_stream.specs.declared.outcome.Outcome.TheVariants.{Done, ReadFault, WriteFault, ShelfFault, Memory};
 ghost use Rattle.grib_engine.specs.Closing.{EndsRun, Unfinished};
 ghost use Rattle.grib_engine.specs.Endings.{ending_note};
+ghost use Rattle.grib_engine.specs.Command.{task};
+ghost use Rattle.grib_engine.specs.Hearing.{IfHears, RefusesInTime, is_second};
 ghost use Rattle.grib_engine.specs.Jobs.{IsJob};
 ghost use Rattle.grib_engine.specs.Serving.{RunsJob, NotesJob, NotesJobFront, RefusedJob, Serves};
 ghost use Rattle.grib_engine.specs.Tasks.{Reads, ReadsTable, work_of, makes, reads_table, uses_shelf};
@@ -20,10 +23,11 @@ use crate::closing::close_with_note;
 use crate::demoting::Demoting;
 use crate::dumping::Dumping;
 use crate::filtering::Filtering;
+use crate::hearing::{Hearing, Listener};
 use crate::job::Job;
 use crate::keying::Keying;
 use crate::listing::Listing;
-use crate::making::serve_made;
+use crate::making::{serve_made, write_noted};
 use crate::migrating::Migrating;
 use crate::name::Name;
 use crate::performing::Answering;
@@ -31,6 +35,7 @@ use crate::printing::Printing;
 use crate::repacking::Repacking;
 use crate::rescanning::Rescanning;
 use crate::setting::Setting;
+use crate::shrinking::Shrinking;
 use crate::splitting::Splitting;
 use crate::summing::Summing;
 use crate::tabling::{ByTable, TableWriter};
@@ -59,6 +64,9 @@ pub fn serve<S: Source, T: Sink, N: Sink, H: Shelf>(
     ensures runs { RunsJob job.now result (S.left input.old) (S.left input.new)
         (world (T.contents output.old) (H.contents shelf.old))
         (world (T.contents output.new) (H.contents shelf.new)) }
+
+    // What is refused by `check` or `list` is refused in time.
+    ensures soon { IfHears job.now (RefusesInTime result (S.left input.old) (S.left input.new)) }
 
     // The notes, and the end of the run.
     ensures noted { is_cut_short result ≡ false
@@ -96,13 +104,14 @@ fn serve_job<S: Source, T: Sink, N: Sink, H: Shelf>(
     shelf: &mut H,
 ) -> Outcome
     requires { IsJob job.now }
-    ensures { Serves S.left S.faults T.contents T.faults T.settled N.contents N.faults N.settled
+    ensures serves { Serves S.left S.faults T.contents T.faults T.settled N.contents N.faults N.settled
         H.contents H.faults (work_of job.now) result input.old input.new output.old output.new
         notes.old notes.new shelf.old shelf.new }
+    ensures soon { IfHears job.now (RefusesInTime result (S.left input.old) (S.left input.new)) }
 {
     match job {
-        Job::Check => serve_messages(&ByOutput(Checking), alloc, input, output, notes, shelf),
-        Job::List => serve_messages(
+        Job::Check => serve_heard(&ByOutput(Checking), alloc, input, output, notes, shelf),
+        Job::List => serve_heard(
             &ByOutput(Printing(Listing)),
             alloc,
             input,
@@ -161,6 +170,14 @@ fn serve_job<S: Source, T: Sink, N: Sink, H: Shelf>(
             let repacking = ByOutput(Changing(Repacking { target }));
             serve_messages(&repacking, alloc, input, output, notes, shelf)
         }
+        Job::RepackLeast => serve_messages(
+            &ByOutput(Changing(Shrinking)),
+            alloc,
+            input,
+            output,
+            notes,
+            shelf,
+        ),
         Job::Rescan => {
             let edit = GridEdit::Rescan;
             let rescanning = ByOutput(Changing(Rescanning { edit }));
@@ -202,6 +219,7 @@ fn serve_job<S: Source, T: Sink, N: Sink, H: Shelf>(
             nj,
             target,
         } => serve_made(alloc, *seed, *ni, *nj, *target, output, notes),
+        Job::Print(text) => write_noted(alloc, text.as_bytes(), b"", output, notes),
     }
 }
 
@@ -252,6 +270,27 @@ fn serve_messages<C: Answerer, S: Source, T: Sink, N: Sink, H: Shelf>(
 {
     let answering = Answering { answerer };
     match answer_within(&answering, alloc, LIMIT, input, output, shelf) {
+        Ok(totals) => close_whole(answerer, alloc, &totals, output, notes),
+        Err(outcome) => close_with_note(alloc, outcome, b"", output, notes),
+    }
+}
+
+/// Answers the messages of the input, those of edition 2 as they are heard, and notes how the run ended.
+fn serve_heard<W: Listener, S: Source, T: Sink, N: Sink, H: Shelf>(
+    answerer: &ByOutput<W>,
+    alloc: Global,
+    input: &mut S,
+    output: &mut T,
+    notes: &mut N,
+    shelf: &mut H,
+) -> Outcome
+    ensures serves { Serves S.left S.faults T.contents T.faults T.settled N.contents N.faults N.settled
+        H.contents H.faults (Reads (W.definition answerer.now.0)) result input.old input.new
+        output.old output.new notes.old notes.new shelf.old shelf.new }
+    ensures soon { RefusesSoon is_second (task (W.definition answerer.now.0)) result (S.left input.old) (S.left input.new) }
+{
+    let hearing = Hearing { answerer };
+    match answer_within(&hearing, alloc, LIMIT, input, output, shelf) {
         Ok(totals) => close_whole(answerer, alloc, &totals, output, notes),
         Err(outcome) => close_with_note(alloc, outcome, b"", output, notes),
     }

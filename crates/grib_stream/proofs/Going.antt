@@ -15,6 +15,7 @@ use Rattle.grib_stream.specs.Task.{Task, IsLawful, Next, Whole, Refuses, Stops, 
 use Rattle.grib_stream.specs.Answer.{Answer, silent, done, after, totals_of, refusal_after, answer_at, answer_of}
 use Rattle.grib_stream.proofs.Worlds.{did_then, did_still, front_more, front_after, did_none}
 use Rattle.grib_stream.proofs.Nexts.{next_here, next_stays, is_final, counted, skipping, answer_by, answer_next, answer_few, message_next}
+use Rattle.grib_stream.proofs.Fronts.{Fronted, front_start, front_passed, front_message, front_read}
 use Rattle.grib_stream.proofs.SoFar.{SoFar, nothing_so_far, so_far_read, so_far_passed, so_far_message, answer_stays}
 
 -- what was done so far is a front of the answer, whatever follows
@@ -124,10 +125,11 @@ pub record Going (task : Task) (limit left : ℕ) (a b : Option (List ℕ)) (bef
   pub counted : length taken + left ≡ limit
   pub did : Did before now acts
   pub so : SoFar task taken acts totals place pending
+  pub front : Fronted task taken totals.messages place pending
 
 pub going_nowhere : (task : Task) (limit : ℕ) (a : Option (List ℕ)) (before : World) → Going task limit limit a a before before (totals_of 0 0 0 0) 0 []
 going_nowhere task limit a before =
-    record { taken = []; acts = []; consumed = Consumes-nil a; counted = omega arith; did = did_none before; so = nothing_so_far task }
+    record { taken = []; acts = []; consumed = Consumes-nil a; counted = omega arith; did = did_none before; so = nothing_so_far task; front = front_start task }
 
 -- octets that begin no message were passed over; the window was shown before and after
 pub going_shown : {task : Task} {limit left : ℕ} {a b : Option (List ℕ)} {before mid : World} {totals : Totals} {place : ℕ} {pending : List ℕ} (n : ℕ) (first next shown : List ℕ)
@@ -143,6 +145,7 @@ going_shown {task} {limit} {left} {a} {b} {before} {mid} {totals} {place} {pendi
       counted = going.counted;
       did = going.did;
       so = subst (SoFar task going.taken going.acts (skipping totals n) (place + n)) same (so_far_passed task going.taken going.acts totals place n pending here going.so);
+      front = subst (Fronted task going.taken totals.messages (place + n)) same (front_passed task going.taken totals.messages place n pending here going.front);
     }
 
 -- a message was answered and passed over
@@ -158,6 +161,8 @@ going_on {task} {limit} {left} {a} {b} {before} {mid} {totals} {place} {shown} l
   did = did_then before mid now going.acts done going.did did;
   so = subst (SoFar task going.taken (going.acts ++ done) (counted totals fields written) (place + total)) (sym passed)
       (so_far_message task lawful going.taken going.acts done totals place total fields written shown begun is going.so);
+  front = subst (Fronted task going.taken (totals.messages + 1) (place + total)) (sym passed)
+      (front_message task lawful going.taken totals.messages place total shown begun (message_next task _ shown total fields written done is).accepted going.front);
 }
 
 -- more was read, and nothing was done
@@ -174,6 +179,8 @@ going_read {task} {limit} {left} {left_now} {a} {b} {c} {before} {mid} {totals} 
       did = did_still before mid now going.acts going.did still;
       so = subst (SoFar task (going.taken ++ gathers.piece) going.acts totals place) grown
           (so_far_read task going.taken going.acts totals place shown gathers.piece going.so);
+      front = subst (Fronted task (going.taken ++ gathers.piece) totals.messages place) grown
+          (front_read task going.taken totals.messages place shown gathers.piece going.front);
     }
 
 pub going_start : (task : Task) (limit : ℕ) (a : Option (List ℕ)) (before : World) (window : List ℕ) → window ≡ []

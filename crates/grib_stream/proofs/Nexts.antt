@@ -78,7 +78,7 @@ pub message_next : (task : Task) (place : Place) (octets : List ℕ) (total fiel
     → next_of task place octets ≡ Whole total fields written acts → IsMessage task place octets total fields written acts
 message_next task place octets total fields written acts is = message_by task place octets total fields written acts (task.judge octets) refl is
 
-refuses_not_given : (g : Given) (total fields : ℕ) (fault : Fault) → next_given g total fields ≡ Refuses fault → ⊥
+pub refuses_not_given : (g : Given) (total fields : ℕ) (fault : Fault) → next_given g total fields ≡ Refuses fault → ⊥
 refuses_not_given (Gives acts written) total fields fault is = cc
 refuses_not_given (Ends outcome) total fields fault is = cc
 

@@ -213,7 +213,7 @@ module _ (task : Task) (alone : StandsAlone task) (before : ℕ) where
 
 -- ---- an input that is cut at the end of a message
 
-joined_input : (task : Task) → IsLawful task → (front rest : List ℕ) → EndsAtMessage task.judge front → Joins task.judge 0 0 0 front rest
+pub joined_input : (task : Task) → IsLawful task → (front rest : List ℕ) → EndsAtMessage task.judge front → Joins task.judge 0 0 0 front rest
 joined_input task lawful front rest ends =
     let e : 0 + 0 ≡ 0 = omega arith in
     let f : length front ≡ 0 + length front = omega arith in

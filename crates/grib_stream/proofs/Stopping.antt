@@ -38,7 +38,7 @@ given_stops task lawful place message (Ends other) total fields outcome is stops
     let same : other ≡ outcome = cc in
     subst (λ o. is_of_message o ≡ true) same (lawful.ends_at_message place message other is)
 
-stops_by : (task : Task) → IsLawful task → (place : Place) (octets : List ℕ) (outcome : Outcome) (j : Judgement) → task.judge octets ≡ j
+pub stops_by : (task : Task) → IsLawful task → (place : Place) (octets : List ℕ) (outcome : Outcome) (j : Judgement) → task.judge octets ≡ j
     → next_of task place octets ≡ Stops outcome → is_of_message outcome ≡ true
 stops_by task lawful place octets outcome (Message total) so stops =
     given_stops task lawful place (take total octets) (task.result place (take total octets)) total (task.fields (take total octets)) outcome refl
@@ -218,6 +218,7 @@ going_still {task} {limit} {left} {a} {b} {before} {mid} {totals} {place} {shown
   counted = going.counted;
   did = did_still before mid now going.acts going.did still;
   so = going.so;
+  front = going.front;
 }
 
 pub reaches_end : {task : Task} {limit left : ℕ} {a c : Option (List ℕ)} {before now : World} {totals : Totals} {place : ℕ} {shown : List ℕ} (lawful : IsLawful task)

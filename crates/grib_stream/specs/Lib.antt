@@ -9,6 +9,9 @@ pub mod Answer
 pub mod Reading
 pub mod Rest
 pub mod Performed
+pub mod Hearing
+pub mod Listening
+pub mod Soon
 pub mod Turning
 pub mod Faults
 pub mod Run

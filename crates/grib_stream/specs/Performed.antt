@@ -1,7 +1,9 @@
 -- What is done for the octets from a `GRIB` on.
-use Rattle.std.specs.Prelude.{◌≡◌, true, false, List, []}
+use Rattle.std.specs.Prelude.{◌≡◌, true, false, List, [], Ok, Err}
+use Rattle.std.specs.declared.result.Result.{Result}
 use Rattle.grib_stream.specs.declared.outcome.Outcome.{Outcome}
 use Rattle.grib_stream.specs.declared.performer.Performed.{Performed}
+use Rattle.grib_stream.specs.declared.performer.Whole.{Whole as AnsweredMessage}
 use Rattle.grib_stream.specs.declared.performer.Performed.TheVariants.{Whole as Answered, Refused, Ends}
 use Rattle.grib_stream.specs.Acts.{Act, World, Did, DidFront}
 use Rattle.grib_stream.specs.Outcomes.{is_cut_within}
@@ -18,3 +20,8 @@ abbrev pub Performs : Next → Performed → World → World → Type 0
 Performs next (Answered message) before now = (acts : List Act) × (next ≡ Whole message.octets message.fields message.written acts) × Did before now acts
 Performs next (Refused fault) before now = (next ≡ Refuses fault) × Did before now []
 Performs next (Ends outcome) before now = EndsWith next outcome before now
+
+-- what came of a message that is known to be one
+abbrev pub performed_of : Result AnsweredMessage Outcome → Performed
+performed_of (Ok message) = Answered message
+performed_of (Err outcome) = Ends outcome

@@ -1,5 +1,5 @@
 -- What is to be done next with the octets that were read.
-use Rattle.std.specs.Prelude.{◌≡◌, ℕ, ◌+◌, ◌<◌, ◌≤◌, ◌⊎◌, true, false, List, [], ◌++◌, length}
+use Rattle.std.specs.Prelude.{◌≡◌, ℕ, ◌+◌, ◌<◌, ◌≤◌, ◌⊎◌, Bool, true, false, List, [], ◌++◌, length, take}
 use Rattle.std.specs.declared.option.Option.{Option}
 use Rattle.std.specs.Prelude.{Some, None, Ok, Err}
 use Rattle.std.specs.declared.result.Result.{Result}
@@ -45,6 +45,16 @@ Turns task place octets (Answered message) before now =
     (begins octets ≡ true) × ((acts : List Act) × (next_of task place octets ≡ Whole message.octets message.fields message.written acts) × Did before now acts)
 Turns task place octets (Wait wait) before now = Awaits task place octets wait.fault wait.wanted × (length octets < wait.wanted) × Did before now []
 Turns task place octets (Ends outcome) before now = (begins octets ≡ true) × EndsTurn (next_of task place octets) place outcome before now
+
+-- the message is heard, or it is held whole and no more than one read asks for, or is not heard
+pub record HearsOrHolds (hears : List ℕ → Bool) (octets : List ℕ) (is_heard : Bool) (wanted : ℕ) : Type 0 where
+  pub heard : is_heard ≡ true → (8 ≤ length octets) × (hears (take 8 octets) ≡ true)
+  pub held : is_heard ≡ false → (wanted ≤ 65536) ⊎ ((8 ≤ length octets) × (hears (take 8 octets) ≡ false))
+
+abbrev pub WaitsSoon : (List ℕ → Bool) → List ℕ → Turn → Type 0
+WaitsSoon hears octets (Answered message) = Unit {0}
+WaitsSoon hears octets (Wait wait) = HearsOrHolds hears octets wait.heard wait.wanted
+WaitsSoon hears octets (Ends outcome) = Unit {0}
 
 -- the end of the input, of which this many octets are left for which nothing was done
 abbrev pub conclusion : Option Fault → Place → Totals → ℕ → Result Totals Outcome

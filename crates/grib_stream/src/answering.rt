@@ -4,6 +4,7 @@ ghost use Rattle.std.specs.Prelude.{◌≡◌, ◌≢◌, ◌≤◌, ◌^◌, fa
 ghost use Rattle.grib_stream.specs.Acts.{world};
 ghost use Rattle.grib_stream.specs.Faults.{faults, CountsOne};
 ghost use Rattle.grib_stream.specs.Run.{Runs, Notes, outcome_of};
+ghost use Rattle.grib_stream.specs.Soon.{RefusesSoon};
 ghost use Rattle.grib_stream.specs.declared.outcome.Outcome.TheVariants.{Done, ShelfFault};
 
 use crate::outcome::Outcome;
@@ -35,6 +36,8 @@ pub fn answer_within<K: Performer, S: Source, T: Sink, H: Shelf>(
     ensures counts { CountsOne (outcome_of result)
         (faults (S.faults input.old) (T.faults output.old) 0 (H.faults shelf.old))
         (faults (S.faults input.new) (T.faults output.new) 0 (H.faults shelf.new)) }
+    ensures soon { RefusesSoon (K.hears performer.now) (K.task performer.now) (outcome_of result)
+        (S.left input.old) (S.left input.new) }
     ensures shelf { K.uses_shelf performer.now ≡ false → shelf.new ≡ shelf.old }
     ensures unshelved { K.uses_shelf performer.now ≡ false → outcome_of result ≢ ShelfFault }
     ensures note { IfOk result (λ totals. Notes (K.task performer.now) limit totals (S.left input.old)) }

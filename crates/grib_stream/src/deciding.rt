@@ -1,16 +1,17 @@
 //! What is to be done next with the octets that were read.
 
-ghost use Rattle.std.specs.Prelude.{◌≡◌, ◌≢◌, ◌≤◌, ◌<◌, ◌^◌, true, false, length};
+ghost use Rattle.std.specs.Prelude.{◌≡◌, ◌≢◌, ◌≤◌, ◌<◌, ◌^◌, true, false, Some, ℕ, List, ◌++◌, length};
 ghost use Rattle.grib_io.specs.Outside.{Counted};
-ghost use Rattle.grib_stream.specs.Stream.{begins};
+ghost use Rattle.grib_stream.specs.Stream.{begins, Message};
 ghost use Rattle.grib_stream.specs.Acts.{world};
-ghost use Rattle.grib_stream.specs.Turning.{Turns};
+ghost use Rattle.grib_stream.specs.Turning.{Turns, WaitsSoon, HearsOrHolds};
 ghost use Rattle.grib_stream.specs.Outcomes as outcomes;
 ghost use Rattle.grib_stream.specs.declared.outcome.Outcome.TheVariants.{WriteFault, ShelfFault};
 
 use crate::outcome::Outcome;
 use crate::performer::{Performed, Performer, Whole};
 use crate::place::Place;
+use crate::window::READ;
 use grib_base::{Fault, Reason, Refusal};
 use grib_io::{Shelf, Sink};
 use std::alloc::Global;
@@ -22,6 +23,8 @@ pub(crate) struct Wait {
     pub fault: Option<Fault>,
     /// How many there have to be before it makes sense to look again.
     pub wanted: u64,
+    /// Whether the message that begins with them is heard.
+    pub heard: bool,
 }
 
 /// What was done with the octets that were read.
@@ -51,6 +54,7 @@ pub(crate) fn decide<K: Performer, T: Sink, H: Shelf>(
     ensures turns { Turns (K.task performer.now) place.now octets.now result
         (world (T.contents output.old) (H.contents shelf.old))
         (world (T.contents output.new) (H.contents shelf.new)) }
+    ensures waits { WaitsSoon (K.hears performer.now) octets.now result }
     ensures write_fault { result ≡ Turn.Ends WriteFault
         → Counted (T.faults output.old) (T.faults output.new) }
     ensures write_calm { result ≢ Turn.Ends WriteFault → T.faults output.new ≡ T.faults output.old }
@@ -64,23 +68,46 @@ pub(crate) fn decide<K: Performer, T: Sink, H: Shelf>(
         return Turn::Wait(Wait {
             fault: None,
             wanted: 4,
+            heard: false,
         });
     }
     match performer.perform(alloc, place, octets, output, shelf) {
         Performed::Whole(message) => Turn::Message(message),
         Performed::Refused(fault) if is_truncated(&fault) => {
-            let stated = performer.wanted(octets);
-            let wanted = stated.max(octets.len() as u64 + 1);
-            Turn::Wait(Wait {
-                fault: Some(fault),
-                wanted,
-            })
+            Turn::Wait(wait_for(performer, octets, fault))
         }
         Performed::Refused(fault) => Turn::Ends(Outcome::Refused(Refusal {
             message: place.message,
             fault,
         })),
         Performed::Ends(outcome) => Turn::Ends(outcome),
+    }
+}
+
+/// What is to be waited for where octets are refused for their end alone. A message is heard where more octets
+/// are wanted than one read asks for; eight octets show whether it may be.
+fn wait_for<K: Performer>(performer: &K, octets: &[u8], fault: Fault) -> Wait
+    requires begun { begins octets.now ≡ true }
+    ensures fault { result.fault ≡ Some fault }
+    ensures more { length octets.now < result.wanted }
+    ensures no_shorter { (more : List ℕ) (total : ℕ) → (K.task performer.now).judge (octets.now ++ more) ≡ Message total
+        → length octets.now < total → result.wanted ≤ total }
+    ensures heard { HearsOrHolds (K.hears performer.now) octets.now result.heard result.wanted }
+{
+    let stated = performer.wanted(octets);
+    let more = octets.len() as u64 + 1;
+    if octets.len() < 8 {
+        return Wait {
+            fault: Some(fault),
+            wanted: stated.min(8).max(more),
+            heard: false,
+        };
+    }
+    let wanted = stated.max(more);
+    Wait {
+        fault: Some(fault),
+        wanted,
+        heard: wanted > READ as u64 && performer.is_heard(octets),
     }
 }
 

@@ -1,10 +1,11 @@
 //! The octets that a message still wants are read.
 
-ghost use Rattle.std.specs.Prelude.{◌≡◌, ◌<◌, ◌≤◌, ◌+◌, max, length, IfOk, OnErr};
+ghost use Rattle.std.specs.Prelude.{◌≡◌, ◌<◌, ◌≤◌, ◌+◌, ◌⊎◌, max, length, IfOk, OnErr};
 ghost use Rattle.grib_io.specs.Outside.{CountsStops};
-ghost use Rattle.grib_stream.specs.Reading.{Gathers};
+ghost use Rattle.grib_stream.specs.Reading.{Gathers, Probes};
 ghost use Rattle.grib_stream.specs.Rest.{Stands};
 
+use crate::outcome::Outcome;
 use crate::window::{READ, Window};
 use grib_io::{Source, Stop};
 
@@ -33,6 +34,7 @@ pub(crate) fn gather<S: Source>(
         left.old left.new }
     ensures stands { IfOk result
         (λ rest. Stands rest wanted (length window.new.octets) left.new (S.left input.new)) }
+    ensures fewer { IfOk result (λ rest. (rest ≡ Rest.Open) ⊎ (length window.new.octets < wanted)) }
     ensures few { OnErr result (length window.new.octets < wanted) }
     ensures short { length window.new.octets ≤ max wanted 65536 }
     ensures room { window.new.room ≤ max window.old.room (wanted + 65536) }
@@ -60,4 +62,16 @@ fn room_for(wanted: usize, there: usize) -> usize
     ensures short { there + result ≤ max wanted 65536 }
 {
     (wanted.max(READ) - there).min(READ)
+}
+
+/// Takes one octet more than is answered, which shows whether the input is too long.
+pub(crate) fn probe<S: Source>(input: &mut S) -> Result<(), Outcome>
+    ensures { Probes result (S.left input.old) (S.left input.new) (S.faults input.old) (S.faults input.new) }
+{
+    let mut octet = [0u8; 1];
+    match input.read(&mut octet) {
+        Ok(0) => Ok(()),
+        Ok(_) => Err(Outcome::InputTooLong),
+        Err(_) => Err(Outcome::ReadFault),
+    }
 }

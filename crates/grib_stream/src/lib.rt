@@ -5,7 +5,9 @@
 mod answering;
 mod deciding;
 mod gathering;
+mod hearing;
 pub mod laws;
+mod listening;
 mod outcome;
 mod performer;
 mod place;
@@ -15,6 +17,7 @@ mod window;
 
 pub use answering::{LIMIT, answer_within};
 pub use grib_causes::{Cause, Kept, Loss, TableRefusal};
+pub use hearing::{Deaf, HearStop, Hearer};
 pub use outcome::Outcome;
 pub use performer::{Performed, Performer, Whole};
 pub use place::{Place, Totals};

@@ -1,16 +1,17 @@
 //! What answers the messages of an input.
 
-ghost use Rattle.std.specs.Prelude.{◌≡◌, ◌≢◌, ℕ, ◌≤◌, ◌<◌, ◌+◌, ◌^◌, Bool, true, false, Option, List, [], ◌++◌, length, OnOk, OnErr, IfErr};
+ghost use Rattle.std.specs.Prelude.{◌≡◌, ◌≢◌, ℕ, ◌≤◌, ◌<◌, ◌+◌, ◌^◌, Bool, true, false, Option, List, [], ◌++◌, length, take, Err, OnOk, OnErr, IfErr};
 ghost use Rattle.grib_io.specs.Outside.{Counted};
 ghost use Rattle.grib_io.specs.Shelves.{Held};
 ghost use Rattle.grib_stream.specs.Stream.{begins, Message};
 ghost use Rattle.grib_stream.specs.Acts.{world, Did, DidFront};
 ghost use Rattle.grib_stream.specs.Task.{Task, IsLawful, next_of};
 ghost use Rattle.grib_stream.specs.Outcomes.{is_cut_short};
-ghost use Rattle.grib_stream.specs.Performed.{Performs};
+ghost use Rattle.grib_stream.specs.Performed.{Performs, performed_of};
 ghost use Rattle.grib_stream.specs.declared.performer.Performed.TheVariants.{Ends};
 ghost use Rattle.grib_stream.specs.declared.outcome.Outcome.TheVariants.{WriteFault, ShelfFault};
 
+use crate::hearing::Hearer;
 use crate::outcome::Outcome;
 use crate::place::{Place, Totals};
 use grib_base::Fault;
@@ -40,13 +41,19 @@ pub enum Performed {
 /// Answers the messages of an input, one after another. What is to be done is a `Task`, which a run knows
 /// only as far as its laws go.
 pub trait Performer {
-    ghost use Rattle.grib_stream.specs.Performed.{Performs};
+    ghost use Rattle.grib_stream.specs.Performed.{Performs, performed_of};
+
+    /// What hears the messages that are heard.
+    type Hearer: Hearer;
 
     /// What is to be done.
     ghost task: { Self → Task };
 
     /// Whether the shelf is used. Else it stays as it is, and the run does not end with its fault.
     ghost uses_shelf: { Self → Bool };
+
+    /// Whether a message that begins with these eight octets is heard, so that it need not be held whole.
+    ghost hears: { Self → List ℕ → Bool };
 
     /// The length that octets from a `GRIB` on state, as far as it stands in them.
     ghost stated: { Self → List ℕ → ℕ };
@@ -58,6 +65,15 @@ pub trait Performer {
         ensures stated { stated self.now octets.now ≤ result }
         ensures least { (more : List ℕ) (total : ℕ) → (task self.now).judge (octets.now ++ more) ≡ Message total
             → result ≤ total };
+
+    /// Whether the message that begins with these octets is heard, of which there are eight at least.
+    fn is_heard(&self, octets: &[u8]) -> bool
+        requires { 8 ≤ length octets.now }
+        ensures { result ≡ hears self.now (take 8 octets.now) };
+
+    /// What is to hear a message, and has heard nothing yet.
+    fn hear(&self, alloc: Global) -> Self::Hearer
+        ensures { Self.Hearer.heard result [] };
 
     /// Answers the message that these octets begin with, which begin with `GRIB`.
     fn perform<T: Sink, H: Shelf>(
@@ -84,6 +100,28 @@ pub trait Performer {
         ensures shelf { uses_shelf self.now ≡ false → shelf.new ≡ shelf.old }
         ensures unshelved { uses_shelf self.now ≡ false → result ≢ Ends ShelfFault };
 
+    /// Answers a message that was heard whole, by the output alone.
+    fn perform_heard<T: Sink>(
+        &self,
+        alloc: Global,
+        place: &Place,
+        hearer: &Self::Hearer,
+        output: &mut T,
+    ) -> Result<Whole, Outcome>
+        requires whole { (octets : List ℕ) × Self.Hearer.heard hearer.now octets
+            × (Self.Hearer.judge octets ≡ Message (length octets)) }
+        requires message { place.now.message ≤ 2 ^ 41 }
+        requires before { place.now.before ≤ 2 ^ 41 }
+        requires fields { place.now.fields ≤ 2 ^ 41 }
+        ensures performs { (octets more : List ℕ) (names : Option Held) → Self.Hearer.heard hearer.now octets
+            → hears self.now (take 8 (octets ++ more)) ≡ true → (task self.now).judge octets ≡ Message (length octets)
+            → Performs (next_of (task self.now) place.now octets) (performed_of result)
+            (world (T.contents output.old) names) (world (T.contents output.new) names) }
+        ensures write_fault { result ≡ Err WriteFault
+            → Counted (T.faults output.old) (T.faults output.new) }
+        ensures write_calm { result ≢ Err WriteFault → T.faults output.new ≡ T.faults output.old }
+        ensures unshelved { result ≢ Err ShelfFault };
+
     /// Does what is to be done at the end of the input, by the output alone.
     fn finish<T: Sink>(&self, alloc: Global, totals: &Totals, output: &mut T) -> Result<(), Outcome>
         ensures done { OnOk result ((names : Option Held) → Did (world (T.contents output.old) names)
@@ -98,4 +136,8 @@ pub trait Performer {
         ensures calm { OnOk result (T.faults output.new ≡ T.faults output.old) };
 
     ghost lawful: { (performer : Self) → IsLawful (task performer) };
+
+    /// Of a message that is heard, the hearer judges each front as the task does.
+    ghost alike: { (performer : Self) (octets more : List ℕ) → hears performer (take 8 (octets ++ more)) ≡ true
+        → (Self.Hearer.hears (take 8 (octets ++ more)) ≡ true) × ((task performer).judge octets ≡ Self.Hearer.judge octets) };
 }

@@ -3,7 +3,9 @@
 ghost use Rattle.std.specs.Prelude.{◌≡◌, ◌≢◌, ◌≤◌, ◌<◌, ◌^◌, ◌+◌, ◌⊎◌, max, true, false, length, IfOk, IfErr, OnOk, OnErr};
 ghost use Rattle.grib_io.specs.Outside.{Counted};
 ghost use Rattle.grib_stream.specs.Acts.{world};
-ghost use Rattle.grib_stream.specs.Reading.{Gathers, Probes};
+ghost use Rattle.grib_stream.specs.Answer.{totals_of};
+ghost use Rattle.grib_stream.specs.Soon.{RefusesSoon};
+ghost use Rattle.grib_stream.specs.Reading.{Gathers};
 ghost use Rattle.grib_stream.specs.Turning.{conclusion};
 ghost use Rattle.grib_stream.specs.Rest.{Stands};
 ghost use Rattle.grib_stream.specs.Run.{Reaches, outcome_of};
@@ -11,9 +13,10 @@ ghost use Rattle.grib_stream.specs.Faults.{faults};
 ghost use Rattle.grib_stream.specs.declared.outcome.Outcome.TheVariants.{ReadFault, ShelfFault, Memory};
 
 use crate::deciding::{Turn, Wait, decide};
-use crate::gathering::{Rest, gather};
+use crate::gathering::{Rest, gather, probe};
+use crate::listening::answer_heard;
 use crate::outcome::Outcome;
-use crate::performer::Performer;
+use crate::performer::{Performer, Whole};
 use crate::place::{Place, Totals};
 use crate::searching::octets_before_mark;
 use crate::window::Window;
@@ -38,6 +41,8 @@ pub(crate) fn answer_messages<K: Performer, S: Source, T: Sink, H: Shelf>(
         (world (T.contents output.new) (H.contents shelf.new))
         (faults (S.faults input.old) (T.faults output.old) 0 (H.faults shelf.old))
         (faults (S.faults input.new) (T.faults output.new) 0 (H.faults shelf.new)) }
+    ensures soon { RefusesSoon (K.hears performer.now) (K.task performer.now) (outcome_of result)
+        (S.left input.old) (S.left input.new) }
     ensures shelf { K.uses_shelf performer.now ≡ false → shelf.new ≡ shelf.old }
     ensures unshelved { K.uses_shelf performer.now ≡ false → outcome_of result ≢ ShelfFault }
 {
@@ -65,15 +70,27 @@ pub(crate) fn answer_messages<K: Performer, S: Source, T: Sink, H: Shelf>(
             Turn::Message(message) => {
                 window.pass(message.octets as usize);
                 place += message.octets;
-                totals.messages += 1;
-                totals.fields += message.fields;
-                totals.written += message.written;
+                count(&mut totals, &message);
                 continue 'messages;
             }
             Turn::Wait(wait) => wait,
             Turn::Ends(outcome) => return Err(outcome),
         };
         rest = match rest {
+            Rest::Open if wait.heard => {
+                let message = answer_heard(
+                    performer,
+                    alloc,
+                    &here,
+                    &mut window,
+                    input,
+                    output,
+                    &mut left,
+                )?;
+                place += message.octets;
+                count(&mut totals, &message);
+                continue 'messages;
+            }
             Rest::Open => read_on(&mut window, input, &wait, &mut left)?,
             Rest::Full => {
                 probe(input)?;
@@ -82,6 +99,19 @@ pub(crate) fn answer_messages<K: Performer, S: Source, T: Sink, H: Shelf>(
             Rest::Ended => return conclude(&wait, &here, &totals, window.len()),
         };
     }
+}
+
+/// Counts a message that was answered.
+fn count(totals: &mut Totals, message: &Whole)
+    requires messages { totals.old.messages + 1 < 2 ^ 64 }
+    requires fields { totals.old.fields + message.now.fields < 2 ^ 64 }
+    requires written { totals.old.written + message.now.written < 2 ^ 64 }
+    ensures { totals.new ≡ totals_of (totals.old.messages + 1) (totals.old.fields + message.now.fields)
+        totals.old.skipped (totals.old.written + message.now.written) }
+{
+    totals.messages += 1;
+    totals.fields += message.fields;
+    totals.written += message.written;
 }
 
 /// Reads as much as is wanted, as far as the input goes and as much may be taken.
@@ -110,18 +140,6 @@ fn read_on<S: Source>(
         Ok(rest) => Ok(rest),
         Err(Stop::Failed) => Err(Outcome::ReadFault),
         Err(Stop::Memory) => Err(Outcome::Memory),
-    }
-}
-
-/// Takes one octet more than is answered, which shows whether the input is too long.
-fn probe<S: Source>(input: &mut S) -> Result<(), Outcome>
-    ensures { Probes result (S.left input.old) (S.left input.new) (S.faults input.old) (S.faults input.new) }
-{
-    let mut octet = [0u8; 1];
-    match input.read(&mut octet) {
-        Ok(0) => Ok(()),
-        Ok(_) => Err(Outcome::InputTooLong),
-        Err(_) => Err(Outcome::ReadFault),
     }
 }
 

@@ -64,6 +64,32 @@ fn fields_are_packed_anew(rt: HostRuntime) -> Result<(), Fail> {
 }
 
 #[test]
+fn each_field_is_written_in_the_fewest_octets(rt: HostRuntime) -> Result<(), Fail> {
+    let alloc = rt.alloc();
+    // Simple packing takes 36 octets in Sections 5 to 7 here, and the others 64 and more.
+    assert!(rt; gives(alloc, "repack to=least", &PLAIN, &PLAIN)?);
+    let line = [0, 0, 0, 9, 7, 0x0a, 0x0c, 0x0f, 0x13];
+    let line = message(alloc, 183, 4, &[&simple(4, 8), &NO_BITMAP, &line])?;
+    let line_packed = [0, 0, 0, 9, 7, 0x0a, 0x0c, 1, 0x0c];
+    let line_packed = message(
+        alloc,
+        211,
+        4,
+        &[&spatial(4, 0, 1, 0, 4, 2), &NO_BITMAP, &line_packed],
+    )?;
+    // Its greatest number is 19, of five bits.
+    let line_short = [0, 0, 0, 8, 7, 0x53, 0x1f, 0x30];
+    let line_short = message(alloc, 182, 4, &[&simple(4, 5), &NO_BITMAP, &line_short])?;
+    let words = "repack to=least";
+    assert!(rt; gives(alloc, words, line.as_slice(), line_short.as_slice())?);
+    assert!(rt; gives(alloc, words, line_packed.as_slice(), line_short.as_slice())?);
+    // What simple packing cannot tell keeps its form, in which it has the fewest octets.
+    let own = differences(alloc)?;
+    assert!(rt; gives(alloc, "repack to=least", own.as_slice(), own.as_slice())?);
+    Ok(())
+}
+
+#[test]
 fn points_that_are_left_out_are_packed_anew(rt: HostRuntime) -> Result<(), Fail> {
     let alloc = rt.alloc();
     let mask = [0, 0, 0, 7, 6, 0, 0xa0];

@@ -5,6 +5,8 @@
 #[cfg(test)]
 mod editions;
 #[cfg(test)]
+mod heard;
+#[cfg(test)]
 mod runs;
 #[cfg(test)]
 mod valued;

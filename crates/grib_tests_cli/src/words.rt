@@ -25,18 +25,19 @@ fn command_of(asked: &Result<Job, JobFault>) -> &'static str {
         Ok(Job::Filter(_)) => "filter",
         Ok(Job::Split(_)) => "split",
         Ok(Job::Set(_)) => "set",
-        Ok(Job::Repack(_)) => "repack",
+        Ok(Job::Repack(_) | Job::RepackLeast) => "repack",
         Ok(Job::Migrate { .. }) => "migrate",
         Ok(Job::Demote { .. }) => "demote",
         Ok(Job::Rescan) => "rescan",
         Ok(Job::Crop(_)) => "crop",
         Ok(Job::Make { .. }) => "make",
+        Ok(Job::Print(_)) => "print",
         Err(_) => "",
     }
 }
 
 // Lines that are read, each as the command that its first word names.
-const READ: [&str; 48] = [
+const READ: [&str; 49] = [
     // Each command has its name.
     "check",
     "list",
@@ -77,6 +78,7 @@ const READ: [&str; 48] = [
     "repack to=3 order=1",
     "repack to=3 order=2",
     "repack order=2 to=3",
+    "repack to=least",
     // `migrate` takes a table, and may keep local octets.
     "migrate params=t",
     "migrate params=t local=keep",
@@ -99,7 +101,7 @@ const READ: [&str; 48] = [
 ];
 
 // Lines that are not, with the place of the first word that is not read.
-const UNREAD: [(u64, &str); 128] = [
+const UNREAD: [(u64, &str); 131] = [
     // Others have none.
     (0, ""),
     (0, "Check"),
@@ -240,6 +242,9 @@ const UNREAD: [(u64, &str); 128] = [
     (5, "make seed=1 ni=2 nj=2 order=1"),
     (5, "make seed=1 ni=2 nj=2 to=0 seed=1"),
     (6, "make seed=1 ni=2 nj=2 to=0 order=1"),
+    (3, "repack to=least order=1"),
+    (1, "repack to=least to=0"),
+    (4, "make seed=1 ni=2 nj=2 to=least"),
 ];
 
 #[test]

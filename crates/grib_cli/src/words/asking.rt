@@ -34,7 +34,7 @@ pub(super) fn job_of_command(
         Command::Filter => Ok(Job::Filter(Conditions::of(conditions_of(alloc, words)?))),
         Command::Split => Ok(Job::Split(name_by(alloc, words, "out")?)),
         Command::Set => Ok(Job::Set(Conditions::of(conditions_of(alloc, words)?))),
-        Command::Repack => Ok(Job::Repack(target_of(words))),
+        Command::Repack => Ok(repack_of(words)),
         Command::Make => Ok(Job::Make {
             seed: number_by(words, "seed"),
             ni: number_by(words, "ni"),
@@ -80,6 +80,21 @@ fn name_by(alloc: Global, words: &[String], name: &str) -> Result<Name, AllocErr
     ensures { IfOk result (λ found. found ≡ grammar.value_of name.now (map string_bytes words.now)) }
 {
     Ok(Name::of(String::from_str(alloc, value_of(words, name))?))
+}
+
+/// The job of `repack` with these words.
+fn repack_of(words: &[String]) -> Job
+    requires { is (codes "least") (grammar.value_of (codes "to") (map string_bytes words.now)) ≡ false
+        → is (codes "0") (grammar.value_of (codes "to") (map string_bytes words.now)) ≡ false
+        → is (codes "2") (grammar.value_of (codes "to") (map string_bytes words.now)) ≡ false
+        → is_between 1 2 (grammar.value_of (codes "order") (map string_bytes words.now)) ≡ true }
+    ensures { result ≡ asked.repack_of (map string_bytes words.now) }
+{
+    if value_of(words, "to") == "least" {
+        Job::RepackLeast
+    } else {
+        Job::Repack(target_of(words))
+    }
 }
 
 /// What the words ask fields to be packed to.

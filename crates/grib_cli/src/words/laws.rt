@@ -20,6 +20,8 @@ pub fn unread_lines()
     ensures name_again { reading (codes "repack" ∷ codes "to=0" ∷ codes "to=0" ∷ []) ≡ Err 2 }
     ensures order_needed { reading (codes "repack" ∷ codes "to=3" ∷ []) ≡ Err 2 }
     ensures order_too_many { reading (codes "repack" ∷ codes "order=1" ∷ codes "to=2" ∷ []) ≡ Err 3 }
+    ensures least_of_order { reading (codes "repack" ∷ codes "to=least" ∷ codes "order=1" ∷ []) ≡ Err 3 }
+    ensures least_made { reading (codes "make" ∷ codes "to=least" ∷ []) ≡ Err 1 }
     ensures fixed_key { reading (codes "set" ∷ codes "year=2025" ∷ codes "points=3" ∷ []) ≡ Err 2 }
     ensures too_small { reading (codes "filter" ∷ codes "la1=-9223372036854775809" ∷ []) ≡ Err 1 }
     ensures one_earth { reading (codes "demote" ∷ codes "params=t" ∷ codes "earth=2" ∷ []) ≡ Err 2 }
@@ -29,6 +31,7 @@ pub fn unread_lines()
 pub fn read_lines()
     ensures order { reading (codes "repack" ∷ codes "order=2" ∷ codes "to=3" ∷ []) ≡ Ok Repack }
     ensures equals { reading (codes "migrate" ∷ codes "params==" ∷ codes "local=keep" ∷ []) ≡ Ok Migrate }
+    ensures least { reading (codes "repack" ∷ codes "to=least" ∷ []) ≡ Ok Repack }
     ensures demotion { reading (codes "demote" ∷ codes "earth=any" ∷ codes "params=t" ∷ []) ≡ Ok Demote }
 {}
 

@@ -5,7 +5,8 @@ use Rattle.grib_stream.specs.Stream.{stream}
 use Rattle.grib_engine.specs.Same.{before_kept}
 use Rattle.grib_engine.specs.Judging.{judge}
 use Rattle.grib_engine.proofs.Answers.{target_stands}
-use Rattle.grib_engine.proofs.Keeping.{written_are, same_messages}
+use Rattle.grib_engine.proofs.Keeping.{written_are}
+use Rattle.grib_engine.proofs.OfOctets.{octets_same}
 use Rattle.grib_engine.proofs.laws.what_is_answered_keeps_each_value.Goals as goal
 
 pub returns : goal.returns
@@ -14,6 +15,7 @@ returns c =
     λ target input is small. record {
       outputs = map (repacked (target_of target)) (before_kept (target_of target) (stream judge (take (2 ^ 40) input)).messages);
       written_stands = written_are target input;
-      same = same_messages (target_of target) (2 ^ 40) input (target_stands target is) small
-          (λ message may. record { accepted = law.accepted _ message may; fields = law.fields _ message may; points = law.meanings _ message may });
+      same = octets_same (target_of target) (target_stands target is)
+          (λ message may. record { accepted = law.accepted _ message may; fields = law.fields _ message may; points = law.meanings _ message may })
+          (2 ^ 40) input small;
     }

@@ -27,4 +27,5 @@ returns-in-Err-Failed-clause-ends g c = record {
   noted_front = front_at_fault _ _ c.args.note.now c.close_with_note-in-Err-Failed.ensures.ends.noted_front;
   settles = search rules;
   unfinished = search rules;
+  output_unfinished = search rules;
 }

@@ -2,6 +2,7 @@ use Rattle.std.proofs.Common.{◌≡◌, ◌+◌, ◌*◌, false, length}
 use Rattle.grib_stream.specs.Acts.{world}
 use Rattle.grib_stream.specs.Rest.{Stands, turns_left}
 use Rattle.grib_stream.proofs.Going.{Going}
+use Rattle.grib_stream.proofs.Promptly.{Short}
 use Rattle.grib_stream.proofs.running.answer_messages.Given as goal
 
 abbrev pub invariant-messages : goal.invariant-messages
@@ -11,6 +12,7 @@ invariant-messages g l =
     let names = g.H.Shelf.contents in
     record {
       going : Going (g.K.Performer.task l.performer) l.limit l.left (left l.fn.input) (left l.input) (world (held l.fn.output) (names l.fn.shelf)) (world (held l.output) (names l.shelf)) l.totals l.place l.window.octets;
+      short : Short (g.K.Performer.hears l.performer) (g.K.Performer.task l.performer).judge l.window.octets;
       stands : Stands l.rest 0 0 l.left (left l.input);
       read_calm : g.S.Source.faults l.input ≡ g.S.Source.faults l.fn.input;
       write_calm : g.T.Sink.faults l.output ≡ g.T.Sink.faults l.fn.output;

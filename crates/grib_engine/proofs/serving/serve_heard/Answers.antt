@@ -1,0 +1,54 @@
+use Rattle.std.proofs.Common.{◌^◌, rules}
+use Rattle.std.proofs.lemmas.Bool.{false≢true}
+use Rattle.grib_stream.proofs.Exits.{runs_to_the_end}
+use Rattle.grib_stream.proofs.Worlds.{did_keep}
+use Rattle.grib_stream.specs.declared.outcome.Outcome.TheVariants.{Done}
+use Rattle.grib_engine.proofs.HeardMessages.{soon_kept, done_soon}
+use Rattle.grib_engine.proofs.Noted.{keeps_or_cuts, front_ended, no_shelf_fault}
+use Rattle.grib_engine.proofs.serving.serve_heard.Goals as goal
+
+pub returns-in-Ok-clause-serves : goal.returns-in-Ok-clause-serves
+returns-in-Ok-clause-serves g c = record {
+  runs = runs_to_the_end _ _ Done c.close_whole.result _ _ _ _ _ c.in-Ok.ensures.runs (did_keep _ _ _ c.close_whole.ensures.output_kept)
+      (keeps_or_cuts Done c.close_whole.result c.close_whole.ensures.ends.one_of);
+  noted = search rules;
+  noted_front = search rules;
+  settles = search rules;
+  unfinished = search rules;
+  counts = search rules;
+  made_input = λ no. absurd (false≢true no);
+  made = λ no. absurd (false≢true no);
+  shelf_stays = search rules;
+  unshelved = λ off. no_shelf_fault Done c.close_whole.result c.close_whole.ensures.ends.one_of (λ e. cc);
+  refused_input = tt;
+  shelf_kept = λ no. absurd (false≢true no);
+}
+
+pub returns-in-Ok-clause-soon : goal.returns-in-Ok-clause-soon
+returns-in-Ok-clause-soon g c =
+    soon_kept (g.W.Writer.definition c.args.answerer.now.0) Done c.close_whole.result _ _ (keeps_or_cuts Done c.close_whole.result c.close_whole.ensures.ends.one_of)
+    (done_soon (g.W.Writer.definition c.args.answerer.now.0) _ _)
+
+pub returns-in-Err-clause-serves : goal.returns-in-Err-clause-serves
+returns-in-Err-clause-serves g c = record {
+  runs = runs_to_the_end _ _ c.in-Err.outcome c.close_with_note.result _ _ _ _ _ c.in-Err.ensures.runs (did_keep _ _ _ c.close_with_note.ensures.output_kept)
+      (keeps_or_cuts c.in-Err.outcome c.close_with_note.result c.close_with_note.ensures.ends.one_of);
+  noted = search rules;
+  noted_front =
+      front_ended _ _ _ _ (2 ^ 40) (g.W.Writer.definition c.args.answerer.now.0) c.in-Err.outcome _ _ _ _ _ _ _ c.in-Err.ensures.runs c.in-Err.ensures.not_done c.in-Err.ensures.counts.read
+      c.in-Err.ensures.counts.shelf c.close_with_note.ensures.ends.noted_front;
+  settles = search rules;
+  unfinished = search rules;
+  counts = search rules;
+  made_input = λ no. absurd (false≢true no);
+  made = λ no. absurd (false≢true no);
+  shelf_stays = search rules;
+  unshelved = λ off. no_shelf_fault c.in-Err.outcome c.close_with_note.result c.close_with_note.ensures.ends.one_of (c.in-Err.ensures.unshelved off);
+  refused_input = tt;
+  shelf_kept = λ no. absurd (false≢true no);
+}
+
+pub returns-in-Err-clause-soon : goal.returns-in-Err-clause-soon
+returns-in-Err-clause-soon g c =
+    soon_kept (g.W.Writer.definition c.args.answerer.now.0) c.in-Err.outcome c.close_with_note.result _ _
+    (keeps_or_cuts c.in-Err.outcome c.close_with_note.result c.close_with_note.ensures.ends.one_of) c.in-Err.ensures.soon

@@ -1,0 +1,65 @@
+//! What hears a message: judges it as its octets come.
+
+ghost use Rattle.std.specs.Prelude.{◌≤◌, ℕ, Bool, List, length};
+ghost use Rattle.grib_stream.specs.Stream.{Judgement};
+ghost use Rattle.grib_stream.specs.Hearing.{CanHear, Hears, Cuts};
+
+use grib_base::Fault;
+
+/// Why no more octets are heard.
+#[derive(Clone, Copy, Debug, PartialEq, Eq)]
+pub enum HearStop {
+    /// They are refused, whatever follows.
+    Refused(Fault),
+    /// There is no memory.
+    Memory,
+}
+
+/// Judges one message as its octets come, one piece after another.
+pub trait Hearer: Drop {
+    ghost use Rattle.grib_stream.specs.Hearing.{CanHear, Hears, Cuts};
+
+    /// What octets are.
+    ghost judge: { List ℕ → Judgement };
+
+    /// Whether a message that begins with these eight octets can be heard.
+    ghost hears: { List ℕ → Bool };
+
+    /// What was heard.
+    ghost heard: { Self → List ℕ → Type 0 };
+
+    /// Hears a piece behind what was heard, up to the end of the message. It is refused exactly where it
+    /// makes the octets refused whatever follows.
+    fn push(&mut self, piece: &[u8]) -> Result<usize, HearStop>
+        requires { CanHear judge hears (heard self.old) piece.now }
+        ensures { Hears judge (heard self.old) (heard self.new) piece.now result };
+
+    /// Nothing where the message is whole, and else why it is refused where the input ends here.
+    fn cut(&self) -> Option<Fault>
+        requires { (octets : List ℕ) × heard self.now octets × (4 ≤ length octets) }
+        ensures { (octets : List ℕ) → heard self.now octets → 4 ≤ length octets
+            → Cuts (judge octets) (length octets) result };
+}
+
+/// Stands where nothing is heard. To it any octets are a message, once there are four.
+#[derive(Clone, Copy, Debug, PartialEq, Eq)]
+pub struct Deaf;
+
+impl Hearer for Deaf {
+    ghost use Rattle.std.specs.Prelude.{true};
+    ghost use Rattle.grib_stream.specs.Hearing.{judged_deaf};
+
+    ghost judge = { judged_deaf };
+
+    ghost hears = { λ first. true };
+
+    ghost heard = { λ deaf octets. Unit {0} };
+
+    fn push(&mut self, piece: &[u8]) -> Result<usize, HearStop> {
+        Ok(piece.len())
+    }
+
+    fn cut(&self) -> Option<Fault> {
+        None
+    }
+}
