@@ -1,0 +1,100 @@
+//! Lines of many messages and fields.
+
+use crate::messages::{Area, LARGE, SMALL, five_times, message, ran};
+use grib_engine::Outcome;
+use std::alloc::{AllocError, Global};
+use std::test::Fail;
+
+const HOURS: [u8; 5] = [6, 7, 8, 9, 10];
+
+const REFERENCE: &str = "reference -949*2^-3 binary -3 decimal 1\n";
+
+// The list lines of a message with this number, each with a text behind it.
+fn add_lines(
+    alloc: Global,
+    lines: &mut Vec<u8>,
+    number: u32,
+    points: u32,
+    behind: &[u8],
+) -> Result<(), AllocError> {
+    for (before, ahead) in HOURS.iter().enumerate() {
+        let field = before.saturating_add(1);
+        let line = format!(in alloc;
+            "{number}.{field} ed=2 centre=98 time=2024-01-15T12:00:00 grid=3.0 points={points} product=4.0 param=0.0.0 unit=1 ahead={ahead} surface=103:0:2 packing=5.0 bits=8 values={points}\n"
+        )?;
+        lines.extend_from_slice(line.as_bytes())?;
+        lines.extend_from_slice(behind)?;
+    }
+    Ok(())
+}
+
+// The list lines of five messages, each with a text behind it.
+fn lines(alloc: Global, points: u32, behind: &[u8]) -> Result<Vec<u8>, AllocError> {
+    let mut lines = Vec::new(alloc);
+    for number in 1..6u32 {
+        add_lines(alloc, &mut lines, number, points, behind)?;
+    }
+    Ok(lines)
+}
+
+// The reference line of a field and the lines of its points.
+fn points(alloc: Global, area: Area) -> Result<Vec<u8>, AllocError> {
+    let mut lines = REFERENCE.as_bytes().to_vec(alloc)?;
+    for (before, number) in area.numbers(alloc)?.iter().enumerate() {
+        let place = before.saturating_add(1);
+        let line = format!(in alloc; "{place} {number}\n")?;
+        lines.extend_from_slice(line.as_bytes())?;
+    }
+    Ok(lines)
+}
+
+#[test]
+fn large_messages_are_checked(rt: HostRuntime) -> Result<(), Fail> {
+    // Sections 0, 1 and 3, five times Sections 4 to 7 of 34, 21, 6 and 120,005 octets, and the end.
+    let octets = five_times(rt.alloc(), message(rt.alloc(), LARGE, &HOURS)?.as_slice())?;
+    let lines = "message 1 at 0 edition 2 octets 600443 fields 5\n\
+                 message 2 at 600443 edition 2 octets 600443 fields 5\n\
+                 message 3 at 1200886 edition 2 octets 600443 fields 5\n\
+                 message 4 at 1801329 edition 2 octets 600443 fields 5\n\
+                 message 5 at 2401772 edition 2 octets 600443 fields 5\n\
+                 messages 5 fields 25 skipped 0\n";
+    let checked = ran(rt.alloc(), "check", octets.as_slice())?;
+    assert!(rt; checked.is(Outcome::Done, lines, ""));
+    Ok(())
+}
+
+#[test]
+fn fields_of_large_messages_are_listed(rt: HostRuntime) -> Result<(), Fail> {
+    let octets = five_times(rt.alloc(), message(rt.alloc(), LARGE, &HOURS)?.as_slice())?;
+    let lines = lines(rt.alloc(), 120_000, b"")?;
+    let listed = ran(rt.alloc(), "list", octets.as_slice())?;
+    assert!(rt; listed.gave(Outcome::Done, lines.as_slice(), ""));
+    Ok(())
+}
+
+#[test]
+fn points_of_many_fields_are_dumped(rt: HostRuntime) -> Result<(), Fail> {
+    let octets = five_times(rt.alloc(), message(rt.alloc(), SMALL, &HOURS)?.as_slice())?;
+    let points = points(rt.alloc(), SMALL)?;
+    let lines = lines(rt.alloc(), 6_000, points.as_slice())?;
+    let dumped = ran(rt.alloc(), "dump", octets.as_slice())?;
+    assert!(rt; dumped.gave(Outcome::Done, lines.as_slice(), ""));
+    Ok(())
+}
+
+#[test]
+fn many_fields_are_summed_up(rt: HostRuntime) -> Result<(), Fail> {
+    // The first of the numbers is 0. The first 250 is that of column 215: 7 times 215 is 250 more than five times 251.
+    let octets = five_times(rt.alloc(), message(rt.alloc(), LARGE, &HOURS)?.as_slice())?;
+    let mut lines = Vec::new(rt.alloc());
+    for number in 0..25u32 {
+        let (message, field) = (number / 5 + 1, number % 5 + 1);
+        let line = format!(in rt.alloc();
+            "{message}.{field} present 120000 missing 0 missing2 0 least 0 at 1 greatest 250 at 216\n{REFERENCE}"
+        )?;
+        lines.extend_from_slice(line.as_bytes())?;
+    }
+    let summed = ran(rt.alloc(), "stats", octets.as_slice())?;
+    assert!(rt; summed.gave(Outcome::Done, lines.as_slice(), ""));
+    Ok(())
+}
