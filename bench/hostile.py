@@ -390,7 +390,7 @@ def command_of(draw, has, pool):
     if name == "split":
         return ["split", draw.choice(("out=shelf/part",) * 9 + ("out=absent/part",))]
     if name == "repack":
-        return ["repack"] + draw.choice((["to=0"], ["to=2"], ["to=3", "order=1"], ["order=2", "to=3"]))
+        return ["repack"] + draw.choice((["to=0"], ["to=2"], ["to=3", "order=1"], ["order=2", "to=3"]) + ((["to=least"],) if "least" in has else ()))
     if name == "crop":
         i0, j0 = draw.choice((0, 0, 1)), draw.choice((0, 0, 2))
         return ["crop", f"i0={i0}", f"i1={i0 + draw.choice((0, 1, 9))}", f"j0={j0}", f"j1={j0 + draw.choice((0, 1, 9))}"]
@@ -412,7 +412,7 @@ def commands_of(program):
     try:
         has = {"check", "list", "dump", "filter", "split", "set", "repack", "make", "words"}
         for name, words in (("stats", ["stats"]), ("rescan", ["rescan"]), ("crop", ["crop", "i0=0", "i1=0", "j0=0", "j1=0"]),
-                            ("decimals", ["dump", "decimals=2"]), ("migrate", ["migrate", f"params={top}/params/standard.csv"]), ("keys", ["keys"]), ("help", ["help"]),
+                            ("decimals", ["dump", "decimals=2"]), ("migrate", ["migrate", f"params={top}/params/standard.csv"]), ("keys", ["keys"]), ("help", ["help"]), ("least", ["repack", "to=least"]),
                             ("demote", ["demote", f"params={top}/params/standard.csv"])):
             if runner.run(words, b"").status == 0:
                 has.add(name)
@@ -635,6 +635,9 @@ def hold_written(runner, words, data, plain, accepted, parts):
         wanted = b"".join(with_keys(words, one) for one in messages)
         hold(output == wanted or any(KEYS[key][1] is None for key, _ in conditions(words)), "set wrote other octets", words)
         hold(runner.run(words, output).output == output, "set of its output is another")
+    if words[1:] == ["to=least"]:
+        hold(plain.status != 3 or b"EditionOne" in plain.note, "to=least kept a message", plain.note)
+        hold(all(new[1] <= old[1] for new, old in zip(written, accepted)), "to=least made a message longer")
     if name == "repack":
         hold(column_lines(runner.run(["dump"], output).output) == column_lines(runner.run(["dump"], source).output), "repack changed a value", words)
         hold(runner.run(words, output).output == output, "repack of its output is another", words)

@@ -4,8 +4,10 @@
 Wants grib_filter and grib_set of ecCodes (Debian: libeccodes-tools). Each message is handed over by itself.
 What PROGRAM writes by `repack` to each target that can hold it has to print the same points and reference values
 by `dump` as the message, before and after it is packed back to the template that it came from; and ecCodes has to
-read the same values from it. Prints for each file what agrees, what cannot be kept by its cause, what differs, and
-how many octets all messages have in each packing, with those that ecCodes itself writes."""
+read the same values from it. With `to=least` no message may have more octets than it had, and written again it has
+to stay as it is; how many are longer than in some target is printed (fields that share a bitmap may be). Prints for
+each file what agrees, what cannot be kept by its cause, what differs, and how many octets all messages have in each
+packing, with those that ecCodes itself writes."""
 import collections
 import subprocess
 import sys
@@ -13,7 +15,7 @@ import tempfile
 
 from messages import messages
 
-TARGETS = ["to=0", "to=2", "to=3 order=1", "to=3 order=2"]
+TARGETS = ["to=0", "to=2", "to=3 order=1", "to=3 order=2", "to=least"]
 PACKINGS = ["grid_simple", "grid_complex", "grid_complex_spatial_differencing"]
 
 
@@ -57,12 +59,18 @@ def main():
             for packing in PACKINGS:
                 own = run(["grib_set", "-r", "-s", "packingType=" + packing, "-", "/dev/stdout"], message)
                 sizes[packing + " by ecCodes"] += len(own.stdout)
+            shortest = len(message)
             for target in TARGETS:
                 packed = run([program, "repack"] + target.split(), message)
                 if packed.returncode != 0:
                     counts[target + " " + packed.stderr.decode().split()[3]] += 1
                     continue
                 sizes[target] += len(packed.stdout)
+                if target == "to=least":
+                    counts["LONGER THAN IT WAS (DIFFER)"] += len(packed.stdout) > len(message)
+                    counts["longer than a target"] += len(packed.stdout) > shortest
+                    counts["DIFFER when written again"] += run([program, "repack", target], packed.stdout).stdout != packed.stdout
+                shortest = min(shortest, len(packed.stdout))
                 back = run([program, "repack"] + home.split(), packed.stdout)
                 counts["packed"] += 1
                 counts["DIFFER"] += values(program, packed.stdout) != before
