@@ -243,7 +243,7 @@ const UNREAD: [(u64, &str); 131] = [
     (5, "make seed=1 ni=2 nj=2 to=0 seed=1"),
     (6, "make seed=1 ni=2 nj=2 to=0 order=1"),
     (3, "repack to=least order=1"),
-    (1, "repack to=least to=0"),
+    (2, "repack to=least to=0"),
     (4, "make seed=1 ni=2 nj=2 to=least"),
 ];
 
