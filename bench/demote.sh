@@ -20,6 +20,9 @@ compare() { # WHAT FILE ROUNDS
   local message=$work/$2
   ours() { "$grib" demote params=table local=keep earth=any <"$message" >ours.grib1; }
   theirs() { grib_set -s edition=1 "$message" theirs.grib1; }
+  # ecCodes turns simple packing alone into edition 1.
+  [[ $2 == plain || $2 == many ]] ||
+    theirs() { grib_set -r -s packingType=grid_simple "$message" simple.grib2 && grib_set -s edition=1 simple.grib2 theirs.grib1; }
   ours || fail "$1: $("$grib" demote params=table local=keep earth=any <"$message" 2>&1 >/dev/null)"
   ratio "$1" "$3"
 }
