@@ -5,7 +5,8 @@
 
 Inputs are messages of the files, of docs/PROFILE.md and of `make`, many of them damaged as bench/hostile.py damages
 them. Each is cut at random places, and its pieces are written into a pipe, one as soon as the one before was taken. So
-the program reads just these pieces, down to single octets. Output, note and status have to be those of the file. `runs`
+the program reads just these pieces, down to single octets. One input in twenty is of messages of more than 65,536 octets,
+which `check` and `list` judge as they come. Output, note and status have to be those of the file. `runs`
 counts the inputs that come in pieces. Each difference is a line. Wants Python 3.8 and Linux."""
 import fcntl
 import multiprocessing
@@ -17,7 +18,7 @@ import sys
 import termios
 import time
 
-from hostile import pool_of, stream_of
+from hostile import messages_of, pool_of, stream_of
 
 MOST_PIECES = 400
 
@@ -74,14 +75,27 @@ def whole_answer(program, word, data):
     return ran.stdout, ran.stderr, ran.returncode
 
 
+def long_pool(program, paths):
+    """Messages that are longer than one read: some of the files, and some that are made."""
+    found = []
+    for path in paths:
+        with open(path, "rb") as file:
+            long = [one for one in messages_of(file.read()) if 65_536 < len(one) <= 400_000]
+        found += long[::max(len(long) // 4, 1)][:4]
+    for target in (["to=0"], ["to=2"], ["to=3", "order=1"], ["to=3", "order=2"]):
+        found.append(subprocess.run([program, "make", "seed=5", "ni=400", "nj=300", *target], capture_output=True).stdout)
+    return found
+
+
 def work(given):
     """The inputs of one process: how many came in pieces, how many pieces these were, and how many differed."""
     program, pool, seed, first, runs = given
     draw = random.Random(f"{seed} {first}")
     done = count = differ = 0
     while done < runs:
-        data = stream_of(draw, pool)
-        if len(data) > 60_000 and draw.random() < 0.9:
+        is_long = draw.random() < 0.05
+        data = stream_of(draw, pool[is_long])
+        if not is_long and len(data) > 60_000 and draw.random() < 0.9:
             continue
         word = draw.choice(("check", "list"))
         wanted = whole_answer(program, word, data)
@@ -104,7 +118,7 @@ def main():
     if len(paths) < 2:
         sys.exit(__doc__)
     program, jobs = os.path.abspath(paths[0]), int(options["jobs"])
-    pool, begun = pool_of(program, paths[1:]), time.monotonic()
+    pool, begun = (pool_of(program, paths[1:]), long_pool(program, paths[1:])), time.monotonic()
     given = [(program, pool, options["seed"], first, int(options["runs"]) // jobs) for first in range(jobs)]
     with multiprocessing.Pool(jobs) as processes:
         done, count, differ = map(sum, zip(*processes.map(work, given, chunksize=1)))
