@@ -39,11 +39,12 @@ CAUSES = {
     "filter": ["EditionOne"], "split": ["EditionOne"], "set": ["EditionOne", r"KeyRange \w+", r"KeyAbsent \w+ field \d+"],
     "repack": ["EditionOne", r"SecondaryMissing field \d+ point \d+", r"OutOfRange field \d+ point \d+",
                r"DifferenceRange field \d+", r"OutputTooLong \d+"],
-    "migrate": ["Loss " + LOSSES], "demote": [rf"Demotion ({DEMOTIONS} field \d+|{NUMBERED} \d+ field \d+)"], "dump": [r"DecimalRange field \d+ point \d+"],
+    "migrate": ["Loss " + LOSSES], "demote": [rf"Demotion ({DEMOTIONS} field \d+|{NUMBERED} \d+ field \d+)"],
+    "dump": [r"DecimalRange field \d+ point \d+"],
 }
 CAUSES["rescan"] = CAUSES["crop"] = CAUSES["repack"] + [r"(GridKind|ScanMode|OutsideBox|Increments) field \d+"]
+TARGETS = (["to=0"], ["to=2"], ["to=3", "order=1"], ["to=3", "order=2"])
 COPIES = ("filter", "split", "set", "repack", "migrate", "demote", "rescan", "crop")
-ALONE = ("make", "help", "version")  # commands that read no input
 FAULTS = {5: "read fault", 6: "", 7: "shelf fault", 8: "memory", 9: "input too long"}
 
 Run = collections.namedtuple("Run", "status output note octets seconds")
@@ -380,7 +381,7 @@ def wrong_words(draw):
 def command_of(draw, has, pool):
     """The words of a command, one that has a reading in most cases."""
     name = draw.choice([one for one in ("check", "list", "dump", "filter", "filter", "split", "set", "set", "repack", "repack", "repack",
-                                        "make", "stats", "keys", "rescan", "crop", "migrate", "demote", "demote", "decimals", "help", "words") if one in has])
+                                        "make", "stats", "keys", "rescan", "crop", "migrate", "demote", "demote", "decimals", "words") if one in has])
     if name == "decimals":
         return ["dump", f"decimals={draw.choice((0, 1, 2, 3, 7, 18))}"]
     if name == "filter":
@@ -398,11 +399,9 @@ def command_of(draw, has, pool):
         return ["migrate", f"params={top}/params/standard.csv"] + draw.choice(([], ["local=keep"]))
     if name == "demote":
         return ["demote", f"params={top}/params/standard.csv"] + draw.choice(([], ["local=keep"], ["earth=any"], ["earth=any", "local=keep"]))
-    if name == "help":
-        return draw.choice((["help"], ["version"]))
     if name == "make":
         return ["make", f"seed={draw.getrandbits(31)}", f"ni={draw.randint(1, 40)}", f"nj={draw.randint(1, 40)}"] + \
-            draw.choice((["to=0"], ["to=2"], ["to=3", "order=1"], ["to=3", "order=2"]))
+            draw.choice(TARGETS)
     return wrong_words(draw) if name == "words" else [name]
 
 
@@ -412,8 +411,8 @@ def commands_of(program):
     try:
         has = {"check", "list", "dump", "filter", "split", "set", "repack", "make", "words"}
         for name, words in (("stats", ["stats"]), ("rescan", ["rescan"]), ("crop", ["crop", "i0=0", "i1=0", "j0=0", "j1=0"]),
-                            ("decimals", ["dump", "decimals=2"]), ("migrate", ["migrate", f"params={top}/params/standard.csv"]), ("keys", ["keys"]), ("help", ["help"]), ("least", ["repack", "to=least"]),
-                            ("demote", ["demote", f"params={top}/params/standard.csv"])):
+                            ("decimals", ["dump", "decimals=2"]), ("migrate", ["migrate", f"params={top}/params/standard.csv"]), ("keys", ["keys"]),
+                            ("least", ["repack", "to=least"]), ("demote", ["demote", f"params={top}/params/standard.csv"])):
             if runner.run(words, b"").status == 0:
                 has.add(name)
         return has
@@ -464,7 +463,7 @@ def hold_note(words, plain, checked, accepted, written):
     """The plain run: its status and its note belong together."""
     name, fields = words[0] if words else "", sum(one[3] for one in accepted)
     if plain.status == 0:
-        hold(checked.status == 0 or name in ALONE, "answered what check refuses")
+        hold(checked.status == 0 or name == "make", "answered what check refuses")
         wanted = b""
         if name in COPIES:
             wanted = b"messages %d fields %d written %d\n" % (len(accepted), fields, written)
@@ -503,6 +502,11 @@ def hold_bounds(words, data, run, points):
 def column_lines(dumped):
     """The reference and point lines of a dump."""
     return [line for line in lines_of(dumped) if " ed=" not in line]
+
+
+def columns(runner, octets):
+    """The reference and point lines that `dump` prints of messages."""
+    return column_lines(runner.run(["dump"], octets).output)
 
 
 def value_text(reference, x, places):
@@ -626,7 +630,7 @@ def hold_written(runner, words, data, plain, accepted, parts):
         hold(len(parts) == sum(one[3] for one in accepted[:count]) == len(written), "split wrote other files")
         if all(one[3] == 1 for one in accepted[:count]):
             hold(output == source, "the parts are not the messages")
-        hold(column_lines(runner.run(["dump"], output).output) == column_lines(runner.run(["dump"], source).output), "split changed a value")
+        hold(columns(runner, output) == columns(runner, source), "split changed a value")
     if name == "filter":
         hold_picked(words, messages, output, written)
         hold(runner.run(words, output).output == output, "filter of its output is another")
@@ -639,27 +643,26 @@ def hold_written(runner, words, data, plain, accepted, parts):
         hold(plain.status != 3 or b"EditionOne" in plain.note, "to=least kept a message", plain.note)
         hold(all(new[1] <= old[1] for new, old in zip(written, accepted)), "to=least made a message longer")
     if name == "repack":
-        hold(column_lines(runner.run(["dump"], output).output) == column_lines(runner.run(["dump"], source).output), "repack changed a value", words)
+        hold(columns(runner, output) == columns(runner, source), "repack changed a value", words)
         hold(runner.run(words, output).output == output, "repack of its output is another", words)
         simple, there = runner.run(["repack", "to=0"], source), runner.run(["repack", "to=0"], output)
         hold((there.status, there.output) == (simple.status, simple.output), "repack there and back is not repack once", words)
     if name == "rescan":
         hold(runner.run(words, output).output == output, "rescan twice is not rescan once")
     if name == "demote":
-        hold(column_lines(runner.run(["dump"], output).output) == column_lines(runner.run(["dump"], source).output), "demote changed a value")
+        demoted = columns(runner, output)
+        hold(demoted == columns(runner, source), "demote changed a value")
         hold(runner.run(words, output).output == output, "demote of its output is another")
         back = runner.run(["migrate", words[1]] + [word for word in words[2:] if word == "local=keep"], output)
-        hold(column_lines(runner.run(["dump"], back.output).output) == column_lines(runner.run(["dump"], output).output) or back.status == 3,
-             "demote and migrate changed a value", back.status)
+        hold(columns(runner, back.output) == demoted or back.status == 3, "demote and migrate changed a value", back.status)
         hold(back.status == 0 or any(one[2] == 1 for one in accepted[:count]), "what was demoted does not migrate", back.note)
     if name == "migrate":
-        old, new = lines_of(runner.run(["dump"], source).output), lines_of(runner.run(["dump"], output).output)
-        hold([line for line in old if " ed=" not in line] == [line for line in new if " ed=" not in line], "migrate changed a value")
+        hold(columns(runner, output) == columns(runner, source), "migrate changed a value")
 
 
 def hold_way(words, data, plain, other, way, parts, other_parts):
     """A run in another way answers as the plain one, or says what failed, with a front of the output."""
-    if way in ("directory", "closed input") and words and words[0] not in ALONE and plain.status != 1:
+    if way in ("directory", "closed input") and words and words[0] != "make" and plain.status != 1:
         hold((other.status, other.output, other.note) == (5, b"", b"read fault\n"), "a directory", words, other.status, other.note)
         return
     same = (other.status, other.note) == (plain.status, plain.note)
@@ -807,7 +810,7 @@ def pool_of(program, files):
     runner = Runner(program)
     try:
         for ni, nj in ((1, 1), (7, 3), (40, 30)):
-            for target in (["to=0"], ["to=2"], ["to=3", "order=1"], ["to=3", "order=2"]):
+            for target in TARGETS:
                 pool.append(runner.run(["make", "seed=5", f"ni={ni}", f"nj={nj}", *target], b"").output)
         noted = [runner.run(["check"], one).note.split()[5:6] for one in pool]
     finally:

@@ -18,7 +18,7 @@ import sys
 import termios
 import time
 
-from hostile import messages_of, pool_of, stream_of
+from hostile import TARGETS, messages_of, pool_of, stream_of
 
 MOST_PIECES = 400
 
@@ -82,7 +82,7 @@ def long_pool(program, paths):
         with open(path, "rb") as file:
             long = [one for one in messages_of(file.read()) if 65_536 < len(one) <= 400_000]
         found += long[::max(len(long) // 4, 1)][:4]
-    for target in (["to=0"], ["to=2"], ["to=3", "order=1"], ["to=3", "order=2"]):
+    for target in TARGETS:
         found.append(subprocess.run([program, "make", "seed=5", "ni=400", "nj=300", *target], capture_output=True).stdout)
     return found
 

@@ -1,9 +1,6 @@
 /* Refuses one call for memory: the one whose number REFUSED_CALL says, counted from 1. At the end it writes to the file
    REFUSED_FILE how many calls there were. Loaded by LD_PRELOAD; `bench/refused.py` makes and uses it. */
-#define _GNU_SOURCE
-#include <dlfcn.h>
 #include <errno.h>
-#include <stddef.h>
 #include <stdio.h>
 #include <stdlib.h>
 

@@ -15,8 +15,7 @@ import subprocess
 import sys
 import tempfile
 
-sys.path.insert(0, os.path.dirname(os.path.abspath(__file__)))
-from hostile import top, worked_messages  # noqa: E402
+from hostile import TARGETS, top, worked_messages
 
 
 class Refuser:
@@ -57,17 +56,16 @@ def wrong_in(whole, status, output, note, files):
 def inputs(refuser):
     """Streams of messages by what they are for."""
     worked = worked_messages()
-    made = [refuser.run(["make", "seed=3", "ni=90", "nj=70", *target], b"", 0)[1]
-            for target in (["to=0"], ["to=2"], ["to=3", "order=1"], ["to=3", "order=2"])]
+    made = [refuser.run(["make", "seed=3", "ni=90", "nj=70", *target], b"", 0)[1] for target in TARGETS]
     return [b"".join(worked), b"".join(one for one in worked if one[7] == 2), b"".join(made), made[0] + made[3][:4000]]
 
 
 def commands():
     table = f"params={top}/params/standard.csv"
     return [["check"], ["list"], ["keys"], ["stats"], ["dump"], ["dump", "decimals=3"], ["filter", "centre=98"], ["filter", "surface1=103", "year=2024"],
-            ["split", "out=shelf/part"], ["set", "centre=7", "year=2025"], ["repack", "to=0"], ["repack", "to=2"], ["repack", "to=3", "order=1"],
-            ["repack", "to=3", "order=2"], ["rescan"], ["crop", "i0=0", "i1=0", "j0=0", "j1=0"], ["migrate", table], ["demote", table, "earth=any"],
-            ["make", "seed=1", "ni=50", "nj=40", "to=2"], ["help"], ["version"], ["repack", "to=1"]]
+            ["split", "out=shelf/part"], ["set", "centre=7", "year=2025"], *(["repack", *target] for target in TARGETS),
+            ["repack", "to=least"], ["rescan"], ["crop", "i0=0", "i1=0", "j0=0", "j1=0"], ["migrate", table], ["demote", table, "earth=any"],
+            ["make", "seed=1", "ni=50", "nj=40", "to=2"], ["repack", "to=1"]]
 
 
 def main():
