@@ -4,36 +4,12 @@
 use grib_bits::u8_at;
 use grib_migrate::{Loss, MigrateFault, migrate};
 use grib_params::Table;
-use grib_samples::{FIRST_EDITION as PLAIN, MASKED, REDUCED, between, edited};
+use grib_samples::{
+    ALL_LOST, FIRST_EDITION as PLAIN, MASKED, MIGRATED, REDUCED, TABLE, between, edited,
+};
 use grib1_sections::read_message1;
 use std::alloc::{AllocError, Global};
 use std::test::Fail;
-
-/// The parameter of the messages is temperature.
-pub(crate) const TABLE: &[u8] = b"98,2,11,0,0,0,2,0\n";
-
-/// What the plain message becomes.
-pub(crate) const MIGRATED: &[u8] = b"GRIB\0\0\0\x02\0\0\0\0\0\0\0\xb7\
-\0\0\0\x15\x01\0\x62\0\0\x02\0\x01\x07\xe8\x01\x0f\x0c\0\0\xff\xff\
-\0\0\0\x48\x03\0\0\0\0\x04\0\0\0\0\0\xff\xff\xff\xff\xff\xff\xff\xff\xff\xff\xff\xff\xff\xff\xff\
-\0\0\0\x02\0\0\0\x02\0\0\0\0\xff\xff\xff\xff\x02\xfa\xf0\x80\0\x98\x96\x80\x30\x02\xeb\xae\x40\
-\0\xa7\xd8\xc0\0\x0f\x42\x40\0\x0f\x42\x40\0\
-\0\0\0\x22\x04\0\0\0\0\0\0\x02\xff\x01\xff\xff\xff\x01\0\0\0\x06\x64\0\0\0\xc3\x50\
-\xff\xff\xff\xff\xff\xff\
-\0\0\0\x15\x05\0\0\0\x04\0\0\xc2\xed\x40\0\x80\x03\0\x01\x08\0\
-\0\0\0\x06\x06\xff\
-\0\0\0\x09\x07\0\x01\x02\xff\
-7777";
-
-/// A message of which everything is lost that can be: its parameter, its level, its unit, its time range, its
-/// day, its count, octets for local use, a flag, La1, its one vertical coordinate and its reference value.
-pub(crate) const ALL_LOST: &[u8] = b"GRIB\0\0\x78\x01\
-\0\0\x34\x02\x62\x01\xff\x80\x0c\x14\x01\xf4\x18\x01\x20\x0c\0\x03\x06\0\x02\0\x02\0\x15\0\0\x01\
-\0\0\0\0\0\0\0\0\0\0\0\0abcdefghijkl\
-\0\0\x28\x01\x21\x04\xff\xff\0\x02\x20\xc4\x9c\0\x27\x10\x10\0\xbf\x68\0\x2a\xf8\xff\xff\0\x01\0\0\0\0\0\
-\x61\x10\0\0\0\x01\0\x03\
-\0\0\x10\x08\x80\x03\x61\x10\0\0\x08\0\x01\x02\xff\0\
-7777";
 
 /// What a message becomes, or its first loss; no memory stands for one that is not accepted.
 fn migrated(alloc: Global, octets: &[u8], keep_local: bool) -> Result<Vec<u8>, MigrateFault> {

@@ -2,13 +2,13 @@
 
 ghost use Rattle.std.specs.Prelude.{◌≤◌, ◌^◌};
 
-use crate::worked::{PLAIN, TWO_FIELDS};
 use grib_base::{Fault, Reason, Refusal};
 use grib_engine::{
     Answering, ByOutput, Cause, Checking, Job, Kept, Outcome, Totals, close, close_with_note, serve,
 };
 use grib_io::{CalmSink, CalmSource, MemoryShelf, MemorySink, MemorySource, Sink};
 use grib_keys::Key;
+use grib_samples::{PLAIN, TWO_FIELDS};
 use grib_stream::answer_within;
 use std::alloc::{AllocError, Global};
 use std::test::Fail;

@@ -1,21 +1,5 @@
-//! Tests of the crates that read, change and print whole messages, and of the runs of a job, over their
-//! public calls alone, a module for each crate. Expected values are from outside, worked by hand or made by
-//! another program.
+//! Tests of the runs of a job: in any pieces, to the limit of an input, and where a device fails.
 #![tactic(auto)]
 
 #[cfg(test)]
-mod edition1;
-#[cfg(test)]
 mod engine;
-#[cfg(test)]
-mod made;
-#[cfg(test)]
-mod message;
-#[cfg(test)]
-mod repack;
-#[cfg(test)]
-mod select;
-#[cfg(test)]
-mod text;
-#[cfg(test)]
-mod worked;

@@ -4,10 +4,10 @@ ghost use Rattle.std.specs.Prelude.{◌≡◌, true, IfOk};
 ghost use Rattle.grib_keys.specs.Keys.{can_set};
 ghost use Rattle.grib_engine.specs.Jobs.{IsJob};
 
-use crate::worked::{PLAIN, TWO_FIELDS, edited};
 use grib_base::List;
 use grib_engine::{Cause, Condition, Job, Kept, Key, Outcome, Value, serve};
 use grib_io::{CalmSink, CalmSource, MemoryShelf};
+use grib_samples::{PLAIN, TWO_FIELDS, edited};
 use std::alloc::{AllocError, Global};
 use std::test::Fail;
 

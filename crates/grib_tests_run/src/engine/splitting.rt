@@ -1,10 +1,10 @@
 //! Fields on a shelf in memory.
 
 use super::stream;
-use crate::worked::{PLAIN, TWO_FIELDS};
 use grib_base::{Fault, Reason, Refusal};
 use grib_engine::{Job, Name, Outcome, serve};
 use grib_io::{CalmSink, CalmSource, MemoryShelf};
+use grib_samples::{PLAIN, TWO_FIELDS};
 use std::alloc::{AllocError, Global};
 use std::process::Abort;
 use std::test::Fail;

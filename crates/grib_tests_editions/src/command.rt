@@ -3,12 +3,13 @@
 
 ghost use Rattle.std.specs.Prelude.{◌≤◌};
 
-use crate::octets::{ALL_LOST, MIGRATED, TABLE};
 use grib_causes::Loss;
 use grib_engine::{Cause, Kept, Outcome};
 use grib_io::MemoryShelf;
 use grib_runs::{CALM, Failing, Ran, run_with};
-use grib_samples::{FIRST_EDITION, MASKED, PLAIN, REDUCED, TWO_FIELDS, between, edited};
+use grib_samples::{
+    ALL_LOST, FIRST_EDITION, MASKED, MIGRATED, PLAIN, REDUCED, TABLE, TWO_FIELDS, between, edited,
+};
 use std::alloc::{AllocError, Global};
 use std::test::Fail;
 

@@ -3,13 +3,13 @@
 
 ghost use Rattle.std.specs.Prelude.{◌≤◌};
 
-use crate::octets::{MIGRATED, TABLE};
 use grib_causes::Demotion;
 use grib_engine::{Cause, Kept, Outcome};
 use grib_io::MemoryShelf;
 use grib_runs::{CALM, Ran, run_with};
 use grib_samples::{
-    FIRST_EDITION, MASKED, NO_BITMAP, PLAIN, REDUCED, TWO_FIELDS, between, edited, message_of,
+    FIRST_EDITION, MASKED, MIGRATED, NO_BITMAP, PLAIN, REDUCED, TABLE, TWO_FIELDS, between, edited,
+    message_of,
 };
 use std::alloc::{AllocError, Global};
 use std::test::Fail;

@@ -1,0 +1,5 @@
+//! Tests of the runs of `demote`, back from edition 2 to edition 1.
+#![tactic(auto)]
+
+#[cfg(test)]
+mod demotions;
