@@ -1,6 +1,7 @@
 #!/usr/bin/env bash
-# Puts the proved program, grib-parallel, the man page, completion for bash, the parameter table and the pages for users
-# under PREFIX, and takes them away again. The program is the shipped one, or else one that is built first.
+# Puts the proved program, with what it was built from, grib-parallel, the man page, completion for bash, the parameter
+# table and the pages for users under PREFIX, and takes them away again. The program is the shipped one, or else one that
+# is built first.
 #
 #     ./install.sh [PREFIX]            PREFIX is ~/.local where none is given
 #     ./install.sh remove [PREFIX]     also as PREFIX/share/grib/install.sh remove, where this folder is gone
@@ -28,7 +29,7 @@ here=${HOME:+$HOME/.local}
 prefix=${1:-$here}
 [[ -n $prefix ]] || fail "HOME is not set, so PREFIX has to be given"
 
-# What is installed, but for the program: MODE, file here, place under PREFIX.
+# What is installed, but for the program and what it was built from: MODE, file here, place under PREFIX.
 files() {
   cat <<FILES
 755 grib-parallel bin/grib-parallel
@@ -58,7 +59,7 @@ remove() {
     rm -f "$prefix/$place" || fail "cannot take away $prefix/$place"
     echo "removed $prefix/$place"
     found=1
-  done < <(echo bin/grib; files | cut -d ' ' -f 3; links | cut -d ' ' -f 2)
+  done < <(printf '%s\n' bin/grib share/doc/grib/built-from; files | cut -d ' ' -f 3; links | cut -d ' ' -f 2)
   for place in share/grib/params share/grib share/doc/grib; do
     rmdir "$prefix/$place" 2>/dev/null
   done
@@ -79,6 +80,7 @@ install_all() {
   find_program
   "$program" check <"$top/examples/four-points.grib2" >/dev/null || fail "the program ended with status $?"
   put 755 "$program" bin/grib
+  put 644 "$program_from" share/doc/grib/built-from
   while read -r mode file place; do put "$mode" "$top/$file" "$place"; done < <(files)
   while read -r file place; do
     ln -sfn "$file" "$prefix/$place" || fail "cannot write to $prefix/${place%/*}"

@@ -372,7 +372,7 @@ def key_words(draw, can_set, pool):
 
 
 def wrong_words(draw):
-    return draw.choice(([], ["--help"], ["check", "x"], ["dump", "dump"], ["filter"], ["filter", "centre"], ["set", "points=3"],
+    return draw.choice(([], ["--list"], ["check", "x"], ["dump", "dump"], ["filter"], ["filter", "centre"], ["set", "points=3"],
                         ["set", "centre=98", "centre=98"], ["repack", "to=1"], ["repack", "to=3"], ["repack", "to=03"], ["split", "out="],
                         ["filter", "centre=1e3"], ["filter", f"year={2**63}"], ["filter", "year=-0"], ["make", "seed=1"], ["Check"],
                         ["make", f"seed={2**31}", "ni=1", "nj=1", "to=0"], ["repack", "to=2", "order=1"], ["check", ""], [""]))

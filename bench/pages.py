@@ -4,7 +4,7 @@
     bench/pages.py PROGRAM
 
 Each command, name and key of the page has a reading in the program and stands in the completion, and the completion
-has no others; a key that the page has for `set` can be set, and one that it has for `filter` alone cannot. The statuses
+has no others; `help` of the program has a line on each command, and no others, and the page has the version; a key that the page has for `set` can be set, and one that it has for `filter` alone cannot. The statuses
 of the page are those of chapter 9 of docs/PROFILE.md, with 11 and 70. Words that the program does not have are
 printed, and the end is status 1."""
 import os
@@ -18,7 +18,8 @@ WORDS = {
     "check": [], "list": [], "stats": [], "dump": ["decimals=2"], "filter": ["centre=98"], "set": ["centre=98"],
     "split": ["out=/nonexistent/part"], "repack": ["to=3", "order=1"], "rescan": [], "crop": ["i0=0", "i1=0", "j0=0", "j1=0"],
     "migrate": ["params=/nonexistent/table", "local=keep"],
-    "demote": ["params=/nonexistent/table", "local=keep", "earth=any"], "keys": [], "make": ["seed=1", "ni=1", "nj=1", "to=3", "order=2"],
+    "demote": ["params=/nonexistent/table", "local=keep", "earth=any"], "keys": [], "help": [], "version": [],
+    "make": ["seed=1", "ni=1", "nj=1", "to=3", "order=2"],
 }
 failed = []
 
@@ -31,6 +32,10 @@ def hold(so, what):
 def has_reading(program, *words):
     run = subprocess.run([program, *words], stdin=subprocess.DEVNULL, capture_output=True)
     return not run.stderr.startswith(b"usage")
+
+
+def printed(program, word):
+    return subprocess.run([program, word], stdin=subprocess.DEVNULL, capture_output=True, text=True).stdout
 
 
 def completed(line):
@@ -66,6 +71,11 @@ def main():
     commands = [re.match(r"[a-z]+", plain(line)).group() for line in re.findall(r"^\.TP\n(.*)\n", section(page, "COMMANDS"), re.M)]
     hold(commands and set(commands) == set(WORDS), f"commands of the page: {commands}")
     hold(set(completed("grib ")) == set(commands), "commands of the completion")
+    helped = re.findall(r"^grib (\w+) ", printed(program, "help"), re.M)
+    hold(sorted(helped) == sorted(commands), f"commands of help: {helped}")
+    hold(f'"{printed(program, "version").strip()}"' in page.splitlines()[0], "version of the page")
+    for word in ("help", "version"):
+        hold(printed(program, f"--{word}") == printed(program, word), f"--{word}")
     for command in commands:
         words = WORDS.get(command, [])
         hold(has_reading(program, command, *words), f"not in the program: {command} {' '.join(words)}")

@@ -83,12 +83,13 @@ take_turn() {
   flock 9
 }
 
-# Sets `program` to one of the sources at hand: the shipped one, or else one that is built here.
+# Sets `program` to one of the sources at hand, the shipped one or else one that is built here, and `program_from` to
+# the file that says what it was built from.
 find_program() {
   sources=$(sources) || fail "cannot read the sources"
-  program=$shipped
+  program=$shipped program_from=$shipped_from
   is_shipped && return
   kit=$(kit) || fail "cannot read the kit"
-  program=$built
+  program=$built program_from=$built_here_from
   is_built || { take_turn; is_built || build_here; } 9<"$top/grib" || fail "cannot read $top/grib"
 }

@@ -406,6 +406,8 @@ is_job Make words read =
     record { target_stands = target_is words (make_stands words read); size_stands = size_is words (make_sized words read); changes_stand = no_changes; places_stand = tt; area_stands = tt }
 is_job Migrate words read = record { target_stands = refl; size_stands = tt; changes_stand = no_changes; places_stand = tt; area_stands = tt }
 is_job Demote words read = record { target_stands = refl; size_stands = tt; changes_stand = no_changes; places_stand = tt; area_stands = tt }
+is_job the.Help words read = record { target_stands = refl; size_stands = tt; changes_stand = no_changes; places_stand = tt; area_stands = tt }
+is_job the.Version words read = record { target_stands = refl; size_stands = tt; changes_stand = no_changes; places_stand = tt; area_stands = tt }
 
 -- the answer to the words, by that to the words behind their command
 pub asked : (words : List (List ℕ)) (command : Command) (result : Result Job JobFault) → reading words ≡ Ok command

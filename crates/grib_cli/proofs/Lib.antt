@@ -4,3 +4,4 @@ mod Counts
 mod Asked
 mod Runs
 pub mod Printed
+mod Helped

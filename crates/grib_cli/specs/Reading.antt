@@ -7,7 +7,7 @@ use Rattle.std.specs.Str.{bytes_eq}
 use Rattle.grib_keys.specs.Keys.{key_named, can_set}
 use Rattle.grib_cli.specs.declared.words.command.Command.{Command}
 use Rattle.grib_cli.specs.declared.words.command.Command.TheVariants as the
-use Rattle.grib_cli.specs.declared.words.command.Command.TheVariants.{Check, Keys, Stats, Dump, Filter, Split, Set, Repack, Migrate, Demote, Rescan, Crop, Make}
+use Rattle.grib_cli.specs.declared.words.command.Command.TheVariants.{Check, Keys, Stats, Dump, Filter, Split, Set, Repack, Migrate, Demote, Rescan, Crop, Make, Help, Version}
 use Rattle.grib_cli.specs.Values.{number, is_not_empty, is_between, key_value}
 
 -- whether a text is this one
@@ -159,14 +159,22 @@ row_of Crop = row (codes "crop") box_entries has_box
 row_of Make =
     row (codes "make") (size_entries ++ target_entries)
     (λ words. has_name (codes "seed") words && (has_name (codes "ni") words && (has_name (codes "nj") words && has_target words)))
+row_of Help = row (codes "help") [] nothing
+row_of Version = row (codes "version") [] nothing
 
 abbrev pub commands : List Command
 commands =
-    Check ∷ the.List ∷ Keys ∷ Stats ∷ Dump ∷ Filter ∷ Split ∷ Set ∷ Repack ∷ Migrate ∷ Demote ∷ Rescan ∷ Crop ∷ Make ∷ []
+    Check ∷ the.List ∷ Keys ∷ Stats ∷ Dump ∷ Filter ∷ Split ∷ Set ∷ Repack ∷ Migrate ∷ Demote ∷ Rescan ∷ Crop ∷ Make ∷ Help ∷ Version ∷ []
+
+-- whether a word is the name of a command; those on the program itself may have `--` before their names
+abbrev pub is_called : Command → List ℕ → Bool
+is_called Help word = is (codes "help") word || is (codes "--help") word
+is_called Version word = is (codes "version") word || is (codes "--version") word
+is_called command word = is (row_of command).name word
 
 -- the command of this name, if there is one
 abbrev pub command_named : List ℕ → Option Command
-command_named word = find (λ command. is (row_of command).name word) commands
+command_named word = find (λ command. is_called command word) commands
 
 abbrev pub entries : Command → List Entry
 entries command = (row_of command).entries

@@ -13,6 +13,7 @@ use Rattle.grib_repack.specs.declared.target.RepackTarget.TheVariants.{Simple, C
 use Rattle.grib_rescan.specs.declared.points.Area.{Area}
 use Rattle.grib_engine.specs.declared.job.Job.{Job}
 use Rattle.grib_engine.specs.declared.job.Job.TheVariants as jobs
+use Rattle.grib_engine.specs.declared.page.Page.TheVariants as pages
 use Rattle.grib_cli.specs.declared.words.JobFault.{JobFault}
 use Rattle.grib_cli.specs.declared.words.JobFault.TheVariants.{Usage, Memory}
 use Rattle.grib_cli.specs.declared.words.command.Command.{Command}
@@ -76,6 +77,8 @@ job_of_command commands.Rescan words = Ok jobs.Rescan
 job_of_command commands.Crop words = Ok (jobs.Crop (area_of words))
 job_of_command commands.Make words =
     Ok (jobs.Make (number_of (codes "seed") words) (number_of (codes "ni") words) (number_of (codes "nj") words) (target_of words))
+job_of_command commands.Help words = Ok (jobs.Print pages.Help)
+job_of_command commands.Version words = Ok (jobs.Print pages.Version)
 
 abbrev pub job_of_reading : Result Command ℕ → List (List ℕ) → Result Job JobFault
 job_of_reading (Ok command) words = job_of_command command words

@@ -116,7 +116,13 @@ fn takes(command: Command, name: &str, value: &str) -> bool
     ensures { result ≡ grammar.takes (entries command) name.now value.now }
 {
     match command {
-        Command::Check | Command::List | Command::Keys | Command::Stats | Command::Rescan => false,
+        Command::Check
+        | Command::List
+        | Command::Keys
+        | Command::Stats
+        | Command::Rescan
+        | Command::Help
+        | Command::Version => false,
         Command::Dump => name == "decimals" && is_between(value, 0, 18),
         Command::Filter => Key::of(name).is_some() && key_value(value).is_some(),
         Command::Set => is_key_to_set(name) && key_value(value).is_some(),
@@ -180,7 +186,9 @@ fn is_complete(command: Command, words: &[String]) -> bool
         | Command::Keys
         | Command::Stats
         | Command::Dump
-        | Command::Rescan => true,
+        | Command::Rescan
+        | Command::Help
+        | Command::Version => true,
         Command::Filter | Command::Set => !words.is_empty(),
         Command::Split => has_name(words, "out"),
         Command::Repack => has_target(words),

@@ -20,6 +20,7 @@ use Rattle.grib_engine.specs.Command.{Command, given, task}
 use Rattle.grib_engine.specs.Complete.{Piece, IsInGrammar, IsMadeOf, HasResult, HaveResults}
 use Rattle.grib_engine.specs.Judging.{judged, judge, fields_of}
 use Rattle.grib_engine.specs.Lawful.{least_message, message_stays}
+use Rattle.grib_engine.specs.Pages.{text_of}
 use Rattle.grib_engine.specs.Tasks as tasks
 use Rattle.grib_engine.specs.Tasks.{Work, Reads, Makes, ReadsTable, work_of, made_answer, writing, answer_by, answer_with}
 
@@ -113,8 +114,8 @@ made_done (Demote params keep_local any_earth) answer is = let no : ⊥ = cc in 
 made_done (Make seed ni nj target) answer is =
     let same : made_answer seed ni nj target ≡ answer = cc in
     sym (ap (λ a. a.outcome) same)
-made_done (Print text) answer is =
-    let same : writing text.now [] ≡ answer = cc in
+made_done (Print page) answer is =
+    let same : writing (text_of page) [] ≡ answer = cc in
     sym (ap (λ a. a.outcome) same)
 
 work_done : (work : Work) (text : Option (List ℕ)) (pieces : List Piece) (input : List ℕ) → ((answer : Answer) → work ≡ Makes answer → answer.outcome ≡ Done)

@@ -178,4 +178,4 @@ job_parts Stats text front rest is each fits ends done = absurd (false≢true ea
 job_parts (Dump decimals) text front rest is each fits ends done = absurd (false≢true each)
 job_parts (Split name) text front rest is each fits ends done = absurd (false≢true each)
 job_parts (Make seed ni nj target) text front rest is each fits ends done = absurd (false≢true each)
-job_parts (Print printed) text front rest is each fits ends done = absurd (false≢true each)
+job_parts (Print page) text front rest is each fits ends done = absurd (false≢true each)

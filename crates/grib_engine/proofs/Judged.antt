@@ -107,7 +107,7 @@ job_never (Migrate params keep) = λ table.
     by_edition (migrate_command keep table) (λ place message. either_never (are_octets message) _ _ (unless_never _ _ _) (gives_never _ _)) (λ place message. gives_never _ _)
 job_never (Demote params keep any_earth) = λ table. by_edition (demote_command keep any_earth table) (λ place message. gives_never _ _) (λ place message. unless_never _ _ _)
 job_never (Make seed ni nj target) = refl
-job_never (Print text) = refl
+job_never (Print page) = refl
 
 -- ---- so a refusal is of the end of the stream
 

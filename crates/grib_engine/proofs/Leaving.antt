@@ -141,7 +141,7 @@ fields_left repacked set filtered (Migrate params keep) outcome left left_now be
     (text, stood, tabled_leaves keep _ outcome left left_now before now runs unbroken)
 fields_left repacked set filtered (Demote params keep any_earth) outcome left left_now before now is runs unbroken = tt
 fields_left repacked set filtered (Make seed ni nj target) outcome left left_now before now is runs unbroken = tt
-fields_left repacked set filtered (Print text) outcome left left_now before now is runs unbroken = tt
+fields_left repacked set filtered (Print page) outcome left left_now before now is runs unbroken = tt
 
 -- ---- the names that `split` makes
 
@@ -206,4 +206,4 @@ parts_left (Crop area) outcome left left_now before now runs = tt
 parts_left (Migrate params keep) outcome left left_now before now runs = tt
 parts_left (Demote params keep any_earth) outcome left left_now before now runs = tt
 parts_left (Make seed ni nj target) outcome left left_now before now runs = tt
-parts_left (Print text) outcome left left_now before now runs = tt
+parts_left (Print page) outcome left left_now before now runs = tt

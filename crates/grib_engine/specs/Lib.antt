@@ -24,6 +24,7 @@ pub mod Least
 pub mod Rescanning
 pub mod Migrating
 pub mod Demoting
+pub mod Pages
 pub mod Tasks
 pub mod Each
 pub mod Lawful

@@ -23,6 +23,7 @@ use Rattle.grib_engine.specs.Listing.{list_command}
 use Rattle.grib_engine.specs.Keying.{keys_command}
 use Rattle.grib_engine.specs.Notes.{made_note}
 use Rattle.grib_engine.specs.Migrating.{migrate_command}
+use Rattle.grib_engine.specs.Pages.{text_of}
 use Rattle.grib_engine.specs.Demoting.{demote_command}
 use Rattle.grib_engine.specs.Outcomes.{note_of}
 use Rattle.grib_engine.specs.Repacking.{repack_command}
@@ -71,7 +72,7 @@ work_of (Crop area) = Reads (edit_command (edits.Crop area))
 work_of (Migrate params keep_local) = ReadsTable params (migrate_command keep_local)
 work_of (Demote params keep_local any_earth) = ReadsTable params (demote_command keep_local any_earth)
 work_of (Make seed ni nj target) = Makes (made_answer seed ni nj target)
-work_of (Print text) = Makes (writing text.now [])
+work_of (Print page) = Makes (writing (text_of page) [])
 
 -- what holds of the command of a job that reads its input, by the table where it reads one
 abbrev pub IfReads : Work → Option Entries → (Command → Type 0) → Type 0

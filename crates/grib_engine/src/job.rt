@@ -1,6 +1,7 @@
 //! What is to be done with an input.
 
 use crate::name::Name;
+use crate::page::Page;
 use grib_base::List;
 use grib_repack::RepackTarget;
 use grib_rescan::Area;
@@ -65,6 +66,6 @@ pub enum Job {
         nj: u32,
         target: RepackTarget,
     },
-    /// This text. No input is read.
-    Print(&'static str),
+    /// This page. No input is read.
+    Print(Page),
 }

@@ -219,7 +219,7 @@ fn serve_job<S: Source, T: Sink, N: Sink, H: Shelf>(
             nj,
             target,
         } => serve_made(alloc, *seed, *ni, *nj, *target, output, notes),
-        Job::Print(text) => write_noted(alloc, text.as_bytes(), b"", output, notes),
+        Job::Print(page) => write_noted(alloc, page.text().as_bytes(), b"", output, notes),
     }
 }
 

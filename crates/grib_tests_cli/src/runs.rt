@@ -242,7 +242,8 @@ fn octets_that_are_not_there_refuse(rt: HostRuntime) -> Result<(), Fail> {
 fn words_without_a_reading(rt: HostRuntime) -> Result<(), Fail> {
     for (words, word) in [
         ("", 0),
-        ("--help", 0),
+        ("--list", 0),
+        ("help x", 1),
         ("check file", 1),
         ("repack to=1", 1),
         ("repack to=3", 2),

@@ -1,7 +1,7 @@
 //! Command lines that are read, and such as are not.
 
 use grib_cli::{JobFault, job_of};
-use grib_engine::Job;
+use grib_engine::{Job, Page};
 use std::alloc::{AllocError, Global};
 use std::test::Fail;
 
@@ -31,13 +31,14 @@ fn command_of(asked: &Result<Job, JobFault>) -> &'static str {
         Ok(Job::Rescan) => "rescan",
         Ok(Job::Crop(_)) => "crop",
         Ok(Job::Make { .. }) => "make",
-        Ok(Job::Print(_)) => "print",
+        Ok(Job::Print(Page::Help)) => "help",
+        Ok(Job::Print(Page::Version)) => "version",
         Err(_) => "",
     }
 }
 
 // Lines that are read, each as the command that its first word names.
-const READ: [&str; 49] = [
+const READ: [&str; 51] = [
     // Each command has its name.
     "check",
     "list",
@@ -98,17 +99,23 @@ const READ: [&str; 49] = [
     "make seed=0 ni=1 nj=1 to=2",
     "make seed=2147483647 ni=4096 nj=4096 to=3 order=2",
     "make order=1 to=3 nj=181 ni=360 seed=7",
+    // `help` and `version` take no word.
+    "help",
+    "version",
 ];
 
 // Lines that are not, with the place of the first word that is not read.
-const UNREAD: [(u64, &str); 131] = [
+const UNREAD: [(u64, &str); 138] = [
     // Others have none.
     (0, ""),
     (0, "Check"),
     (0, "CHECK"),
     (0, "checks"),
     (0, "chec"),
-    (0, "--help"),
+    (0, "-h"),
+    (0, "-help"),
+    (0, "--list"),
+    (0, "--version="),
     (0, "="),
     (0, "check="),
     (0, "unknown to=0"),
@@ -245,6 +252,11 @@ const UNREAD: [(u64, &str); 131] = [
     (3, "repack to=least order=1"),
     (2, "repack to=least to=0"),
     (4, "make seed=1 ni=2 nj=2 to=least"),
+    // `help` and `version` take no word.
+    (1, "help list"),
+    (1, "help to=0"),
+    (1, "--help --version"),
+    (1, "version centre=98"),
 ];
 
 #[test]

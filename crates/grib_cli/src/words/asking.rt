@@ -10,7 +10,7 @@ ghost use Rattle.std.specs.declared.option.Option.TheVariants.{Some};
 use super::command::Command;
 use super::values::{key_value, number_of};
 use super::{JobFault, has_name, is_named};
-use grib_engine::{Area, Conditions, Job, Name, RepackTarget};
+use grib_engine::{Area, Conditions, Job, Name, Page, RepackTarget};
 use grib_keys::{Condition, Key};
 use std::alloc::{AllocError, Global};
 
@@ -52,6 +52,8 @@ pub(super) fn job_of_command(
         }),
         Command::Rescan => Ok(Job::Rescan),
         Command::Crop => Ok(Job::Crop(area_of(words))),
+        Command::Help => Ok(Job::Print(Page::Help)),
+        Command::Version => Ok(Job::Print(Page::Version)),
     }
 }
 

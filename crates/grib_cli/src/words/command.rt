@@ -20,6 +20,8 @@ pub enum Command {
     Rescan,
     Crop,
     Make,
+    Help,
+    Version,
 }
 
 impl Command {
@@ -42,6 +44,8 @@ impl Command {
             "rescan" => Some(Command::Rescan),
             "crop" => Some(Command::Crop),
             "make" => Some(Command::Make),
+            "help" | "--help" => Some(Command::Help),
+            "version" | "--version" => Some(Command::Version),
             _ => None,
         }
     }

@@ -1,6 +1,7 @@
 //! The definition of the reading, tried on command lines, and on what `keys` prints.
 
 ghost use Rattle.std.specs.Prelude.{◌≡◌, ◌≤◌, ◌<◌, ℕ, true, List, [], ◌∷◌, All, codes, Some, Ok, Err};
+ghost use Rattle.std.specs.List.{list_any};
 ghost use Rattle.grib_keys.specs.declared.key.Key.{Key};
 ghost use Rattle.grib_keys.specs.declared.condition.Value.{Value};
 ghost use Rattle.grib_keys.specs.Words.{word_of};
@@ -8,7 +9,10 @@ ghost use Rattle.grib2_message.specs.Fields.{field_count};
 ghost use Rattle.grib2_message.specs.Message.{IsMessage};
 ghost use Rattle.grib_select.specs.Bounds.{IsWithin64};
 ghost use Rattle.grib_select.specs.Values.{key_value_of, fulfils_all};
-ghost use Rattle.grib_cli.specs.declared.words.command.Command.TheVariants.{Repack, Migrate, Demote};
+ghost use Rattle.grib_engine.specs.Pages.{help_lines};
+ghost use Rattle.grib_cli.specs.declared.words.command.Command.{Command};
+ghost use Rattle.grib_cli.specs.declared.words.command.Command.TheVariants.{Repack, Migrate, Demote, Help, Version};
+ghost use Rattle.grib_cli.specs.HelpLines.{is_line_on};
 ghost use Rattle.grib_cli.specs.Reading.{reading};
 ghost use Rattle.grib_cli.specs.Words.{condition, condition_of, conditions_of};
 
@@ -24,6 +28,9 @@ pub fn unread_lines()
     ensures least_made { reading (codes "make" ∷ codes "to=least" ∷ []) ≡ Err 1 }
     ensures fixed_key { reading (codes "set" ∷ codes "year=2025" ∷ codes "points=3" ∷ []) ≡ Err 2 }
     ensures too_small { reading (codes "filter" ∷ codes "la1=-9223372036854775809" ∷ []) ≡ Err 1 }
+    ensures help_on_one { reading (codes "help" ∷ codes "list" ∷ []) ≡ Err 1 }
+    ensures short_dash { reading (codes "-help" ∷ []) ≡ Err 0 }
+    ensures dashed_command { reading (codes "--list" ∷ []) ≡ Err 0 }
     ensures one_earth { reading (codes "demote" ∷ codes "params=t" ∷ codes "earth=2" ∷ []) ≡ Err 2 }
 {}
 
@@ -33,6 +40,15 @@ pub fn read_lines()
     ensures equals { reading (codes "migrate" ∷ codes "params==" ∷ codes "local=keep" ∷ []) ≡ Ok Migrate }
     ensures least { reading (codes "repack" ∷ codes "to=least" ∷ []) ≡ Ok Repack }
     ensures demotion { reading (codes "demote" ∷ codes "earth=any" ∷ codes "params=t" ∷ []) ≡ Ok Demote }
+    ensures help { reading (codes "help" ∷ []) ≡ Ok Help }
+    ensures version { reading (codes "version" ∷ []) ≡ Ok Version }
+    ensures dashed_help { reading (codes "--help" ∷ []) ≡ Ok Help }
+    ensures dashed_version { reading (codes "--version" ∷ []) ≡ Ok Version }
+{}
+
+/// `help` has a line on each command: it begins with `grib` and the name of the command.
+pub fn help_has_a_line_on_each_command()
+    ensures { (command : Command) → list_any (is_line_on command) help_lines ≡ true }
 {}
 
 /// A key with a value within 64 bits, as it is printed, is read as this key with this value. So each word that `keys`
