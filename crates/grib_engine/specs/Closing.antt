@@ -3,7 +3,7 @@
 use Rattle.std.specs.Prelude.{◌≡◌, ◌≢◌, ◌<◌, ◌⊎◌, ℕ, Bool, true, false, ◌&&◌, ◌==◌, List, length}
 use Rattle.std.specs.declared.option.Option.{Option}
 use Rattle.std.specs.Io.KnownBytes.{Appends, Keeps}
-use Rattle.grib_io.specs.Outside.{AppendsFront}
+use Rattle.grib_io.specs.Outside.{AppendsFront, Unfinished}
 use Rattle.grib_stream.specs.Faults.{OneCounted}
 use Rattle.grib_stream.specs.Outcomes.{is_cut_short}
 use Rattle.grib_stream.specs.declared.outcome.Outcome.{Outcome}
@@ -14,10 +14,6 @@ use Rattle.grib_engine.specs.Outcomes.{note_with, NotesFront}
 -- after these octets were written, and the sink was not finished after them: where there are any, they wait
 abbrev pub settled_after : Bool → List ℕ → Bool
 settled_after before octets = before && (length octets == 0)
-
--- nothing was finished: what waited waits
-abbrev pub Unfinished : Bool → Bool → Type 0
-Unfinished before now = now ≡ true → before ≡ true
 
 -- How far the end of a run came: to the note, with the output as it was and nothing finished; to the output, which was
 -- not finished, with the note appended and not finished; or past the output, which is settled.

@@ -2,13 +2,14 @@
 
 ghost use Rattle.std.specs.Prelude.{◌≡◌, ◌≢◌, ◌⊎◌, ◌<◌, true, false};
 ghost use Rattle.std.specs.Io.KnownBytes.{Keeps};
+ghost use Rattle.grib_io.specs.Outside.{Unfinished};
 ghost use Rattle.grib_io.specs.Shelves.{Stays};
 ghost use Rattle.grib_stream.specs.Acts.{world};
 ghost use Rattle.grib_stream.specs.Outcomes.{is_cut_short};
 ghost use Rattle.grib_stream.specs.Faults.{faults, CountsRun};
 ghost use Rattle.grib_stream.specs.Soon.{RefusesSoon};
 ghost use Rattle.grib_stream.specs.declared.outcome.Outcome.TheVariants.{Done, ReadFault, WriteFault, ShelfFault, Memory};
-ghost use Rattle.grib_engine.specs.Closing.{EndsRun, Unfinished};
+ghost use Rattle.grib_engine.specs.Closing.{EndsRun};
 ghost use Rattle.grib_engine.specs.Endings.{ending_note};
 ghost use Rattle.grib_engine.specs.Command.{task};
 ghost use Rattle.grib_engine.specs.Hearing.{IfHears, RefusesInTime, is_second};
@@ -78,6 +79,8 @@ pub fn serve<S: Source, T: Sink, N: Sink, H: Shelf>(
         → (T.settled output.new ≡ true) × (N.settled notes.new ≡ true) }
     ensures unfinished { T.faults output.old < T.faults output.new
         → Unfinished (N.settled notes.old) (N.settled notes.new) }
+    ensures output_unfinished { T.faults output.old < T.faults output.new
+        → Unfinished (T.settled output.old) (T.settled output.new) }
 
     ensures counts { CountsRun result
         (faults (S.faults input.old) (T.faults output.old) (N.faults notes.old) (H.faults shelf.old))

@@ -35,6 +35,7 @@ returns-in-Ok g c =
       );
       settles = ran.settles;
       unfinished = ran.unfinished;
+      output_unfinished = ran.output_unfinished;
       counts = subst (λ s. CountsRun c.serve_messages.result
           (faults (g.S.Source.faults c.args.input.now) (g.T.Sink.faults c.args.output.now) (g.N.Sink.faults c.args.notes.now) s)
           (faults (g.S.Source.faults c.serve_messages.new.input) (g.T.Sink.faults c.serve_messages.new.output) (g.N.Sink.faults c.serve_messages.new.notes) (g.H.Shelf.faults c.serve_messages.new.shelf)))
@@ -63,6 +64,7 @@ returns-in-Err-ShelfFault g c =
       noted_front = (stand.0, stand.1, fronts_none (g.W.TableWriter.commands c.args.writer.now) _ _ _ _ _ _ _ _ (λ note. shelf_noted _ _ note _ _ _ _ counted ends.noted_front));
       settles = ends.settles;
       unfinished = ends.unfinished;
+      output_unfinished = ends.output_unfinished;
       counts = search rules;
       made_input = λ no. absurd (false≢true no);
       made = λ no. absurd (false≢true no);
@@ -87,6 +89,7 @@ returns-in-Err-Memory g c =
       noted_front = (stand.0, stand.1, fronts_none (g.W.TableWriter.commands c.args.writer.now) _ _ _ _ _ _ _ _ (λ note. memory_noted _ _ note _ _ _ _ ends.noted_front));
       settles = ends.settles;
       unfinished = ends.unfinished;
+      output_unfinished = ends.output_unfinished;
       counts = search rules;
       made_input = λ no. absurd (false≢true no);
       made = λ no. absurd (false≢true no);
