@@ -11,7 +11,7 @@ use Rattle.grib_stream.specs.Outcomes.{KeepsOrCuts, is_broken, is_cut_short}
 use Rattle.grib_stream.specs.Answer.{Answer, NotesOutcome, answer_within}
 use Rattle.grib_stream.specs.Run.{Gives, Runs, Notes}
 use Rattle.grib_stream.proofs.Notes.{notes_within}
-use Rattle.grib_engine.specs.Closing.{ClosesRun, EndsInTurn, EndsRun}
+use Rattle.grib_engine.specs.Closing.{ClosesRun, EndsInTurn, EndsRun, StandsWhole}
 use Rattle.grib_engine.specs.Outcomes.{note_of, note_with, NotesFront, NotesEnd, Noted, NotesRun}
 use Rattle.grib_engine.specs.Command.{Command, task}
 use Rattle.grib_engine.specs.Endings.{ending_note}
@@ -81,6 +81,39 @@ module _ {Output Notes : Type 0} (contents : Output → Option (List ℕ)) (faul
   ends_by outcome own done note result same is closed =
       subst (λ o. EndsRun contents faults settled notes_contents notes_faults notes_settled o done result output output_now notes notes_now) same
       (closed_by own done note result is closed)
+
+-- ---- the end of a run over sinks that take no memory
+
+module _ {Output Notes : Type 0} (settled : Output → Bool) (notes_contents : Notes → Option (List ℕ)) (notes_settled : Notes → Bool) (output_now : Output) (notes notes_now : Notes) where
+  -- with the note of the outcome
+  pub stands_by : (done note : List ℕ) (own result : Outcome) → note ≡ note_with done own
+      → (result ≢ WriteFault → (result ≡ own) × StandsWhole settled notes_contents notes_settled note output_now notes notes_now)
+      → result ≢ WriteFault → StandsWhole settled notes_contents notes_settled (note_with done result) output_now notes notes_now
+  stands_by done note own result is whole other =
+      let ended = whole other in
+      subst (λ xs. StandsWhole settled notes_contents notes_settled xs output_now notes notes_now) (is ∙ ap (note_with done) (sym ended.0)) ended.1
+
+  memory_in : (done other : List ℕ) (result : Outcome) → result ≡ Memory
+      → StandsWhole settled notes_contents notes_settled (note_with done result) output_now notes notes_now
+      → StandsWhole settled notes_contents notes_settled (note_with other result) output_now notes notes_now
+  memory_in done other result is stands =
+      subst (λ o. StandsWhole settled notes_contents notes_settled (note_with other o) output_now notes notes_now) (sym is)
+      (subst (λ o. StandsWhole settled notes_contents notes_settled (note_with done o) output_now notes notes_now) is stands)
+
+  -- Memory has its own note
+  pub stands_memory : (done other : List ℕ) (result : Outcome) → OneOf Memory result
+      → (result ≢ WriteFault → StandsWhole settled notes_contents notes_settled (note_with done result) output_now notes notes_now)
+      → result ≢ WriteFault → StandsWhole settled notes_contents notes_settled (note_with other result) output_now notes notes_now
+  stands_memory done other result (inl same) whole calm = memory_in done other result same (whole calm)
+  stands_memory done other result (inr (inl fault)) whole calm = absurd (calm fault)
+  stands_memory done other result (inr (inr same)) whole calm = memory_in done other result same (whole calm)
+
+  pub memory_stands : (done : List ℕ) (result : Outcome)
+      → (result ≢ WriteFault → StandsWhole settled notes_contents notes_settled (note_with done result) output_now notes notes_now)
+      → result ≡ Memory → StandsWhole settled notes_contents notes_settled (note_of Memory) output_now notes notes_now
+  memory_stands done result whole is =
+      subst (λ o. StandsWhole settled notes_contents notes_settled (note_with done o) output_now notes notes_now) is
+      (whole (λ fault. let no : Memory ≡ WriteFault = sym is ∙ fault in cc))
 
 -- what was not finished before the end is not finished by it after a fault of the output
 then_unfinished : (faults mid now : ℕ) (first second third : Bool) → Unfinished first second → mid ≡ faults → (mid < now → Unfinished second third)

@@ -15,6 +15,11 @@ use Rattle.grib_engine.specs.Outcomes.{note_with, NotesFront}
 abbrev pub settled_after : Bool → List ℕ → Bool
 settled_after before octets = before && (length octets == 0)
 
+-- the whole note was appended, and nothing waits for `finish`
+abbrev pub StandsWhole : {Output Notes : Type 0} → (Output → Bool) → (Notes → Option (List ℕ)) → (Notes → Bool) → List ℕ → Output → Notes → Notes → Type 0
+StandsWhole settled notes_contents notes_settled note output_now notes notes_now =
+    Appends (notes_contents notes) (notes_contents notes_now) note × ((settled output_now ≡ true) × (notes_settled notes_now ≡ true))
+
 -- How far the end of a run came: to the note, with the output as it was and nothing finished; to the output, which was
 -- not finished, with the note appended and not finished; or past the output, which is settled.
 abbrev pub EndsInTurn : {Output Notes : Type 0} → (Output → ℕ) → (Output → Bool) → (Notes → Option (List ℕ)) → (Notes → ℕ) → (Notes → Bool) → List ℕ → Output → Output → Notes → Notes → Type 0

@@ -1,6 +1,6 @@
 //! Octets on their way to a sink.
 
-ghost use Rattle.std.specs.Prelude.{◌≡◌, length, IfOk, MatchResult};
+ghost use Rattle.std.specs.Prelude.{◌≡◌, false, length, IfOk, IfErr, MatchResult};
 ghost use Rattle.grib_io.specs.Outside.{Unfinished};
 ghost use Rattle.grib_engine.specs.Closing.{settled_after};
 ghost use Rattle.grib_engine.specs.Pending.{WritesTo};
@@ -13,6 +13,7 @@ pub(crate) fn write_whole<T: Sink>(sink: &mut T, piece: &[u8]) -> Result<(), Sto
     ensures settled { MatchResult result
         (λ _. T.settled sink.new ≡ settled_after (T.settled sink.old) piece.now)
         (λ _. Unfinished (T.settled sink.old) (T.settled sink.new)) }
+    ensures memory { T.takes_memory ≡ false → IfErr result (λ stop. stop ≡ Stop.Failed) }
 {
     let mut written = 0;
     while written < piece.len() {

@@ -1,6 +1,7 @@
 use Rattle.std.proofs.Common.{◌∙◌, sym, rules}
 use Rattle.grib_engine.proofs.Noted.{left_true}
 use Rattle.grib_engine.proofs.Outside.{written_more, written_front}
+use Rattle.grib_engine.proofs.Pending.{failed_passed}
 use Rattle.grib_engine.proofs.writing.write_whole.Goals as goal
 
 pub returns-in_err-written-clause-writes : goal.returns-in_err-written-clause-writes
@@ -21,3 +22,7 @@ loop-written-preserved g c = record {
   waits = search rules;
   within = search rules;
 }
+
+pub returns-in_err-written-clause-memory : goal.returns-in_err-written-clause-memory
+returns-in_err-written-clause-memory g c = λ off.
+    failed_passed c.from_residual.result _ c.from_residual.ensures.1 (c.in_err-written.ensures.memory off)
