@@ -2,12 +2,13 @@
 
 ghost use Rattle.std.specs.Prelude.{◌≡◌, ◌≢◌, ◌<◌, ◌⊎◌, true, false, map, string_bytes, [], IfOk, IfErr, IfSome, MatchResult};
 ghost use Rattle.std.specs.Io.KnownBytes.{Appends, Keeps};
+ghost use Rattle.grib_io.specs.Outside.{Unfinished};
 ghost use Rattle.grib_io.specs.Shelves.{Stays};
 ghost use Rattle.grib_stream.specs.Acts.{world};
 ghost use Rattle.grib_stream.specs.Faults.{faults, CountsRun};
 ghost use Rattle.grib_stream.specs.Outcomes.{is_cut_short, is_broken};
 ghost use Rattle.grib_stream.specs.declared.outcome.Outcome.TheVariants.{Done, ReadFault, WriteFault, ShelfFault, Memory};
-ghost use Rattle.grib_engine.specs.Closing.{Unfinished};
+ghost use Rattle.grib_engine.specs.Closing.{StandsWhole};
 ghost use Rattle.grib_engine.specs.Hearing.{IfHears, RefusesInTime};
 ghost use Rattle.grib_engine.specs.Judged.{JudgesInput};
 ghost use Rattle.grib_engine.specs.Leaving.{LeavesFields, LeavesParts};
@@ -74,6 +75,12 @@ pub fn run<S: Source, T: Sink, N: Sink, H: Shelf>(
         → (T.settled output.new ≡ true) × (N.settled notes.new ≡ true) }
     ensures unfinished { T.faults output.old < T.faults output.new
         → Unfinished (N.settled notes.old) (N.settled notes.new) }
+    ensures output_unfinished { T.faults output.old < T.faults output.new
+        → Unfinished (T.settled output.old) (T.settled output.new) }
+
+    // Where neither sink takes memory, a run that ends for memory is noted and brought to its end.
+    ensures memory_noted { T.takes_memory ≡ false → N.takes_memory ≡ false → result ≡ Memory
+        → StandsWhole T.settled N.contents N.settled (note_of Memory) output.new notes.old notes.new }
 
     ensures counts { CountsRun result
         (faults (S.faults input.old) (T.faults output.old) (N.faults notes.old) (H.faults shelf.old))

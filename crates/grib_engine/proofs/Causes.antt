@@ -1,5 +1,5 @@
 -- The first cause by which a message is kept from being printed with its values.
-use Rattle.std.proofs.Common.{◌≡◌, ℕ, zero, suc, ◌+◌, ◌-◌, ◌<◌, ◌≤◌, true, false, Option, Some, None, is_some, is_none, option_map, List, [], refl, ap, ◌∙◌, arith}
+use Rattle.std.proofs.Common.{◌≡◌, Bool, ℕ, zero, suc, ◌+◌, ◌-◌, ◌<◌, ◌≤◌, true, false, Option, Some, None, is_some, is_none, option_map, List, [], refl, ap, ◌∙◌, arith}
 use Rattle.grib_dyadic.specs.Reference.{Binary, ieee, ibm, reduced}
 use Rattle.grib_packing.specs.declared.column.Column.{Column}
 use Rattle.grib2_message.specs.Fields.{field_count, column_of}
@@ -90,11 +90,12 @@ not_some None is = refl
 not_some (Some cause) is = let no : ⊥ = cc in absurd no
 
 -- where there is no memory nothing was done
-pub by_no_memory : {Sink : Type 0} (contents : Sink → Option (List ℕ)) (faults : Sink → ℕ) (m : ℕ) (given : Given) (a : Sink) → AnswersByOutput contents faults Memory m given a a
-by_no_memory contents faults m given a = record {
+pub by_no_memory : {Sink : Type 0} (contents : Sink → Option (List ℕ)) (faults : Sink → ℕ) (settled : Sink → Bool) (m : ℕ) (given : Given) (a : Sink) → AnswersByOutput contents faults settled Memory m given a a
+by_no_memory contents faults settled m given a = record {
   answers = λ names. ([], acts_given given, refl, did_none (world (contents a) names));
   write_fault = λ no. absurd (cc no);
   write_stays = λ other. refl;
+  unfinished = λ all. all;
   unshelved = λ no. cc;
 }
 

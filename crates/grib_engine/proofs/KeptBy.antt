@@ -1,5 +1,5 @@
 -- What comes of a message that is kept by its cause, or for which there is no memory.
-use Rattle.std.proofs.Common.{◌≡◌, ℕ, Option, Some, option_map, List, [], refl, sym, ap, subst}
+use Rattle.std.proofs.Common.{◌≡◌, ℕ, Bool, Option, Some, option_map, List, [], refl, sym, ap, subst}
 use Rattle.grib_causes.specs.declared.cause.Cause.{Cause}
 use Rattle.grib_causes.specs.declared.cause.Cause.TheVariants.{Lost, Demoted}
 use Rattle.grib_causes.specs.declared.demotion.Demotion.{Demotion}
@@ -65,14 +65,15 @@ not_demoted field loss undemoted.Memory is = tt
 
 -- ---- by the output alone, which stays as it is
 
-module _ {Sink : Type 0} (contents : Sink → Option (List ℕ)) (faults : Sink → ℕ) where
+module _ {Sink : Type 0} (contents : Sink → Option (List ℕ)) (faults : Sink → ℕ) (settled : Sink → Bool) where
   pub kept : (answered : Answered) (cause : Option Cause) (m : ℕ) (octets : List ℕ) (a : Sink) → IsKept cause answered
-      → AnswersByOutput contents faults answered m (given_unless cause m octets) a a
+      → AnswersByOutput contents faults settled answered m (given_unless cause m octets) a a
   kept (Whole written) cause m octets a is = absurd is
   kept (Kept own) cause m octets a is = record {
     answers = λ names. (ap (λ c. given_unless c m octets) is, did_none (world (contents a) names));
     write_fault = λ no. absurd (cc no);
     write_stays = λ other. refl;
+    unfinished = λ all. all;
     unshelved = λ no. cc;
   }
   kept WriteFault cause m octets a is = absurd is
@@ -81,10 +82,11 @@ module _ {Sink : Type 0} (contents : Sink → Option (List ℕ)) (faults : Sink 
     answers = λ names. ([], acts_given (given_unless cause m octets), refl, did_none (world (contents a) names));
     write_fault = λ no. absurd (cc no);
     write_stays = λ other. refl;
+    unfinished = λ all. all;
     unshelved = λ no. cc;
   }
 
   pub by_cause : (answered own : Answered) (cause : Option Cause) (m : ℕ) (octets : List ℕ) (a : Sink) → answered ≡ own → IsKept cause own
-      → AnswersByOutput contents faults answered m (given_unless cause m octets) a a
+      → AnswersByOutput contents faults settled answered m (given_unless cause m octets) a a
   by_cause answered own cause m octets a same is =
-      subst (λ r. AnswersByOutput contents faults r m (given_unless cause m octets) a a) (sym same) (kept own cause m octets a is)
+      subst (λ r. AnswersByOutput contents faults settled r m (given_unless cause m octets) a a) (sym same) (kept own cause m octets a is)

@@ -2,7 +2,7 @@
 use Rattle.std.proofs.Common.{◌≡◌, ◌≢◌, ◌⊎◌, ℕ, ◌<◌, Bool, ◌&&◌, ◌==◌, true, false, arith, length, List, None, Some, IfSome, refl, sym, ap, ◌∙◌, subst, inl, inr}
 use Rattle.std.specs.declared.option.Option.{Option}
 use Rattle.std.specs.Io.KnownBytes.{Appends}
-use Rattle.grib_io.specs.Outside.{AppendsFront, Counted}
+use Rattle.grib_io.specs.Outside.{AppendsFront, Counted, Unfinished}
 use Rattle.grib_stream.specs.declared.outcome.Outcome.{Outcome}
 use Rattle.grib_stream.specs.declared.outcome.Outcome.TheVariants.{Done, Usage, Refused, Kept, TableRefused, ReadFault, WriteFault, ShelfFault, Memory, InputTooLong}
 use Rattle.grib_stream.specs.declared.place.Totals.{Totals}
@@ -11,7 +11,7 @@ use Rattle.grib_stream.specs.Outcomes.{KeepsOrCuts, is_broken, is_cut_short}
 use Rattle.grib_stream.specs.Answer.{Answer, NotesOutcome, answer_within}
 use Rattle.grib_stream.specs.Run.{Gives, Runs, Notes}
 use Rattle.grib_stream.proofs.Notes.{notes_within}
-use Rattle.grib_engine.specs.Closing.{ClosesRun, EndsInTurn, EndsRun, Unfinished}
+use Rattle.grib_engine.specs.Closing.{ClosesRun, EndsInTurn, EndsRun, StandsWhole}
 use Rattle.grib_engine.specs.Outcomes.{note_of, note_with, NotesFront, NotesEnd, Noted, NotesRun}
 use Rattle.grib_engine.specs.Command.{Command, task}
 use Rattle.grib_engine.specs.Endings.{ending_note}
@@ -41,7 +41,7 @@ noted_with a b note done outcome result (inr (inr memory)) is appended uncut = l
 
 -- ---- the end of a run with a note
 
-left_true : (b c : Bool) → (b && c) ≡ true → b ≡ true
+pub left_true : (b c : Bool) → (b && c) ≡ true → b ≡ true
 left_true true c is = refl
 left_true false c is = is
 
@@ -81,6 +81,67 @@ module _ {Output Notes : Type 0} (contents : Output → Option (List ℕ)) (faul
   ends_by outcome own done note result same is closed =
       subst (λ o. EndsRun contents faults settled notes_contents notes_faults notes_settled o done result output output_now notes notes_now) same
       (closed_by own done note result is closed)
+
+-- ---- the end of a run over sinks that take no memory
+
+module _ {Output Notes : Type 0} (settled : Output → Bool) (notes_contents : Notes → Option (List ℕ)) (notes_settled : Notes → Bool) (output_now : Output) (notes notes_now : Notes) where
+  -- with the note of the outcome
+  pub stands_by : (done note : List ℕ) (own result : Outcome) → note ≡ note_with done own
+      → (result ≢ WriteFault → (result ≡ own) × StandsWhole settled notes_contents notes_settled note output_now notes notes_now)
+      → result ≢ WriteFault → StandsWhole settled notes_contents notes_settled (note_with done result) output_now notes notes_now
+  stands_by done note own result is whole other =
+      let ended = whole other in
+      subst (λ xs. StandsWhole settled notes_contents notes_settled xs output_now notes notes_now) (is ∙ ap (note_with done) (sym ended.0)) ended.1
+
+  memory_in : (done other : List ℕ) (result : Outcome) → result ≡ Memory
+      → StandsWhole settled notes_contents notes_settled (note_with done result) output_now notes notes_now
+      → StandsWhole settled notes_contents notes_settled (note_with other result) output_now notes notes_now
+  memory_in done other result is stands =
+      subst (λ o. StandsWhole settled notes_contents notes_settled (note_with other o) output_now notes notes_now) (sym is)
+      (subst (λ o. StandsWhole settled notes_contents notes_settled (note_with done o) output_now notes notes_now) is stands)
+
+  -- Memory has its own note
+  pub stands_memory : (done other : List ℕ) (result : Outcome) → OneOf Memory result
+      → (result ≢ WriteFault → StandsWhole settled notes_contents notes_settled (note_with done result) output_now notes notes_now)
+      → result ≢ WriteFault → StandsWhole settled notes_contents notes_settled (note_with other result) output_now notes notes_now
+  stands_memory done other result (inl same) whole calm = memory_in done other result same (whole calm)
+  stands_memory done other result (inr (inl fault)) whole calm = absurd (calm fault)
+  stands_memory done other result (inr (inr same)) whole calm = memory_in done other result same (whole calm)
+
+  pub memory_stands : (done : List ℕ) (result : Outcome)
+      → (result ≢ WriteFault → StandsWhole settled notes_contents notes_settled (note_with done result) output_now notes notes_now)
+      → result ≡ Memory → StandsWhole settled notes_contents notes_settled (note_of Memory) output_now notes notes_now
+  memory_stands done result whole is =
+      subst (λ o. StandsWhole settled notes_contents notes_settled (note_with done o) output_now notes notes_now) is
+      (whole (λ fault. let no : Memory ≡ WriteFault = sym is ∙ fault in cc))
+
+-- what was not finished before the end is not finished by it after a fault of the output
+then_unfinished : (faults mid now : ℕ) (first second third : Bool) → Unfinished first second → mid ≡ faults → (mid < now → Unfinished second third)
+    → faults < now → Unfinished first third
+then_unfinished faults mid now first second third before stays later rose = λ all. before (later (subst (λ n. n < now) (sym stays) rose) all)
+
+pub unfinished_then : {Output : Type 0} (faults : Output → ℕ) (settled : Output → Bool) (outcome : Outcome) (before mid now : Output)
+    → Unfinished (settled before) (settled mid) → (outcome ≢ WriteFault → faults mid ≡ faults before) → (outcome ≡ WriteFault → now ≡ mid)
+    → (faults mid < faults now → Unfinished (settled mid) (settled now)) → faults before < faults now → Unfinished (settled before) (settled now)
+unfinished_then faults settled WriteFault before mid now first calm kept later rose = λ all. first (sym (ap settled (kept refl)) ∙ all)
+unfinished_then faults settled Done before mid now first calm kept later rose =
+    then_unfinished (faults before) (faults mid) (faults now) (settled before) (settled mid) (settled now) first (calm (λ e. cc)) later rose
+unfinished_then faults settled (Usage word) before mid now first calm kept later rose =
+    then_unfinished (faults before) (faults mid) (faults now) (settled before) (settled mid) (settled now) first (calm (λ e. cc)) later rose
+unfinished_then faults settled (Refused refusal) before mid now first calm kept later rose =
+    then_unfinished (faults before) (faults mid) (faults now) (settled before) (settled mid) (settled now) first (calm (λ e. cc)) later rose
+unfinished_then faults settled (Kept own) before mid now first calm kept later rose =
+    then_unfinished (faults before) (faults mid) (faults now) (settled before) (settled mid) (settled now) first (calm (λ e. cc)) later rose
+unfinished_then faults settled (TableRefused refusal) before mid now first calm kept later rose =
+    then_unfinished (faults before) (faults mid) (faults now) (settled before) (settled mid) (settled now) first (calm (λ e. cc)) later rose
+unfinished_then faults settled ReadFault before mid now first calm kept later rose =
+    then_unfinished (faults before) (faults mid) (faults now) (settled before) (settled mid) (settled now) first (calm (λ e. cc)) later rose
+unfinished_then faults settled ShelfFault before mid now first calm kept later rose =
+    then_unfinished (faults before) (faults mid) (faults now) (settled before) (settled mid) (settled now) first (calm (λ e. cc)) later rose
+unfinished_then faults settled Memory before mid now first calm kept later rose =
+    then_unfinished (faults before) (faults mid) (faults now) (settled before) (settled mid) (settled now) first (calm (λ e. cc)) later rose
+unfinished_then faults settled InputTooLong before mid now first calm kept later rose =
+    then_unfinished (faults before) (faults mid) (faults now) (settled before) (settled mid) (settled now) first (calm (λ e. cc)) later rose
 
 -- ---- the whole note
 

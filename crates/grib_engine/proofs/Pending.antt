@@ -1,10 +1,11 @@
 -- Octets that go through a buffer to a sink, one step after another.
-use Rattle.std.proofs.Common.{◌≡◌, ℕ, ◌+◌, ◌-◌, ◌<◌, ◌≤◌, zero, suc, refl, Ok, Err, IfOk, OnOk, List, [], ◌∷◌, ◌++◌, length, take, drop, ap, sym, ◌∙◌, arith, append_assoc, append-nil, take-append-drop, subst}
+use Rattle.std.proofs.Common.{◌≡◌, ℕ, ◌+◌, ◌-◌, ◌<◌, ◌≤◌, zero, suc, refl, Ok, Err, IfOk, IfErr, OnOk, List, [], ◌∷◌, ◌++◌, length, take, drop, ap, sym, ◌∙◌, arith, append_assoc, append-nil, take-append-drop, subst}
 use Rattle.std.specs.declared.option.Option.{Option}
 use Rattle.std.specs.declared.result.Result.{Result}
 use Rattle.std.specs.Result.{IsErr, IsErrAnd}
 use Rattle.std.specs.Io.KnownBytes.{Appends}
 use Rattle.grib_io.specs.declared.outside.Stop.{Stop}
+use Rattle.grib_io.specs.declared.outside.Stop.TheVariants.{Failed}
 use Rattle.std.proofs.KnownBytes.{Appends-trans}
 use Rattle.std.proofs.lemmas.Bool.{false≢true}
 use Rattle.std.proofs.lemmas.Result.{on_ok_weaker}
@@ -267,6 +268,11 @@ pub counts_passed : {T : Type 0} (result : Result T Stop) (stop : Stop) (before 
     → CountsStops result before now
 counts_passed (Ok x) stop before now is counts = absurd is
 counts_passed (Err e) stop before now is counts = subst (λ s. CountsStop s before now) (sym is) counts
+
+-- a stop that is passed on
+pub failed_passed : {T : Type 0} (result : Result T Stop) (stop : Stop) → IsErrAnd result (λ e. e ≡ stop) → stop ≡ Failed → IfErr result (λ e. e ≡ Failed)
+failed_passed (Ok x) stop is failed = tt
+failed_passed (Err e) stop is failed = is ∙ failed
 
 pub pending_written : {T E : Type 0} (result : Result T E) (a b c : Option (List ℕ)) (octets pending shown : List ℕ) → AppendsAllBut a b octets pending
     → shown ≡ pending → Writes result b c shown → Writes result a c octets

@@ -2,7 +2,7 @@
 use Rattle.std.specs.Prelude.{◌≡◌, ◌≢◌, ℕ, Bool, true, false, Some, List, [], Ok, Err}
 use Rattle.std.specs.declared.option.Option.{Option}
 use Rattle.std.specs.declared.result.Result.{Result}
-use Rattle.grib_io.specs.Outside.{Counted}
+use Rattle.grib_io.specs.Outside.{Counted, Unfinished}
 use Rattle.grib_io.specs.Shelves.{Held}
 use Rattle.grib_io.specs.declared.outside.Stop.{Stop}
 use Rattle.grib_io.specs.declared.outside.Stop.TheVariants as stops
@@ -83,11 +83,12 @@ answered_written (Ok count) = Whole count
 answered_written (Err stop) = answered_stopped stop
 
 -- What answering message m does to the output and to the shelf, of which a job uses one. The fault by which it ends
--- is counted, and no other.
-pub record AnswersMessage {Sink Shelf : Type 0} (contents : Sink → Option (List ℕ)) (faults : Sink → ℕ) (names : Shelf → Option Held) (shelf_faults : Shelf → ℕ) (result : Answered) (m : ℕ) (given : Given) (shelved : Bool) (output output_now : Sink) (shelf shelf_now : Shelf) : Type 0 where
+-- is counted, and no other. Nothing of the output is finished.
+pub record AnswersMessage {Sink Shelf : Type 0} (contents : Sink → Option (List ℕ)) (faults : Sink → ℕ) (settled : Sink → Bool) (names : Shelf → Option Held) (shelf_faults : Shelf → ℕ) (result : Answered) (m : ℕ) (given : Given) (shelved : Bool) (output output_now : Sink) (shelf shelf_now : Shelf) : Type 0 where
   pub answers : Answers result m given (world (contents output) (names shelf)) (world (contents output_now) (names shelf_now))
   pub write_fault : result ≡ WriteFault → Counted (faults output) (faults output_now)
   pub write_stays : result ≢ WriteFault → faults output_now ≡ faults output
+  pub unfinished : Unfinished (settled output) (settled output_now)
   pub shelf_fault : result ≡ ShelfFault → Counted (shelf_faults shelf) (shelf_faults shelf_now)
   pub shelf_stays : result ≢ ShelfFault → shelf_faults shelf_now ≡ shelf_faults shelf
   pub shelf_kept : shelved ≡ false → shelf_now ≡ shelf
@@ -95,10 +96,11 @@ pub record AnswersMessage {Sink Shelf : Type 0} (contents : Sink → Option (Lis
   pub output_kept : shelved ≡ true → output_now ≡ output
 
 -- message m is answered by the output alone
-pub record AnswersByOutput {Sink : Type 0} (contents : Sink → Option (List ℕ)) (faults : Sink → ℕ) (result : Answered) (m : ℕ) (given : Given) (before now : Sink) : Type 0 where
+pub record AnswersByOutput {Sink : Type 0} (contents : Sink → Option (List ℕ)) (faults : Sink → ℕ) (settled : Sink → Bool) (result : Answered) (m : ℕ) (given : Given) (before now : Sink) : Type 0 where
   pub answers : (names : Option Held) → Answers result m given (world (contents before) names) (world (contents now) names)
   pub write_fault : result ≡ WriteFault → Counted (faults before) (faults now)
   pub write_stays : result ≢ WriteFault → faults now ≡ faults before
+  pub unfinished : Unfinished (settled before) (settled now)
   pub unshelved : result ≢ ShelfFault
 
 -- or by the shelf alone

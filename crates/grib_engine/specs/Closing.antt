@@ -3,7 +3,7 @@
 use Rattle.std.specs.Prelude.{◌≡◌, ◌≢◌, ◌<◌, ◌⊎◌, ℕ, Bool, true, false, ◌&&◌, ◌==◌, List, length}
 use Rattle.std.specs.declared.option.Option.{Option}
 use Rattle.std.specs.Io.KnownBytes.{Appends, Keeps}
-use Rattle.grib_io.specs.Outside.{AppendsFront}
+use Rattle.grib_io.specs.Outside.{AppendsFront, Unfinished}
 use Rattle.grib_stream.specs.Faults.{OneCounted}
 use Rattle.grib_stream.specs.Outcomes.{is_cut_short}
 use Rattle.grib_stream.specs.declared.outcome.Outcome.{Outcome}
@@ -15,9 +15,10 @@ use Rattle.grib_engine.specs.Outcomes.{note_with, NotesFront}
 abbrev pub settled_after : Bool → List ℕ → Bool
 settled_after before octets = before && (length octets == 0)
 
--- nothing was finished: what waited waits
-abbrev pub Unfinished : Bool → Bool → Type 0
-Unfinished before now = now ≡ true → before ≡ true
+-- the whole note was appended, and nothing waits for `finish`
+abbrev pub StandsWhole : {Output Notes : Type 0} → (Output → Bool) → (Notes → Option (List ℕ)) → (Notes → Bool) → List ℕ → Output → Notes → Notes → Type 0
+StandsWhole settled notes_contents notes_settled note output_now notes notes_now =
+    Appends (notes_contents notes) (notes_contents notes_now) note × ((settled output_now ≡ true) × (notes_settled notes_now ≡ true))
 
 -- How far the end of a run came: to the note, with the output as it was and nothing finished; to the output, which was
 -- not finished, with the note appended and not finished; or past the output, which is settled.

@@ -4,6 +4,7 @@
 use Rattle.std.specs.Prelude.{◌≡◌, ◌≢◌, ◌⊎◌, ◌<◌, ℕ, ◌^◌, Bool, true, false, List}
 use Rattle.std.specs.declared.option.Option.{Option}
 use Rattle.std.specs.Io.KnownBytes.{Appends}
+use Rattle.grib_io.specs.Outside.{Unfinished}
 use Rattle.grib_io.specs.Shelves.{Held, Stays}
 use Rattle.grib_params.specs.Table.{Entries}
 use Rattle.grib_table.specs.Tabled.{Tabled, Good, Refused, tabled, Stood}
@@ -14,7 +15,6 @@ use Rattle.grib_stream.specs.Faults.{faults, CountsRun}
 use Rattle.grib_stream.specs.Outcomes.{is_cut_short}
 use Rattle.grib_stream.specs.Run.{Gives, Runs}
 use Rattle.grib_engine.specs.declared.job.Job.{Job}
-use Rattle.grib_engine.specs.Closing.{Unfinished}
 use Rattle.grib_engine.specs.Command.{Command, task}
 use Rattle.grib_engine.specs.Outcomes.{note_of, note_with, NotesFront, NotesEnd, Noted, NotesRun}
 use Rattle.grib_engine.specs.Tasks.{Work, Reads, Makes, ReadsTable, work_of, reads_none, has_shelf, has_table, refused_answer}
@@ -87,6 +87,7 @@ pub record Serves {Source Output Notes Shelf : Type 0} (left : Source → Option
   pub noted_front : NotesWorkFront work (names shelf) (left input) (input_faults input) (input_faults input_now) (shelf_faults shelf) (shelf_faults shelf_now) (notes_contents notes) (notes_contents notes_now)
   pub settles : is_cut_short outcome ≡ false → (settled output_now ≡ true) × (notes_settled notes_now ≡ true)
   pub unfinished : output_faults output < output_faults output_now → Unfinished (notes_settled notes) (notes_settled notes_now)
+  pub output_unfinished : output_faults output < output_faults output_now → Unfinished (settled output) (settled output_now)
   pub counts : CountsRun outcome (faults (input_faults input) (output_faults output) (notes_faults notes) (shelf_faults shelf)) (faults (input_faults input_now) (output_faults output_now) (notes_faults notes_now) (shelf_faults shelf_now))
   pub made_input : reads_none work ≡ true → input_now ≡ input
   pub made : reads_none work ≡ true → (outcome ≡ Done) ⊎ ((outcome ≡ WriteFault) ⊎ (outcome ≡ Memory))

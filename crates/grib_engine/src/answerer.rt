@@ -28,7 +28,7 @@ pub trait Answerer {
         shelf: &mut H,
     ) -> Answered
         requires { place.now.fields ≤ 2 ^ 41 }
-        ensures { AnswersMessage T.contents T.faults H.contents H.faults
+        ensures { AnswersMessage T.contents T.faults T.settled H.contents H.faults
             result place.now.message ((definition self.now).first place.now message.now)
             (definition self.now).uses_shelf output.old output.new shelf.old shelf.new };
 
@@ -42,7 +42,7 @@ pub trait Answerer {
         shelf: &mut H,
     ) -> Answered
         requires { place.now.fields ≤ 2 ^ 41 }
-        ensures { AnswersMessage T.contents T.faults H.contents H.faults
+        ensures { AnswersMessage T.contents T.faults T.settled H.contents H.faults
             result place.now.message ((definition self.now).second place.now message.now)
             (definition self.now).uses_shelf output.old output.new shelf.old shelf.new };
 
@@ -66,7 +66,7 @@ pub trait Writer {
         message: &Message1<'_>,
         output: &mut T,
     ) -> Answered
-        ensures { AnswersByOutput T.contents T.faults result place.now.message
+        ensures { AnswersByOutput T.contents T.faults T.settled result place.now.message
             ((definition self.now).first place.now message.now) output.old output.new };
 
     /// Answers a message of edition 2 at this place.
@@ -77,7 +77,7 @@ pub trait Writer {
         message: &Message<'_>,
         output: &mut T,
     ) -> Answered
-        ensures { AnswersByOutput T.contents T.faults result place.now.message
+        ensures { AnswersByOutput T.contents T.faults T.settled result place.now.message
             ((definition self.now).second place.now message.now) output.old output.new };
 
     /// What is printed and noted at the end of the input.

@@ -50,7 +50,7 @@ pub fn answer_message<T: Sink, H: Shelf>(
     requires job { IsJob job.now }
     requires fields { place.now.fields ≤ 2 ^ 41 }
     ensures { IfReads (work_of job.now) (option_copied table.entry) (λ command.
-        AnswersMessage T.contents T.faults H.contents H.faults
+        AnswersMessage T.contents T.faults T.settled H.contents H.faults
         result place.now.message (given command place.now (held_octets held.now)) command.uses_shelf
         output.old output.new shelf.old shelf.new) }
 {
@@ -205,7 +205,7 @@ pub(crate) fn answer_held<C: Answerer, T: Sink, H: Shelf>(
     shelf: &mut H,
 ) -> Answered
     requires { place.now.fields ≤ 2 ^ 41 }
-    ensures { AnswersMessage T.contents T.faults H.contents H.faults
+    ensures { AnswersMessage T.contents T.faults T.settled H.contents H.faults
         result place.now.message (given (C.definition answerer.now) place.now (held_octets held.now))
         (C.definition answerer.now).uses_shelf output.old output.new shelf.old shelf.new }
 {

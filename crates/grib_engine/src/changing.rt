@@ -23,7 +23,7 @@ pub(crate) trait Changer {
 
     /// Writes what is made of a message, or keeps it, wherever it stands.
     fn change<T: Sink>(&self, alloc: Global, message: &Message<'_>, output: &mut T) -> Answered
-        ensures { (place : AtPlace) → AnswersByOutput T.contents T.faults result place.message
+        ensures { (place : AtPlace) → AnswersByOutput T.contents T.faults T.settled result place.message
             (gives self.now place message.now) output.old output.new };
 
     ghost lawful: { (changer : Self) → IsLawfulCommand (commands.changing (gives changer)) };

@@ -79,7 +79,7 @@ fn write_first<T: Sink>(
     message: &Message1<'_>,
     output: &mut T,
 ) -> Result<(), Stop>
-    ensures { WritesTo T.contents T.faults result output.old output.new
+    ensures { WritesTo T.contents T.faults T.settled result output.old output.new
         (printed_lines.check_line place.now.message place.now.before 1 (length message.now) 1) }
 {
     let total = message.length();
@@ -94,7 +94,7 @@ fn write_second<T: Sink>(
     message: &Message<'_>,
     output: &mut T,
 ) -> Result<(), Stop>
-    ensures { WritesTo T.contents T.faults result output.old output.new
+    ensures { WritesTo T.contents T.faults T.settled result output.old output.new
         (printed_lines.check_line place.now.message place.now.before 2 (length message.now)
         (field_count message.now)) }
 {
@@ -120,7 +120,7 @@ fn write_heard<T: Sink>(
     requires whole { (octets : List ℕ) × Heard arrival.now octets
         × (verdict_2 octets ≡ Accepted (length octets)) }
     ensures { (octets : List ℕ) → Heard arrival.now octets → verdict_2 octets ≡ Accepted (length octets)
-        → WritesTo T.contents T.faults result output.old output.new
+        → WritesTo T.contents T.faults T.settled result output.old output.new
         (printed_lines.check_line place.now.message place.now.before 2 (length octets) (field_count octets)) }
 {
     let total = arrival.octets();

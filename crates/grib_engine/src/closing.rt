@@ -1,9 +1,10 @@
 //! The end of a run: its note, and what a lower layer holds back.
 
-ghost use Rattle.std.specs.Prelude.{◌≡◌, true, OnOk, MatchResult};
+ghost use Rattle.std.specs.Prelude.{◌≡◌, ◌≢◌, true, false, IfErr, OnOk, MatchResult};
 ghost use Rattle.std.specs.Io.KnownBytes.{Keeps};
-ghost use Rattle.grib_engine.specs.Closing.{ClosesRun, EndsInTurn, EndsRun};
+ghost use Rattle.grib_engine.specs.Closing.{ClosesRun, EndsInTurn, EndsRun, StandsWhole};
 ghost use Rattle.grib_engine.specs.Counts.{NoneCounted, CountsEither};
+ghost use Rattle.grib_engine.specs.Outcomes.{note_with};
 ghost use Rattle.grib_engine.specs.Pending.{Writes};
 ghost use Rattle.grib_stream.specs.declared.outcome.Outcome.TheVariants.{WriteFault};
 
@@ -25,6 +26,10 @@ pub fn close<T: Sink, N: Sink>(
 ) -> Outcome
     ensures closes { ClosesRun T.contents T.faults T.settled N.contents N.faults N.settled
         outcome note.now result output.old output.new notes.old notes.new }
+
+    // Where neither sink takes memory and no write fails, all is brought to its end, after Memory too.
+    ensures whole { T.takes_memory ≡ false → N.takes_memory ≡ false → result ≢ WriteFault
+        → (result ≡ outcome) × StandsWhole T.settled N.contents N.settled note.now output.new notes.old notes.new }
 
     // After a write fault all is as it was.
     ensures after_fault { outcome ≡ WriteFault
@@ -51,6 +56,10 @@ pub fn close_with_note<T: Sink, N: Sink>(
 ) -> Outcome
     ensures ends { EndsRun T.contents T.faults T.settled N.contents N.faults N.settled
         outcome done.now result output.old output.new notes.old notes.new }
+
+    // Where neither sink takes memory and no write fails, all is brought to its end, after Memory too.
+    ensures whole { T.takes_memory ≡ false → N.takes_memory ≡ false → result ≢ WriteFault
+        → StandsWhole T.settled N.contents N.settled (note_with done.now result) output.new notes.old notes.new }
     ensures after_fault { outcome ≡ WriteFault
         → (result ≡ WriteFault) × (output.new ≡ output.old) × (notes.new ≡ notes.old) }
     ensures output_kept { Keeps (T.contents output.old) (T.contents output.new) }
@@ -91,6 +100,7 @@ fn settle<T: Sink, N: Sink>(note: &[u8], output: &mut T, notes: &mut N) -> Resul
         (N.faults notes.old) (N.faults notes.new))
         (λ stop. CountsEither stop (T.faults output.old) (T.faults output.new)
         (N.faults notes.old) (N.faults notes.new)) }
+    ensures memory { T.takes_memory ≡ false → N.takes_memory ≡ false → IfErr result (λ stop. stop ≡ Stop.Failed) }
     ensures order { EndsInTurn T.faults T.settled N.contents N.faults N.settled note.now
         output.old output.new notes.old notes.new }
 {

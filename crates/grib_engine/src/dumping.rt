@@ -76,7 +76,7 @@ fn append_dump<T: Sink>(
     output: &mut T,
 ) -> Result<(), Stop>
     requires few { length column.now.points < 2 ^ 32 }
-    ensures { WritesToAllBut T.contents T.faults result output.old output.new
+    ensures { WritesToAllBut T.contents T.faults T.settled result output.old output.new
         (lines.old.items ++ dumps.dumped listed.now reference.now column.now) lines.new.items }
 {
     let numbers = reference_line(alloc, reference, column.e, column.d)?;

@@ -30,7 +30,7 @@ impl Ending {
         totals: &Totals,
         output: &mut T,
     ) -> Result<(), Stop>
-        ensures { WritesTo T.contents T.faults result output.old output.new
+        ensures { WritesTo T.contents T.faults T.settled result output.old output.new
             (endings.ending_text self.now totals.now) }
     {
         match self {

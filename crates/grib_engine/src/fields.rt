@@ -32,7 +32,7 @@ pub(crate) trait FieldPrinter {
         requires first { 1 ≤ field }
         requires last { field ≤ field_count message.now }
         requires can_print { can_print self.now message.now ≡ true }
-        ensures { WritesToAllBut T.contents T.faults result output.old output.new
+        ensures { WritesToAllBut T.contents T.faults T.settled result output.old output.new
             (lines.old.items ++ text self.now message.now number field) lines.new.items };
 }
 
@@ -45,7 +45,7 @@ pub(crate) fn write_fields<F: FieldPrinter, T: Sink>(
     output: &mut T,
 ) -> Result<(), Stop>
     requires { F.can_print printer.now message.now ≡ true }
-    ensures { WritesTo T.contents T.faults result output.old output.new
+    ensures { WritesTo T.contents T.faults T.settled result output.old output.new
         (texts_from (F.text printer.now message.now number) (field_count message.now) 1) }
 {
     let mut lines = Vec::with_capacity(alloc, ROOM)?;
@@ -63,7 +63,7 @@ fn append_fields<F: FieldPrinter, T: Sink>(
     output: &mut T,
 ) -> Result<(), Stop>
     requires { F.can_print printer.now message.now ≡ true }
-    ensures { WritesToAllBut T.contents T.faults result output.old output.new
+    ensures { WritesToAllBut T.contents T.faults T.settled result output.old output.new
         (lines.old.items ++ texts_from (F.text printer.now message.now number) (field_count message.now) 1)
         lines.new.items }
 {

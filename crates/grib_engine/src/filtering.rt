@@ -44,7 +44,7 @@ fn write_filtered<T: Sink>(
     message: &Message<'_>,
     output: &mut T,
 ) -> Result<u64, Stop>
-    ensures writes { WritesTo T.contents T.faults result output.old output.new
+    ensures writes { WritesTo T.contents T.faults T.settled result output.old output.new
         (filtered conditions.now message.now) }
     ensures count { IfOk result (λ written. written ≡ length (filtered conditions.now message.now)) }
 {
@@ -80,7 +80,7 @@ fn write_matching<T: Sink>(
 ) -> Result<u64, Stop>
     requires message { IsMessage message.now }
     requires front { IsFront conditions.now message.now front }
-    ensures writes { WritesTo T.contents T.faults result output.old output.new
+    ensures writes { WritesTo T.contents T.faults T.settled result output.old output.new
         (texts_from (single_if conditions.now message.now) (field_count message.now) 1) }
     ensures count { IfOk result (λ written. written
         ≡ length (texts_from (single_if conditions.now message.now) (field_count message.now) 1)) }
@@ -106,7 +106,7 @@ fn write_if_matching<T: Sink>(
     requires front { IsFront conditions.now message.now front }
     requires first { 1 ≤ field }
     requires last { field ≤ field_count message.now }
-    ensures writes { WritesTo T.contents T.faults result output.old output.new
+    ensures writes { WritesTo T.contents T.faults T.settled result output.old output.new
         (single_if conditions.now message.now field) }
     ensures count { IfOk result (λ written. written ≡ length (single_if conditions.now message.now field)) }
     ensures few { IfOk result (λ written. written ≤ 268435456) }

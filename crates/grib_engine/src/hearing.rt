@@ -61,7 +61,7 @@ pub trait Listener: Writer {
         requires whole { (octets : List ℕ) × Heard arrival.now octets
             × (verdict_2 octets ≡ Accepted (length octets)) }
         ensures { (octets : List ℕ) → Heard arrival.now octets → verdict_2 octets ≡ Accepted (length octets)
-            → AnswersByOutput T.contents T.faults result place.now.message
+            → AnswersByOutput T.contents T.faults T.settled result place.now.message
             ((Self.definition self.now).second place.now octets) output.old output.new };
 }
 

@@ -81,7 +81,7 @@ fn write_heard<T: Sink>(
     requires whole { (octets : List ℕ) × Heard arrival.now octets
         × (verdict_2 octets ≡ Accepted (length octets)) }
     ensures { (octets : List ℕ) → Heard arrival.now octets → verdict_2 octets ≡ Accepted (length octets)
-        → WritesTo T.contents T.faults result output.old output.new
+        → WritesTo T.contents T.faults T.settled result output.old output.new
         (texts_from (list_line octets number) (field_count octets) 1) }
 {
     let mut lines = Vec::with_capacity(alloc, ROOM)?;
@@ -100,7 +100,7 @@ fn append_heard<T: Sink>(
     requires whole { (octets : List ℕ) × Heard arrival.now octets
         × (verdict_2 octets ≡ Accepted (length octets)) }
     ensures { (octets : List ℕ) → Heard arrival.now octets → verdict_2 octets ≡ Accepted (length octets)
-        → WritesToAllBut T.contents T.faults result output.old output.new
+        → WritesToAllBut T.contents T.faults T.settled result output.old output.new
         (lines.old.items ++ texts_from (list_line octets number) (field_count octets) 1) lines.new.items }
 {
     let count = arrival.fields();
@@ -124,7 +124,7 @@ fn append_field<T: Sink>(
         × (verdict_2 octets ≡ Accepted (length octets)) × (field ≤ field_count octets) }
     ensures { (octets : List ℕ) → Heard arrival.now octets → verdict_2 octets ≡ Accepted (length octets)
         → field ≤ field_count octets
-        → WritesToAllBut T.contents T.faults result output.old output.new
+        → WritesToAllBut T.contents T.faults T.settled result output.old output.new
         (lines.old.items ++ list_line octets number field) lines.new.items }
 {
     let summary = arrival.summary(field);

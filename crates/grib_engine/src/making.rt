@@ -1,6 +1,6 @@
 //! The message that `make` writes.
 
-ghost use Rattle.std.specs.Prelude.{◌≡◌, true, None, Option, IfOk};
+ghost use Rattle.std.specs.Prelude.{◌≡◌, ◌≢◌, true, false, None, Option, IfOk};
 ghost use Rattle.grib_io.specs.Shelves.{Held as Names};
 ghost use Rattle.grib2_message.specs.Message.{IsMessage};
 ghost use Rattle.grib_made.specs.Made.{made, MayBeMade};
@@ -9,9 +9,10 @@ ghost use Rattle.grib_repack.specs.Faults.{target_of};
 ghost use Rattle.grib_repack.specs.Repacked.{repacked, repack_misfit};
 ghost use Rattle.grib_stream.specs.Acts.{world};
 ghost use Rattle.grib_stream.specs.Run.{Gives};
-ghost use Rattle.grib_stream.specs.declared.outcome.Outcome.TheVariants.{Done};
-ghost use Rattle.grib_engine.specs.Closing.{EndsRun};
+ghost use Rattle.grib_stream.specs.declared.outcome.Outcome.TheVariants.{Done, Memory, WriteFault};
+ghost use Rattle.grib_engine.specs.Closing.{EndsRun, StandsWhole};
 ghost use Rattle.grib_engine.specs.Jobs.{is_target};
+ghost use Rattle.grib_engine.specs.Outcomes.{note_of, note_with};
 ghost use Rattle.grib_engine.specs.Tasks as tasks;
 ghost use Rattle.grib_engine.specs.Tasks.{writing, made_answer};
 
@@ -53,6 +54,8 @@ pub(crate) fn serve_made<T: Sink, N: Sink>(
         (world (T.contents output.old) names) (world (T.contents output.new) names) }
     ensures ends { EndsRun T.contents T.faults T.settled N.contents N.faults N.settled
         Done (tasks.note_of_made seed ni nj target) result output.old output.new notes.old notes.new }
+    ensures memory_noted { T.takes_memory ≡ false → N.takes_memory ≡ false → result ≡ Memory
+        → StandsWhole T.settled N.contents N.settled (note_of Memory) output.new notes.old notes.new }
 {
     match make(alloc, seed, ni, nj, target) {
         Ok(made) => write_noted(
@@ -78,6 +81,8 @@ pub(crate) fn write_noted<T: Sink, N: Sink>(
         (world (T.contents output.old) names) (world (T.contents output.new) names) }
     ensures ends { EndsRun T.contents T.faults T.settled N.contents N.faults N.settled
         Done note.now result output.old output.new notes.old notes.new }
+    ensures whole { T.takes_memory ≡ false → N.takes_memory ≡ false → result ≢ WriteFault
+        → StandsWhole T.settled N.contents N.settled (note_with note.now result) output.new notes.old notes.new }
 {
     match write_whole(output, octets) {
         Ok(()) => close_with_note(alloc, Outcome::Done, note, output, notes),

@@ -24,7 +24,7 @@ pub(crate) fn append_text<T: Sink>(
     text: &[u8],
     output: &mut T,
 ) -> Result<(), Stop>
-    ensures { WritesToAllBut T.contents T.faults result output.old output.new
+    ensures { WritesToAllBut T.contents T.faults T.settled result output.old output.new
         (lines.old.items ++ text.now) lines.new.items }
 {
     make_room(lines, output)?;
@@ -40,7 +40,7 @@ pub(crate) fn append_points<T: Sink>(
     output: &mut T,
 ) -> Result<(), Stop>
     requires few { length points.now < 2 ^ 32 }
-    ensures { WritesToAllBut T.contents T.faults result output.old output.new
+    ensures { WritesToAllBut T.contents T.faults T.settled result output.old output.new
         (lines.old.items ++ point_lines 1 points.now) lines.new.items }
 {
     for (index, point) in points.iter().enumerate() {
@@ -58,7 +58,7 @@ pub(crate) fn append_values<T: Sink>(
 ) -> Result<(), Stop>
     requires few { length points.now < 2 ^ 32 }
     requires fits { first_too_large scale.now points.now ≡ None }
-    ensures { WritesToAllBut T.contents T.faults result output.old output.new
+    ensures { WritesToAllBut T.contents T.faults T.settled result output.old output.new
         (lines.old.items ++ value_lines scale.now 1 points.now) lines.new.items }
 {
     for (index, point) in points.iter().enumerate() {
@@ -75,7 +75,7 @@ fn append_point<T: Sink>(
     point: &Point,
     output: &mut T,
 ) -> Result<(), Stop>
-    ensures { WritesToAllBut T.contents T.faults result output.old output.new
+    ensures { WritesToAllBut T.contents T.faults T.settled result output.old output.new
         (lines.old.items ++ point_line place point.now) lines.new.items }
 {
     make_room(lines, output)?;
@@ -93,7 +93,7 @@ fn append_value<T: Sink>(
     output: &mut T,
 ) -> Result<(), Stop>
     requires { is_point_too_large scale.now point.now ≡ false }
-    ensures { WritesToAllBut T.contents T.faults result output.old output.new
+    ensures { WritesToAllBut T.contents T.faults T.settled result output.old output.new
         (lines.old.items ++ value_line scale.now place point.now) lines.new.items }
 {
     make_room(lines, output)?;
@@ -104,7 +104,7 @@ fn append_value<T: Sink>(
 /// Writes a full buffer, and empties it.
 #[inline]
 fn make_room<T: Sink>(lines: &mut Vec<u8>, output: &mut T) -> Result<(), Stop>
-    ensures { WritesToAllBut T.contents T.faults result output.old output.new
+    ensures { WritesToAllBut T.contents T.faults T.settled result output.old output.new
         lines.old.items lines.new.items }
 {
     if lines.len() >= FULL {

@@ -30,7 +30,7 @@ pub(crate) trait Printer {
         message: &Message1<'_>,
         output: &mut T,
     ) -> Result<(), Stop>
-        ensures { WritesTo T.contents T.faults result output.old output.new
+        ensures { WritesTo T.contents T.faults T.settled result output.old output.new
             (first_text self.now message.now number) };
 
     /// Appends the text of a field of the message with this number to the buffer, which is passed on first
@@ -46,7 +46,7 @@ pub(crate) trait Printer {
     ) -> Result<(), Stop>
         requires first { 1 ≤ field }
         requires last { field ≤ field_count message.now }
-        ensures { WritesToAllBut T.contents T.faults result output.old output.new
+        ensures { WritesToAllBut T.contents T.faults T.settled result output.old output.new
             (lines.old.items ++ field_text self.now message.now number field) lines.new.items };
 }
 

@@ -2,17 +2,19 @@
 
 ghost use Rattle.std.specs.Prelude.{◌≡◌, ◌≢◌, ◌⊎◌, ◌<◌, true, false};
 ghost use Rattle.std.specs.Io.KnownBytes.{Keeps};
+ghost use Rattle.grib_io.specs.Outside.{Unfinished};
 ghost use Rattle.grib_io.specs.Shelves.{Stays};
 ghost use Rattle.grib_stream.specs.Acts.{world};
 ghost use Rattle.grib_stream.specs.Outcomes.{is_cut_short};
 ghost use Rattle.grib_stream.specs.Faults.{faults, CountsRun};
 ghost use Rattle.grib_stream.specs.Soon.{RefusesSoon};
 ghost use Rattle.grib_stream.specs.declared.outcome.Outcome.TheVariants.{Done, ReadFault, WriteFault, ShelfFault, Memory};
-ghost use Rattle.grib_engine.specs.Closing.{EndsRun, Unfinished};
+ghost use Rattle.grib_engine.specs.Closing.{EndsRun, StandsWhole};
 ghost use Rattle.grib_engine.specs.Endings.{ending_note};
 ghost use Rattle.grib_engine.specs.Command.{task};
 ghost use Rattle.grib_engine.specs.Hearing.{IfHears, RefusesInTime, is_second};
 ghost use Rattle.grib_engine.specs.Jobs.{IsJob};
+ghost use Rattle.grib_engine.specs.Outcomes.{note_of, note_with};
 ghost use Rattle.grib_engine.specs.Serving.{RunsJob, NotesJob, NotesJobFront, RefusedJob, Serves};
 ghost use Rattle.grib_engine.specs.Tasks.{Reads, ReadsTable, work_of, makes, reads_table, uses_shelf};
 
@@ -78,6 +80,12 @@ pub fn serve<S: Source, T: Sink, N: Sink, H: Shelf>(
         → (T.settled output.new ≡ true) × (N.settled notes.new ≡ true) }
     ensures unfinished { T.faults output.old < T.faults output.new
         → Unfinished (N.settled notes.old) (N.settled notes.new) }
+    ensures output_unfinished { T.faults output.old < T.faults output.new
+        → Unfinished (T.settled output.old) (T.settled output.new) }
+
+    // Where neither sink takes memory, a run that ends for memory is noted and brought to its end.
+    ensures memory_noted { T.takes_memory ≡ false → N.takes_memory ≡ false → result ≡ Memory
+        → StandsWhole T.settled N.contents N.settled (note_of Memory) output.new notes.old notes.new }
 
     ensures counts { CountsRun result
         (faults (S.faults input.old) (T.faults output.old) (N.faults notes.old) (H.faults shelf.old))
@@ -107,6 +115,8 @@ fn serve_job<S: Source, T: Sink, N: Sink, H: Shelf>(
     ensures serves { Serves S.left S.faults T.contents T.faults T.settled N.contents N.faults N.settled
         H.contents H.faults (work_of job.now) result input.old input.new output.old output.new
         notes.old notes.new shelf.old shelf.new }
+    ensures memory_noted { T.takes_memory ≡ false → N.takes_memory ≡ false → result ≡ Memory
+        → StandsWhole T.settled N.contents N.settled (note_of Memory) output.new notes.old notes.new }
     ensures soon { IfHears job.now (RefusesInTime result (S.left input.old) (S.left input.new)) }
 {
     match job {
@@ -233,9 +243,11 @@ fn serve_tabled<W: TableWriter, S: Source, T: Sink, N: Sink, H: Shelf>(
     notes: &mut N,
     shelf: &mut H,
 ) -> Outcome
-    ensures { Serves S.left S.faults T.contents T.faults T.settled N.contents N.faults N.settled
+    ensures serves { Serves S.left S.faults T.contents T.faults T.settled N.contents N.faults N.settled
         H.contents H.faults (ReadsTable params.now (W.commands writer.now)) result input.old input.new
         output.old output.new notes.old notes.new shelf.old shelf.new }
+    ensures memory_noted { T.takes_memory ≡ false → N.takes_memory ≡ false → result ≡ Memory
+        → StandsWhole T.settled N.contents N.settled (note_of Memory) output.new notes.old notes.new }
 {
     match read_table(alloc, params.as_str(), shelf) {
         Ok(table) => {
@@ -264,9 +276,11 @@ fn serve_messages<C: Answerer, S: Source, T: Sink, N: Sink, H: Shelf>(
     notes: &mut N,
     shelf: &mut H,
 ) -> Outcome
-    ensures { Serves S.left S.faults T.contents T.faults T.settled N.contents N.faults N.settled
+    ensures serves { Serves S.left S.faults T.contents T.faults T.settled N.contents N.faults N.settled
         H.contents H.faults (Reads (C.definition answerer.now)) result input.old input.new
         output.old output.new notes.old notes.new shelf.old shelf.new }
+    ensures memory_noted { T.takes_memory ≡ false → N.takes_memory ≡ false → result ≡ Memory
+        → StandsWhole T.settled N.contents N.settled (note_of Memory) output.new notes.old notes.new }
 {
     let answering = Answering { answerer };
     match answer_within(&answering, alloc, LIMIT, input, output, shelf) {
@@ -287,6 +301,8 @@ fn serve_heard<W: Listener, S: Source, T: Sink, N: Sink, H: Shelf>(
     ensures serves { Serves S.left S.faults T.contents T.faults T.settled N.contents N.faults N.settled
         H.contents H.faults (Reads (W.definition answerer.now.0)) result input.old input.new
         output.old output.new notes.old notes.new shelf.old shelf.new }
+    ensures memory_noted { T.takes_memory ≡ false → N.takes_memory ≡ false → result ≡ Memory
+        → StandsWhole T.settled N.contents N.settled (note_of Memory) output.new notes.old notes.new }
     ensures soon { RefusesSoon is_second (task (W.definition answerer.now.0)) result (S.left input.old) (S.left input.new) }
 {
     let hearing = Hearing { answerer };
@@ -306,6 +322,9 @@ fn close_whole<C: Answerer, T: Sink, N: Sink>(
 ) -> Outcome
     ensures ends { EndsRun T.contents T.faults T.settled N.contents N.faults N.settled
         Done (ending_note (C.definition answerer.now).ending totals.now) result output.old output.new notes.old notes.new }
+    ensures whole { T.takes_memory ≡ false → N.takes_memory ≡ false → result ≢ WriteFault
+        → StandsWhole T.settled N.contents N.settled (note_with (ending_note (C.definition answerer.now).ending totals.now) result)
+        output.new notes.old notes.new }
     ensures output_kept { Keeps (T.contents output.old) (T.contents output.new) }
 {
     match answerer.ending().note(alloc, totals) {

@@ -30,7 +30,7 @@ pub(crate) trait TableWriter {
         message: &Message1<'_>,
         output: &mut T,
     ) -> Answered
-        ensures { (place : AtPlace) → AnswersByOutput T.contents T.faults result place.message
+        ensures { (place : AtPlace) → AnswersByOutput T.contents T.faults T.settled result place.message
             ((commands self.now table.now).first place message.now) output.old output.new };
 
     /// Writes what is made of a message of edition 2, or keeps it, wherever it stands.
@@ -41,7 +41,7 @@ pub(crate) trait TableWriter {
         message: &Message<'_>,
         output: &mut T,
     ) -> Answered
-        ensures { (place : AtPlace) → AnswersByOutput T.contents T.faults result place.message
+        ensures { (place : AtPlace) → AnswersByOutput T.contents T.faults T.settled result place.message
             ((commands self.now table.now).second place message.now) output.old output.new };
 
     ghost lawful: { (writer : Self) → (table : Entries) → IsLawfulCommand (commands writer table) };

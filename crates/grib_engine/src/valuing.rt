@@ -207,7 +207,7 @@ fn write_first<T: Sink>(
 ) -> Result<(), Stop>
     requires places { places ≤ 18 }
     requires fits { values.cause_1 places message.now ≡ None }
-    ensures { WritesTo T.contents T.faults result output.old output.new
+    ensures { WritesTo T.contents T.faults T.settled result output.old output.new
         (values.value_text_1 places message.now number) }
 {
     let column = message.column1(alloc)?;
@@ -241,7 +241,7 @@ fn append_valued<T: Sink>(
     requires mantissa { nat_abs reference.now.mantissa < 2 ^ 24 }
     requires places { places ≤ 18 }
     requires fits { first_too_large (values.scale_by places reference.now column.now) column.now.points ≡ None }
-    ensures { WritesToAllBut T.contents T.faults result output.old output.new
+    ensures { WritesToAllBut T.contents T.faults T.settled result output.old output.new
         (lines.old.items ++ values.valued places listed.now reference.now column.now) lines.new.items }
 {
     let scale = DecimalScale::of(reference, column.e, column.d, places);

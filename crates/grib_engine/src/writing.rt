@@ -1,17 +1,19 @@
 //! Octets on their way to a sink.
 
-ghost use Rattle.std.specs.Prelude.{◌≡◌, length, IfOk, MatchResult};
-ghost use Rattle.grib_engine.specs.Closing.{settled_after, Unfinished};
+ghost use Rattle.std.specs.Prelude.{◌≡◌, false, length, IfOk, IfErr, MatchResult};
+ghost use Rattle.grib_io.specs.Outside.{Unfinished};
+ghost use Rattle.grib_engine.specs.Closing.{settled_after};
 ghost use Rattle.grib_engine.specs.Pending.{WritesTo};
 
 use grib_io::{Sink, Stop};
 
 /// Writes the whole piece.
 pub(crate) fn write_whole<T: Sink>(sink: &mut T, piece: &[u8]) -> Result<(), Stop>
-    ensures writes { WritesTo T.contents T.faults result sink.old sink.new piece.now }
+    ensures writes { WritesTo T.contents T.faults T.settled result sink.old sink.new piece.now }
     ensures settled { MatchResult result
         (λ _. T.settled sink.new ≡ settled_after (T.settled sink.old) piece.now)
         (λ _. Unfinished (T.settled sink.old) (T.settled sink.new)) }
+    ensures memory { T.takes_memory ≡ false → IfErr result (λ stop. stop ≡ Stop.Failed) }
 {
     let mut written = 0;
     while written < piece.len() {
@@ -22,7 +24,7 @@ pub(crate) fn write_whole<T: Sink>(sink: &mut T, piece: &[u8]) -> Result<(), Sto
 
 /// Writes the whole piece, and answers how many octets it has.
 pub(crate) fn write_counted<T: Sink>(sink: &mut T, piece: &[u8]) -> Result<u64, Stop>
-    ensures writes { WritesTo T.contents T.faults result sink.old sink.new piece.now }
+    ensures writes { WritesTo T.contents T.faults T.settled result sink.old sink.new piece.now }
     ensures count { IfOk result (λ count. count ≡ length piece.now) }
 {
     write_whole(sink, piece)?;

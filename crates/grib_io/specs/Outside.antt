@@ -1,6 +1,6 @@
 -- What is said of a source and of a sink: the octets that it has left or holds, where it tells them, and
 -- a count of its faults, which never falls.
-use Rattle.std.specs.Prelude.{◌≡◌, ℕ, ◌+◌, ◌-◌, ◌^◌, ◌≤◌, min, Bool, ◌&&◌, ◌==◌, MatchResult, List, ◌++◌}
+use Rattle.std.specs.Prelude.{◌≡◌, ℕ, ◌+◌, ◌-◌, ◌^◌, ◌≤◌, min, Bool, true, ◌&&◌, ◌==◌, MatchResult, List, ◌++◌}
 use Rattle.std.specs.declared.option.Option.{Option}
 use Rattle.std.specs.declared.result.Result.{Result}
 use Rattle.std.specs.Io.KnownBytes.{Appends}
@@ -30,6 +30,10 @@ CountsStops result before now = MatchResult result (λ _. now ≡ before) (λ st
 -- a write that appends leaves something for `finish`, and no other changes that
 abbrev pub Settles : {E : Type 0} → Result ℕ E → Bool → Bool → Type 0
 Settles result before now = MatchResult result (λ count. now ≡ (before && (count == 0))) (λ _. now ≡ before)
+
+-- nothing was finished: what waited waits
+abbrev pub Unfinished : Bool → Bool → Type 0
+Unfinished before now = now ≡ true → before ≡ true
 
 -- What was held has now some front of these octets after it. An object that does not tell claims nothing.
 abbrev pub AppendsFront : Option (List ℕ) → Option (List ℕ) → List ℕ → Type 0

@@ -1,6 +1,6 @@
 //! A reader and a writer of std as a source and a sink.
 
-ghost use Rattle.std.specs.Prelude.{◌≡◌, ◌<◌, true, IfErr, IfOk, MatchResult, length};
+ghost use Rattle.std.specs.Prelude.{◌≡◌, ◌<◌, true, false, IfErr, IfOk, MatchResult, length};
 ghost use Rattle.std.specs.Io.{ReadsAtMost, WritesAtMost};
 ghost use Rattle.std.specs.Io.KnownBytes.{ReadConsumes, WriteAppends, Keeps};
 ghost use Rattle.grib_io.specs.Outside.{CountsFailure, CountsStop, CountsStops, Settles};
@@ -103,6 +103,8 @@ impl<W: Write> Sink for WriteSink<W> {
     ghost faults = { λ sink. sink.faults };
 
     ghost settled = { λ sink. sink.settled };
+
+    ghost takes_memory = { false };
 
     fn write(&mut self, piece: &[u8]) -> Result<usize, Stop>
         ensures bound { WritesAtMost result piece.now }

@@ -99,6 +99,8 @@ impl Sink for CalmSink {
 
     ghost settled = { λ sink. sink.settled };
 
+    ghost takes_memory = { true };
+
     fn write(&mut self, piece: &[u8]) -> Result<usize, Stop>
         ensures bound { WritesAtMost result piece.now }
         ensures some { IfOk result (λ count. 0 < length piece.now → 0 < count) }

@@ -2,7 +2,7 @@
 //! for every source, sink and shelf, by what an object has left or holds, where it tells that, and by a
 //! count of its faults.
 
-ghost use Rattle.std.specs.Prelude.{◌≡◌, ◌<◌, ℕ, Bool, true, List, length, IfOk, MatchResult};
+ghost use Rattle.std.specs.Prelude.{◌≡◌, ◌<◌, ℕ, Bool, true, false, List, length, IfErr, IfOk, MatchResult};
 ghost use Rattle.std.specs.declared.option.Option.{Option};
 ghost use Rattle.std.specs.Io.{ReadsAtMost, WritesAtMost};
 ghost use Rattle.std.specs.Io.KnownBytes.{ReadConsumes, WriteAppends, Keeps};
@@ -86,6 +86,9 @@ pub trait Sink {
     /// Whether nothing waits for `finish`.
     ghost settled: { Self → Bool };
 
+    /// Whether a call may stop for memory. Else each error is a fault.
+    ghost takes_memory: { Bool };
+
     /// Appends the first octets of `piece`, and answers how many: one at least where there is one. A
     /// refused write appends nothing.
     fn write(&mut self, piece: &[u8]) -> Result<usize, Stop>
@@ -93,14 +96,16 @@ pub trait Sink {
         ensures some { IfOk result (λ count. 0 < length piece.now → 0 < count) }
         ensures octets { WriteAppends (contents self.old) (contents self.new) result piece.now }
         ensures settled { Settles result (settled self.old) (settled self.new) }
-        ensures counted { CountsStops result (faults self.old) (faults self.new) };
+        ensures counted { CountsStops result (faults self.old) (faults self.new) }
+        ensures memory { takes_memory ≡ false → IfErr result (λ stop. stop ≡ Stop.Failed) };
 
     /// Passes on what a lower layer holds back. It changes no contents.
     fn finish(&mut self) -> Result<(), Stop>
         ensures octets { Keeps (contents self.old) (contents self.new) }
         ensures settled { MatchResult result (λ _. settled self.new ≡ true)
             (λ _. settled self.new ≡ settled self.old) }
-        ensures counted { CountsStops result (faults self.old) (faults self.new) };
+        ensures counted { CountsStops result (faults self.old) (faults self.new) }
+        ensures memory { takes_memory ≡ false → IfErr result (λ stop. stop ≡ Stop.Failed) };
 }
 
 /// Where octets are kept under names.

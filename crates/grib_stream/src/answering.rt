@@ -1,6 +1,7 @@
 //! A run over an input, but for its notes.
 
 ghost use Rattle.std.specs.Prelude.{◌≡◌, ◌≢◌, ◌≤◌, ◌^◌, false, IfOk, IfErr};
+ghost use Rattle.grib_io.specs.Outside.{Unfinished};
 ghost use Rattle.grib_stream.specs.Acts.{world};
 ghost use Rattle.grib_stream.specs.Faults.{faults, CountsOne};
 ghost use Rattle.grib_stream.specs.Run.{Runs, Notes, outcome_of};
@@ -38,6 +39,9 @@ pub fn answer_within<K: Performer, S: Source, T: Sink, H: Shelf>(
         (faults (S.faults input.new) (T.faults output.new) 0 (H.faults shelf.new)) }
     ensures soon { RefusesSoon (K.hears performer.now) (K.task performer.now) (outcome_of result)
         (S.left input.old) (S.left input.new) }
+
+    // Nothing of the output is finished before the close of a run, after a fault neither.
+    ensures unfinished { Unfinished (T.settled output.old) (T.settled output.new) }
     ensures shelf { K.uses_shelf performer.now ≡ false → shelf.new ≡ shelf.old }
     ensures unshelved { K.uses_shelf performer.now ≡ false → outcome_of result ≢ ShelfFault }
     ensures note { IfOk result (λ totals. Notes (K.task performer.now) limit totals (S.left input.old)) }

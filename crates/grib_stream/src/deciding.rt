@@ -1,7 +1,7 @@
 //! What is to be done next with the octets that were read.
 
 ghost use Rattle.std.specs.Prelude.{◌≡◌, ◌≢◌, ◌≤◌, ◌<◌, ◌^◌, true, false, Some, ℕ, List, ◌++◌, length};
-ghost use Rattle.grib_io.specs.Outside.{Counted};
+ghost use Rattle.grib_io.specs.Outside.{Counted, Unfinished};
 ghost use Rattle.grib_stream.specs.Stream.{begins, Message};
 ghost use Rattle.grib_stream.specs.Acts.{world};
 ghost use Rattle.grib_stream.specs.Turning.{Turns, WaitsSoon, HearsOrHolds};
@@ -58,6 +58,7 @@ pub(crate) fn decide<K: Performer, T: Sink, H: Shelf>(
     ensures write_fault { result ≡ Turn.Ends WriteFault
         → Counted (T.faults output.old) (T.faults output.new) }
     ensures write_calm { result ≢ Turn.Ends WriteFault → T.faults output.new ≡ T.faults output.old }
+    ensures unfinished { Unfinished (T.settled output.old) (T.settled output.new) }
     ensures shelf_fault { result ≡ Turn.Ends ShelfFault
         → Counted (H.faults shelf.old) (H.faults shelf.new) }
     ensures shelf_calm { result ≢ Turn.Ends ShelfFault → H.faults shelf.new ≡ H.faults shelf.old }

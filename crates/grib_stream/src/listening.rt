@@ -1,7 +1,7 @@
 //! A message that is heard: judged as its octets come, and answered.
 
 ghost use Rattle.std.specs.Prelude.{◌≡◌, ◌≢◌, ◌≤◌, ◌^◌, true, Option, length, take, Err};
-ghost use Rattle.grib_io.specs.Outside.{Counted, CountsStops};
+ghost use Rattle.grib_io.specs.Outside.{Counted, CountsStops, Unfinished};
 ghost use Rattle.grib_io.specs.Shelves.{Held};
 ghost use Rattle.grib_stream.specs.Acts.{world};
 ghost use Rattle.grib_stream.specs.Hearing.{Listens};
@@ -95,6 +95,7 @@ pub(crate) fn answer_heard<K: Performer, S: Source, T: Sink>(
     ensures read_calm { result ≢ Err ReadFault → S.faults input.new ≡ S.faults input.old }
     ensures write_fault { result ≡ Err WriteFault → Counted (T.faults output.old) (T.faults output.new) }
     ensures write_calm { result ≢ Err WriteFault → T.faults output.new ≡ T.faults output.old }
+    ensures unfinished { Unfinished (T.settled output.old) (T.settled output.new) }
     ensures not_shelf { result ≢ Err ShelfFault }
 {
     match listen(performer, alloc, window, input, left) {

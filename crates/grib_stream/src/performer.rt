@@ -1,7 +1,7 @@
 //! What answers the messages of an input.
 
 ghost use Rattle.std.specs.Prelude.{◌≡◌, ◌≢◌, ℕ, ◌≤◌, ◌<◌, ◌+◌, ◌^◌, Bool, true, false, Option, List, [], ◌++◌, length, take, Err, OnOk, OnErr, IfErr};
-ghost use Rattle.grib_io.specs.Outside.{Counted};
+ghost use Rattle.grib_io.specs.Outside.{Counted, Unfinished};
 ghost use Rattle.grib_io.specs.Shelves.{Held};
 ghost use Rattle.grib_stream.specs.Stream.{begins, Message};
 ghost use Rattle.grib_stream.specs.Acts.{world, Did, DidFront};
@@ -94,6 +94,7 @@ pub trait Performer {
         ensures write_fault { result ≡ Ends WriteFault
             → Counted (T.faults output.old) (T.faults output.new) }
         ensures write_calm { result ≢ Ends WriteFault → T.faults output.new ≡ T.faults output.old }
+        ensures unfinished { Unfinished (T.settled output.old) (T.settled output.new) }
         ensures shelf_fault { result ≡ Ends ShelfFault
             → Counted (H.faults shelf.old) (H.faults shelf.new) }
         ensures shelf_calm { result ≢ Ends ShelfFault → H.faults shelf.new ≡ H.faults shelf.old }
@@ -120,6 +121,7 @@ pub trait Performer {
         ensures write_fault { result ≡ Err WriteFault
             → Counted (T.faults output.old) (T.faults output.new) }
         ensures write_calm { result ≢ Err WriteFault → T.faults output.new ≡ T.faults output.old }
+        ensures unfinished { Unfinished (T.settled output.old) (T.settled output.new) }
         ensures unshelved { result ≢ Err ShelfFault };
 
     /// Does what is to be done at the end of the input, by the output alone.
@@ -133,7 +135,8 @@ pub trait Performer {
             → Counted (T.faults output.old) (T.faults output.new)) }
         ensures write_calm { IfErr result (λ outcome. outcome ≢ WriteFault
             → T.faults output.new ≡ T.faults output.old) }
-        ensures calm { OnOk result (T.faults output.new ≡ T.faults output.old) };
+        ensures calm { OnOk result (T.faults output.new ≡ T.faults output.old) }
+        ensures unfinished { Unfinished (T.settled output.old) (T.settled output.new) };
 
     ghost lawful: { (performer : Self) → IsLawful (task performer) };
 

@@ -1,7 +1,7 @@
 //! The messages of an input, answered one after another in whatever pieces it comes.
 
 ghost use Rattle.std.specs.Prelude.{◌≡◌, ◌≢◌, ◌≤◌, ◌<◌, ◌^◌, ◌+◌, ◌⊎◌, max, true, false, length, IfOk, IfErr, OnOk, OnErr};
-ghost use Rattle.grib_io.specs.Outside.{Counted};
+ghost use Rattle.grib_io.specs.Outside.{Counted, Unfinished};
 ghost use Rattle.grib_stream.specs.Acts.{world};
 ghost use Rattle.grib_stream.specs.Answer.{totals_of};
 ghost use Rattle.grib_stream.specs.Soon.{RefusesSoon};
@@ -43,6 +43,7 @@ pub(crate) fn answer_messages<K: Performer, S: Source, T: Sink, H: Shelf>(
         (faults (S.faults input.new) (T.faults output.new) 0 (H.faults shelf.new)) }
     ensures soon { RefusesSoon (K.hears performer.now) (K.task performer.now) (outcome_of result)
         (S.left input.old) (S.left input.new) }
+    ensures unfinished { Unfinished (T.settled output.old) (T.settled output.new) }
     ensures shelf { K.uses_shelf performer.now ≡ false → shelf.new ≡ shelf.old }
     ensures unshelved { K.uses_shelf performer.now ≡ false → outcome_of result ≢ ShelfFault }
 {

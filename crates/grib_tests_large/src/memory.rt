@@ -1,6 +1,6 @@
 //! A run for which there is no memory.
 
-ghost use Rattle.std.specs.Prelude.{Some};
+ghost use Rattle.std.specs.Prelude.{Some, true};
 
 use crate::messages::{LARGE, five_times, message};
 use grib_cli::run;
@@ -23,6 +23,8 @@ impl Sink for Scarce {
     ghost faults = { λ _. 0 };
 
     ghost settled = { λ scarce. scarce.sink.settled };
+
+    ghost takes_memory = { true };
 
     fn write(&mut self, piece: &[u8]) -> Result<usize, Stop> {
         if self.writes == 0 {

@@ -1,5 +1,5 @@
 use Rattle.grib_stream.specs.declared.outcome.Outcome.TheVariants.{ReadFault}
-use Rattle.std.proofs.Common.{◌≡◌, ◌≢◌, IfOk, IfSome, refl, sym, ◌∙◌, map, string_bytes, subst}
+use Rattle.std.proofs.Common.{◌≡◌, ◌≢◌, IfOk, IfSome, [], refl, sym, ◌∙◌, map, string_bytes, subst}
 use Rattle.std.proofs.lemmas.Bool.{false≢true}
 use Rattle.grib_stream.specs.Acts.{world}
 use Rattle.grib_stream.proofs.Exits.{cut_broken}
@@ -7,6 +7,7 @@ use Rattle.grib_engine.specs.Judged.{JudgesInput}
 use Rattle.grib_engine.specs.Leaving.{LeavesFields, LeavesParts}
 use Rattle.grib_stream.proofs.Worlds.{did_keep}
 use Rattle.grib_engine.specs.Outcomes.{NotesFront}
+use Rattle.grib_engine.proofs.Noted.{memory_stands}
 use Rattle.grib_cli.specs.Words.{job_of}
 use Rattle.grib_cli.proofs.Runs.{OneOf, asks, if_asked, by_asked, cut_memory, runs_nothing, soon_nothing, fronts_memory, memory_front, other_front, unshelved_memory, unread_memory, refused_memory, shelf_stays}
 use Rattle.grib_cli.proofs.running.run.Goals as goal
@@ -96,3 +97,7 @@ returns-in-Err-clause-parts g c =
     (runs_nothing job c.close_with_note.result _ _ _
     (cut_memory c.in-Err.fault c.close_with_note.result memory (subst (λ o. OneOf o c.close_with_note.result) c.outcome_of.ensures c.close_with_note.ensures.ends.one_of))
     (did_keep _ _ _ c.close_with_note.ensures.output_kept)))
+
+pub returns-in-Err-clause-memory_noted : goal.returns-in-Err-clause-memory_noted
+returns-in-Err-clause-memory_noted g c = λ off notes_off.
+    memory_stands g.T.Sink.settled g.N.Sink.contents g.N.Sink.settled c.close_with_note.new.output c.args.notes.now c.close_with_note.new.notes [] c.close_with_note.result (c.close_with_note.ensures.whole off notes_off)

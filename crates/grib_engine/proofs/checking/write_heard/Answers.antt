@@ -13,6 +13,7 @@ returns-in_err-line g c =
         front = ([], _, refl, Appends-nil (g.T.Sink.contents c.args.output.now));
       };
       counted = search rules;
+      unfinished = search rules;
     }
 
 pub returns : goal.returns
@@ -20,7 +21,7 @@ returns g c =
     let m = c.args.place.now.message in
     let before = c.args.place.now.before in
     λ octets heard whole.
-    subst (WritesTo g.T.Sink.contents g.T.Sink.faults c.write_whole.result c.args.output.now c.write_whole.new.sink)
+    subst (WritesTo g.T.Sink.contents g.T.Sink.faults g.T.Sink.settled c.write_whole.result c.args.output.now c.write_whole.new.sink)
     (c.as_slice.ensures.value
     ∙ (c.in_ok-line.ensures
     ∙ (ap (λ n. check_line m before 2 n c.fields-fields.result) (c.octets-total.ensures.count octets heard)

@@ -8,6 +8,7 @@ pub returns-in_err-numbers : goal.returns-in_err-numbers
 returns-in_err-numbers g c = record {
   octets = record { whole = search rules; front = front_none _ _ };
   counted = search rules;
+  unfinished = search rules;
 }
 
 pub returns-in_err-append_text : goal.returns-in_err-append_text
@@ -19,6 +20,7 @@ returns-in_err-append_text g c = record {
         c.append_text.ensures.octets.front;
   };
   counted = search rules;
+  unfinished = search rules;
 }
 
 pub returns-in_err-append_text-2 : goal.returns-in_err-append_text-2
@@ -31,6 +33,7 @@ returns-in_err-append_text-2 g c = record {
         c.in_ok-append_text.ensures.octets.whole c.append_text-2.ensures.octets.front;
   };
   counted = search rules;
+  unfinished = search rules;
 }
 
 pub returns : goal.returns
@@ -42,4 +45,5 @@ returns g c = record {
       (c.as_slice.ensures.value ∙ c.in_ok-numbers.ensures) c.as_slice-2.ensures)
       c.in_ok-append_text.ensures.octets.whole c.in_ok-append_text-2.ensures.octets.whole c.append_points.ensures.octets;
   counted = search rules;
+  unfinished = search rules;
 }

@@ -1,4 +1,5 @@
 use Rattle.std.proofs.Common.{◌≡◌, ◌++◌}
+use Rattle.grib_io.specs.Outside.{Unfinished}
 use Rattle.grib_engine.specs.Pending.{AppendsAllBut}
 use Rattle.grib_engine.specs.Command.{texts_from}
 use Rattle.grib_engine.proofs.fields.append_fields.Given as goal
@@ -8,4 +9,5 @@ abbrev pub invariant-loop-index : goal.invariant-loop-index
 invariant-loop-index g l = record {
   appended : AppendsAllBut (g.T.Sink.contents l.fn.output) (g.T.Sink.contents l.output) (l.fn.lines.items ++ texts_from (g.F.FieldPrinter.text l.printer l.message l.number) l.index 1) l.lines.items;
   faults_stay : g.T.Sink.faults l.output ≡ g.T.Sink.faults l.fn.output;
+  unfinished : Unfinished (g.T.Sink.settled l.fn.output) (g.T.Sink.settled l.output);
 }

@@ -9,4 +9,5 @@ returns g c = record {
       (from_empty _ _ c.in_ok-lines.lines.items _ _ c.in_ok-lines.ensures.items c.in_ok-append_fields.ensures.octets.whole) c.as_slice.ensures.value
       c.write_whole.ensures.writes.octets;
   counted = search rules;
+  unfinished = search rules;
 }

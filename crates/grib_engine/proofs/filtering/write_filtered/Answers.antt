@@ -5,7 +5,7 @@ use Rattle.grib_engine.proofs.filtering.write_filtered.Goals as goal
 
 pub returns-then-front-fields-clause-writes : goal.returns-then-front-fields-clause-writes
 returns-then-front-fields-clause-writes g c =
-    subst (WritesTo g.T.Sink.contents g.T.Sink.faults c.write_matching.result c.args.output.now c.write_matching.new.output)
+    subst (WritesTo g.T.Sink.contents g.T.Sink.faults g.T.Sink.settled c.write_matching.result c.args.output.now c.write_matching.new.output)
     (sym (is_parted c.args.conditions.now c.args.message.now
     (front_short _ _ c.matching_front-front.result c.matching_front-front.ensures (omega (arith, c.fields.ensures.count, c.if-front-fields.true)))))
     c.write_matching.ensures.writes
@@ -19,7 +19,7 @@ returns-then-front-fields-clause-count g c =
 
 pub returns-clause-writes : goal.returns-clause-writes
 returns-clause-writes g c =
-    subst (WritesTo g.T.Sink.contents g.T.Sink.faults c.write_counted.result c.args.output.now c.write_counted.new.sink)
+    subst (WritesTo g.T.Sink.contents g.T.Sink.faults g.T.Sink.settled c.write_counted.result c.args.output.now c.write_counted.new.sink)
     (c.octets-octets.ensures.octets
     ∙ sym (is_whole c.args.conditions.now c.args.message.now
     (front_whole _ _ c.matching_front-front.result c.matching_front-front.ensures (omega (arith, c.fields.ensures.count, c.if-front-fields.false)))))

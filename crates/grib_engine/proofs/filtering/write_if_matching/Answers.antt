@@ -7,7 +7,7 @@ use Rattle.grib_engine.proofs.filtering.write_if_matching.Goals as goal
 
 pub returns-clause-writes : goal.returns-clause-writes
 returns-clause-writes g c =
-    subst (WritesTo g.T.Sink.contents g.T.Sink.faults c.write_counted.result _ _)
+    subst (WritesTo g.T.Sink.contents g.T.Sink.faults g.T.Sink.settled c.write_counted.result _ _)
     (c.as_slice.ensures.value ∙ (c.in_ok-octets.ensures ∙ sym (is_single c.args.conditions.now c.args.message.now c.args.field (sym c.if-not-is_matching.ensures))))
     c.write_counted.ensures.writes
 

@@ -11,6 +11,7 @@ returns-in_err-written-clause-writes g c = record {
         c.loop-index.invariant.appended c.write_if_matching.ensures.writes.octets.front;
   };
   counted = search rules;
+  unfinished = search rules;
 }
 
 pub loop-index-preserved : goal.loop-index-preserved
@@ -19,6 +20,7 @@ loop-index-preserved g c =
     record {
       appended = text_written _ _ _ text c.loop-index.index _ (omega arith) c.loop-index.invariant.appended c.in_ok-written.ensures.writes.octets.whole;
       faults_stay = c.in_ok-written.ensures.writes.counted ∙ c.loop-index.invariant.faults_stay;
+      unfinished = λ all. c.loop-index.invariant.unfinished (c.in_ok-written.ensures.writes.unfinished all);
       count = text_counted text c.loop-index.index _ c.loop-index.written _ (omega arith) c.loop-index.invariant.count c.in_ok-written.ensures.count;
       few = omega (arith, c.loop-index.invariant.few, c.in_ok-written.ensures.few);
     }
@@ -28,4 +30,5 @@ returns-clause-writes g c = record {
   octets =
       texts_whole _ _ (single_if c.args.conditions.now c.args.message.now) c.loop-index.index _ c.loop-index.written (omega arith) c.loop-index.invariant.appended;
   counted = search rules;
+  unfinished = search rules;
 }

@@ -14,11 +14,12 @@ returns-in_err-line g c =
         front = ([], _, refl, Appends-nil (g.T.Sink.contents c.args.output.now));
       };
       counted = counts_passed c.from_residual.result Memory (g.T.Sink.faults c.args.output.now) (g.T.Sink.faults c.args.output.now) c.from_residual.ensures.1 refl;
+      unfinished = λ all. all;
     }
 
 pub returns : goal.returns
 returns g c =
     λ octets heard whole few.
-    subst (λ text. WritesToAllBut g.T.Sink.contents g.T.Sink.faults c.append_text.result c.args.output.now c.append_text.new.output (c.args.lines.now.items ++ text) c.append_text.new.lines.items)
+    subst (λ text. WritesToAllBut g.T.Sink.contents g.T.Sink.faults g.T.Sink.settled c.append_text.result c.args.output.now c.append_text.new.output (c.args.lines.now.items ++ text) c.append_text.new.lines.items)
     (c.as_slice.ensures.value ∙ (c.in_ok-line.ensures ∙ ap (λ s. summary_line s c.args.number c.args.field) (c.summary-summary.ensures octets heard whole few)))
     c.append_text.ensures

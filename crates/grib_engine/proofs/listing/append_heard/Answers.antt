@@ -12,6 +12,7 @@ pub loop-index-init : goal.loop-index-init
 loop-index-init g c = record {
   appended = λ octets heard whole. ([], append-nil c.args.lines.now.items, Appends-nil (g.T.Sink.contents c.args.output.now));
   faults_stay = refl;
+  unfinished = λ all. all;
 }
 
 pub returns-in_err-append_field : goal.returns-in_err-append_field
@@ -27,6 +28,7 @@ returns-in_err-append_field g c =
       };
       counted = counts_passed c.from_residual.result c.in_err-append_field.field-0.0 (g.T.Sink.faults c.args.output.now) (g.T.Sink.faults c.append_field.new.output) c.from_residual.ensures.1
           (subst (λ n. CountsStop c.in_err-append_field.field-0.0 n (g.T.Sink.faults c.append_field.new.output)) c.loop-index.invariant.faults_stay done.counted);
+      unfinished = λ all. c.loop-index.invariant.unfinished (done.unfinished all);
     }
 
 pub loop-index-preserved : goal.loop-index-preserved
@@ -39,6 +41,7 @@ loop-index-preserved g c =
           field_written _ _ _ c.args.lines.now.items c.loop-index.lines.items _ (list_line octets c.args.number) c.loop-index.index (c.loop-index.index + 1) (omega arith)
           (c.loop-index.invariant.appended octets heard whole) (c.in_ok-append_field.ensures octets heard whole few).octets.whole;
       faults_stay = (c.in_ok-append_field.ensures first c.requires.whole.1 c.requires.whole.2 few_first).counted ∙ c.loop-index.invariant.faults_stay;
+      unfinished = λ all. c.loop-index.invariant.unfinished ((c.in_ok-append_field.ensures first c.requires.whole.1 c.requires.whole.2 few_first).unfinished all);
     }
 
 pub returns : goal.returns
@@ -49,4 +52,5 @@ returns g c =
     record {
       octets = record { whole = appended; front = (appended.0, c.loop-index.lines.items, appended.1, appended.2) };
       counted = c.loop-index.invariant.faults_stay;
+      unfinished = c.loop-index.invariant.unfinished;
     }

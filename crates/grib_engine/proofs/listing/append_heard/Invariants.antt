@@ -1,4 +1,5 @@
 use Rattle.std.proofs.Common.{◌≡◌, ◌++◌, ℕ, List, length}
+use Rattle.grib_io.specs.Outside.{Unfinished}
 use Rattle.grib2_sections.specs.Verdict.{Accepted}
 use Rattle.grib2_message.specs.Acceptance.{verdict_2}
 use Rattle.grib2_arrival.specs.Heard.{Heard}
@@ -13,4 +14,5 @@ invariant-loop-index g l = record {
   appended : (octets : List ℕ) → Heard l.arrival octets → verdict_2 octets ≡ Accepted (length octets)
       → AppendsAllBut (g.T.Sink.contents l.fn.output) (g.T.Sink.contents l.output) (l.fn.lines.items ++ texts_from (list_line octets l.number) l.index 1) l.lines.items;
   faults_stay : g.T.Sink.faults l.output ≡ g.T.Sink.faults l.fn.output;
+  unfinished : Unfinished (g.T.Sink.settled l.fn.output) (g.T.Sink.settled l.output);
 }

@@ -12,6 +12,7 @@ returns-in_err-lines g c =
         front = ([], _, refl, Appends-nil (g.T.Sink.contents c.args.output.now));
       };
       counted = search rules;
+      unfinished = search rules;
     }
 
 pub returns : goal.returns
@@ -24,4 +25,5 @@ returns g c =
           (from_empty _ _ c.in_ok-lines.lines.items _ _ c.in_ok-lines.ensures.items done.octets.whole) c.as_slice.ensures.value
           c.write_whole.ensures.writes.octets;
       counted = subst (λ n. CountsStops c.write_whole.result n (g.T.Sink.faults c.write_whole.new.sink)) done.counted c.write_whole.ensures.writes.counted;
+      unfinished = λ all. done.unfinished (c.write_whole.ensures.writes.unfinished all);
     }

@@ -13,6 +13,7 @@ returns-in_err-append_point g c = record {
         c.append_point.ensures.octets.front;
   };
   counted = search rules;
+  unfinished = search rules;
 }
 
 pub loop-index-preserved : goal.loop-index-preserved
@@ -21,4 +22,5 @@ loop-index-preserved g c = record {
       (take_more c.args.points.now c.loop-index.index _ c.loop-index-test.true) (omega (arith, c.loop-index-test.true)) c.loop-index.invariant.appended
       c.in_ok-append_point.ensures.octets.whole;
   faults_stay = c.in_ok-append_point.ensures.counted ∙ c.loop-index.invariant.faults_stay;
+  unfinished = λ all. c.loop-index.invariant.unfinished (c.in_ok-append_point.ensures.unfinished all);
 }

@@ -10,6 +10,7 @@ returns-in_err-make_room g c = record {
     front = front_more _ _ c.args.lines.now.items c.args.text.now c.make_room.ensures.octets.front;
   };
   counted = search rules;
+  unfinished = search rules;
 }
 
 pub returns : goal.returns
@@ -19,4 +20,5 @@ returns g c = record {
     front = front_more _ _ c.args.lines.now.items c.args.text.now c.make_room.ensures.octets.front;
   };
   counted = search rules;
+  unfinished = search rules;
 }

@@ -11,6 +11,7 @@ returns-in_err-make_room g c = record {
     front = front_more _ _ c.args.lines.now.items (value_line c.args.scale.now c.args.place c.args.point.now) c.make_room.ensures.octets.front;
   };
   counted = search rules;
+  unfinished = search rules;
 }
 
 pub returns-in_err-append_value_line : goal.returns-in_err-append_value_line
@@ -20,6 +21,7 @@ returns-in_err-append_value_line g c = record {
     front = front_more _ _ c.args.lines.now.items (value_line c.args.scale.now c.args.place c.args.point.now) c.make_room.ensures.octets.front;
   };
   counted = search rules;
+  unfinished = search rules;
 }
 
 pub returns : goal.returns
@@ -30,4 +32,5 @@ returns g c = record {
     front = front_more _ _ c.args.lines.now.items (value_line c.args.scale.now c.args.place c.args.point.now) c.make_room.ensures.octets.front;
   };
   counted = search rules;
+  unfinished = search rules;
 }

@@ -14,6 +14,7 @@ returns-in_err-append_value g c = record {
         c.append_value.ensures.octets.front;
   };
   counted = search rules;
+  unfinished = search rules;
 }
 
 pub loop-index-preserved : goal.loop-index-preserved
@@ -22,6 +23,7 @@ loop-index-preserved g c = record {
       (take_more c.args.points.now c.loop-index.index _ c.loop-index-test.true) (omega (arith, c.loop-index-test.true)) c.loop-index.invariant.appended
       c.in_ok-append_value.ensures.octets.whole;
   faults_stay = c.in_ok-append_value.ensures.counted ∙ c.loop-index.invariant.faults_stay;
+  unfinished = λ all. c.loop-index.invariant.unfinished (c.in_ok-append_value.ensures.unfinished all);
 }
 
 pub append_value-requires : goal.append_value-requires

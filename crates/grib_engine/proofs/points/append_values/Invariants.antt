@@ -1,4 +1,5 @@
 use Rattle.std.proofs.Common.{◌≡◌, ◌++◌, take}
+use Rattle.grib_io.specs.Outside.{Unfinished}
 use Rattle.grib_text.specs.Values.{value_lines}
 use Rattle.grib_engine.specs.Pending.{AppendsAllBut}
 use Rattle.grib_engine.proofs.points.append_values.Given as goal
@@ -8,4 +9,5 @@ abbrev pub invariant-loop-index : goal.invariant-loop-index
 invariant-loop-index g l = record {
   appended : AppendsAllBut (g.T.Sink.contents l.fn.output) (g.T.Sink.contents l.output) (l.fn.lines.items ++ value_lines l.scale 1 (take l.index l.points)) l.lines.items;
   faults_stay : g.T.Sink.faults l.output ≡ g.T.Sink.faults l.fn.output;
+  unfinished : Unfinished (g.T.Sink.settled l.fn.output) (g.T.Sink.settled l.output);
 }

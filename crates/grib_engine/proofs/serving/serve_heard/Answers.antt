@@ -1,10 +1,11 @@
-use Rattle.std.proofs.Common.{◌^◌, rules}
+use Rattle.std.proofs.Common.{[], ◌^◌, rules}
 use Rattle.std.proofs.lemmas.Bool.{false≢true}
 use Rattle.grib_stream.proofs.Exits.{runs_to_the_end}
 use Rattle.grib_stream.proofs.Worlds.{did_keep}
 use Rattle.grib_stream.specs.declared.outcome.Outcome.TheVariants.{Done}
 use Rattle.grib_engine.proofs.HeardMessages.{soon_kept, done_soon}
-use Rattle.grib_engine.proofs.Noted.{keeps_or_cuts, front_ended, no_shelf_fault}
+use Rattle.grib_engine.specs.Endings.{ending_note}
+use Rattle.grib_engine.proofs.Noted.{keeps_or_cuts, front_ended, no_shelf_fault, unfinished_then, memory_stands}
 use Rattle.grib_engine.proofs.serving.serve_heard.Goals as goal
 
 pub returns-in-Ok-clause-serves : goal.returns-in-Ok-clause-serves
@@ -15,6 +16,9 @@ returns-in-Ok-clause-serves g c = record {
   noted_front = search rules;
   settles = search rules;
   unfinished = search rules;
+  output_unfinished =
+      unfinished_then g.T.Sink.faults g.T.Sink.settled Done c.args.output.now c.answer_within.new.output c.close_whole.new.output c.in-Ok.ensures.unfinished
+      c.in-Ok.ensures.counts.write_calm (λ no. absurd (cc no)) c.close_whole.ensures.ends.output_unfinished;
   counts = search rules;
   made_input = λ no. absurd (false≢true no);
   made = λ no. absurd (false≢true no);
@@ -39,6 +43,9 @@ returns-in-Err-clause-serves g c = record {
       c.in-Err.ensures.counts.shelf c.close_with_note.ensures.ends.noted_front;
   settles = search rules;
   unfinished = search rules;
+  output_unfinished =
+      unfinished_then g.T.Sink.faults g.T.Sink.settled c.in-Err.outcome c.args.output.now c.answer_within.new.output c.close_with_note.new.output c.in-Err.ensures.unfinished
+      c.in-Err.ensures.counts.write_calm (λ e. (c.close_with_note.ensures.after_fault e).1) c.close_with_note.ensures.ends.output_unfinished;
   counts = search rules;
   made_input = λ no. absurd (false≢true no);
   made = λ no. absurd (false≢true no);
@@ -52,3 +59,9 @@ pub returns-in-Err-clause-soon : goal.returns-in-Err-clause-soon
 returns-in-Err-clause-soon g c =
     soon_kept (g.W.Writer.definition c.args.answerer.now.0) c.in-Err.outcome c.close_with_note.result _ _
     (keeps_or_cuts c.in-Err.outcome c.close_with_note.result c.close_with_note.ensures.ends.one_of) c.in-Err.ensures.soon
+
+pub returns-in-Ok-clause-memory_noted : goal.returns-in-Ok-clause-memory_noted
+returns-in-Ok-clause-memory_noted g c = λ off notes_off. memory_stands g.T.Sink.settled g.N.Sink.contents g.N.Sink.settled c.close_whole.new.output c.args.notes.now c.close_whole.new.notes (ending_note (g.W.Writer.definition c.args.answerer.now.0).ending c.in-Ok.totals) c.close_whole.result (c.close_whole.ensures.whole off notes_off)
+
+pub returns-in-Err-clause-memory_noted : goal.returns-in-Err-clause-memory_noted
+returns-in-Err-clause-memory_noted g c = λ off notes_off. memory_stands g.T.Sink.settled g.N.Sink.contents g.N.Sink.settled c.close_with_note.new.output c.args.notes.now c.close_with_note.new.notes [] c.close_with_note.result (c.close_with_note.ensures.whole off notes_off)

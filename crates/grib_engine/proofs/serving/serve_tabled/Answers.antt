@@ -8,16 +8,17 @@ use Rattle.grib_table.specs.Tabled.{Stood, CountsTableStop}
 use Rattle.grib_engine.specs.Command.{task}
 use Rattle.grib_engine.specs.Outcomes.{NotesRun}
 use Rattle.grib_engine.specs.Serving.{RunsTabled, NotesTabled, NotesTabledFront, IfRefused}
+use Rattle.grib_engine.proofs.Noted.{memory_stands}
 use Rattle.grib_engine.proofs.Tabled.{stands, did_stays, runs_after, runs_none, broken_of, not_read, notes_none, shelf_noted, memory_noted, fronts_none, if_refused}
 use Rattle.grib_engine.proofs.serving.serve_tabled.Goals as goal
 
-pub returns-in-Ok : goal.returns-in-Ok
-returns-in-Ok g c =
+pub returns-in-Ok-clause-serves : goal.returns-in-Ok-clause-serves
+returns-in-Ok-clause-serves g c =
     let read = c.in-Ok.ensures.read in
     let kept = c.in-Ok.ensures.kept in
     let stood = subst (λ name. Stood (g.H.Shelf.contents c.args.shelf.now) name read.0) c.as_str.ensures read.1 in
     let counted = c.in-Ok.ensures.counted in
-    let ran = c.serve_messages.ensures in
+    let ran = c.serve_messages.ensures.serves in
     record {
       runs = (
         read.0,
@@ -35,6 +36,7 @@ returns-in-Ok g c =
       );
       settles = ran.settles;
       unfinished = ran.unfinished;
+      output_unfinished = ran.output_unfinished;
       counts = subst (λ s. CountsRun c.serve_messages.result
           (faults (g.S.Source.faults c.args.input.now) (g.T.Sink.faults c.args.output.now) (g.N.Sink.faults c.args.notes.now) s)
           (faults (g.S.Source.faults c.serve_messages.new.input) (g.T.Sink.faults c.serve_messages.new.output) (g.N.Sink.faults c.serve_messages.new.notes) (g.H.Shelf.faults c.serve_messages.new.shelf)))
@@ -47,8 +49,8 @@ returns-in-Ok g c =
       shelf_kept = λ on. subst (λ s. Stays (g.H.Shelf.contents c.args.shelf.now) (g.H.Shelf.contents s)) (sym (ran.shelf_stays (g.met.W.TableWriter.unshelved c.args.writer.now c.in-Ok.table))) kept;
     }
 
-pub returns-in-Err-ShelfFault : goal.returns-in-Err-ShelfFault
-returns-in-Err-ShelfFault g c =
+pub returns-in-Err-ShelfFault-clause-serves : goal.returns-in-Err-ShelfFault-clause-serves
+returns-in-Err-ShelfFault-clause-serves g c =
     let stand = stands (g.H.Shelf.contents c.args.shelf.now) c.args.params.now in
     let read = c.in-Err-ShelfFault.ensures in
     let result = c.close_with_note-in-Err-ShelfFault.result in
@@ -63,6 +65,7 @@ returns-in-Err-ShelfFault g c =
       noted_front = (stand.0, stand.1, fronts_none (g.W.TableWriter.commands c.args.writer.now) _ _ _ _ _ _ _ _ (λ note. shelf_noted _ _ note _ _ _ _ counted ends.noted_front));
       settles = ends.settles;
       unfinished = ends.unfinished;
+      output_unfinished = ends.output_unfinished;
       counts = search rules;
       made_input = λ no. absurd (false≢true no);
       made = λ no. absurd (false≢true no);
@@ -72,8 +75,8 @@ returns-in-Err-ShelfFault g c =
       shelf_kept = λ on. read.kept;
     }
 
-pub returns-in-Err-Memory : goal.returns-in-Err-Memory
-returns-in-Err-Memory g c =
+pub returns-in-Err-Memory-clause-serves : goal.returns-in-Err-Memory-clause-serves
+returns-in-Err-Memory-clause-serves g c =
     let stand = stands (g.H.Shelf.contents c.args.shelf.now) c.args.params.now in
     let read = c.in-Err-Memory.ensures in
     let result = c.close_with_note-in-Err-Memory.result in
@@ -87,6 +90,7 @@ returns-in-Err-Memory g c =
       noted_front = (stand.0, stand.1, fronts_none (g.W.TableWriter.commands c.args.writer.now) _ _ _ _ _ _ _ _ (λ note. memory_noted _ _ note _ _ _ _ ends.noted_front));
       settles = ends.settles;
       unfinished = ends.unfinished;
+      output_unfinished = ends.output_unfinished;
       counts = search rules;
       made_input = λ no. absurd (false≢true no);
       made = λ no. absurd (false≢true no);
@@ -95,3 +99,12 @@ returns-in-Err-Memory g c =
       refused_input = (stand.0, stand.1, if_refused _ _ left_alone);
       shelf_kept = λ on. read.kept;
     }
+
+pub returns-in-Err-Refused-clause-memory_noted : goal.returns-in-Err-Refused-clause-memory_noted
+returns-in-Err-Refused-clause-memory_noted g c = λ off notes_off. memory_stands g.T.Sink.settled g.N.Sink.contents g.N.Sink.settled c.close_with_note.new.output c.args.notes.now c.close_with_note.new.notes [] c.close_with_note.result (c.close_with_note.ensures.whole off notes_off)
+
+pub returns-in-Err-ShelfFault-clause-memory_noted : goal.returns-in-Err-ShelfFault-clause-memory_noted
+returns-in-Err-ShelfFault-clause-memory_noted g c = λ off notes_off. memory_stands g.T.Sink.settled g.N.Sink.contents g.N.Sink.settled c.close_with_note-in-Err-ShelfFault.new.output c.args.notes.now c.close_with_note-in-Err-ShelfFault.new.notes [] c.close_with_note-in-Err-ShelfFault.result (c.close_with_note-in-Err-ShelfFault.ensures.whole off notes_off)
+
+pub returns-in-Err-Memory-clause-memory_noted : goal.returns-in-Err-Memory-clause-memory_noted
+returns-in-Err-Memory-clause-memory_noted g c = λ off notes_off. memory_stands g.T.Sink.settled g.N.Sink.contents g.N.Sink.settled c.close_with_note-in-Err-Memory.new.output c.args.notes.now c.close_with_note-in-Err-Memory.new.notes [] c.close_with_note-in-Err-Memory.result (c.close_with_note-in-Err-Memory.ensures.whole off notes_off)

@@ -10,6 +10,7 @@ pub returns-in_err-numbers : goal.returns-in_err-numbers
 returns-in_err-numbers g c = record {
   octets = record { whole = search rules; front = front_none _ _ };
   counted = search rules;
+  unfinished = search rules;
 }
 
 pub returns-in_err-append_text : goal.returns-in_err-append_text
@@ -22,6 +23,7 @@ returns-in_err-append_text g c = record {
         c.append_text.ensures.octets.front;
   };
   counted = search rules;
+  unfinished = search rules;
 }
 
 pub returns-in_err-append_text-2 : goal.returns-in_err-append_text-2
@@ -34,6 +36,7 @@ returns-in_err-append_text-2 g c = record {
         c.in_ok-append_text.ensures.octets.whole c.append_text-2.ensures.octets.front;
   };
   counted = search rules;
+  unfinished = search rules;
 }
 
 pub returns : goal.returns
@@ -45,6 +48,7 @@ returns g c = record {
       (c.as_slice.ensures.value ∙ c.in_ok-numbers.ensures) c.of-scale.ensures c.as_slice-2.ensures)
       c.in_ok-append_text.ensures.octets.whole c.in_ok-append_text-2.ensures.octets.whole c.append_values.ensures.octets;
   counted = search rules;
+  unfinished = search rules;
 }
 
 pub append_values-requires-clause-fits : goal.append_values-requires-clause-fits

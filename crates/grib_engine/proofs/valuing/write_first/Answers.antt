@@ -10,18 +10,21 @@ pub returns-in_err-column : goal.returns-in_err-column
 returns-in_err-column g c = record {
   octets = record { whole = search rules; front = front_none _ _ };
   counted = search rules;
+  unfinished = search rules;
 }
 
 pub returns-in_err-listed : goal.returns-in_err-listed
 returns-in_err-listed g c = record {
   octets = record { whole = search rules; front = front_none _ _ };
   counted = search rules;
+  unfinished = search rules;
 }
 
 pub returns-in_err-lines : goal.returns-in_err-lines
 returns-in_err-lines g c = record {
   octets = record { whole = search rules; front = front_none _ _ };
   counted = search rules;
+  unfinished = search rules;
 }
 
 pub returns-in_err-append_valued : goal.returns-in_err-append_valued
@@ -34,6 +37,7 @@ returns-in_err-append_valued g c = record {
         (front_from_empty _ _ c.in_ok-lines.lines.items _ c.in_ok-lines.ensures.items c.append_valued.ensures.octets.front);
   };
   counted = search rules;
+  unfinished = search rules;
 }
 
 pub returns : goal.returns
@@ -46,6 +50,7 @@ returns g c = record {
       (from_empty _ _ c.in_ok-lines.lines.items _ _ c.in_ok-lines.ensures.items c.in_ok-append_valued.ensures.octets.whole) c.as_slice-2.ensures.value
       c.write_whole.ensures.writes.octets);
   counted = search rules;
+  unfinished = search rules;
 }
 
 pub append_valued-requires-clause-fits : goal.append_valued-requires-clause-fits

@@ -1,4 +1,5 @@
 use Rattle.std.proofs.Common.{◌≡◌, ◌-◌, ◌≤◌, ◌&&◌, ◌==◌, length, take}
+use Rattle.grib_io.specs.Outside.{Unfinished}
 use Rattle.std.specs.Io.KnownBytes.{Appends}
 use Rattle.grib_engine.proofs.writing.write_whole.Given as goal
 
@@ -7,6 +8,7 @@ abbrev pub invariant-loop-written : goal.invariant-loop-written
 invariant-loop-written g l = record {
   appended : Appends (g.T.Sink.contents l.fn.sink) (g.T.Sink.contents l.sink) (take l.written l.piece);
   faults_stay : g.T.Sink.faults l.sink ≡ g.T.Sink.faults l.fn.sink;
+  unfinished : Unfinished (g.T.Sink.settled l.fn.sink) (g.T.Sink.settled l.sink);
   waits : g.T.Sink.settled l.sink ≡ (g.T.Sink.settled l.fn.sink && (l.written == 0));
   within : l.written ≤ length l.piece;
 }

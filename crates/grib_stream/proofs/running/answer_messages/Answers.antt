@@ -21,6 +21,7 @@ messages-init g c = record {
   stands = search rules;
   read_calm = refl;
   write_calm = refl;
+  unfinished = λ e. e;
   shelf_calm = refl;
   shelf = λ _. refl;
   short = short_start (g.K.Performer.hears c.args.performer.now) _ _ c.new-window.ensures.octets;
@@ -51,6 +52,7 @@ messages-preserved-in-Message g c =
       stands = c.messages.invariant.stands;
       read_calm = c.messages.invariant.read_calm;
       write_calm = c.in-Message.ensures.write_calm (λ e. cc) ∙ c.messages.invariant.write_calm;
+      unfinished = λ e. c.messages.invariant.unfinished (c.in-Message.ensures.unfinished e);
       shelf_calm = c.in-Message.ensures.shelf_calm (λ e. cc) ∙ c.messages.invariant.shelf_calm;
       shelf = λ e. c.in-Message.ensures.shelf e ∙ c.messages.invariant.shelf e;
     }
@@ -206,6 +208,7 @@ messages-preserved g c =
       stands = stands_on _ _ _ _ _ c.in_ok-rest-in-Open-2.ensures.stands;
       read_calm = c.in_ok-rest-in-Open-2.ensures.calm ∙ c.messages.invariant.read_calm;
       write_calm = c.in-Wait.ensures.write_calm (λ e. cc) ∙ c.messages.invariant.write_calm;
+      unfinished = λ e. c.messages.invariant.unfinished (c.in-Wait.ensures.unfinished e);
       shelf_calm = c.in-Wait.ensures.shelf_calm (λ e. cc) ∙ c.messages.invariant.shelf_calm;
       shelf = λ e. c.in-Wait.ensures.shelf e ∙ c.messages.invariant.shelf e;
     }
@@ -329,6 +332,7 @@ messages-preserved-in-Open g c =
       stands = subst (λ rest. Stands rest 0 0 c.answer_heard.new.left (g.S.Source.left c.answer_heard.new.input)) (sym c.in-Open.is) (search rules);
       read_calm = c.in_ok-message-in-Open.ensures.read_calm (λ e. cc) ∙ c.messages.invariant.read_calm;
       write_calm = c.in_ok-message-in-Open.ensures.write_calm (λ e. cc) ∙ (c.in-Wait.ensures.write_calm (λ e. cc) ∙ c.messages.invariant.write_calm);
+      unfinished = λ e. c.messages.invariant.unfinished (c.in-Wait.ensures.unfinished (c.in_ok-message-in-Open.ensures.unfinished e));
       shelf_calm = c.in-Wait.ensures.shelf_calm (λ e. cc) ∙ c.messages.invariant.shelf_calm;
       shelf = λ e. c.in-Wait.ensures.shelf e ∙ c.messages.invariant.shelf e;
     }

@@ -1,4 +1,5 @@
 use Rattle.std.proofs.Common.{◌≡◌, ◌+◌, ◌*◌, false, length}
+use Rattle.grib_io.specs.Outside.{Unfinished}
 use Rattle.grib_stream.specs.Acts.{world}
 use Rattle.grib_stream.specs.Rest.{Stands, turns_left}
 use Rattle.grib_stream.proofs.Going.{Going}
@@ -16,6 +17,7 @@ invariant-messages g l =
       stands : Stands l.rest 0 0 l.left (left l.input);
       read_calm : g.S.Source.faults l.input ≡ g.S.Source.faults l.fn.input;
       write_calm : g.T.Sink.faults l.output ≡ g.T.Sink.faults l.fn.output;
+      unfinished : Unfinished (g.T.Sink.settled l.fn.output) (g.T.Sink.settled l.output);
       shelf_calm : g.H.Shelf.faults l.shelf ≡ g.H.Shelf.faults l.fn.shelf;
       shelf : g.K.Performer.uses_shelf l.performer ≡ false → l.shelf ≡ l.fn.shelf;
     }

@@ -9,6 +9,7 @@ pub returns-in_err-column : goal.returns-in_err-column
 returns-in_err-column g c = record {
   octets = record { whole = search rules; front = front_none _ _ };
   counted = search rules;
+  unfinished = search rules;
 }
 
 pub second_reference-reference-requires : goal.second_reference-reference-requires
@@ -20,6 +21,7 @@ pub returns-in_err-listed : goal.returns-in_err-listed
 returns-in_err-listed g c = record {
   octets = record { whole = search rules; front = front_none _ _ };
   counted = search rules;
+  unfinished = search rules;
 }
 
 pub returns : goal.returns
@@ -32,4 +34,5 @@ returns g c = record {
       c.in_ok-column.ensures.column (c.as_slice.ensures.value ∙ c.in_ok-listed.ensures) c.second_reference-reference.ensures.value)
       c.append_dump.ensures.octets;
   counted = search rules;
+  unfinished = search rules;
 }

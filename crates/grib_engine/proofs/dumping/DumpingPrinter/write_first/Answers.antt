@@ -9,18 +9,21 @@ pub returns-in_err-column : goal.returns-in_err-column
 returns-in_err-column g c = record {
   octets = record { whole = search rules; front = front_none _ _ };
   counted = search rules;
+  unfinished = search rules;
 }
 
 pub returns-in_err-listed : goal.returns-in_err-listed
 returns-in_err-listed g c = record {
   octets = record { whole = search rules; front = front_none _ _ };
   counted = search rules;
+  unfinished = search rules;
 }
 
 pub returns-in_err-lines : goal.returns-in_err-lines
 returns-in_err-lines g c = record {
   octets = record { whole = search rules; front = front_none _ _ };
   counted = search rules;
+  unfinished = search rules;
 }
 
 pub returns-in_err-append_dump : goal.returns-in_err-append_dump
@@ -33,6 +36,7 @@ returns-in_err-append_dump g c = record {
         (front_from_empty _ _ c.in_ok-lines.lines.items _ c.in_ok-lines.ensures.items c.append_dump.ensures.octets.front);
   };
   counted = search rules;
+  unfinished = search rules;
 }
 
 pub returns : goal.returns
@@ -45,4 +49,5 @@ returns g c = record {
       (from_empty _ _ c.in_ok-lines.lines.items _ _ c.in_ok-lines.ensures.items c.in_ok-append_dump.ensures.octets.whole) c.as_slice-2.ensures.value
       c.write_whole.ensures.writes.octets);
   counted = search rules;
+  unfinished = search rules;
 }

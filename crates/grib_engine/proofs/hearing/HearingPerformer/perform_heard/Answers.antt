@@ -37,3 +37,7 @@ pub returns-clause-unshelved : goal.returns-clause-unshelved
 returns-clause-unshelved g c =
     let done = c.heard-answered.ensures c.requires.whole.0 c.requires.whole.1 (second_verdict c.requires.whole.0 c.requires.whole.2) in
     λ e. done.unshelved (heard_shelf c.heard-answered.result c.args.place.now c.octets-octets.result c.fields-fields.result (sym c.heard.ensures ∙ e))
+
+pub returns-clause-unfinished : goal.returns-clause-unfinished
+returns-clause-unfinished g c =
+    (c.heard-answered.ensures c.requires.whole.0 c.requires.whole.1 (second_verdict c.requires.whole.0 c.requires.whole.2)).unfinished

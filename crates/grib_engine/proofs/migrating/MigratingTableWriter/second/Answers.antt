@@ -5,5 +5,5 @@ use Rattle.grib_engine.proofs.migrating.MigratingTableWriter.second.Goals as goa
 
 pub returns : goal.returns
 returns g c = λ place.
-    by_writing g.T.Sink.contents g.T.Sink.faults c.write_counted.result c.written.result _ _ _ _ _ c.written.ensures (ap given_whole (sym c.octets.ensures.octets))
+    by_writing g.T.Sink.contents g.T.Sink.faults g.T.Sink.settled c.write_counted.result c.written.result _ _ _ _ _ c.written.ensures (ap given_whole (sym c.octets.ensures.octets))
     c.write_counted.ensures.count c.write_counted.ensures.writes

@@ -9,6 +9,7 @@ pub returns-in_err-summary : goal.returns-in_err-summary
 returns-in_err-summary g c = record {
   octets = record { whole = search rules; front = front_none _ _ };
   counted = search rules;
+  unfinished = search rules;
 }
 
 pub ieee_reference-reference-requires : goal.ieee_reference-reference-requires
@@ -20,6 +21,7 @@ pub returns-in_err-text : goal.returns-in_err-text
 returns-in_err-text g c = record {
   octets = record { whole = search rules; front = front_none _ _ };
   counted = search rules;
+  unfinished = search rules;
 }
 
 pub returns : goal.returns
@@ -35,4 +37,5 @@ returns g c =
           c.in_ok-summary.ensures c.ieee_reference-reference.ensures.value scaling.ensures.reference scaling.ensures.e scaling.ensures.d)
           c.append_text.ensures.octets;
       counted = search rules;
+      unfinished = search rules;
     }

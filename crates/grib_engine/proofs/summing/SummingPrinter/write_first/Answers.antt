@@ -8,12 +8,14 @@ pub returns-in_err-summary : goal.returns-in_err-summary
 returns-in_err-summary g c = record {
   octets = record { whole = search rules; front = front_none _ _ };
   counted = search rules;
+  unfinished = search rules;
 }
 
 pub returns-in_err-text : goal.returns-in_err-text
 returns-in_err-text g c = record {
   octets = record { whole = search rules; front = front_none _ _ };
   counted = search rules;
+  unfinished = search rules;
 }
 
 pub returns : goal.returns
@@ -27,4 +29,5 @@ returns g c =
           c.in_ok-summary.ensures c.ibm_reference-reference.ensures.value scaling.ensures.reference scaling.ensures.e scaling.ensures.d)
           c.write_whole.ensures.writes.octets;
       counted = search rules;
+      unfinished = search rules;
     }

@@ -10,6 +10,7 @@ pub returns-in_err-column : goal.returns-in_err-column
 returns-in_err-column g c = record {
   octets = record { whole = search rules; front = front_none _ _ };
   counted = search rules;
+  unfinished = search rules;
 }
 
 pub second_reference-reference-requires : goal.second_reference-reference-requires
@@ -21,6 +22,7 @@ pub returns-in_err-listed : goal.returns-in_err-listed
 returns-in_err-listed g c = record {
   octets = record { whole = search rules; front = front_none _ _ };
   counted = search rules;
+  unfinished = search rules;
 }
 
 pub returns : goal.returns
@@ -33,6 +35,7 @@ returns g c = record {
       c.in_ok-column.ensures.column (c.as_slice.ensures.value ∙ c.in_ok-listed.ensures) c.second_reference-reference.ensures.value)
       c.append_valued.ensures.octets;
   counted = search rules;
+  unfinished = search rules;
 }
 
 pub append_valued-requires-clause-fits : goal.append_valued-requires-clause-fits

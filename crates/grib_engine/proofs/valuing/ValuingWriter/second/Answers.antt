@@ -11,5 +11,5 @@ returns-in-Ok-None g c =
     let message = c.args.message.now in
     let m = c.args.place.now.message in
     let none : cause_2 places message ≡ None = sym c.in-Ok-None.ensures ∙ c.in-Ok-None.field-0-is in
-    by_printing g.T.Sink.contents g.T.Sink.faults c.write_fields.result c.printed.result m _ (texts_from (value_text places message m) (field_count message) 1) _ _
+    by_printing g.T.Sink.contents g.T.Sink.faults g.T.Sink.settled c.write_fields.result c.printed.result m _ (texts_from (value_text places message m) (field_count message) 1) _ _
     c.printed.ensures (ap (λ o. text_unless o m (texts_from (value_text places message m) (field_count message) 1)) none) c.write_fields.ensures
