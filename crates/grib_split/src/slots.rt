@@ -132,8 +132,8 @@ impl Slots {
         }
     }
 
-    /// Goes on from the shortest run to longer ones, 16 places at a time, and ends where a run has numbers on
-    /// both sides of the number: then each longer run does, and none of their numbers changes.
+    /// Goes on from the shortest run to longer ones, 16 places at a time, and ends where the number is between the
+    /// least and the greatest one of a run: it is so for each longer run, and what is kept of them stays.
     #[inline]
     fn take_number(&mut self, number: u32, start: usize) -> u64
         requires start { start < 64 }
