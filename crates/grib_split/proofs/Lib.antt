@@ -6,6 +6,8 @@ pub mod Heads
 pub mod Lanes
 pub mod Bits
 pub mod Widths
+pub mod Nested
+pub mod Parts
 pub mod Kept
 pub mod Bounds
 pub mod Going

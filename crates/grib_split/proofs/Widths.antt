@@ -10,7 +10,7 @@ use Rattle.grib_split.specs.Runs.{Tells, Wide}
 
 -- ---- what is kept of a run
 
-with_number : (present : Bool) (low n : ℕ) (numbers : List ℕ) → n ≤ 4294967295
+pub with_number : (present : Bool) (low n : ℕ) (numbers : List ℕ) → n ≤ 4294967295
     → (present ≡ true → 0 < length numbers) → (present ≡ false → length numbers ≡ 0)
     → low ≡ cond present (smallest numbers) 4294967295 → min low n ≡ smallest (n ∷ numbers)
 with_number true low n numbers small some none is = omega (arith, is, smallest-more n numbers (some refl))
@@ -115,6 +115,44 @@ wide_number k bits limit low high p s n (code ∷ codes) t small below less w = 
   | inr none ↦ absurd (none_left k bits limit (code ∷ codes) w (omega (arith, less)) (omega arith) none)
 ]
 
+none_greatest : (run : List Code) → list_any is_present run ≡ false → greatest (present_codes run) ≡ 0
+none_greatest [] e = refl
+none_greatest (Present n ∷ run) e = cc
+none_greatest (Primary ∷ run) e = none_greatest run e
+none_greatest (Secondary ∷ run) e = none_greatest run e
+
+-- a number between the least and the greatest one changes neither
+covered_some : (k bits limit low high p s n : ℕ) (run : List Code) → Tells low high p s run → low ≤ n → n ≤ high
+    → list_any is_present run ≡ true → Wide k bits limit run → Wide k bits limit (Present n ∷ run)
+covered_some k bits limit low high p s n run t lower higher some w =
+    let numbers = present_codes run in
+    let q = list_any is_primary run in
+    let r = list_any is_secondary run in
+    let low_is : low ≡ smallest numbers = t.least ∙ rw some refl in
+    let more = smallest-more n numbers (some_present run some) in
+    let least_stays : smallest numbers ≡ smallest (n ∷ numbers) = omega (arith, more, low_is, lower) in
+    let greatest_stays : greatest numbers ≡ max n (greatest numbers) = omega (arith, t.most, higher) in
+    record {
+      is = w.is ∙ (width_of-by k run
+          ∙ (ap (λ b. width_by b q r (smallest numbers) (greatest numbers) k) some
+          ∙ (ap₂ (λ x y. width_by true q r x y k) least_stays greatest_stays
+          ∙ sym (width_of-by k (Present n ∷ run)))));
+      few = w.few;
+      none = λ e long. cc;
+      stays = w.stays;
+    }
+
+pub wide_covered : (k bits limit low high p s n : ℕ) (run : List Code) → Tells low high p s run → n + k < 2 ^ 32 → low ≤ n → n ≤ high
+    → Wide k bits limit run → Wide k bits limit (Present n ∷ run)
+wide_covered k bits limit low high p s n run t below lower higher w = elim (true_or_false (list_any is_present run)) [
+  | inl some ↦ covered_some k bits limit low high p s n run t lower higher some w
+  | inr none ↦ absurd (
+      let low_is : low ≡ 4294967295 = t.least ∙ rw none refl in
+      let high_is : high ≡ 0 = t.most ∙ none_greatest run none in
+      omega (arith, low_is, high_is, lower, higher)
+      )
+]
+
 long_where : (f : Code → Bool) (run : List Code) → list_any f run ≡ true → 0 < length run
 long_where f [] e = cc
 long_where f (code ∷ run) e = omega arith
@@ -176,12 +214,6 @@ many_by true false false low high p s k sm gr a b none d e order more =
     let is : width_by true false false sm gr k ≡ digits (gr - sm + k) = rw (ne_eqb gr sm other) refl in
     ap₂ (λ x y. digits (x - y + k)) b a ∙ sym is
 many_by false q r low high p s k sm gr a b none d e order more = absurd (omega (arith, a, b, none refl, order))
-
-none_greatest : (run : List Code) → list_any is_present run ≡ false → greatest (present_codes run) ≡ 0
-none_greatest [] e = refl
-none_greatest (Present n ∷ run) e = cc
-none_greatest (Primary ∷ run) e = none_greatest run e
-none_greatest (Secondary ∷ run) e = none_greatest run e
 
 pub wide_marks : (low high p s k bits : ℕ) (run : List Code) → Tells low high p s run → high < low → bits ≡ min (min p s) 1 → bits ≤ 32 → Wide k bits 0 run
 wide_marks low high p s k bits run t less is few = record {

@@ -1,5 +1,5 @@
 -- The runs of codes from a place on, each kept at the place of its end, counted round 64.
-use Rattle.std.specs.Prelude.{◌≡◌, ℕ, ◌+◌, ◌-◌, ◌*◌, ◌^◌, ◌%◌, ◌<◌, ◌≤◌, ◌⊎◌, cond, false, List, length, take, drop, replicate, slice_index}
+use Rattle.std.specs.Prelude.{◌≡◌, ℕ, ◌+◌, ◌-◌, ◌*◌, ◌^◌, ◌%◌, ◌<◌, ◌≤◌, ◌⊎◌, min, max, cond, false, List, length, take, drop, replicate, slice_index}
 use Rattle.std.specs.List.{list_any}
 use Rattle.std.specs.Int.{bit_at}
 use Rattle.grib_base.specs.declared.code.Code.{Code}
@@ -99,3 +99,28 @@ pub record SameMarks (a b : Slots) : Type 0 where
 pub record SameWidths (a b : Slots) : Type 0 where
   pub width : b.width ≡ a.width
   pub limit : b.limit ≡ a.limit
+
+-- The runs that begin after `start` hold one another: `start` is the place of the shortest, and of two, the longer one
+-- has no greater least number and no lesser greatest one.
+pub record Nested (slots : Slots) (start : ℕ) : Type 0 where
+  pub least : (i j : ℕ) → i ≤ j → j < 64
+      → slice_index slots.least ((start + j) % 64) ≤ slice_index slots.least ((start + i) % 64)
+  pub greatest : (i j : ℕ) → i ≤ j → j < 64
+      → slice_index slots.greatest ((start + i) % 64) ≤ slice_index slots.greatest ((start + j) % 64)
+
+-- a number is between the least and the greatest one of the run at a place
+pub record Covers (slots : Slots) (place number : ℕ) : Type 0 where
+  pub least : slice_index slots.least place ≤ number
+  pub most : number ≤ slice_index slots.greatest place
+
+-- a number is put before the run at a place, which is among these places unless all differ by less than the limit
+pub record Numbered (a b : Slots) (number places place : ℕ) : Type 0 where
+  pub least : slice_index b.least place ≡ min (slice_index a.least place) number
+  pub greatest : slice_index b.greatest place ≡ max (slice_index a.greatest place) number
+  pub apart : bit_at places place ≡ 0
+      → slice_index b.greatest place - slice_index b.least place < slice_index a.limit place
+
+-- the numbers of the run at a place stay
+pub record StayAt (a b : Slots) (place : ℕ) : Type 0 where
+  pub least : slice_index b.least place ≡ slice_index a.least place
+  pub greatest : slice_index b.greatest place ≡ slice_index a.greatest place

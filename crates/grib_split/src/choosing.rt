@@ -161,7 +161,7 @@ fn best_at(slots: &mut Slots, codes: &[Code], at: usize, costs: &Costs) -> Cheap
     ensures cost { result.cost ≡ with_first (header_of costs.now) (width_of costs.now.reserved) (drop at codes.now)
         result.length (after_of slots.old at result.length) }
 {
-    let places = slots.take(codes[at]);
+    let places = slots.take(codes[at], (at + 1) % 64);
     slots.mend(places, at, costs.reserved);
     let best = slots.cheapest(at);
     Cheapest {

@@ -1,10 +1,10 @@
 //! The runs of codes that begin at one place.
 
-ghost use Rattle.std.specs.Prelude.{◌≡◌, ℕ, true, false, ◌+◌, ◌-◌, ◌*◌, ◌%◌, ◌^◌, ◌<◌, ◌≤◌, ◌∷◌, ◌≢◌, ◌⊎◌, List, min, max, replicate, slice_index, slice_set};
+ghost use Rattle.std.specs.Prelude.{◌≡◌, ℕ, true, false, ◌+◌, ◌-◌, ◌*◌, ◌%◌, ◌^◌, ◌<◌, ◌≤◌, ◌∷◌, ◌≢◌, ◌⊎◌, List, min, max, replicate, length, slice_index, slice_set};
 ghost use Rattle.std.specs.Int.{bit_at};
 ghost use Rattle.grib_base.specs.declared.code.Code as code_io;
 ghost use Rattle.grib_packing.specs.Span.{IsBelow};
-ghost use Rattle.grib_split.specs.Runs.{Tells, Told, Wide, Begun, Priced, PricedBut, Falls, length_to, after_of, SameNumbers, SameMarks, SameWidths};
+ghost use Rattle.grib_split.specs.Runs.{Tells, Told, Wide, Begun, Priced, PricedBut, Falls, Nested, Covers, Numbered, StayAt, length_to, after_of, SameNumbers, SameMarks, SameWidths};
 
 use grib_base::Code;
 use grib_packing::bit_length;
@@ -107,10 +107,13 @@ impl Slots {
         self.secondary[place] = 0;
     }
 
-    /// Puts a code before each run, and gives the places where the width may be another one.
+    /// Puts a code before each run, of which the shortest is at place `start`, and gives the places where the width
+    /// may be another one.
     #[inline]
-    pub(crate) fn take(&mut self, code: Code) -> u64
-        requires { IsBelow 0 code }
+    pub(crate) fn take(&mut self, code: Code, start: usize) -> u64
+        requires below { IsBelow 0 code }
+        requires start { start < 64 }
+        requires nested { Nested self.old start }
         ensures told { (place : ℕ) (run : List code_io.Code) → place < 64
             → Told self.old place run → Told self.new place (code ∷ run) }
         ensures wide { (place k : ℕ) (run : List code_io.Code) → place < 64 → k ≤ 2 → bit_at result place ≡ 0
@@ -123,28 +126,65 @@ impl Slots {
         ensures after { self.new.after ≡ self.old.after }
     {
         match code {
-            Code::Present(number) => self.take_number(number as u32),
+            Code::Present(number) => self.take_number(number as u32, start),
             Code::Primary => self.take_primary(),
             Code::Secondary => self.take_secondary(),
         }
     }
 
+    /// Goes on from the shortest run to longer ones, 16 places at a time, and ends where the number is between the
+    /// least and the greatest one of a run: it is so for each longer run, and what is kept of them stays.
     #[inline]
-    fn take_number(&mut self, number: u32) -> u64
+    fn take_number(&mut self, number: u32, start: usize) -> u64
+        requires start { start < 64 }
+        requires nested { Nested self.old start }
         ensures least { (place : ℕ) → place < 64
             → slice_index self.new.least place ≡ min (slice_index self.old.least place) number }
         ensures greatest { (place : ℕ) → place < 64
             → slice_index self.new.greatest place ≡ max (slice_index self.old.greatest place) number }
         ensures places { (place : ℕ) → place < 64 → bit_at result place ≡ 0
-            → slice_index self.new.greatest place - slice_index self.new.least place < slice_index self.old.limit place }
+            → (slice_index self.new.greatest place - slice_index self.new.least place < slice_index self.old.limit place)
+            ⊎ Covers self.old place number }
         ensures marks { SameMarks self.old self.new }
         ensures widths { SameWidths self.old self.new }
         ensures after { self.new.after ≡ self.old.after }
         ensures cost { self.new.cost ≡ self.old.cost }
     {
-        self.least = lesser_of(&self.least, number);
-        self.greatest = greater_of(&self.greatest, number);
-        places_apart(&self.least, &self.greatest, &self.limit)
+        let first = start / 16 * 16;
+        let mut places = self.take_part(number, first);
+        let mut seen = 16;
+        while seen < 64 && self.misses(number, (first + seen) % 64) {
+            places |= self.take_part(number, (first + seen) % 64);
+            seen += 16;
+        }
+        places
+    }
+
+    /// Puts a number before the runs at the 16 places from `from` on, and gives those of them where the width
+    /// may be another one.
+    #[inline]
+    fn take_part(&mut self, number: u32, from: usize) -> u64
+        requires { from + 16 ≤ 64 }
+        ensures here { (place : ℕ) → from ≤ place → place < from + 16
+            → Numbered self.old self.new number result place }
+        ensures others { (place : ℕ) → (place < from) ⊎ (from + 16 ≤ place) → StayAt self.old self.new place }
+        ensures marks { SameMarks self.old self.new }
+        ensures widths { SameWidths self.old self.new }
+        ensures after { self.new.after ≡ self.old.after }
+        ensures cost { self.new.cost ≡ self.old.cost }
+    {
+        lesser_from(&mut self.least, number, from);
+        greater_from(&mut self.greatest, number, from);
+        places_apart(&self.least, &self.greatest, &self.limit, from)
+    }
+
+    /// Whether a number is not between the least and the greatest one of the run at a place.
+    #[inline]
+    fn misses(&self, number: u32, place: usize) -> bool
+        requires { place < 64 }
+        ensures { result ≡ false → Covers self.now place number }
+    {
+        number < self.least[place] || self.greatest[place] < number
     }
 
     #[inline]
@@ -403,34 +443,47 @@ fn first_from(places: u64, start: usize) -> u32
     }
 }
 
-/// The lesser of each of 64 numbers and one.
+/// Puts the lesser of each of 16 numbers and one in their places.
 #[inline]
-fn lesser_of(numbers: &[u32; 64], number: u32) -> [u32; 64]
-    ensures { (place : ℕ) → place < 64 → slice_index result place ≡ min (slice_index numbers.now place) number }
+fn lesser_from(numbers: &mut [u32], number: u32, from: usize)
+    requires { from + 16 ≤ length numbers.old }
+    ensures here { (place : ℕ) → from ≤ place → place < from + 16
+        → slice_index numbers.new place ≡ min (slice_index numbers.old place) number }
+    ensures others { (place : ℕ) → (place < from) ⊎ (from + 16 ≤ place)
+        → slice_index numbers.new place ≡ slice_index numbers.old place }
 {
-    let lanes = u32x64::from_array(*numbers).simd_min(u32x64::splat(number));
-    lanes.to_array()
+    let lanes = u32x16::from_slice(&numbers[from..]).simd_min(u32x16::splat(number));
+    lanes.copy_to_slice(&mut numbers[from..]);
 }
 
-/// The greater of each of 64 numbers and one.
+/// Puts the greater of each of 16 numbers and one in their places.
 #[inline]
-fn greater_of(numbers: &[u32; 64], number: u32) -> [u32; 64]
-    ensures { (place : ℕ) → place < 64 → slice_index result place ≡ max (slice_index numbers.now place) number }
+fn greater_from(numbers: &mut [u32], number: u32, from: usize)
+    requires { from + 16 ≤ length numbers.old }
+    ensures here { (place : ℕ) → from ≤ place → place < from + 16
+        → slice_index numbers.new place ≡ max (slice_index numbers.old place) number }
+    ensures others { (place : ℕ) → (place < from) ⊎ (from + 16 ≤ place)
+        → slice_index numbers.new place ≡ slice_index numbers.old place }
 {
-    let lanes = u32x64::from_array(*numbers).simd_max(u32x64::splat(number));
-    lanes.to_array()
+    let lanes = u32x16::from_slice(&numbers[from..]).simd_max(u32x16::splat(number));
+    lanes.copy_to_slice(&mut numbers[from..]);
 }
 
-/// The places where the greatest number is not above the least one by less than the limit.
+/// Those of 16 places where the greatest number is not above the least one by less than the limit.
 #[inline]
-fn places_apart(least: &[u32; 64], greatest: &[u32; 64], limit: &[u32; 64]) -> u64
-    requires ordered { (place : ℕ) → place < 64 → slice_index least.now place ≤ slice_index greatest.now place }
-    requires small { (place : ℕ) → place < 64 → slice_index greatest.now place < 2 ^ 32 }
-    ensures { (place : ℕ) → place < 64 → bit_at result place ≡ 0
+fn places_apart(least: &[u32], greatest: &[u32], limit: &[u32], from: usize) -> u64
+    requires from { from + 16 ≤ 64 }
+    requires least { from + 16 ≤ length least.now }
+    requires greatest { from + 16 ≤ length greatest.now }
+    requires limit { from + 16 ≤ length limit.now }
+    requires ordered { (place : ℕ) → from ≤ place → place < from + 16
+        → slice_index least.now place ≤ slice_index greatest.now place }
+    ensures { (place : ℕ) → from ≤ place → place < from + 16 → bit_at result place ≡ 0
         → slice_index greatest.now place - slice_index least.now place < slice_index limit.now place }
 {
-    let spread = u32x64::from_array(*greatest) - u32x64::from_array(*least);
-    !spread.simd_lt(u32x64::from_array(*limit)).to_bitmask()
+    let spread = u32x16::from_slice(&greatest[from..]) - u32x16::from_slice(&least[from..]);
+    let apart = u32x16::from_slice(&limit[from..]).simd_le(spread);
+    apart.to_bitmask() << from
 }
 
 /// The places of zero.

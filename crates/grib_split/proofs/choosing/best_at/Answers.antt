@@ -6,9 +6,14 @@ use Rattle.grib_packing.specs.Groupings.{width_of}
 use Rattle.grib_split.specs.Costs.{header_of}
 use Rattle.grib_split.specs.Runs.{Run, Runs, Afters, length_to, after_of}
 use Rattle.grib_split.proofs.Kept.{told_same}
+use Rattle.grib_split.proofs.Nested.{nested_waits}
 use Rattle.grib_split.proofs.Going.{runs_by, told_small, after_at, told_taken, priced_taken, afters_same, best_same, costing, first_cost, best_by}
 use Rattle.grib_split.proofs.choosing.best_at.Goals as goal
 use Rattle.grib_split.proofs.choosing.best_at.Goals.{After-cheapest-best}
+
+pub take-places-requires-clause-nested : goal.take-places-requires-clause-nested
+take-places-requires-clause-nested c =
+    nested_waits c.args.costs.now.reserved c.args.codes.now c.args.at c.args.slots.now c.requires.split.codes c.requires.runs
 
 pub mend-requires-clause-small : goal.mend-requires-clause-small
 mend-requires-clause-small c place within =

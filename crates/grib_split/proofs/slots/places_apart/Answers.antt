@@ -6,4 +6,6 @@ wrapped : (high low : ℕ) → low ≤ high → high < 4294967296 → (high + (4
 wrapped high low order small = omega arith
 
 pub returns : goal.returns
-returns c place within unset = apart_lane _ c.args.greatest.now c.args.least.now c.args.limit.now place c.told-greatest c.told-least c.told-limit within (wrapped _ _ (c.requires.ordered place within) (c.requires.small place within)) unset
+returns c place from to unset =
+    apart_lane _ c.args.greatest.now c.args.least.now c.args.limit.now c.args.from place c.requires.from c.requires.greatest c.requires.least c.requires.limit from to
+    (let word = c.type_inv.greatest place in wrapped _ _ (c.requires.ordered place from to) (omega (arith, word.fits))) unset

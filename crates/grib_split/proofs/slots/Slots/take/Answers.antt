@@ -1,10 +1,10 @@
-use Rattle.std.proofs.Common.{◌-◌, ◌<◌, ◌∷◌, min, max, sym, ap, ◌∙◌, subst, arith}
+use Rattle.std.proofs.Common.{◌<◌, ◌∷◌, inl, inr, sym, ap, ◌∙◌, subst, arith}
 use Rattle.std.specs.Prelude.{slice_index}
 use Rattle.grib_base.specs.declared.code.Code.{Code}
 use Rattle.grib_base.specs.declared.code.Code.TheVariants.{Present, Primary, Secondary}
 use Rattle.grib_packing.specs.Span.{IsBelow}
 use Rattle.grib_split.specs.Runs.{Told, Wide}
-use Rattle.grib_split.proofs.Widths.{tells_number, tells_primary, tells_secondary, tells_as, wide_number, wide_primary, wide_secondary}
+use Rattle.grib_split.proofs.Widths.{tells_number, tells_primary, tells_secondary, tells_as, wide_number, wide_covered, wide_primary, wide_secondary}
 use Rattle.std.proofs.lemmas.Simd.{get_or-replicate}
 use Rattle.grib_split.proofs.slots.Slots.take.Goals as goal
 
@@ -12,7 +12,7 @@ pub returns-in-Present-clause-told : goal.returns-in-Present-clause-told
 returns-in-Present-clause-told c place run within t =
     let n = c.in-Present.number in
     let P : Code → Type 0 = λ code. Told c.take_number.new.self place (code ∷ run) in
-    let below : IsBelow 0 (Present n) = subst (IsBelow 0) c.in-Present.is c.requires in
+    let below : IsBelow 0 (Present n) = subst (IsBelow 0) c.in-Present.is c.requires.below in
     let tells = tells_as _ _ _ _ (slice_index c.take_number.new.self.least place) (slice_index c.take_number.new.self.greatest place) (slice_index c.take_number.new.self.primary place) (slice_index c.take_number.new.self.secondary place) (Present n ∷ run) (tells_number _ _ _ _ n run (omega (arith, below)) t.tells)
     (c.take_number.ensures.least place within)
     (c.take_number.ensures.greatest place within)
@@ -25,11 +25,11 @@ returns-in-Present-clause-wide c place k run within few unset below small t w =
     let n = c.in-Present.number in
     let P : Code → Type 0 = λ code. Wide k (slice_index c.args.self.now.width place) (slice_index c.args.self.now.limit place) (code ∷ run) in
     let below_n : IsBelow k (Present n) = subst (IsBelow k) c.in-Present.is below in
-    let low = c.take_number.ensures.least place within in
-    let high = c.take_number.ensures.greatest place within in
-    let less : max (slice_index c.args.self.now.greatest place) n - min (slice_index c.args.self.now.least place) n < slice_index c.args.self.now.limit place =
-    omega (arith, c.take_number.ensures.places place within unset, low, high) in
-    subst P (sym c.in-Present.is) (wide_number k _ _ _ _ _ _ n run t.tells below_n small less w)
+    subst P (sym c.in-Present.is) (elim (c.take_number.ensures.places place within unset) [
+      | inl less ↦ wide_number k _ _ _ _ _ _ n run t.tells below_n small
+          (omega (arith, less, c.take_number.ensures.least place within, c.take_number.ensures.greatest place within)) w
+      | inr covers ↦ wide_covered k _ _ _ _ _ _ n run t.tells below_n covers.least covers.most w
+    ])
 
 pub returns-in-Primary-clause-told : goal.returns-in-Primary-clause-told
 returns-in-Primary-clause-told c place run within t =

@@ -1,0 +1,8 @@
+use Rattle.grib_split.proofs.Lanes.{greater_here, greater_others}
+use Rattle.grib_split.proofs.slots.greater_from.Goals as goal
+
+pub returns-clause-here : goal.returns-clause-here
+returns-clause-here c place from to = greater_here c.args.numbers.now c.args.number c.args.from place c.requires from to
+
+pub returns-clause-others : goal.returns-clause-others
+returns-clause-others c place out = greater_others c.args.numbers.now c.args.number c.args.from place c.requires out
