@@ -8,19 +8,19 @@ ghost use Rattle.grib_stream.specs.Acts.{world};
 ghost use Rattle.grib_stream.specs.Faults.{faults, CountsRun};
 ghost use Rattle.grib_stream.specs.Outcomes.{is_cut_short, is_broken};
 ghost use Rattle.grib_stream.specs.declared.outcome.Outcome.TheVariants.{Done, ReadFault, WriteFault, ShelfFault, Memory};
-ghost use Rattle.grib_engine.specs.Closing.{StandsWhole};
-ghost use Rattle.grib_engine.specs.Hearing.{IfHears, RefusesInTime};
-ghost use Rattle.grib_engine.specs.Judged.{JudgesInput};
-ghost use Rattle.grib_engine.specs.Leaving.{LeavesFields, LeavesParts};
-ghost use Rattle.grib_engine.specs.Outcomes.{note_of, NotesFront};
-ghost use Rattle.grib_engine.specs.Serving.{RunsJob, NotesJob, NotesJobFront, RefusedJob};
-ghost use Rattle.grib_engine.specs.Tasks.{makes, reads_table, uses_shelf};
+ghost use Rattle.grib_answers.specs.Closing.{StandsWhole};
+ghost use Rattle.grib_performed.specs.Hearing.{IfHears, RefusesInTime};
+ghost use Rattle.grib_run_law.specs.Judged.{JudgesInput};
+ghost use Rattle.grib_run_law.specs.Leaving.{LeavesFields, LeavesParts};
+ghost use Rattle.grib_answers.specs.Outcomes.{note_of, NotesFront};
+ghost use Rattle.grib_tasks.specs.Serving.{RunsJob, NotesJob, NotesJobFront, RefusedJob};
+ghost use Rattle.grib_tasks.specs.Tasks.{makes, reads_table, uses_shelf};
 ghost use Rattle.grib_cli.specs.Words as asked;
 
 use crate::words::{JobFault, job_of};
-use grib_engine::laws::{what_a_run_answers_is_in_the_grammar, what_a_run_leaves};
 use grib_engine::{Outcome, close_with_note, serve};
 use grib_io::{Shelf, Sink, Source};
+use grib_run_law::laws::{what_a_run_answers_is_in_the_grammar, what_a_run_leaves};
 use std::alloc::Global;
 
 /// Does what the words ask for with the messages of `input`, or without it: writes the answer to `output`

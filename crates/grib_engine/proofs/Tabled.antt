@@ -17,11 +17,11 @@ use Rattle.grib_stream.specs.declared.outcome.Outcome.TheVariants.{Done, TableRe
 use Rattle.grib_stream.proofs.Exits.{runs_broken}
 use Rattle.grib_stream.proofs.Worlds.{did_none, did_then, front_whole, front_after}
 use Rattle.grib_table.specs.Tabled.{Tabled, Good, Refused, Stood}
-use Rattle.grib_engine.specs.Command.{Command, task}
-use Rattle.grib_engine.specs.Outcomes.{note_of, note_with, NotesFront, Noted}
-use Rattle.grib_engine.specs.Serving.{RunsTabled, NotesTabled, NotesTabledFront, IfRefused}
-use Rattle.grib_engine.specs.Tasks.{refused_answer}
-use Rattle.grib_engine.proofs.Noted.{OneOf, whole_ended}
+use Rattle.grib_answers.specs.Command.{Command, task}
+use Rattle.grib_answers.specs.Outcomes.{note_of, note_with, NotesFront, Noted}
+use Rattle.grib_tasks.specs.Serving.{RunsTabled, NotesTabled, NotesTabledFront, IfRefused}
+use Rattle.grib_tasks.specs.Tasks.{refused_answer}
+use Rattle.grib_answers.proofs.Noted.{OneOf, whole_ended}
 
 -- some text stands under the name, where the shelf tells it
 pub stands : (names : Option Held) (name : List ℕ) → (text : Option (List ℕ)) × Stood names name text

@@ -1,35 +1,21 @@
 //! A message that is answered as a job says.
 
-ghost use Rattle.std.specs.Prelude.{◌≡◌, ◌≤◌, ◌^◌, option_copied};
-ghost use Rattle.grib_engine.specs.Answering.{AnswersMessage};
-ghost use Rattle.grib_engine.specs.Command.{given};
-ghost use Rattle.grib_engine.specs.Jobs.{IsJob};
-ghost use Rattle.grib_engine.specs.Reading.{held_octets};
-ghost use Rattle.grib_engine.specs.Tasks.{IfReads, work_of};
+ghost use Rattle.std.specs.Prelude.{◌≤◌, ◌^◌, option_copied};
+ghost use Rattle.grib_answers.specs.Answering.{AnswersMessage};
+ghost use Rattle.grib_answers.specs.Command.{given};
+ghost use Rattle.grib_answers.specs.Jobs.{IsJob};
+ghost use Rattle.grib_performed.specs.Reading.{held_octets};
+ghost use Rattle.grib_tasks.specs.Tasks.{IfReads, work_of};
 
-use crate::answered::Answered;
-use crate::answerer::{Answerer, ByOutput};
-use crate::changing::Changing;
-use crate::checking::Checking;
-use crate::demoting::Demoting;
-use crate::dumping::Dumping;
-use crate::filtering::Filtering;
-use crate::job::Job;
-use crate::keying::Keying;
-use crate::listing::Listing;
-use crate::migrating::Migrating;
-use crate::printing::Printing;
-use crate::reading::{Held, first_edition, second_edition};
-use crate::repacking::Repacking;
-use crate::rescanning::Rescanning;
-use crate::setting::Setting;
-use crate::shrinking::Shrinking;
-use crate::splitting::Splitting;
-use crate::summing::Summing;
-use crate::tabling::ByTable;
-use crate::valuing::Valuing;
+use grib_answers::{Answered, ByOutput, Job};
+use grib_changed::{
+    ByTable, Changing, Demoting, Filtering, Migrating, Repacking, Rescanning, Setting, Shrinking,
+    Splitting,
+};
 use grib_io::{Shelf, Sink};
 use grib_params::Table;
+use grib_performed::{Held, answer_held};
+use grib_printed::{Checking, Dumping, Keying, Listing, Printing, Summing, Valuing};
 use grib_rescanned::GridEdit;
 use grib_stream::Place;
 use std::alloc::Global;
@@ -192,31 +178,5 @@ pub fn answer_message<T: Sink, H: Shelf>(
             None => Answered::Whole(0),
         },
         Job::Make { .. } | Job::Print(_) => Answered::Whole(0),
-    }
-}
-
-/// Answers a message of either edition at this place.
-pub(crate) fn answer_held<C: Answerer, T: Sink, H: Shelf>(
-    answerer: &C,
-    alloc: Global,
-    place: &Place,
-    held: &Held<'_>,
-    output: &mut T,
-    shelf: &mut H,
-) -> Answered
-    requires { place.now.fields ≤ 2 ^ 41 }
-    ensures { AnswersMessage T.contents T.faults T.settled H.contents H.faults
-        result place.now.message (given (C.definition answerer.now) place.now (held_octets held.now))
-        (C.definition answerer.now).uses_shelf output.old output.new shelf.old shelf.new }
-{
-    match held {
-        Held::One(message) => {
-            first_edition(message);
-            answerer.first(alloc, place, message, output, shelf)
-        }
-        Held::Two(message) => {
-            second_edition(message);
-            answerer.second(alloc, place, message, output, shelf)
-        }
     }
 }

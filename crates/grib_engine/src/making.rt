@@ -10,15 +10,14 @@ ghost use Rattle.grib_repack.specs.Repacked.{repacked, repack_misfit};
 ghost use Rattle.grib_stream.specs.Acts.{world};
 ghost use Rattle.grib_stream.specs.Run.{Gives};
 ghost use Rattle.grib_stream.specs.declared.outcome.Outcome.TheVariants.{Done, Memory, WriteFault};
-ghost use Rattle.grib_engine.specs.Closing.{EndsRun, StandsWhole};
-ghost use Rattle.grib_engine.specs.Jobs.{is_target};
-ghost use Rattle.grib_engine.specs.Outcomes.{note_of, note_with};
-ghost use Rattle.grib_engine.specs.Tasks as tasks;
-ghost use Rattle.grib_engine.specs.Tasks.{writing, made_answer};
+ghost use Rattle.grib_answers.specs.Closing.{EndsRun, StandsWhole};
+ghost use Rattle.grib_answers.specs.Jobs.{is_target};
+ghost use Rattle.grib_answers.specs.Outcomes.{note_of, note_with};
+ghost use Rattle.grib_tasks.specs.Tasks as tasks;
+ghost use Rattle.grib_tasks.specs.Tasks.{writing, made_answer};
 
 use crate::closing::close_with_note;
-use crate::notes::made_note;
-use crate::writing::write_whole;
+use grib_answers::{made_note, write_whole};
 use grib_base::ReadFault;
 use grib_io::{Sink, Stop};
 use grib_made::laws::{

@@ -8,7 +8,7 @@ use Rattle.grib_stream.specs.declared.outcome.Outcome.TheVariants.{Done, Refused
 use Rattle.grib_causes.specs.declared.cause.Cause.{Cause}
 use Rattle.grib_stream.specs.Acts.{writes}
 use Rattle.grib_stream.specs.Answer.{Answer}
-use Rattle.grib_engine.specs.Outcomes.{note_of}
+use Rattle.grib_answers.specs.Outcomes.{note_of}
 use Rattle.grib_worked.specs.Hex.{hex, put}
 use Rattle.grib_worked.specs.Messages.{head, end, identification, grid, product, representation, no_bitmap, values, rotated, marks_only, three_values, grid_3_by_1, differences}
 

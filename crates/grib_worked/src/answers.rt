@@ -6,8 +6,8 @@ ghost use Rattle.grib_base.specs.declared.fault.Reason.TheVariants.{Edition, Gri
 ghost use Rattle.grib_base.specs.Rows.{refusal};
 ghost use Rattle.grib_causes.specs.declared.cause.Cause.TheVariants.{EditionOne, DecimalRange};
 ghost use Rattle.grib_repack.specs.declared.target.RepackTarget.TheVariants.{Simple};
-ghost use Rattle.grib_engine.specs.declared.job.Job.TheVariants.{Check, List, Stats, Dump, Set, Repack};
-ghost use Rattle.grib_engine.specs.Tasks.{answer};
+ghost use Rattle.grib_answers.specs.declared.job.Job.TheVariants.{Check, List, Stats, Dump, Set, Repack};
+ghost use Rattle.grib_tasks.specs.Tasks.{answer};
 ghost use Rattle.grib_worked.specs.Hex.{hex, put};
 ghost use Rattle.grib_worked.specs.Messages.{m1, m2, m3, c2};
 ghost use Rattle.grib_worked.specs.Edition1.{g1};

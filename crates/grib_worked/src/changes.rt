@@ -4,8 +4,8 @@ ghost use Rattle.std.specs.Prelude.{◌≡◌, [], ◌++◌, codes, drop, length
 ghost use Rattle.grib_causes.specs.declared.cause.Cause.TheVariants.{OutOfRange, SecondaryMissing};
 ghost use Rattle.grib_stream.specs.Acts.{written};
 ghost use Rattle.grib_repack.specs.declared.target.RepackTarget.TheVariants.{Simple, Complex, Spatial};
-ghost use Rattle.grib_engine.specs.declared.job.Job.TheVariants.{Repack, Make};
-ghost use Rattle.grib_engine.specs.Tasks.{answer};
+ghost use Rattle.grib_answers.specs.declared.job.Job.TheVariants.{Repack, Make};
+ghost use Rattle.grib_tasks.specs.Tasks.{answer};
 ghost use Rattle.grib_worked.specs.Hex.{hex};
 ghost use Rattle.grib_worked.specs.Messages.{m1, m3, c1, c2};
 ghost use Rattle.grib_worked.specs.Changes.{changed_to, kept_after, c1_in_simple, sevens, sevens_in_groups, second_differences, in_second_differences};

@@ -4,7 +4,7 @@ ghost use Rattle.std.specs.Prelude.{◌≡◌, [], ◌∷◌, ◌++◌, codes, t
 ghost use Rattle.grib_base.specs.Rows.{refusal};
 ghost use Rattle.grib_base.specs.declared.fault.Reason.TheVariants.{Truncated, TotalLength};
 ghost use Rattle.grib_stream.specs.Stream.{stream, stream_of, message_after, Over, Refusing};
-ghost use Rattle.grib_engine.specs.Judging.{judge};
+ghost use Rattle.grib_answers.specs.Judging.{judge};
 ghost use Rattle.grib_worked.specs.Hex.{hex, put};
 ghost use Rattle.grib_worked.specs.Messages.{m1, m2};
 ghost use Rattle.grib_worked.specs.Edition1.{g1};

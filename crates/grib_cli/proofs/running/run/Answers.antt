@@ -3,11 +3,11 @@ use Rattle.std.proofs.Common.{◌≡◌, ◌≢◌, IfOk, IfSome, [], refl, sym,
 use Rattle.std.proofs.lemmas.Bool.{false≢true}
 use Rattle.grib_stream.specs.Acts.{world}
 use Rattle.grib_stream.proofs.Exits.{cut_broken}
-use Rattle.grib_engine.specs.Judged.{JudgesInput}
-use Rattle.grib_engine.specs.Leaving.{LeavesFields, LeavesParts}
+use Rattle.grib_run_law.specs.Judged.{JudgesInput}
+use Rattle.grib_run_law.specs.Leaving.{LeavesFields, LeavesParts}
 use Rattle.grib_stream.proofs.Worlds.{did_keep}
-use Rattle.grib_engine.specs.Outcomes.{NotesFront}
-use Rattle.grib_engine.proofs.Noted.{memory_stands}
+use Rattle.grib_answers.specs.Outcomes.{NotesFront}
+use Rattle.grib_answers.proofs.Noted.{memory_stands}
 use Rattle.grib_cli.specs.Words.{job_of}
 use Rattle.grib_cli.proofs.Runs.{OneOf, asks, if_asked, by_asked, cut_memory, runs_nothing, soon_nothing, fronts_memory, memory_front, other_front, unshelved_memory, unread_memory, refused_memory, shelf_stays}
 use Rattle.grib_cli.proofs.running.run.Goals as goal

@@ -4,7 +4,7 @@ use Rattle.grib_made.specs.Points.{made_column}
 use Rattle.grib_packing.specs.Misfits.{ToSimple}
 use Rattle.grib_repack.specs.Faults.{target_of}
 use Rattle.grib_repack.specs.Repacked.{repacked, repack_misfit}
-use Rattle.grib_engine.proofs.Answers.{target_stands}
+use Rattle.grib_answers.proofs.Answers.{target_stands}
 use Rattle.grib_engine.proofs.Made.{nothing_lost, stays_same}
 use Rattle.grib_engine.proofs.making.make.Goals as goal
 

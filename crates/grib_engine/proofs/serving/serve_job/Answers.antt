@@ -1,8 +1,8 @@
 use Rattle.std.proofs.Common.{sym, subst}
-use Rattle.grib_engine.specs.declared.ending.Ending.TheVariants.{Silent, Total}
-use Rattle.grib_engine.specs.Checking.{line_of, line_2}
-use Rattle.grib_engine.specs.Hearing.{IfHears, RefusesInTime}
-use Rattle.grib_engine.proofs.HeardMessages.{in_time}
+use Rattle.grib_answers.specs.declared.ending.Ending.TheVariants.{Silent, Total}
+use Rattle.grib_printed.specs.Checking.{line_of, line_2}
+use Rattle.grib_performed.specs.Hearing.{IfHears, RefusesInTime}
+use Rattle.grib_performed.proofs.HeardMessages.{in_time}
 use Rattle.grib_engine.proofs.serving.serve_job.Goals as goal
 
 pub returns-in-Check-clause-soon : goal.returns-in-Check-clause-soon

@@ -5,10 +5,10 @@ use Rattle.grib_stream.specs.Faults.{faults, CountsRun}
 use Rattle.grib_stream.proofs.Worlds.{did_keep, did_still}
 use Rattle.grib_stream.specs.declared.outcome.Outcome.TheVariants.{ReadFault, ShelfFault, Memory}
 use Rattle.grib_table.specs.Tabled.{Stood, CountsTableStop}
-use Rattle.grib_engine.specs.Command.{task}
-use Rattle.grib_engine.specs.Outcomes.{NotesRun}
-use Rattle.grib_engine.specs.Serving.{RunsTabled, NotesTabled, NotesTabledFront, IfRefused}
-use Rattle.grib_engine.proofs.Noted.{memory_stands}
+use Rattle.grib_answers.specs.Command.{task}
+use Rattle.grib_answers.specs.Outcomes.{NotesRun}
+use Rattle.grib_tasks.specs.Serving.{RunsTabled, NotesTabled, NotesTabledFront, IfRefused}
+use Rattle.grib_answers.proofs.Noted.{memory_stands}
 use Rattle.grib_engine.proofs.Tabled.{stands, did_stays, runs_after, runs_none, broken_of, not_read, notes_none, shelf_noted, memory_noted, fronts_none, if_refused}
 use Rattle.grib_engine.proofs.serving.serve_tabled.Goals as goal
 

@@ -1,0 +1,4 @@
+pub mod Outside
+pub mod Passing
+pub mod Noted
+pub mod Answers

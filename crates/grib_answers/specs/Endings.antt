@@ -1,0 +1,17 @@
+-- What is printed and noted at the end of an input that was read to its end.
+use Rattle.std.specs.Prelude.{ℕ, List, []}
+use Rattle.grib_stream.specs.declared.place.Totals.{Totals}
+use Rattle.grib_text.specs.Lines.{total_line}
+use Rattle.grib_answers.specs.declared.ending.Ending.{Ending}
+use Rattle.grib_answers.specs.declared.ending.Ending.TheVariants.{Silent, Total, Written}
+use Rattle.grib_answers.specs.Notes.{written_note}
+
+abbrev pub ending_text : Ending → Totals → List ℕ
+ending_text Silent totals = []
+ending_text Total totals = total_line totals.messages totals.fields totals.skipped
+ending_text Written totals = []
+
+abbrev pub ending_note : Ending → Totals → List ℕ
+ending_note Silent totals = []
+ending_note Total totals = []
+ending_note Written totals = written_note totals

@@ -1,0 +1,12 @@
+pub mod Jobs
+pub mod Notes
+pub mod Outcomes
+pub mod Judging
+pub mod Endings
+pub mod Command
+pub mod LawfulCommands
+pub mod Pages
+pub mod Answering
+pub mod Counts
+pub mod Closing
+pub mod Pending

@@ -1,0 +1,22 @@
+//! What can be asked of messages, and what an answer to a message is: what was written, or why there is none.
+#![tactic(auto)]
+
+mod answered;
+mod answerer;
+mod ending;
+mod job;
+mod listener;
+mod name;
+mod notes;
+mod page;
+mod writing;
+
+pub use answered::{Answered, printed, written};
+pub use answerer::{Answerer, ByOutput, Writer};
+pub use ending::Ending;
+pub use job::{Conditions, Job};
+pub use listener::Listener;
+pub use name::Name;
+pub use notes::{kept_note, made_note, table_note, usage_note};
+pub use page::Page;
+pub use writing::{write_counted, write_whole};

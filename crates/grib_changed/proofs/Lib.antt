@@ -1,0 +1,4 @@
+pub mod KeptBy
+pub mod Filtered
+pub mod Shelved
+pub mod Demoted

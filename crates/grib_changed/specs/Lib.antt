@@ -1,0 +1,14 @@
+pub mod FieldOctets
+pub mod Parts
+pub mod PartOctets
+pub mod Shelving
+pub mod Filtering
+pub mod Splitting
+pub mod Setting
+pub mod Repacking
+pub mod Least
+pub mod Rescanning
+pub mod Migrating
+pub mod Demoting
+pub mod Unchanged
+pub mod Fronts

@@ -1,8 +1,0 @@
-use Rattle.grib_engine.proofs.Cutting.{job_parts}
-use Rattle.grib_engine.proofs.laws.parts_are_written_one_after_the_other.Goals as goal
-
-pub returns-clause-octets : goal.returns-clause-octets
-returns-clause-octets c = λ job text front rest is each fits ends done. (job_parts job text front rest is each fits ends done).octets
-
-pub returns-clause-outcome : goal.returns-clause-outcome
-returns-clause-outcome c = λ job text front rest is each fits ends done. (job_parts job text front rest is each fits ends done).outcome

@@ -1,5 +1,0 @@
-use Rattle.grib_engine.proofs.Judged.{job_judges}
-use Rattle.grib_engine.proofs.laws.what_a_run_answers_is_in_the_grammar.Goals as goal
-
-pub returns : goal.returns
-returns c = job_judges

@@ -1,5 +1,0 @@
-use Rattle.grib_engine.proofs.Complete.{job_done}
-use Rattle.grib_engine.proofs.laws.what_can_be_answered_is_done.Goals as goal
-
-pub returns : goal.returns
-returns c = job_done

@@ -1,6 +1,0 @@
--- `keys`: for each field a line with each key that the field has.
-use Rattle.grib_key_lines.specs.Lines.{keys_line, keys_line1}
-use Rattle.grib_engine.specs.Command.{Command, printing_fields}
-
-abbrev pub keys_command : Command
-keys_command = printing_fields keys_line1 keys_line

@@ -1,0 +1,3 @@
+pub mod Editions
+pub mod Wanted
+pub mod HeardMessages

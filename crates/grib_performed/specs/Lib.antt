@@ -1,0 +1,4 @@
+pub mod Hearing
+pub mod Lawful
+pub mod HearingLaws
+pub mod Reading

@@ -1,0 +1,34 @@
+//! What is counted of a message.
+
+ghost use Rattle.std.specs.Prelude.{◌≡◌, length};
+ghost use Rattle.grib_answers.specs.Judging.{fields_of};
+ghost use Rattle.grib_performed.specs.Reading.{held_octets};
+
+use crate::reading::{Held, first_edition, second_edition};
+use grib_stream::Whole;
+
+/// The octets and the fields of a message, of whose result this many octets are counted.
+pub(crate) fn counted(held: &Held<'_>, written: u64) -> Whole
+    ensures octets { result.octets ≡ length (held_octets held.now) }
+    ensures fields { result.fields ≡ fields_of (held_octets held.now) }
+    ensures written { result.written ≡ written }
+{
+    match held {
+        Held::One(message) => {
+            first_edition(message);
+            Whole {
+                octets: message.length(),
+                fields: 1,
+                written,
+            }
+        }
+        Held::Two(message) => {
+            second_edition(message);
+            Whole {
+                octets: message.length(),
+                fields: u64::from(message.fields()),
+                written,
+            }
+        }
+    }
+}

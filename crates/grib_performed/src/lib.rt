@@ -1,0 +1,13 @@
+//! The messages of a stream, read whole or heard as they come, and answered by any command.
+#![tactic(auto)]
+
+mod counting;
+mod hearing;
+mod held;
+mod performing;
+mod reading;
+
+pub use hearing::Hearing;
+pub use held::answer_held;
+pub use performing::Answering;
+pub use reading::Held;

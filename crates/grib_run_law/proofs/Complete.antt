@@ -1,0 +1,130 @@
+-- The answer to an input whose messages are all in the grammar and all answered.
+use Rattle.std.proofs.Common.{◌≡◌, ℕ, suc, ◌+◌, ◌-◌, ◌^◌, ◌≤◌, ◌==◌, inl, inr, true, Some, None, List, [], ◌∷◌, ◌++◌, length, take, drop, All, refl, sym, ap, ◌∙◌, arith, length-append}
+use Rattle.std.specs.declared.option.Option.{Option}
+use Rattle.std.proofs.Math.Seq.{take-append_seam, drop-append_seam}
+use Rattle.std.proofs.lemmas.List.{take-append-le, drop_all}
+use Rattle.std.proofs.lemmas.List.Elements.{All-head, All-tail}
+use Rattle.grib_base.specs.Rows.{choose}
+use Rattle.grib1_sections.specs.Acceptance.{verdict_1}
+use Rattle.grib2_message.specs.Acceptance.{verdict_2}
+use Rattle.grib_stream.specs.declared.outcome.Outcome.TheVariants.{Done}
+use Rattle.grib_stream.specs.Acts.{Act}
+use Rattle.grib_stream.specs.Answer.{Answer, after, on_given, place_of, answer_to, answer_within}
+use Rattle.grib_stream.specs.Stream.{begins, Message, Stream, followed_by, message_after, stream_from}
+use Rattle.grib_stream.specs.Task.{Task, Given, Gives}
+use Rattle.grib_stream.proofs.Exits.{within_short}
+use Rattle.grib_stream.proofs.Streams.{stream_passed, stream_message, is_begun}
+use Rattle.grib_answers.specs.declared.job.Job.{Job}
+use Rattle.grib_answers.specs.declared.job.Job.TheVariants.{Check, List as Listing, Keys, Stats, Dump, Filter, Split, Set, Repack, RepackLeast, Rescan, Crop, Migrate, Demote, Make, Print}
+use Rattle.grib_answers.specs.Command.{Command, given, task}
+use Rattle.grib_run_law.specs.Complete.{Piece, IsInGrammar, IsMadeOf, HasResult, HaveResults}
+use Rattle.grib_answers.specs.Judging.{judged, judge, fields_of}
+use Rattle.grib_performed.specs.Lawful.{least_message, message_stays}
+use Rattle.grib_answers.specs.Pages.{text_of}
+use Rattle.grib_tasks.specs.Tasks as tasks
+use Rattle.grib_tasks.specs.Tasks.{Work, Reads, Makes, ReadsTable, work_of, made_answer, writing, answer_by, answer_with}
+
+-- ---- one message
+
+grammar_judged : (message : List ℕ) → IsInGrammar message → judge message ≡ Message (length message)
+grammar_judged message (inl m) =
+    ap (λ e. choose (e == 1) (λ _. judged (verdict_1 message)) (λ _. judged (verdict_2 message))) m.edition_stands ∙ ap judged m.accepted
+grammar_judged message (inr m) =
+    ap (λ e. choose (e == 1) (λ _. judged (verdict_1 message)) (λ _. judged (verdict_2 message))) m.edition_stands ∙ ap judged m.accepted
+
+grammar_begins : (message rest : List ℕ) → IsInGrammar message → 4 ≤ length message → begins (message ++ rest) ≡ true
+grammar_begins message rest (inl m) long = is_begun (message ++ rest) (take-append-le 4 message rest long ∙ m.indicated)
+grammar_begins message rest (inr m) long = is_begun (message ++ rest) (take-append-le 4 message rest long ∙ m.indicated)
+
+one_message : (place skipped : ℕ) (message rest : List ℕ) → IsInGrammar message
+    → stream_from judge 0 place skipped (message ++ rest) ≡ followed_by (message_after place message) (stream_from judge 0 (place + length message) skipped rest)
+one_message place skipped message rest grammar =
+    let n = length message in
+    let is = grammar_judged message grammar in
+    let least = least_message message n is in
+    let whole : suc (n - 1) ≡ n = omega arith in
+    stream_message judge place skipped (n - 1) (message ++ rest) (grammar_begins message rest grammar (omega arith)) (message_stays message rest n is ∙ ap Message (sym whole))
+    ∙ (ap (λ k. followed_by (message_after place (take k (message ++ rest))) (stream_from judge 0 (place + k) skipped (drop k (message ++ rest)))) whole
+    ∙ (ap (λ xs. followed_by (message_after place xs) (stream_from judge 0 (place + n) skipped (drop n (message ++ rest)))) (take-append_seam message rest)
+    ∙ ap (λ xs. followed_by (message_after place message) (stream_from judge 0 (place + n) skipped xs)) (drop-append_seam message rest)))
+
+one_piece : (place skipped : ℕ) (between message rest input : List ℕ) → input ≡ between ++ (message ++ rest)
+    → stream_from judge 0 place skipped input ≡ stream_from judge 0 (place + length between) (skipped + length between) (drop (length between) input)
+    → IsInGrammar message
+    → stream_from judge 0 place skipped input
+    ≡ followed_by (message_after (place + length between) message) (stream_from judge 0 (place + length between + length message) (skipped + length between) rest)
+one_piece place skipped between message rest input is passed grammar =
+    let b = length between in
+    passed
+    ∙ (ap (λ xs. stream_from judge 0 (place + b) (skipped + b) xs) (ap (drop b) is ∙ drop-append_seam between (message ++ rest))
+    ∙ one_message (place + b) (skipped + b) message rest grammar)
+
+-- ---- all of them
+
+given_done : (t : Task) (g : Given) (acts : List Act) (written : ℕ) (next : List Act → ℕ → Answer) → g ≡ Gives acts written → (next acts written).outcome ≡ Done
+    → (on_given t g next).outcome ≡ Done
+given_done t g acts written next is done = ap (λ x. (on_given t x next).outcome) is ∙ done
+
+module _ (command : Command) where
+  done_followed : (m f w : ℕ) (before : ℕ) (piece : Piece) (s : Stream) → HasResult command piece
+      → ((more : ℕ) → (answer_to (task command) (m + 1) (f + fields_of piece.message) (w + more) s).outcome ≡ Done)
+      → (answer_to (task command) m f w (followed_by (message_after before piece.message) s)).outcome ≡ Done
+  done_followed m f w before piece s has later =
+      let (acts, written, is) = has (place_of m before f) in
+      given_done (task command) (given command (place_of m before f) piece.message) acts written
+      (λ acts more. after acts (answer_to (task command) (m + 1) (f + fields_of piece.message) (w + more) s)) is (later written)
+
+  done_all : (pieces : List Piece) (input : List ℕ) → IsMadeOf pieces input → All (HasResult command) pieces → (m f w place skipped : ℕ)
+      → (answer_to (task command) m f w (stream_from judge 0 place skipped input)).outcome ≡ Done
+  done_all [] input none has m f w place skipped =
+      ap (λ s. (answer_to (task command) m f w s).outcome)
+      (stream_passed judge place skipped (length input) input (omega arith) none
+      ∙ ap (λ xs. stream_from judge 0 (place + length input) (skipped + length input) xs) (drop_all (length input) input (omega arith)))
+  done_all (piece ∷ pieces) input (rest, is, none, grammar, later) has m f w place skipped =
+      let b = length piece.between in
+      let fits : b ≤ length input = omega (arith, ap length is, length-append piece.between (piece.message ++ rest)) in
+      ap (λ s. (answer_to (task command) m f w s).outcome)
+      (one_piece place skipped piece.between piece.message rest input is (stream_passed judge place skipped b input fits none) grammar)
+      ∙ done_followed m f w (place + b) piece (stream_from judge 0 (place + b + length piece.message) (skipped + b) rest) (All-head (HasResult command) piece pieces has)
+      (λ more. done_all pieces rest later (All-tail (HasResult command) piece pieces has) (m + 1) (f + fields_of piece.message) (w + more) (place + b + length piece.message) (skipped + b))
+
+  pub command_done : (pieces : List Piece) (input : List ℕ) → length input ≤ 2 ^ 40 → IsMadeOf pieces input → All (HasResult command) pieces
+      → (answer_within (2 ^ 40) (task command) input).outcome ≡ Done
+  command_done pieces input short made has =
+      ap (λ a. a.outcome) (within_short (task command) (2 ^ 40) input short) ∙ done_all pieces input made has 0 0 0 0 0
+
+-- ---- a job
+
+made_done : (job : Job) (answer : Answer) → work_of job ≡ Makes answer → answer.outcome ≡ Done
+made_done Check answer is = let no : ⊥ = cc in absurd no
+made_done Listing answer is = let no : ⊥ = cc in absurd no
+made_done Keys answer is = let no : ⊥ = cc in absurd no
+made_done Stats answer is = let no : ⊥ = cc in absurd no
+made_done (Dump None) answer is = let no : ⊥ = cc in absurd no
+made_done (Dump (Some places)) answer is = let no : ⊥ = cc in absurd no
+made_done (Filter conditions) answer is = let no : ⊥ = cc in absurd no
+made_done (Split name) answer is = let no : ⊥ = cc in absurd no
+made_done (Set changes) answer is = let no : ⊥ = cc in absurd no
+made_done (Repack target) answer is = let no : ⊥ = cc in absurd no
+made_done RepackLeast answer is = let no : ⊥ = cc in absurd no
+made_done Rescan answer is = let no : ⊥ = cc in absurd no
+made_done (Crop area) answer is = let no : ⊥ = cc in absurd no
+made_done (Migrate params keep_local) answer is = let no : ⊥ = cc in absurd no
+made_done (Demote params keep_local any_earth) answer is = let no : ⊥ = cc in absurd no
+made_done (Make seed ni nj target) answer is =
+    let same : made_answer seed ni nj target ≡ answer = cc in
+    sym (ap (λ a. a.outcome) same)
+made_done (Print page) answer is =
+    let same : writing (text_of page) [] ≡ answer = cc in
+    sym (ap (λ a. a.outcome) same)
+
+work_done : (work : Work) (text : Option (List ℕ)) (pieces : List Piece) (input : List ℕ) → ((answer : Answer) → work ≡ Makes answer → answer.outcome ≡ Done)
+    → length input ≤ 2 ^ 40 → IsMadeOf pieces input → HaveResults work text pieces → (tasks.answer_to work text input).outcome ≡ Done
+work_done (Reads command) text pieces input makes short made has = command_done command pieces input short made has
+work_done (Makes answer) text pieces input makes short made has = makes answer refl
+work_done (ReadsTable name commands) text pieces input makes short made (table, good, has) =
+    ap (λ t. (answer_by t commands input).outcome) good ∙ command_done (commands table) pieces input short made has
+
+pub job_done : (job : Job) (text : Option (List ℕ)) (pieces : List Piece) (input : List ℕ) → length input ≤ 2 ^ 40 → IsMadeOf pieces input
+    → HaveResults (work_of job) text pieces → (answer_with job text input).outcome ≡ Done
+job_done job text pieces input short made has = work_done (work_of job) text pieces input (made_done job) short made has

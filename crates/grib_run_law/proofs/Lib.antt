@@ -1,0 +1,12 @@
+pub mod Keeping
+pub mod Standing
+pub mod Migrations
+pub mod Cutting
+pub mod Accepting
+pub mod Settings
+pub mod Picking
+pub mod Complete
+pub mod OfOctets
+pub mod AllGiven
+pub mod Judged
+pub mod Leaving

@@ -1,0 +1,5 @@
+use Rattle.grib_run_law.proofs.Judged.{job_judges}
+use Rattle.grib_run_law.proofs.laws.what_a_run_answers_is_in_the_grammar.Goals as goal
+
+pub returns : goal.returns
+returns c = job_judges

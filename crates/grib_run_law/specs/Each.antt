@@ -1,0 +1,15 @@
+-- The jobs that write what becomes of a message by the message alone, wherever it stands.
+use Rattle.std.specs.Prelude.{Bool, true, false}
+use Rattle.grib_answers.specs.declared.job.Job.{Job}
+use Rattle.grib_answers.specs.declared.job.Job.TheVariants.{Filter, Set, Repack, RepackLeast, Rescan, Crop, Migrate, Demote}
+
+abbrev pub writes_each : Job → Bool
+writes_each (Filter conditions) = true
+writes_each (Set changes) = true
+writes_each (Repack target) = true
+writes_each RepackLeast = true
+writes_each Rescan = true
+writes_each (Crop area) = true
+writes_each (Migrate params keep_local) = true
+writes_each (Demote params keep_local any_earth) = true
+writes_each job = false

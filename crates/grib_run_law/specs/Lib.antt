@@ -1,0 +1,10 @@
+pub mod Each
+pub mod Same
+pub mod SameMigrated
+pub mod Octets
+pub mod SameSet
+pub mod SamePicked
+pub mod Complete
+pub mod Standing
+pub mod Judged
+pub mod Leaving
