@@ -26,6 +26,7 @@ compare() { # WHAT FROM PACKING_TYPE WORD..
   ratio "$1" 3
   echo "$1: $(wc -c <"$work/ours.grib2") octets, and $(wc -c <"$work/theirs.grib2") by ecCodes"
 }
+compare "5.0 to 5.0" simple.grib2 grid_simple to=0
 compare "5.3 to 5.0" spatial.grib2 grid_simple to=0
 compare "5.0 to 5.2" simple.grib2 grid_complex to=2
 compare "5.0 to 5.3" simple.grib2 grid_complex_spatial_differencing to=3 order=2

@@ -1,14 +1,16 @@
 -- What simple packing writes.
-use Rattle.std.proofs.Common.{◌≡◌, ℕ, ◌+◌, ◌*◌, ◌≤◌, Bool, true, false, cond, Option, Some, None, List, [], ◌∷◌, ◌++◌, length, drop, sym, ap, ap₂, ◌∙◌, arith, length-append, length-drop}
-use Rattle.std.specs.Prelude.{is_none, option_map, replicate}
+use Rattle.std.proofs.Common.{◌≡◌, ℕ, ◌-◌, ◌^◌, ◌≤◌, Bool, true, false, cond, Some, None, List, [], ◌∷◌, ◌++◌, length, drop, sym, ap, ap₂, ◌∙◌, arith, length-append, length-drop}
+use Rattle.std.specs.Prelude.{option_map, replicate}
 use Rattle.std.specs.List.{list_any}
 use Rattle.grib_bits.specs.Bits.{bits, bits_of}
 use Rattle.grib_bits.specs.Written.{padding}
 use Rattle.grib_bits.proofs.OctetBits.{length-bits}
 use Rattle.grib_bits.proofs.Numbers.{length-bits_of}
+use Rattle.grib_base.specs.Rows.{first_place}
 use Rattle.grib_packing.specs.declared.column.Column.{Column}
-use Rattle.grib_packing.specs.Misfits.{ToSimple, Target, first_misfit, is_missing}
-use Rattle.grib_packing.specs.Packing.{reference_word}
+use Rattle.grib_packing.specs.Misfits as misfits
+use Rattle.grib_packing.specs.Misfits.{ToSimple, SecondaryMissing, OutOfRange, DifferenceRange, first_misfit, is_missing, is_missing2, is_scaled_outside}
+use Rattle.grib_packing.specs.declared.column.Point.{Point}
 use Rattle.grib_packing.specs.Packed.{Packed as HasPacked, padded, present_bits}
 use Rattle.grib_packing.specs.declared.written.Packed.{Packed}
 use Rattle.grib_packed.specs.Written.{packed}
@@ -16,7 +18,6 @@ use Rattle.grib2_message.specs.Fields.{part_octets, column_of}
 use Rattle.grib_repack.specs.Repacked.{kind_of, packed_field}
 use Rattle.grib_repack.proofs.Packing.{IsOnly}
 use Rattle.grib_causes.specs.declared.demotion.Demotion.TheVariants.{Reference}
-use Rattle.grib_demote.specs.Words.{ibm_of}
 use Rattle.grib_demote.specs.Losses.{first_of, loss_of, column_loss, loses_reference, reference_loss, value_losses}
 use Rattle.grib_demote.specs.Held.{HoldsPacked}
 use Rattle.grib_demote.proofs.Joining.{not_here}
@@ -49,3 +50,13 @@ packed_found message i column is only kind p kind_is there h =
         values = h.1.values.itself.least;
       },
     )
+
+-- simple packing has no differences that could be out of range
+no_differences : (a b : Bool) (x y : ℕ) → misfits.first_of (cond a (Some (SecondaryMissing x)) None) (cond b (Some (OutOfRange y)) None) ≡ Some DifferenceRange → ⊥
+no_differences true b x y e = let bad : Some (SecondaryMissing x) ≡ Some DifferenceRange = e in cc
+no_differences false true x y e = let bad : Some (OutOfRange y) ≡ Some DifferenceRange = e in cc
+no_differences false false x y e = let bad : None ≡ Some DifferenceRange = e in cc
+
+pub not_by_differences : (points : List Point) → first_misfit ToSimple points ≡ Some DifferenceRange → ⊥
+not_by_differences points e =
+    no_differences (list_any is_missing2 points) (list_any (is_scaled_outside (2 ^ 48 - 1)) points) (first_place is_missing2 points) (first_place (is_scaled_outside (2 ^ 48 - 1)) points) e

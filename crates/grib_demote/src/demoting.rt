@@ -30,12 +30,11 @@ use crate::tested::grid_loss;
 use crate::values::{add_bitmap, data_octets, has_bitmap};
 use crate::word::ibm_of;
 use grib_base::List;
-use grib_bits::{u8_at, u16_at, u32_at};
+use grib_bits::{u16_at, u32_at};
 use grib_causes::Demotion;
 use grib_packed::laws::one_packing_is_written;
-use grib_packing::{PackFault, Packed, Packing};
+use grib_packing::{PackFault, Packed};
 use grib_params::Table;
-use grib_simple::SimplePacking;
 use grib2_grids::{GridFault, read_grid};
 use grib2_message::Message;
 use grib2_products::{ProductFault, read_product};
@@ -184,7 +183,7 @@ fn add_rows(rows: &[u32], out: &mut Vec<u8>) -> Result<(), AllocError>
 }
 
 /// Sections 5, 6 and 7 of a field in simple packing, or the loss of its reference value or of its first point that
-/// does not fit.
+/// does not fit. No column is made of a field that stands in simple packing.
 fn pack_simply(alloc: Global, message: &Message<'_>, field: u32) -> Result<Packed, DemoteFault>
     requires first { 1 ≤ field }
     requires last { field ≤ field_count message.now }
@@ -198,8 +197,7 @@ fn pack_simply(alloc: Global, message: &Message<'_>, field: u32) -> Result<Packe
     if loses_reference(section5) {
         return Err(DemoteFault::Lost(Demotion::Reference));
     }
-    let column = message.column(alloc, field)?;
-    match SimplePacking.pack(alloc, &column, u8_at(section5, 21)) {
+    match grib_repack::pack_simply(alloc, message, field) {
         Ok(packed) => Ok(packed),
         Err(PackFault::SecondaryMissing(point)) => {
             Err(DemoteFault::Lost(Demotion::SecondaryMissing(point)))

@@ -6,3 +6,5 @@ pub mod Columns
 pub mod Packing
 pub mod Kept
 pub mod Back
+mod Standing
+mod Simply

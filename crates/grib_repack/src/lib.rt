@@ -1,11 +1,15 @@
 //! Repacking: a message with the same values in another packing.
 #![tactic(auto)]
 
+mod column;
 mod fault;
 pub mod laws;
+mod numbers;
+mod plain;
 mod repacking;
 mod target;
 
 pub use fault::RepackFault;
+pub use plain::pack_simply;
 pub use repacking::repack;
 pub use target::RepackTarget;

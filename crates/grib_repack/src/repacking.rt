@@ -2,24 +2,24 @@
 
 ghost use Rattle.std.specs.Prelude.{◌≡◌, ◌≤◌, None, MatchResult, All};
 ghost use Rattle.std.specs.List.{range_with_len};
-ghost use Rattle.grib_packing.specs.Written.{IsTarget};
+ghost use Rattle.grib_packing.specs.Written.{IsPacked, IsTarget};
 ghost use Rattle.grib2_message.specs.Assembled.{IsShort};
-ghost use Rattle.grib2_message.specs.Fields.{field_count};
-ghost use Rattle.grib_repack.specs.Repacked.{packed_field, packed_fields, repacked, field_misfit, misfit_among, repack_misfit};
+ghost use Rattle.grib2_message.specs.Fields.{field_count, column_of};
+ghost use Rattle.grib_repack.specs.Repacked.{kind_of, packed_field, packed_fields, repacked, field_misfit, misfit_among, repack_misfit};
 ghost use Rattle.grib_repack.specs.Faults.{target_of, IsRepackFault};
 
+use crate::column::pack_column;
+use crate::plain::pack_simply;
 use crate::{RepackFault, RepackTarget};
-use grib_bits::u8_at;
 use grib_complex::{ComplexPacking, SpatialPacking};
 use grib_packed::laws::one_packing_is_written;
-use grib_packing::{Packed, Packing};
-use grib_simple::SimplePacking;
+use grib_packing::{PackFault, Packed};
 use grib2_message::Message;
 use std::alloc::Global;
 
 /// The message with the same fields, packed to the target: Sections 5, 6 and 7 of each field are written
 /// anew, and all other octets but the total length stay. It holds the message, the new sections and one
-/// column at a time.
+/// column at a time; none of a field that stands in simple packing and stays in it.
 ///
 /// # Errors
 ///
@@ -36,44 +36,27 @@ pub fn repack(
         × (octets.items ≡ repacked (target_of target) message.now))
         (IsRepackFault (repack_misfit (target_of target) message.now)) }
 {
-    match target {
-        RepackTarget::Simple => repack_by(alloc, message, &SimplePacking),
-        RepackTarget::Complex => repack_by(alloc, message, &ComplexPacking),
-        RepackTarget::Spatial(order) => repack_by(alloc, message, &SpatialPacking::new(order)),
-    }
-}
-
-/// The message with the same fields, packed by this packing.
-fn repack_by<P: Packing>(
-    alloc: Global,
-    message: &Message<'_>,
-    packing: &P,
-) -> Result<Vec<u8>, RepackFault>
-    ensures { MatchResult result
-        (λ octets. (repack_misfit (P.target packing.now) message.now ≡ None)
-        × (octets.items ≡ repacked (P.target packing.now) message.now))
-        (IsRepackFault (repack_misfit (P.target packing.now) message.now)) }
-{
-    let packed = pack_fields(alloc, message, packing)?;
+    let packed = pack_fields(alloc, message, target)?;
     Ok(message.assemble(alloc, &packed)?)
 }
 
 /// Sections 5, 6 and 7 of each field of the message.
-fn pack_fields<P: Packing>(
+fn pack_fields(
     alloc: Global,
     message: &Message<'_>,
-    packing: &P,
+    target: RepackTarget,
 ) -> Result<Vec<Packed>, RepackFault>
+    requires { IsTarget (target_of target) }
     ensures { MatchResult result
-        (λ packed. (misfit_among (P.target packing.now) message.now (range_with_len 1 (field_count message.now)) ≡ None)
-        × (packed.items ≡ packed_fields (P.target packing.now) message.now)
+        (λ packed. (misfit_among (target_of target) message.now (range_with_len 1 (field_count message.now)) ≡ None)
+        × (packed.items ≡ packed_fields (target_of target) message.now)
         × All IsShort packed.items)
-        (IsRepackFault (misfit_among (P.target packing.now) message.now (range_with_len 1 (field_count message.now)))) }
+        (IsRepackFault (misfit_among (target_of target) message.now (range_with_len 1 (field_count message.now)))) }
 {
     let fields = message.fields();
     let mut packed = Vec::with_capacity(alloc, fields as usize)?;
     for before in 0..fields {
-        let field = pack_field(alloc, message, before + 1, packing)?;
+        let field = pack_field(alloc, message, before + 1, target)?;
         let Ok(()) = packed.push(field) else {
             return Err(RepackFault::Memory);
         };
@@ -82,28 +65,45 @@ fn pack_fields<P: Packing>(
 }
 
 /// Sections 5, 6 and 7 of one field, counted from 1.
-fn pack_field<P: Packing>(
+fn pack_field(
     alloc: Global,
     message: &Message<'_>,
     field: u32,
-    packing: &P,
+    target: RepackTarget,
 ) -> Result<Packed, RepackFault>
+    requires target { IsTarget (target_of target) }
     requires first { 1 ≤ field }
     requires last { field ≤ field_count message.now }
     ensures { MatchResult result
-        (λ packed. (field_misfit (P.target packing.now) message.now field ≡ None)
-        × (packed ≡ packed_field (P.target packing.now) message.now field)
+        (λ packed. (field_misfit (target_of target) message.now field ≡ None)
+        × (packed ≡ packed_field (target_of target) message.now field)
         × IsShort packed)
-        (IsRepackFault (field_misfit (P.target packing.now) message.now field)) }
+        (IsRepackFault (field_misfit (target_of target) message.now field)) }
 {
     one_packing_is_written();
-    let Some(section5) = message.part(field, 5) else {
-        unreachable!();
-    };
-    let kind = u8_at(section5.octets, 21);
-    let column = message.column(alloc, field)?;
-    match packing.pack(alloc, &column, kind) {
+    match pack_to(alloc, message, field, target) {
         Ok(packed) => Ok(packed),
         Err(fault) => Err(RepackFault::in_field(field, fault)),
+    }
+}
+
+/// What the packing of a target writes for one field, counted from 1.
+fn pack_to(
+    alloc: Global,
+    message: &Message<'_>,
+    field: u32,
+    target: RepackTarget,
+) -> Result<Packed, PackFault>
+    requires target { IsTarget (target_of target) }
+    requires first { 1 ≤ field }
+    requires last { field ≤ field_count message.now }
+    ensures { IsPacked (target_of target) (column_of message.now field) (kind_of message.now field) result }
+{
+    match target {
+        RepackTarget::Simple => pack_simply(alloc, message, field),
+        RepackTarget::Complex => pack_column(alloc, message, field, &ComplexPacking),
+        RepackTarget::Spatial(order) => {
+            pack_column(alloc, message, field, &SpatialPacking::new(order))
+        }
     }
 }

@@ -192,6 +192,38 @@ fn template_of_the_target(rt: HostRuntime) -> Result<(), Fail> {
 }
 
 #[test]
+fn numbers_where_they_stand(rt: HostRuntime) -> Result<(), Fail> {
+    let alloc = rt.alloc();
+    // 1, 7 and 2 in 3 bits each, with bits of padding that are set and an octet more
+    let five = b"\0\0\0\x15\x05\0\0\0\x03\0\0\xc2\xed\x40\0\x80\x03\0\x01\x03\0";
+    let six = b"\0\0\0\x07\x06\0\xbf";
+    let from = field(alloc, 183, five, six, b"\0\0\0\x08\x07\x3d\x7f\xee")?;
+    let to = field(alloc, 182, five, OWN_BITMAP, b"\0\0\0\x07\x07\x3d\0")?;
+    assert!(rt; gives(alloc, &from, RepackTarget::Simple, &to));
+
+    // 0, 1, 2 and 2 to the 47th in 48 bits each
+    let five = b"\0\0\0\x15\x05\0\0\0\x04\0\0\xc2\xed\x40\0\x80\x03\0\x01\x30\0";
+    let seven = b"\0\0\0\x1d\x07\0\0\0\0\0\0\0\0\0\0\0\x01\0\0\0\0\0\x02\x80\0\0\0\0\0";
+    let widest = field(alloc, 203, five, NO_BITMAP, seven)?;
+    assert!(rt; gives(alloc, &widest, RepackTarget::Simple, &widest));
+
+    // zeros, in no bits and in 8 bits
+    let five = b"\0\0\0\x15\x05\0\0\0\x04\0\0\xc2\xed\x40\0\x80\x03\0\x01\0\0";
+    let to = field(alloc, 179, five, NO_BITMAP, b"\0\0\0\x05\x07")?;
+    let from = field(alloc, 180, five, NO_BITMAP, b"\0\0\0\x06\x07\xff")?;
+    assert!(rt; gives(alloc, &from, RepackTarget::Simple, &to));
+    let from = field(
+        alloc,
+        183,
+        FOUR_NUMBERS,
+        NO_BITMAP,
+        b"\0\0\0\x09\x07\0\0\0\0",
+    )?;
+    assert!(rt; gives(alloc, &from, RepackTarget::Simple, &to));
+    Ok(())
+}
+
+#[test]
 fn two_fields(rt: HostRuntime) -> Result<(), Fail> {
     let alloc = rt.alloc();
     let later = b"\0\0\0\x15\x05\0\0\0\x03\0\0\xc2\xed\x40\0\x80\x03\0\x01\x08\x01";

@@ -1,31 +1,18 @@
-use Rattle.std.proofs.Common.{ℕ, List, length, ap, ◌∙◌, arith}
-use Rattle.grib_bits.specs.Octets.{octets}
-use Rattle.grib2_grids.specs.Grid.{grid_points}
-use Rattle.grib2_message.specs.Fields.{part_octets}
-use Rattle.grib_repack.proofs.Ranges.{packing_passes}
-use Rattle.grib_repack.proofs.Columns.{packable}
+use Rattle.std.proofs.Common.{refl}
+use Rattle.grib2_message.specs.Fields.{column_of}
+use Rattle.grib_repack.specs.Faults.{target_of}
+use Rattle.grib_repack.specs.Repacked.{kind_of}
 use Rattle.grib_repack.proofs.Packing.{field_packed, field_fault}
 use Rattle.grib_repack.proofs.repacking.pack_field.Goals as goal
 
-pub u8_at-kind-requires-clause-within : goal.u8_at-kind-requires-clause-within
-u8_at-kind-requires-clause-within g c =
+pub returns-in-Ok : goal.returns-in-Ok
+returns-in-Ok c =
     let m = c.args.message.now in
     let i = c.args.field in
-    let packing = packing_passes (part_octets m i 5) (grid_points (part_octets m i 3)) c.in-Some.ensures.passes.packing in
-    omega (arith, packing.long, ap length c.in-Some.ensures.part.1)
+    field_packed (target_of c.args.target) m i (column_of m i) refl c.one_packing_is_written.ensures (kind_of m i) c.in-Ok.packed refl c.in-Ok.ensures
 
-pub pack-requires : goal.pack-requires
-pack-requires g c =
-    let e = c.in_ok-column.ensures in
-    packable c.args.message.now c.args.field c.in_ok-column.column e.column e.passes e.some e.few
-
-pub returns-in-Ok : goal.returns-in-Ok
-returns-in-Ok g c =
-    let kind = c.u8_at-kind.ensures ∙ ap (λ (s : List ℕ). octets s 21 21) c.in-Some.ensures.part.1 in
-    field_packed (g.P.Packing.target c.args.packing.now) c.args.message.now c.args.field c.in_ok-column.column c.in_ok-column.ensures.column
-    c.one_packing_is_written.ensures c.u8_at-kind.result c.in-Ok.packed kind c.in-Ok.ensures
-
-pub returns : goal.returns
-returns g c =
-    field_fault (g.P.Packing.target c.args.packing.now) c.args.message.now c.args.field c.in_ok-column.column c.in_ok-column.ensures.column
-    c.in-Err.fault c.in_field.result c.in-Err.ensures c.in_field.ensures
+pub returns-in-Err : goal.returns-in-Err
+returns-in-Err c =
+    let m = c.args.message.now in
+    let i = c.args.field in
+    field_fault (target_of c.args.target) m i (column_of m i) refl c.in-Err.fault c.in_field.result c.in-Err.ensures c.in_field.ensures

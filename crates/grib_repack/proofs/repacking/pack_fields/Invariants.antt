@@ -1,12 +1,13 @@
 use Rattle.std.proofs.Common.{◌≡◌, None, All, map}
 use Rattle.std.specs.List.{range_with_len}
 use Rattle.grib2_message.specs.Assembled.{IsShort}
+use Rattle.grib_repack.specs.Faults.{target_of}
 use Rattle.grib_repack.specs.Repacked.{packed_field, misfit_among}
 use Rattle.grib_repack.proofs.repacking.pack_fields.Given as goal
 
 abbrev pub invariant-loop-before : goal.invariant-loop-before
-invariant-loop-before g l = record {
-  none : misfit_among (g.P.Packing.target l.packing) l.message (range_with_len 1 l.before) ≡ None;
-  packed : l.packed.items ≡ map (packed_field (g.P.Packing.target l.packing) l.message) (range_with_len 1 l.before);
+invariant-loop-before l = record {
+  none : misfit_among (target_of l.target) l.message (range_with_len 1 l.before) ≡ None;
+  packed : l.packed.items ≡ map (packed_field (target_of l.target) l.message) (range_with_len 1 l.before);
   short : All IsShort l.packed.items;
 }
