@@ -8,10 +8,11 @@ use Rattle.std.proofs.KnownBytes.{Consumes-whole}
 use Rattle.grib_base.specs.Rows.{choose}
 use Rattle.grib_base.specs.declared.fault.Refusal.{Refusal}
 use Rattle.grib_stream.specs.declared.outcome.Outcome.{Outcome}
-use Rattle.grib_stream.specs.declared.outcome.Outcome.TheVariants.{Done, Usage, Refused, Kept, TableRefused, ReadFault, WriteFault, ShelfFault, Memory, InputTooLong}
+use Rattle.grib_stream.specs.declared.outcome.Outcome.TheVariants.{Done, Passed, Usage, Refused, Kept, TableRefused, ReadFault, WriteFault, ShelfFault, Memory, InputTooLong}
 use Rattle.grib_stream.specs.declared.place.Totals.{Totals}
 use Rattle.grib_stream.specs.Acts.{Act, World, Did, DidFront}
 use Rattle.grib_stream.specs.Outcomes.{KeepsOrCuts, is_broken, is_cut_short, is_cut_within, is_open, is_truncated, is_of_message}
+use Rattle.grib_stream.specs.Reading.{Takes}
 use Rattle.grib_stream.specs.Task.{Task}
 use Rattle.grib_stream.specs.Answer.{Answer, silent, done, after, answer_of, answer_within, at_limit}
 use Rattle.grib_stream.specs.Run.{Gives, Runs, IsOver, Notes}
@@ -78,6 +79,7 @@ of_message (Refused refusal) is = record {
 }
 of_message (Kept kept) is = record { closed = refl; not_done = λ e. cc; not_long = λ e. cc; not_read = λ e. cc }
 of_message Done is = absurd (false≢true is)
+of_message (Passed refused kept) is = absurd (false≢true is)
 of_message (Usage word) is = absurd (false≢true is)
 of_message (TableRefused refusal) is = absurd (false≢true is)
 of_message ReadFault is = absurd (false≢true is)
@@ -93,16 +95,16 @@ silent_gives task acts outcome before now did =
     record { ends = λ unbroken. refl; whole = λ unbroken. whole; front = front_whole before now ((acts ++ []) ++ []) whole }
 
 pub runs_to_message : (task : Task) (limit : ℕ) (outcome : Outcome) (a b : Option (List ℕ)) (before now : World) (taken : List ℕ) (acts : List Act)
-    → is_of_message outcome ≡ true → Consumes a b taken → length taken ≤ limit → Did before now acts
+    → is_of_message outcome ≡ true → Takes a b taken → length taken ≤ limit → Did before now acts
     → ((more : List ℕ) → answer_of task (taken ++ more) ≡ after acts (silent task outcome)) → Runs task limit outcome a b before now
 runs_to_message task limit outcome a b before now taken acts kind consumed short did whole =
     let of = of_message outcome kind in
     let answer = after acts (silent task outcome) in
     let within = λ (left : List ℕ).
     within_by task limit taken left (λ x. x ≡ answer) short whole (λ more. ap (at_limit task) (whole more) ∙ closed_at_limit task answer of.closed) in
+    let gives = λ (left : List ℕ). subst (λ x. Gives x outcome before now) (sym (within left)) (silent_gives task acts outcome before now did) in
     record {
-      gives = if_any a b taken (λ input. Gives (answer_within limit task input) outcome before now) consumed
-          (λ left. subst (λ x. Gives x outcome before now) (sym (within left)) (silent_gives task acts outcome before now did));
+      gives = if_any a b taken (λ input. Gives (answer_within limit task input) outcome before now) consumed.consumed gives;
       taken = (
         taken,
         consumed,
@@ -110,6 +112,7 @@ runs_to_message task limit outcome a b before now taken acts kind consumed short
           most = omega arith;
           short = λ unbroken other. short;
           long = λ e. absurd (of.not_long e);
+          answered = subst (λ input. Gives (answer_within limit task input) outcome before now) (append-nil taken) (gives []);
           read_fault = λ e. absurd (of.not_read e);
         },
       );
@@ -123,6 +126,7 @@ cut_broken WriteFault cut = refl
 cut_broken Memory cut = refl
 cut_broken ReadFault cut = absurd (false≢true cut)
 cut_broken Done cut = absurd (false≢true cut)
+cut_broken (Passed refused kept) cut = absurd (false≢true cut)
 cut_broken (Usage word) cut = absurd (false≢true cut)
 cut_broken (Refused refusal) cut = absurd (false≢true cut)
 cut_broken (Kept kept) cut = absurd (false≢true cut)
@@ -142,6 +146,7 @@ cut_within ShelfFault cut = record { broken = refl; not_done = λ e. cc; not_rea
 cut_within Memory cut = record { broken = refl; not_done = λ e. cc; not_read = λ e. cc }
 cut_within ReadFault cut = absurd (false≢true cut)
 cut_within Done cut = absurd (false≢true cut)
+cut_within (Passed refused kept) cut = absurd (false≢true cut)
 cut_within (Usage word) cut = absurd (false≢true cut)
 cut_within (Refused refusal) cut = absurd (false≢true cut)
 cut_within (Kept kept) cut = absurd (false≢true cut)
@@ -158,19 +163,19 @@ cut_front task answer before now front =
     (cases_Bool (is_open answer.outcome))
 
 pub runs_broken : (task : Task) (limit : ℕ) (outcome : Outcome) (a b : Option (List ℕ)) (before now : World) (taken : List ℕ) → is_broken outcome ≡ true
-    → Consumes a b taken → length taken ≤ limit → ((more : List ℕ) → DidFront before now (answer_of task (taken ++ more)).acts)
+    → Takes a b taken → length taken ≤ limit → ((more : List ℕ) → DidFront before now (answer_of task (taken ++ more)).acts)
     → (outcome ≡ ReadFault → Did before now (answer_of task taken).acts) → Runs task limit outcome a b before now
 runs_broken task limit outcome a b before now taken broken consumed short front read =
     let never = λ (unbroken : is_broken outcome ≡ false). false≢true (sym unbroken ∙ broken) in
+    let gives : (left : List ℕ) → Gives (answer_within limit task (taken ++ left)) outcome before now = λ left. record {
+      ends = λ unbroken. absurd (never unbroken);
+      whole = λ unbroken. absurd (never unbroken);
+      front = within_by task limit taken left (λ x. DidFront before now (x.acts ++ x.ending)) short
+          (λ more. front_more before now (answer_of task (taken ++ more)).acts (answer_of task (taken ++ more)).ending (front more))
+          (λ more. cut_front task (answer_of task (taken ++ more)) before now (front more));
+    } in
     record {
-      gives = if_any a b taken (λ input. Gives (answer_within limit task input) outcome before now) consumed
-          (λ left. record {
-            ends = λ unbroken. absurd (never unbroken);
-            whole = λ unbroken. absurd (never unbroken);
-            front = within_by task limit taken left (λ x. DidFront before now (x.acts ++ x.ending)) short
-                (λ more. front_more before now (answer_of task (taken ++ more)).acts (answer_of task (taken ++ more)).ending (front more))
-                (λ more. cut_front task (answer_of task (taken ++ more)) before now (front more));
-          });
+      gives = if_any a b taken (λ input. Gives (answer_within limit task input) outcome before now) consumed.consumed gives;
       taken = (
         taken,
         consumed,
@@ -178,6 +183,7 @@ runs_broken task limit outcome a b before now taken broken consumed short front 
           most = omega arith;
           short = λ unbroken other. short;
           long = λ e. let same : is_broken InputTooLong ≡ true = subst (λ o. is_broken o ≡ true) e broken in absurd (false≢true same);
+          answered = subst (λ input. Gives (answer_within limit task input) outcome before now) (append-nil taken) (gives []);
           read_fault = read;
         },
       );
@@ -187,17 +193,19 @@ runs_broken task limit outcome a b before now taken broken consumed short front 
 -- ---- a run to the end of the input
 
 pub runs_refused : (task : Task) (limit : ℕ) (refusal : Refusal) (a b : Option (List ℕ)) (before now : World) (taken : List ℕ) (acts : List Act)
-    → Consumes a b taken → IsAtEnd b → length taken ≤ limit → Did before now acts → answer_of task taken ≡ after acts (silent task (Refused refusal))
+    → Takes a b taken → IsAtEnd b → length taken ≤ limit → Did before now acts → answer_of task taken ≡ after acts (silent task (Refused refusal))
     → Runs task limit (Refused refusal) a b before now
-runs_refused task limit refusal a b before now taken acts consumed ended short did whole = record {
-  gives = Consumes-whole a b taken (λ input. Gives (answer_within limit task input) (Refused refusal) before now) consumed ended
-      (subst (λ x. Gives x (Refused refusal) before now) (sym (within_short task limit taken short ∙ whole)) (silent_gives task acts (Refused refusal) before now did));
-  taken = (taken, consumed, record { most = omega arith; short = λ unbroken other. short; long = λ e. cc; read_fault = λ e. cc });
-  end = λ e. cc;
-}
+runs_refused task limit refusal a b before now taken acts consumed ended short did whole =
+    let gives : Gives (answer_within limit task taken) (Refused refusal) before now =
+    subst (λ x. Gives x (Refused refusal) before now) (sym (within_short task limit taken short ∙ whole)) (silent_gives task acts (Refused refusal) before now did) in
+    record {
+      gives = Consumes-whole a b taken (λ input. Gives (answer_within limit task input) (Refused refusal) before now) consumed.consumed ended gives;
+      taken = (taken, consumed, record { most = omega arith; short = λ unbroken other. short; long = λ e. cc; answered = gives; read_fault = λ e. cc });
+      end = λ e. cc;
+    }
 
 pub runs_done : (task : Task) (limit : ℕ) (totals : Totals) (a b : Option (List ℕ)) (before mid now : World) (taken : List ℕ) (acts : List Act)
-    → Consumes a b taken → IsAtEnd b → length taken ≤ limit → Did before mid acts → Did mid now (task.ending totals).acts
+    → Takes a b taken → IsAtEnd b → length taken ≤ limit → Did before mid acts → Did mid now (task.ending totals).acts
     → answer_of task taken ≡ after acts (done task totals) → Runs task limit Done a b before now
 runs_done task limit totals a b before mid now taken acts consumed ended short did ending whole =
     let all : Did before now ((acts ++ []) ++ (task.ending totals).acts) =
@@ -207,16 +215,16 @@ runs_done task limit totals a b before mid now taken acts consumed ended short d
       whole = λ unbroken. all;
       front = front_whole before now ((acts ++ []) ++ (task.ending totals).acts) all;
     } in
+    let gives_taken : Gives (answer_within limit task taken) Done before now = subst (λ x. Gives x Done before now) (sym (within_short task limit taken short ∙ whole)) gives in
     record {
-      gives = Consumes-whole a b taken (λ input. Gives (answer_within limit task input) Done before now) consumed ended
-          (subst (λ x. Gives x Done before now) (sym (within_short task limit taken short ∙ whole)) gives);
-      taken = (taken, consumed, record { most = omega arith; short = λ unbroken other. short; long = λ e. cc; read_fault = λ e. cc });
+      gives = Consumes-whole a b taken (λ input. Gives (answer_within limit task input) Done before now) consumed.consumed ended gives_taken;
+      taken = (taken, consumed, record { most = omega arith; short = λ unbroken other. short; long = λ e. cc; answered = gives_taken; read_fault = λ e. cc });
       end = λ e. ended;
     }
 
 -- the ending broke
 pub runs_undone : (task : Task) (limit : ℕ) (totals : Totals) (outcome : Outcome) (a b : Option (List ℕ)) (before mid now : World) (taken : List ℕ) (acts : List Act)
-    → is_cut_short outcome ≡ true → Consumes a b taken → IsAtEnd b → length taken ≤ limit → Did before mid acts → DidFront mid now (task.ending totals).acts
+    → is_cut_short outcome ≡ true → Takes a b taken → IsAtEnd b → length taken ≤ limit → Did before mid acts → DidFront mid now (task.ending totals).acts
     → answer_of task taken ≡ after acts (done task totals) → Runs task limit outcome a b before now
 runs_undone task limit totals outcome a b before mid now taken acts cut consumed ended short did ending whole =
     let broken = cut_broken outcome cut in
@@ -228,9 +236,9 @@ runs_undone task limit totals outcome a b before mid now taken acts cut consumed
       whole = λ unbroken. absurd (never unbroken);
       front = front;
     } in
+    let gives_taken : Gives (answer_within limit task taken) outcome before now = subst (λ x. Gives x outcome before now) (sym (within_short task limit taken short ∙ whole)) gives in
     record {
-      gives = Consumes-whole a b taken (λ input. Gives (answer_within limit task input) outcome before now) consumed ended
-          (subst (λ x. Gives x outcome before now) (sym (within_short task limit taken short ∙ whole)) gives);
+      gives = Consumes-whole a b taken (λ input. Gives (answer_within limit task input) outcome before now) consumed.consumed ended gives_taken;
       taken = (
         taken,
         consumed,
@@ -238,6 +246,7 @@ runs_undone task limit totals outcome a b before mid now taken acts cut consumed
           most = omega arith;
           short = λ unbroken other. short;
           long = λ e. let same : is_broken InputTooLong ≡ true = subst (λ o. is_broken o ≡ true) e broken in absurd (false≢true same);
+          answered = gives_taken;
           read_fault = λ e. let same : is_cut_short ReadFault ≡ true = subst (λ o. is_cut_short o ≡ true) e cut in absurd (false≢true same);
         },
       );
@@ -246,7 +255,7 @@ runs_undone task limit totals outcome a b before mid now taken acts cut consumed
 
 -- ---- a run over an input that is too long
 
-pub runs_long : (task : Task) (limit : ℕ) (a b : Option (List ℕ)) (before now : World) (first piece : List ℕ) (acts : List Act) → Consumes a b (first ++ piece)
+pub runs_long : (task : Task) (limit : ℕ) (a b : Option (List ℕ)) (before now : World) (first piece : List ℕ) (acts : List Act) → Takes a b (first ++ piece)
     → length first ≡ limit → length piece ≡ 1 → Did before now acts → (answer_of task first).acts ≡ acts → is_open (answer_of task first).outcome ≡ true
     → Runs task limit InputTooLong a b before now
 runs_long task limit a b before now first piece acts consumed size one did is unclosed =
@@ -266,7 +275,7 @@ runs_long task limit a b before now first piece acts consumed size one did is un
     e in
     let more : length (first ++ piece) ≡ limit + 1 = omega (arith, length-append first piece, size, one) in
     record {
-      gives = if_any a b (first ++ piece) (λ input. Gives (answer_within limit task input) InputTooLong before now) consumed
+      gives = if_any a b (first ++ piece) (λ input. Gives (answer_within limit task input) InputTooLong before now) consumed.consumed
           (λ left. subst (λ x. Gives x InputTooLong before now) (sym (within left)) gives);
       taken = (
         first ++ piece,
@@ -275,6 +284,7 @@ runs_long task limit a b before now first piece acts consumed size one did is un
           most = omega arith;
           short = λ unbroken other. absurd (other refl);
           long = λ e. more;
+          answered = subst (λ input. Gives (answer_within limit task input) InputTooLong before now) (append-nil (first ++ piece)) (subst (λ x. Gives x InputTooLong before now) (sym (within [])) gives);
           read_fault = λ e. cc;
         },
       );
@@ -322,6 +332,7 @@ runs_to_the_end task limit outcome result a b before mid now runs still one_of =
           most = took.most;
           short = λ unbroken other. took.short (subst (λ o. is_broken o ≡ false) (same unbroken) unbroken) (λ e. other (same unbroken ∙ e));
           long = λ e. took.long (kept_unless outcome result InputTooLong one_of e refl);
+          answered = gives_still (answer_within limit task taken) outcome result before mid now took.answered still same;
           read_fault = λ e. did_still before mid now (answer_of task taken).acts (took.read_fault (kept_unless outcome result ReadFault one_of e refl)) still;
         },
       );
@@ -343,5 +354,5 @@ over_undone {task} {limit} {totals} {a} {b} {before} {mid} now outcome cut over 
 pub over_notes : {task : Task} {limit : ℕ} {totals : Totals} {a b : Option (List ℕ)} {before mid : World} → IsOver task limit totals a b before mid
     → Notes task limit totals a
 over_notes {task} {limit} {totals} {a} {b} {before} {mid} over =
-    Consumes-whole a b over.taken (λ input. (answer_within limit task input).note ≡ (task.ending totals).note) over.consumed over.end
+    Consumes-whole a b over.taken (λ input. (answer_within limit task input).note ≡ (task.ending totals).note) over.consumed.consumed over.end
     (ap (λ x. x.note) (within_short task limit over.taken over.short ∙ over.whole))

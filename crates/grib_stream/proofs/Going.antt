@@ -1,18 +1,17 @@
 -- A run that goes on, and where it stops.
 use Rattle.std.proofs.Common.{◌≡◌, ℕ, ◌+◌, ◌^◌, ◌<◌, ◌≤◌, true, List, [], ◌∷◌, ◌++◌, length, drop, refl, sym, ap, ◌∙◌, subst, arith, append-nil, length-append}
 use Rattle.std.specs.declared.option.Option.{Option}
-use Rattle.std.specs.Io.KnownBytes.{Consumes}
-use Rattle.std.proofs.KnownBytes.{Consumes-nil, Consumes-trans}
 use Rattle.grib_base.specs.declared.fault.Fault.{Fault}
 use Rattle.grib_stream.specs.declared.outcome.Outcome.TheVariants.{Refused}
 use Rattle.grib_stream.specs.declared.place.Totals.{Totals}
 use Rattle.grib_stream.specs.Stream.{begins, Message}
 use Rattle.grib_stream.specs.Searching.{Unmarked}
-use Rattle.grib_stream.specs.Reading.{Gathers}
+use Rattle.grib_stream.specs.Reading.{Gathers, Takes}
 use Rattle.grib_stream.specs.Acts.{Act, World, Did, DidFront}
 use Rattle.grib_stream.specs.Outcomes.{is_truncated, is_open}
 use Rattle.grib_stream.specs.Task.{Task, IsLawful, Next, Whole, Refuses, Stops, acts_of}
 use Rattle.grib_stream.specs.Answer.{Answer, silent, done, after, totals_of, refusal_after, answer_at, answer_of}
+use Rattle.grib_stream.proofs.Windows.{takes_none, takes_more}
 use Rattle.grib_stream.proofs.Worlds.{did_then, did_still, front_more, front_after, did_none}
 use Rattle.grib_stream.proofs.Nexts.{next_here, next_stays, is_final, counted, skipping, answer_by, answer_next, answer_few, message_next}
 use Rattle.grib_stream.proofs.Fronts.{Fronted, front_start, front_passed, front_message, front_read}
@@ -121,7 +120,7 @@ stops_whole task lawful taken acts totals place pending n answer begun so is fin
 pub record Going (task : Task) (limit left : ℕ) (a b : Option (List ℕ)) (before now : World) (totals : Totals) (place : ℕ) (pending : List ℕ) : Type 0 where
   pub taken : List ℕ
   pub acts : List Act
-  pub consumed : Consumes a b taken
+  pub consumed : Takes a b taken
   pub counted : length taken + left ≡ limit
   pub did : Did before now acts
   pub so : SoFar task taken acts totals place pending
@@ -129,7 +128,7 @@ pub record Going (task : Task) (limit left : ℕ) (a b : Option (List ℕ)) (bef
 
 pub going_nowhere : (task : Task) (limit : ℕ) (a : Option (List ℕ)) (before : World) → Going task limit limit a a before before (totals_of 0 0 0 0) 0 []
 going_nowhere task limit a before =
-    record { taken = []; acts = []; consumed = Consumes-nil a; counted = omega arith; did = did_none before; so = nothing_so_far task; front = front_start task }
+    record { taken = []; acts = []; consumed = takes_none a; counted = omega arith; did = did_none before; so = nothing_so_far task; front = front_start task }
 
 -- octets that begin no message were passed over; the window was shown before and after
 pub going_shown : {task : Task} {limit left : ℕ} {a b : Option (List ℕ)} {before mid : World} {totals : Totals} {place : ℕ} {pending : List ℕ} (n : ℕ) (first next shown : List ℕ)
@@ -174,7 +173,7 @@ going_read {task} {limit} {left} {left_now} {a} {b} {c} {before} {mid} {totals} 
     record {
       taken = going.taken ++ gathers.piece;
       acts = going.acts;
-      consumed = Consumes-trans a b c going.taken gathers.piece going.consumed gathers.taken;
+      consumed = takes_more a b c going.taken gathers.piece going.consumed gathers.taken;
       counted = omega (arith, length-append going.taken gathers.piece, going.counted, gathers.size);
       did = did_still before mid now going.acts going.did still;
       so = subst (SoFar task (going.taken ++ gathers.piece) going.acts totals place) grown

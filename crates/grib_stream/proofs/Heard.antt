@@ -6,7 +6,7 @@ use Rattle.std.specs.declared.option.Option.{Option}
 use Rattle.std.specs.declared.result.Result.{Result}
 use Rattle.std.specs.Result.{IsErrAnd}
 use Rattle.std.specs.Io.KnownBytes.{Consumes, Keeps, IsAtEnd}
-use Rattle.std.proofs.KnownBytes.{Consumes-nil, Consumes-trans, Consumes-kept}
+use Rattle.std.proofs.KnownBytes.{Consumes-nil}
 use Rattle.grib_base.specs.declared.fault.Fault.{Fault}
 use Rattle.grib_stream.specs.declared.outcome.Outcome.{Outcome}
 use Rattle.grib_stream.specs.declared.outcome.Outcome.TheVariants.{Done, Refused, ReadFault, Memory, InputTooLong}
@@ -25,6 +25,7 @@ use Rattle.grib_stream.specs.Hearing.{Heeds, IsWhole, IsCutOff, IsNoMessage}
 use Rattle.grib_stream.specs.Listening.{RefusesHeard, CutsHeard, StopsHeard, GoesOn, EndsHeard, AnswersHeard}
 use Rattle.grib_stream.specs.Run.{Runs}
 use Rattle.grib_stream.specs.Soon.{RefusesSoon}
+use Rattle.grib_stream.proofs.Windows.{takes_more, takes_kept, takes_still}
 use Rattle.grib_stream.proofs.Worlds.{did_none, front_whole}
 use Rattle.grib_stream.proofs.Nexts.{judged, counted, message_next}
 use Rattle.grib_stream.proofs.SoFar.{begun_stays}
@@ -161,7 +162,7 @@ module _ (task : Task) (lawful : IsLawful task) (hears : List ℕ → Bool) (lim
       let size : length read.taken ≡ limit = omega (arith, read.counted, on.full) in
       record {
         runs = subst (λ o. Runs task limit o a c before now) (sym long)
-            (runs_long task limit a c before now read.taken on.piece read.acts (Consumes-trans a on.middle c read.taken on.piece read.consumed on.taken) size on.one read.did
+            (runs_long task limit a c before now read.taken on.piece read.acts (takes_more a on.middle c read.taken on.piece read.consumed on.taken) size on.one read.did
             (ap (λ x. x.acts) alone ∙ (ap (λ xs. read.acts ++ xs) waiting.nothing ∙ append-nil read.acts))
             (ap (λ x. is_open x.outcome) alone ∙ waiting.unclosed));
         soon = soon_otherwise task hears outcome a c (λ refusal is. let no : InputTooLong ≡ Refused refusal = sym long ∙ is in cc);
@@ -249,7 +250,7 @@ gathers_to {a} {b} {c} {first} {octets} {left} {left_now} so none = record {
   piece = so.piece;
   grown = so.grown;
   size = so.size;
-  taken = subst (Consumes a c) (append-nil so.piece) (Consumes-trans a b c so.piece [] so.taken none);
+  taken = takes_still a b c so.piece so.taken none;
 }
 
 gathers_kept : {a b c : Option (List ℕ)} {first octets : List ℕ} {left left_now : ℕ} → Gathers a b first octets left left_now → Keeps b c → Gathers a c first octets left left_now
@@ -257,7 +258,7 @@ gathers_kept {a} {b} {c} {first} {octets} {left} {left_now} so kept = record {
   piece = so.piece;
   grown = so.grown;
   size = so.size;
-  taken = Consumes-kept a b c so.piece so.taken kept;
+  taken = takes_kept a b c so.piece so.taken kept;
 }
 
 abbrev HeedsFull : Task → Fault → Option (List ℕ) → Option (List ℕ) → List ℕ → ℕ → ℕ → Type 0

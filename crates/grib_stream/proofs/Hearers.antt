@@ -8,7 +8,6 @@ use Rattle.std.specs.Result.{IsErrAnd}
 use Rattle.grib_io.specs.declared.outside.Stop.{Stop}
 use Rattle.grib_io.specs.declared.outside.Stop.TheVariants as stops
 use Rattle.grib_stream.specs.declared.listening.Heard.{Heard as HeardMessage}
-use Rattle.std.proofs.KnownBytes.{Consumes-trans}
 use Rattle.grib_base.specs.declared.fault.Fault.{Fault}
 use Rattle.grib_stream.specs.Stream.{Judgement, Message, Faulty}
 use Rattle.grib_stream.specs.Outcomes.{is_truncated}
@@ -16,7 +15,7 @@ use Rattle.grib_stream.specs.Task.{Task, IsLawful}
 use Rattle.grib_stream.specs.Reading.{Gathers}
 use Rattle.grib_stream.specs.Hearing.{Listens, is_closed, CanHear, HearsFront, Cuts, Heeds, IsWhole, IsRefused, IsCutOff, IsNoMessage}
 use Rattle.grib_stream.proofs.Nexts.{not_true}
-use Rattle.grib_stream.proofs.Windows.{gathers_none}
+use Rattle.grib_stream.proofs.Windows.{gathers_none, takes_more}
 
 -- a refusal for another reason than the end of the octets stays
 closed_stays_by : (task : Task) → IsLawful task → (octets more : List ℕ) (j : Judgement) → task.judge octets ≡ j → is_closed j ≡ true → task.judge (octets ++ more) ≡ j
@@ -193,7 +192,7 @@ gathers_behind a b c first octets window window_now left left_mid left_now befor
       grown = ap (λ xs. octets ++ xs) is
           ∙ (ap (λ xs. xs ++ now.piece) (sym (append-nil octets) ∙ before.grown) ∙ append_assoc first before.piece now.piece);
       size = omega (arith, length-append before.piece now.piece, before.size, now.size);
-      taken = Consumes-trans a b c before.piece now.piece before.taken now.taken;
+      taken = takes_more a b c before.piece now.piece before.taken now.taken;
     }
 
 pub listening_on : {task : Task} {own_hears : List ℕ → Bool} {Heard : List ℕ → Type 0} {a b c : Option (List ℕ)} {first pending window_now : List ℕ} {left left_mid left_now : ℕ} {fault : Fault}

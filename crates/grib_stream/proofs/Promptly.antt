@@ -5,7 +5,7 @@ use Rattle.std.proofs.lemmas.List.{take-append-le}
 use Rattle.std.specs.declared.option.Option.{Option}
 use Rattle.std.specs.declared.result.Result.{Result}
 use Rattle.std.specs.Result.{IsErrAnd}
-use Rattle.std.specs.Io.KnownBytes.{Consumes}
+use Rattle.grib_stream.specs.Reading.{Takes}
 use Rattle.grib_base.specs.declared.fault.Fault.{Fault}
 use Rattle.grib_base.specs.declared.fault.Refusal.{Refusal}
 use Rattle.grib_stream.specs.declared.outcome.Outcome.{Outcome}
@@ -144,7 +144,7 @@ stops_never task place octets outcome stops never = stops_by task place octets o
 pub soon_here : {task : Task} {limit left : ℕ} {a b : Option (List ℕ)} {before mid : World} {totals : Totals} {place : ℕ} {shown : List ℕ} (hears : List ℕ → Bool) (n : ℕ)
     → Going task limit left a b before mid totals place shown → begins shown ≡ true → n ≡ totals.messages + 1
     → (IsPrompt hears task.judge shown → (k : ℕ) → is_closed (task.judge (take k shown)) ≡ true → length shown ≤ k + 65536)
-    → (taken : List ℕ) × Consumes a b taken × IsSoon hears task.judge taken n
+    → (taken : List ℕ) × Takes a b taken × IsSoon hears task.judge taken n
 soon_here {task} {limit} {left} {a} {b} {before} {mid} {totals} {place} {shown} hears n going begun is bound = (
   going.taken,
   going.consumed,

@@ -5,7 +5,6 @@ use Rattle.std.specs.declared.option.Option.{Option}
 use Rattle.std.specs.declared.result.Result.{Result}
 use Rattle.std.specs.Result.{IsErrAnd}
 use Rattle.std.specs.Io.KnownBytes.{Consumes, IsAtEnd}
-use Rattle.std.proofs.KnownBytes.{Consumes-kept, Consumes-trans}
 use Rattle.grib_base.specs.declared.fault.Fault.{Fault}
 use Rattle.grib_stream.specs.declared.outcome.Outcome.{Outcome}
 use Rattle.grib_stream.specs.declared.outcome.Outcome.TheVariants.{Done, Refused, ReadFault, WriteFault, ShelfFault, Memory, InputTooLong}
@@ -23,6 +22,7 @@ use Rattle.grib_stream.specs.Rest.{Stands}
 use Rattle.grib_stream.specs.Turning.{Awaits, EndsTurn, StopsOrRefuses, conclusion}
 use Rattle.grib_stream.specs.Run.{Runs, Reaches, outcome_of}
 use Rattle.grib_stream.specs.Faults.{Faults, CountsOne}
+use Rattle.grib_stream.proofs.Windows.{takes_more, takes_kept, takes_still}
 use Rattle.grib_stream.proofs.Worlds.{did_still, front_whole}
 use Rattle.grib_stream.proofs.Nexts.{judged, next_here}
 use Rattle.grib_stream.proofs.SoFar.{SoFar, begun_stays}
@@ -172,12 +172,12 @@ probe_ends {task} {limit} {left} {a} {b} {c} {before} {mid} {totals} {place} {sh
     (λ (long : outcome ≡ InputTooLong).
     let (piece, one, consumed) = probes.goes_on (is ∙ ap Err long) in
     subst (λ o. Runs task limit o a c before now) (sym long)
-    (runs_long task limit a c before now going.taken piece going.acts (Consumes-trans a b c going.taken piece going.consumed consumed) size one did
+    (runs_long task limit a c before now going.taken piece going.acts (takes_more a b c going.taken piece going.consumed consumed) size one did
     (ap (λ x. x.acts) alone ∙ (ap (λ xs. going.acts ++ xs) waiting.nothing ∙ append-nil going.acts))
     (ap (λ x. is_open x.outcome) alone ∙ waiting.unclosed)))
     (λ (failed : outcome ≡ ReadFault).
     let kept = probes.failed (is ∙ ap Err failed) in
-    runs_broken task limit outcome a c before now going.taken (ap is_broken failed) (Consumes-kept a b c going.taken going.consumed kept) (omega arith)
+    runs_broken task limit outcome a c before now going.taken (ap is_broken failed) (takes_kept a b c going.taken going.consumed kept) (omega arith)
     (so_far_front task going.taken going.acts totals place shown before now going.so (front_whole before now going.acts did))
     (λ e. exactly task going.taken going.acts totals place shown before now going.so did waiting.nothing))
     (probe_one_of result outcome is probes.one_of)
@@ -214,7 +214,7 @@ pub going_still : {task : Task} {limit left : ℕ} {a b : Option (List ℕ)} {be
 going_still {task} {limit} {left} {a} {b} {before} {mid} {totals} {place} {shown} now c going still consumed = record {
   taken = going.taken;
   acts = going.acts;
-  consumed = subst (Consumes a c) (append-nil going.taken) (Consumes-trans a b c going.taken [] going.consumed consumed);
+  consumed = takes_still a b c going.taken going.consumed consumed;
   counted = going.counted;
   did = did_still before mid now going.acts going.did still;
   so = going.so;

@@ -1,13 +1,35 @@
 -- The part of a buffer that a window shows.
-use Rattle.std.proofs.Common.{◌≡◌, ℕ, ◌+◌, ◌-◌, ◌≤◌, List, ◌++◌, length, take, drop, sym, ap, ◌∙◌, arith, length-drop, length-take-le, take-append-drop, take-take, drop_at, [], append_assoc, append-nil, length-append}
+use Rattle.std.proofs.Common.{◌≡◌, ℕ, ◌+◌, ◌-◌, ◌<◌, ◌≤◌, subst, List, ◌++◌, length, take, drop, sym, ap, ◌∙◌, arith, length-drop, length-take-le, take-append-drop, take-take, drop_at, [], append_assoc, append-nil, length-append}
 use Rattle.std.proofs.lemmas.List.{take-append-le}
+use Rattle.std.proofs.lemmas.List.Elements.{All-nil, All-append}
 use Rattle.std.proofs.Math.Seq.{take-append-add}
 use lib.Seq.{drop-append-le}
 use borrow.Rule.Slice.PartMut.{put_mid, post_of}
 use Rattle.std.specs.declared.option.Option.{Option}
 use Rattle.std.specs.Io.KnownBytes.{Consumes, Keeps, IsAtEnd}
 use Rattle.std.proofs.KnownBytes.{Consumes-nil, Consumes-trans, Consumes-kept}
-use Rattle.grib_stream.specs.Reading.{Reads, Gathers}
+use Rattle.grib_stream.specs.Reading.{Reads, Gathers, Takes}
+
+-- ---- octets that were taken
+
+pub takes_none : (a : Option (List ℕ)) → Takes a a []
+takes_none a = record { consumed = Consumes-nil a; small = All-nil (λ octet. octet < 256) }
+
+pub takes_more : (a b c : Option (List ℕ)) (first second : List ℕ) → Takes a b first → Takes b c second → Takes a c (first ++ second)
+takes_more a b c first second before now = record {
+  consumed = Consumes-trans a b c first second before.consumed now.consumed;
+  small = All-append (λ octet. octet < 256) first second before.small now.small;
+}
+
+pub takes_kept : (a b c : Option (List ℕ)) (octets : List ℕ) → Takes a b octets → Keeps b c → Takes a c octets
+takes_kept a b c octets before kept = record { consumed = Consumes-kept a b c octets before.consumed kept; small = before.small }
+
+-- nothing was taken since
+pub takes_still : (a b c : Option (List ℕ)) (octets : List ℕ) → Takes a b octets → Consumes b c [] → Takes a c octets
+takes_still a b c octets before nothing =
+    record { consumed = subst (Consumes a c) (append-nil octets) (Consumes-trans a b c octets [] before.consumed nothing); small = before.small }
+
+-- ---- the part of a buffer
 
 -- a buffer of which a octets were filled, after n more came to the front of the part from there on
 filled_more : (xs ys : List ℕ) (a k n : ℕ) → a ≤ length xs → n ≤ length ys → take (a + n) (put_mid a k xs ys) ≡ take a xs ++ take n ys
@@ -31,7 +53,7 @@ window_read old new start end count same order within =
     ap (drop start) whole ∙ drop-append-le start (take end old) (drop end (take (end + count) new)) (omega (arith, long, order))
 
 pub reads_behind : (a b : Option (List ℕ)) (shown old new : List ℕ) (start end count most : ℕ) → shown ≡ drop start (take end old) → take end new ≡ take end old
-    → start ≤ end → end + count ≤ length new → count ≤ most → Consumes a b (drop end (take (end + count) new)) → (count ≡ 0 → IsAtEnd b)
+    → start ≤ end → end + count ≤ length new → count ≤ most → Takes a b (drop end (take (end + count) new)) → (count ≡ 0 → IsAtEnd b)
     → Reads a b shown (drop start (take (end + count) new)) count most
 reads_behind a b shown old new start end count most is same order within few taken ends = record {
   piece = drop end (take (end + count) new);
@@ -45,7 +67,7 @@ reads_behind a b shown old new start end count most is same order within few tak
 -- ---- one read after another
 
 pub gathers_none : (a : Option (List ℕ)) (octets : List ℕ) (left : ℕ) → Gathers a a octets octets left left
-gathers_none a octets left = record { piece = []; grown = sym (append-nil octets); size = omega arith; taken = Consumes-nil a }
+gathers_none a octets left = record { piece = []; grown = sym (append-nil octets); size = omega arith; taken = takes_none a }
 
 pub gathers_more : (a b c : Option (List ℕ)) (old mid new : List ℕ) (left left_mid count most : ℕ) → Gathers a b old mid left left_mid → Reads b c mid new count most
     → most ≤ left_mid → Gathers a c old new left (left_mid - count)
@@ -53,7 +75,7 @@ gathers_more a b c old mid new left left_mid count most before now few = record 
   piece = before.piece ++ now.piece;
   grown = now.grown ∙ (ap (λ xs. xs ++ now.piece) before.grown ∙ append_assoc old before.piece now.piece);
   size = omega (arith, length-append before.piece now.piece, before.size, now.size, now.few);
-  taken = Consumes-trans a b c before.piece now.piece before.taken now.taken;
+  taken = takes_more a b c before.piece now.piece before.taken now.taken;
 }
 
 -- a read that gave nothing, or failed
@@ -63,7 +85,7 @@ gathers_still a b c old mid new left left_mid before same kept = record {
   piece = before.piece;
   grown = same ∙ before.grown;
   size = before.size;
-  taken = Consumes-kept a b c before.piece before.taken kept;
+  taken = takes_kept a b c before.piece before.taken kept;
 }
 
 pub gathers_ended : (a b c : Option (List ℕ)) (old mid new : List ℕ) (left left_mid count most : ℕ) → Gathers a b old mid left left_mid → Reads b c mid new count most
@@ -72,5 +94,5 @@ gathers_ended a b c old mid new left left_mid count most before now none = recor
   piece = before.piece ++ now.piece;
   grown = now.grown ∙ (ap (λ xs. xs ++ now.piece) before.grown ∙ append_assoc old before.piece now.piece);
   size = omega (arith, length-append before.piece now.piece, before.size, now.size, none);
-  taken = Consumes-trans a b c before.piece now.piece before.taken now.taken;
+  taken = takes_more a b c before.piece now.piece before.taken now.taken;
 }

@@ -2,7 +2,7 @@
 use Rattle.std.specs.Prelude.{◌≡◌, ℕ, ◌⊎◌, List, [], length, Ok, Err}
 use Rattle.std.specs.declared.option.Option.{Option}
 use Rattle.std.specs.declared.result.Result.{Result}
-use Rattle.std.specs.Io.KnownBytes.{Consumes, IsAtEnd}
+use Rattle.std.specs.Io.KnownBytes.{IsAtEnd}
 use Rattle.grib_base.specs.declared.fault.Fault.{Fault}
 use Rattle.grib_stream.specs.declared.outcome.Outcome.{Outcome}
 use Rattle.grib_stream.specs.declared.outcome.Outcome.TheVariants.{Refused, ReadFault, Memory, InputTooLong}
@@ -14,6 +14,7 @@ use Rattle.grib_stream.specs.Acts.{World, Did}
 use Rattle.grib_stream.specs.Task.{Task, next_of}
 use Rattle.grib_stream.specs.Performed.{Performs, EndsWith}
 use Rattle.grib_stream.specs.Turning.{refusal_at}
+use Rattle.grib_stream.specs.Reading.{Takes}
 use Rattle.grib_stream.specs.Hearing.{Heeds, IsRefused, IsCutOff, IsNoMessage}
 
 -- octets that were heard are refused, whatever follows
@@ -35,7 +36,7 @@ pub record GoesOn (task : Task) (a c : Option (List ℕ)) (first : List ℕ) (le
   pub full : left_now ≡ 0
   pub piece : List ℕ
   pub one : length piece ≡ 1
-  pub taken : Consumes middle c piece
+  pub taken : Takes middle c piece
 
 -- how a run ends within a message that is heard: what was heard is refused, or is a message that ends it, or the
 -- input ends or fails or is too long, or there is no memory

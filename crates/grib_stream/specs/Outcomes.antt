@@ -1,13 +1,14 @@
 -- The outcomes of a run.
-use Rattle.std.specs.Prelude.{◌≡◌, ◌⊎◌, ℕ, Bool, true, false, not}
+use Rattle.std.specs.Prelude.{◌≡◌, ◌⊎◌, ℕ, ◌==◌, Bool, true, false, not, cond}
 use Rattle.grib_base.specs.declared.fault.Reason.{Reason}
 use Rattle.grib_base.specs.declared.fault.Reason.TheVariants.{Truncated}
 use Rattle.grib_stream.specs.declared.outcome.Outcome.{Outcome}
-use Rattle.grib_stream.specs.declared.outcome.Outcome.TheVariants.{Done, Usage, Refused, Kept, TableRefused, ReadFault, WriteFault, ShelfFault, Memory, InputTooLong}
+use Rattle.grib_stream.specs.declared.outcome.Outcome.TheVariants.{Done, Passed, Usage, Refused, Kept, TableRefused, ReadFault, WriteFault, ShelfFault, Memory, InputTooLong}
 
 -- the exit status
 abbrev pub status_of : Outcome → ℕ
 status_of Done = 0
+status_of (Passed refused kept) = cond (refused == 0) 3 2
 status_of (Usage word) = 1
 status_of (Refused refusal) = 2
 status_of (Kept kept) = 3
@@ -21,6 +22,7 @@ status_of InputTooLong = 9
 -- whether a device or a lack of memory ended the run, before or after its answer was found
 abbrev pub is_broken : Outcome → Bool
 is_broken Done = false
+is_broken (Passed refused kept) = false
 is_broken (Usage word) = false
 is_broken (Refused refusal) = false
 is_broken (Kept kept) = false
@@ -34,6 +36,7 @@ is_broken InputTooLong = false
 -- whether writing the output or the notes broke, or memory ran out: then output and notes may wait for the rest
 abbrev pub is_cut_short : Outcome → Bool
 is_cut_short Done = false
+is_cut_short (Passed refused kept) = false
 is_cut_short (Usage word) = false
 is_cut_short (Refused refusal) = false
 is_cut_short (Kept kept) = false
@@ -48,6 +51,7 @@ is_cut_short InputTooLong = false
 -- a fault of the shelf the output and the notes are still brought to their end.
 abbrev pub is_cut_within : Outcome → Bool
 is_cut_within Done = false
+is_cut_within (Passed refused kept) = false
 is_cut_within (Usage word) = false
 is_cut_within (Refused refusal) = false
 is_cut_within (Kept kept) = false
@@ -66,6 +70,7 @@ is_truncated _ = false
 -- whether more octets may change the outcome: the end of the input brought it
 abbrev pub is_open : Outcome → Bool
 is_open Done = true
+is_open (Passed refused kept) = true
 is_open (Usage word) = false
 is_open (Refused refusal) = is_truncated refusal.fault.reason
 is_open (Kept kept) = false
@@ -79,6 +84,7 @@ is_open InputTooLong = false
 -- whether it is of a message, before which the run ends, whatever follows
 abbrev pub is_of_message : Outcome → Bool
 is_of_message Done = false
+is_of_message (Passed refused kept) = false
 is_of_message (Usage word) = false
 is_of_message (Refused refusal) = not (is_truncated refusal.fault.reason)
 is_of_message (Kept kept) = true

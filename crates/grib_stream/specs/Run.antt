@@ -3,13 +3,14 @@ use Rattle.std.specs.Prelude.{◌≡◌, ◌≢◌, ℕ, ◌+◌, ◌≤◌, fal
 use Rattle.std.specs.Prelude.{Ok, Err}
 use Rattle.std.specs.declared.option.Option.{Option}
 use Rattle.std.specs.declared.result.Result.{Result}
-use Rattle.std.specs.Io.KnownBytes.{Consumes, IsAtEnd}
+use Rattle.std.specs.Io.KnownBytes.{IsAtEnd}
 use Rattle.grib_stream.specs.declared.outcome.Outcome.{Outcome}
 use Rattle.grib_stream.specs.declared.outcome.Outcome.TheVariants.{Done, ReadFault, InputTooLong}
 use Rattle.grib_stream.specs.declared.place.Totals.{Totals}
 use Rattle.grib_stream.specs.Acts.{Act, World, Did, DidFront}
 use Rattle.grib_stream.specs.Outcomes.{is_broken}
 use Rattle.grib_stream.specs.Task.{Task}
+use Rattle.grib_stream.specs.Reading.{Takes}
 use Rattle.grib_stream.specs.Faults.{Faults, CountsOne}
 use Rattle.grib_stream.specs.Answer.{Answer, after, done, answer_of, answer_within}
 
@@ -20,25 +21,26 @@ pub record Gives (answer : Answer) (outcome : Outcome) (before now : World) : Ty
   pub whole : is_broken outcome ≡ false → Did before now (answer.acts ++ answer.ending)
   pub front : DidFront before now (answer.acts ++ answer.ending)
 
--- These octets were taken: no more than are answered, and one where that shows that the input is too long.
--- After a fault of the input, what was done is what the octets taken give.
+-- These octets were taken: no more than are answered, and one where that shows that the input is too long. What was
+-- done is the answer to them, whatever the input tells of itself. After a fault of the input, it is what they give.
 pub record Took (task : Task) (limit : ℕ) (taken : List ℕ) (outcome : Outcome) (before now : World) : Type 0 where
   pub most : length taken ≤ limit + 1
   pub short : is_broken outcome ≡ false → outcome ≢ InputTooLong → length taken ≤ limit
   pub long : outcome ≡ InputTooLong → length taken ≡ limit + 1
+  pub answered : Gives (answer_within limit task taken) outcome before now
   pub read_fault : outcome ≡ ReadFault → Did before now (answer_of task taken).acts
 
 -- A run over an input of which this many octets are answered at most: what was left of it, and is left now.
 pub record Runs (task : Task) (limit : ℕ) (outcome : Outcome) (left left_now : Option (List ℕ)) (before now : World) : Type 0 where
   pub gives : IfSome left (λ input. Gives (answer_within limit task input) outcome before now)
-  pub taken : (taken : List ℕ) × Consumes left left_now taken × Took task limit taken outcome before now
+  pub taken : (taken : List ℕ) × Takes left left_now taken × Took task limit taken outcome before now
   pub end : outcome ≡ Done → IsAtEnd left_now
 
 -- An input was read to its end, and all its messages were answered: the ending is still to be done.
 pub record IsOver (task : Task) (limit : ℕ) (totals : Totals) (left left_now : Option (List ℕ)) (before now : World) : Type 0 where
   pub taken : List ℕ
   pub acts : List Act
-  pub consumed : Consumes left left_now taken
+  pub consumed : Takes left left_now taken
   pub end : IsAtEnd left_now
   pub short : length taken ≤ limit
   pub did : Did before now acts

@@ -1,7 +1,7 @@
 -- How soon a message is refused.
 use Rattle.std.specs.Prelude.{◌≡◌, ◌≢◌, ℕ, ◌+◌, ◌≤◌, ◌⊎◌, Bool, true, false, List, ◌++◌, length, take}
 use Rattle.std.specs.declared.option.Option.{Option}
-use Rattle.std.specs.Io.KnownBytes.{Consumes}
+use Rattle.grib_stream.specs.Reading.{Takes}
 use Rattle.grib_base.specs.declared.fault.Refusal.{Refusal}
 use Rattle.grib_stream.specs.declared.outcome.Outcome.{Outcome}
 use Rattle.grib_stream.specs.declared.outcome.Outcome.TheVariants.{Refused}
@@ -43,4 +43,4 @@ abbrev pub RefusesSoon : (List ℕ → Bool) → Task → Outcome → Option (Li
 RefusesSoon hears task outcome left left_now =
     (refusal : Refusal) → outcome ≡ Refused refusal → is_truncated refusal.fault.reason ≡ false
     → ((place : Place) (message : List ℕ) → task.result place message ≢ Ends outcome)
-    → (taken : List ℕ) × Consumes left left_now taken × IsSoon hears task.judge taken refusal.message
+    → (taken : List ℕ) × Takes left left_now taken × IsSoon hears task.judge taken refusal.message

@@ -6,12 +6,12 @@ ghost use Rattle.grib_stream.specs.Reading.{Gathers, Probes};
 ghost use Rattle.grib_stream.specs.Rest.{Stands};
 
 use crate::outcome::Outcome;
-use crate::window::{READ, Window};
+use crate::window::{READ, Window, read_behind};
 use grib_io::{Source, Stop};
 
 /// What may still be read of an input.
 #[derive(Clone, Copy, Debug, PartialEq, Eq)]
-pub(crate) enum Rest {
+pub enum Rest {
     /// More, as far as is known.
     Open,
     /// Nothing, since as much was taken as is answered.
@@ -23,7 +23,7 @@ pub(crate) enum Rest {
 /// Reads until this many octets are there, as far as the input goes and no more than `left` of it, from
 /// which what was read is taken away. No more is read than is wanted, but up to as many octets as one read
 /// asks for at most.
-pub(crate) fn gather<S: Source>(
+pub fn gather<S: Source>(
     window: &mut Window,
     input: &mut S,
     wanted: usize,
@@ -65,11 +65,11 @@ fn room_for(wanted: usize, there: usize) -> usize
 }
 
 /// Takes one octet more than is answered, which shows whether the input is too long.
-pub(crate) fn probe<S: Source>(input: &mut S) -> Result<(), Outcome>
+pub fn probe<S: Source>(input: &mut S) -> Result<(), Outcome>
     ensures { Probes result (S.left input.old) (S.left input.new) (S.faults input.old) (S.faults input.new) }
 {
     let mut octet = [0u8; 1];
-    match input.read(&mut octet) {
+    match read_behind(&mut octet, 0, 1, input) {
         Ok(0) => Ok(()),
         Ok(_) => Err(Outcome::InputTooLong),
         Err(_) => Err(Outcome::ReadFault),

@@ -11,6 +11,9 @@ use grib_causes::{Kept, TableRefusal};
 pub enum Outcome {
     /// The input was read to its end, and all of it was answered.
     Done,
+    /// The input was read to its end, and all of it was answered but what was passed: this many refusals and
+    /// this many kept messages, one at least of both.
+    Passed { refused: u64, kept: u64 },
     /// The words have no reading: the first that is not read, counted from 0, or the number of words.
     Usage(u64),
     /// A message is refused.
@@ -38,6 +41,7 @@ impl Outcome {
     {
         match self {
             Outcome::Done => 0,
+            Outcome::Passed { refused, .. } => if *refused == 0 { 3 } else { 2 },
             Outcome::Usage(_) => 1,
             Outcome::Refused(_) => 2,
             Outcome::Kept(_) => 3,

@@ -8,7 +8,7 @@ use memchr::memmem;
 
 /// How many of the first octets begin no message: those before the first `GRIB`, or, where there is none,
 /// all but the last three, which may be the front of one.
-pub(crate) fn octets_before_mark(octets: &[u8]) -> usize
+pub fn octets_before_mark(octets: &[u8]) -> usize
     ensures unmarked { Unmarked result octets.now }
     ensures within { result ≤ length octets.now }
     ensures begun { 4 ≤ length (drop result octets.now) → begins (drop result octets.now) ≡ true }

@@ -1,21 +1,21 @@
 //! The octets of an input that were read and are still to be answered.
 
 ghost use Rattle.std.specs.Prelude.{◌≡◌, ◌≤◌, ◌<◌, ◌+◌, ◌-◌, max, ℕ, List, [], length, take, drop, IfOk, OnErr, OnOk, vec_len};
-ghost use Rattle.std.specs.Io.KnownBytes.{Consumes, Keeps, IsAtEnd};
+ghost use Rattle.std.specs.Io.KnownBytes.{Keeps, IsAtEnd};
 ghost use Rattle.grib_io.specs.Outside.{CountsFailure, CountsStops};
-ghost use Rattle.grib_stream.specs.Reading.{Reads};
+ghost use Rattle.grib_stream.specs.Reading.{Reads, Takes};
 
 use grib_io::{Failed, Source, Stop};
 use std::alloc::{AllocError, Global};
 use std::marker::Model;
 
 /// The most octets that one read asks for.
-pub(crate) const READ: usize = 65_536;
+pub const READ: usize = 65_536;
 
 /// Octets that were read and are still to be answered. They lie in one buffer, which grows with what
 /// comes and is used again for what comes later.
 #[derive(Drop)]
-pub(crate) struct Window {
+pub struct Window {
     octets: Vec<u8>,
     start: usize,
     end: usize,
@@ -144,7 +144,7 @@ fn enlarge(octets: &mut Vec<u8>, pending: usize, wanted: usize) -> Result<(), Al
 }
 
 /// Reads into the room of this many octets behind the first `end`, which stay as they are.
-fn read_behind<S: Source>(
+pub(crate) fn read_behind<S: Source>(
     octets: &mut [u8],
     end: usize,
     room: usize,
@@ -154,7 +154,7 @@ fn read_behind<S: Source>(
     requires some { 0 < room }
     ensures front { take end octets.new ≡ take end octets.old }
     ensures bound { IfOk result (λ count. count ≤ room) }
-    ensures taken { IfOk result (λ count. Consumes (S.left input.old) (S.left input.new)
+    ensures taken { IfOk result (λ count. Takes (S.left input.old) (S.left input.new)
         (drop end (take (end + count) octets.new))) }
     ensures end { IfOk result (λ count. count ≡ 0 → IsAtEnd (S.left input.new)) }
     ensures untaken { OnErr result (Keeps (S.left input.old) (S.left input.new)) }

@@ -1,0 +1,15 @@
+pub mod Plain
+pub mod Ends
+pub mod Lines
+pub mod Heads
+pub mod Orders
+pub mod Standing
+pub mod Steps
+pub mod Effects
+pub mod SoFar
+pub mod Stopping
+pub mod Exits
+pub mod Written
+pub mod Decided
+pub mod Finishing
+pub mod Residuals

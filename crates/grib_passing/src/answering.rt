@@ -1,0 +1,56 @@
+//! A run over an input that goes past what is refused and past what is kept, but for the last of its notes.
+
+ghost use Rattle.std.specs.Prelude.{◌≡◌, ◌≢◌, ◌≤◌, ◌^◌, false, IfErr};
+ghost use Rattle.grib_io.specs.Outside.{Unfinished};
+ghost use Rattle.grib_stream.specs.Acts.{world};
+ghost use Rattle.grib_stream.specs.Faults.{faults};
+ghost use Rattle.grib_stream.specs.declared.outcome.Outcome.TheVariants.{ShelfFault};
+ghost use Rattle.grib_passing.specs.Deeds.{outside};
+ghost use Rattle.grib_passing.specs.Laws.{outcome_of, is_whole};
+ghost use Rattle.grib_passing.specs.Run.{Runs, CountsOne};
+ghost use Rattle.grib_passing.specs.Steps.{plan_of};
+
+use crate::passer::Passer;
+use crate::passing::{PassTotals, Passing};
+use crate::running::pass_messages;
+use grib_io::{Shelf, Sink, Source};
+use grib_stream::Outcome;
+use std::alloc::Global;
+
+/// Answers the messages of an input, of which no more than `limit` octets are answered, and does what is to be done at
+/// its end. It goes past what is refused and past what is kept, as `passing` says, and notes a line of each. It answers
+/// what was counted where the input was read to its end and all was done, and else how the run ends. The answer is a
+/// function of the input alone. No message is heard: the octets of one that is refused may begin another. The buffer
+/// holds no more than a message states of its length, as far as Section 0 allows it, and one read.
+pub fn answer_passing<K: Passer, S: Source, T: Sink, N: Sink, H: Shelf>(
+    performer: &K,
+    alloc: Global,
+    passing: Passing,
+    limit: u64,
+    input: &mut S,
+    output: &mut T,
+    notes: &mut N,
+    shelf: &mut H,
+) -> Result<PassTotals, Outcome>
+    requires limit { limit ≤ 2 ^ 40 }
+    ensures runs { Runs (plan_of (K.task performer.now) (K.texts performer.now) passing) limit result
+        (S.left input.old) (S.left input.new)
+        (outside (world (T.contents output.old) (H.contents shelf.old)) (N.contents notes.old))
+        (outside (world (T.contents output.new) (H.contents shelf.new)) (N.contents notes.new)) }
+    ensures counts { CountsOne (outcome_of result)
+        (faults (S.faults input.old) (T.faults output.old) (N.faults notes.old) (H.faults shelf.old))
+        (faults (S.faults input.new) (T.faults output.new) (N.faults notes.new) (H.faults shelf.new)) }
+
+    // Nothing of the output or of the notes is finished before the close of a run, after a fault neither.
+    ensures unfinished { Unfinished (T.settled output.old) (T.settled output.new) }
+    ensures notes_unfinished { Unfinished (N.settled notes.old) (N.settled notes.new) }
+    ensures shelf { K.uses_shelf performer.now ≡ false → shelf.new ≡ shelf.old }
+    ensures unshelved { K.uses_shelf performer.now ≡ false → outcome_of result ≢ ShelfFault }
+    ensures before_end { IfErr result (λ outcome. is_whole outcome ≡ false) }
+{
+    let totals = pass_messages(
+        performer, alloc, passing, limit, input, output, notes, shelf,
+    )?;
+    performer.finish(alloc, &totals.counted, output)?;
+    Ok(totals)
+}

@@ -1,0 +1,68 @@
+//! What was counted behind an item.
+
+ghost use Rattle.std.specs.Prelude.{◌≡◌, ◌<◌, ◌+◌, ◌^◌};
+ghost use Rattle.grib_passing.specs.Answer as answers;
+ghost use Rattle.grib_passing.specs.Answer.{counts_of, totals_by};
+
+use crate::passer::Extent;
+use crate::passing::PassTotals;
+use grib_stream::{Totals, Whole};
+
+/// Behind a message that was answered.
+pub(crate) fn one_answered(totals: &PassTotals, message: &Whole) -> PassTotals
+    requires messages { totals.now.counted.messages + 1 < 2 ^ 64 }
+    requires fields { totals.now.counted.fields + message.now.fields < 2 ^ 64 }
+    requires written { totals.now.counted.written + message.now.written < 2 ^ 64 }
+    ensures { result ≡ totals_by (answers.one_answered (counts_of totals.now) message.now.fields message.now.written)
+        totals.now.counted.skipped }
+{
+    PassTotals {
+        counted: Totals {
+            messages: totals.counted.messages + 1,
+            fields: totals.counted.fields + message.fields,
+            skipped: totals.counted.skipped,
+            written: totals.counted.written + message.written,
+        },
+        refused: totals.refused,
+        kept: totals.kept,
+    }
+}
+
+/// Behind a message that was kept, instead of which this many octets were written.
+pub(crate) fn one_kept(totals: &PassTotals, message: &Extent, written: u64) -> PassTotals
+    requires messages { totals.now.counted.messages + 1 < 2 ^ 64 }
+    requires fields { totals.now.counted.fields + message.now.fields < 2 ^ 64 }
+    requires written { totals.now.counted.written + written < 2 ^ 64 }
+    requires kept { totals.now.kept + 1 < 2 ^ 64 }
+    ensures { result ≡ totals_by (answers.one_kept (counts_of totals.now) message.now.fields written)
+        totals.now.counted.skipped }
+{
+    PassTotals {
+        counted: Totals {
+            messages: totals.counted.messages + 1,
+            fields: totals.counted.fields + message.fields,
+            skipped: totals.counted.skipped,
+            written: totals.counted.written + written,
+        },
+        refused: totals.refused,
+        kept: totals.kept + 1,
+    }
+}
+
+/// Behind octets that were refused, of which this many are passed.
+pub(crate) fn one_refused(totals: &PassTotals, octets: u64) -> PassTotals
+    requires skipped { totals.now.counted.skipped + octets < 2 ^ 64 }
+    requires refused { totals.now.refused + 1 < 2 ^ 64 }
+    ensures { result ≡ totals_by (answers.one_refused (counts_of totals.now)) (totals.now.counted.skipped + octets) }
+{
+    PassTotals {
+        counted: Totals {
+            messages: totals.counted.messages,
+            fields: totals.counted.fields,
+            skipped: totals.counted.skipped + octets,
+            written: totals.counted.written,
+        },
+        refused: totals.refused + 1,
+        kept: totals.kept,
+    }
+}

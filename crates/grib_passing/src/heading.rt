@@ -1,0 +1,65 @@
+//! How far a refusal is passed, by the length that its octets state.
+
+ghost use Rattle.std.specs.Prelude.{◌≡◌, ◌≤◌, ◌<◌, ◌+◌, true, length, None};
+ghost use Rattle.grib_base.specs.Rows.{first_fault};
+ghost use Rattle.grib2_sections.specs.Head.{head_rows, head_of};
+ghost use Rattle.grib_stream.specs.Stream.{begins};
+ghost use Rattle.grib_stream.specs.Outcomes as outcomes;
+ghost use Rattle.grib_passing.specs.Next as passes;
+ghost use Rattle.grib_passing.specs.Next.{passed};
+
+use grib_base::{Fault, Reason};
+use grib2_sections::read_head;
+
+/// How many octets a refusal is passed by that has no end: those of its mark.
+const MARK: usize = 4;
+
+/// How many of these octets, which begin with `GRIB` and are refused, are passed: up to the stated end where `7777`
+/// stands there, and else the mark. Nothing where more octets may follow, and the stated end is not there yet.
+pub(crate) fn octets_passed(octets: &[u8], more: bool) -> Option<usize>
+    requires { begins octets.now ≡ true }
+    ensures { result ≡ passed more octets.now }
+{
+    let total = match read_head(octets) {
+        Ok(head) => head.total as usize,
+        Err(fault) if more && is_truncated(&fault) => return None,
+        Err(_) => return Some(MARK),
+    };
+    if octets.len() < total {
+        return if more { None } else { Some(MARK) };
+    }
+    if is_ended(octets, total) {
+        return Some(total);
+    }
+    Some(MARK)
+}
+
+/// Whether `7777` ends the first `total` octets.
+fn is_ended(octets: &[u8], total: usize) -> bool
+    requires { total ≤ length octets.now }
+    ensures { result ≡ passes.is_ended total octets.now }
+{
+    octets[..total].ends_with(b"7777")
+}
+
+/// How many octets there have to be before it makes sense to look again at these, of which it is not known yet what
+/// comes of them: those of the length that they state, and more than there are.
+pub(crate) fn octets_wanted(octets: &[u8]) -> u64
+    requires { begins octets.now ≡ true }
+    ensures more { length octets.now < result }
+    ensures stated { length octets.now + 1 < result → (first_fault (head_rows octets.now) ≡ None)
+        × ((head_of octets.now).total ≡ result) }
+{
+    let more = octets.len() as u64 + 1;
+    match read_head(octets) {
+        Ok(head) => head.total.max(more),
+        Err(_) => more,
+    }
+}
+
+/// Whether octets are refused only for their end, so that more of them may be accepted.
+pub(crate) fn is_truncated(fault: &Fault) -> bool
+    ensures { result ≡ outcomes.is_truncated fault.now.reason }
+{
+    matches!(fault.reason, Reason::Truncated)
+}
