@@ -4,14 +4,14 @@ use Rattle.std.specs.declared.option.Option.{Option}
 use Rattle.std.specs.Io.KnownBytes.{Appends}
 use Rattle.grib_io.specs.Outside.{AppendsFront, Counted, Unfinished}
 use Rattle.grib_stream.specs.declared.outcome.Outcome.{Outcome}
-use Rattle.grib_stream.specs.declared.outcome.Outcome.TheVariants.{Done, Usage, Refused, Kept, TableRefused, ReadFault, WriteFault, ShelfFault, Memory, InputTooLong}
+use Rattle.grib_stream.specs.declared.outcome.Outcome.TheVariants.{Done, Passed, Usage, Refused, Kept, TableRefused, ReadFault, WriteFault, ShelfFault, Memory, InputTooLong}
 use Rattle.grib_stream.specs.declared.place.Totals.{Totals}
 use Rattle.grib_stream.specs.Acts.{World}
 use Rattle.grib_stream.specs.Outcomes.{KeepsOrCuts, is_broken, is_cut_short}
 use Rattle.grib_stream.specs.Answer.{Answer, NotesOutcome, answer_within}
 use Rattle.grib_stream.specs.Run.{Gives, Runs, Notes}
 use Rattle.grib_stream.proofs.Notes.{notes_within}
-use Rattle.grib_answers.specs.Closing.{ClosesRun, EndsInTurn, EndsRun, StandsWhole}
+use Rattle.grib_answers.specs.Closing.{ClosesRun, EndsInTurn, EndsRun, EndsNoted, StandsWhole}
 use Rattle.grib_answers.specs.Outcomes.{note_of, note_with, NotesFront, NotesEnd, Noted, NotesRun}
 use Rattle.grib_answers.specs.Command.{Command, task}
 use Rattle.grib_answers.specs.Endings.{ending_note}
@@ -82,6 +82,69 @@ module _ {Output Notes : Type 0} (contents : Output → Option (List ℕ)) (faul
       subst (λ o. EndsRun contents faults settled notes_contents notes_faults notes_settled o done result output output_now notes notes_now) same
       (closed_by own done note result is closed)
 
+  -- with a note, or for memory with its own
+  pub noted_by : (outcome : Outcome) (note shown : List ℕ) (result : Outcome) → shown ≡ note
+      → ClosesRun contents faults settled notes_contents notes_faults notes_settled outcome shown result output output_now notes notes_now
+      → EndsNoted contents faults settled notes_contents notes_faults notes_settled outcome note result output output_now notes notes_now
+  noted_by outcome note shown result is closed = record {
+    one_of = closed.one_of;
+    fault = closed.fault;
+    none_counted = closed.none_counted;
+    noted = λ uncut. subst (Appends (notes_contents notes) (notes_contents notes_now)) is (closed.noted uncut);
+    noted_front = inl (subst (AppendsFront (notes_contents notes) (notes_contents notes_now)) is closed.noted_front);
+    settles = closed.settles;
+    unfinished = still_unfinished shown closed.order;
+    output_unfinished = output_unfinished shown closed.order;
+  }
+
+  memory_cuts : (outcome result : Outcome) → OneOf Memory result → OneOf outcome result
+  memory_cuts outcome result (inl same) = inr (inr same)
+  memory_cuts outcome result (inr other) = inr other
+
+  never_uncut : {P : Type 0} (result : Outcome) → OneOf Memory result → is_cut_short result ≡ false → P
+  never_uncut result (inl same) uncut = let no : ⊥ = cc (ap is_cut_short same) in absurd no
+  never_uncut result (inr (inl fault)) uncut = let no : ⊥ = cc (ap is_cut_short fault) in absurd no
+  never_uncut result (inr (inr memory)) uncut = let no : ⊥ = cc (ap is_cut_short memory) in absurd no
+
+  pub noted_memory : (outcome : Outcome) (note shown : List ℕ) (result : Outcome) → shown ≡ note_of Memory
+      → ClosesRun contents faults settled notes_contents notes_faults notes_settled Memory shown result output output_now notes notes_now
+      → EndsNoted contents faults settled notes_contents notes_faults notes_settled outcome note result output output_now notes notes_now
+  noted_memory outcome note shown result is closed = record {
+    one_of = memory_cuts outcome result closed.one_of;
+    fault = λ other. closed.fault (λ e. let no : Memory ≡ WriteFault = e in cc);
+    none_counted = closed.none_counted;
+    noted = never_uncut result closed.one_of;
+    noted_front = inr (subst (AppendsFront (notes_contents notes) (notes_contents notes_now)) is closed.noted_front);
+    settles = closed.settles;
+    unfinished = still_unfinished shown closed.order;
+    output_unfinished = output_unfinished shown closed.order;
+  }
+
+  -- with the note of its outcome
+  run_noted : (outcome : Outcome) (done : List ℕ) (result : Outcome) → OneOf outcome result
+      → (is_cut_short result ≡ false → Appends (notes_contents notes) (notes_contents notes_now) (note_with done result))
+      → is_cut_short result ≡ false → Appends (notes_contents notes) (notes_contents notes_now) (note_with done outcome)
+  run_noted outcome done result (inl same) appended uncut =
+      subst (λ o. Appends (notes_contents notes) (notes_contents notes_now) (note_with done o)) same (appended uncut)
+  run_noted outcome done result (inr (inl fault)) appended uncut = let no : ⊥ = cc (ap is_cut_short fault) in absurd no
+  run_noted outcome done result (inr (inr memory)) appended uncut = let no : ⊥ = cc (ap is_cut_short memory) in absurd no
+
+  pub ends_noted : (outcome : Outcome) (done note : List ℕ) (result : Outcome) → note_with done outcome ≡ note
+      → EndsRun contents faults settled notes_contents notes_faults notes_settled outcome done result output output_now notes notes_now
+      → EndsNoted contents faults settled notes_contents notes_faults notes_settled outcome note result output output_now notes notes_now
+  ends_noted outcome done note result is ends =
+      subst (λ xs. EndsNoted contents faults settled notes_contents notes_faults notes_settled outcome xs result output output_now notes notes_now) is
+      record {
+        one_of = ends.one_of;
+        fault = ends.fault;
+        none_counted = ends.none_counted;
+        noted = run_noted outcome done result ends.one_of ends.noted;
+        noted_front = ends.noted_front;
+        settles = ends.settles;
+        unfinished = ends.unfinished;
+        output_unfinished = ends.output_unfinished;
+      }
+
 -- ---- the end of a run over sinks that take no memory
 
 module _ {Output Notes : Type 0} (settled : Output → Bool) (notes_contents : Notes → Option (List ℕ)) (notes_settled : Notes → Bool) (output_now : Output) (notes notes_now : Notes) where
@@ -126,6 +189,8 @@ pub unfinished_then : {Output : Type 0} (faults : Output → ℕ) (settled : Out
 unfinished_then faults settled WriteFault before mid now first calm kept later rose = λ all. first (sym (ap settled (kept refl)) ∙ all)
 unfinished_then faults settled Done before mid now first calm kept later rose =
     then_unfinished (faults before) (faults mid) (faults now) (settled before) (settled mid) (settled now) first (calm (λ e. cc)) later rose
+unfinished_then faults settled (Passed refused kept) before mid now first calm kept_as later rose =
+    then_unfinished (faults before) (faults mid) (faults now) (settled before) (settled mid) (settled now) first (calm (λ e. cc)) later rose
 unfinished_then faults settled (Usage word) before mid now first calm kept later rose =
     then_unfinished (faults before) (faults mid) (faults now) (settled before) (settled mid) (settled now) first (calm (λ e. cc)) later rose
 unfinished_then faults settled (Refused refusal) before mid now first calm kept later rose =
@@ -163,6 +228,7 @@ whole_done a b left limit job totals result notes (inr (inr memory)) appended un
 whole_other : (a b : Option (List ℕ)) (left : Option (List ℕ)) (limit : ℕ) (job : Command) (outcome : Outcome) (done : List ℕ) → outcome ≢ Done
     → Appends a b (note_with done outcome) → NotesEnd (task job) limit left outcome a b
 whole_other a b left limit job Done done other appended = absurd (other refl)
+whole_other a b left limit job (Passed refused kept) done other appended = appended
 whole_other a b left limit job (Usage word) done other appended = appended
 whole_other a b left limit job (Refused refusal) done other appended = appended
 whole_other a b left limit job (Kept kept) done other appended = appended
@@ -207,6 +273,7 @@ front_other : (a b : Option (List ℕ)) (job : Command) (answer : Answer) (outco
     → NotesFront a b done outcome → Noted a b answer.note faults faults_now shelf shelf_now
 front_other a b job answer outcome done f f_now s s_now notes other same read shelf (inr memory) = record { front = inr (inr (inr memory)) }
 front_other a b job answer Done done f f_now s s_now notes other same read shelf (inl own) = absurd (other refl)
+front_other a b job answer (Passed refused kept) done f f_now s s_now notes other same read shelf (inl own) = record { front = inl (own_note a b job answer (Passed refused kept) notes other (same refl) own) }
 front_other a b job answer (Usage word) done f f_now s s_now notes other same read shelf (inl own) = record { front = inl (own_note a b job answer (Usage word) notes other (same refl) own) }
 front_other a b job answer (Refused refusal) done f f_now s s_now notes other same read shelf (inl own) = record { front = inl (own_note a b job answer (Refused refusal) notes other (same refl) own) }
 front_other a b job answer (Kept kept) done f f_now s s_now notes other same read shelf (inl own) = record { front = inl (own_note a b job answer (Kept kept) notes other (same refl) own) }

@@ -9,7 +9,7 @@ use Rattle.grib_stream.specs.Outcomes.{is_cut_short}
 use Rattle.grib_stream.specs.declared.outcome.Outcome.{Outcome}
 use Rattle.grib_stream.specs.declared.outcome.Outcome.TheVariants.{WriteFault, Memory}
 use Rattle.grib_answers.specs.Counts.{NoneCounted}
-use Rattle.grib_answers.specs.Outcomes.{note_with, NotesFront}
+use Rattle.grib_answers.specs.Outcomes.{note_of, note_with, NotesFront}
 
 -- after these octets were written, and the sink was not finished after them: where there are any, they wait
 abbrev pub settled_after : Bool → List ℕ → Bool
@@ -52,6 +52,18 @@ pub record EndsRun {Output Notes : Type 0} (contents : Output → Option (List �
   pub none_counted : result ≢ WriteFault → NoneCounted (faults output) (faults output_now) (notes_faults notes) (notes_faults notes_now)
   pub noted : is_cut_short result ≡ false → Appends (notes_contents notes) (notes_contents notes_now) (note_with done result)
   pub noted_front : NotesFront (notes_contents notes) (notes_contents notes_now) done outcome
+  pub settles : is_cut_short result ≡ false → (settled output_now ≡ true) × (notes_settled notes_now ≡ true)
+  pub unfinished : faults output < faults output_now → Unfinished (notes_settled notes) (notes_settled notes_now)
+  pub output_unfinished : faults output < faults output_now → Unfinished (settled output) (settled output_now)
+
+-- A run ends with this outcome and this note, or with a fault of writing, or for memory and with the note on it. A fault
+-- that comes then is counted, and no other; after a fault of the output neither the notes nor the output are finished.
+pub record EndsNoted {Output Notes : Type 0} (contents : Output → Option (List ℕ)) (faults : Output → ℕ) (settled : Output → Bool) (notes_contents : Notes → Option (List ℕ)) (notes_faults : Notes → ℕ) (notes_settled : Notes → Bool) (outcome : Outcome) (note : List ℕ) (result : Outcome) (output output_now : Output) (notes notes_now : Notes) : Type 0 where
+  pub one_of : (result ≡ outcome) ⊎ ((result ≡ WriteFault) ⊎ (result ≡ Memory))
+  pub fault : outcome ≢ WriteFault → result ≡ WriteFault → OneCounted (faults output) (faults output_now) (notes_faults notes) (notes_faults notes_now)
+  pub none_counted : result ≢ WriteFault → NoneCounted (faults output) (faults output_now) (notes_faults notes) (notes_faults notes_now)
+  pub noted : is_cut_short result ≡ false → Appends (notes_contents notes) (notes_contents notes_now) note
+  pub noted_front : AppendsFront (notes_contents notes) (notes_contents notes_now) note ⊎ AppendsFront (notes_contents notes) (notes_contents notes_now) (note_of Memory)
   pub settles : is_cut_short result ≡ false → (settled output_now ≡ true) × (notes_settled notes_now ≡ true)
   pub unfinished : faults output < faults output_now → Unfinished (notes_settled notes) (notes_settled notes_now)
   pub output_unfinished : faults output < faults output_now → Unfinished (settled output) (settled output_now)

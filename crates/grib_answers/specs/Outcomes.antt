@@ -7,14 +7,15 @@ use Rattle.std.specs.declared.option.Option.{Option}
 use Rattle.grib_io.specs.Outside.{AppendsFront, Rose}
 use Rattle.grib_text.specs.Notes.{refusal_note}
 use Rattle.grib_stream.specs.declared.outcome.Outcome.{Outcome}
-use Rattle.grib_stream.specs.declared.outcome.Outcome.TheVariants.{Done, Usage, Refused, Kept, TableRefused, ReadFault, WriteFault, ShelfFault, Memory, InputTooLong}
+use Rattle.grib_stream.specs.declared.outcome.Outcome.TheVariants.{Done, Passed, Usage, Refused, Kept, TableRefused, ReadFault, WriteFault, ShelfFault, Memory, InputTooLong}
 use Rattle.grib_stream.specs.Task.{Task}
 use Rattle.grib_stream.specs.Answer.{answer_within}
-use Rattle.grib_answers.specs.Notes.{kept_note, table_note}
+use Rattle.grib_answers.specs.Notes.{kept_note, table_note, passed_note}
 
 -- the line that is noted, with its newline; what is noted of an input that was read to its end is another's to say
 abbrev pub note_of : Outcome → List ℕ
 note_of Done = []
+note_of (Passed refused kept) = passed_note refused kept
 note_of (Usage word) = codes "usage word " ++ decimal word ++ 10 ∷ []
 note_of (Refused refusal) = refusal_note refusal.message refusal.fault
 note_of (Kept kept) = kept_note kept.message kept.cause

@@ -4,7 +4,7 @@ use Rattle.std.specs.List.{concat}
 use Rattle.grib_answers.specs.declared.page.Page.{Page}
 use Rattle.grib_answers.specs.declared.page.Page.TheVariants.{Help, Version}
 
--- each command with the names of its words, and where the rest is told
+-- each command with the names of its words, the words on what is gone past, and where the rest is told
 abbrev pub help_lines : List (List ℕ)
 help_lines =
     codes "grib check                                        lines on messages and input\n"
@@ -23,6 +23,9 @@ help_lines =
     ∷ codes "grib make seed=N ni=N nj=N to=0|2|3 [order=1|2]   a message made from a number\n"
     ∷ codes "grib help                                         this page\n"
     ∷ codes "grib version                                      the version of this program\n"
+    ∷ codes "Beside these words, in any place:\n"
+    ∷ codes "check to crop  [refused=pass]                     on behind what is refused\n"
+    ∷ codes "filter to crop [kept=copy|pass], dump [kept=pass] on behind what is kept\n"
     ∷ codes "Messages come from standard input and go to standard output. The pages: man grib\n"
     ∷ []
 

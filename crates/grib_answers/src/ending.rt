@@ -4,7 +4,7 @@ ghost use Rattle.std.specs.Prelude.{◌≡◌, IfOk};
 ghost use Rattle.grib_answers.specs.Endings as endings;
 ghost use Rattle.grib_answers.specs.Pending.{WritesTo};
 
-use crate::notes::written_note;
+use crate::notes::{passed_note, written_note, written_passed_note};
 use crate::writing::write_whole;
 use grib_io::{Sink, Stop};
 use grib_stream::Totals;
@@ -44,6 +44,22 @@ impl Ending {
         match self {
             Ending::Silent | Ending::Total => Ok(Vec::new(alloc)),
             Ending::Written => written_note(alloc, totals),
+        }
+    }
+
+    /// What is noted at the end of the input, where this many refusals were passed and this many messages kept.
+    pub fn passed_note(
+        &self,
+        alloc: Global,
+        totals: &Totals,
+        refused: u64,
+        kept: u64,
+    ) -> Result<Vec<u8>, AllocError>
+        ensures { IfOk result (λ note. note.items ≡ endings.passed_ending_note self.now totals.now refused kept) }
+    {
+        match self {
+            Ending::Silent | Ending::Total => passed_note(alloc, refused, kept),
+            Ending::Written => written_passed_note(alloc, totals, refused, kept),
         }
     }
 }

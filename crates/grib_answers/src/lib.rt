@@ -17,6 +17,6 @@ pub use ending::Ending;
 pub use job::{Conditions, Job};
 pub use listener::Listener;
 pub use name::Name;
-pub use notes::{kept_note, made_note, table_note, usage_note};
+pub use notes::{kept_line, kept_note, made_note, passed_note, table_note, usage_note};
 pub use page::Page;
 pub use writing::{write_counted, write_whole};

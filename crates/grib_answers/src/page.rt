@@ -29,6 +29,9 @@ grib crop i0=N i1=N j0=N j1=N                     a box of each grid\n\
 grib make seed=N ni=N nj=N to=0|2|3 [order=1|2]   a message made from a number\n\
 grib help                                         this page\n\
 grib version                                      the version of this program\n\
+Beside these words, in any place:\n\
+check to crop  [refused=pass]                     on behind what is refused\n\
+filter to crop [kept=copy|pass], dump [kept=pass] on behind what is kept\n\
 Messages come from standard input and go to standard output. The pages: man grib\n\
 ";
 

@@ -341,15 +341,28 @@ change_can None value changes can all = absurd (false≢true can)
 change_can (Some key) None changes can all = all
 change_can (Some key) (Some value) changes can all = All-cons CanBeSet (condition key value) changes can all
 
-key_can : (name value : List ℕ) → takes (entries Set) name value ≡ true → is_key_to_set name ≡ true
-key_can name value h = (both (is_key_to_set name) (is_key_value value) (only_first (is_key_to_set name && is_key_value value) h)).0
+-- the name of a word that is read is that of a key that can be set, or of none
+key_can : (name value : List ℕ) → takes (entries Set) name value ≡ true → (is_key_to_set name ≡ true) ⊎ (key_named name ≡ None)
+key_can name value h =
+    ⊎_elim (λ own. inl (both (is_key_to_set name) (is_key_value value) own).0)
+    (λ past.
+    ⊎_elim (λ refused. inr (ap key_named (same_text name (codes "refused") (both (is (codes "refused") name) (is (codes "pass") value) refused).0)))
+    (λ kept. inr (ap key_named (same_text name (codes "kept") (both (is (codes "kept") name) (is (codes "copy") value || is (codes "pass") value) (only_first (is (codes "kept") name && (is (codes "copy") value || is (codes "pass") value)) kept)).0)))
+    (either (is (codes "refused") name && is (codes "pass") value) ((is (codes "kept") name && (is (codes "copy") value || is (codes "pass") value)) || false) past))
+    (either (is_key_to_set name && is_key_value value) ((is (codes "refused") name && is (codes "pass") value) || ((is (codes "kept") name && (is (codes "copy") value || is (codes "pass") value)) || false)) h)
+
+keyless_can : (key : Option Key) (value : Option Value) (changes : List Condition) → key ≡ None → All CanBeSet changes
+    → All CanBeSet (cons_option (option_and_then (λ key. option_map (condition key) value) key) changes)
+keyless_can None value changes none all = all
+keyless_can (Some key) value changes none all = let no : ⊥ = cc in absurd no
 
 changes_can : (words : List (List ℕ)) → list_all (taken Set) words ≡ true → All CanBeSet (conditions_of words)
 changes_can [] all = no_changes
 changes_can (word ∷ later) all =
     let parts = both (taken Set word) (list_all (taken Set) later) all in
-    change_can (key_named (name_in word)) (key_value (value_in word)) (conditions_of later) (key_can (name_in word) (value_in word) parts.0)
-    (changes_can later parts.1)
+    ⊎_elim (λ can. change_can (key_named (name_in word)) (key_value (value_in word)) (conditions_of later) can (changes_can later parts.1))
+    (λ none. keyless_can (key_named (name_in word)) (key_value (value_in word)) (conditions_of later) none (changes_can later parts.1))
+    (key_can (name_in word) (value_in word) parts.0)
 
 -- ---- the job
 

@@ -3,5 +3,6 @@ mod Parts
 mod Counts
 mod Asked
 mod Runs
+mod Passing
 pub mod Printed
 mod Helped

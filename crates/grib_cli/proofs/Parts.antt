@@ -8,7 +8,7 @@ use Rattle.grib_keys.specs.declared.condition.Value.{Value}
 use Rattle.grib_keys.specs.Keys.{key_named}
 use Rattle.grib_cli.specs.declared.words.command.Command.{Command}
 use Rattle.grib_cli.specs.Values.{key_value}
-use Rattle.grib_cli.specs.Reading.{is_equals, has_equals, name_in, value_in, is_named, is_read}
+use Rattle.grib_cli.specs.Reading.{is_equals, has_equals, name_in, value_in, is_named, is_on_key, is_read}
 use Rattle.grib_cli.specs.Words.{condition, condition_of}
 
 pub list_any-map : {X Y : Type 0} (p : Y → Bool) (f : X → Y) (xs : List X) → list_any p (map f xs) ≡ list_any (λ x. p (f x)) xs
@@ -29,6 +29,9 @@ lacks_equals word e = no_place is_equals word e
 
 pub unnamed : (name word : List ℕ) → position_or_len is_equals word ≡ length word → false ≡ is_named name word
 unnamed name word e = rw (lacks_equals word e) refl
+
+pub keyless : (word : List ℕ) → position_or_len is_equals word ≡ length word → false ≡ is_on_key word
+keyless word e = rw (lacks_equals word e) refl
 
 pub unread : (command : Command) (earlier : List (List ℕ)) (word : List ℕ) → position_or_len is_equals word ≡ length word → false ≡ is_read command earlier word
 unread command earlier word e = rw (lacks_equals word e) refl

@@ -1,6 +1,5 @@
 -- A run by what its words ask for.
 use Rattle.std.proofs.Common.{◌≡◌, ◌≢◌, ◌⊎◌, ℕ, ◌^◌, true, false, Result, Ok, Err, IfOk, IfErr, MatchResult, Option, Some, None, List, [], ◌++◌, refl, sym, ap, ◌∙◌, subst, arith, inl, inr}
-use Rattle.std.proofs.KnownBytes.{Consumes-nil}
 use Rattle.std.proofs.lemmas.Bool.{false≢true}
 use Rattle.grib_io.specs.Outside.{AppendsFront}
 use Rattle.grib_stream.specs.Acts.{World, Act, Did, DidFront}
@@ -17,6 +16,7 @@ use Rattle.grib_answers.specs.Command.{task}
 use Rattle.grib_tasks.specs.Serving.{RunsWork, RunsJob, NotesWorkFront, NotesJobFront, RefusedWork, RefusedJob}
 use Rattle.grib_stream.specs.Task.{Task}
 use Rattle.grib_stream.proofs.Exits.{runs_broken, cut_broken}
+use Rattle.grib_stream.proofs.Windows.{takes_none}
 use Rattle.grib_tasks.specs.Tasks.{Work, Reads, Makes, ReadsTable, work_of}
 use Rattle.grib_engine.proofs.Tabled.{stands, runs_none, fronts_none, if_refused}
 use Rattle.grib_io.specs.Shelves.{Held, Stays}
@@ -83,10 +83,10 @@ front_none before now acts did = ([], acts, refl, did)
 runs_task : (task : Task) (result : Outcome) (left : Option (List ℕ)) (before now : World) → is_cut_short result ≡ true → Did before now []
     → Runs task (2 ^ 40) result left left before now
 runs_task task result left before now cut did =
-    runs_broken task (2 ^ 40) result left left before now [] (cut_broken result cut) (Consumes-nil left) (omega arith) (λ more. front_none before now _ did)
+    runs_broken task (2 ^ 40) result left left before now [] (cut_broken result cut) (takes_none left) (omega arith) (λ more. front_none before now _ did)
     (λ read. absurd (no_read result cut read))
 
-gives_nothing : (answer : Answer) (result : Outcome) (before now : World) → is_cut_short result ≡ true → Did before now [] → Gives answer result before now
+pub gives_nothing : (answer : Answer) (result : Outcome) (before now : World) → is_cut_short result ≡ true → Did before now [] → Gives answer result before now
 gives_nothing answer result before now cut did =
     let never = λ (unbroken : is_broken result ≡ false). false≢true (sym unbroken ∙ cut_broken result cut) in
     record {

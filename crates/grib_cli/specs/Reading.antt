@@ -1,6 +1,6 @@
 -- How the words of a command line are read. Word 0 is the command; each later word is `name=value`, split
 -- at its first `=`. Each command has its names, each name the rule of its value.
-use Rattle.std.specs.Prelude.{ℕ, Bool, true, false, cond, not, ◌&&◌, ◌||◌, ◌==◌, nat_le, nat_lt, ◌+◌, Option, Some, None, is_some, List, [], ◌∷◌, ◌++◌, length, codes, Result, Ok, Err}
+use Rattle.std.specs.Prelude.{ℕ, Bool, true, false, cond, not, ◌&&◌, ◌||◌, ◌==◌, nat_le, ◌+◌, Option, Some, None, is_some, List, [], ◌∷◌, ◌++◌, length, codes, Result, Ok, Err}
 use Rattle.std.specs.List.{find, list_any, before_first, after_first}
 use Rattle.std.specs.Option.{option_map_or}
 use Rattle.std.specs.Str.{bytes_eq}
@@ -75,6 +75,28 @@ box_entries =
     ∷ entry (is (codes "j1")) is_side
     ∷ []
 
+-- what a run goes past: octets that are refused, and messages that are kept, which are copied or left out. `dump` prints
+-- lines, so nothing is copied between them.
+abbrev pub refused_entry : Entry
+refused_entry = entry (is (codes "refused")) (is (codes "pass"))
+
+abbrev pub left_out_entry : Entry
+left_out_entry = entry (is (codes "kept")) (is (codes "pass"))
+
+abbrev pub kept_entry : Entry
+kept_entry = entry (is (codes "kept")) (λ value. is (codes "copy") value || is (codes "pass") value)
+
+abbrev pub passing_entries : Command → List Entry
+passing_entries Check = refused_entry ∷ []
+passing_entries the.List = refused_entry ∷ []
+passing_entries Keys = refused_entry ∷ []
+passing_entries Stats = refused_entry ∷ []
+passing_entries Dump = refused_entry ∷ left_out_entry ∷ []
+passing_entries Make = []
+passing_entries Help = []
+passing_entries Version = []
+passing_entries command = refused_entry ∷ kept_entry ∷ []
+
 -- whether a name has this value among the entries
 abbrev pub takes : List Entry → List ℕ → List ℕ → Bool
 takes those name value = list_any (λ e. e.is_name name && e.rule value) those
@@ -121,14 +143,17 @@ abbrev pub has_box : List (List ℕ) → Bool
 has_box words =
     has_sides words && (in_order (codes "i0") (codes "i1") words && in_order (codes "j0") (codes "j1") words)
 
--- what is asked of all words of a command: nothing, or that there is one
+-- what is asked of all words of a command: nothing, or that there is one on a key
 abbrev pub nothing : List (List ℕ) → Bool
 nothing words = true
 
-abbrev pub has_some : List (List ℕ) → Bool
-has_some words = nat_lt 0 (length words)
+abbrev pub is_on_key : List ℕ → Bool
+is_on_key word = has_equals word && is_key (name_in word)
 
--- a command's name, the names of its words with the rules of their values, and what is asked of all its words
+abbrev pub has_key : List (List ℕ) → Bool
+has_key words = list_any is_on_key words
+
+-- a command's name, the names of its own words with the rules of their values, and what is asked of all its words
 pub record Row : Type 0 where
   pub name : List ℕ
   pub entries : List Entry
@@ -143,9 +168,9 @@ row_of the.List = row (codes "list") [] nothing
 row_of Keys = row (codes "keys") [] nothing
 row_of Stats = row (codes "stats") [] nothing
 row_of Dump = row (codes "dump") (entry (is (codes "decimals")) (is_between 0 18) ∷ []) nothing
-row_of Filter = row (codes "filter") (entry is_key is_key_value ∷ []) has_some
+row_of Filter = row (codes "filter") (entry is_key is_key_value ∷ []) has_key
 row_of Split = row (codes "split") (entry (is (codes "out")) is_not_empty ∷ []) (has_name (codes "out"))
-row_of Set = row (codes "set") (entry is_key_to_set is_key_value ∷ []) has_some
+row_of Set = row (codes "set") (entry is_key_to_set is_key_value ∷ []) has_key
 row_of Repack = row (codes "repack") repack_entries has_target
 row_of Migrate =
     row (codes "migrate") (entry (is (codes "params")) is_not_empty ∷ entry (is (codes "local")) (is (codes "keep")) ∷ [])
@@ -176,8 +201,12 @@ is_called command word = is (row_of command).name word
 abbrev pub command_named : List ℕ → Option Command
 command_named word = find (λ command. is_called command word) commands
 
+-- the names of its own words, and behind them those on what it goes past
+abbrev pub own_entries : Command → List Entry
+own_entries command = (row_of command).entries
+
 abbrev pub entries : Command → List Entry
-entries command = (row_of command).entries
+entries command = own_entries command ++ passing_entries command
 
 abbrev pub is_complete : Command → List (List ℕ) → Bool
 is_complete command words = (row_of command).is_complete words

@@ -1,5 +1,5 @@
 -- What the words of a command line ask for: the job of the command, by the values of its words.
-use Rattle.std.specs.Prelude.{◌≡◌, ◌⊎◌, ℕ, ◌-◌, ◌^◌, true, cond, Option, option_map, List, drop, codes, Result, Ok, Err}
+use Rattle.std.specs.Prelude.{◌≡◌, ◌⊎◌, ℕ, ◌-◌, ◌^◌, Bool, true, false, cond, Option, Some, None, option_map, List, drop, codes, Result, Ok, Err, IfOk, IfSome}
 use Rattle.std.specs.List.{filter_map}
 use Rattle.std.specs.Option.{option_and_then}
 use Rattle.grib_keys.specs.declared.key.Key.{Key}
@@ -19,7 +19,10 @@ use Rattle.grib_cli.specs.declared.words.JobFault.TheVariants.{Usage, Memory}
 use Rattle.grib_cli.specs.declared.words.command.Command.{Command}
 use Rattle.grib_cli.specs.declared.words.command.Command.TheVariants as commands
 use Rattle.grib_cli.specs.Values.{is_between, key_value}
-use Rattle.grib_cli.specs.Reading.{is, name_in, value_in, value_of, number_of, number_if_given, has_name, reading}
+use Rattle.grib_passing.specs.declared.passing.Instead.{Instead}
+use Rattle.grib_passing.specs.declared.passing.Instead.TheVariants.{Copy, Pass}
+use Rattle.grib_passing.specs.declared.passing.Passing.{Passing}
+use Rattle.grib_cli.specs.Reading.{is, name_in, value_in, value_of, number_of, number_if_given, has_name, has_word, reading}
 
 -- what `to` and `order` ask for
 abbrev pub target_of : List (List ℕ) → RepackTarget
@@ -87,6 +90,29 @@ job_of_reading (Err word) words = Err (Usage word)
 -- the job that the words ask for
 abbrev pub job_of : List (List ℕ) → Result Job JobFault
 job_of words = job_of_reading (reading words) (drop 1 words)
+
+-- ---- what the run goes past
+
+-- what the words ask to be written instead of a message that is kept, where they ask for it
+abbrev pub instead_of : List (List ℕ) → Option Instead
+instead_of words =
+    cond (has_word (codes "kept=copy") words) (Some Copy) (cond (has_word (codes "kept=pass") words) (Some Pass) None)
+
+abbrev pub passing_by : Bool → Option Instead → Option Passing
+passing_by false None = None
+passing_by refused kept = Some (record { refused = refused; kept = kept })
+
+-- what the words ask the run to go past, none where no word speaks of it
+abbrev pub passing_of : List (List ℕ) → Option Passing
+passing_of words = passing_by (has_word (codes "refused=pass") words) (instead_of words)
+
+-- no word asks the run to go past anything
+abbrev pub IsPlain : List (List ℕ) → Type 0
+IsPlain words = passing_of words ≡ None
+
+-- what holds of the job of words that ask the run to go past this
+abbrev pub IfPassing : List (List ℕ) → (Job → Passing → Type 0) → Type 0
+IfPassing words P = IfSome (passing_of words) (λ passing. IfOk (job_of words) (λ job. P job passing))
 
 -- a result is this one, unless there is no memory
 abbrev pub IsUnlessMemory : Result Job JobFault → Result Job JobFault → Type 0

@@ -3,7 +3,7 @@
 ghost use Rattle.std.specs.Prelude.{◌≡◌, ◌≤◌, [], length, map, string_bytes, IfOk};
 ghost use Rattle.grib_answers.specs.Jobs.{IsJob};
 ghost use Rattle.grib_cli.specs.Reading as grammar;
-ghost use Rattle.grib_cli.specs.Reading.{entries, box_entries, size_entries, target_entries, reading};
+ghost use Rattle.grib_cli.specs.Reading.{entries, own_entries, passing_entries, box_entries, size_entries, target_entries, reading};
 ghost use Rattle.grib_cli.specs.declared.words.command.Command.TheVariants.{Crop};
 ghost use Rattle.grib_cli.specs.Words.{IsAsked};
 ghost use Rattle.grib_cli.specs.declared.words.JobFault.TheVariants.{Memory};
@@ -15,10 +15,12 @@ use std::alloc::{AllocError, Global};
 mod asking;
 mod command;
 pub mod laws;
+mod past;
 mod values;
 
 use asking::{job_of_command, number_by};
 pub use command::Command;
+pub use past::passing_of;
 use values::{is_between, key_value};
 
 /// Why the words ask for no job.
@@ -115,6 +117,37 @@ fn is_named(word: &str, name: &str) -> bool
 fn takes(command: Command, name: &str, value: &str) -> bool
     ensures { result ≡ grammar.takes (entries command) name.now value.now }
 {
+    takes_own(command, name, value) || takes_passing(command, name, value)
+}
+
+/// Whether the names of what a command goes past have a name with this value.
+fn takes_passing(command: Command, name: &str, value: &str) -> bool
+    ensures { result ≡ grammar.takes (passing_entries command) name.now value.now }
+{
+    match command {
+        Command::Make | Command::Help | Command::Version => false,
+        Command::Check | Command::List | Command::Keys | Command::Stats => {
+            name == "refused" && value == "pass"
+        }
+        Command::Dump => matches!(name, "refused" | "kept") && value == "pass",
+        Command::Filter
+        | Command::Split
+        | Command::Set
+        | Command::Repack
+        | Command::Migrate
+        | Command::Demote
+        | Command::Rescan
+        | Command::Crop => {
+            (name == "refused" && value == "pass")
+                || (name == "kept" && matches!(value, "copy" | "pass"))
+        }
+    }
+}
+
+/// Whether the names of a command's own words have a name with this value.
+fn takes_own(command: Command, name: &str, value: &str) -> bool
+    ensures { result ≡ grammar.takes (own_entries command) name.now value.now }
+{
     match command {
         Command::Check
         | Command::List
@@ -189,7 +222,7 @@ fn is_complete(command: Command, words: &[String]) -> bool
         | Command::Rescan
         | Command::Help
         | Command::Version => true,
-        Command::Filter | Command::Set => !words.is_empty(),
+        Command::Filter | Command::Set => has_key(words),
         Command::Split => has_name(words, "out"),
         Command::Repack => has_target(words),
         Command::Migrate | Command::Demote => has_name(words, "params"),
@@ -200,6 +233,23 @@ fn is_complete(command: Command, words: &[String]) -> bool
                 && has_name(words, "nj")
                 && has_target(words)
         }
+    }
+}
+
+/// Whether one of the words is on a key.
+fn has_key(words: &[String]) -> bool
+    ensures { result ≡ grammar.has_key (map string_bytes words.now) }
+{
+    words.iter().any(|word| is_on_key(word.as_str()))
+}
+
+/// Whether a word is on a key.
+fn is_on_key(word: &str) -> bool
+    ensures { result ≡ grammar.is_on_key word.now }
+{
+    match word.split_once('=') {
+        Some((name, _)) => Key::of(name).is_some(),
+        None => false,
     }
 }
 

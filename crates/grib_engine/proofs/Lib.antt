@@ -1,2 +1,5 @@
 pub mod Made
 pub mod Tabled
+pub mod Past
+pub mod Counting
+pub mod Either

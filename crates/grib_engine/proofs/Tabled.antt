@@ -1,7 +1,6 @@
 -- A run by a table that was read, or was not.
 use Rattle.std.proofs.Common.{◌≡◌, ◌≢◌, ℕ, ◌^◌, true, false, IfSome, Option, Some, None, List, [], ◌++◌, refl, sym, ap, ◌∙◌, subst, inl, inr, arith}
 use Rattle.std.specs.Io.KnownBytes.{Appends}
-use Rattle.std.proofs.KnownBytes.{Consumes-nil}
 use Rattle.std.proofs.lemmas.Bool.{false≢true}
 use Rattle.grib_causes.specs.declared.table.TableRefusal.{TableRefusal}
 use Rattle.grib_io.specs.Outside.{Counted}
@@ -15,6 +14,7 @@ use Rattle.grib_stream.specs.Task.{Task}
 use Rattle.grib_stream.specs.declared.outcome.Outcome.{Outcome}
 use Rattle.grib_stream.specs.declared.outcome.Outcome.TheVariants.{Done, TableRefused, ReadFault, WriteFault, ShelfFault, Memory}
 use Rattle.grib_stream.proofs.Exits.{runs_broken}
+use Rattle.grib_stream.proofs.Windows.{takes_none}
 use Rattle.grib_stream.proofs.Worlds.{did_none, did_then, front_whole, front_after}
 use Rattle.grib_table.specs.Tabled.{Tabled, Good, Refused, Stood}
 use Rattle.grib_answers.specs.Command.{Command, task}
@@ -58,6 +58,7 @@ runs_after task limit outcome left left_now a b c did runs = record {
       most = runs.taken.2.most;
       short = runs.taken.2.short;
       long = runs.taken.2.long;
+      answered = gives_after (answer_within limit task runs.taken.0) outcome a b c did runs.taken.2.answered;
       read_fault = λ read. did_then a b c [] (answer_of task runs.taken.0).acts did (runs.taken.2.read_fault read);
     },
   );
@@ -78,7 +79,7 @@ gives_broken answer result before now broken did =
 pub runs_none : (commands : Entries → Command) (result : Outcome) (left : Option (List ℕ)) (before now : World) (t : Tabled) → is_broken result ≡ true → result ≢ ReadFault
     → Did before now [] → RunsTabled commands result left left before now t
 runs_none commands result left before now (Good table) broken other did =
-    runs_broken (task (commands table)) (2 ^ 40) result left left before now [] broken (Consumes-nil left) (omega arith)
+    runs_broken (task (commands table)) (2 ^ 40) result left left before now [] broken (takes_none left) (omega arith)
     (λ more. ([], (answer_of (task (commands table)) ([] ++ more)).acts, refl, did)) (λ read. absurd (other read))
 runs_none commands result left before now (Refused refusal) broken other did = gives_broken (refused_answer refusal) result before now broken did
 

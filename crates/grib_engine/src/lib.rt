@@ -4,15 +4,17 @@
 mod answering;
 mod closing;
 mod making;
+mod passing;
 mod serving;
 
 pub use answering::answer_message;
 pub use closing::{close, close_with_note};
 pub use grib_answers::{Answered, Answerer, ByOutput, Conditions, Ending, Job, Name, Page};
+pub use grib_passing::{Instead, Passing};
 pub use grib_performed::{Answering, Held};
 pub use grib_printed::Checking;
 pub use grib_repack::RepackTarget;
 pub use grib_rescan::Area;
 pub use grib_select::{Condition, Key, Value};
 pub use grib_stream::{Cause, Kept, Outcome, Place, Totals};
-pub use serving::serve;
+pub use serving::{serve, serve_passing};

@@ -3,7 +3,7 @@ use Rattle.std.specs.Prelude.{◌≡◌, ◌≢◌, ℕ, ◌+◌, ◌≤◌, Boo
 use Rattle.std.specs.Str.{bytes_eq}
 use Rattle.std.specs.declared.option.Option.{Option}
 use Rattle.std.specs.declared.result.Result.{Result}
-use Rattle.std.specs.Io.KnownBytes.{Consumes}
+use Rattle.grib_stream.specs.Reading.{Takes}
 use Rattle.grib_base.specs.declared.fault.Refusal.{Refusal}
 use Rattle.grib2_sections.specs.Head.{indicator, edition}
 use Rattle.grib2_message.specs.Acceptance.{verdict_2}
@@ -56,4 +56,4 @@ pub record IsRefusedSoon (taken : List ℕ) (n : ℕ) : Type 0 where
 abbrev pub RefusesInTime : Outcome → Option (List ℕ) → Option (List ℕ) → Type 0
 RefusesInTime outcome left left_now =
     (refusal : Refusal) → outcome ≡ outcomes.Refused refusal → is_truncated refusal.fault.reason ≡ false
-    → (taken : List ℕ) × Consumes left left_now taken × IsRefusedSoon taken refusal.message
+    → (taken : List ℕ) × Takes left left_now taken × IsRefusedSoon taken refusal.message

@@ -202,7 +202,7 @@ few_fields message some =
     (cases_Bool (edition message == 1))
 
 -- an accepted message alone
-head_none : (first : Option Fault) (next : Unit {0} → Verdict) (total : ℕ) → unless_refused first next ≡ Accepted total → first ≡ None
+pub head_none : (first : Option Fault) (next : Unit {0} → Verdict) (total : ℕ) → unless_refused first next ≡ Accepted total → first ≡ None
 head_none None next total is = refl
 head_none (Some fault) next total is = let no : ⊥ = cc in absurd no
 

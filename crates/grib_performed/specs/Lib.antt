@@ -2,3 +2,5 @@ pub mod Hearing
 pub mod Lawful
 pub mod HearingLaws
 pub mod Reading
+pub mod Passing
+pub mod Stated

@@ -4,6 +4,7 @@
 mod counting;
 mod hearing;
 mod held;
+mod passing;
 mod performing;
 mod reading;
 

@@ -1,5 +1,6 @@
 -- What a run leaves of what it writes for messages.
-use Rattle.std.proofs.Common.{◌≡◌, ℕ, ◌+◌, ◌^◌, ◌≤◌, false, Some, None, IfSome, Bool, true, List, [], ◌++◌, length, map, take, refl, sym, ap, ◌∙◌, subst, arith, append-nil}
+use Rattle.std.proofs.Common.{◌≡◌, ℕ, ◌+◌, ◌^◌, ◌<◌, ◌≤◌, false, Some, None, IfSome, Bool, true, List, [], ◌++◌, length, map, take, refl, sym, ap, ◌∙◌, subst, arith, append-nil}
+use Rattle.std.proofs.lemmas.List.Elements.{All-take}
 use Rattle.std.specs.List.{concat, flat_map}
 use Rattle.std.specs.declared.option.Option.{Option}
 use Rattle.std.specs.Io.KnownBytes.{Appends}
@@ -21,7 +22,7 @@ use Rattle.grib_answers.specs.Command.{task}
 use Rattle.grib_changed.specs.Filtering.{filter_command, filter_lawful}
 use Rattle.grib_answers.specs.Jobs.{IsJob, CanChange, is_target}
 use Rattle.grib_answers.specs.Judging.{judge}
-use Rattle.grib_run_law.specs.Leaving.{OfNames, LeavesNames, WritesSame, WritesMigrated, WritesSet, WritesPicked, IfGood, LeavesFields, LeavesParts}
+use Rattle.grib_run_law.specs.Leaving.{OfTaken, OfNames, LeavesNames, WritesSame, WritesMigrated, WritesSet, WritesPicked, IfGood, LeavesFields, LeavesParts}
 use Rattle.grib_changed.specs.Migrating.{migrate_command, migrate_lawful}
 use Rattle.grib_run_law.specs.Octets.{AreAllOctets, until_lost}
 use Rattle.grib_changed.specs.Repacking.{repack_command, repack_lawful}
@@ -35,6 +36,7 @@ use Rattle.grib_changed.specs.Splitting.{split_command}
 use Rattle.grib_run_law.specs.Standing.{all_parts, before_first, StandFirst, StandAll}
 use Rattle.grib_run_law.proofs.Accepting.{no_ending}
 use Rattle.grib_run_law.proofs.AllGiven.{done_whole, all_repacked, all_set, all_filtered, all_migrated}
+use Rattle.grib_run_law.proofs.OfOctets.{before_of_input, until_of_input}
 use Rattle.grib_run_law.proofs.Migrations.{output_of, migrated_written, migrated_same}
 use Rattle.grib_run_law.proofs.Standing.{first_stand, whole_stand, all_stand}
 
@@ -47,19 +49,22 @@ appended before now acts ending octets did none is =
 repack_leaves : (target : RepackTarget) (outcome : Outcome) (left left_now : Option (List ℕ)) (before now : World)
     → ((input : List ℕ) → AreAllOctets (before_kept (target_of target) (messages_answered input)) → KeepsValues target input)
     → Runs (task (repack_command target)) (2 ^ 40) outcome left left_now before now → is_broken outcome ≡ false
-    → IfSome left (λ input. AreAllOctets (before_kept (target_of target) (messages_answered input)) → WritesSame (target_of target) outcome before.output now.output input)
-repack_leaves target outcome None left_now before now keeps runs unbroken = tt
-repack_leaves target outcome (Some input) left_now before now keeps runs unbroken = λ small.
-    let kept = keeps input small in
-    let gives : Gives (answer_within (2 ^ 40) (task (repack_command target)) input) outcome before now = runs.gives in
-    record {
-      outputs = kept.outputs;
-      written = appended before now _ _ (concat kept.outputs) (gives.whole unbroken) (no_ending (repack_command target) (λ totals. refl) (2 ^ 40) input) kept.written_stands;
-      same = kept.same;
-      all = λ done.
-          let whole = done_whole (repack_command target) (repack_lawful target) (2 ^ 40) input (sym (gives.ends unbroken) ∙ done) in
-          ap (λ xs. before_kept (target_of target) (stream judge xs).messages) whole.short ∙ all_repacked target (stream judge input).messages whole.given_all;
-    }
+    → OfTaken left left_now (WritesSame (target_of target) outcome before.output now.output)
+repack_leaves target outcome left left_now before now keeps runs unbroken =
+    let (input, takes, took) = runs.taken in
+    let kept = keeps input (before_of_input (target_of target) input (All-take (λ octet. octet < 256) (2 ^ 40) input takes.small)) in
+    let gives : Gives (answer_within (2 ^ 40) (task (repack_command target)) input) outcome before now = took.answered in (
+      input,
+      takes,
+      record {
+        outputs = kept.outputs;
+        written = appended before now _ _ (concat kept.outputs) (gives.whole unbroken) (no_ending (repack_command target) (λ totals. refl) (2 ^ 40) input) kept.written_stands;
+        same = kept.same;
+        all = λ done.
+            let whole = done_whole (repack_command target) (repack_lawful target) (2 ^ 40) input (sym (gives.ends unbroken) ∙ done) in
+            ap (λ xs. before_kept (target_of target) (stream judge xs).messages) whole.short ∙ all_repacked target (stream judge input).messages whole.given_all;
+      },
+    )
 
 set_leaves : (changes : List Condition) (outcome : Outcome) (left left_now : Option (List ℕ)) (before now : World) → CanChange changes
     → ((input : List ℕ) → KeepsColumns changes input)
@@ -97,23 +102,27 @@ filter_leaves conditions outcome (Some input) left_now before now keeps runs unb
 
 migrate_leaves : (keep : Bool) (table : Entries) (outcome : Outcome) (left left_now : Option (List ℕ)) (before now : World)
     → Runs (task (migrate_command keep table)) (2 ^ 40) outcome left left_now before now → is_broken outcome ≡ false
-    → IfSome left (λ input. AreAllOctets (until_lost table keep (messages_answered input)) → WritesMigrated table keep outcome before.output now.output input)
-migrate_leaves keep table outcome None left_now before now runs unbroken = tt
-migrate_leaves keep table outcome (Some input) left_now before now runs unbroken = λ small.
-    let gives : Gives (answer_within (2 ^ 40) (task (migrate_command keep table)) input) outcome before now = runs.gives in
-    record {
-      outputs = map (output_of table keep) (before_lost table keep (messages_answered input));
-      written = appended before now _ _ _ (gives.whole unbroken) (no_ending (migrate_command keep table) (λ totals. refl) (2 ^ 40) input) (migrated_written table keep input small);
-      same = migrated_same table keep (2 ^ 40) input small;
-      all = λ done.
-          let whole = done_whole (migrate_command keep table) (migrate_lawful keep table) (2 ^ 40) input (sym (gives.ends unbroken) ∙ done) in
-          ap (λ xs. before_lost table keep (stream judge xs).messages) whole.short
-          ∙ all_migrated keep table (stream judge input).messages whole.given_all (subst (λ xs. AreAllOctets (until_lost table keep (stream judge xs).messages)) whole.short small);
-    }
+    → OfTaken left left_now (WritesMigrated table keep outcome before.output now.output)
+migrate_leaves keep table outcome left left_now before now runs unbroken =
+    let (input, takes, took) = runs.taken in
+    let small = until_of_input table keep input (All-take (λ octet. octet < 256) (2 ^ 40) input takes.small) in
+    let gives : Gives (answer_within (2 ^ 40) (task (migrate_command keep table)) input) outcome before now = took.answered in (
+      input,
+      takes,
+      record {
+        outputs = map (output_of table keep) (before_lost table keep (messages_answered input));
+        written = appended before now _ _ _ (gives.whole unbroken) (no_ending (migrate_command keep table) (λ totals. refl) (2 ^ 40) input) (migrated_written table keep input small);
+        same = migrated_same table keep (2 ^ 40) input small;
+        all = λ done.
+            let whole = done_whole (migrate_command keep table) (migrate_lawful keep table) (2 ^ 40) input (sym (gives.ends unbroken) ∙ done) in
+            ap (λ xs. before_lost table keep (stream judge xs).messages) whole.short
+            ∙ all_migrated keep table (stream judge input).messages whole.given_all (subst (λ xs. AreAllOctets (until_lost table keep (stream judge xs).messages)) whole.short small);
+      },
+    )
 
 tabled_leaves : (keep : Bool) (t : Tabled) (outcome : Outcome) (left left_now : Option (List ℕ)) (before now : World)
     → RunsTabled (migrate_command keep) outcome left left_now before now t → is_broken outcome ≡ false
-    → IfGood (λ table. IfSome left (λ input. AreAllOctets (until_lost table keep (messages_answered input)) → WritesMigrated table keep outcome before.output now.output input)) t
+    → IfGood (λ table. OfTaken left left_now (WritesMigrated table keep outcome before.output now.output)) t
 tabled_leaves keep (Good table) outcome left left_now before now runs unbroken = migrate_leaves keep table outcome left left_now before now runs unbroken
 tabled_leaves keep (Refused refusal) outcome left left_now before now runs unbroken = tt
 
@@ -121,7 +130,7 @@ pub fields_left : ((target : RepackTarget) (input : List ℕ) → is_target targ
     → ((changes : List Condition) (input : List ℕ) → CanChange changes → KeepsColumns changes input)
     → ((conditions : List Condition) (input : List ℕ) → PicksFields conditions input)
     → (job : Job) (outcome : Outcome) (left left_now : Option (List ℕ)) (before now : World) → IsJob job
-    → RunsJob job outcome left left_now before now → is_broken outcome ≡ false → LeavesFields job outcome left before now
+    → RunsJob job outcome left left_now before now → is_broken outcome ≡ false → LeavesFields job outcome left left_now before now
 fields_left repacked set filtered Check outcome left left_now before now is runs unbroken = tt
 fields_left repacked set filtered Listing outcome left left_now before now is runs unbroken = tt
 fields_left repacked set filtered Keys outcome left left_now before now is runs unbroken = tt

@@ -40,10 +40,10 @@ module _ (table : Entries) (keep : Bool) where
   abbrev pub output_of : List ℕ → List ℕ
   output_of message = choose (edition message == 1) (λ _. migrated table keep message) (λ _. message)
 
-  of_first : (message : List ℕ) → (edition message == 1) ≡ true → output_of message ≡ migrated table keep message
+  pub of_first : (message : List ℕ) → (edition message == 1) ≡ true → output_of message ≡ migrated table keep message
   of_first message one = ap (λ b. choose b (λ _. migrated table keep message) (λ _. message)) one
 
-  of_other : (message : List ℕ) → (edition message == 1) ≡ false → output_of message ≡ message
+  pub of_other : (message : List ℕ) → (edition message == 1) ≡ false → output_of message ≡ message
   of_other message not_one = ap (λ b. choose b (λ _. migrated table keep message) (λ _. message)) not_one
 
   step : (loss : Option Loss) (m : ℕ) (message : List ℕ) (t : Task) (next : List Act → ℕ → Answer) (rest until : List (List ℕ)) → output_of message ≡ migrated table keep message
@@ -88,7 +88,7 @@ module _ (table : Entries) (keep : Bool) where
 
   -- ---- equal values
 
-  own_first : (message : List ℕ) → (edition message == 1) ≡ true → IsMessage1 message → All (λ octet. octet < 256) message → first_loss table keep message ≡ None
+  pub own_first : (message : List ℕ) → (edition message == 1) ≡ true → IsMessage1 message → All (λ octet. octet < 256) message → first_loss table keep message ≡ None
       → SameMigrated message (output_of message)
   own_first message one accepted small none =
       let may : MayBeMigrated table keep message = record { accepted = accepted; small = small; kept = none } in
@@ -100,7 +100,7 @@ module _ (table : Entries) (keep : Bool) where
         copied = λ other. absurd (other (eqb-true (edition message) 1 one));
       }
 
-  own_other : (message : List ℕ) → (edition message == 1) ≡ false → IsMessage message → SameMigrated message (output_of message)
+  pub own_other : (message : List ℕ) → (edition message == 1) ≡ false → IsMessage message → SameMigrated message (output_of message)
   own_other message not_one accepted =
       let same = of_other message not_one in
       let never : (edition message ≡ 1 → ⊥) = λ e. false≢true (sym not_one ∙ eq-eqb (edition message) 1 e) in

@@ -151,12 +151,12 @@ module _ (law : (message : List ℕ) (i : ℕ) → IsMessage message → 1 ≤ i
         ap (λ xs. single_if conditions message i ++ xs) (texts_picked message n (i + 1))
         ∙ one_picked (fulfils_all message i conditions) message i (filter (λ j. fulfils_all message j conditions) (range_with_len (i + 1) n))
 
-    by_bool : (b : Bool) (message : List ℕ)
+    pub by_bool : (b : Bool) (message : List ℕ)
         → choose b (λ _. message) (λ _. texts_from (single_if conditions message) (field_count message) 1) ≡ concat (picked_by b message)
     by_bool true message = sym (append-nil message)
     by_bool false message = texts_picked message (field_count message) 1
 
-    picked_bool : (b : Bool) (message : List ℕ) → IsMessage message → all_fulfil conditions message ≡ b → IsPicked conditions message (picked_by b message)
+    pub picked_bool : (b : Bool) (message : List ℕ) → IsMessage message → all_fulfil conditions message ≡ b → IsPicked conditions message (picked_by b message)
     picked_bool true message h is = record {
       accepted = All-cons IsMessage message [] h (All-nil IsMessage);
       columns = append-nil (columns_of message)

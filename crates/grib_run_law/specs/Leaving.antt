@@ -4,7 +4,7 @@
 use Rattle.std.specs.Prelude.{◌≡◌, ℕ, ◌^◌, Bool, false, Some, None, List, take, map, IfSome}
 use Rattle.std.specs.List.{concat, flat_map}
 use Rattle.std.specs.declared.option.Option.{Option}
-use Rattle.std.specs.Io.KnownBytes.{Appends, Consumes}
+use Rattle.std.specs.Io.KnownBytes.{Appends}
 use Rattle.grib_io.specs.Shelves.{Held}
 use Rattle.grib_keys.specs.declared.condition.Condition.{Condition}
 use Rattle.grib_packing.specs.Misfits.{Target}
@@ -15,17 +15,21 @@ use Rattle.grib_stream.specs.declared.outcome.Outcome.{Outcome}
 use Rattle.grib_stream.specs.declared.outcome.Outcome.TheVariants.{Done, ReadFault}
 use Rattle.grib_stream.specs.Acts.{World}
 use Rattle.grib_stream.specs.Outcomes.{is_broken}
+use Rattle.grib_stream.specs.Reading.{Takes}
 use Rattle.grib_stream.specs.Stream.{stream}
 use Rattle.grib_answers.specs.declared.job.Job.{Job}
 use Rattle.grib_answers.specs.declared.job.Job.TheVariants.{Filter, Split, Set, Repack, Migrate}
 use Rattle.grib_answers.specs.Judging.{judge}
-use Rattle.grib_run_law.specs.Octets.{AreAllOctets, until_lost}
 use Rattle.grib_run_law.specs.Same.{AllSame, before_kept, messages_answered}
 use Rattle.grib_run_law.specs.SameMigrated.{AllMigrated, before_lost}
 use Rattle.grib_run_law.specs.SamePicked.{AllPicked}
 use Rattle.grib_run_law.specs.SameSet.{AllSet, before_fault}
 use Rattle.grib_tasks.specs.Serving.{ByTable}
 use Rattle.grib_run_law.specs.Standing.{all_parts, before_first, StandFirst, StandAll}
+
+-- what holds of the octets that were taken
+abbrev pub OfTaken : Option (List ℕ) → Option (List ℕ) → (List ℕ → Type 0) → Type 0
+OfTaken left left_now P = (taken : List ℕ) × Takes left left_now taken × P taken
 
 -- what holds of the names of a shelf before and after, where it tells them
 abbrev pub OfNames : Option Held → Option Held → (Held → Held → Type 0) → Type 0
@@ -39,7 +43,7 @@ OfNames (Some before) (Some now) P = P before now
 pub record LeavesNames (out : List ℕ) (outcome : Outcome) (left left_now : Option (List ℕ)) (before now : World) : Type 0 where
   pub first : IfSome left (λ input. OfNames before.names now.names (λ held held_now. (count : ℕ) × StandFirst (all_parts out (take (2 ^ 40) input)) held held_now count))
   pub whole : is_broken outcome ≡ false → IfSome left (λ input. OfNames before.names now.names (StandAll (all_parts out (take (2 ^ 40) input))))
-  pub read : outcome ≡ ReadFault → (taken : List ℕ) × Consumes left left_now taken × OfNames before.names now.names (StandAll (all_parts out taken))
+  pub read : outcome ≡ ReadFault → OfTaken left left_now (λ taken. OfNames before.names now.names (StandAll (all_parts out taken)))
 
 -- the octets of the messages of an input
 abbrev pub all_messages : List ℕ → List (List ℕ)
@@ -80,16 +84,16 @@ IfGood P (Good table) = P table
 IfGood P (Refused refusal) = Unit {0}
 
 -- What a job leaves of what it writes for messages, where neither a device nor memory ended the run. Of `repack` and
--- `migrate` it is said where the messages are of octets; of the other jobs here nothing is said.
-abbrev pub LeavesFields : Job → Outcome → Option (List ℕ) → World → World → Type 0
-LeavesFields (Filter conditions) outcome left before now = IfSome left (WritesPicked conditions outcome before.output now.output)
-LeavesFields (Set changes) outcome left before now = IfSome left (WritesSet changes outcome before.output now.output)
-LeavesFields (Repack target) outcome left before now =
-    IfSome left (λ input. AreAllOctets (before_kept (target_of target) (messages_answered input)) → WritesSame (target_of target) outcome before.output now.output input)
-LeavesFields (Migrate params keep) outcome left before now =
-    ByTable before.names params
-    (IfGood (λ table. IfSome left (λ input. AreAllOctets (until_lost table keep (messages_answered input)) → WritesMigrated table keep outcome before.output now.output input)))
-LeavesFields job outcome left before now = Unit {0}
+-- `migrate`, which read numbers, it is said of the octets that were taken, whatever the input tells: where the outcome
+-- is Done they are all of it. Of the other jobs here nothing is said.
+abbrev pub LeavesFields : Job → Outcome → Option (List ℕ) → Option (List ℕ) → World → World → Type 0
+LeavesFields (Filter conditions) outcome left left_now before now = IfSome left (WritesPicked conditions outcome before.output now.output)
+LeavesFields (Set changes) outcome left left_now before now = IfSome left (WritesSet changes outcome before.output now.output)
+LeavesFields (Repack target) outcome left left_now before now =
+    OfTaken left left_now (WritesSame (target_of target) outcome before.output now.output)
+LeavesFields (Migrate params keep) outcome left left_now before now =
+    ByTable before.names params (IfGood (λ table. OfTaken left left_now (WritesMigrated table keep outcome before.output now.output)))
+LeavesFields job outcome left left_now before now = Unit {0}
 
 -- and what `split` leaves on the shelf, however the run ended
 abbrev pub LeavesParts : Job → Outcome → Option (List ℕ) → Option (List ℕ) → World → World → Type 0

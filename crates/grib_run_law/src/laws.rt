@@ -142,7 +142,7 @@ pub fn what_can_be_answered_is_done()
 /// outcome is Done; of `split` the names that it makes, wherever it ends.
 pub fn what_a_run_leaves()
     ensures fields { (job : Job) (outcome : Outcome) (left left_now : Option (List ℕ)) (before now : World) → IsJob job
-        → RunsJob job outcome left left_now before now → is_broken outcome ≡ false → LeavesFields job outcome left before now }
+        → RunsJob job outcome left left_now before now → is_broken outcome ≡ false → LeavesFields job outcome left left_now before now }
     ensures parts { (job : Job) (outcome : Outcome) (left left_now : Option (List ℕ)) (before now : World)
         → RunsJob job outcome left left_now before now → LeavesParts job outcome left left_now before now }
 {

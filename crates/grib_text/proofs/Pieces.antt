@@ -8,13 +8,13 @@ use Rattle.grib_dyadic.specs.Reference.{Binary}
 use Rattle.grib_text.specs.Words.{filled_decimal}
 use Rattle.grib2_message.specs.declared.summary.FieldSummary.{FieldSummary}
 use Rattle.grib_text.specs.Lines.{reference_line, time_of, time_text, origin_of, grid_of, product_of, product_text, packing_of, summary_line}
-use Rattle.grib_text.specs.Notes.{refusal_note}
+use Rattle.grib_text.specs.Notes.{refusal_text}
 
-refusal_note-regroup : (a b c d : List ℕ) → codes "refused message " ++ (a ++ (codes " octet " ++ (b ++ (codes " " ++ (c ++ (codes " " ++ (d ++ 10 ∷ []))))))) ≡ codes "refused message " ++ a ++ codes " octet " ++ b ++ codes " " ++ c ++ codes " " ++ d ++ 10 ∷ []
-refusal_note-regroup a b c d = simp append_assoc
+refusal_text-regroup : (a b c d : List ℕ) → a ++ (codes " octet " ++ (b ++ (codes " " ++ (c ++ (codes " " ++ (d ++ 10 ∷ [])))))) ≡ a ++ codes " octet " ++ b ++ codes " " ++ c ++ codes " " ++ d ++ 10 ∷ []
+refusal_text-regroup a b c d = simp append_assoc
 
-pub refusal_note-pieces : (m : ℕ) (fault : Fault) → codes "refused message " ++ (decimal m ++ (codes " octet " ++ (decimal fault.octet ++ (codes " " ++ (name_of fault.reason ++ (codes " " ++ (decimal fault.detail ++ 10 ∷ []))))))) ≡ refusal_note m fault
-refusal_note-pieces m fault = refusal_note-regroup (decimal m) (decimal fault.octet) (name_of fault.reason) (decimal fault.detail)
+pub refusal_text-pieces : (head : List ℕ) (fault : Fault) → head ++ (codes " octet " ++ (decimal fault.octet ++ (codes " " ++ (name_of fault.reason ++ (codes " " ++ (decimal fault.detail ++ 10 ∷ [])))))) ≡ refusal_text head fault
+refusal_text-pieces head fault = refusal_text-regroup head (decimal fault.octet) (name_of fault.reason) (decimal fault.detail)
 
 -- a number is its sign and its magnitude
 signed_decimal-pieces : (negative : Bool) (z : ℤ) → IsTrue negative ↔ (z <ℤ pos 0) → sign_text negative ++ decimal (nat_abs z) ≡ signed_decimal z

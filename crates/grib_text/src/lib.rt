@@ -17,7 +17,7 @@ mod values;
 pub use counts::{check_line, total_line};
 pub use edition1::list_line1;
 pub use listed::{list_line, summary_line};
-pub use notes::refusal_note;
+pub use notes::{refusal_note, refused_line};
 pub use points::{append_point_line, point_line};
 pub use references::reference_line;
 pub use stats::stats_line;

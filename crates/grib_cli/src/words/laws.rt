@@ -11,7 +11,7 @@ ghost use Rattle.grib_select.specs.Bounds.{IsWithin64};
 ghost use Rattle.grib_select.specs.Values.{key_value_of, fulfils_all};
 ghost use Rattle.grib_answers.specs.Pages.{help_lines};
 ghost use Rattle.grib_cli.specs.declared.words.command.Command.{Command};
-ghost use Rattle.grib_cli.specs.declared.words.command.Command.TheVariants.{Repack, Migrate, Demote, Help, Version};
+ghost use Rattle.grib_cli.specs.declared.words.command.Command.TheVariants.{Dump, Filter, Repack, Migrate, Demote, Help, Version};
 ghost use Rattle.grib_cli.specs.HelpLines.{is_line_on};
 ghost use Rattle.grib_cli.specs.Reading.{reading};
 ghost use Rattle.grib_cli.specs.Words.{condition, condition_of, conditions_of};
@@ -32,6 +32,14 @@ pub fn unread_lines()
     ensures short_dash { reading (codes "-help" ∷ []) ≡ Err 0 }
     ensures dashed_command { reading (codes "--list" ∷ []) ≡ Err 0 }
     ensures one_earth { reading (codes "demote" ∷ codes "params=t" ∷ codes "earth=2" ∷ []) ≡ Err 2 }
+    ensures refused_skip { reading (codes "check" ∷ codes "refused=skip" ∷ []) ≡ Err 1 }
+    ensures refused_again { reading (codes "list" ∷ codes "refused=pass" ∷ codes "refused=pass" ∷ []) ≡ Err 2 }
+    ensures none_kept { reading (codes "keys" ∷ codes "kept=pass" ∷ []) ≡ Err 1 }
+    ensures dump_copied { reading (codes "dump" ∷ codes "decimals=3" ∷ codes "kept=copy" ∷ []) ≡ Err 2 }
+    ensures kept_twice { reading (codes "rescan" ∷ codes "kept=copy" ∷ codes "kept=pass" ∷ []) ≡ Err 2 }
+    ensures no_key { reading (codes "filter" ∷ codes "refused=pass" ∷ []) ≡ Err 2 }
+    ensures no_key_set { reading (codes "set" ∷ codes "kept=copy" ∷ codes "refused=pass" ∷ []) ≡ Err 3 }
+    ensures made_past { reading (codes "make" ∷ codes "refused=pass" ∷ []) ≡ Err 1 }
 {}
 
 /// Command lines that are read.
@@ -40,6 +48,9 @@ pub fn read_lines()
     ensures equals { reading (codes "migrate" ∷ codes "params==" ∷ codes "local=keep" ∷ []) ≡ Ok Migrate }
     ensures least { reading (codes "repack" ∷ codes "to=least" ∷ []) ≡ Ok Repack }
     ensures demotion { reading (codes "demote" ∷ codes "earth=any" ∷ codes "params=t" ∷ []) ≡ Ok Demote }
+    ensures past_first { reading (codes "repack" ∷ codes "kept=copy" ∷ codes "to=2" ∷ codes "refused=pass" ∷ []) ≡ Ok Repack }
+    ensures past_keys { reading (codes "filter" ∷ codes "refused=pass" ∷ codes "centre=98" ∷ []) ≡ Ok Filter }
+    ensures past_dump { reading (codes "dump" ∷ codes "kept=pass" ∷ codes "decimals=3" ∷ []) ≡ Ok Dump }
     ensures help { reading (codes "help" ∷ []) ≡ Ok Help }
     ensures version { reading (codes "version" ∷ []) ≡ Ok Version }
     ensures dashed_help { reading (codes "--help" ∷ []) ≡ Ok Help }

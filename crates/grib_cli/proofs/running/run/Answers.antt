@@ -1,103 +1,167 @@
-use Rattle.grib_stream.specs.declared.outcome.Outcome.TheVariants.{ReadFault}
-use Rattle.std.proofs.Common.{◌≡◌, ◌≢◌, IfOk, IfSome, [], refl, sym, ◌∙◌, map, string_bytes, subst}
-use Rattle.std.proofs.lemmas.Bool.{false≢true}
-use Rattle.grib_stream.specs.Acts.{world}
-use Rattle.grib_stream.proofs.Exits.{cut_broken}
-use Rattle.grib_run_law.specs.Judged.{JudgesInput}
-use Rattle.grib_run_law.specs.Leaving.{LeavesFields, LeavesParts}
-use Rattle.grib_stream.proofs.Worlds.{did_keep}
-use Rattle.grib_answers.specs.Outcomes.{NotesFront}
-use Rattle.grib_answers.proofs.Noted.{memory_stands}
-use Rattle.grib_cli.specs.Words.{job_of}
-use Rattle.grib_cli.proofs.Runs.{OneOf, asks, if_asked, by_asked, cut_memory, runs_nothing, soon_nothing, fronts_memory, memory_front, other_front, unshelved_memory, unread_memory, refused_memory, shelf_stays}
+use Rattle.std.proofs.Common.{◌≡◌, sym, ◌∙◌, map, string_bytes}
+use Rattle.grib_cli.specs.Words.{job_of, passing_of}
+use Rattle.grib_cli.proofs.Passing.{none_past, some_past, not_plain, err_then}
 use Rattle.grib_cli.proofs.running.run.Goals as goal
 
-pub returns-in-Err-clause-runs : goal.returns-in-Err-clause-runs
-returns-in-Err-clause-runs g c =
-    if_asked (job_of (map string_bytes c.args.words.now)) c.in-Err.fault _ c.in-Err.ensures.asked
-    (λ memory job. runs_nothing job c.close_with_note.result _ _ _
-    (cut_memory c.in-Err.fault c.close_with_note.result memory (subst (λ o. OneOf o c.close_with_note.result) c.outcome_of.ensures c.close_with_note.ensures.ends.one_of))
-    (did_keep _ _ _ c.close_with_note.ensures.output_kept))
+pub returns-in-None-clause-runs : goal.returns-in-None-clause-runs
+returns-in-None-clause-runs g c = λ plain. c.run_plain.ensures.runs
 
-pub returns-in-Err-clause-soon : goal.returns-in-Err-clause-soon
-returns-in-Err-clause-soon g c =
-    if_asked (job_of (map string_bytes c.args.words.now)) c.in-Err.fault _ c.in-Err.ensures.asked
-    (λ memory job. soon_nothing job c.close_with_note.result _ _
-    (cut_memory c.in-Err.fault c.close_with_note.result memory (subst (λ o. OneOf o c.close_with_note.result) c.outcome_of.ensures c.close_with_note.ensures.ends.one_of)))
+pub returns-in-Some-clause-runs : goal.returns-in-Some-clause-runs
+returns-in-Some-clause-runs g c = λ plain. not_plain (passing_of (map string_bytes c.args.words.now)) c.in-Some.passing (sym c.in-Some.is ∙ c.passing_of.ensures) plain
 
-pub returns-in-Err-clause-noted_front : goal.returns-in-Err-clause-noted_front
-returns-in-Err-clause-noted_front g c =
-    let noted = subst (λ o. NotesFront (g.N.Sink.contents c.args.notes.now) (g.N.Sink.contents c.close_with_note.new.notes) _ o) c.outcome_of.ensures c.close_with_note.ensures.ends.noted_front in
-    by_asked (job_of (map string_bytes c.args.words.now)) c.in-Err.fault _ _ c.in-Err.ensures.asked noted
-    (λ memory job. fronts_memory job _ _ _ _ _ _ _ _ (memory_front c.in-Err.fault _ _ memory noted))
-    (λ memory other. other_front other _ _ (memory_front c.in-Err.fault _ _ memory noted))
+pub returns-in-None-clause-soon : goal.returns-in-None-clause-soon
+returns-in-None-clause-soon g c = λ plain. c.run_plain.ensures.soon
 
-pub returns-in-Err-clause-shelf : goal.returns-in-Err-clause-shelf
-returns-in-Err-clause-shelf g c =
-    by_asked (job_of (map string_bytes c.args.words.now)) c.in-Err.fault _ _ c.in-Err.ensures.asked refl (λ memory job unused. refl) (λ memory other. refl)
+pub returns-in-Some-clause-soon : goal.returns-in-Some-clause-soon
+returns-in-Some-clause-soon g c = λ plain. not_plain (passing_of (map string_bytes c.args.words.now)) c.in-Some.passing (sym c.in-Some.is ∙ c.passing_of.ensures) plain
 
-pub returns-in-Err-clause-unshelved : goal.returns-in-Err-clause-unshelved
-returns-in-Err-clause-unshelved g c =
-    if_asked (job_of (map string_bytes c.args.words.now)) c.in-Err.fault _ c.in-Err.ensures.asked
-    (λ memory job unused. unshelved_memory c.in-Err.fault c.close_with_note.result memory
-    (subst (λ o. OneOf o c.close_with_note.result) c.outcome_of.ensures c.close_with_note.ensures.ends.one_of))
+pub returns-in-None-clause-judged : goal.returns-in-None-clause-judged
+returns-in-None-clause-judged g c = λ plain. c.run_plain.ensures.judged
 
-pub returns-in-Err-clause-refused_input : goal.returns-in-Err-clause-refused_input
-returns-in-Err-clause-refused_input g c =
-    if_asked (job_of (map string_bytes c.args.words.now)) c.in-Err.fault _ c.in-Err.ensures.asked
-    (λ memory job. (let held : (c.args.input.now ≡ c.args.input.now) × (c.close_with_note.result ≢ ReadFault) = (
-      refl,
-      unread_memory c.in-Err.fault c.close_with_note.result memory
-          (subst (λ o. OneOf o c.close_with_note.result) c.outcome_of.ensures c.close_with_note.ensures.ends.one_of),
-    ) in refused_memory job (g.H.Shelf.contents c.args.shelf.now) _ held))
+pub returns-in-Some-clause-judged : goal.returns-in-Some-clause-judged
+returns-in-Some-clause-judged g c = λ plain. not_plain (passing_of (map string_bytes c.args.words.now)) c.in-Some.passing (sym c.in-Some.is ∙ c.passing_of.ensures) plain
 
-pub returns-in-Err-clause-shelf_kept : goal.returns-in-Err-clause-shelf_kept
-returns-in-Err-clause-shelf_kept g c =
-    if_asked (job_of (map string_bytes c.args.words.now)) c.in-Err.fault _ c.in-Err.ensures.asked (λ memory job on. shelf_stays (g.H.Shelf.contents c.args.shelf.now))
+pub returns-in-None-clause-fields : goal.returns-in-None-clause-fields
+returns-in-None-clause-fields g c = λ plain. c.run_plain.ensures.fields
 
--- what the clause on the run gives
+pub returns-in-Some-clause-fields : goal.returns-in-Some-clause-fields
+returns-in-Some-clause-fields g c = λ plain. not_plain (passing_of (map string_bytes c.args.words.now)) c.in-Some.passing (sym c.in-Some.is ∙ c.passing_of.ensures) plain
 
-pub returns-in-Ok-clause-judged : goal.returns-in-Ok-clause-judged
-returns-in-Ok-clause-judged g c =
-    subst (λ r. IfOk r (λ job. IfSome (g.S.Source.left c.args.input.now) (JudgesInput c.serve.result))) (asks c.in-Ok.job (map string_bytes c.args.words.now) c.in-Ok.ensures.asked)
-    (c.what_a_run_answers_is_in_the_grammar.ensures c.in-Ok.job c.serve.result _ _ _ _ c.serve.ensures.runs)
+pub returns-in-None-clause-parts : goal.returns-in-None-clause-parts
+returns-in-None-clause-parts g c = λ plain. c.run_plain.ensures.parts
 
-pub returns-in-Ok-clause-fields : goal.returns-in-Ok-clause-fields
-returns-in-Ok-clause-fields g c = λ unbroken.
-    subst (λ r. IfOk r (λ job. LeavesFields job c.serve.result (g.S.Source.left c.args.input.now)
-    (world (g.T.Sink.contents c.args.output.now) (g.H.Shelf.contents c.args.shelf.now)) (world (g.T.Sink.contents c.serve.new.output) (g.H.Shelf.contents c.serve.new.shelf))))
-    (asks c.in-Ok.job (map string_bytes c.args.words.now) c.in-Ok.ensures.asked)
-    (c.what_a_run_leaves.ensures.fields c.in-Ok.job c.serve.result _ _ _ _ c.in-Ok.ensures.is_job c.serve.ensures.runs unbroken)
+pub returns-in-Some-clause-parts : goal.returns-in-Some-clause-parts
+returns-in-Some-clause-parts g c = λ plain. not_plain (passing_of (map string_bytes c.args.words.now)) c.in-Some.passing (sym c.in-Some.is ∙ c.passing_of.ensures) plain
 
-pub returns-in-Ok-clause-parts : goal.returns-in-Ok-clause-parts
-returns-in-Ok-clause-parts g c =
-    subst (λ r. IfOk r (λ job. LeavesParts job c.serve.result (g.S.Source.left c.args.input.now) (g.S.Source.left c.serve.new.input)
-    (world (g.T.Sink.contents c.args.output.now) (g.H.Shelf.contents c.args.shelf.now)) (world (g.T.Sink.contents c.serve.new.output) (g.H.Shelf.contents c.serve.new.shelf))))
-    (asks c.in-Ok.job (map string_bytes c.args.words.now) c.in-Ok.ensures.asked)
-    (c.what_a_run_leaves.ensures.parts c.in-Ok.job c.serve.result _ _ _ _ c.serve.ensures.runs)
+pub returns-in-None-clause-made_input : goal.returns-in-None-clause-made_input
+returns-in-None-clause-made_input g c = λ plain. c.run_plain.ensures.made_input
 
-pub returns-in-Err-clause-judged : goal.returns-in-Err-clause-judged
-returns-in-Err-clause-judged g c =
-    if_asked (job_of (map string_bytes c.args.words.now)) c.in-Err.fault _ c.in-Err.ensures.asked
-    (λ memory job. c.what_a_run_answers_is_in_the_grammar.ensures job c.close_with_note.result _ _ _ _
-    (runs_nothing job c.close_with_note.result _ _ _
-    (cut_memory c.in-Err.fault c.close_with_note.result memory (subst (λ o. OneOf o c.close_with_note.result) c.outcome_of.ensures c.close_with_note.ensures.ends.one_of))
-    (did_keep _ _ (g.H.Shelf.contents c.args.shelf.now) c.close_with_note.ensures.output_kept)))
+pub returns-in-Some-clause-made_input : goal.returns-in-Some-clause-made_input
+returns-in-Some-clause-made_input g c = λ plain. not_plain (passing_of (map string_bytes c.args.words.now)) c.in-Some.passing (sym c.in-Some.is ∙ c.passing_of.ensures) plain
 
-pub returns-in-Err-clause-fields : goal.returns-in-Err-clause-fields
-returns-in-Err-clause-fields g c = λ unbroken.
-    if_asked (job_of (map string_bytes c.args.words.now)) c.in-Err.fault _ c.in-Err.ensures.asked
-    (λ memory job. absurd (false≢true (sym unbroken ∙ cut_broken c.close_with_note.result
-    (cut_memory c.in-Err.fault c.close_with_note.result memory (subst (λ o. OneOf o c.close_with_note.result) c.outcome_of.ensures c.close_with_note.ensures.ends.one_of)))))
+pub returns-in-None-clause-made : goal.returns-in-None-clause-made
+returns-in-None-clause-made g c = λ plain. c.run_plain.ensures.made
 
-pub returns-in-Err-clause-parts : goal.returns-in-Err-clause-parts
-returns-in-Err-clause-parts g c =
-    if_asked (job_of (map string_bytes c.args.words.now)) c.in-Err.fault _ c.in-Err.ensures.asked
-    (λ memory job. c.what_a_run_leaves.ensures.parts job c.close_with_note.result _ _ _ _
-    (runs_nothing job c.close_with_note.result _ _ _
-    (cut_memory c.in-Err.fault c.close_with_note.result memory (subst (λ o. OneOf o c.close_with_note.result) c.outcome_of.ensures c.close_with_note.ensures.ends.one_of))
-    (did_keep _ _ _ c.close_with_note.ensures.output_kept)))
+pub returns-in-Some-clause-made : goal.returns-in-Some-clause-made
+returns-in-Some-clause-made g c = λ plain. not_plain (passing_of (map string_bytes c.args.words.now)) c.in-Some.passing (sym c.in-Some.is ∙ c.passing_of.ensures) plain
 
-pub returns-in-Err-clause-memory_noted : goal.returns-in-Err-clause-memory_noted
-returns-in-Err-clause-memory_noted g c = λ off notes_off.
-    memory_stands g.T.Sink.settled g.N.Sink.contents g.N.Sink.settled c.close_with_note.new.output c.args.notes.now c.close_with_note.new.notes [] c.close_with_note.result (c.close_with_note.ensures.whole off notes_off)
+pub returns-in-None-clause-noted : goal.returns-in-None-clause-noted
+returns-in-None-clause-noted g c = λ plain. c.run_plain.ensures.noted
+
+pub returns-in-Some-clause-noted : goal.returns-in-Some-clause-noted
+returns-in-Some-clause-noted g c = λ plain. not_plain (passing_of (map string_bytes c.args.words.now)) c.in-Some.passing (sym c.in-Some.is ∙ c.passing_of.ensures) plain
+
+pub returns-in-None-clause-noted_front : goal.returns-in-None-clause-noted_front
+returns-in-None-clause-noted_front g c = λ plain. c.run_plain.ensures.noted_front
+
+pub returns-in-Some-clause-noted_front : goal.returns-in-Some-clause-noted_front
+returns-in-Some-clause-noted_front g c = λ plain. not_plain (passing_of (map string_bytes c.args.words.now)) c.in-Some.passing (sym c.in-Some.is ∙ c.passing_of.ensures) plain
+
+pub returns-in-None-clause-memory_noted : goal.returns-in-None-clause-memory_noted
+returns-in-None-clause-memory_noted g c = λ plain. c.run_plain.ensures.memory_noted
+
+pub returns-in-Some-clause-memory_noted : goal.returns-in-Some-clause-memory_noted
+returns-in-Some-clause-memory_noted g c = λ plain. not_plain (passing_of (map string_bytes c.args.words.now)) c.in-Some.passing (sym c.in-Some.is ∙ c.passing_of.ensures) plain
+
+pub returns-in-None-clause-shelf : goal.returns-in-None-clause-shelf
+returns-in-None-clause-shelf g c = λ plain. c.run_plain.ensures.shelf
+
+pub returns-in-Some-clause-shelf : goal.returns-in-Some-clause-shelf
+returns-in-Some-clause-shelf g c = λ plain. not_plain (passing_of (map string_bytes c.args.words.now)) c.in-Some.passing (sym c.in-Some.is ∙ c.passing_of.ensures) plain
+
+pub returns-in-None-clause-refused_input : goal.returns-in-None-clause-refused_input
+returns-in-None-clause-refused_input g c = λ plain. c.run_plain.ensures.refused_input
+
+pub returns-in-Some-clause-refused_input : goal.returns-in-Some-clause-refused_input
+returns-in-Some-clause-refused_input g c = λ plain. not_plain (passing_of (map string_bytes c.args.words.now)) c.in-Some.passing (sym c.in-Some.is ∙ c.passing_of.ensures) plain
+
+pub returns-in-None-clause-shelf_kept : goal.returns-in-None-clause-shelf_kept
+returns-in-None-clause-shelf_kept g c = λ plain. c.run_plain.ensures.shelf_kept
+
+pub returns-in-Some-clause-shelf_kept : goal.returns-in-Some-clause-shelf_kept
+returns-in-Some-clause-shelf_kept g c = λ plain. not_plain (passing_of (map string_bytes c.args.words.now)) c.in-Some.passing (sym c.in-Some.is ∙ c.passing_of.ensures) plain
+
+pub returns-in-None-clause-unshelved : goal.returns-in-None-clause-unshelved
+returns-in-None-clause-unshelved g c = λ plain. c.run_plain.ensures.unshelved
+
+pub returns-in-Some-clause-unshelved : goal.returns-in-Some-clause-unshelved
+returns-in-Some-clause-unshelved g c = λ plain. not_plain (passing_of (map string_bytes c.args.words.now)) c.in-Some.passing (sym c.in-Some.is ∙ c.passing_of.ensures) plain
+
+pub returns-in-None-clause-settled : goal.returns-in-None-clause-settled
+returns-in-None-clause-settled g c = c.run_plain.ensures.settled
+
+pub returns-in-Some-clause-settled : goal.returns-in-Some-clause-settled
+returns-in-Some-clause-settled g c = c.run_past.ensures.settled
+
+pub returns-in-None-clause-unfinished : goal.returns-in-None-clause-unfinished
+returns-in-None-clause-unfinished g c = c.run_plain.ensures.unfinished
+
+pub returns-in-Some-clause-unfinished : goal.returns-in-Some-clause-unfinished
+returns-in-Some-clause-unfinished g c = c.run_past.ensures.unfinished
+
+pub returns-in-None-clause-output_unfinished : goal.returns-in-None-clause-output_unfinished
+returns-in-None-clause-output_unfinished g c = c.run_plain.ensures.output_unfinished
+
+pub returns-in-Some-clause-output_unfinished : goal.returns-in-Some-clause-output_unfinished
+returns-in-Some-clause-output_unfinished g c = c.run_past.ensures.output_unfinished
+
+pub returns-in-None-clause-counts : goal.returns-in-None-clause-counts
+returns-in-None-clause-counts g c = c.run_plain.ensures.counts
+
+pub returns-in-Some-clause-counts : goal.returns-in-Some-clause-counts
+returns-in-Some-clause-counts g c = c.run_past.ensures.counts
+
+pub returns-in-None-clause-unasked : goal.returns-in-None-clause-unasked
+returns-in-None-clause-unasked g c = c.run_plain.ensures.unasked
+
+pub returns-in-Some-clause-unasked : goal.returns-in-Some-clause-unasked
+returns-in-Some-clause-unasked g c = err_then (job_of (map string_bytes c.args.words.now)) c.run_past.ensures.unasked (λ fault ends. ends.one_of)
+
+pub returns-in-None-clause-unasked_input : goal.returns-in-None-clause-unasked_input
+returns-in-None-clause-unasked_input g c = c.run_plain.ensures.unasked_input
+
+pub returns-in-Some-clause-unasked_input : goal.returns-in-Some-clause-unasked_input
+returns-in-Some-clause-unasked_input g c = err_then (job_of (map string_bytes c.args.words.now)) c.run_past.ensures.unasked (λ fault ends. ends.input_stays)
+
+pub returns-in-None-clause-unasked_output : goal.returns-in-None-clause-unasked_output
+returns-in-None-clause-unasked_output g c = c.run_plain.ensures.unasked_output
+
+pub returns-in-Some-clause-unasked_output : goal.returns-in-Some-clause-unasked_output
+returns-in-Some-clause-unasked_output g c = err_then (job_of (map string_bytes c.args.words.now)) c.run_past.ensures.unasked (λ fault ends. ends.output_kept)
+
+pub returns-in-None-clause-passes : goal.returns-in-None-clause-passes
+returns-in-None-clause-passes g c = none_past _ (passing_of (map string_bytes c.args.words.now)) (sym c.in-None.is ∙ c.passing_of.ensures)
+
+pub returns-in-Some-clause-passes : goal.returns-in-Some-clause-passes
+returns-in-Some-clause-passes g c = some_past _ (passing_of (map string_bytes c.args.words.now)) c.in-Some.passing (sym c.in-Some.is ∙ c.passing_of.ensures) c.run_past.ensures.passes
+
+pub returns-in-None-clause-passes_judged : goal.returns-in-None-clause-passes_judged
+returns-in-None-clause-passes_judged g c = none_past _ (passing_of (map string_bytes c.args.words.now)) (sym c.in-None.is ∙ c.passing_of.ensures)
+
+pub returns-in-Some-clause-passes_judged : goal.returns-in-Some-clause-passes_judged
+returns-in-Some-clause-passes_judged g c = some_past _ (passing_of (map string_bytes c.args.words.now)) c.in-Some.passing (sym c.in-Some.is ∙ c.passing_of.ensures) c.run_past.ensures.judged
+
+pub returns-in-None-clause-passes_fields : goal.returns-in-None-clause-passes_fields
+returns-in-None-clause-passes_fields g c = λ unbroken. none_past _ (passing_of (map string_bytes c.args.words.now)) (sym c.in-None.is ∙ c.passing_of.ensures)
+
+pub returns-in-Some-clause-passes_fields : goal.returns-in-Some-clause-passes_fields
+returns-in-Some-clause-passes_fields g c = λ unbroken.
+    some_past _ (passing_of (map string_bytes c.args.words.now)) c.in-Some.passing (sym c.in-Some.is ∙ c.passing_of.ensures) (c.run_past.ensures.fields unbroken)
+
+pub returns-in-None-clause-passes_stand : goal.returns-in-None-clause-passes_stand
+returns-in-None-clause-passes_stand g c = none_past _ (passing_of (map string_bytes c.args.words.now)) (sym c.in-None.is ∙ c.passing_of.ensures)
+
+pub returns-in-Some-clause-passes_stand : goal.returns-in-Some-clause-passes_stand
+returns-in-Some-clause-passes_stand g c = some_past _ (passing_of (map string_bytes c.args.words.now)) c.in-Some.passing (sym c.in-Some.is ∙ c.passing_of.ensures) c.run_past.ensures.stands
+
+pub returns-in-None-clause-unasked_past : goal.returns-in-None-clause-unasked_past
+returns-in-None-clause-unasked_past g c = none_past _ (passing_of (map string_bytes c.args.words.now)) (sym c.in-None.is ∙ c.passing_of.ensures)
+
+pub returns-in-Some-clause-unasked_past : goal.returns-in-Some-clause-unasked_past
+returns-in-Some-clause-unasked_past g c = some_past _ (passing_of (map string_bytes c.args.words.now)) c.in-Some.passing (sym c.in-Some.is ∙ c.passing_of.ensures) c.run_past.ensures.unasked
+
+pub returns-in-None-clause-unasked_stands : goal.returns-in-None-clause-unasked_stands
+returns-in-None-clause-unasked_stands g c = none_past _ (passing_of (map string_bytes c.args.words.now)) (sym c.in-None.is ∙ c.passing_of.ensures)
+
+pub returns-in-Some-clause-unasked_stands : goal.returns-in-Some-clause-unasked_stands
+returns-in-Some-clause-unasked_stands g c = some_past _ (passing_of (map string_bytes c.args.words.now)) c.in-Some.passing (sym c.in-Some.is ∙ c.passing_of.ensures) c.run_past.ensures.unasked_stands

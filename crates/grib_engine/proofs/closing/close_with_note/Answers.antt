@@ -1,5 +1,5 @@
 use Rattle.std.proofs.Common.{refl, sym, ap, ◌∙◌}
-use Rattle.grib_stream.specs.declared.outcome.Outcome.TheVariants.{Kept, Memory, Refused, TableRefused, Usage}
+use Rattle.grib_stream.specs.declared.outcome.Outcome.TheVariants.{Kept, Memory, Passed, Refused, TableRefused, Usage}
 use Rattle.grib_answers.specs.Outcomes.{note_with}
 use Rattle.grib_answers.proofs.Noted.{ends_by, stands_by}
 use Rattle.grib_engine.proofs.closing.close_with_note.Goals as goal
@@ -23,6 +23,11 @@ pub returns-in-Ok-table_note-clause-ends : goal.returns-in-Ok-table_note-clause-
 returns-in-Ok-table_note-clause-ends g c =
     ends_by g.T.Sink.contents g.T.Sink.faults g.T.Sink.settled g.N.Sink.contents g.N.Sink.faults g.N.Sink.settled _ _ _ _ c.args.outcome (TableRefused c.in-TableRefused.refusal) c.args.done.now _
     c.close-in-Ok-table_note.result (sym c.in-TableRefused.is) (c.as_slice-in-Ok-table_note.ensures.value ∙ c.in-Ok-table_note.ensures) c.close-in-Ok-table_note.ensures.closes
+
+pub returns-in-Ok-passed_note-clause-ends : goal.returns-in-Ok-passed_note-clause-ends
+returns-in-Ok-passed_note-clause-ends g c =
+    ends_by g.T.Sink.contents g.T.Sink.faults g.T.Sink.settled g.N.Sink.contents g.N.Sink.faults g.N.Sink.settled _ _ _ _ c.args.outcome (Passed c.in-Passed.refused c.in-Passed.kept) c.args.done.now _
+    c.close-in-Ok-passed_note.result (sym c.in-Passed.is) (c.as_slice-in-Ok-passed_note.ensures.value ∙ c.in-Ok-passed_note.ensures) c.close-in-Ok-passed_note.ensures.closes
 
 pub returns-in-ReadFault-clause-ends : goal.returns-in-ReadFault-clause-ends
 returns-in-ReadFault-clause-ends g c =
@@ -54,6 +59,14 @@ returns-in-Ok-usage_note-clause-whole g c = λ off notes_off.
 pub returns-in-Err-usage_note-clause-whole : goal.returns-in-Err-usage_note-clause-whole
 returns-in-Err-usage_note-clause-whole g c = λ off notes_off.
     stands_by g.T.Sink.settled g.N.Sink.contents g.N.Sink.settled c.close-in-Err-usage_note.new.output c.args.notes.now c.close-in-Err-usage_note.new.notes c.args.done.now _ Memory c.close-in-Err-usage_note.result refl (c.close-in-Err-usage_note.ensures.whole off notes_off)
+
+pub returns-in-Ok-passed_note-clause-whole : goal.returns-in-Ok-passed_note-clause-whole
+returns-in-Ok-passed_note-clause-whole g c = λ off notes_off.
+    stands_by g.T.Sink.settled g.N.Sink.contents g.N.Sink.settled c.close-in-Ok-passed_note.new.output c.args.notes.now c.close-in-Ok-passed_note.new.notes c.args.done.now _ (Passed c.in-Passed.refused c.in-Passed.kept) c.close-in-Ok-passed_note.result (c.as_slice-in-Ok-passed_note.ensures.value ∙ c.in-Ok-passed_note.ensures) (c.close-in-Ok-passed_note.ensures.whole off notes_off)
+
+pub returns-in-Err-passed_note-clause-whole : goal.returns-in-Err-passed_note-clause-whole
+returns-in-Err-passed_note-clause-whole g c = λ off notes_off.
+    stands_by g.T.Sink.settled g.N.Sink.contents g.N.Sink.settled c.close-in-Err-passed_note.new.output c.args.notes.now c.close-in-Err-passed_note.new.notes c.args.done.now _ Memory c.close-in-Err-passed_note.result refl (c.close-in-Err-passed_note.ensures.whole off notes_off)
 
 pub returns-in-Ok-kept_note-clause-whole : goal.returns-in-Ok-kept_note-clause-whole
 returns-in-Ok-kept_note-clause-whole g c = λ off notes_off.

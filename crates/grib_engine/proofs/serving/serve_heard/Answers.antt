@@ -1,67 +1,14 @@
-use Rattle.std.proofs.Common.{[], ◌^◌, rules}
-use Rattle.std.proofs.lemmas.Bool.{false≢true}
-use Rattle.grib_stream.proofs.Exits.{runs_to_the_end}
-use Rattle.grib_stream.proofs.Worlds.{did_keep}
-use Rattle.grib_stream.specs.declared.outcome.Outcome.TheVariants.{Done}
-use Rattle.grib_performed.proofs.HeardMessages.{soon_kept, done_soon}
-use Rattle.grib_answers.specs.Endings.{ending_note}
-use Rattle.grib_answers.proofs.Noted.{keeps_or_cuts, front_ended, no_shelf_fault, unfinished_then, memory_stands}
+use Rattle.std.proofs.Common.{sym, subst}
+use Rattle.grib_tasks.specs.Passing.{ServesAs}
+use Rattle.grib_tasks.specs.Tasks.{Reads}
 use Rattle.grib_engine.proofs.serving.serve_heard.Goals as goal
 
-pub returns-in-Ok-clause-serves : goal.returns-in-Ok-clause-serves
-returns-in-Ok-clause-serves g c = record {
-  runs = runs_to_the_end _ _ Done c.close_whole.result _ _ _ _ _ c.in-Ok.ensures.runs (did_keep _ _ _ c.close_whole.ensures.output_kept)
-      (keeps_or_cuts Done c.close_whole.result c.close_whole.ensures.ends.one_of);
-  noted = search rules;
-  noted_front = search rules;
-  settles = search rules;
-  unfinished = search rules;
-  output_unfinished =
-      unfinished_then g.T.Sink.faults g.T.Sink.settled Done c.args.output.now c.answer_within.new.output c.close_whole.new.output c.in-Ok.ensures.unfinished
-      c.in-Ok.ensures.counts.write_calm (λ no. absurd (cc no)) c.close_whole.ensures.ends.output_unfinished;
-  counts = search rules;
-  made_input = λ no. absurd (false≢true no);
-  made = λ no. absurd (false≢true no);
-  shelf_stays = search rules;
-  unshelved = λ off. no_shelf_fault Done c.close_whole.result c.close_whole.ensures.ends.one_of (λ e. cc);
-  refused_input = tt;
-  shelf_kept = λ no. absurd (false≢true no);
-}
+pub returns-in-None-clause-serves : goal.returns-in-None-clause-serves
+returns-in-None-clause-serves g c =
+    subst (λ passing. ServesAs g.S.Source.left g.S.Source.faults g.T.Sink.contents g.T.Sink.faults g.T.Sink.settled g.N.Sink.contents g.N.Sink.faults g.N.Sink.settled g.H.Shelf.contents g.H.Shelf.faults passing (Reads (g.W.Writer.definition c.args.answerer.now.0)) c.hear_all.result
+    c.args.input.now c.hear_all.new.input c.args.output.now c.hear_all.new.output c.args.notes.now c.hear_all.new.notes c.args.shelf.now c.hear_all.new.shelf) (sym c.in-None.is) c.hear_all.ensures.serves
 
-pub returns-in-Ok-clause-soon : goal.returns-in-Ok-clause-soon
-returns-in-Ok-clause-soon g c =
-    soon_kept (g.W.Writer.definition c.args.answerer.now.0) Done c.close_whole.result _ _ (keeps_or_cuts Done c.close_whole.result c.close_whole.ensures.ends.one_of)
-    (done_soon (g.W.Writer.definition c.args.answerer.now.0) _ _)
-
-pub returns-in-Err-clause-serves : goal.returns-in-Err-clause-serves
-returns-in-Err-clause-serves g c = record {
-  runs = runs_to_the_end _ _ c.in-Err.outcome c.close_with_note.result _ _ _ _ _ c.in-Err.ensures.runs (did_keep _ _ _ c.close_with_note.ensures.output_kept)
-      (keeps_or_cuts c.in-Err.outcome c.close_with_note.result c.close_with_note.ensures.ends.one_of);
-  noted = search rules;
-  noted_front =
-      front_ended _ _ _ _ (2 ^ 40) (g.W.Writer.definition c.args.answerer.now.0) c.in-Err.outcome _ _ _ _ _ _ _ c.in-Err.ensures.runs c.in-Err.ensures.not_done c.in-Err.ensures.counts.read
-      c.in-Err.ensures.counts.shelf c.close_with_note.ensures.ends.noted_front;
-  settles = search rules;
-  unfinished = search rules;
-  output_unfinished =
-      unfinished_then g.T.Sink.faults g.T.Sink.settled c.in-Err.outcome c.args.output.now c.answer_within.new.output c.close_with_note.new.output c.in-Err.ensures.unfinished
-      c.in-Err.ensures.counts.write_calm (λ e. (c.close_with_note.ensures.after_fault e).1) c.close_with_note.ensures.ends.output_unfinished;
-  counts = search rules;
-  made_input = λ no. absurd (false≢true no);
-  made = λ no. absurd (false≢true no);
-  shelf_stays = search rules;
-  unshelved = λ off. no_shelf_fault c.in-Err.outcome c.close_with_note.result c.close_with_note.ensures.ends.one_of (c.in-Err.ensures.unshelved off);
-  refused_input = tt;
-  shelf_kept = λ no. absurd (false≢true no);
-}
-
-pub returns-in-Err-clause-soon : goal.returns-in-Err-clause-soon
-returns-in-Err-clause-soon g c =
-    soon_kept (g.W.Writer.definition c.args.answerer.now.0) c.in-Err.outcome c.close_with_note.result _ _
-    (keeps_or_cuts c.in-Err.outcome c.close_with_note.result c.close_with_note.ensures.ends.one_of) c.in-Err.ensures.soon
-
-pub returns-in-Ok-clause-memory_noted : goal.returns-in-Ok-clause-memory_noted
-returns-in-Ok-clause-memory_noted g c = λ off notes_off. memory_stands g.T.Sink.settled g.N.Sink.contents g.N.Sink.settled c.close_whole.new.output c.args.notes.now c.close_whole.new.notes (ending_note (g.W.Writer.definition c.args.answerer.now.0).ending c.in-Ok.totals) c.close_whole.result (c.close_whole.ensures.whole off notes_off)
-
-pub returns-in-Err-clause-memory_noted : goal.returns-in-Err-clause-memory_noted
-returns-in-Err-clause-memory_noted g c = λ off notes_off. memory_stands g.T.Sink.settled g.N.Sink.contents g.N.Sink.settled c.close_with_note.new.output c.args.notes.now c.close_with_note.new.notes [] c.close_with_note.result (c.close_with_note.ensures.whole off notes_off)
+pub returns-in-Some-clause-serves : goal.returns-in-Some-clause-serves
+returns-in-Some-clause-serves g c =
+    subst (λ passing. ServesAs g.S.Source.left g.S.Source.faults g.T.Sink.contents g.T.Sink.faults g.T.Sink.settled g.N.Sink.contents g.N.Sink.faults g.N.Sink.settled g.H.Shelf.contents g.H.Shelf.faults passing (Reads (g.W.Writer.definition c.args.answerer.now.0)) c.serve_past.result
+    c.args.input.now c.serve_past.new.input c.args.output.now c.serve_past.new.output c.args.notes.now c.serve_past.new.notes c.args.shelf.now c.serve_past.new.shelf) (sym c.in-Some.is) c.serve_past.ensures.serves

@@ -1,0 +1,4 @@
+pub mod Judging
+pub mod Items
+pub mod Each
+pub mod Leaving
