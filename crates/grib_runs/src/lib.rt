@@ -6,6 +6,7 @@ ghost use Rattle.std.specs.Prelude.{◌≤◌};
 use grib_cli::run;
 use grib_engine::Outcome;
 use grib_io::{MemoryShelf, MemorySink, MemorySource};
+use grib_samples::TABLE;
 use std::alloc::{AllocError, Global};
 
 /// The calls of the input, of the output and of the notes that fail, counted from 1; 0 is none.
@@ -98,6 +99,48 @@ pub fn run_with(
         &mut ran.shelf,
     );
     Ok(ran)
+}
+
+/// A run of words over octets that come and go in pieces of this size, with the table of the samples on the shelf
+/// under the name `t`.
+///
+/// # Errors
+///
+/// There is no memory for the words, the table, or a copy of the octets.
+pub fn run_with_table(
+    alloc: Global,
+    text: &str,
+    octets: &[u8],
+    piece: usize,
+    failing: Failing,
+) -> Result<Ran, AllocError>
+    requires { 1 ≤ piece }
+{
+    let mut shelf = MemoryShelf::new(alloc, Vec::new(alloc));
+    shelf.put("t", TABLE)?;
+    run_with(alloc, text, octets, piece, failing, shelf)
+}
+
+/// Whether such a run over one message gives these octets, in pieces of each size, and notes how many.
+///
+/// # Errors
+///
+/// There is no memory for the runs.
+pub fn gives_with_table(
+    alloc: Global,
+    text: &str,
+    octets: &[u8],
+    output: &[u8],
+) -> Result<bool, AllocError> {
+    let written = output.len();
+    let note = format!(in alloc; "messages 1 fields 1 written {written}\n")?;
+    for piece in [1, 7, 300] {
+        let ran = run_with_table(alloc, text, octets, piece, CALM)?;
+        if !ran.gave(Outcome::Done, output, note.as_str()) {
+            return Ok(false);
+        }
+    }
+    Ok(true)
 }
 
 /// The words of a text, told apart by spaces.

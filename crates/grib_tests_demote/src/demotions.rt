@@ -1,12 +1,9 @@
 //! Runs of `demote`, with its table on a shelf in memory. The octets and the losses are worked by hand from the
 //! tables of docs/PROFILE.md.
 
-ghost use Rattle.std.specs.Prelude.{◌≤◌};
-
 use grib_causes::Demotion;
 use grib_engine::{Cause, Kept, Outcome};
-use grib_io::MemoryShelf;
-use grib_runs::{CALM, Ran, run_with};
+use grib_runs::{CALM, gives_with_table, run_with_table};
 use grib_samples::{
     FIRST_EDITION, MASKED, MIGRATED, NO_BITMAP, PLAIN, REDUCED, TABLE, TWO_FIELDS, between, edited,
     message_of,
@@ -19,28 +16,6 @@ const WORDS: &str = "demote params=t";
 const KEEPING: &str = "demote params=t local=keep";
 
 const ANY_EARTH: &str = "demote earth=any params=t";
-
-// A run over octets in pieces of this size, with the table under the name `t`.
-fn ran(alloc: Global, words: &str, octets: &[u8], piece: usize) -> Result<Ran, AllocError>
-    requires { 1 ≤ piece }
-{
-    let mut shelf = MemoryShelf::new(alloc, Vec::new(alloc));
-    shelf.put("t", TABLE)?;
-    run_with(alloc, words, octets, piece, CALM, shelf)
-}
-
-// Whether a run over one message gives these octets, in pieces of each size, and notes how many.
-fn gives(alloc: Global, words: &str, octets: &[u8], output: &[u8]) -> Result<bool, AllocError> {
-    let written = output.len();
-    let note = format!(in alloc; "messages 1 fields 1 written {written}\n")?;
-    for piece in [1, 7, 300] {
-        let ran = ran(alloc, words, octets, piece)?;
-        if !ran.gave(Outcome::Done, output, note.as_str()) {
-            return Ok(false);
-        }
-    }
-    Ok(true)
-}
 
 // Whether a run over the plain message, this one and the plain message again ends at this one, by this loss of this
 // field.
@@ -55,7 +30,7 @@ fn ends_by(
     let mut octets = MIGRATED.to_vec(alloc)?;
     octets.extend_from_slice(lossy)?;
     octets.extend_from_slice(MIGRATED)?;
-    let ran = ran(alloc, words, octets.as_slice(), 50)?;
+    let ran = run_with_table(alloc, words, octets.as_slice(), 50, CALM)?;
     let cause = Cause::Demoted { field, loss };
     let note = format!(in alloc; "kept message 2 Demotion {name} field {field}\n")?;
     let outcome = Outcome::Kept(Kept { message: 2, cause });
@@ -70,9 +45,9 @@ fn loses(alloc: Global, lossy: &[u8], loss: Demotion, name: &str) -> Result<bool
 #[test]
 fn the_plain_message_is_written_in_edition_1(rt: HostRuntime) -> Result<(), Fail> {
     let alloc = rt.alloc();
-    assert!(rt; gives(alloc, WORDS, MIGRATED, FIRST_EDITION)?);
-    assert!(rt; gives(alloc, KEEPING, MIGRATED, FIRST_EDITION)?);
-    assert!(rt; gives(alloc, ANY_EARTH, MIGRATED, FIRST_EDITION)?);
+    assert!(rt; gives_with_table(alloc, WORDS, MIGRATED, FIRST_EDITION)?);
+    assert!(rt; gives_with_table(alloc, KEEPING, MIGRATED, FIRST_EDITION)?);
+    assert!(rt; gives_with_table(alloc, ANY_EARTH, MIGRATED, FIRST_EDITION)?);
     Ok(())
 }
 
@@ -82,11 +57,11 @@ fn an_earth_that_edition_1_cannot_tell(rt: HostRuntime) -> Result<(), Fail> {
     assert!(rt; loses(alloc, &PLAIN, Demotion::EarthShape, "EarthShape")?);
     // Two metres above the ground.
     let wanted = edited(alloc, FIRST_EDITION, &[(18, 105), (19, 0), (20, 2)])?;
-    assert!(rt; gives(alloc, ANY_EARTH, &PLAIN, wanted.as_slice())?);
+    assert!(rt; gives_with_table(alloc, ANY_EARTH, &PLAIN, wanted.as_slice())?);
     // The IAU's earth of 1965 is told by a flag.
     let spheroid = edited(alloc, MIGRATED, &[(52, 2)])?;
     let wanted = edited(alloc, FIRST_EDITION, &[(53, 0xc0)])?;
-    assert!(rt; gives(alloc, WORDS, spheroid.as_slice(), wanted.as_slice())?);
+    assert!(rt; gives_with_table(alloc, WORDS, spheroid.as_slice(), wanted.as_slice())?);
     Ok(())
 }
 
@@ -127,7 +102,7 @@ fn the_first_loss_ends_the_run_behind_what_was_written(rt: HostRuntime) -> Resul
         assert!(rt; loses(alloc, lossy.as_slice(), loss, name)?);
         lossy = edited(alloc, lossy.as_slice(), &[repair])?;
     }
-    assert!(rt; gives(alloc, WORDS, lossy.as_slice(), FIRST_EDITION)?);
+    assert!(rt; gives_with_table(alloc, WORDS, lossy.as_slice(), FIRST_EDITION)?);
     // 1 + 2 ^ -23 has 24 bits, and an IBM word of a number from 1 to 2 has 21.
     let fine = edited(
         alloc,
@@ -189,7 +164,7 @@ fn an_accumulation_and_its_end(rt: HostRuntime) -> Result<(), Fail> {
     let octets = accumulation(alloc, &[])?;
     let edits = [(23, 31), (24, 18), (27, 0), (28, 12), (29, 4)];
     let wanted = edited(alloc, FIRST_EDITION, &edits)?;
-    assert!(rt; gives(alloc, WORDS, octets.as_slice(), wanted.as_slice())?);
+    assert!(rt; gives_with_table(alloc, WORDS, octets.as_slice(), wanted.as_slice())?);
     // It ends an hour later than its range, its increment is of another type, or its range is too long.
     for edit in [(148, 7), (157, 1), (161, 1)] {
         let octets = accumulation(alloc, &[edit])?;
@@ -210,13 +185,13 @@ fn octets_for_local_use(rt: HostRuntime) -> Result<(), Fail> {
     wanted.extend_from_slice(between(FIRST_EDITION, 11, 36))?;
     wanted.extend_from_slice(b"\0\0\0\0\0\0\0\0\0\0\0\0abcdefghijkl")?;
     wanted.extend_from_slice(between(FIRST_EDITION, 36, FIRST_EDITION.len()))?;
-    assert!(rt; gives(alloc, KEEPING, octets.as_slice(), wanted.as_slice())?);
+    assert!(rt; gives_with_table(alloc, KEEPING, octets.as_slice(), wanted.as_slice())?);
     Ok(())
 }
 
 // What a message of edition 1 is migrated to.
 fn migrated(alloc: Global, octets: &[u8]) -> Result<Vec<u8>, AllocError> {
-    let ran = ran(alloc, "migrate params=t", octets, 300)?;
+    let ran = run_with_table(alloc, "migrate params=t", octets, 300, CALM)?;
     ran.output.octets().to_vec(alloc)
 }
 
@@ -224,14 +199,14 @@ fn migrated(alloc: Global, octets: &[u8]) -> Result<Vec<u8>, AllocError> {
 fn lists_and_bitmaps_come_back(rt: HostRuntime) -> Result<(), Fail> {
     let alloc = rt.alloc();
     let reduced = migrated(alloc, REDUCED)?;
-    assert!(rt; gives(alloc, WORDS, reduced.as_slice(), REDUCED)?);
+    assert!(rt; gives_with_table(alloc, WORDS, reduced.as_slice(), REDUCED)?);
     // The numbers 5, 6 and 7 in three bits each, and sections of an even number of octets.
     let masked = migrated(alloc, MASKED)?;
     let mut wanted = b"GRIB\0\0\x5e\x01".to_vec(alloc)?;
     wanted.extend_from_slice(between(MASKED, 8, 68))?;
     wanted.extend_from_slice(b"\0\0\x08\x0c\0\0\xb0\0")?;
     wanted.extend_from_slice(b"\0\0\x0e\x0f\0\x01\x41\x10\0\0\x03\xbb\x80\x007777")?;
-    assert!(rt; gives(alloc, WORDS, masked.as_slice(), wanted.as_slice())?);
+    assert!(rt; gives_with_table(alloc, WORDS, masked.as_slice(), wanted.as_slice())?);
     Ok(())
 }
 
@@ -276,7 +251,7 @@ fn forecast_times_in_one_octet_and_in_two(rt: HostRuntime) -> Result<(), Fail> {
     ] {
         let octets = ahead(alloc, time)?;
         let wanted = edited(alloc, FIRST_EDITION, &[(27, p1), (28, p2), (29, range)])?;
-        assert!(rt; gives(alloc, WORDS, octets.as_slice(), wanted.as_slice())?);
+        assert!(rt; gives_with_table(alloc, WORDS, octets.as_slice(), wanted.as_slice())?);
     }
     let octets = ahead(alloc, 65_536)?;
     assert!(rt; loses(alloc, octets.as_slice(), Demotion::Process, "Process")?);
@@ -315,7 +290,7 @@ fn vertical_coordinates(rt: HostRuntime) -> Result<(), Fail> {
         wanted.extend_from_slice(b"\x41\x10\0\0")?;
     }
     wanted.extend_from_slice(between(FIRST_EDITION, 68, 88))?;
-    assert!(rt; gives(alloc, WORDS, octets.as_slice(), wanted.as_slice())?);
+    assert!(rt; gives_with_table(alloc, WORDS, octets.as_slice(), wanted.as_slice())?);
     let octets = with_coordinates(alloc, 256)?;
     assert!(rt;
         loses(
@@ -436,7 +411,7 @@ fn each_field_becomes_a_message(rt: HostRuntime) -> Result<(), Fail> {
     }
     wanted.extend_from_slice(FIRST_EDITION)?;
     for piece in [1, 7, 700] {
-        let ran = ran(alloc, ANY_EARTH, octets.as_slice(), piece)?;
+        let ran = run_with_table(alloc, ANY_EARTH, octets.as_slice(), piece, CALM)?;
         let note = "messages 3 fields 4 written 362\n";
         assert!(rt; ran.gave(Outcome::Done, wanted.as_slice(), note));
         assert!(rt; ran.shelf.octets("t") == Some(TABLE));

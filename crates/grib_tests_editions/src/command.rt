@@ -1,12 +1,9 @@
 //! Runs of `migrate`, with its table on a shelf in memory. The octets and the losses are worked by hand from the
 //! tables of docs/PROFILE.md.
 
-ghost use Rattle.std.specs.Prelude.{◌≤◌};
-
 use grib_causes::Loss;
 use grib_engine::{Cause, Kept, Outcome};
-use grib_io::MemoryShelf;
-use grib_runs::{CALM, Failing, Ran, run_with};
+use grib_runs::{CALM, Failing, Ran, gives_with_table, run_with_table};
 use grib_samples::{
     ALL_LOST, FIRST_EDITION, MASKED, MIGRATED, PLAIN, REDUCED, TABLE, TWO_FIELDS, between, edited,
 };
@@ -17,28 +14,6 @@ const WORDS: &str = "migrate params=t";
 
 const KEEPING: &str = "migrate params=t local=keep";
 
-// A run over octets in pieces of this size, with the table under the name `t`.
-fn ran(alloc: Global, words: &str, octets: &[u8], piece: usize) -> Result<Ran, AllocError>
-    requires { 1 ≤ piece }
-{
-    let mut shelf = MemoryShelf::new(alloc, Vec::new(alloc));
-    shelf.put("t", TABLE)?;
-    run_with(alloc, words, octets, piece, CALM, shelf)
-}
-
-// Whether a run over one message gives these octets, in pieces of each size, and notes how many.
-fn gives(alloc: Global, words: &str, octets: &[u8], output: &[u8]) -> Result<bool, AllocError> {
-    let written = output.len();
-    let note = format!(in alloc; "messages 1 fields 1 written {written}\n")?;
-    for piece in [1, 7, 300] {
-        let ran = ran(alloc, words, octets, piece)?;
-        if !ran.gave(Outcome::Done, output, note.as_str()) {
-            return Ok(false);
-        }
-    }
-    Ok(true)
-}
-
 // What the plain message becomes, with other octets at some places and of this total length.
 fn migrated(alloc: Global, total: u8, edits: &[(usize, u8)]) -> Result<Vec<u8>, AllocError> {
     let octets = edited(alloc, MIGRATED, &[(16, total)])?;
@@ -48,10 +23,10 @@ fn migrated(alloc: Global, total: u8, edits: &[(usize, u8)]) -> Result<Vec<u8>, 
 #[test]
 fn the_plain_message_is_written_in_edition_2(rt: HostRuntime) -> Result<(), Fail> {
     let alloc = rt.alloc();
-    assert!(rt; gives(alloc, WORDS, FIRST_EDITION, MIGRATED)?);
-    assert!(rt; gives(alloc, KEEPING, FIRST_EDITION, MIGRATED)?);
+    assert!(rt; gives_with_table(alloc, WORDS, FIRST_EDITION, MIGRATED)?);
+    assert!(rt; gives_with_table(alloc, KEEPING, FIRST_EDITION, MIGRATED)?);
     assert!(rt;
-        gives(
+        gives_with_table(
             alloc,
             "migrate local=keep params=t",
             FIRST_EDITION,
@@ -74,7 +49,7 @@ fn an_accumulation_gets_its_end(rt: HostRuntime) -> Result<(), Fail> {
     wanted.extend_from_slice(b"\x07\xe8\x02\x01\x06\0\0")?;
     wanted.extend_from_slice(b"\x01\0\0\0\0\x01\x02\x01\0\0\0\x0c\x01\0\0\0\0")?;
     wanted.extend_from_slice(between(changed.as_slice(), 143, changed.len()))?;
-    assert!(rt; gives(alloc, WORDS, octets.as_slice(), wanted.as_slice())?);
+    assert!(rt; gives_with_table(alloc, WORDS, octets.as_slice(), wanted.as_slice())?);
     Ok(())
 }
 
@@ -109,12 +84,12 @@ fn a_reduced_grid_and_a_bitmap(rt: HostRuntime) -> Result<(), Fail> {
     wanted.extend_from_slice(between(changed.as_slice(), 109, 143))?;
     wanted.extend_from_slice(b"\x3f\x80\0\0")?;
     wanted.extend_from_slice(between(changed.as_slice(), 143, changed.len()))?;
-    assert!(rt; gives(alloc, WORDS, REDUCED, wanted.as_slice())?);
+    assert!(rt; gives_with_table(alloc, WORDS, REDUCED, wanted.as_slice())?);
     // Three numbers, which were integers, with the reference value 1.
     let mut wanted = between(MIGRATED, 0, 143).to_vec(alloc)?;
     wanted.extend_from_slice(b"\0\0\0\x15\x05\0\0\0\x03\0\0\x3f\x80\0\0\0\x01\x80\x02\x08\0")?;
     wanted.extend_from_slice(b"\0\0\0\x07\x06\0\xb0\0\0\0\x08\x07\x05\x06\x077777")?;
-    assert!(rt; gives(alloc, WORDS, MASKED, wanted.as_slice())?);
+    assert!(rt; gives_with_table(alloc, WORDS, MASKED, wanted.as_slice())?);
     Ok(())
 }
 
@@ -135,8 +110,8 @@ fn local_octets_are_kept_where_it_is_asked_for(rt: HostRuntime) -> Result<(), Fa
     let mut wanted = between(changed.as_slice(), 0, 37).to_vec(alloc)?;
     wanted.extend_from_slice(b"\0\0\0\x11\x02abcdefghijkl")?;
     wanted.extend_from_slice(between(changed.as_slice(), 37, changed.len()))?;
-    assert!(rt; gives(alloc, KEEPING, octets.as_slice(), wanted.as_slice())?);
-    let lost = ran(alloc, WORDS, octets.as_slice(), 50)?;
+    assert!(rt; gives_with_table(alloc, KEEPING, octets.as_slice(), wanted.as_slice())?);
+    let lost = run_with_table(alloc, WORDS, octets.as_slice(), 50, CALM)?;
     let outcome = Outcome::Kept(Kept {
         message: 1,
         cause: Cause::Lost(Loss::LocalUse),
@@ -160,7 +135,7 @@ fn messages_of_edition_2_are_copied(rt: HostRuntime) -> Result<(), Fail> {
     wanted.extend_from_slice(&PLAIN)?;
     let note = "messages 4 fields 5 written 801\n";
     for piece in [1, 7, 700] {
-        let ran = ran(alloc, WORDS, octets.as_slice(), piece)?;
+        let ran = run_with_table(alloc, WORDS, octets.as_slice(), piece, CALM)?;
         assert!(rt; ran.gave(Outcome::Done, wanted.as_slice(), note));
         assert!(rt; ran.shelf.octets("t") == Some(TABLE));
     }
@@ -198,7 +173,7 @@ fn ends_by(
     let mut octets = FIRST_EDITION.to_vec(alloc)?;
     octets.extend_from_slice(lossy)?;
     octets.extend_from_slice(FIRST_EDITION)?;
-    let ran = ran(alloc, words, octets.as_slice(), 50)?;
+    let ran = run_with_table(alloc, words, octets.as_slice(), 50, CALM)?;
     let cause = Cause::Lost(loss);
     let note = format!(in alloc; "kept message 2 Loss {name}\n")?;
     let outcome = Outcome::Kept(Kept { message: 2, cause });
@@ -221,9 +196,7 @@ fn the_first_loss_ends_the_run_behind_what_was_written(rt: HostRuntime) -> Resul
 fn failing(alloc: Global, failing: Failing) -> Result<Ran, AllocError> {
     let mut octets = FIRST_EDITION.to_vec(alloc)?;
     octets.extend_from_slice(FIRST_EDITION)?;
-    let mut shelf = MemoryShelf::new(alloc, Vec::new(alloc));
-    shelf.put("t", TABLE)?;
-    run_with(alloc, WORDS, octets.as_slice(), 50, failing, shelf)
+    run_with_table(alloc, WORDS, octets.as_slice(), 50, failing)
 }
 
 // What is written where all is calm.

@@ -14,8 +14,8 @@ const LISTED: &str =
 
 const REFERENCE: &str = "reference -949*2^-3 binary -3 decimal 1\n";
 
-// The plain message of edition 1 with a field of 120,000 points: of 8, 28, 32, 120,012 and 4 octets.
-fn first(alloc: Global) -> Result<Vec<u8>, AllocError> {
+/// The plain message of edition 1 with a field of 120,000 points: of 8, 28, 32, 120,012 and 4 octets.
+pub(crate) fn first(alloc: Global) -> Result<Vec<u8>, AllocError> {
     let mut octets = FIRST_EDITION.to_vec(alloc)?;
     // The total length; Ni, Nj; La2, Lo2, Di and Dj in 10^-3 degree; the length of Section 4.
     put(&mut octets, 5, &[0x01, 0xd5, 0x14]);

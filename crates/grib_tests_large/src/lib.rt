@@ -14,4 +14,6 @@ mod memory;
 #[cfg(test)]
 mod messages;
 #[cfg(test)]
+mod passing;
+#[cfg(test)]
 mod printing;

@@ -1,0 +1,16 @@
+//! Tests of the command: its words, and its runs over inputs in memory. Expected values are from outside,
+//! worked by hand or made by another program.
+#![tactic(auto)]
+
+#[cfg(test)]
+mod editions;
+#[cfg(test)]
+mod heard;
+#[cfg(test)]
+mod pages;
+#[cfg(test)]
+mod runs;
+#[cfg(test)]
+mod valued;
+#[cfg(test)]
+mod words;

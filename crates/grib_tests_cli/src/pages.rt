@@ -1,0 +1,81 @@
+//! What the program prints of itself, without an input.
+
+use grib_engine::Outcome;
+use grib_runs::{CALM, Failing, run_over};
+use grib_samples::PLAIN;
+use std::test::Fail;
+
+const HELP: &str = "\
+grib check                                        lines on messages and input\n\
+grib list                                         a line for each field\n\
+grib keys                                         the keys of each field\n\
+grib dump [decimals=0..18]                        the points of each field\n\
+grib stats                                        counts and extremes of fields\n\
+grib filter KEY=VALUE ..                          fields that have these values\n\
+grib split out=NAME                               fields as files NAME.1, NAME.2\n\
+grib set KEY=VALUE ..                             new values of keys\n\
+grib repack to=0|2|3|least [order=1|2]            fields packed anew\n\
+grib migrate params=FILE [local=keep]             edition 1 to edition 2\n\
+grib demote params=FILE [local=keep] [earth=any]  edition 2 to edition 1\n\
+grib rescan                                       points in scanning mode 0\n\
+grib crop i0=N i1=N j0=N j1=N                     a box of each grid\n\
+grib make seed=N ni=N nj=N to=0|2|3 [order=1|2]   a message made from a number\n\
+grib help                                         this page\n\
+grib version                                      the version of this program\n\
+Beside these words, in any place:\n\
+check to crop  [refused=pass]                     on behind what is refused\n\
+filter to crop [kept=copy|pass], dump [kept=pass] on behind what is kept\n\
+Messages come from standard input and go to standard output. The pages: man grib\n\
+";
+
+#[test]
+fn the_commands_are_told(rt: HostRuntime) -> Result<(), Fail> {
+    for words in ["help", "--help"] {
+        for piece in [1, 80, 10_000] {
+            let helped = run_over(rt.alloc(), words, &PLAIN, piece, CALM)?;
+            assert!(rt; helped.is(Outcome::Done, HELP, ""));
+        }
+    }
+    Ok(())
+}
+
+#[test]
+fn the_version_is_told(rt: HostRuntime) -> Result<(), Fail> {
+    for words in ["version", "--version"] {
+        let told = run_over(rt.alloc(), words, &[], 7, CALM)?;
+        assert!(rt; told.is(Outcome::Done, "grib 1.0.0-alpha\n", ""));
+    }
+    Ok(())
+}
+
+#[test]
+fn no_input_is_read(rt: HostRuntime) -> Result<(), Fail> {
+    // A read would fail.
+    let failing = Failing { input: 1, ..CALM };
+    let helped = run_over(rt.alloc(), "help", &PLAIN, 183, failing)?;
+    assert!(rt; helped.is(Outcome::Done, HELP, ""));
+    Ok(())
+}
+
+#[test]
+fn each_write_of_a_page_may_fail(rt: HostRuntime) -> Result<(), Fail> {
+    // The output takes 12 octets of the line and the other 5, and is then finished.
+    for (output, front) in [(1, ""), (2, "grib 1.0.0-a"), (3, "grib 1.0.0-alpha\n")] {
+        let failing = Failing { output, ..CALM };
+        let told = run_over(rt.alloc(), "version", &PLAIN, 12, failing)?;
+        assert!(rt; told.is(Outcome::WriteFault, front, ""));
+    }
+    let failing = Failing { output: 2, ..CALM };
+    let helped = run_over(rt.alloc(), "help", &PLAIN, 10_000, failing)?;
+    assert!(rt; helped.is(Outcome::WriteFault, HELP, ""));
+    Ok(())
+}
+
+#[test]
+fn the_notes_of_a_page_may_fail(rt: HostRuntime) -> Result<(), Fail> {
+    // There is no note, so the notes are only finished.
+    let failing = Failing { notes: 1, ..CALM };
+    let told = run_over(rt.alloc(), "version", &PLAIN, 80, failing)?;
+    assert!(rt; told.is(Outcome::WriteFault, "grib 1.0.0-alpha\n", ""));
+    Ok(())
+}

@@ -1,0 +1,321 @@
+//! Command lines that are read, and such as are not.
+
+use grib_cli::{JobFault, job_of};
+use grib_engine::{Job, Page};
+use std::alloc::{AllocError, Global};
+use std::test::Fail;
+
+// A command line of words with one blank between two.
+fn asked(alloc: Global, line: &str) -> Result<Result<Job, JobFault>, AllocError> {
+    let mut words = Vec::new(alloc);
+    for word in line.split(' ') {
+        words.push(String::from_str(alloc, word)?)?;
+    }
+    Ok(job_of(alloc, words.as_slice()))
+}
+
+// The name of the command that a job is of.
+fn command_of(asked: &Result<Job, JobFault>) -> &'static str {
+    match asked {
+        Ok(Job::Check) => "check",
+        Ok(Job::List) => "list",
+        Ok(Job::Keys) => "keys",
+        Ok(Job::Stats) => "stats",
+        Ok(Job::Dump { .. }) => "dump",
+        Ok(Job::Filter(_)) => "filter",
+        Ok(Job::Split(_)) => "split",
+        Ok(Job::Set(_)) => "set",
+        Ok(Job::Repack(_) | Job::RepackLeast) => "repack",
+        Ok(Job::Migrate { .. }) => "migrate",
+        Ok(Job::Demote { .. }) => "demote",
+        Ok(Job::Rescan) => "rescan",
+        Ok(Job::Crop(_)) => "crop",
+        Ok(Job::Make { .. }) => "make",
+        Ok(Job::Print(Page::Help)) => "help",
+        Ok(Job::Print(Page::Version)) => "version",
+        Err(_) => "",
+    }
+}
+
+// Lines that are read, each as the command that its first word names.
+const READ: [&str; 55] = [
+    // Each command has its name.
+    "check",
+    "list",
+    "keys",
+    "stats",
+    "dump",
+    "filter centre=98",
+    "split out=p",
+    "set year=2025",
+    "repack to=0",
+    "make seed=1 ni=2 nj=2 to=0",
+    // Words on what is gone past stand anywhere.
+    "check refused=pass",
+    "repack kept=copy to=2 refused=pass",
+    "filter refused=pass centre=98",
+    "dump kept=pass decimals=3",
+    // `dump` takes a number of decimals.
+    "dump decimals=0",
+    "dump decimals=18",
+    // `filter` takes keys.
+    "filter points=4",
+    "filter forecastTime=6 centre=98 bits=8",
+    "filter surface1Value=missing",
+    "filter surface2=missing rangeLength=6",
+    // `set` takes keys that can be set.
+    "set month=256",
+    "set la1=-5 surface1=missing",
+    "set endHour=18 rangeUnit=1 ensembleMembers=50",
+    // Values of keys are numbers within 64 bits, or missing.
+    "filter year=0",
+    "filter year=9",
+    "filter year=10",
+    "filter year=9223372036854775807",
+    "filter year=-1",
+    "filter year=-9223372036854775808",
+    "filter year=missing",
+    // `split` takes a text that is not empty.
+    "split out==",
+    "split out=a=b",
+    "split out=é",
+    // `repack` takes an order beside differences alone.
+    "repack to=2",
+    "repack to=3 order=1",
+    "repack to=3 order=2",
+    "repack order=2 to=3",
+    "repack to=least",
+    // `migrate` takes a table, and may keep local octets.
+    "migrate params=t",
+    "migrate params=t local=keep",
+    "migrate local=keep params==t",
+    // `demote` takes a table, may keep local octets, and may take any earth.
+    "demote params=t",
+    "demote params=t earth=any",
+    "demote earth=any local=keep params==t",
+    "rescan",
+    // `crop` takes the sides of a box, the last not before the first.
+    "crop i0=0 i1=0 j0=0 j1=0",
+    "crop i0=1 i1=2 j0=3 j1=4",
+    "crop i0=9 i1=10 j0=99 j1=100",
+    "crop j1=33554431 j0=33554431 i1=33554431 i0=33554431",
+    "crop i1=33554431 j0=0 i0=0 j1=33554431",
+    // `make` takes numbers within their bounds.
+    "make seed=0 ni=1 nj=1 to=2",
+    "make seed=2147483647 ni=4096 nj=4096 to=3 order=2",
+    "make order=1 to=3 nj=181 ni=360 seed=7",
+    // `help` and `version` take no word.
+    "help",
+    "version",
+];
+
+// Lines that are not, with the place of the first word that is not read.
+const UNREAD: [(u64, &str); 130] = [
+    // Others have none.
+    (0, ""),
+    (0, "Check"),
+    (0, "CHECK"),
+    (0, "checks"),
+    (0, "chec"),
+    (0, "="),
+    (0, "check="),
+    (0, "unknown to=0"),
+    // `check`, `list`, `keys`, `stats` and `rescan` take no word.
+    (1, "check to=0"),
+    (1, "list centre=98"),
+    (1, "keys centre=98"),
+    (1, "stats decimals=3"),
+    (1, "rescan i0=1"),
+    (1, "check "),
+    // `dump` takes a number of decimals.
+    (1, "dump check"),
+    (1, "dump decimals"),
+    (1, "dump decimals="),
+    (1, "dump decimals=19"),
+    (1, "dump decimals=-1"),
+    (1, "dump decimals=03"),
+    (2, "dump decimals=3 decimals=3"),
+    // `filter` takes keys.
+    (1, "filter"),
+    (1, "filter centre"),
+    (1, "filter Centre=98"),
+    (1, "filter =98"),
+    (1, "filter to=0"),
+    (1, "filter centre= year=2025"),
+    (2, "filter centre=98 centre=98"),
+    (2, "filter centre=98 unknown=1 other"),
+    (2, "filter centre=98 year"),
+    (3, "filter centre=98 year=2024 centre=99"),
+    // `set` takes keys that can be set.
+    (1, "set"),
+    (1, "set points=3"),
+    (1, "set ni=missing"),
+    (1, "set bits=0 year=2025"),
+    (2, "set year=2025 gridTemplate=0"),
+    (2, "set year=2025 year=2025"),
+    // Values of keys are numbers within 64 bits, or missing.
+    (1, "filter year="),
+    (1, "filter year=-"),
+    (1, "filter year=-0"),
+    (1, "filter year=00"),
+    (1, "filter year=07"),
+    (1, "filter year=-07"),
+    (1, "filter year=+7"),
+    (1, "filter year=--7"),
+    (1, "filter year=7-"),
+    (1, "filter year=7a"),
+    (1, "filter year=0x7"),
+    (1, "filter year=1.0"),
+    (1, "filter year=1_000"),
+    (1, "filter year==7"),
+    (1, "filter year=9223372036854775808"),
+    (1, "filter year=18446744073709551616"),
+    (1, "filter year=-9223372036854775809"),
+    (1, "filter year=Missing"),
+    (1, "filter year=missing1"),
+    (1, "filter year=٣"),
+    // `split` takes a text that is not empty.
+    (1, "split"),
+    (1, "split out"),
+    (1, "split out="),
+    (1, "split outs=p"),
+    (1, "split out= out=p"),
+    (2, "split out=p out=q"),
+    (2, "split out=p to=0"),
+    // `repack` takes an order beside differences alone.
+    (1, "repack"),
+    (1, "repack to=1"),
+    (1, "repack to=4"),
+    (1, "repack to="),
+    (1, "repack to=00"),
+    (1, "repack order=0"),
+    (1, "repack order=3"),
+    (1, "repack seed=1"),
+    (2, "repack to=3"),
+    (2, "repack order=1"),
+    (2, "repack to=0 to=0"),
+    (2, "repack to=3 order=0"),
+    (3, "repack to=0 order=1"),
+    (3, "repack to=2 order=2"),
+    (3, "repack order=1 to=2"),
+    (3, "repack to=3 order=1 order=1"),
+    // `migrate` takes a table, and may keep local octets.
+    (1, "migrate"),
+    (1, "migrate params="),
+    (1, "migrate local=drop params=t"),
+    (1, "migrate local= params=t"),
+    (2, "migrate local=keep"),
+    (2, "migrate params=t local=keeps"),
+    (2, "migrate params=t params=t"),
+    (2, "migrate params=t earth=any"),
+    // `demote` takes a table, may keep local octets, and may take any earth.
+    (1, "demote"),
+    (1, "demote params="),
+    (1, "demote earth=0 params=t"),
+    (2, "demote earth=any"),
+    (2, "demote params=t local=keeps"),
+    (3, "demote params=t earth=any earth=any"),
+    // `crop` takes the sides of a box, the last not before the first.
+    (1, "crop"),
+    (1, "crop i0"),
+    (1, "crop i2=0"),
+    (1, "crop i0=33554432 i1=33554433 j0=0 j1=0"),
+    (1, "crop i0=-1 i1=0 j0=0 j1=0"),
+    (2, "crop i0=1 i0=1 i1=2 j0=0 j1=0"),
+    (4, "crop i0=0 i1=0 j0=0"),
+    (4, "crop i0=0 i1=0 j1=0"),
+    (4, "crop i0=0 j0=0 j1=0"),
+    (4, "crop i1=0 j0=0 j1=0"),
+    (5, "crop i0=1 i1=0 j0=0 j1=0"),
+    (5, "crop i0=0 i1=0 j0=1 j1=0"),
+    (5, "crop i0=10 i1=9 j0=0 j1=0"),
+    (5, "crop j0=100 j1=99 i0=0 i1=0"),
+    (5, "crop i0=0 i1=0 j0=0 j1=0 to=0"),
+    // `make` takes numbers within their bounds.
+    (1, "make"),
+    (1, "make seed=2147483648 ni=1"),
+    (1, "make seed=-1"),
+    (1, "make seed=01"),
+    (1, "make seed=missing"),
+    (2, "make seed=1"),
+    (2, "make seed=1 ni=0"),
+    (2, "make seed=1 ni=4097"),
+    (2, "make seed=1 nj=0"),
+    (2, "make seed=1 nj=4097"),
+    (4, "make seed=1 ni=2 nj=2"),
+    (4, "make ni=1 nj=1 to=0"),
+    (4, "make seed=1 nj=1 to=0"),
+    (4, "make seed=1 ni=1 to=0"),
+    (5, "make seed=1 ni=2 nj=2 to=3"),
+    (5, "make seed=1 ni=2 nj=2 order=1"),
+    (5, "make seed=1 ni=2 nj=2 to=0 seed=1"),
+    (6, "make seed=1 ni=2 nj=2 to=0 order=1"),
+    (3, "repack to=least order=1"),
+    (2, "repack to=least to=0"),
+    (4, "make seed=1 ni=2 nj=2 to=least"),
+];
+
+/// Lines on the pages of the program that are not read. One list of all lines is more than a check has memory for.
+const UNREAD_PAGES: [(u64, &str); 8] = [
+    (0, "-h"),
+    (0, "-help"),
+    (0, "--list"),
+    (0, "--version="),
+    // `help` and `version` take no word.
+    (1, "help list"),
+    (1, "help to=0"),
+    (1, "--help --version"),
+    (1, "version centre=98"),
+];
+
+/// Lines with words on what a run goes past that are not read.
+const UNREAD_PAST: [(u64, &str); 8] = [
+    (1, "check refused=skip"),
+    (2, "list refused=pass refused=pass"),
+    // What keeps no message has no word on that, and `dump` copies none.
+    (1, "keys kept=pass"),
+    (2, "dump decimals=3 kept=copy"),
+    (2, "rescan kept=copy kept=pass"),
+    // A word on what is passed is no condition.
+    (2, "filter refused=pass"),
+    (3, "set kept=copy refused=pass"),
+    // What reads no messages has no such word.
+    (1, "make refused=pass"),
+];
+
+#[test]
+fn lines_are_read(rt: HostRuntime) -> Result<(), Fail> {
+    for line in READ {
+        let asked = asked(rt.alloc(), line)?;
+        assert!(rt; line.split(' ').next() == Some(command_of(&asked)));
+    }
+    Ok(())
+}
+
+#[test]
+fn other_lines_are_not(rt: HostRuntime) -> Result<(), Fail> {
+    assert!(rt; job_of(rt.alloc(), &[]).is_err_and(|fault| fault == JobFault::Usage(0)));
+    for (place, line) in UNREAD {
+        let asked = asked(rt.alloc(), line)?;
+        assert!(rt; asked.is_err_and(|fault| fault == JobFault::Usage(place)));
+    }
+    Ok(())
+}
+
+#[test]
+fn other_lines_on_what_is_passed_are_not(rt: HostRuntime) -> Result<(), Fail> {
+    for (place, line) in UNREAD_PAST {
+        let asked = asked(rt.alloc(), line)?;
+        assert!(rt; asked.is_err_and(|fault| fault == JobFault::Usage(place)));
+    }
+    Ok(())
+}
+
+#[test]
+fn pages_take_no_word(rt: HostRuntime) -> Result<(), Fail> {
+    for (place, line) in UNREAD_PAGES {
+        let asked = asked(rt.alloc(), line)?;
+        assert!(rt; asked.is_err_and(|fault| fault == JobFault::Usage(place)));
+    }
+    Ok(())
+}
