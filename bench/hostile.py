@@ -375,7 +375,8 @@ def wrong_words(draw):
     return draw.choice(([], ["--list"], ["check", "x"], ["dump", "dump"], ["filter"], ["filter", "centre"], ["set", "points=3"],
                         ["set", "centre=98", "centre=98"], ["repack", "to=1"], ["repack", "to=3"], ["repack", "to=03"], ["split", "out="],
                         ["filter", "centre=1e3"], ["filter", f"year={2**63}"], ["filter", "year=-0"], ["make", "seed=1"], ["Check"],
-                        ["make", f"seed={2**31}", "ni=1", "nj=1", "to=0"], ["repack", "to=2", "order=1"], ["check", ""], [""]))
+                        ["make", f"seed={2**31}", "ni=1", "nj=1", "to=0"], ["repack", "to=2", "order=1"], ["check", ""], [""],
+                        ["check", "refused=skip"], ["list", "kept=pass"], ["dump", "kept=copy"], ["filter", "refused=pass"]))
 
 
 def command_of(draw, has, pool):
@@ -483,6 +484,33 @@ def hold_note(words, plain, checked, accepted, written):
         hold(("EditionOne" in kept[2]) <= (accepted[int(kept[1]) - 1][2] == 1), "EditionOne of edition 2", plain.note)
     else:
         hold(plain.status == 7 and words == ["split", "out=absent/part"] and plain.note == b"shelf fault\n", "another status", plain.status, plain.note)
+
+
+def has_passing(runner):
+    """Whether the program has words on what a run goes past."""
+    if not hasattr(runner, "passing"):
+        runner.passing = runner.run(["check", "refused=pass"], b"").status == 0
+    return runner.passing
+
+
+def hold_passed(runner, data, checked):
+    """`check` past refusals: what is answered before the first stays, each line is that of the octets at its place alone,
+    and each octet of the input is one of a message or skipped."""
+    passed = runner.run(["check", "refused=pass"], data)
+    if checked.status == 0:
+        hold((passed.status, passed.output, passed.note) == (0, checked.output, b""), "passed what is not refused", passed.note)
+        return
+    *lines, last = passed.note.decode().splitlines()
+    hold(passed.status == 2 and last == f"refused {len(lines)} kept 0" and lines, "the note of what was passed", passed.status, passed.note)
+    hold(passed.output.startswith(checked.output), "what stands before the first refusal is answered otherwise", passed.output)
+    hold(re.sub(r" at \d+ ", " ", lines[0]) + "\n" == checked.note.decode(), "another first refusal", lines[0], checked.note)
+    for line in lines[:3]:
+        said = re.fullmatch(r"refused message \d+ at (\d+) (octet .*)", line)
+        alone = runner.run(["check"], data[int(said[1]):])
+        hold(alone.note.decode() == f"refused message 1 {said[2]}\n", "another refusal of these octets alone", line, alone.note)
+    octets = sum(int(line.split()[7]) for line in passed.output.decode().splitlines() if line.startswith("message "))
+    skipped = int(passed.output.split()[-1])
+    hold(octets + skipped == len(data), "octets that are neither in a message nor skipped", octets, skipped, len(data))
 
 
 def messages_before(plain, accepted):
@@ -696,6 +724,8 @@ def try_case(runner, draw, words, data, way):
     points = max((int(field["points"]) for field in fields), default=0)
     if points > MOST_POINTS and not (words and words[0] in ("check", "list", "filter", "set", "split")):
         return
+    if has_passing(runner):
+        hold_passed(runner, data, checked)
     plain = runner.run(words, data)
     name = words[0] if words else ""
     parts = runner.parts() if name == "split" and plain.status not in (1, 7) else []

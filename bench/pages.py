@@ -4,9 +4,10 @@
     bench/pages.py PROGRAM
 
 Each command, name and key of the page has a reading in the program and stands in the completion, and the completion
-has no others; `help` of the program has a line on each command, and no others, and the page has the version; a key that the page has for `set` can be set, and one that it has for `filter` alone cannot. The statuses
-of the page are those of chapter 9 of docs/PROFILE.md, with 11 and 70. Words that the program does not have are
-printed, and the end is status 1."""
+has no others; so have the words on what a run goes past, each with the commands that take it. `help` of the program
+has a line on each command, and no others, and the page has the version. A key that the page has for `set` can be set,
+and one that it has for `filter` alone cannot. The statuses of the page are those of chapter 9 of docs/PROFILE.md, with
+11 and 70. Words that the program does not have are printed, and the end is status 1."""
 import os
 import re
 import subprocess
@@ -21,6 +22,10 @@ WORDS = {
     "demote": ["params=/nonexistent/table", "local=keep", "earth=any"], "keys": [], "help": [], "version": [],
     "make": ["seed=1", "ni=1", "nj=1", "to=3", "order=2"],
 }
+# The words on what a run goes past, of the commands that have them.
+PAST = {command: ["refused=pass", "kept=copy"] for command in ("filter", "set", "split", "repack", "rescan", "crop", "migrate", "demote")}
+PAST.update({command: ["refused=pass"] for command in ("check", "list", "keys", "stats")}, dump=["refused=pass", "kept=pass"])
+NOT_PAST = {"check": "kept=pass", "list": "refused=skip", "dump": "kept=copy", "make": "refused=pass", "help": "refused=pass"}
 failed = []
 
 
@@ -78,12 +83,16 @@ def main():
         hold(printed(program, f"--{word}") == printed(program, word), f"--{word}")
     for command in commands:
         words = WORDS.get(command, [])
-        hold(has_reading(program, command, *words), f"not in the program: {command} {' '.join(words)}")
+        past = PAST.get(command, [])
+        hold(has_reading(program, command, *past, *words), f"not in the program: {command} {' '.join(past + words)}")
         if command not in ("filter", "set"):
-            names = {word.split("=")[0] + "=" for word in words}
+            names = {word.split("=")[0] + "=" for word in words + past}
             hold(set(completed(f"grib {command} ")) == names, f"names of {command} in the completion")
-            shown = plain(section(page, "COMMANDS"))
+            shown = plain(section(page, "COMMANDS") + section(page, "GOING PAST REFUSALS"))
             hold(all(name in shown for name in names), f"names of {command} in the page")
+
+    for command, word in NOT_PAST.items():
+        hold(not has_reading(program, command, *WORDS[command], word), f"read by the program: {command} {word}")
 
     both, alone = plain(section(page, "KEYS")).split("alone:")
     keys = {key: True for key in listed(both[both.index("discipline"):])}
@@ -91,8 +100,9 @@ def main():
     table = re.search(r"^## 6\. Keys\n(.*?)^## 7", profile, re.M | re.S).group(1)
     wanted = {key: can == "yes" for key, can in re.findall(r"^\| (\w+) \| \d \|.*\| (yes|no) \|$", table, re.M)}
     hold(keys == wanted, f"keys of the page: {sorted(set(keys.items()) ^ set(wanted.items()))}")
-    hold(set(completed("grib filter ")) == {key + "=" for key in wanted}, "keys of filter in the completion")
-    hold(set(completed("grib set ")) == {key + "=" for key, can in wanted.items() if can}, "keys of set in the completion")
+    past = {word.split("=")[0] + "=" for word in PAST["filter"]}
+    hold(set(completed("grib filter ")) == {key + "=" for key in wanted} | past, "keys of filter in the completion")
+    hold(set(completed("grib set ")) == {key + "=" for key, can in wanted.items() if can} | past, "keys of set in the completion")
     for key, can in wanted.items():
         hold(has_reading(program, "filter", f"{key}=1"), f"not in the program: filter {key}")
         hold(has_reading(program, "set", f"{key}=1") == can, f"otherwise in the program: set {key}")
