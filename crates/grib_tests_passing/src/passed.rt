@@ -29,6 +29,18 @@ fn gives(
     Ok(true)
 }
 
+// Whether `check` past one refusal prints these lines and notes.
+fn checks_past(alloc: Global, octets: &[u8], lines: &str, notes: &str) -> Result<bool, AllocError> {
+    gives(
+        alloc,
+        "check refused=pass",
+        octets,
+        passed(1, 0),
+        lines.as_bytes(),
+        notes,
+    )
+}
+
 #[test]
 fn refusals_and_kept_messages_have_their_statuses(rt: HostRuntime) -> Result<(), Fail> {
     assert!(rt; passed(1, 0).status() == 2);
@@ -49,17 +61,7 @@ fn jpeg_2000_between_good_messages_is_passed(rt: HostRuntime) -> Result<(), Fail
                  message 2 at 366 edition 2 octets 183 fields 1\n\
                  messages 2 fields 2 skipped 183\n";
     let notes = "refused message 2 at 183 octet 153 Jpeg2000 40\nrefused 1 kept 0\n";
-    let outcome = passed(1, 0);
-    assert!(rt;
-        gives(
-            alloc,
-            "check refused=pass",
-            octets.as_slice(),
-            outcome,
-            lines.as_bytes(),
-            notes
-        )?
-    );
+    assert!(rt; checks_past(alloc, octets.as_slice(), lines, notes)?);
     Ok(())
 }
 
@@ -72,17 +74,7 @@ fn a_whole_message_is_found_behind_one_that_is_cut(rt: HostRuntime) -> Result<()
     octets.extend_from_slice(&PLAIN)?;
     let lines = "message 1 at 7 edition 2 octets 183 fields 1\nmessages 1 fields 1 skipped 7\n";
     let notes = "refused message 1 at 0 octet 8 Edition 71\nrefused 1 kept 0\n";
-    let outcome = passed(1, 0);
-    assert!(rt;
-        gives(
-            alloc,
-            "check refused=pass",
-            octets.as_slice(),
-            outcome,
-            lines.as_bytes(),
-            notes
-        )?
-    );
+    assert!(rt; checks_past(alloc, octets.as_slice(), lines, notes)?);
     Ok(())
 }
 
@@ -90,14 +82,7 @@ fn a_whole_message_is_found_behind_one_that_is_cut(rt: HostRuntime) -> Result<()
 fn finds_inside(alloc: Global, total: u64, lines: &str) -> Result<bool, AllocError> {
     let octets = message_of(alloc, total, &[&PLAIN])?;
     let notes = "refused message 1 at 0 octet 17 SectionLength 1196575042\nrefused 1 kept 0\n";
-    gives(
-        alloc,
-        "check refused=pass",
-        octets.as_slice(),
-        passed(1, 0),
-        lines.as_bytes(),
-        notes,
-    )
+    checks_past(alloc, octets.as_slice(), lines, notes)
 }
 
 // Where Section 1 is to begin, at octet 17, stands `GRIB`, as a length 47524942 in hexadecimal. The octets are 16, the 183 of
