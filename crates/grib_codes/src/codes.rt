@@ -1,0 +1,132 @@
+//! Codes in 32 bits each.
+
+ghost use Rattle.std.specs.Prelude.{◌≡◌, ℕ, ◌≤◌, ◌<◌, ◌^◌, length, take, drop, get_or, true, All};
+ghost use Rattle.grib_base.specs.declared.code.Code as code_io;
+ghost use Rattle.grib_codes.specs.Words.{code_of, codes_of};
+ghost use Rattle.grib_packing.specs.Span.{IsBelow, IsOrdered, IsSmallWith, IsSpan, IsTold};
+
+use grib_base::Code;
+use grib_packing::Span;
+use std::marker::Model;
+
+/// Codes in 32 bits each, of which up to two are reserved for missing points: all bits set for primary missing,
+/// one less for secondary, as in a group of 32 bits (WMO-No. 306, Volume I.2, FM 92 GRIB edition 2, data
+/// template 7.2).
+#[derive(Debug)]
+pub struct Codes<'a> {
+    words: &'a [u32],
+    reserved: u32,
+}
+
+impl<'a> Model for Codes<'a> {
+    ghost use Rattle.std.specs.Prelude.{List, ◌≤◌};
+    ghost use Rattle.grib_base.specs.declared.code.Code.{Code};
+    ghost use Rattle.grib_codes.specs.Words.{codes_of};
+
+    ghost Value = { List Code };
+
+    ghost view = { λ codes. codes_of codes.reserved codes.words.now };
+
+    ghost invariant = { λ codes. codes.reserved ≤ 2 };
+}
+
+impl<'a> Codes<'a> {
+    /// The codes that these words stand for, where `reserved` codes are kept for missing points.
+    #[inline]
+    pub fn of(words: &'a [u32], reserved: u32) -> Codes<'a>
+        requires { reserved ≤ 2 }
+        ensures { result ≡ codes_of reserved words.now }
+    {
+        Codes { words, reserved }
+    }
+
+    /// How many there are.
+    #[inline(always)]
+    pub fn len(&self) -> usize
+        ensures { result ≡ length self.now }
+    {
+        self.words.len()
+    }
+
+    /// The code at a place.
+    #[inline(always)]
+    pub fn at(&self, place: usize) -> Code
+        requires { place < length self.now }
+        ensures { (default : code_io.Code) → result ≡ get_or self.now place default }
+    {
+        let words = self.words;
+        code_in(words[place], self.reserved)
+    }
+
+    /// Whether the codes at two places are the same.
+    #[inline(always)]
+    pub fn are_same(&self, place: usize, other: usize) -> bool
+        requires place { place < length self.now }
+        requires other { other < length self.now }
+        ensures { (default : code_io.Code) → result ≡ true → get_or self.now place default ≡ get_or self.now other default }
+    {
+        let words = self.words;
+        words[place] == words[other]
+    }
+
+    /// The first codes, as many as `count`, and those behind them.
+    #[inline(always)]
+    pub fn split_at(&self, count: usize) -> (Codes<'a>, Codes<'a>)
+        requires { count ≤ length self.now }
+        ensures front { result.0 ≡ take count self.now }
+        ensures back { result.1 ≡ drop count self.now }
+    {
+        let (front, back) = self.words.split_at(count);
+        (
+            Codes {
+                words: front,
+                reserved: self.reserved,
+            },
+            Codes {
+                words: back,
+                reserved: self.reserved,
+            },
+        )
+    }
+
+    /// What they span.
+    pub fn span(&self) -> Span
+        ensures span { IsSpan result self.now }
+        ensures ordered { IsOrdered result }
+        ensures small { (k : ℕ) → k ≤ 2 → All (IsBelow k) self.now → IsSmallWith k result }
+    {
+        let mut span = Span::none();
+        for place in 0..self.len() {
+            span = span.with(self.at(place));
+        }
+        span
+    }
+}
+
+/// The code that a word stands for.
+#[inline(always)]
+fn code_in(word: u32, reserved: u32) -> Code
+    requires { reserved ≤ 2 }
+    ensures { result ≡ code_of reserved word }
+{
+    if word <= u32::MAX - reserved {
+        Code::Present(u64::from(word))
+    } else if word == u32::MAX {
+        Code::Primary
+    } else {
+        Code::Secondary
+    }
+}
+
+/// The word that stands for a code.
+#[inline(always)]
+pub fn word_of(code: Code) -> u32
+    requires { IsBelow 0 code }
+    ensures { (reserved : ℕ) → reserved ≤ 2 → IsTold reserved code → code_of reserved result ≡ code }
+{
+    match code {
+        Code::Present(number) => number as u32,
+        Code::Primary => u32::MAX,
+        Code::Secondary => u32::MAX - 1,
+    }
+}
