@@ -8,7 +8,7 @@ ghost use Rattle.grib_split.specs.Least.{AreHeads, IsLeast, Best, with_first};
 ghost use Rattle.grib_split.specs.Runs.{Runs, Waits, Afters, Falls, after_of, SameNumbers, SameMarks, SameWidths};
 
 use crate::slots::{Cheapest, Slots};
-use grib_base::Code;
+use grib_codes::Codes;
 
 /// The numbers that a grouping's cost rests on.
 #[derive(Clone, Copy, Debug, PartialEq, Eq)]
@@ -24,7 +24,7 @@ pub struct Costs {
 /// Writes for each place the length of the first group of the grouping that is chosen for the codes from
 /// that place on: of the groupings into runs of 1 to 64 codes that take the fewest bits, the first one,
 /// where the first length that differs decides and the smaller stands first. It takes no memory.
-pub fn least_choices(codes: &[Code], costs: &Costs, choices: &mut [u8])
+pub fn least_choices(codes: &Codes<'_>, costs: &Costs, choices: &mut [u8])
     requires split { CanSplit costs.now codes.now }
     requires same { length choices.old ≡ length codes.now }
     ensures { AreHeads (header_of costs.now) (width_of costs.now.reserved) codes.now choices.new }
@@ -55,7 +55,7 @@ struct Here {
 
 /// Goes on by the code at place `at`, from what is known at the next place.
 #[inline]
-fn here_at(slots: &mut Slots, codes: &[Code], at: usize, next: Here, costs: &Costs) -> Here
+fn here_at(slots: &mut Slots, codes: &Codes<'_>, at: usize, next: Here, costs: &Costs) -> Here
     requires split { CanSplit costs.now codes.now }
     requires place { at < length codes.now }
     requires known { Known (header_of costs.now) costs.now.reserved codes.now (at + 1) slots.old next }
@@ -84,12 +84,13 @@ fn here_at(slots: &mut Slots, codes: &[Code], at: usize, next: Here, costs: &Cos
 
 /// How many codes from `at` on are the same, up to 64, where so many after it are.
 #[inline]
-fn alike_from(codes: &[Code], at: usize, after: u32) -> u32
+fn alike_from(codes: &Codes<'_>, at: usize, after: u32) -> u32
     requires place { at < length codes.now }
+    requires most { length codes.now ≤ 33554432 }
     requires after { Alike codes.now (at + 1) after }
     ensures { Alike codes.now at result }
 {
-    if after == 0 || codes[at] != codes[at + 1] {
+    if after == 0 || !codes.are_same(at, at + 1) {
         return 1;
     }
     (after + 1).min(64)
@@ -128,7 +129,13 @@ fn best_of_one(slots: &mut Slots, at: usize, next: Cheapest, costs: &Costs) -> C
 
 /// Goes on by the code at place `at`, and gives the best first group and the least cost from there on.
 #[inline]
-fn best_of_all(slots: &mut Slots, codes: &[Code], at: usize, cost: u32, costs: &Costs) -> Cheapest
+fn best_of_all(
+    slots: &mut Slots,
+    codes: &Codes<'_>,
+    at: usize,
+    cost: u32,
+    costs: &Costs,
+) -> Cheapest
     requires split { CanSplit costs.now codes.now }
     requires place { at < length codes.now }
     requires runs { Runs costs.now.reserved codes.now (at + 1) slots.old }
@@ -149,7 +156,7 @@ fn best_of_all(slots: &mut Slots, codes: &[Code], at: usize, cost: u32, costs: &
 /// Puts the code at place `at` before the runs that wait for it, and gives the best first group and the least
 /// cost from there on.
 #[inline]
-fn best_at(slots: &mut Slots, codes: &[Code], at: usize, costs: &Costs) -> Cheapest
+fn best_at(slots: &mut Slots, codes: &Codes<'_>, at: usize, costs: &Costs) -> Cheapest
     requires split { CanSplit costs.now codes.now }
     requires place { at < length codes.now }
     requires runs { Waits costs.now.reserved codes.now at slots.old }
@@ -161,7 +168,7 @@ fn best_at(slots: &mut Slots, codes: &[Code], at: usize, costs: &Costs) -> Cheap
     ensures cost { result.cost ≡ with_first (header_of costs.now) (width_of costs.now.reserved) (drop at codes.now)
         result.length (after_of slots.old at result.length) }
 {
-    let places = slots.take(codes[at], (at + 1) % 64);
+    let places = slots.take(codes.at(at), (at + 1) % 64);
     slots.mend(places, at, costs.reserved);
     let best = slots.cheapest(at);
     Cheapest {

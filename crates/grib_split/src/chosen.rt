@@ -6,7 +6,7 @@ ghost use Rattle.grib_split.specs.Costs.{CanSplit, header_of};
 
 use crate::choosing::{Costs, least_choices};
 use crate::lengths::lengths_of;
-use grib_base::Code;
+use grib_codes::Codes;
 use std::alloc::{AllocError, Global};
 
 /// The lengths of the groups that are chosen for these codes: of the groupings into runs of 1 to 64 codes
@@ -15,7 +15,11 @@ use std::alloc::{AllocError, Global};
 /// # Errors
 ///
 /// There is no memory for a choice for each code, or for the lengths.
-pub fn chosen_lengths(alloc: Global, codes: &[Code], costs: &Costs) -> Result<Vec<u32>, AllocError>
+pub fn chosen_lengths(
+    alloc: Global,
+    codes: &Codes<'_>,
+    costs: &Costs,
+) -> Result<Vec<u32>, AllocError>
     requires split { CanSplit costs.now codes.now }
     ensures { IfOk result (λ lengths.
         Chosen (header_of costs.now) (width_of costs.now.reserved) codes.now lengths.items) }
@@ -27,7 +31,7 @@ pub fn chosen_lengths(alloc: Global, codes: &[Code], costs: &Costs) -> Result<Ve
 /// The lengths of the groups that are chosen for these codes, with room for a choice for each code.
 fn lengths_by(
     alloc: Global,
-    codes: &[Code],
+    codes: &Codes<'_>,
     costs: &Costs,
     choices: &mut [u8],
 ) -> Result<Vec<u32>, AllocError>

@@ -255,16 +255,33 @@ impl Slots {
         ensures marks { SameMarks self.old self.new }
         ensures after { self.new.after ≡ self.old.after }
     {
-        let width = width_of(
-            self.least[place],
-            self.greatest[place],
-            self.primary[place],
-            self.secondary[place],
-            reserved,
-        );
+        let width = self.width_at(place, reserved);
         self.width[place] = width.bits;
         self.limit[place] = width.limit;
         self.cost[place] = length * width.bits + self.after[place];
+    }
+
+    /// The width of the run at a place by what is kept of it.
+    #[inline]
+    fn width_at(&self, place: usize, reserved: u32) -> Width
+        requires place { place < 64 }
+        requires few { reserved ≤ 2 }
+        requires small { slice_index self.now.greatest place + reserved < 2 ^ 32 }
+        ensures few { result.bits ≤ 32 }
+        ensures wide { (run : List code_io.Code) → Told self.now place run → Wide reserved result.bits result.limit run }
+    {
+        let least = self.least[place];
+        let greatest = self.greatest[place];
+        if least < greatest {
+            return width_of_many(least, greatest, reserved);
+        }
+        width_of_one(
+            least,
+            greatest,
+            self.primary[place],
+            self.secondary[place],
+            reserved,
+        )
     }
 
     /// The shortest of the runs from `at` on that cost least with the codes after them, and this cost.
@@ -356,11 +373,28 @@ impl Slots {
     }
 }
 
-/// The width of a run by what is kept of it.
+/// The width of a run whose numbers are not all the same, in bits.
 #[inline]
-fn width_of(least: u32, greatest: u32, primary: u8, secondary: u8, reserved: u32) -> Width
+fn width_of_many(least: u32, greatest: u32, reserved: u32) -> Width
     requires few { reserved ≤ 2 }
     requires small { greatest + reserved < 2 ^ 32 }
+    requires many { least < greatest }
+    ensures few { result.bits ≤ 32 }
+    ensures wide { (primary secondary : ℕ) (run : List code_io.Code) → Tells least greatest primary secondary run
+        → Wide reserved result.bits result.limit run }
+{
+    let top = (greatest - least + reserved).ilog2();
+    Width {
+        bits: top + 1,
+        limit: limit_of(top, reserved),
+    }
+}
+
+/// The width of a run whose numbers are all the same, or that has none.
+#[inline]
+fn width_of_one(least: u32, greatest: u32, primary: u8, secondary: u8, reserved: u32) -> Width
+    requires few { reserved ≤ 2 }
+    requires one { greatest ≤ least }
     ensures few { result.bits ≤ 32 }
     ensures wide { (run : List code_io.Code) → Tells least greatest primary secondary run
         → Wide reserved result.bits result.limit run }
@@ -369,27 +403,24 @@ fn width_of(least: u32, greatest: u32, primary: u8, secondary: u8, reserved: u32
         let bits = u32::from(primary.min(secondary).min(1));
         return Width { bits, limit: 0 };
     }
-    let spread = greatest - least;
-    if spread == 0 && primary.max(secondary) == 0 {
+    if primary.max(secondary) == 0 {
         return Width { bits: 0, limit: 1 };
     }
-    let bits = bit_length(u64::from(spread) + u64::from(reserved));
     Width {
-        bits,
-        limit: limit_of(bits, reserved),
+        bits: bit_length(u64::from(reserved)),
+        limit: 1,
     }
 }
 
-/// The difference of numbers below which they take no more bits beside the reserved codes; at most
-/// 4,294,967,295.
+/// The difference of numbers below which they take no more than `top + 1` bits beside the reserved codes; 0 where
+/// 32 bits hold any.
 #[inline]
-fn limit_of(bits: u32, reserved: u32) -> u32
-    requires bits { bits ≤ 32 }
-    ensures { (result ≤ 1) ⊎ (result + reserved ≤ 2 ^ bits) }
+fn limit_of(top: u32, reserved: u32) -> u32
+    requires top { top < 32 }
+    requires few { reserved ≤ 2 }
+    ensures { (result ≤ 1) ⊎ (result + reserved ≤ 2 ^ (top + 1)) }
 {
-    (1u64 << bits)
-        .saturating_sub(u64::from(reserved))
-        .min(4294967295) as u32
+    (2u32 << top).wrapping_sub(reserved)
 }
 
 /// The length of the run from `at` on that ends at a place.

@@ -1,5 +1,6 @@
 use Rattle.std.proofs.Common.{◌≡◌, ℕ, zero, suc, ◌+◌, ◌<◌, List, min, ap, sym, ◌∙◌, arith}
 use Rattle.grib_base.specs.declared.code.Code.{Code}
+use Rattle.grib_base.specs.declared.code.Code.TheVariants.{Present}
 use Rattle.grib_split.specs.Alike.{Alike, code_at}
 use Rattle.grib_split.proofs.choosing.alike_from.Goals as goal
 
@@ -16,7 +17,7 @@ returns c =
     let codes = c.args.codes.now in
     let at = c.args.at in
     let after = c.requires.after in
-    let next : code_at codes at ≡ code_at codes (at + 1) = grind (arith, c.ne.ensures, c.if-ne.false) in
+    let next : code_at codes at ≡ code_at codes (at + 1) = c.are_same.ensures (Present 0) c.if-not-are_same.false in
     let less : c.min.result ≡ min (c.args.after + 1) 64 = c.min.ensures in
     record {
       most = omega (arith, less);

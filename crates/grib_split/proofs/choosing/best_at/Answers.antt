@@ -1,15 +1,44 @@
-use Rattle.std.proofs.Common.{◌≡◌, ℕ, ◌+◌, ◌%◌, ◌<◌, ◌≤◌, take, drop, ap, ◌∙◌, arith}
+use Rattle.std.proofs.Common.{◌≡◌, ℕ, ◌+◌, ◌^◌, ◌%◌, ◌<◌, ◌≤◌, List, ◌∷◌, take, drop, ap, sym, ◌∙◌, subst, arith}
 use Rattle.std.specs.Prelude.{slice_index}
+use Rattle.std.specs.Int.{bit_at}
 use Rattle.std.proofs.lemmas.Nat.Bits.{bit_at-zero}
-use Rattle.grib_base.specs.declared.code.Code.TheVariants.{Present}
+use Rattle.grib_base.specs.declared.code.Code.{Code}
+use Rattle.grib_base.specs.declared.code.Code.TheVariants.{Present, Primary, Secondary}
+use Rattle.grib_packing.specs.Span.{IsBelow}
+use Rattle.grib_split.specs.declared.slots.Slots.{Slots}
 use Rattle.grib_packing.specs.Groupings.{width_of}
 use Rattle.grib_split.specs.Costs.{header_of}
-use Rattle.grib_split.specs.Runs.{Run, Runs, Afters, length_to, after_of}
+use Rattle.grib_split.specs.Runs.{Run, Runs, Afters, Told, Wide, length_to, after_of}
 use Rattle.grib_split.proofs.Kept.{told_same}
 use Rattle.grib_split.proofs.Nested.{nested_waits}
 use Rattle.grib_split.proofs.Going.{runs_by, told_small, after_at, told_taken, priced_taken, afters_same, best_same, costing, first_cost, best_by}
 use Rattle.grib_split.proofs.choosing.best_at.Goals as goal
 use Rattle.grib_split.proofs.choosing.best_at.Goals.{After-cheapest-best}
+
+-- what is told of runs that a code is put before holds of another name of this code
+told_code : (old new : Slots) (a b : Code) → a ≡ b
+    → ((p : ℕ) (run : List Code) → p < 64 → Told old p run → Told new p (a ∷ run))
+    → (p : ℕ) (run : List Code) → p < 64 → Told old p run → Told new p (b ∷ run)
+told_code old new a b is told =
+    let P : Code → Type 0 = λ code. (p : ℕ) (run : List Code) → p < 64 → Told old p run → Told new p (code ∷ run) in
+    subst P is told
+
+-- the widths stay at the places that are not among these
+abbrev WideBefore : Slots → ℕ → Code → Type 0
+WideBefore old places code = (p k : ℕ) (run : List Code) → p < 64 → k ≤ 2 → bit_at places p ≡ 0 → IsBelow k code
+    → slice_index old.greatest p + k < 2 ^ 32 → Told old p run
+    → Wide k (slice_index old.width p) (slice_index old.limit p) run
+    → Wide k (slice_index old.width p) (slice_index old.limit p) (code ∷ run)
+
+below_none : (k : ℕ) (code : Code) → IsBelow k code → IsBelow 0 code
+below_none k (Present n) below = omega (arith, below)
+below_none k Primary below = tt
+below_none k Secondary below = tt
+
+pub take-places-requires-clause-below : goal.take-places-requires-clause-below
+take-places-requires-clause-below c =
+    subst (IsBelow 0) (sym (c.at.ensures (Present 0)))
+    (below_none c.args.costs.now.reserved _ (c.requires.split.codes c.args.at (Present 0) c.requires.place))
 
 pub take-places-requires-clause-nested : goal.take-places-requires-clause-nested
 take-places-requires-clause-nested c =
@@ -18,7 +47,7 @@ take-places-requires-clause-nested c =
 pub mend-requires-clause-small : goal.mend-requires-clause-small
 mend-requires-clause-small c place within =
     let q = c.requires in
-    let told = told_taken c.args.costs.now.reserved c.args.codes.now c.args.at (Present 0) c.args.slots.now c.take-places.new.self q.place q.runs c.take-places.ensures.told in
+    let told = told_taken c.args.costs.now.reserved c.args.codes.now c.args.at (Present 0) c.args.slots.now c.take-places.new.self q.place q.runs (told_code c.args.slots.now c.take-places.new.self _ _ (c.at.ensures (Present 0)) c.take-places.ensures.told) in
     told_small c.args.costs.now.reserved c.args.codes.now c.args.at (length_to c.args.at place) place c.take-places.new.self q.split.reserved q.split.codes (told place within)
 
 pub mend-requires-clause-after : goal.mend-requires-clause-after
@@ -37,9 +66,9 @@ mended_runs c =
     let at = c.args.at in
     let taken = c.take-places.new.self in
     let mended = c.mend.new.self in
-    let told = told_taken costs.reserved codes at (Present 0) c.args.slots.now taken q.place q.runs t.told in
+    let told = told_taken costs.reserved codes at (Present 0) c.args.slots.now taken q.place q.runs (told_code c.args.slots.now taken _ _ (c.at.ensures (Present 0)) t.told) in
     let priced = priced_taken costs.reserved codes at c.take-places.result (Present 0) c.args.slots.now taken q.place q.split.reserved q.split.codes q.runs
-    t.wide t.cost t.width t.limit t.after in
+    (subst (WideBefore c.args.slots.now c.take-places.result) (c.at.ensures (Present 0)) t.wide) t.cost t.width t.limit t.after in
     let run : (p : ℕ) → p < 64 → Run costs.reserved mended p (length_to at p) (take (length_to at p) (drop at codes)) = λ p within. record {
       told = told_same taken mended p (take (length_to at p) (drop at codes)) c.mend.ensures.numbers c.mend.ensures.marks (told p within);
       priced = c.mend.ensures.priced (λ p. take (length_to at p) (drop at codes)) told priced p within (bit_at-zero p);

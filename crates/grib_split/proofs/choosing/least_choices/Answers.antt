@@ -7,11 +7,11 @@ use Rattle.grib_split.proofs.Choices.{HeadsFrom, head_of_best, heads_more}
 use Rattle.grib_split.proofs.choosing.least_choices.Goals as goal
 
 -- the place of this turn is before that of the turns so far
-one_before : (n done : ℕ) → done < n → n - done ≡ n - 1 - done + 1
-one_before n done more = omega arith
+one_before : (n count done : ℕ) → count ≡ n → done < n → n - done ≡ count - 1 - done + 1
+one_before n count done is more = omega (arith, is)
 
-next_place : (n done : ℕ) → n - (done + 1) ≡ n - 1 - done
-next_place n done = omega arith
+next_place : (n count done : ℕ) → count ≡ n → n - (done + 1) ≡ count - 1 - done
+next_place n count done is = omega (arith, is)
 
 pub loop-done-init : goal.loop-done-init
 loop-done-init c =
@@ -47,7 +47,7 @@ loop-done-init c =
 pub here_at-here-requires-clause-known : goal.here_at-here-requires-clause-known
 here_at-here-requires-clause-known c =
     let P : ℕ → Type 0 = λ m. Known (header_of c.args.costs.now) c.args.costs.now.reserved c.args.codes.now m c.loop-done.slots c.loop-done.here in
-    subst P (one_before (length c.args.codes.now) c.loop-done.done c.loop-done-test.true) c.loop-done.invariant.known
+    subst P (one_before (length c.args.codes.now) c.len.result c.loop-done.done c.len.ensures (omega (arith, c.loop-done-test.true, c.len-done-end.ensures))) c.loop-done.invariant.known
 
 pub loop-done-preserved : goal.loop-done-preserved
 loop-done-preserved c =
@@ -55,15 +55,15 @@ loop-done-preserved c =
     let costs = c.args.costs.now in
     let codes = c.args.codes.now in
     let done = c.loop-done.done in
-    let at = length codes - 1 - done in
-    let more = c.loop-done-test.true in
-    let within : at < length codes = omega (arith, more) in
+    let at = c.len.result - 1 - done in
+    let more : done < length codes = omega (arith, c.loop-done-test.true, c.len-done-end.ensures) in
+    let within : at < length codes = omega (arith, more, c.len.ensures) in
     let slots = c.here_at-here.new.slots in
     let known = c.here_at-here.ensures.known in
     let n = c.here_at-here.result.best.length in
-    let e = next_place (length codes) done in
+    let e = next_place (length codes) c.len.result done c.len.ensures in
     let H : ℕ → Type 0 = λ m. HeadsFrom costs codes m c.loop-done.choices in
-    let heads = subst H (one_before (length codes) done more) i.heads in
+    let heads = subst H (one_before (length codes) c.len.result done c.len.ensures more) i.heads in
     let P : ℕ → Type 0 = λ m. Known (header_of costs) costs.reserved codes m slots c.here_at-here.result in
     let R : ℕ → Type 0 = λ m. HeadsFrom costs codes m (slice_set c.loop-done.choices at n) in
     record {
