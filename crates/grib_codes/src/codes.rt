@@ -35,7 +35,8 @@ impl<'a> Codes<'a> {
     #[inline]
     pub fn of(words: &'a [u32], reserved: u32) -> Codes<'a>
         requires { reserved ≤ 2 }
-        ensures { result ≡ codes_of reserved words.now }
+        ensures is { result ≡ codes_of reserved words.now }
+        ensures below { All (IsBelow reserved) result }
     {
         Codes { words, reserved }
     }
