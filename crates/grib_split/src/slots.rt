@@ -68,21 +68,6 @@ impl Slots {
         }
     }
 
-    /// Adds what one code more costs by the width of each run. It comes before `begin`, so that
-    /// the lanes do not wait for the one cost that is written there.
-    #[inline]
-    pub(crate) fn lengthen(&mut self)
-        ensures cost { (place : ℕ) → place < 64
-            → slice_index self.old.cost place + slice_index self.old.width place < 2 ^ 32
-            → slice_index self.new.cost place ≡ slice_index self.old.cost place + slice_index self.old.width place }
-        ensures numbers { SameNumbers self.old self.new }
-        ensures marks { SameMarks self.old self.new }
-        ensures widths { SameWidths self.old self.new }
-        ensures after { self.new.after ≡ self.old.after }
-    {
-        self.cost = (u32x64::from_array(self.cost) + u32x64::from_array(self.width)).to_array();
-    }
-
     /// Puts the run of no codes, before codes of this least cost, at a place.
     #[inline]
     pub(crate) fn begin(&mut self, place: usize, cost: u32)
@@ -219,7 +204,7 @@ impl Slots {
 }
 
 impl Slots {
-    /// Finds the width of the run at each of these places, and its cost.
+    /// Finds the width of the run at each of these places, and its cost without that of one code.
     #[inline]
     pub(crate) fn mend(&mut self, places: u64, at: usize, reserved: u32)
         requires few { reserved ≤ 2 }
@@ -234,20 +219,20 @@ impl Slots {
         let mut rest = places;
         while rest != 0 {
             let place = rest.trailing_zeros();
-            self.mend_one(place as usize, length_at(at, place as usize), reserved);
+            self.mend_one(place as usize, more_at(at, place as usize), reserved);
             rest &= rest - 1;
         }
     }
 
-    /// Finds the width of the run of this length at a place, and its cost.
+    /// Finds the width of the run at a place, and the cost of so many of its codes.
     #[inline]
-    fn mend_one(&mut self, place: usize, length: u32, reserved: u32)
+    fn mend_one(&mut self, place: usize, count: u32, reserved: u32)
         requires place { place < 64 }
-        requires length { length ≤ 64 }
+        requires count { count ≤ 64 }
         requires few { reserved ≤ 2 }
         requires small { slice_index self.old.greatest place + reserved < 2 ^ 32 }
         requires after { slice_index self.old.after place ≤ 2147483648 }
-        ensures priced { (run : List code_io.Code) → Told self.old place run → Priced reserved self.new place length run }
+        ensures priced { (run : List code_io.Code) → Told self.old place run → Priced reserved self.new place count run }
         ensures width { self.new.width ≡ slice_set self.old.width place (slice_index self.new.width place) }
         ensures limit { self.new.limit ≡ slice_set self.old.limit place (slice_index self.new.limit place) }
         ensures cost { self.new.cost ≡ slice_set self.old.cost place (slice_index self.new.cost place) }
@@ -258,7 +243,7 @@ impl Slots {
         let width = self.width_at(place, reserved);
         self.width[place] = width.bits;
         self.limit[place] = width.limit;
-        self.cost[place] = length * width.bits + self.after[place];
+        self.cost[place] = count * width.bits + self.after[place];
     }
 
     /// The width of the run at a place by what is kept of it.
@@ -284,22 +269,41 @@ impl Slots {
         )
     }
 
-    /// The shortest of the runs from `at` on that cost least with the codes after them, and this cost.
+    /// Adds the cost of one code more to that of each run, and gives the least of them.
     #[inline]
-    pub(crate) fn cheapest(&self, at: usize) -> Cheapest
-        requires { at < 2 ^ 32 }
-        ensures some { 1 ≤ result.length }
-        ensures most { result.length ≤ 64 }
-        ensures cost { slice_index self.now.cost ((at + result.length) % 64) ≡ result.cost }
-        ensures least { (place : ℕ) → place < 64 → result.cost ≤ slice_index self.now.cost place }
-        ensures first { (l : ℕ) → 1 ≤ l → l < result.length → result.cost < slice_index self.now.cost ((at + l) % 64) }
+    pub(crate) fn lengthen(&mut self) -> u32
+        requires { (place : ℕ) → place < 64 → slice_index self.old.cost place + slice_index self.old.width place < 2 ^ 32 }
+        ensures cost { (place : ℕ) → place < 64
+            → slice_index self.new.cost place ≡ slice_index self.old.cost place + slice_index self.old.width place }
+        ensures least { (place : ℕ) → place < 64 → result ≤ slice_index self.new.cost place }
+        ensures one { (place : ℕ) × (place < 64) × (slice_index self.new.cost place ≡ result) }
+        ensures numbers { SameNumbers self.old self.new }
+        ensures marks { SameMarks self.old self.new }
+        ensures widths { SameWidths self.old self.new }
+        ensures after { self.new.after ≡ self.old.after }
     {
-        let cost = least_of(&self.cost);
-        let places = places_of(&self.cost, cost);
-        Cheapest {
-            length: first_from(places, (at + 1) % 64) + 1,
-            cost,
+        let mut least = u32::MAX;
+        for place in 0..64 {
+            let cost = self.cost[place] + self.width[place];
+            self.cost[place] = cost;
+            least = least.min(cost);
         }
+        least
+    }
+
+    /// The length of the shortest of the runs from `at` on that have this cost, the least.
+    #[inline]
+    pub(crate) fn shortest(&self, at: usize, cost: u32) -> u32
+        requires place { at < 2 ^ 32 }
+        requires least { (place : ℕ) → place < 64 → cost ≤ slice_index self.now.cost place }
+        requires one { (place : ℕ) × (place < 64) × (slice_index self.now.cost place ≡ cost) }
+        ensures some { 1 ≤ result }
+        ensures most { result ≤ 64 }
+        ensures here { slice_index self.now.cost ((at + result) % 64) ≡ cost }
+        ensures first { (l : ℕ) → 1 ≤ l → l < result → cost < slice_index self.now.cost ((at + l) % 64) }
+    {
+        let places = places_of(&self.cost, cost);
+        first_from(places, (at + 1) % 64) + 1
     }
 }
 
@@ -423,27 +427,14 @@ fn limit_of(top: u32, reserved: u32) -> u32
     (2u32 << top).wrapping_sub(reserved)
 }
 
-/// The length of the run from `at` on that ends at a place.
+/// How many codes the run from `at` on that ends at a place has after its first.
 #[inline]
-fn length_at(at: usize, place: usize) -> u32
+fn more_at(at: usize, place: usize) -> u32
     requires { place < 64 }
-    ensures is { result ≡ length_to at place }
+    ensures is { result ≡ length_to at place - 1 }
     ensures most { result ≤ 64 }
 {
-    ((place + 63 - at % 64) % 64 + 1) as u32
-}
-
-/// The least of 64 costs.
-#[inline]
-fn least_of(costs: &[u32; 64]) -> u32
-    ensures least { (place : ℕ) → place < 64 → result ≤ slice_index costs.now place }
-    ensures one { (place : ℕ) × (place < 64) × (slice_index costs.now place ≡ result) }
-{
-    let mut least = costs[0];
-    for place in 0..64 {
-        least = least.min(costs[place]);
-    }
-    least
+    ((place + 63 - at % 64) % 64) as u32
 }
 
 /// The places of a cost.
