@@ -3,11 +3,11 @@
 ghost use Rattle.std.specs.Prelude.{◌≡◌, ℕ, true, false, ◌+◌, ◌-◌, ◌*◌, ◌%◌, ◌^◌, ◌<◌, ◌≤◌, ◌∷◌, ◌≢◌, ◌⊎◌, List, min, max, replicate, length, slice_index, slice_set};
 ghost use Rattle.std.specs.Int.{bit_at};
 ghost use Rattle.grib_base.specs.declared.code.Code as code_io;
+ghost use Rattle.grib_packing.specs.Groupings.{digits};
 ghost use Rattle.grib_packing.specs.Span.{IsBelow};
 ghost use Rattle.grib_split.specs.Runs.{Tells, Told, Wide, Begun, Priced, PricedBut, Falls, Nested, Covers, Numbered, StayAt, length_to, after_of, SameNumbers, SameMarks, SameWidths};
 
 use grib_base::Code;
-use grib_packing::bit_length;
 use std::simd::prelude::*;
 
 /// The runs of 1 to 64 codes from a place on, each kept at the place of its end, counted round 64: all of
@@ -257,16 +257,16 @@ impl Slots {
     {
         let least = self.least[place];
         let greatest = self.greatest[place];
-        if least < greatest {
-            return width_of_many(least, greatest, reserved);
+        if greatest <= least {
+            return width_of_one(
+                least,
+                greatest,
+                self.primary[place],
+                self.secondary[place],
+                reserved,
+            );
         }
-        width_of_one(
-            least,
-            greatest,
-            self.primary[place],
-            self.secondary[place],
-            reserved,
-        )
+        width_of_many(greatest - least, reserved)
     }
 
     /// Adds the cost of one code more to that of each run, and gives the least of them.
@@ -377,21 +377,31 @@ impl Slots {
     }
 }
 
-/// The width of a run whose numbers are not all the same, in bits.
+/// The width of a run whose numbers are not all the same, from the difference of the greatest and the least.
 #[inline]
-fn width_of_many(least: u32, greatest: u32, reserved: u32) -> Width
+fn width_of_many(spread: u32, reserved: u32) -> Width
     requires few { reserved ≤ 2 }
-    requires small { greatest + reserved < 2 ^ 32 }
-    requires many { least < greatest }
+    requires small { spread + reserved < 2 ^ 32 }
+    ensures is { result.bits ≡ digits (spread + reserved) }
     ensures few { result.bits ≤ 32 }
-    ensures wide { (primary secondary : ℕ) (run : List code_io.Code) → Tells least greatest primary secondary run
-        → Wide reserved result.bits result.limit run }
+    ensures stays { (result.limit ≤ 1) ⊎ (result.limit + reserved ≤ 2 ^ result.bits) }
 {
-    let top = (greatest - least + reserved).ilog2();
+    let bits = digits_of(spread + reserved);
     Width {
-        bits: top + 1,
-        limit: limit_of(top, reserved),
+        bits,
+        limit: limit_of(bits, reserved),
     }
+}
+
+/// The number of binary digits of a number, 0 for 0. It has one digit less than twice the number and 1, which is
+/// never 0, as the search for its highest digit then need not ask.
+#[inline]
+fn digits_of(number: u32) -> u32
+    ensures is { result ≡ digits number }
+    ensures few { result ≤ 32 }
+    ensures below { number < 2 ^ result }
+{
+    63 - (2 * u64::from(number) + 1).leading_zeros()
 }
 
 /// The width of a run whose numbers are all the same, or that has none.
@@ -411,20 +421,20 @@ fn width_of_one(least: u32, greatest: u32, primary: u8, secondary: u8, reserved:
         return Width { bits: 0, limit: 1 };
     }
     Width {
-        bits: bit_length(u64::from(reserved)),
+        bits: digits_of(reserved),
         limit: 1,
     }
 }
 
-/// The difference of numbers below which they take no more than `top + 1` bits beside the reserved codes; 0 where
-/// 32 bits hold any.
+/// The difference of numbers below which they take no more than these bits beside the reserved codes; 0 where 32 bits
+/// hold any.
 #[inline]
-fn limit_of(top: u32, reserved: u32) -> u32
-    requires top { top < 32 }
-    requires few { reserved ≤ 2 }
-    ensures { (result ≤ 1) ⊎ (result + reserved ≤ 2 ^ (top + 1)) }
+fn limit_of(bits: u32, reserved: u32) -> u32
+    requires bits { bits ≤ 32 }
+    requires room { reserved ≤ 2 ^ bits }
+    ensures { (result ≤ 1) ⊎ (result + reserved ≤ 2 ^ bits) }
 {
-    (2u32 << top).wrapping_sub(reserved)
+    (((1u64 << bits) - u64::from(reserved)) % 4294967296) as u32
 }
 
 /// How many codes the run from `at` on that ends at a place has after its first.
