@@ -148,7 +148,6 @@ fn best_of_all(
     ensures cost { result.cost ≡ with_first (header_of costs.now) (width_of costs.now.reserved) (drop at codes.now)
         result.length (after_of slots.new at result.length) }
 {
-    slots.lengthen();
     slots.begin((at + 1) % 64, cost);
     best_at(slots, codes, at, costs)
 }
@@ -170,9 +169,9 @@ fn best_at(slots: &mut Slots, codes: &Codes<'_>, at: usize, costs: &Costs) -> Ch
 {
     let places = slots.take(codes.at(at), (at + 1) % 64);
     slots.mend(places, at, costs.reserved);
-    let best = slots.cheapest(at);
+    let cost = slots.lengthen();
     Cheapest {
-        length: best.length,
-        cost: best.cost + costs.reference_bits + costs.width_bits + 6,
+        length: slots.shortest(at, cost),
+        cost: cost + costs.reference_bits + costs.width_bits + 6,
     }
 }
