@@ -82,6 +82,13 @@ pub record Falls (slots : Slots) (at cost : ℕ) : Type 0 where
   pub here : after_of slots at 1 ≤ cost
   pub next : (l : ℕ) → 1 ≤ l → l < 64 → after_of slots at (l + 1) ≤ after_of slots at l
 
+-- n is the first of the lengths from `at` on with the least cost after it, which 64 codes have
+pub record Soonest (slots : Slots) (at n : ℕ) : Type 0 where
+  pub some : 1 ≤ n
+  pub most : n ≤ 64
+  pub least : after_of slots at n ≡ after_of slots at 64
+  pub first : (l : ℕ) → 1 ≤ l → l < n → after_of slots at 64 < after_of slots at l
+
 -- each slot holds runs of one code, whatever cost is kept of them
 pub record Holds (reserved : ℕ) (slots : Slots) (code : Code) : Type 0 where
   pub told : (place n : ℕ) → place < 64 → 1 ≤ n → Told slots place (replicate n code)

@@ -5,7 +5,7 @@ ghost use Rattle.std.specs.Int.{bit_at};
 ghost use Rattle.grib_base.specs.declared.code.Code as code_io;
 ghost use Rattle.grib_packing.specs.Groupings.{digits};
 ghost use Rattle.grib_packing.specs.Span.{IsBelow};
-ghost use Rattle.grib_split.specs.Runs.{Tells, Told, Wide, Begun, Priced, PricedBut, Falls, Nested, Covers, Numbered, StayAt, length_to, after_of, SameNumbers, SameMarks, SameWidths};
+ghost use Rattle.grib_split.specs.Runs.{Tells, Told, Wide, Begun, Priced, PricedBut, Soonest, Falls, Nested, Covers, Numbered, StayAt, length_to, after_of, SameNumbers, SameMarks, SameWidths};
 
 use grib_base::Code;
 use std::simd::prelude::*;
@@ -302,8 +302,7 @@ impl Slots {
         ensures here { slice_index self.now.cost ((at + result) % 64) ≡ cost }
         ensures first { (l : ℕ) → 1 ≤ l → l < result → cost < slice_index self.now.cost ((at + l) % 64) }
     {
-        let places = places_of(&self.cost, cost);
-        first_from(places, (at + 1) % 64) + 1
+        first_of(&self.cost, cost, at)
     }
 }
 
@@ -338,28 +337,19 @@ impl Slots {
     }
 
     /// The shortest of the runs from `at` on with the least cost after them, and this cost. It does not rise from one
-    /// place to the next, so that it is the one after 64 codes; the search begins at a length.
+    /// place to the next, so that it is the one after 64 codes.
     #[inline]
-    pub(crate) fn soonest(&self, at: usize, from: u32) -> Cheapest
+    pub(crate) fn soonest(&self, at: usize) -> Cheapest
         requires place { at < 2 ^ 32 }
-        requires some { 1 ≤ from }
-        requires most { from ≤ 64 }
         requires falls { (l : ℕ) → 1 ≤ l → l < 64 → after_of self.now at (l + 1) ≤ after_of self.now at l }
         ensures cost { result.cost ≡ after_of self.now at 64 }
-        ensures some { 1 ≤ result.length }
-        ensures most { result.length ≤ 64 }
-        ensures least { after_of self.now at result.length ≡ result.cost }
-        ensures first { (l : ℕ) → 1 ≤ l → l < result.length → result.cost < after_of self.now at l }
+        ensures soonest { Soonest self.now at result.length }
     {
         let cost = self.after[at % 64];
-        let mut length = from;
-        if self.after[(at + from as usize) % 64] > cost {
-            length = 64;
+        Cheapest {
+            length: first_of(&self.after, cost, at),
+            cost,
         }
-        while length > 1 && self.after[(at + length as usize - 1) % 64] <= cost {
-            length -= 1;
-        }
-        Cheapest { length, cost }
     }
 
     /// Whether the least cost does not rise from `at`, where it is this, over the 64 places after it.
@@ -445,6 +435,21 @@ fn more_at(at: usize, place: usize) -> u32
     ensures most { result ≤ 64 }
 {
     ((place + 63 - at % 64) % 64) as u32
+}
+
+/// The least length after which a cost stands, where the cost after a length stands so far from `at` on, counted
+/// round 64.
+#[inline]
+fn first_of(costs: &[u32; 64], cost: u32, at: usize) -> u32
+    requires place { at < 2 ^ 32 }
+    requires one { (place : ℕ) × (place < 64) × (slice_index costs.now place ≡ cost) }
+    ensures some { 1 ≤ result }
+    ensures most { result ≤ 64 }
+    ensures here { slice_index costs.now ((at + result) % 64) ≡ cost }
+    ensures first { (l : ℕ) → 1 ≤ l → l < result → slice_index costs.now ((at + l) % 64) ≢ cost }
+{
+    let places = places_of(costs, cost);
+    first_from(places, (at + 1) % 64) + 1
 }
 
 /// The places of a cost.

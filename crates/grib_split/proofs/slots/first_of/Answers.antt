@@ -1,6 +1,6 @@
 use Rattle.std.proofs.Common.{◌≡◌, ◌+◌, ◌-◌, ◌%◌, ◌<◌, sym, ap, ◌∙◌, arith}
 use Rattle.std.specs.Int.{bit_at}
-use Rattle.grib_split.proofs.slots.Slots.shortest.Goals as goal
+use Rattle.grib_split.proofs.slots.first_of.Goals as goal
 
 pub returns-clause-first : goal.returns-clause-first
 returns-clause-first c l some less =
@@ -9,6 +9,4 @@ returns-clause-first c l some less =
     let here : (start + (l - 1)) % 64 ≡ (c.args.at + l) % 64 = omega arith in
     let place = (c.args.at + l) % 64 in
     let within : place < 64 = omega arith in
-    let other = c.places_of-places.ensures.not_in place within (ap (bit_at c.places_of-places.result) (sym here) ∙ unset) in
-    let low = c.requires.least place within in
-    omega (arith, low, other)
+    c.places_of-places.ensures.not_in place within (ap (bit_at c.places_of-places.result) (sym here) ∙ unset)
