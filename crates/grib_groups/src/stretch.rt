@@ -86,10 +86,6 @@ impl<'a> Stretch<'a> {
         ensures ordered { IsOrdered result }
         ensures small { (k : ℕ) → k ≤ 2 → All (IsBelow k) self.now → IsSmallWith k result }
     {
-        let mut span = Span::none();
-        for place in 0..self.len() {
-            span = span.with(self.at(place));
-        }
-        span
+        self.codes.span_of(self.from, self.count)
     }
 }
