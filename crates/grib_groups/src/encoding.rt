@@ -223,20 +223,32 @@ fn is_number(code: Code) -> bool
     matches!(code, Code::Present(_))
 }
 
-/// Writes the packed numbers of a group of this width and reference that has no mark: four at once where they
-/// fit a word, since joining them takes fewer steps than writing each.
+/// Writes the packed numbers of a group of this width and reference that has no mark: several at once, and the
+/// last up to three one by one.
 fn put_present(run: &Stretch<'_>, width: u32, reference: u64, out: &mut BitWriter)
     requires numbers { AreNumbers width reference run.now }
     requires room { length (packed_fields width reference run.now) ≤ out.old.spare }
     ensures { AddsBits out.old out.new (packed_fields width reference run.now) }
 {
-    if width > 16 {
-        put_each(run, width, reference, out);
-        return;
-    }
     let (fours, rest) = run.split_at(run.len() / 4 * 4);
-    put_fours(&fours, width, 1 << width, reference, out);
+    put_several(&fours, width, reference, out);
     put_each(&rest, width, reference, out);
+}
+
+/// Writes the packed numbers of a group that has no mark: four at once where they fit a word, else two, since
+/// joining them takes fewer steps than writing each.
+fn put_several(run: &Stretch<'_>, width: u32, reference: u64, out: &mut BitWriter)
+    requires numbers { AreNumbers width reference run.now }
+    requires fours { length run.now % 4 ≡ 0 }
+    requires room { length (packed_fields width reference run.now) ≤ out.old.spare }
+    ensures { AddsBits out.old out.new (packed_fields width reference run.now) }
+{
+    let scale = 1 << width;
+    if width > 16 {
+        put_pairs(run, width, scale, reference, out);
+    } else {
+        put_fours(run, width, scale, reference, out);
+    }
 }
 
 /// Writes the packed numbers of a group that has no mark four at once. The scale is 2 to the width.
@@ -253,6 +265,22 @@ fn put_fours(run: &Stretch<'_>, width: u32, scale: u64, reference: u64, out: &mu
     for done in 0..run.len() / 4 {
         let four = four_numbers(run, 4 * done, width, scale, reference);
         out.put(four, 4 * width);
+    }
+}
+
+/// Writes the packed numbers of a group that has no mark two at once. The scale is 2 to the width.
+// Not inlined, as `put_fours`.
+#[inline(never)]
+fn put_pairs(run: &Stretch<'_>, width: u32, scale: u64, reference: u64, out: &mut BitWriter)
+    requires numbers { AreNumbers width reference run.now }
+    requires pairs { length run.now % 2 ≡ 0 }
+    requires scale { scale ≡ 2 ^ width }
+    requires room { length (packed_fields width reference run.now) ≤ out.old.spare }
+    ensures { AddsBits out.old out.new (packed_fields width reference run.now) }
+{
+    for done in 0..run.len() / 2 {
+        let pair = two_numbers(run, 2 * done, width, scale, reference);
+        out.put(pair, 2 * width);
     }
 }
 
@@ -286,7 +314,6 @@ fn four_numbers(run: &Stretch<'_>, at: usize, width: u32, scale: u64, reference:
 #[inline(always)]
 fn two_numbers(run: &Stretch<'_>, at: usize, width: u32, scale: u64, reference: u64) -> u64
     requires numbers { AreNumbers width reference run.now }
-    requires few { width ≤ 16 }
     requires scale { scale ≡ 2 ^ width }
     requires within { at + 2 ≤ length run.now }
     requires place { at + 2 < 2 ^ 64 }
