@@ -1,8 +1,9 @@
 //! Codes in 32 bits each.
 
-ghost use Rattle.std.specs.Prelude.{◌≡◌, ℕ, ◌≤◌, ◌<◌, ◌^◌, length, take, drop, get_or, true, All};
+ghost use Rattle.std.specs.Prelude.{◌≡◌, ℕ, ◌+◌, ◌≤◌, ◌<◌, ◌^◌, ◌∷◌, [], length, take, drop, get_or, max, min, true, All};
 ghost use Rattle.grib_base.specs.declared.code.Code as code_io;
 ghost use Rattle.grib_codes.specs.Words.{code_of, codes_of};
+ghost use Rattle.grib_packing.specs.Groupings.{greatest, smallest};
 ghost use Rattle.grib_packing.specs.Span.{IsBelow, IsOrdered, IsSmallWith, IsSpan, IsTold};
 
 use grib_base::Code;
@@ -96,12 +97,89 @@ impl<'a> Codes<'a> {
         ensures ordered { IsOrdered result }
         ensures small { (k : ℕ) → k ≤ 2 → All (IsBelow k) self.now → IsSmallWith k result }
     {
-        let mut span = Span::none();
-        for place in 0..self.len() {
-            span = span.with(self.at(place));
-        }
-        span
+        span_of_words(self.words, self.reserved)
     }
+
+    /// What some of them span: `count` codes from the place `from` on.
+    pub fn span_of(&self, from: usize, count: usize) -> Span
+        requires within { from + count ≤ length self.now }
+        requires place { from + count < 2 ^ 64 }
+        ensures span { IsSpan result (take count (drop from self.now)) }
+        ensures ordered { IsOrdered result }
+        ensures small { (k : ℕ) → k ≤ 2 → All (IsBelow k) (take count (drop from self.now)) → IsSmallWith k result }
+    {
+        let words = self.words;
+        span_of_words(&words[from..from + count], self.reserved)
+    }
+}
+
+/// What the codes of these words span. Where all are numbers only the least and the greatest are looked for.
+fn span_of_words(words: &[u32], reserved: u32) -> Span
+    requires { reserved ≤ 2 }
+    ensures span { IsSpan result (codes_of reserved words.now) }
+    ensures ordered { IsOrdered result }
+    ensures small { (k : ℕ) → k ≤ 2 → All (IsBelow k) (codes_of reserved words.now) → IsSmallWith k result }
+{
+    let (least, greatest) = ends(words);
+    if words.len() == 0 || greatest > u32::MAX - reserved {
+        return span_of_each(words, reserved);
+    }
+    span_between(u64::from(least), u64::from(greatest))
+}
+
+/// The least and the greatest of some words. The first is the greatest word where there is none.
+fn ends(words: &[u32]) -> (u32, u32)
+    ensures least { result.0 ≡ smallest (u32.MAX ∷ words.now) }
+    ensures greatest { result.1 ≡ greatest words.now }
+{
+    let mut least = u32::MAX;
+    let mut most = 0;
+    for word in words {
+        least = lesser(least, *word);
+        most = greater(most, *word);
+    }
+    (least, most)
+}
+
+/// The lesser of two words.
+#[inline(always)]
+fn lesser(one: u32, other: u32) -> u32
+    ensures { result ≡ min one other }
+{
+    if other < one { other } else { one }
+}
+
+/// The greater of two words.
+#[inline(always)]
+fn greater(one: u32, other: u32) -> u32
+    ensures { result ≡ max one other }
+{
+    if one < other { other } else { one }
+}
+
+/// What two numbers span.
+#[inline]
+fn span_between(least: u64, greatest: u64) -> Span
+    ensures span { IsSpan result (Code.Present greatest ∷ Code.Present least ∷ []) }
+    ensures ordered { IsOrdered result }
+{
+    Span::none()
+        .with(Code::Present(least))
+        .with(Code::Present(greatest))
+}
+
+/// What the codes of these words span, each looked at.
+fn span_of_each(words: &[u32], reserved: u32) -> Span
+    requires { reserved ≤ 2 }
+    ensures span { IsSpan result (codes_of reserved words.now) }
+    ensures ordered { IsOrdered result }
+    ensures small { (k : ℕ) → k ≤ 2 → All (IsBelow k) (codes_of reserved words.now) → IsSmallWith k result }
+{
+    let mut span = Span::none();
+    for word in words {
+        span = span.with(code_in(*word, reserved));
+    }
+    span
 }
 
 /// The code that a word stands for.
