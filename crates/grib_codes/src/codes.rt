@@ -13,7 +13,7 @@ use std::marker::Model;
 /// Codes in 32 bits each, of which up to two are reserved for missing points: all bits set for primary missing,
 /// one less for secondary, as in a group of 32 bits (WMO-No. 306, Volume I.2, FM 92 GRIB edition 2, data
 /// template 7.2).
-#[derive(Debug)]
+#[derive(Debug, Drop)]
 pub struct Codes<'a> {
     words: &'a [u32],
     reserved: u32,
@@ -40,6 +40,17 @@ impl<'a> Codes<'a> {
         ensures below { All (IsBelow reserved) result }
     {
         Codes { words, reserved }
+    }
+
+    /// All of them.
+    #[inline(always)]
+    pub fn all(&self) -> Codes<'a>
+        ensures { result ≡ self.now }
+    {
+        Codes {
+            words: self.words,
+            reserved: self.reserved,
+        }
     }
 
     /// How many there are.
@@ -98,18 +109,6 @@ impl<'a> Codes<'a> {
         ensures small { (k : ℕ) → k ≤ 2 → All (IsBelow k) self.now → IsSmallWith k result }
     {
         span_of_words(self.words, self.reserved)
-    }
-
-    /// What some of them span: `count` codes from the place `from` on.
-    pub fn span_of(&self, from: usize, count: usize) -> Span
-        requires within { from + count ≤ length self.now }
-        requires place { from + count < 2 ^ 64 }
-        ensures span { IsSpan result (take count (drop from self.now)) }
-        ensures ordered { IsOrdered result }
-        ensures small { (k : ℕ) → k ≤ 2 → All (IsBelow k) (take count (drop from self.now)) → IsSmallWith k result }
-    {
-        let words = self.words;
-        span_of_words(&words[from..from + count], self.reserved)
     }
 }
 
