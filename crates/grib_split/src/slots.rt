@@ -434,7 +434,8 @@ fn more_at(at: usize, place: usize) -> u32
     ensures is { result ≡ length_to at place - 1 }
     ensures most { result ≤ 64 }
 {
-    ((place + 63 - at % 64) % 64) as u32
+    let start = (at % 64 + 1) % 64;
+    ((place + 64 - start) % 64) as u32
 }
 
 /// The least length after which a cost stands, where the cost after a length stands so far from `at` on, counted
