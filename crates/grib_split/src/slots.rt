@@ -376,22 +376,23 @@ fn width_of_many(spread: u32, reserved: u32) -> Width
     ensures few { result.bits ≤ 32 }
     ensures stays { (result.limit ≤ 1) ⊎ (result.limit + reserved ≤ 2 ^ result.bits) }
 {
-    let bits = digits_of(spread + reserved);
+    let bits = digits_of(spread, reserved);
     Width {
         bits,
         limit: limit_of(bits, reserved),
     }
 }
 
-/// The number of binary digits of a number, 0 for 0. It has one digit less than twice the number and 1, which is
-/// never 0, as the search for its highest digit then need not ask.
+/// The number of binary digits of the sum of two numbers, 0 for 0. It has one digit less than twice the sum and 1,
+/// which is never 0, so that the search for its highest digit need not ask.
 #[inline]
-fn digits_of(number: u32) -> u32
-    ensures is { result ≡ digits number }
+fn digits_of(number: u32, more: u32) -> u32
+    requires { number + more < 2 ^ 32 }
+    ensures is { result ≡ digits (number + more) }
     ensures few { result ≤ 32 }
-    ensures below { number < 2 ^ result }
+    ensures below { number + more < 2 ^ result }
 {
-    63 - (2 * u64::from(number) + 1).leading_zeros()
+    63 - (2 * u64::from(number) + (2 * u64::from(more) + 1)).leading_zeros()
 }
 
 /// The width of a run whose numbers are all the same, or that has none.
@@ -411,7 +412,7 @@ fn width_of_one(least: u32, greatest: u32, primary: u8, secondary: u8, reserved:
         return Width { bits: 0, limit: 1 };
     }
     Width {
-        bits: digits_of(reserved),
+        bits: digits_of(0, reserved),
         limit: 1,
     }
 }
@@ -434,7 +435,8 @@ fn more_at(at: usize, place: usize) -> u32
     ensures is { result ≡ length_to at place - 1 }
     ensures most { result ≤ 64 }
 {
-    ((place + 63 - at % 64) % 64) as u32
+    let start = (at % 64 + 1) % 64;
+    ((place + 64 - start) % 64) as u32
 }
 
 /// The least length after which a cost stands, where the cost after a length stands so far from `at` on, counted

@@ -39,8 +39,10 @@ digits_by number bits small is =
       below = half_below number top t.3;
     })
 
-digits_here : (c : goal.After-from) → Digits c.args.number (63 - count_leading_zeros 64 (2 * c.from.result + 1))
-digits_here c = digits_by c.args.number _ c.ranges.number.fits (ap (λ n. 63 - count_leading_zeros 64 (2 * n + 1)) c.from.ensures)
+digits_here : (c : goal.After-from-2) → Digits (c.args.number + c.args.more) (63 - count_leading_zeros 64 (2 * c.from.result + (2 * c.from-2.result + 1)))
+digits_here c =
+    let twice : 2 * c.from.result + (2 * c.from-2.result + 1) ≡ 2 * (c.args.number + c.args.more) + 1 = omega (arith, c.from.ensures, c.from-2.ensures) in
+    digits_by (c.args.number + c.args.more) _ (omega (arith, c.requires)) (ap (λ n. 63 - count_leading_zeros 64 n) twice)
 
 pub returns-clause-is : goal.returns-clause-is
 returns-clause-is c = (digits_here c).is
