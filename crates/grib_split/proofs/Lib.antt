@@ -15,3 +15,5 @@ pub mod Choices
 pub mod Begin
 pub mod Alike
 pub mod Steadily
+pub mod Narrow
+pub mod Cut

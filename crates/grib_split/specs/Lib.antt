@@ -3,3 +3,4 @@ pub mod Least
 pub mod Runs
 pub mod Costs
 pub mod Alike
+pub mod Bound

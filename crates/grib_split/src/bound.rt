@@ -1,0 +1,88 @@
+//! A quick look at what no grouping goes below.
+
+ghost use Rattle.std.specs.Prelude.{◌≡◌, ℕ, ◌+◌, ◌-◌, ◌<◌, ◌≤◌, List, length, take, drop, All, slice_index};
+ghost use Rattle.grib_packing.specs.Groupings.{IsGrouping, cost_of, width_of};
+ghost use Rattle.grib_packing.specs.Span.{IsTold};
+ghost use Rattle.grib_split.specs.Bound.{NoneTakesFewer};
+ghost use Rattle.grib_split.specs.Costs.{CanSplit, header_of};
+
+use crate::choosing::Costs;
+use grib_codes::Codes;
+use grib_packing::Span;
+
+/// How many codes are looked at by themselves.
+const BLOCK: usize = 8;
+
+/// The bits that a block takes at most, as one group: 44 for its header and 32 for each code.
+const MOST: u32 = 300;
+
+/// How many blocks, at least, tell what all of them may come to.
+const TELLING: usize = 64;
+
+/// Bits that no grouping of these codes into runs of 1 to 64 takes fewer than: a quick look, which ends once `enough`
+/// are known, or where the first codes show that they will hardly be.
+pub fn bits_at_least(codes: &Codes<'_>, costs: &Costs, enough: u64) -> u64
+    requires split { CanSplit costs.now codes.now }
+    requires told { All (IsTold costs.now.reserved) codes.now }
+    ensures { (lengths : List ℕ) → IsGrouping (length codes.now) lengths
+        → result ≤ cost_of (header_of costs.now) (width_of costs.now.reserved) lengths codes.now }
+{
+    let header = costs.reference_bits + costs.width_bits + 6;
+    let blocks = codes.len() / BLOCK;
+    let mut bits = 0;
+    for block in 0..blocks {
+        if bits >= enough || is_hopeless(bits, block, blocks, enough) {
+            return bits;
+        }
+        bits += u64::from(block_bits(codes, block * BLOCK, costs).saturating_sub(header));
+    }
+    bits
+}
+
+/// Whether the first blocks, a sixteenth of all, take so few bits that all of them will hardly take `enough`.
+#[inline]
+fn is_hopeless(bits: u64, done: usize, blocks: usize, enough: u64) -> bool {
+    let telling = (blocks / 16).max(TELLING);
+    done == telling && bits.saturating_mul(blocks as u64) / (telling as u64) < enough
+}
+
+/// Bits that no grouping of the 8 codes from `from` on takes fewer than.
+#[inline]
+fn block_bits(codes: &Codes<'_>, from: usize, costs: &Costs) -> u32
+    requires split { CanSplit costs.now codes.now }
+    requires fits { from + 8 ≤ length codes.now }
+    ensures few { result ≤ 300 }
+    ensures bits { NoneTakesFewer (header_of costs.now) (width_of costs.now.reserved) (take 8 (drop from codes.now)) result }
+{
+    let mut rest = [0; BLOCK + 1];
+    for count in 1..BLOCK + 1 {
+        rest[count] = best_of(codes, from + BLOCK - count, count, costs, &rest);
+    }
+    rest[BLOCK]
+}
+
+/// Bits that no grouping of so many codes from `from` on takes fewer than; `rest` tells such bits for each smaller
+/// count of the last ones of them.
+#[inline]
+fn best_of(codes: &Codes<'_>, from: usize, count: usize, costs: &Costs, rest: &[u32; 9]) -> u32
+    requires split { CanSplit costs.now codes.now }
+    requires some { 1 ≤ count }
+    requires short { count ≤ 8 }
+    requires fits { from + count ≤ length codes.now }
+    requires small { (place : ℕ) → place < 9 → slice_index rest.now place ≤ 300 }
+    requires rest { (l : ℕ) → 1 ≤ l → l ≤ count
+        → NoneTakesFewer (header_of costs.now) (width_of costs.now.reserved) (take (count - l) (drop (from + l) codes.now))
+        (slice_index rest.now (count - l)) }
+    ensures few { result ≤ 300 }
+    ensures bits { NoneTakesFewer (header_of costs.now) (width_of costs.now.reserved) (take count (drop from codes.now)) result }
+{
+    let header = costs.reference_bits + costs.width_bits + 6;
+    let mut span = Span::none();
+    let mut best = MOST;
+    for at in 0..count {
+        span = span.with(codes.at(from + at));
+        let numbers = (at as u32 + 1) * span.width(costs.reserved);
+        best = best.min(header + numbers + rest[count - 1 - at]);
+    }
+    best
+}
