@@ -10,16 +10,18 @@ ghost use Rattle.grib_packing.specs.Span.{IsTold};
 ghost use Rattle.grib_groups.specs.Encoding.{AddsBits, AreGrouped, AreMeasures, AreNumbers, IsNumber, IsPackable, LaysOut, measured_fields, packed_fields};
 
 use crate::Layout;
-use crate::measuring::{Measure, later_measures, next_measure};
+use crate::measuring::{Measure, later_measures, next_of};
+use crate::stretch::Stretch;
 use grib_base::Code;
 use grib_bits::BitWriter;
+use grib_codes::Codes;
 use grib_packing::Span;
 
 /// Writes codes as groups of these lengths: the references, the widths, the lengths less 1 in 6 bits each
 /// and the packed numbers, each of the four padded with zero bits to a whole octet (WMO-No. 306, Volume
 /// I.2, FM 92 GRIB edition 2, data template 7.2). The layout tells the bits of a reference and of a width
 /// and how many codes are reserved for missing points. It takes no memory.
-pub fn encode_groups(codes: &[Code], lengths: &[u32], layout: &Layout, out: &mut BitWriter)
+pub fn encode_groups(codes: &Codes<'_>, lengths: &[u32], layout: &Layout, out: &mut BitWriter)
     requires lays_out { LaysOut layout.now codes.now lengths.now }
     requires most { length codes.now ≤ 33554432 }
     requires whole { length out.old.bits % 8 ≡ 0 }
@@ -32,7 +34,7 @@ pub fn encode_groups(codes: &[Code], lengths: &[u32], layout: &Layout, out: &mut
 /// Writes codes as groups as [`encode_groups`] does, where the references and widths of the first groups are
 /// known: the codes of these groups are read once, and those of the others three times.
 pub fn encode_measured_groups(
-    codes: &[Code],
+    codes: &Codes<'_>,
     lengths: &[u32],
     known: &[Measure],
     layout: &Layout,
@@ -84,7 +86,7 @@ fn put_same(reference: u64, bits: u32, lengths: &[u32], out: &mut BitWriter)
 
 /// Writes the reference of each group.
 fn put_references(
-    codes: &[Code],
+    codes: &Codes<'_>,
     lengths: &[u32],
     known: &[Measure],
     reserved: u32,
@@ -97,11 +99,11 @@ fn put_references(
     requires room { length (padded (fields bits (map (reference_of bits) (runs lengths.now codes.now)))) ≤ out.old.spare }
     ensures { AddsBits out.old out.new (padded (fields bits (map (reference_of bits) (runs lengths.now codes.now)))) }
 {
-    let mut rest = codes;
+    let mut rest = Stretch::of(codes);
     let mut told = known;
     for length in lengths {
         let (run, after) = rest.split_at(*length as usize);
-        let measure = next_measure(told, run, reserved, bits);
+        let measure = next_of(told, &run, reserved, bits);
         out.put(u64::from(measure.reference), bits);
         rest = after;
         told = later_measures(told);
@@ -111,7 +113,7 @@ fn put_references(
 
 /// Writes the width of each group in `bits` bits.
 fn put_widths(
-    codes: &[Code],
+    codes: &Codes<'_>,
     lengths: &[u32],
     known: &[Measure],
     reserved: u32,
@@ -126,11 +128,11 @@ fn put_widths(
     requires room { length (padded (fields bits (map (width_of reserved) (runs lengths.now codes.now)))) ≤ out.old.spare }
     ensures { AddsBits out.old out.new (padded (fields bits (map (width_of reserved) (runs lengths.now codes.now)))) }
 {
-    let mut rest = codes;
+    let mut rest = Stretch::of(codes);
     let mut told = known;
     for length in lengths {
         let (run, after) = rest.split_at(*length as usize);
-        let measure = next_measure(told, run, reserved, reference_bits);
+        let measure = next_of(told, &run, reserved, reference_bits);
         out.put(u64::from(measure.width), bits);
         rest = after;
         told = later_measures(told);
@@ -153,7 +155,7 @@ fn put_lengths(lengths: &[u32], out: &mut BitWriter)
 
 /// Writes the packed numbers of all groups.
 fn put_numbers(
-    codes: &[Code],
+    codes: &Codes<'_>,
     lengths: &[u32],
     known: &[Measure],
     reserved: u32,
@@ -165,12 +167,12 @@ fn put_numbers(
     requires room { length (padded (joined (map (group_fields reserved bits) (runs lengths.now codes.now)))) ≤ out.old.spare }
     ensures { AddsBits out.old out.new (padded (joined (map (group_fields reserved bits) (runs lengths.now codes.now)))) }
 {
-    let mut rest = codes;
+    let mut rest = Stretch::of(codes);
     let mut told = known;
     for length in lengths {
         let (run, after) = rest.split_at(*length as usize);
-        let measure = next_measure(told, run, reserved, bits);
-        put_group(run, measure, reserved, out);
+        let measure = next_of(told, &run, reserved, bits);
+        put_group(&run, measure, reserved, out);
         rest = after;
         told = later_measures(told);
     }
@@ -178,7 +180,7 @@ fn put_numbers(
 }
 
 /// Writes the packed numbers of one group with this reference and width.
-fn put_group(run: &[Code], measure: Measure, reserved: u32, out: &mut BitWriter)
+fn put_group(run: &Stretch<'_>, measure: Measure, reserved: u32, out: &mut BitWriter)
     requires few { measure.width ≤ 32 }
     requires told { All (IsTold reserved) run.now }
     requires codes { 1 ≤ measure.width → All (IsPackable measure.width measure.reference) run.now }
@@ -198,24 +200,32 @@ fn put_group(run: &[Code], measure: Measure, reserved: u32, out: &mut BitWriter)
 }
 
 /// Whether all codes are numbers. Where no code is reserved for missing points they are not looked at.
-fn has_no_mark(run: &[Code], reserved: u32) -> bool
+fn has_no_mark(run: &Stretch<'_>, reserved: u32) -> bool
     requires { All (IsTold reserved) run.now }
     ensures { result ≡ list_all is_present run.now }
 {
     if reserved == 0 {
         return true;
     }
-    for code in run {
-        if !matches!(code, Code::Present(_)) {
+    for done in 0..run.len() {
+        if !is_number(run.at(done)) {
             return false;
         }
     }
     true
 }
 
+/// Whether a code is a number, and no mark.
+#[inline(always)]
+fn is_number(code: Code) -> bool
+    ensures { result ≡ is_present code }
+{
+    matches!(code, Code::Present(_))
+}
+
 /// Writes the packed numbers of a group of this width and reference that has no mark: four at once where they
 /// fit a word, since joining them takes fewer steps than writing each.
-fn put_present(run: &[Code], width: u32, reference: u64, out: &mut BitWriter)
+fn put_present(run: &Stretch<'_>, width: u32, reference: u64, out: &mut BitWriter)
     requires numbers { AreNumbers width reference run.now }
     requires room { length (packed_fields width reference run.now) ≤ out.old.spare }
     ensures { AddsBits out.old out.new (packed_fields width reference run.now) }
@@ -225,14 +235,14 @@ fn put_present(run: &[Code], width: u32, reference: u64, out: &mut BitWriter)
         return;
     }
     let (fours, rest) = run.split_at(run.len() / 4 * 4);
-    put_fours(fours, width, 1 << width, reference, out);
-    put_each(rest, width, reference, out);
+    put_fours(&fours, width, 1 << width, reference, out);
+    put_each(&rest, width, reference, out);
 }
 
 /// Writes the packed numbers of a group that has no mark four at once. The scale is 2 to the width.
 // Not inlined: LLVM would turn products by the scale into shifts by a variable count, which take more steps.
 #[inline(never)]
-fn put_fours(run: &[Code], width: u32, scale: u64, reference: u64, out: &mut BitWriter)
+fn put_fours(run: &Stretch<'_>, width: u32, scale: u64, reference: u64, out: &mut BitWriter)
     requires numbers { AreNumbers width reference run.now }
     requires fours { length run.now % 4 ≡ 0 }
     requires few { width ≤ 16 }
@@ -247,7 +257,7 @@ fn put_fours(run: &[Code], width: u32, scale: u64, reference: u64, out: &mut Bit
 }
 
 /// Writes the packed numbers of a group that has no mark one by one.
-fn put_each(run: &[Code], width: u32, reference: u64, out: &mut BitWriter)
+fn put_each(run: &Stretch<'_>, width: u32, reference: u64, out: &mut BitWriter)
     requires numbers { AreNumbers width reference run.now }
     requires room { length (packed_fields width reference run.now) ≤ out.old.spare }
     ensures { AddsBits out.old out.new (packed_fields width reference run.now) }
@@ -259,11 +269,12 @@ fn put_each(run: &[Code], width: u32, reference: u64, out: &mut BitWriter)
 
 /// The packed numbers of four codes from this place on, as one number.
 #[inline(always)]
-fn four_numbers(run: &[Code], at: usize, width: u32, scale: u64, reference: u64) -> u64
+fn four_numbers(run: &Stretch<'_>, at: usize, width: u32, scale: u64, reference: u64) -> u64
     requires numbers { AreNumbers width reference run.now }
     requires few { width ≤ 16 }
     requires scale { scale ≡ 2 ^ width }
     requires within { at + 4 ≤ length run.now }
+    requires place { at + 4 < 2 ^ 64 }
     ensures are { bits_of (4 * width) result ≡ packed_fields width reference (take 4 (drop at run.now)) }
     ensures fits { result < 2 ^ (4 * width) }
 {
@@ -273,11 +284,12 @@ fn four_numbers(run: &[Code], at: usize, width: u32, scale: u64, reference: u64)
 
 /// The packed numbers of two codes from this place on, as one number.
 #[inline(always)]
-fn two_numbers(run: &[Code], at: usize, width: u32, scale: u64, reference: u64) -> u64
+fn two_numbers(run: &Stretch<'_>, at: usize, width: u32, scale: u64, reference: u64) -> u64
     requires numbers { AreNumbers width reference run.now }
     requires few { width ≤ 16 }
     requires scale { scale ≡ 2 ^ width }
     requires within { at + 2 ≤ length run.now }
+    requires place { at + 2 < 2 ^ 64 }
     ensures are { bits_of (2 * width) result ≡ packed_fields width reference (take 2 (drop at run.now)) }
     ensures fits { result < 2 ^ (2 * width) }
 {
@@ -287,28 +299,28 @@ fn two_numbers(run: &[Code], at: usize, width: u32, scale: u64, reference: u64) 
 
 /// The packed number of a code that is no mark.
 #[inline(always)]
-fn number_at(run: &[Code], at: usize, width: u32, reference: u64) -> u64
+fn number_at(run: &Stretch<'_>, at: usize, width: u32, reference: u64) -> u64
     requires within { at < length run.now }
     requires codes { All (IsNumber width reference) run.now }
     ensures is { result ≡ packed_number width reference (get_or run.now at Primary) }
     ensures fits { result < 2 ^ width }
 {
-    match run[at] {
+    match run.at(at) {
         Code::Present(number) => number - reference,
         Code::Primary | Code::Secondary => unreachable!(),
     }
 }
 
 /// Writes the packed numbers of a group of this width and reference that may have marks.
-fn put_codes(run: &[Code], width: u32, reference: u64, out: &mut BitWriter)
+fn put_codes(run: &Stretch<'_>, width: u32, reference: u64, out: &mut BitWriter)
     requires some { 1 ≤ width }
     requires few { width ≤ 32 }
     requires codes { All (IsPackable width reference) run.now }
     requires room { length (packed_fields width reference run.now) ≤ out.old.spare }
     ensures { AddsBits out.old out.new (packed_fields width reference run.now) }
 {
-    for code in run {
-        out.put(packed(*code, width, reference), width);
+    for done in 0..run.len() {
+        out.put(packed(run.at(done), width, reference), width);
     }
 }
 

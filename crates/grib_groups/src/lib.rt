@@ -12,6 +12,7 @@ mod lists;
 mod measuring;
 mod numbers;
 mod run;
+mod stretch;
 mod table;
 mod taker;
 

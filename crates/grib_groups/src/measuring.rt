@@ -5,8 +5,8 @@ ghost use Rattle.grib_packing.specs.Groupings.{IsGrouping, runs};
 ghost use Rattle.grib_packing.specs.Span.{IsBelow};
 ghost use Rattle.grib_groups.specs.Encoding.{AreMeasures, IsMeasure};
 
-use grib_base::Code;
-use grib_packing::Span;
+use crate::stretch::Stretch;
+use grib_codes::Codes;
 use std::alloc::{AllocError, Global};
 
 /// What the codes of a group come to.
@@ -21,14 +21,25 @@ pub struct Measure {
 impl Measure {
     /// The measure of a group with these codes, where `reserved` codes are kept for missing points and a
     /// reference has `bits` bits.
-    pub fn of(run: &[Code], reserved: u32, bits: u32) -> Measure
+    pub fn of(run: &Codes<'_>, reserved: u32, bits: u32) -> Measure
         requires reserved { reserved ≤ 2 }
         requires few { bits ≤ 32 }
         requires codes { All (IsBelow reserved) run.now }
         ensures is { IsMeasure reserved bits result run.now }
         ensures narrow { result.width ≤ 32 }
     {
-        let span = Span::of(run);
+        Measure::of_stretch(&Stretch::of(run), reserved, bits)
+    }
+
+    /// The measure of a group with the codes of this stretch, as [`Measure::of`] has it.
+    pub(crate) fn of_stretch(run: &Stretch<'_>, reserved: u32, bits: u32) -> Measure
+        requires reserved { reserved ≤ 2 }
+        requires few { bits ≤ 32 }
+        requires codes { All (IsBelow reserved) run.now }
+        ensures is { IsMeasure reserved bits result run.now }
+        ensures narrow { result.width ≤ 32 }
+    {
+        let span = run.span();
         Measure {
             reference: span.reference(bits) as u32,
             width: span.width(reserved) as u8,
@@ -43,7 +54,7 @@ impl Measure {
 /// There is no memory for them.
 pub fn measures_of(
     alloc: Global,
-    codes: &[Code],
+    codes: &Codes<'_>,
     lengths: &[u32],
     reserved: u32,
     bits: u32,
@@ -56,17 +67,28 @@ pub fn measures_of(
     ensures count { IfOk result (λ measures. length measures.items ≡ length lengths.now) }
 {
     let mut measures = Vec::with_capacity(alloc, lengths.len())?;
-    let mut rest = codes;
+    let mut rest = Stretch::of(codes);
     for length in lengths {
         let (run, after) = rest.split_at(*length as usize);
-        measures.push(Measure::of(run, reserved, bits))?;
+        measures.push(Measure::of_stretch(&run, reserved, bits))?;
         rest = after;
     }
     Ok(measures)
 }
 
 /// The measure of the next group: the first of those that are known, if there is one.
-pub fn next_measure(known: &[Measure], run: &[Code], reserved: u32, bits: u32) -> Measure
+pub fn next_measure(known: &[Measure], run: &Codes<'_>, reserved: u32, bits: u32) -> Measure
+    requires reserved { reserved ≤ 2 }
+    requires few { bits ≤ 32 }
+    requires codes { All (IsBelow reserved) run.now }
+    requires known { AreMeasures reserved bits known.now (run.now ∷ []) }
+    ensures { IsMeasure reserved bits result run.now }
+{
+    next_of(known, &Stretch::of(run), reserved, bits)
+}
+
+/// The measure of the next group, which has the codes of this stretch, as [`next_measure`] has it.
+pub(crate) fn next_of(known: &[Measure], run: &Stretch<'_>, reserved: u32, bits: u32) -> Measure
     requires reserved { reserved ≤ 2 }
     requires few { bits ≤ 32 }
     requires codes { All (IsBelow reserved) run.now }
@@ -75,7 +97,7 @@ pub fn next_measure(known: &[Measure], run: &[Code], reserved: u32, bits: u32) -
 {
     match known.first() {
         Some(measure) => *measure,
-        None => Measure::of(run, reserved, bits),
+        None => Measure::of_stretch(run, reserved, bits),
     }
 }
 

@@ -3,6 +3,6 @@ use Rattle.grib_packing.specs.Packed.{fields, packed_number}
 use Rattle.grib_packing.proofs.Left.{Left}
 use Rattle.grib_groups.proofs.encoding.put_codes.Given as goal
 
-abbrev pub invariant-loop-code : goal.invariant-loop-code
-invariant-loop-code l =
-    Left l.initial.out l.out (fields l.width (map (packed_number l.width l.reference) l.run)) (fields l.width (map (packed_number l.width l.reference) (drop l.code-index l.run)))
+abbrev pub invariant-loop-done : goal.invariant-loop-done
+invariant-loop-done l =
+    Left l.initial.out l.out (fields l.width (map (packed_number l.width l.reference) l.run)) (fields l.width (map (packed_number l.width l.reference) (drop l.done l.run)))

@@ -7,24 +7,24 @@ use Rattle.grib_groups.proofs.encoding.put_present.Goals as goal
 pub put_fours-requires-clause-room : goal.put_fours-requires-clause-room
 put_fours-requires-clause-room c =
     let f = packed_number c.args.width c.args.reference in
-    let parts = parts_joined c.args.width (packed_number c.args.width c.args.reference) c.args.run.now c.split_at.result.0.now c.split_at.result.1.now _ c.split_at.ensures.front c.split_at.ensures.back in
-    omega (arith, c.requires.room, ap length parts, length-append (fields c.args.width (map f c.split_at.result.0.now)) (fields c.args.width (map f c.split_at.result.1.now)))
+    let parts = parts_joined c.args.width (packed_number c.args.width c.args.reference) c.args.run.now c.split_at-fours.result.0 c.split_at-fours.result.1 _ c.split_at-fours.ensures.front c.split_at-fours.ensures.back in
+    omega (arith, c.requires.room, ap length parts, length-append (fields c.args.width (map f c.split_at-fours.result.0)) (fields c.args.width (map f c.split_at-fours.result.1)))
 
 pub put_each-requires-2-clause-room : goal.put_each-requires-2-clause-room
 put_each-requires-2-clause-room c =
     let f = packed_number c.args.width c.args.reference in
-    let parts = parts_joined c.args.width (packed_number c.args.width c.args.reference) c.args.run.now c.split_at.result.0.now c.split_at.result.1.now _ c.split_at.ensures.front c.split_at.ensures.back in
-    omega (arith, c.requires.room, ap length parts, length-append (fields c.args.width (map f c.split_at.result.0.now)) (fields c.args.width (map f c.split_at.result.1.now)), c.put_fours.ensures.spare)
+    let parts = parts_joined c.args.width (packed_number c.args.width c.args.reference) c.args.run.now c.split_at-fours.result.0 c.split_at-fours.result.1 _ c.split_at-fours.ensures.front c.split_at-fours.ensures.back in
+    omega (arith, c.requires.room, ap length parts, length-append (fields c.args.width (map f c.split_at-fours.result.0)) (fields c.args.width (map f c.split_at-fours.result.1)), c.put_fours.ensures.spare)
 
 pub returns : goal.returns
 returns c =
     let f = packed_number c.args.width c.args.reference in
-    let parts = parts_joined c.args.width (packed_number c.args.width c.args.reference) c.args.run.now c.split_at.result.0.now c.split_at.result.1.now _ c.split_at.ensures.front c.split_at.ensures.back in
+    let parts = parts_joined c.args.width (packed_number c.args.width c.args.reference) c.args.run.now c.split_at-fours.result.0 c.split_at-fours.result.1 _ c.split_at-fours.ensures.front c.split_at-fours.ensures.back in
     record {
       bits =
           c.put_each-2.ensures.bits
-          ∙ ap (λ xs. xs ++ fields c.args.width (map f c.split_at.result.1.now)) c.put_fours.ensures.bits
-          ∙ append_assoc c.args.out.now.bits (fields c.args.width (map f c.split_at.result.0.now)) (fields c.args.width (map f c.split_at.result.1.now))
+          ∙ ap (λ xs. xs ++ fields c.args.width (map f c.split_at-fours.result.1)) c.put_fours.ensures.bits
+          ∙ append_assoc c.args.out.now.bits (fields c.args.width (map f c.split_at-fours.result.0)) (fields c.args.width (map f c.split_at-fours.result.1))
           ∙ ap (λ xs. c.args.out.now.bits ++ xs) (sym parts);
-      spare = omega (arith, ap length parts, length-append (fields c.args.width (map f c.split_at.result.0.now)) (fields c.args.width (map f c.split_at.result.1.now)), c.put_fours.ensures.spare, c.put_each-2.ensures.spare);
+      spare = omega (arith, ap length parts, length-append (fields c.args.width (map f c.split_at-fours.result.0)) (fields c.args.width (map f c.split_at-fours.result.1)), c.put_fours.ensures.spare, c.put_each-2.ensures.spare);
     }
