@@ -7,6 +7,7 @@
 //! - `no-numbers` and `no-groups`: there is room for the numbers or for the groups, and nothing is written.
 
 ghost use Rattle.std.specs.Prelude.{◌≡◌, ◌+◌, ◌*◌, ◌^◌, ◌<◌, ◌≤◌, length, All, IfOk};
+ghost use Rattle.grib_codes.specs.Words.{codes_of};
 ghost use Rattle.grib_packing.specs.Groupings.{runs};
 ghost use Rattle.grib_packing.specs.Span.{IsTold};
 ghost use Rattle.grib_groups.specs.Encoding.{AreMeasures, LaysOut};
@@ -15,8 +16,9 @@ use crate::random::Random;
 use anyhow::{Context, Result, ensure};
 use grib_base::Code;
 use grib_bits::BitWriter;
+use grib_codes::{Codes, word_of};
 use grib_groups::{Layout, Measure, encode_groups, encode_measured_groups, measures_of};
-use grib_packing::{Span, bit_length};
+use grib_packing::bit_length;
 use grib_split::fewest_lengths;
 use std::alloc::{AllocError, Global};
 use std::env::Args;
@@ -78,7 +80,8 @@ fn written_sum(alloc: Global, writing: Writing, count: u32, width: u32) -> Resul
     ensure!(count >= 1 && count <= 33_554_432, "1 to 33,554,432 numbers");
     ensure!(width >= 1 && width <= 24, "1 to 24 bits");
     let numbers = random_numbers(alloc, count, width)?;
-    let codes = codes_of(alloc, &numbers)?;
+    let words = words_of(alloc, &numbers)?;
+    let codes = Codes::of(&words, 0);
     let groups = groups_of(alloc, &codes)?;
     let mut sum = 0u64;
     for _pass in 0..PASSES {
@@ -110,21 +113,21 @@ fn random_numbers(alloc: Global, count: u32, width: u32) -> Result<Vec<u64>, All
     Ok(numbers)
 }
 
-/// The codes of these numbers.
-fn codes_of(alloc: Global, numbers: &[u64]) -> Result<Vec<Code>, AllocError>
+/// The words of these numbers, where no code is reserved for missing points.
+fn words_of(alloc: Global, numbers: &[u64]) -> Result<Vec<u32>, AllocError>
     requires { All (λ n. n < 2 ^ 32) numbers.now }
-    ensures told { IfOk result (λ codes. All (IsTold 0) codes.items) }
-    ensures count { IfOk result (λ codes. length codes.items ≡ length numbers.now) }
+    ensures told { IfOk result (λ words. All (IsTold 0) (codes_of 0 words.items)) }
+    ensures count { IfOk result (λ words. length words.items ≡ length numbers.now) }
 {
-    let mut codes = Vec::with_capacity(alloc, numbers.len())?;
+    let mut words = Vec::with_capacity(alloc, numbers.len())?;
     for number in numbers {
-        codes.push(Code::Present(*number))?;
+        words.push(word_of(Code::Present(*number)))?;
     }
-    Ok(codes)
+    Ok(words)
 }
 
 /// The groups of these codes.
-fn groups_of(alloc: Global, codes: &[Code]) -> Result<Groups, AllocError>
+fn groups_of(alloc: Global, codes: &Codes<'_>) -> Result<Groups, AllocError>
     requires some { 1 ≤ length codes.now }
     requires most { length codes.now ≤ 33554432 }
     requires codes { All (IsTold 0) codes.now }
@@ -132,7 +135,7 @@ fn groups_of(alloc: Global, codes: &[Code]) -> Result<Groups, AllocError>
     ensures known { IfOk result (λ groups.
         AreMeasures groups.layout.management groups.layout.reference_bits groups.measures.items (runs groups.lengths.items codes.now)) }
 {
-    let span = Span::of(codes);
+    let span = codes.span();
     let reference_bits = span.reference_bits(0);
     let width_bits = bit_length(u64::from(span.width(0)));
     let lengths = fewest_lengths(alloc, codes.len() as u32)?;
@@ -179,7 +182,7 @@ fn numbers_written(
 fn groups_written(
     alloc: Global,
     writing: Writing,
-    codes: &[Code],
+    codes: &Codes<'_>,
     groups: &Groups,
 ) -> Result<Vec<u8>, AllocError>
     requires lays_out { LaysOut groups.now.layout codes.now groups.now.lengths.items }

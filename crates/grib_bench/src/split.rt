@@ -3,12 +3,13 @@
 //! The arguments are the kind of field, `differences`, `smooth`, `noise`, `missing` or `still`, how many codes
 //! it has, and how many times its groups are chosen.
 
-ghost use Rattle.std.specs.Prelude.{◌≡◌, ◌+◌, ◌<◌, ◌≤◌, ◌^◌, length, vec_len, All, IfOk};
+ghost use Rattle.std.specs.Prelude.{◌≡◌, ◌+◌, ◌<◌, ◌≤◌, ◌^◌, length, vec_len, IfOk};
 ghost use Rattle.grib_packing.specs.Span.{IsBelow};
 
 use crate::random::Random;
 use anyhow::{Context, Result, ensure};
 use grib_base::Code;
+use grib_codes::{Codes, word_of};
 use grib_split::{Costs, least_choices};
 use std::alloc::{AllocError, Global};
 use std::env::Args;
@@ -20,11 +21,11 @@ pub fn measure(alloc: Global, arguments: &mut Args) -> Result<u64> {
     let passes: u32 = arguments.next().context("a number of passes")?.parse()?;
     let kind = Kind::of(word.as_str()).context("no such kind of field")?;
     ensure!(1 <= count && count <= 33_554_432, "1 to 33,554,432 codes");
-    let codes = codes_of(alloc, kind, count)?;
-    let mut choices = vec![in alloc; 0u8; codes.len()]?;
+    let words = words_of(alloc, kind, count)?;
+    let mut choices = vec![in alloc; 0u8; words.len()]?;
     let mut sum = 0u64;
     for _pass in 0..passes {
-        sum = sum.wrapping_add(choice_sum(&codes, &mut choices));
+        sum = sum.wrapping_add(choice_sum(&words, &mut choices));
     }
     Ok(sum)
 }
@@ -60,7 +61,7 @@ impl Kind {
 
 /// The code at a place, from some random bits.
 fn code_at(kind: Kind, place: u32, random: u32) -> Code
-    ensures { IsBelow 1 result }
+    ensures { IsBelow 0 result }
 {
     match kind {
         Kind::Differences => {
@@ -81,31 +82,29 @@ fn code_at(kind: Kind, place: u32, random: u32) -> Code
 }
 
 /// The codes of a field of this kind.
-fn codes_of(alloc: Global, kind: Kind, count: u32) -> Result<Vec<Code>, AllocError>
-    ensures long { IfOk result (λ codes. vec_len codes ≡ count) }
-    ensures small { IfOk result (λ codes. All (IsBelow 1) codes.items) }
+fn words_of(alloc: Global, kind: Kind, count: u32) -> Result<Vec<u32>, AllocError>
+    ensures { IfOk result (λ words. vec_len words ≡ count) }
 {
-    let mut codes = Vec::with_capacity(alloc, count as usize)?;
+    let mut words = Vec::with_capacity(alloc, count as usize)?;
     let mut random = Random::of(1);
     for place in 0..count {
-        codes.push(code_at(kind, place, random.next()))?;
+        words.push(word_of(code_at(kind, place, random.next())))?;
     }
-    Ok(codes)
+    Ok(words)
 }
 
 /// The sum of the choices, each times its place.
-fn choice_sum(codes: &[Code], choices: &mut [u8]) -> u64
-    requires some { 1 ≤ length codes.now }
-    requires most { length codes.now ≤ 33554432 }
-    requires codes { All (IsBelow 1) codes.now }
-    requires same { length choices.old ≡ length codes.now }
+fn choice_sum(words: &[u32], choices: &mut [u8]) -> u64
+    requires some { 1 ≤ length words.now }
+    requires most { length words.now ≤ 33554432 }
+    requires same { length choices.old ≡ length words.now }
 {
     let costs = Costs {
         reserved: 1,
         reference_bits: 15,
         width_bits: 4,
     };
-    least_choices(codes, &costs, choices);
+    least_choices(&Codes::of(words, costs.reserved), &costs, choices);
     let mut sum = 0u64;
     for place in 0..choices.len() {
         let more = u64::from(choices[place]).wrapping_mul(place as u64);

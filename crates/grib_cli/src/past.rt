@@ -8,6 +8,7 @@ ghost use Rattle.grib_stream.specs.Outcomes.{is_broken, is_cut_short};
 ghost use Rattle.grib_stream.specs.declared.outcome.Outcome.TheVariants.{Memory};
 ghost use Rattle.grib_passing.specs.Deeds.{outside};
 ghost use Rattle.grib_passing_law.specs.Leaving.{JudgesPast, LeavesPast};
+ghost use Rattle.grib_passing_law.specs.Shelved.{LeavesPartsPast};
 ghost use Rattle.grib_answers.specs.Closing.{StandsWhole};
 ghost use Rattle.grib_answers.specs.Outcomes.{note_of};
 ghost use Rattle.grib_tasks.specs.Passing.{ServesPassing, StandsBehind};
@@ -19,7 +20,9 @@ use crate::plain::outcome_of;
 use crate::words::job_of;
 use grib_engine::{Outcome, Passing, close_with_note, serve_passing};
 use grib_io::{Shelf, Sink, Source};
-use grib_passing_law::laws::{each_item_is_judged, what_a_run_past_others_leaves};
+use grib_passing_law::laws::{
+    each_item_is_judged, what_a_run_past_others_leaves, what_split_leaves_past_others,
+};
 use std::alloc::Global;
 
 /// Does what the words ask for, and goes past what is refused or kept, as `passing` says.
@@ -40,6 +43,10 @@ pub(crate) fn run_past<S: Source, T: Sink, N: Sink, H: Shelf>(
         IfSome (S.left input.old) (JudgesPast passing)) }
     ensures fields { is_broken result ≡ false → IfOk (asked.job_of (map string_bytes words.now)) (λ job.
         LeavesPast job passing result (S.left input.old)
+        (outside (world (T.contents output.old) (H.contents shelf.old)) (N.contents notes.old))
+        (outside (world (T.contents output.new) (H.contents shelf.new)) (N.contents notes.new))) }
+    ensures parts { IfOk (asked.job_of (map string_bytes words.now)) (λ job.
+        LeavesPartsPast job passing result (S.left input.old) (S.left input.new)
         (outside (world (T.contents output.old) (H.contents shelf.old)) (N.contents notes.old))
         (outside (world (T.contents output.new) (H.contents shelf.new)) (N.contents notes.new))) }
     ensures stands { IfOk (asked.job_of (map string_bytes words.now)) (λ job.
@@ -64,6 +71,7 @@ pub(crate) fn run_past<S: Source, T: Sink, N: Sink, H: Shelf>(
 {
     each_item_is_judged();
     what_a_run_past_others_leaves();
+    what_split_leaves_past_others();
     match job_of(alloc, words) {
         Ok(job) => serve_passing(alloc, &job, passing, input, output, notes, shelf),
         Err(fault) => close_with_note(alloc, outcome_of(fault), b"", output, notes),

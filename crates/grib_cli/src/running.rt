@@ -15,6 +15,7 @@ ghost use Rattle.grib_run_law.specs.Leaving.{LeavesFields, LeavesParts};
 ghost use Rattle.grib_answers.specs.Outcomes.{note_of, NotesFront};
 ghost use Rattle.grib_passing.specs.Deeds.{outside};
 ghost use Rattle.grib_passing_law.specs.Leaving.{JudgesPast, LeavesPast};
+ghost use Rattle.grib_passing_law.specs.Shelved.{LeavesPartsPast};
 ghost use Rattle.grib_tasks.specs.Serving.{RunsJob, NotesJob, NotesJobFront, RefusedJob};
 ghost use Rattle.grib_tasks.specs.Passing.{ServesPassing, StandsBehind};
 ghost use Rattle.grib_tasks.specs.Tasks.{work_of, makes, reads_table, uses_shelf};
@@ -131,11 +132,15 @@ pub fn run<S: Source, T: Sink, N: Sink, H: Shelf>(
         H.contents H.faults passing (work_of job) result input.old input.new output.old output.new
         notes.old notes.new shelf.old shelf.new) }
     // Each item that is gone past or answered is judged by the grammar, and what is written keeps the values of the points,
-    // or the columns of the fields.
+    // or the columns of the fields. Where the run is one of `split`, whole fields stand under their names, however it ended.
     ensures passes_judged { asked.IfPassing (map string_bytes words.now) (λ job passing.
         IfSome (S.left input.old) (JudgesPast passing)) }
     ensures passes_fields { is_broken result ≡ false → asked.IfPassing (map string_bytes words.now) (λ job passing.
         LeavesPast job passing result (S.left input.old)
+        (outside (world (T.contents output.old) (H.contents shelf.old)) (N.contents notes.old))
+        (outside (world (T.contents output.new) (H.contents shelf.new)) (N.contents notes.new))) }
+    ensures passes_parts { asked.IfPassing (map string_bytes words.now) (λ job passing.
+        LeavesPartsPast job passing result (S.left input.old) (S.left input.new)
         (outside (world (T.contents output.old) (H.contents shelf.old)) (N.contents notes.old))
         (outside (world (T.contents output.new) (H.contents shelf.new)) (N.contents notes.new))) }
     ensures passes_stand { asked.IfPassing (map string_bytes words.now) (λ job passing.

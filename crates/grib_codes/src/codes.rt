@@ -1,8 +1,9 @@
 //! Codes in 32 bits each.
 
-ghost use Rattle.std.specs.Prelude.{◌≡◌, ℕ, ◌≤◌, ◌<◌, ◌^◌, length, take, drop, get_or, true, All};
+ghost use Rattle.std.specs.Prelude.{◌≡◌, ℕ, ◌+◌, ◌≤◌, ◌<◌, ◌^◌, ◌∷◌, [], length, take, drop, get_or, max, min, true, All};
 ghost use Rattle.grib_base.specs.declared.code.Code as code_io;
 ghost use Rattle.grib_codes.specs.Words.{code_of, codes_of};
+ghost use Rattle.grib_packing.specs.Groupings.{greatest, smallest};
 ghost use Rattle.grib_packing.specs.Span.{IsBelow, IsOrdered, IsSmallWith, IsSpan, IsTold};
 
 use grib_base::Code;
@@ -12,7 +13,7 @@ use std::marker::Model;
 /// Codes in 32 bits each, of which up to two are reserved for missing points: all bits set for primary missing,
 /// one less for secondary, as in a group of 32 bits (WMO-No. 306, Volume I.2, FM 92 GRIB edition 2, data
 /// template 7.2).
-#[derive(Debug)]
+#[derive(Debug, Drop)]
 pub struct Codes<'a> {
     words: &'a [u32],
     reserved: u32,
@@ -35,9 +36,21 @@ impl<'a> Codes<'a> {
     #[inline]
     pub fn of(words: &'a [u32], reserved: u32) -> Codes<'a>
         requires { reserved ≤ 2 }
-        ensures { result ≡ codes_of reserved words.now }
+        ensures is { result ≡ codes_of reserved words.now }
+        ensures below { All (IsBelow reserved) result }
     {
         Codes { words, reserved }
+    }
+
+    /// All of them.
+    #[inline(always)]
+    pub fn all(&self) -> Codes<'a>
+        ensures { result ≡ self.now }
+    {
+        Codes {
+            words: self.words,
+            reserved: self.reserved,
+        }
     }
 
     /// How many there are.
@@ -95,12 +108,77 @@ impl<'a> Codes<'a> {
         ensures ordered { IsOrdered result }
         ensures small { (k : ℕ) → k ≤ 2 → All (IsBelow k) self.now → IsSmallWith k result }
     {
-        let mut span = Span::none();
-        for place in 0..self.len() {
-            span = span.with(self.at(place));
-        }
-        span
+        span_of_words(self.words, self.reserved)
     }
+}
+
+/// What the codes of these words span. Where all are numbers only the least and the greatest are looked for.
+fn span_of_words(words: &[u32], reserved: u32) -> Span
+    requires { reserved ≤ 2 }
+    ensures span { IsSpan result (codes_of reserved words.now) }
+    ensures ordered { IsOrdered result }
+    ensures small { (k : ℕ) → k ≤ 2 → All (IsBelow k) (codes_of reserved words.now) → IsSmallWith k result }
+{
+    let (least, greatest) = ends(words);
+    if words.len() == 0 || greatest > u32::MAX - reserved {
+        return span_of_each(words, reserved);
+    }
+    span_between(u64::from(least), u64::from(greatest))
+}
+
+/// The least and the greatest of some words. The first is the greatest word where there is none.
+fn ends(words: &[u32]) -> (u32, u32)
+    ensures least { result.0 ≡ smallest (u32.MAX ∷ words.now) }
+    ensures greatest { result.1 ≡ greatest words.now }
+{
+    let mut least = u32::MAX;
+    let mut most = 0;
+    for word in words {
+        least = lesser(least, *word);
+        most = greater(most, *word);
+    }
+    (least, most)
+}
+
+/// The lesser of two words.
+#[inline(always)]
+fn lesser(one: u32, other: u32) -> u32
+    ensures { result ≡ min one other }
+{
+    if other < one { other } else { one }
+}
+
+/// The greater of two words.
+#[inline(always)]
+fn greater(one: u32, other: u32) -> u32
+    ensures { result ≡ max one other }
+{
+    if one < other { other } else { one }
+}
+
+/// What two numbers span.
+#[inline]
+fn span_between(least: u64, greatest: u64) -> Span
+    ensures span { IsSpan result (Code.Present greatest ∷ Code.Present least ∷ []) }
+    ensures ordered { IsOrdered result }
+{
+    Span::none()
+        .with(Code::Present(least))
+        .with(Code::Present(greatest))
+}
+
+/// What the codes of these words span, each looked at.
+fn span_of_each(words: &[u32], reserved: u32) -> Span
+    requires { reserved ≤ 2 }
+    ensures span { IsSpan result (codes_of reserved words.now) }
+    ensures ordered { IsOrdered result }
+    ensures small { (k : ℕ) → k ≤ 2 → All (IsBelow k) (codes_of reserved words.now) → IsSmallWith k result }
+{
+    let mut span = Span::none();
+    for word in words {
+        span = span.with(code_in(*word, reserved));
+    }
+    span
 }
 
 /// The code that a word stands for.

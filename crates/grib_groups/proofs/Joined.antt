@@ -1,5 +1,5 @@
 -- Packed numbers of a group that are written several at once.
-use Rattle.std.proofs.Common.{◌≡◌, ℕ, suc, ◌+◌, ◌*◌, ◌^◌, ◌<◌, ◌≤◌, Bool, true, pow_mono, List, [], ◌∷◌, ◌++◌, length, take, drop, get_or, map, All, refl, sym, ap, ap₂, ◌∙◌, arith, append_assoc, drop-cons}
+use Rattle.std.proofs.Common.{◌≡◌, ℕ, suc, ◌+◌, ◌*◌, ◌^◌, ◌<◌, ◌≤◌, Bool, true, pow_mono, List, [], ◌∷◌, ◌++◌, length, take, drop, get_or, map, All, refl, sym, ap, ap₂, ◌∙◌, arith, append_assoc, drop-cons, add-mul, mul_comm}
 use Rattle.std.specs.List.{list_all}
 use Rattle.std.proofs.Math.Seq.{take-add}
 use Rattle.std.proofs.lemmas.Nat.{mul-add-lt, pow-add}
@@ -91,32 +91,32 @@ module _ (w : ℕ) (f : Code → ℕ) (run : List Code) (at : ℕ) where
       ∙ sym (fields-append w f two more)
       ∙ ap (λ codes. fields w (map f codes)) both
 
--- ---- four more are written
+-- ---- some more are written at once
 
-module _ (w : ℕ) (f : Code → ℕ) (run : List Code) (done : ℕ) where
-  next_four : (number : ℕ) → bits_of (4 * w) number ≡ fields w (map f (take 4 (drop (4 * done) run)))
-      → fields w (map f (drop (4 * done) run)) ≡ bits_of (4 * w) number ++ fields w (map f (drop (4 * (done + 1)) run))
-  next_four number is =
-      let rest = drop (4 * done) run in
-      let next : 4 * done + 4 ≡ 4 * (done + 1) = omega arith in
-      ap (λ codes. fields w (map f codes)) (sym (take-append-drop 4 rest))
-      ∙ fields-append w f (take 4 rest) (drop 4 rest)
-      ∙ ap₂ (λ (xs : List Bool) (codes : List Code). xs ++ fields w (map f codes)) (sym is) (drop-drop 4 (4 * done) run ∙ ap (λ (k : ℕ). drop k run) next)
+module _ (w : ℕ) (f : Code → ℕ) (run : List Code) (k done : ℕ) where
+  next_few : (number : ℕ) → bits_of (k * w) number ≡ fields w (map f (take k (drop (k * done) run)))
+      → fields w (map f (drop (k * done) run)) ≡ bits_of (k * w) number ++ fields w (map f (drop (k * (done + 1)) run))
+  next_few number is =
+      let rest = drop (k * done) run in
+      let next : k * done + k ≡ k * (done + 1) = omega (arith, mul_comm k done, mul_comm k (done + 1), add-mul done 1 k) in
+      ap (λ codes. fields w (map f codes)) (sym (take-append-drop k rest))
+      ∙ fields-append w f (take k rest) (drop k rest)
+      ∙ ap₂ (λ (xs : List Bool) (codes : List Code). xs ++ fields w (map f codes)) (sym is) (drop-drop k (k * done) run ∙ ap (λ (j : ℕ). drop j run) next)
 
-  pub four_room : (start now : Written) (whole : List Bool) (number : ℕ) → bits_of (4 * w) number ≡ fields w (map f (take 4 (drop (4 * done) run)))
-      → Left start now whole (fields w (map f (drop (4 * done) run))) → length whole ≤ start.spare → 4 * w ≤ now.spare
-  four_room start now whole number is so_far room =
-      let next = left_room start now whole (bits_of (4 * w) number) _ _ (next_four number is) so_far room in
-      omega (arith, next, length-bits_of (4 * w) number)
+  pub few_room : (start now : Written) (whole : List Bool) (number : ℕ) → bits_of (k * w) number ≡ fields w (map f (take k (drop (k * done) run)))
+      → Left start now whole (fields w (map f (drop (k * done) run))) → length whole ≤ start.spare → k * w ≤ now.spare
+  few_room start now whole number is so_far room =
+      let next = left_room start now whole (bits_of (k * w) number) _ _ (next_few number is) so_far room in
+      omega (arith, next, length-bits_of (k * w) number)
 
-  pub four_more : (start now after : Written) (whole : List Bool) (number : ℕ) → bits_of (4 * w) number ≡ fields w (map f (take 4 (drop (4 * done) run)))
-      → Left start now whole (fields w (map f (drop (4 * done) run))) → after.bits ≡ now.bits ++ bits_of (4 * w) number → after.spare + 4 * w ≡ now.spare
-      → Left start after whole (fields w (map f (drop (4 * (done + 1)) run)))
-  four_more start now after whole number is so_far bits spare =
-      left_more start now after whole (bits_of (4 * w) number) _ _ (next_four number is) so_far bits (omega (arith, spare, length-bits_of (4 * w) number))
+  pub few_more : (start now after : Written) (whole : List Bool) (number : ℕ) → bits_of (k * w) number ≡ fields w (map f (take k (drop (k * done) run)))
+      → Left start now whole (fields w (map f (drop (k * done) run))) → after.bits ≡ now.bits ++ bits_of (k * w) number → after.spare + k * w ≡ now.spare
+      → Left start after whole (fields w (map f (drop (k * (done + 1)) run)))
+  few_more start now after whole number is so_far bits spare =
+      left_more start now after whole (bits_of (k * w) number) _ _ (next_few number is) so_far bits (omega (arith, spare, length-bits_of (k * w) number))
 
-  pub no_codes : length run ≤ 4 * done → fields w (map f (drop (4 * done) run)) ≡ []
-  no_codes past = ap (λ codes. fields w (map f codes)) (drop_all (4 * done) run past)
+  pub no_codes : length run ≤ k * done → fields w (map f (drop (k * done) run)) ≡ []
+  no_codes past = ap (λ codes. fields w (map f codes)) (drop_all (k * done) run past)
 
 -- ---- the first numbers and then the others
 

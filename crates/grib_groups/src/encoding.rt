@@ -10,8 +10,7 @@ ghost use Rattle.grib_packing.specs.Span.{IsTold};
 ghost use Rattle.grib_groups.specs.Encoding.{AddsBits, AreGrouped, AreMeasures, AreNumbers, IsNumber, IsPackable, LaysOut, measured_fields, packed_fields};
 
 use crate::Layout;
-use crate::measuring::{Measure, later_measures, next_of};
-use crate::stretch::Stretch;
+use crate::measuring::{Measure, later_measures, next_measure};
 use grib_base::Code;
 use grib_bits::BitWriter;
 use grib_codes::Codes;
@@ -99,11 +98,11 @@ fn put_references(
     requires room { length (padded (fields bits (map (reference_of bits) (runs lengths.now codes.now)))) ≤ out.old.spare }
     ensures { AddsBits out.old out.new (padded (fields bits (map (reference_of bits) (runs lengths.now codes.now)))) }
 {
-    let mut rest = Stretch::of(codes);
+    let mut rest = codes.all();
     let mut told = known;
     for length in lengths {
         let (run, after) = rest.split_at(*length as usize);
-        let measure = next_of(told, &run, reserved, bits);
+        let measure = next_measure(told, &run, reserved, bits);
         out.put(u64::from(measure.reference), bits);
         rest = after;
         told = later_measures(told);
@@ -128,11 +127,11 @@ fn put_widths(
     requires room { length (padded (fields bits (map (width_of reserved) (runs lengths.now codes.now)))) ≤ out.old.spare }
     ensures { AddsBits out.old out.new (padded (fields bits (map (width_of reserved) (runs lengths.now codes.now)))) }
 {
-    let mut rest = Stretch::of(codes);
+    let mut rest = codes.all();
     let mut told = known;
     for length in lengths {
         let (run, after) = rest.split_at(*length as usize);
-        let measure = next_of(told, &run, reserved, reference_bits);
+        let measure = next_measure(told, &run, reserved, reference_bits);
         out.put(u64::from(measure.width), bits);
         rest = after;
         told = later_measures(told);
@@ -167,11 +166,11 @@ fn put_numbers(
     requires room { length (padded (joined (map (group_fields reserved bits) (runs lengths.now codes.now)))) ≤ out.old.spare }
     ensures { AddsBits out.old out.new (padded (joined (map (group_fields reserved bits) (runs lengths.now codes.now)))) }
 {
-    let mut rest = Stretch::of(codes);
+    let mut rest = codes.all();
     let mut told = known;
     for length in lengths {
         let (run, after) = rest.split_at(*length as usize);
-        let measure = next_of(told, &run, reserved, bits);
+        let measure = next_measure(told, &run, reserved, bits);
         put_group(&run, measure, reserved, out);
         rest = after;
         told = later_measures(told);
@@ -180,7 +179,7 @@ fn put_numbers(
 }
 
 /// Writes the packed numbers of one group with this reference and width.
-fn put_group(run: &Stretch<'_>, measure: Measure, reserved: u32, out: &mut BitWriter)
+fn put_group(run: &Codes<'_>, measure: Measure, reserved: u32, out: &mut BitWriter)
     requires few { measure.width ≤ 32 }
     requires told { All (IsTold reserved) run.now }
     requires codes { 1 ≤ measure.width → All (IsPackable measure.width measure.reference) run.now }
@@ -200,7 +199,7 @@ fn put_group(run: &Stretch<'_>, measure: Measure, reserved: u32, out: &mut BitWr
 }
 
 /// Whether all codes are numbers. Where no code is reserved for missing points they are not looked at.
-fn has_no_mark(run: &Stretch<'_>, reserved: u32) -> bool
+fn has_no_mark(run: &Codes<'_>, reserved: u32) -> bool
     requires { All (IsTold reserved) run.now }
     ensures { result ≡ list_all is_present run.now }
 {
@@ -223,26 +222,38 @@ fn is_number(code: Code) -> bool
     matches!(code, Code::Present(_))
 }
 
-/// Writes the packed numbers of a group of this width and reference that has no mark: four at once where they
-/// fit a word, since joining them takes fewer steps than writing each.
-fn put_present(run: &Stretch<'_>, width: u32, reference: u64, out: &mut BitWriter)
+/// Writes the packed numbers of a group of this width and reference that has no mark: several at once, and the
+/// last up to three one by one.
+fn put_present(run: &Codes<'_>, width: u32, reference: u64, out: &mut BitWriter)
     requires numbers { AreNumbers width reference run.now }
     requires room { length (packed_fields width reference run.now) ≤ out.old.spare }
     ensures { AddsBits out.old out.new (packed_fields width reference run.now) }
 {
-    if width > 16 {
-        put_each(run, width, reference, out);
-        return;
-    }
     let (fours, rest) = run.split_at(run.len() / 4 * 4);
-    put_fours(&fours, width, 1 << width, reference, out);
+    put_several(&fours, width, reference, out);
     put_each(&rest, width, reference, out);
+}
+
+/// Writes the packed numbers of a group that has no mark: four at once where they fit a word, else two, since
+/// joining them takes fewer steps than writing each.
+fn put_several(run: &Codes<'_>, width: u32, reference: u64, out: &mut BitWriter)
+    requires numbers { AreNumbers width reference run.now }
+    requires fours { length run.now % 4 ≡ 0 }
+    requires room { length (packed_fields width reference run.now) ≤ out.old.spare }
+    ensures { AddsBits out.old out.new (packed_fields width reference run.now) }
+{
+    let scale = 1 << width;
+    if width > 16 {
+        put_pairs(run, width, scale, reference, out);
+    } else {
+        put_fours(run, width, scale, reference, out);
+    }
 }
 
 /// Writes the packed numbers of a group that has no mark four at once. The scale is 2 to the width.
 // Not inlined: LLVM would turn products by the scale into shifts by a variable count, which take more steps.
 #[inline(never)]
-fn put_fours(run: &Stretch<'_>, width: u32, scale: u64, reference: u64, out: &mut BitWriter)
+fn put_fours(run: &Codes<'_>, width: u32, scale: u64, reference: u64, out: &mut BitWriter)
     requires numbers { AreNumbers width reference run.now }
     requires fours { length run.now % 4 ≡ 0 }
     requires few { width ≤ 16 }
@@ -256,8 +267,24 @@ fn put_fours(run: &Stretch<'_>, width: u32, scale: u64, reference: u64, out: &mu
     }
 }
 
+/// Writes the packed numbers of a group that has no mark two at once. The scale is 2 to the width.
+// Not inlined, as `put_fours`.
+#[inline(never)]
+fn put_pairs(run: &Codes<'_>, width: u32, scale: u64, reference: u64, out: &mut BitWriter)
+    requires numbers { AreNumbers width reference run.now }
+    requires pairs { length run.now % 2 ≡ 0 }
+    requires scale { scale ≡ 2 ^ width }
+    requires room { length (packed_fields width reference run.now) ≤ out.old.spare }
+    ensures { AddsBits out.old out.new (packed_fields width reference run.now) }
+{
+    for done in 0..run.len() / 2 {
+        let pair = two_numbers(run, 2 * done, width, scale, reference);
+        out.put(pair, 2 * width);
+    }
+}
+
 /// Writes the packed numbers of a group that has no mark one by one.
-fn put_each(run: &Stretch<'_>, width: u32, reference: u64, out: &mut BitWriter)
+fn put_each(run: &Codes<'_>, width: u32, reference: u64, out: &mut BitWriter)
     requires numbers { AreNumbers width reference run.now }
     requires room { length (packed_fields width reference run.now) ≤ out.old.spare }
     ensures { AddsBits out.old out.new (packed_fields width reference run.now) }
@@ -269,7 +296,7 @@ fn put_each(run: &Stretch<'_>, width: u32, reference: u64, out: &mut BitWriter)
 
 /// The packed numbers of four codes from this place on, as one number.
 #[inline(always)]
-fn four_numbers(run: &Stretch<'_>, at: usize, width: u32, scale: u64, reference: u64) -> u64
+fn four_numbers(run: &Codes<'_>, at: usize, width: u32, scale: u64, reference: u64) -> u64
     requires numbers { AreNumbers width reference run.now }
     requires few { width ≤ 16 }
     requires scale { scale ≡ 2 ^ width }
@@ -284,9 +311,8 @@ fn four_numbers(run: &Stretch<'_>, at: usize, width: u32, scale: u64, reference:
 
 /// The packed numbers of two codes from this place on, as one number.
 #[inline(always)]
-fn two_numbers(run: &Stretch<'_>, at: usize, width: u32, scale: u64, reference: u64) -> u64
+fn two_numbers(run: &Codes<'_>, at: usize, width: u32, scale: u64, reference: u64) -> u64
     requires numbers { AreNumbers width reference run.now }
-    requires few { width ≤ 16 }
     requires scale { scale ≡ 2 ^ width }
     requires within { at + 2 ≤ length run.now }
     requires place { at + 2 < 2 ^ 64 }
@@ -299,7 +325,7 @@ fn two_numbers(run: &Stretch<'_>, at: usize, width: u32, scale: u64, reference: 
 
 /// The packed number of a code that is no mark.
 #[inline(always)]
-fn number_at(run: &Stretch<'_>, at: usize, width: u32, reference: u64) -> u64
+fn number_at(run: &Codes<'_>, at: usize, width: u32, reference: u64) -> u64
     requires within { at < length run.now }
     requires codes { All (IsNumber width reference) run.now }
     ensures is { result ≡ packed_number width reference (get_or run.now at Primary) }
@@ -312,7 +338,7 @@ fn number_at(run: &Stretch<'_>, at: usize, width: u32, reference: u64) -> u64
 }
 
 /// Writes the packed numbers of a group of this width and reference that may have marks.
-fn put_codes(run: &Stretch<'_>, width: u32, reference: u64, out: &mut BitWriter)
+fn put_codes(run: &Codes<'_>, width: u32, reference: u64, out: &mut BitWriter)
     requires some { 1 ≤ width }
     requires few { width ≤ 32 }
     requires codes { All (IsPackable width reference) run.now }

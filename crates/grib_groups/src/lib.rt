@@ -12,7 +12,6 @@ mod lists;
 mod measuring;
 mod numbers;
 mod run;
-mod stretch;
 mod table;
 mod taker;
 

@@ -5,7 +5,6 @@ ghost use Rattle.grib_packing.specs.Groupings.{IsGrouping, runs};
 ghost use Rattle.grib_packing.specs.Span.{IsBelow};
 ghost use Rattle.grib_groups.specs.Encoding.{AreMeasures, IsMeasure};
 
-use crate::stretch::Stretch;
 use grib_codes::Codes;
 use std::alloc::{AllocError, Global};
 
@@ -22,17 +21,6 @@ impl Measure {
     /// The measure of a group with these codes, where `reserved` codes are kept for missing points and a
     /// reference has `bits` bits.
     pub fn of(run: &Codes<'_>, reserved: u32, bits: u32) -> Measure
-        requires reserved { reserved ≤ 2 }
-        requires few { bits ≤ 32 }
-        requires codes { All (IsBelow reserved) run.now }
-        ensures is { IsMeasure reserved bits result run.now }
-        ensures narrow { result.width ≤ 32 }
-    {
-        Measure::of_stretch(&Stretch::of(run), reserved, bits)
-    }
-
-    /// The measure of a group with the codes of this stretch, as [`Measure::of`] has it.
-    pub(crate) fn of_stretch(run: &Stretch<'_>, reserved: u32, bits: u32) -> Measure
         requires reserved { reserved ≤ 2 }
         requires few { bits ≤ 32 }
         requires codes { All (IsBelow reserved) run.now }
@@ -67,10 +55,10 @@ pub fn measures_of(
     ensures count { IfOk result (λ measures. length measures.items ≡ length lengths.now) }
 {
     let mut measures = Vec::with_capacity(alloc, lengths.len())?;
-    let mut rest = Stretch::of(codes);
+    let mut rest = codes.all();
     for length in lengths {
         let (run, after) = rest.split_at(*length as usize);
-        measures.push(Measure::of_stretch(&run, reserved, bits))?;
+        measures.push(Measure::of(&run, reserved, bits))?;
         rest = after;
     }
     Ok(measures)
@@ -84,20 +72,9 @@ pub fn next_measure(known: &[Measure], run: &Codes<'_>, reserved: u32, bits: u32
     requires known { AreMeasures reserved bits known.now (run.now ∷ []) }
     ensures { IsMeasure reserved bits result run.now }
 {
-    next_of(known, &Stretch::of(run), reserved, bits)
-}
-
-/// The measure of the next group, which has the codes of this stretch, as [`next_measure`] has it.
-pub(crate) fn next_of(known: &[Measure], run: &Stretch<'_>, reserved: u32, bits: u32) -> Measure
-    requires reserved { reserved ≤ 2 }
-    requires few { bits ≤ 32 }
-    requires codes { All (IsBelow reserved) run.now }
-    requires known { AreMeasures reserved bits known.now (run.now ∷ []) }
-    ensures { IsMeasure reserved bits result run.now }
-{
     match known.first() {
         Some(measure) => *measure,
-        None => Measure::of_stretch(run, reserved, bits),
+        None => Measure::of(run, reserved, bits),
     }
 }
 

@@ -15,14 +15,14 @@ ghost use Rattle.grib_passing.specs.Steps.{Turns, Fits, plan_of};
 ghost use Rattle.grib_passing.specs.Writing.{Writes};
 
 use crate::counting::{one_answered, one_kept, one_refused};
-use crate::heading::{is_truncated, octets_passed, octets_wanted};
+use crate::heading::{octets_passed, octets_wanted};
 use crate::noting::{note_kept, note_refused};
 use crate::passer::Passer;
 use crate::passing::{Instead, PassTotals, Passing};
 use crate::writing::write_whole;
 use grib_base::{Fault, Refusal};
 use grib_io::{Shelf, Sink};
-use grib_stream::{Kept, Outcome, Performed, Place};
+use grib_stream::{Kept, Outcome, Performed, Place, is_truncated};
 use std::alloc::Global;
 
 /// An item that was answered: its octets, and what was then counted.

@@ -4,11 +4,10 @@ ghost use Rattle.std.specs.Prelude.{◌≡◌, ◌≤◌, ◌<◌, ◌+◌, true
 ghost use Rattle.grib_base.specs.Rows.{first_fault};
 ghost use Rattle.grib2_sections.specs.Head.{head_rows, head_of};
 ghost use Rattle.grib_stream.specs.Stream.{begins};
-ghost use Rattle.grib_stream.specs.Outcomes as outcomes;
 ghost use Rattle.grib_passing.specs.Next as passes;
 ghost use Rattle.grib_passing.specs.Next.{passed};
 
-use grib_base::{Fault, Reason};
+use grib_stream::is_truncated;
 use grib2_sections::read_head;
 
 /// How many octets a refusal is passed by that has no end: those of its mark.
@@ -55,11 +54,4 @@ pub(crate) fn octets_wanted(octets: &[u8]) -> u64
         Ok(head) => head.total.max(more),
         Err(_) => more,
     }
-}
-
-/// Whether octets are refused only for their end, so that more of them may be accepted.
-pub(crate) fn is_truncated(fault: &Fault) -> bool
-    ensures { result ≡ outcomes.is_truncated fault.now.reason }
-{
-    matches!(fault.reason, Reason::Truncated)
 }

@@ -1,5 +1,6 @@
 //! The lines that are noted of what a run goes past.
 
+ghost use Rattle.std.specs.Prelude.{◌≡◌, List, ℕ, IfOk};
 ghost use Rattle.grib_io.specs.Outside.{Unfinished};
 ghost use Rattle.grib_passing.specs.Writing.{Writes};
 
@@ -8,7 +9,7 @@ use crate::writing::write_whole;
 use grib_base::Fault;
 use grib_io::Sink;
 use grib_stream::{Kept, Outcome, Place};
-use std::alloc::Global;
+use std::alloc::{AllocError, Global};
 
 /// Notes the line of a refusal.
 pub(crate) fn note_refused<K: Passer, N: Sink>(
@@ -22,10 +23,7 @@ pub(crate) fn note_refused<K: Passer, N: Sink>(
         ((K.texts performer.now).refused here.now fault.now) (N.faults notes.old) (N.faults notes.new) }
     ensures unfinished { Unfinished (N.settled notes.old) (N.settled notes.new) }
 {
-    match performer.refused_line(alloc, here, fault) {
-        Ok(line) => write_whole(notes, line.as_slice()),
-        Err(_) => Err(Outcome::Memory),
-    }
+    note_line(performer.refused_line(alloc, here, fault), notes)
 }
 
 /// Notes the line of a kept message.
@@ -40,7 +38,16 @@ pub(crate) fn note_kept<K: Passer, N: Sink>(
         ((K.texts performer.now).kept here.now kept.now) (N.faults notes.old) (N.faults notes.new) }
     ensures unfinished { Unfinished (N.settled notes.old) (N.settled notes.new) }
 {
-    match performer.kept_line(alloc, here, kept) {
+    note_line(performer.kept_line(alloc, here, kept), notes)
+}
+
+/// Notes a line, unless there was no memory for it.
+fn note_line<N: Sink>(line: Result<Vec<u8>, AllocError>, notes: &mut N) -> Result<(), Outcome>
+    ensures writes { (text : List ℕ) → IfOk line (λ line. line.items ≡ text)
+        → Writes result (N.contents notes.old) (N.contents notes.new) text (N.faults notes.old) (N.faults notes.new) }
+    ensures unfinished { Unfinished (N.settled notes.old) (N.settled notes.new) }
+{
+    match line {
         Ok(line) => write_whole(notes, line.as_slice()),
         Err(_) => Err(Outcome::Memory),
     }

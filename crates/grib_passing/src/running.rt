@@ -8,15 +8,15 @@ ghost use Rattle.grib_stream.specs.declared.outcome.Outcome.TheVariants.{ShelfFa
 ghost use Rattle.grib_passing.specs.Answer.{no_counts, totals_by};
 ghost use Rattle.grib_passing.specs.Deeds.{outside};
 ghost use Rattle.grib_passing.specs.Laws.{outcome_of, is_whole};
-ghost use Rattle.grib_passing.specs.Reading.{Advances, ReadsOn, goes_on};
+ghost use Rattle.grib_passing.specs.Reading.{Advances, goes_on};
 ghost use Rattle.grib_passing.specs.Run.{Reaches, CountsOne};
 ghost use Rattle.grib_passing.specs.Steps.{plan_of};
 
 use crate::deciding::{Turn, decide};
 use crate::passer::Passer;
 use crate::passing::{PassTotals, Passing};
-use grib_io::{Shelf, Sink, Source, Stop};
-use grib_stream::{Outcome, Rest, Totals, Window, gather, octets_before_mark, probe};
+use grib_io::{Shelf, Sink, Source};
+use grib_stream::{Outcome, Rest, Totals, Window, octets_before_mark, probe, read_on};
 use std::alloc::Global;
 
 /// Answers the items of an input, of which no more than `limit` octets are answered. It answers what was counted where
@@ -120,24 +120,5 @@ fn advance<S: Source>(
             probe(input)?;
             Ok(Rest::Ended)
         }
-    }
-}
-
-/// Reads as much as is wanted, as far as the input goes and as much may be taken.
-fn read_on<S: Source>(
-    window: &mut Window,
-    input: &mut S,
-    wanted: u64,
-    left: &mut u64,
-) -> Result<Rest, Outcome>
-    requires few { length window.old.octets < wanted }
-    ensures reads { ReadsOn result (S.left input.old) (S.left input.new) window.old.octets window.new.octets
-        left.old left.new wanted (S.faults input.old) (S.faults input.new) }
-    ensures room { window.new.room ≤ max window.old.room (wanted + 65536) }
-{
-    match gather(window, input, wanted as usize, left) {
-        Ok(rest) => Ok(rest),
-        Err(Stop::Failed) => Err(Outcome::ReadFault),
-        Err(Stop::Memory) => Err(Outcome::Memory),
     }
 }

@@ -47,7 +47,7 @@ use Rattle.grib_passing_law.specs.Written.{WritesItems, IsRepacked, IsMigrated, 
 
 -- ---- an outcome of a message is none of the end of an input
 
-unwhole : (outcome : Outcome) → is_of_message outcome ≡ true → is_whole outcome ≡ false
+pub unwhole : (outcome : Outcome) → is_of_message outcome ≡ true → is_whole outcome ≡ false
 unwhole outcomes.Done is = absurd (false≢true is)
 unwhole (outcomes.Passed refused kept) is = absurd (false≢true is)
 unwhole (outcomes.Usage word) is = refl
@@ -61,7 +61,7 @@ unwhole outcomes.Memory is = refl
 unwhole outcomes.InputTooLong is = refl
 
 -- a run that ends with an outcome ends before the end of the input
-abbrev EndsBefore : Result PassTotals Outcome → Type 0
+abbrev pub EndsBefore : Result PassTotals Outcome → Type 0
 EndsBefore (Ok totals) = Unit {0}
 EndsBefore (Err outcome) = is_whole outcome ≡ false
 
@@ -69,9 +69,9 @@ EndsBefore (Err outcome) = is_whole outcome ≡ false
 
 module _ (command : Command) (none : (totals : Totals) → ((task command).ending totals).acts ≡ []) (ends : (place : Place) (message : List ℕ) (outcome : Outcome) → given command place message ≡ Ends outcome → is_whole outcome ≡ false) where
   -- nothing is done at the end, and an outcome is none of a whole run
-  record Closes (answer : Answered) : Type 0 where
-    nothing : answer.ending ≡ []
-    before_end : EndsBefore answer.result
+  pub record Closes (answer : Answered) : Type 0 where
+    pub nothing : answer.ending ≡ []
+    pub before_end : EndsBefore answer.result
 
   at_end : (counts : Counts) (end : End) → Closes (on_end (task command) counts end)
   at_end counts (Over skipped) = record { nothing = none _; before_end = tt }
@@ -100,12 +100,12 @@ module _ (command : Command) (none : (totals : Totals) → ((task command).endin
   answers_close instead counts (parts.Refused refused ∷ items) end =
       let own = answers_close instead (one_refused counts) items end in record { nothing = own.nothing; before_end = own.before_end }
 
-  closed : (passing : Passing) (more : Bool) (input : List ℕ) → Closes (answer_of (plan_by command passing) more input)
+  pub closed : (passing : Passing) (more : Bool) (input : List ℕ) → Closes (answer_of (plan_by command passing) more input)
   closed passing more input =
       answers_close passing.kept no_counts (parts.items (task command).judge passing.refused more input).items (parts.items (task command).judge passing.refused more input).end
 
 -- the answer as far as an input is answered
-within_by : (b : Bool) (limit : ℕ) (plan : Plan) (input : List ℕ) → nat_lt limit (length input) ≡ b
+pub within_by : (b : Bool) (limit : ℕ) (plan : Plan) (input : List ℕ) → nat_lt limit (length input) ≡ b
     → choose b (λ _. answer_of plan true (take limit input)) (λ _. answer_of plan false input) ≡ answer_of plan b (take limit input)
 within_by true limit plan input is = refl
 within_by false limit plan input is = ap (answer_of plan false) (sym (take_all limit input (ltb-false limit (length input) is)))

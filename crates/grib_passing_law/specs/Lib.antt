@@ -1,3 +1,4 @@
 pub mod Judged
 pub mod Written
 pub mod Leaving
+pub mod Shelved

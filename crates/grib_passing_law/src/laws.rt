@@ -23,6 +23,7 @@ ghost use Rattle.grib_tasks.specs.Passing.{RunsPassing};
 ghost use Rattle.grib_run_law.specs.Octets.{AreOctets};
 ghost use Rattle.grib_passing_law.specs.Judged.{IsJudged};
 ghost use Rattle.grib_passing_law.specs.Leaving.{JudgesPast, LeavesPast};
+ghost use Rattle.grib_passing_law.specs.Shelved.{LeavesPartsPast};
 ghost use Rattle.grib_passing_law.specs.Written.{WritesItems, IsRepacked, IsMigrated, IsSet, IsFiltered};
 
 use grib_repack::laws::what_is_repacked_keeps_each_value;
@@ -81,3 +82,12 @@ pub fn what_a_run_past_others_leaves()
     what_is_set_past_others_keeps_each_field();
     what_is_filtered_past_others_keeps_each_column();
 }
+
+/// What a run of `split` leaves on the shelf that goes past others, wherever it ends: the fields of the messages that are
+/// answered stand under their names, first ones of them where a device or memory ended it, and other names have what they
+/// had.
+pub fn what_split_leaves_past_others()
+    ensures { (job : Job) (passing : Passing) (outcome : Outcome) (left left_now : Option (List ℕ)) (before now : Outside)
+        → RunsPassing job passing outcome left left_now before now
+        → LeavesPartsPast job passing outcome left left_now before now }
+{}

@@ -98,7 +98,7 @@ apart p front more other held is unlike = elim (cut_puts p front more is) [
 abbrev name_of : Part → List ℕ
 name_of p = p.name
 
-abbrev Distinct : List Part → Type 0
+abbrev pub Distinct : List Part → Type 0
 Distinct [] = Unit {0}
 Distinct (p ∷ parts) = All (λ (q : Part). q.name ≢ p.name) parts × Distinct parts
 
@@ -106,7 +106,7 @@ nothing : (front rest : List Act) → [] ≡ front ++ rest → front ≡ []
 nothing [] rest is = refl
 nothing (act ∷ front) rest is = let no : ⊥ = cc in absurd no
 
-stand_first : (parts : List Part) → Distinct parts → (front rest : List Act) → puts_all parts ≡ front ++ rest → (before now : Held)
+pub stand_first : (parts : List Part) → Distinct parts → (front rest : List Act) → puts_all parts ≡ front ++ rest → (before now : Held)
     → ((name : List ℕ) → now name ≡ held_after name (before name) front) → (count : ℕ) × StandFirst parts before now count
 stand_first [] distinct front rest is before now did = (
   0,
@@ -154,7 +154,7 @@ stand_first (p ∷ parts) distinct front rest is before now did = elim (cut (put
       )
 ]
 
-stand_all : (parts : List Part) → Distinct parts → (before now : Held)
+pub stand_all : (parts : List Part) → Distinct parts → (before now : Held)
     → ((name : List ℕ) → now name ≡ held_after name (before name) (puts_all parts)) → StandAll parts before now
 stand_all [] distinct before now did = record { whole = All-nil (λ (part : Part). now part.name ≡ Some part.octets); others = λ name none. did name }
 stand_all (p ∷ parts) distinct before now did =
@@ -210,7 +210,7 @@ distinct_names : (parts : List Part) → Unlike (map name_of parts) → Distinct
 distinct_names [] unlike = tt
 distinct_names (p ∷ parts) unlike = (apart_names p.name parts unlike.0, distinct_names parts unlike.1)
 
-same_number : (out : List ℕ) (m n : ℕ) → m < 2 ^ 64 → n < 2 ^ 64 → part_name out m ≡ part_name out n → m ≡ n
+pub same_number : (out : List ℕ) (m n : ℕ) → m < 2 ^ 64 → n < 2 ^ 64 → part_name out m ≡ part_name out n → m ≡ n
 same_number out m n low high is = decimal_injective m n low high (append_cancel_left (out ++ codes ".") (decimal m) (decimal n) is)
 
 later_unlike : (out : List ℕ) (a from n : ℕ) → a < from → from + n ≤ 2 ^ 64 → All (λ (other : List ℕ). other ≢ part_name out a) (map (part_name out) (range_with_len from n))

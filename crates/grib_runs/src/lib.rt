@@ -121,6 +121,28 @@ pub fn run_with_table(
     run_with(alloc, text, octets, piece, failing, shelf)
 }
 
+/// Whether such a run ends so, with this output and these notes, in pieces of each size.
+///
+/// # Errors
+///
+/// There is no memory for the runs.
+pub fn gives(
+    alloc: Global,
+    text: &str,
+    octets: &[u8],
+    outcome: Outcome,
+    output: &[u8],
+    notes: &str,
+) -> Result<bool, AllocError> {
+    for piece in [1, 7, 600] {
+        let ran = run_with_table(alloc, text, octets, piece, CALM)?;
+        if !ran.gave(outcome, output, notes) {
+            return Ok(false);
+        }
+    }
+    Ok(true)
+}
+
 /// Whether such a run over one message gives these octets, in pieces of each size, and notes how many.
 ///
 /// # Errors
@@ -134,13 +156,7 @@ pub fn gives_with_table(
 ) -> Result<bool, AllocError> {
     let written = output.len();
     let note = format!(in alloc; "messages 1 fields 1 written {written}\n")?;
-    for piece in [1, 7, 300] {
-        let ran = run_with_table(alloc, text, octets, piece, CALM)?;
-        if !ran.gave(Outcome::Done, output, note.as_str()) {
-            return Ok(false);
-        }
-    }
-    Ok(true)
+    gives(alloc, text, octets, Outcome::Done, output, note.as_str())
 }
 
 /// The words of a text, told apart by spaces.

@@ -76,6 +76,21 @@ pub width_alike : (k : ℕ) (codes : List Code) (at l : ℕ) → Alike codes at 
 width_alike k codes at zero alike some few = absurd (omega arith)
 width_alike k codes at (suc n) alike some few = ap (width_of k) (run_of codes at (suc n) alike few) ∙ width_none k (code_at codes at) n
 
+-- one more of the same codes
+pub one_more : (codes : List Code) (at after : ℕ) → code_at codes at ≡ code_at codes (at + 1) → Alike codes (at + 1) after
+    → (i : ℕ) → i < after + 1 → code_at codes (at + i) ≡ code_at codes at
+one_more codes at after is alike zero within = let e : at + 0 ≡ at = omega arith in ap (code_at codes) e
+one_more codes at after is alike (suc i) within =
+    let e : at + suc i ≡ at + 1 + i = omega arith in
+    ap (code_at codes) e ∙ (alike.same i (omega arith) ∙ sym is)
+
+pub alike_more : (codes : List Code) (at : ℕ) → code_at codes at ≡ code_at codes (at + 1) → Alike codes (at + 1) 64 → Alike codes at 64
+alike_more codes at is alike = record {
+  most = omega arith;
+  fits = omega (arith, alike.fits);
+  same = λ i within. one_more codes at 64 is alike i (omega (arith, within));
+}
+
 -- the code at the place before is the same where both begin 64 codes that are
 pub code_same : (codes : List Code) (at : ℕ) → Alike codes at 64 → code_at codes (at + 1) ≡ code_at codes at
 code_same codes at alike = alike.same 1 (omega arith)

@@ -11,7 +11,6 @@ use Rattle.grib_split.specs.Runs.{Run, Runs, Waits, After, Afters, Begun}
 use Rattle.grib_split.proofs.Widths.{tells_as}
 use Rattle.grib_split.proofs.Kept.{priced_as, other_at}
 use Rattle.grib_split.proofs.Following.{none_chosen}
-use Rattle.grib_split.proofs.Going.{Longer}
 
 empty_run : (k : ℕ) (slots : Slots) (p count : ℕ) → slice_index slots.least p ≡ 4294967295 → slice_index slots.greatest p ≡ 0
     → slice_index slots.primary p ≡ 0 → slice_index slots.secondary p ≡ 0 → slice_index slots.width p ≡ 0 → slice_index slots.limit p ≤ 1
@@ -61,19 +60,19 @@ pub apart : (at m : ℕ) → 1 < m → m ≤ 64 → (at + 1) % 64 ≢ (at + m) %
 apart at m below near e = omega arith
 
 pub waits_begun : (k : ℕ) (codes : List Code) (at cost : ℕ) (a b : Slots) → Begun b ((at + 1) % 64) cost
-    → ((p : ℕ) → (at + 1) % 64 ≢ p → Same a b p) → Longer k codes (at + 1) a → Waits k codes at b
+    → ((p : ℕ) → (at + 1) % 64 ≢ p → Same a b p) → Runs k codes (at + 1) a → Waits k codes at b
 waits_begun k codes at cost a b here same runs zero some most = absurd (omega arith)
 waits_begun k codes at cost a b here same runs (suc zero) some most =
-    empty_run k b ((at + 1) % 64) 1 here.least here.greatest here.primary here.secondary here.width (omega (arith, here.limit)) (here.cost ∙ sym here.after)
+    empty_run k b ((at + 1) % 64) 0 here.least here.greatest here.primary here.secondary here.width (omega (arith, here.limit)) (here.cost ∙ sym here.after)
 waits_begun k codes at cost a b here same runs (suc (suc m)) some most =
     let n : ℕ = suc (suc m) in
     let p = (at + n) % 64 in
     let e : at + 1 + suc m ≡ at + n = omega arith in
-    let P : ℕ → Type 0 = λ q. Run k a (q % 64) n (take (suc m) (drop (at + 1) codes)) in
-    let R : ℕ → Type 0 = λ j. Run k b p n (take j (drop (at + 1) codes)) in
+    let P : ℕ → Type 0 = λ q. Run k a (q % 64) (suc m) (take (suc m) (drop (at + 1) codes)) in
+    let R : ℕ → Type 0 = λ j. Run k b p j (take j (drop (at + 1) codes)) in
     let one_less : suc m ≡ suc (suc m) - 1 = omega arith in
     subst R one_less
-    (run_same k a b p n (take (suc m) (drop (at + 1) codes)) (same p (apart at n (omega arith) most))
+    (run_same k a b p (suc m) (take (suc m) (drop (at + 1) codes)) (same p (apart at n (omega arith) most))
     (subst P e (runs (suc m) (omega arith) (omega arith))))
 
 pub afters_put : (header k : ℕ) (codes : List Code) (at cost : ℕ) (a b : Slots) → at < length codes → slice_index b.after ((at + 1) % 64) ≡ cost

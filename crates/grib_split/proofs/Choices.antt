@@ -6,17 +6,13 @@ use Rattle.grib_base.specs.declared.code.Code.{Code}
 use Rattle.grib_packing.specs.Groupings.{width_of, Chosen}
 use Rattle.grib_split.specs.declared.choosing.Costs.{Costs}
 use Rattle.grib_split.specs.declared.slots.Slots.{Slots}
+use Rattle.grib_split.specs.Alike.{HeadsFrom}
 use Rattle.grib_split.specs.Costs.{header_of}
 use Rattle.grib_split.specs.Least as least
 use Rattle.grib_split.specs.Least.{IsLeast, with_first, AreLeastAfter, IsHead}
 use Rattle.grib_split.specs.Runs.{Afters, after_of}
 use Rattle.grib_split.proofs.Optimal.{least_step, chosen_step}
 use Rattle.grib_split.proofs.Following.{none_chosen}
-
--- the choices from place `at` on are first lengths of chosen groupings
-abbrev pub HeadsFrom : Costs → List Code → ℕ → List ℕ → Type 0
-HeadsFrom costs codes at choices =
-    (i : ℕ) → at ≤ i → i < length codes → IsHead (header_of costs) (width_of costs.reserved) (drop i codes) (slice_index choices i)
 
 -- what follows each first group costs what its slot says
 pub least_after : (costs : Costs) (codes : List Code) (at : ℕ) (slots : Slots) → at < length codes

@@ -13,9 +13,9 @@ use Rattle.grib_split.specs.declared.slots.Slots.{Slots}
 use Rattle.grib_split.specs.Costs.{CanSplit, header_of}
 use Rattle.grib_split.specs.Least as least
 use Rattle.grib_split.specs.Least.{IsLeast, with_first}
-use Rattle.grib_split.specs.Runs.{Run, Runs, Waits, After, Afters, after_of, Wide, Priced, PricedBut, Told, length_to, SameNumbers, SameMarks, SameWidths}
+use Rattle.grib_split.specs.Runs.{Run, Runs, Waits, After, Afters, after_of, Wide, Priced, PricedBut, Told, length_to, SameWidths}
 use Rattle.grib_split.proofs.Bounds.{cost_bound}
-use Rattle.grib_split.proofs.Kept.{told_same, wide_as, priced_as}
+use Rattle.grib_split.proofs.Kept.{wide_as, priced_as}
 
 -- ---- places
 
@@ -39,10 +39,10 @@ runs_by k codes at slots r l some most =
     subst P (forth at l some most) (r p (omega arith))
 
 pub waits_by : (k : ℕ) (codes : List Code) (at : ℕ) (slots : Slots) → Waits k codes at slots
-    → (p : ℕ) → p < 64 → Run k slots p (length_to at p) (take (length_to at p - 1) (drop (at + 1) codes))
+    → (p : ℕ) → p < 64 → Run k slots p (length_to at p - 1) (take (length_to at p - 1) (drop (at + 1) codes))
 waits_by k codes at slots w p within =
     let l = length_to at p in
-    let P : ℕ → Type 0 = λ n. Run k slots n l (take (l - 1) (drop (at + 1) codes)) in
+    let P : ℕ → Type 0 = λ n. Run k slots n (l - 1) (take (l - 1) (drop (at + 1) codes)) in
     subst P (back at p within) (w l (length_some at p) (length_most at p))
 
 -- ---- runs with one code more before them
@@ -63,9 +63,6 @@ pub told_small : (k : ℕ) (codes : List Code) (at l p : ℕ) (slots : Slots) �
     → slice_index slots.greatest p + k < 2 ^ 32
 told_small k codes at l p slots few each t = omega (arith, t.tells.most, run_small k codes at l few each)
 
-fits_more : (l w a old : ℕ) → l ≤ 64 → w ≤ 32 → a ≤ 2147483648 → old ≡ l * w + a → old + w < 4294967296
-fits_more l w a old most few small is = let m : l * w ≤ 64 * 32 = mul-le-mul most few in omega (arith, m, is)
-
 -- ---- what comes after
 
 either : (a b : ℕ) → (a ≤ b) ⊎ (b < a)
@@ -84,30 +81,31 @@ after_at costs codes at p slots split afters within =
     let P : ℕ → Type 0 = λ n. slice_index slots.after n ≤ 2147483648 in
     subst P (back at p within) (after_small costs codes (at + l) (after_of slots at l) split (afters l (length_some at p) (length_most at p)))
 
--- ---- the runs whose costs count one code more
+-- ---- the runs that cost one code more
 
-abbrev pub Longer : ℕ → List Code → ℕ → Slots → Type 0
-Longer k codes at slots = (l : ℕ) → 1 ≤ l → l ≤ 64 → Run k slots ((at + l) % 64) (suc l) (take l (drop at codes))
+-- the cost of one code more fits 32 bits
+fits_more : (l w a old : ℕ) → l ≤ 64 → w ≤ 32 → a ≤ 2147483648 → old ≡ (l - 1) * w + a → old + w < 4294967296
+fits_more l w a old most few small is =
+    let less : l - 1 ≤ 64 = omega arith in
+    let m : (l - 1) * w ≤ 64 * 32 = mul-le-mul less few in
+    omega (arith, m, is)
 
-pub longer : (costs : Costs) (codes : List Code) (at : ℕ) (a b : Slots) → CanSplit costs codes
-    → ((p : ℕ) → p < 64 → slice_index a.cost p + slice_index a.width p < 2 ^ 32 → slice_index b.cost p ≡ slice_index a.cost p + slice_index a.width p)
-    → SameNumbers a b → SameMarks a b → SameWidths a b → b.after ≡ a.after
-    → Afters (header_of costs) costs.reserved codes at a → Runs costs.reserved codes at a → Longer costs.reserved codes at b
-longer costs codes at a b split cost numbers marks same same_after afters runs l some few =
-    let k = costs.reserved in
-    let p = (at + l) % 64 in
-    let run = take l (drop at codes) in
-    let r = runs l some few in
+pub fits_lengthened : (k : ℕ) (slots : Slots) (at p : ℕ) (run : List Code) → slice_index slots.after p ≤ 2147483648
+    → Priced k slots p (length_to at p - 1) run → slice_index slots.cost p + slice_index slots.width p < 2 ^ 32
+fits_lengthened k slots at p run small priced =
+    fits_more (length_to at p) (slice_index slots.width p) (slice_index slots.after p) (slice_index slots.cost p) (length_most at p) priced.wide.few small priced.cost
+
+pub priced_lengthened : (k : ℕ) (a b : Slots) (at p : ℕ) (run : List Code) → slice_index b.cost p ≡ slice_index a.cost p + slice_index a.width p
+    → SameWidths a b → b.after ≡ a.after → Priced k a p (length_to at p - 1) run → Priced k b p (length_to at p) run
+priced_lengthened k a b at p run cost same same_after priced =
     let w = slice_index a.width p in
-    let small = after_small costs codes (at + l) (after_of a at l) split (afters l some few) in
-    let is = cost p (omega arith) (fits_more l w (slice_index a.after p) (slice_index a.cost p) few r.priced.wide.few small r.priced.cost) in
-    let more : slice_index b.cost p ≡ suc l * w + slice_index a.after p = omega (arith, is, r.priced.cost, suc-mul l w) in
+    let n = length_to at p - 1 in
+    let one_more : length_to at p ≡ suc n = omega (arith, length_some at p) in
+    let whole : length_to at p * w ≡ suc n * w = ap (λ m. m * w) one_more in
+    let more : slice_index b.cost p ≡ length_to at p * w + slice_index a.after p = omega (arith, cost, priced.cost, whole, suc-mul n w) in
     record {
-      told = told_same a b p run numbers marks r.told;
-      priced = record {
-        wide = wide_as k a b p run (ap (λ xs. slice_index xs p) same.width) (ap (λ xs. slice_index xs p) same.limit) r.priced.wide;
-        cost = more ∙ ap₂ (λ n m. suc l * n + m) (sym (ap (λ xs. slice_index xs p) same.width)) (sym (ap (λ xs. slice_index xs p) same_after));
-      };
+      wide = wide_as k a b p run (ap (λ xs. slice_index xs p) same.width) (ap (λ xs. slice_index xs p) same.limit) priced.wide;
+      cost = more ∙ ap₂ (λ n m. length_to at p * n + m) (sym (ap (λ xs. slice_index xs p) same.width)) (sym (ap (λ xs. slice_index xs p) same_after));
     }
 
 -- ---- the best of the runs
@@ -176,8 +174,8 @@ priced_taken k codes at places d a b place few each waits wide same_cost same_wi
     let small = told_small k codes (at + 1) (l - 1) p a few each w.told in
     let run = get_or codes at d ∷ take (l - 1) (drop (at + 1) codes) in
     let wider = wide p k (take (l - 1) (drop (at + 1) codes)) within few unset (each at d place) small w.told w.priced.wide in
-    let P : List Code → Type 0 = λ run. Priced k b p l run in
-    subst P (sym (run_more codes at l d place (length_some at p))) (priced_as k a b p l run (ap (λ xs. slice_index xs p) same_width) (ap (λ xs. slice_index xs p) same_limit)
+    let P : List Code → Type 0 = λ run. Priced k b p (l - 1) run in
+    subst P (sym (run_more codes at l d place (length_some at p))) (priced_as k a b p (l - 1) run (ap (λ xs. slice_index xs p) same_width) (ap (λ xs. slice_index xs p) same_limit)
     (ap (λ xs. slice_index xs p) same_cost) (ap (λ xs. slice_index xs p) same_after) (record { wide = wider; cost = w.priced.cost }))
 
 pub afters_same : (header k : ℕ) (codes : List Code) (at : ℕ) (a b : Slots) → b.after ≡ a.after → Afters header k codes at a → Afters header k codes at b

@@ -7,7 +7,7 @@ use Rattle.grib_split.specs.Alike.{Alike}
 use Rattle.grib_split.specs.declared.slots.Slots.{Slots}
 use Rattle.grib_split.specs.Least as least
 use Rattle.grib_split.specs.Least.{with_first}
-use Rattle.grib_split.specs.Runs.{Falls, after_of}
+use Rattle.grib_split.specs.Runs.{Falls, Soonest, after_of}
 use Rattle.grib_split.proofs.Alike.{width_alike}
 use Rattle.grib_split.proofs.Begin.{apart}
 use Rattle.grib_split.proofs.Kept.{other_at}
@@ -63,6 +63,43 @@ falls_here header at cost now a b is here falls cost_is now_is = record {
   next = falls_next at cost a b is here falls;
 }
 
+-- ---- the first length with the least cost after it
+
+-- it goes on by one code, and the cost after 64 codes stays
+least_stays : (at cost n : ℕ) (a b : Slots) → b.after ≡ slice_set a.after ((at + 1) % 64) cost → after_of b at 1 ≡ cost → Falls a (at + 1) cost
+    → Soonest a (at + 1) n → n < 64 → after_of b at 64 ≡ after_of a (at + 1) 64
+least_stays at cost n a b is here falls soonest more =
+    omega (
+      arith,
+      soonest.least,
+      after_next at cost n a b is soonest.some more,
+      falls_to (after_of b at) (falls_next at cost a b is here falls) (n + 1) 64 (omega arith) (omega (arith, more)) (omega arith),
+      after_next at cost 63 a b is (omega arith) (omega arith),
+      falls.next 63 (omega arith) (omega arith),
+    )
+
+pub soonest_on : (header at cost n : ℕ) (a b : Slots) → b.after ≡ slice_set a.after ((at + 1) % 64) cost → after_of b at 1 ≡ cost → Falls a (at + 1) cost
+    → cost ≡ header + after_of a (at + 1) 64 → 1 ≤ header → Soonest a (at + 1) n → n < 64 → Soonest b at (n + 1)
+soonest_on header at cost n a b is here falls cost_is some soonest more =
+    let stays = least_stays at cost n a b is here falls soonest more in
+    record {
+      some = omega arith;
+      most = omega (arith, more);
+      least = omega (arith, stays, soonest.least, after_next at cost n a b is soonest.some more);
+      first = λ l l_some less. elim (one_or_more l l_some) [
+        | inl one ↦ let e : after_of b at l ≡ cost = ap (after_of b at) one ∙ here in omega (arith, e, cost_is, some, stays)
+        | inr two ↦
+            let e : l - 1 + 1 ≡ l = omega arith in
+            let f : after_of b at l ≡ after_of a (at + 1) (l - 1) = sym (ap (after_of b at) e) ∙ after_next at cost (l - 1) a b is (omega arith) (omega (arith, less, more)) in
+            omega (arith, f, stays, soonest.first (l - 1) (omega arith) (omega (arith, less)))
+      ];
+    }
+
+pub cost_on : (header at cost n : ℕ) (a b : Slots) → b.after ≡ slice_set a.after ((at + 1) % 64) cost → after_of b at 1 ≡ cost → Falls a (at + 1) cost
+    → cost ≡ header + after_of a (at + 1) 64 → Soonest a (at + 1) n → n < 64 → cost ≡ header + after_of b at 64
+cost_on header at cost n a b is here falls cost_is soonest more =
+    omega (arith, cost_is, least_stays at cost n a b is here falls soonest more)
+
 -- ---- the best of the runs
 
 -- what a first group of one code and its rest cost
@@ -111,3 +148,18 @@ cost_steady header k codes at n cost now slots alike falls best is =
       first_alike header k codes at 64 (after_of slots at 64) alike (omega arith) (omega arith),
       falls_to (after_of slots at) falls.next n 64 best.some best.most (omega arith),
     )
+
+pub soonest_best : (header k : ℕ) (codes : List Code) (at n now : ℕ) (slots : Slots) → Alike codes at 64 → Falls slots at now
+    → least.Best header (width_of k) (drop at codes) (after_of slots at) n → Soonest slots at n
+soonest_best header k codes at n now slots alike falls best =
+    let here = first_alike header k codes at n (after_of slots at n) alike best.some best.most in
+    let all = best.least 64 (omega arith) (omega arith) (omega (arith, alike.fits, length-drop at codes)) in
+    let last = first_alike header k codes at 64 (after_of slots at 64) alike (omega arith) (omega arith) in
+    let low = falls_to (after_of slots at) falls.next n 64 best.some best.most (omega arith) in
+    record {
+      some = best.some;
+      most = best.most;
+      least = omega (arith, here, all, last, low);
+      first = λ l l_some less.
+          omega (arith, here, all, last, low, best.first l l_some less, first_alike header k codes at l (after_of slots at l) alike l_some (omega (arith, less, best.most)));
+    }

@@ -45,10 +45,10 @@ pub record Priced (reserved : ℕ) (slots : Slots) (place count : ℕ) (run : Li
 abbrev pub length_to : ℕ → ℕ → ℕ
 length_to at place = (place + 63 - at % 64) % 64 + 1
 
--- the widths are right at the places that are not among these
+-- the widths are right at the places that are not among these, and the costs but for the first code
 abbrev pub PricedBut : ℕ → Slots → ℕ → ℕ → (ℕ → List Code) → Type 0
 PricedBut reserved slots at places run =
-    (place : ℕ) → place < 64 → bit_at places place ≡ 0 → Priced reserved slots place (length_to at place) (run place)
+    (place : ℕ) → place < 64 → bit_at places place ≡ 0 → Priced reserved slots place (length_to at place - 1) (run place)
 
 -- the runs from `at` on
 pub record Run (reserved : ℕ) (slots : Slots) (place count : ℕ) (run : List Code) : Type 0 where
@@ -64,10 +64,10 @@ pub record After (header reserved : ℕ) (codes : List Code) (from after : ℕ) 
   pub some : from ≤ length codes → IsLeast header (width_of reserved) (drop from codes) after
   pub none : length codes < from → after ≡ 2147483648
 
--- the runs from the place after `at` on, before the code at `at` is put before each; their costs count it already
+-- the runs from the place after `at` on, that of no codes too, before the code at `at` is put before each
 abbrev pub Waits : ℕ → List Code → ℕ → Slots → Type 0
 Waits reserved codes at slots =
-    (l : ℕ) → 1 ≤ l → l ≤ 64 → Run reserved slots ((at + l) % 64) l (take (l - 1) (drop (at + 1) codes))
+    (l : ℕ) → 1 ≤ l → l ≤ 64 → Run reserved slots ((at + l) % 64) (l - 1) (take (l - 1) (drop (at + 1) codes))
 
 -- what comes after the run of each length from `at` on
 abbrev pub after_of : Slots → ℕ → ℕ → ℕ
@@ -81,6 +81,13 @@ Afters header reserved codes at slots =
 pub record Falls (slots : Slots) (at cost : ℕ) : Type 0 where
   pub here : after_of slots at 1 ≤ cost
   pub next : (l : ℕ) → 1 ≤ l → l < 64 → after_of slots at (l + 1) ≤ after_of slots at l
+
+-- n is the first of the lengths from `at` on with the least cost after it, which 64 codes have
+pub record Soonest (slots : Slots) (at n : ℕ) : Type 0 where
+  pub some : 1 ≤ n
+  pub most : n ≤ 64
+  pub least : after_of slots at n ≡ after_of slots at 64
+  pub first : (l : ℕ) → 1 ≤ l → l < n → after_of slots at 64 < after_of slots at l
 
 -- each slot holds runs of one code, whatever cost is kept of them
 pub record Holds (reserved : ℕ) (slots : Slots) (code : Code) : Type 0 where

@@ -1,11 +1,11 @@
 //! The choice of the first group at each place, from the last code to the first.
 
-ghost use Rattle.std.specs.Prelude.{◌≡◌, ℕ, ◌+◌, ◌%◌, ◌^◌, ◌<◌, ◌≤◌, length, drop, slice_set};
+ghost use Rattle.std.specs.Prelude.{◌≡◌, true, ◌+◌, ◌%◌, ◌^◌, ◌<◌, ◌≤◌, length, drop, slice_set};
 ghost use Rattle.grib_packing.specs.Groupings.{width_of};
 ghost use Rattle.grib_split.specs.Costs.{CanSplit, header_of};
-ghost use Rattle.grib_split.specs.Alike.{Alike, Known};
+ghost use Rattle.grib_split.specs.Alike.{Alike, HeadsFrom, Known};
 ghost use Rattle.grib_split.specs.Least.{AreHeads, IsLeast, Best, with_first};
-ghost use Rattle.grib_split.specs.Runs.{Runs, Waits, Afters, Falls, after_of, SameNumbers, SameMarks, SameWidths};
+ghost use Rattle.grib_split.specs.Runs.{Runs, Waits, Afters, Falls, Soonest, after_of, SameNumbers, SameMarks, SameWidths};
 
 use crate::slots::{Cheapest, Slots};
 use grib_codes::Codes;
@@ -35,10 +35,16 @@ pub fn least_choices(codes: &Codes<'_>, costs: &Costs, choices: &mut [u8])
         alike: 0,
         steady: false,
     };
-    for done in 0..codes.len() {
-        let at = codes.len() - 1 - done;
+    let mut at = codes.len();
+    while at > 0 {
+        at -= 1;
         here = here_at(&mut slots, codes, at, here, costs);
         choices[at] = here.best.length as u8;
+        if here.steady {
+            let gone = go_on(&mut slots, codes, at, here, costs, choices);
+            at = gone.at;
+            here = gone.here;
+        }
     }
 }
 
@@ -53,6 +59,51 @@ struct Here {
     steady: bool,
 }
 
+/// A place, and what is known there.
+#[derive(Clone, Copy, Debug)]
+struct Gone {
+    at: usize,
+    here: Here,
+}
+
+/// Goes on from a place where 64 codes are the same, as long as those before it are the same too, and writes a choice
+/// for each. None of the runs takes a bit, and little is done at a place.
+fn go_on(
+    slots: &mut Slots,
+    codes: &Codes<'_>,
+    from: usize,
+    here: Here,
+    costs: &Costs,
+    choices: &mut [u8],
+) -> Gone
+    requires split { CanSplit costs.now codes.now }
+    requires place { from < length codes.now }
+    requires room { length choices.old ≡ length codes.now }
+    requires known { Known (header_of costs.now) costs.now.reserved codes.now from slots.old here }
+    requires steady { here.steady ≡ true }
+    requires heads { HeadsFrom costs.now codes.now from choices.old }
+    ensures place { result.at < length codes.now }
+    ensures less { result.at ≤ from }
+    ensures known { Known (header_of costs.now) costs.now.reserved codes.now result.at slots.new result.here }
+    ensures heads { HeadsFrom costs.now codes.now result.at choices.new }
+{
+    let mut at = from;
+    let mut best = here.best;
+    while at > 0 && codes.are_same(at - 1, at) {
+        at -= 1;
+        best = best_of_one(slots, at, best, costs);
+        choices[at] = best.length as u8;
+    }
+    Gone {
+        at,
+        here: Here {
+            best,
+            alike: 64,
+            steady: true,
+        },
+    }
+}
+
 /// Goes on by the code at place `at`, from what is known at the next place.
 #[inline]
 fn here_at(slots: &mut Slots, codes: &Codes<'_>, at: usize, next: Here, costs: &Costs) -> Here
@@ -64,14 +115,6 @@ fn here_at(slots: &mut Slots, codes: &Codes<'_>, at: usize, next: Here, costs: &
         (after_of slots.new at) result.best.length }
 {
     let alike = alike_from(codes, at, next.alike);
-    if next.steady && alike == 64 {
-        let best = best_of_one(slots, at, next.best, costs);
-        return Here {
-            best,
-            alike,
-            steady: true,
-        };
-    }
     slots.price(next.steady);
     let best = best_of_all(slots, codes, at, next.best.cost, costs);
     let steady = alike == 64 && slots.falls(at, best.cost);
@@ -101,8 +144,7 @@ fn alike_from(codes: &Codes<'_>, at: usize, after: u32) -> u32
 #[inline]
 fn best_of_one(slots: &mut Slots, at: usize, next: Cheapest, costs: &Costs) -> Cheapest
     requires place { at < 2 ^ 32 }
-    requires some { 1 ≤ next.length }
-    requires most { next.length ≤ 64 }
+    requires soonest { Soonest slots.old (at + 1) next.length }
     requires falls { Falls slots.old (at + 1) next.cost }
     requires cost { next.cost ≡ header_of costs.now + after_of slots.old (at + 1) 64 }
     requires small { next.cost ≤ 1476395040 }
@@ -112,15 +154,18 @@ fn best_of_one(slots: &mut Slots, at: usize, next: Cheapest, costs: &Costs) -> C
     ensures numbers { SameNumbers slots.old slots.new }
     ensures marks { SameMarks slots.old slots.new }
     ensures widths { SameWidths slots.old slots.new }
-    ensures some { 1 ≤ result.length }
-    ensures most { result.length ≤ 64 }
-    ensures least { after_of slots.new at result.length ≡ after_of slots.new at 64 }
-    ensures first { (l : ℕ) → 1 ≤ l → l < result.length → after_of slots.new at 64 < after_of slots.new at l }
+    ensures soonest { Soonest slots.new at result.length }
     ensures falls { Falls slots.new at result.cost }
     ensures cost { result.cost ≡ header_of costs.now + after_of slots.new at 64 }
 {
     slots.put_after((at + 1) % 64, next.cost);
-    let least = slots.soonest(at, (next.length + 1).min(64));
+    if next.length < 64 {
+        return Cheapest {
+            length: next.length + 1,
+            cost: next.cost,
+        };
+    }
+    let least = slots.soonest(at);
     Cheapest {
         length: least.length,
         cost: least.cost + costs.reference_bits + costs.width_bits + 6,
@@ -148,7 +193,6 @@ fn best_of_all(
     ensures cost { result.cost ≡ with_first (header_of costs.now) (width_of costs.now.reserved) (drop at codes.now)
         result.length (after_of slots.new at result.length) }
 {
-    slots.lengthen();
     slots.begin((at + 1) % 64, cost);
     best_at(slots, codes, at, costs)
 }
@@ -170,9 +214,9 @@ fn best_at(slots: &mut Slots, codes: &Codes<'_>, at: usize, costs: &Costs) -> Ch
 {
     let places = slots.take(codes.at(at), (at + 1) % 64);
     slots.mend(places, at, costs.reserved);
-    let best = slots.cheapest(at);
+    let cost = slots.lengthen();
     Cheapest {
-        length: best.length,
-        cost: best.cost + costs.reference_bits + costs.width_bits + 6,
+        length: slots.shortest(at, cost),
+        cost: cost + costs.reference_bits + costs.width_bits + 6,
     }
 }

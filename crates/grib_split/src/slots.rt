@@ -3,11 +3,11 @@
 ghost use Rattle.std.specs.Prelude.{◌≡◌, ℕ, true, false, ◌+◌, ◌-◌, ◌*◌, ◌%◌, ◌^◌, ◌<◌, ◌≤◌, ◌∷◌, ◌≢◌, ◌⊎◌, List, min, max, replicate, length, slice_index, slice_set};
 ghost use Rattle.std.specs.Int.{bit_at};
 ghost use Rattle.grib_base.specs.declared.code.Code as code_io;
+ghost use Rattle.grib_packing.specs.Groupings.{digits};
 ghost use Rattle.grib_packing.specs.Span.{IsBelow};
-ghost use Rattle.grib_split.specs.Runs.{Tells, Told, Wide, Begun, Priced, PricedBut, Falls, Nested, Covers, Numbered, StayAt, length_to, after_of, SameNumbers, SameMarks, SameWidths};
+ghost use Rattle.grib_split.specs.Runs.{Tells, Told, Wide, Begun, Priced, PricedBut, Soonest, Falls, Nested, Covers, Numbered, StayAt, length_to, after_of, SameNumbers, SameMarks, SameWidths};
 
 use grib_base::Code;
-use grib_packing::bit_length;
 use std::simd::prelude::*;
 
 /// The runs of 1 to 64 codes from a place on, each kept at the place of its end, counted round 64: all of
@@ -66,21 +66,6 @@ impl Slots {
             primary: [0; 64],
             secondary: [0; 64],
         }
-    }
-
-    /// Adds what one code more costs by the width of each run. It comes before `begin`, so that
-    /// the lanes do not wait for the one cost that is written there.
-    #[inline]
-    pub(crate) fn lengthen(&mut self)
-        ensures cost { (place : ℕ) → place < 64
-            → slice_index self.old.cost place + slice_index self.old.width place < 2 ^ 32
-            → slice_index self.new.cost place ≡ slice_index self.old.cost place + slice_index self.old.width place }
-        ensures numbers { SameNumbers self.old self.new }
-        ensures marks { SameMarks self.old self.new }
-        ensures widths { SameWidths self.old self.new }
-        ensures after { self.new.after ≡ self.old.after }
-    {
-        self.cost = (u32x64::from_array(self.cost) + u32x64::from_array(self.width)).to_array();
     }
 
     /// Puts the run of no codes, before codes of this least cost, at a place.
@@ -219,7 +204,7 @@ impl Slots {
 }
 
 impl Slots {
-    /// Finds the width of the run at each of these places, and its cost.
+    /// Finds the width of the run at each of these places, and its cost without that of one code.
     #[inline]
     pub(crate) fn mend(&mut self, places: u64, at: usize, reserved: u32)
         requires few { reserved ≤ 2 }
@@ -234,20 +219,20 @@ impl Slots {
         let mut rest = places;
         while rest != 0 {
             let place = rest.trailing_zeros();
-            self.mend_one(place as usize, length_at(at, place as usize), reserved);
+            self.mend_one(place as usize, more_at(at, place as usize), reserved);
             rest &= rest - 1;
         }
     }
 
-    /// Finds the width of the run of this length at a place, and its cost.
+    /// Finds the width of the run at a place, and the cost of so many of its codes.
     #[inline]
-    fn mend_one(&mut self, place: usize, length: u32, reserved: u32)
+    fn mend_one(&mut self, place: usize, count: u32, reserved: u32)
         requires place { place < 64 }
-        requires length { length ≤ 64 }
+        requires count { count ≤ 64 }
         requires few { reserved ≤ 2 }
         requires small { slice_index self.old.greatest place + reserved < 2 ^ 32 }
         requires after { slice_index self.old.after place ≤ 2147483648 }
-        ensures priced { (run : List code_io.Code) → Told self.old place run → Priced reserved self.new place length run }
+        ensures priced { (run : List code_io.Code) → Told self.old place run → Priced reserved self.new place count run }
         ensures width { self.new.width ≡ slice_set self.old.width place (slice_index self.new.width place) }
         ensures limit { self.new.limit ≡ slice_set self.old.limit place (slice_index self.new.limit place) }
         ensures cost { self.new.cost ≡ slice_set self.old.cost place (slice_index self.new.cost place) }
@@ -258,7 +243,7 @@ impl Slots {
         let width = self.width_at(place, reserved);
         self.width[place] = width.bits;
         self.limit[place] = width.limit;
-        self.cost[place] = length * width.bits + self.after[place];
+        self.cost[place] = count * width.bits + self.after[place];
     }
 
     /// The width of the run at a place by what is kept of it.
@@ -272,34 +257,52 @@ impl Slots {
     {
         let least = self.least[place];
         let greatest = self.greatest[place];
-        if least < greatest {
-            return width_of_many(least, greatest, reserved);
+        if greatest <= least {
+            return width_of_one(
+                least,
+                greatest,
+                self.primary[place],
+                self.secondary[place],
+                reserved,
+            );
         }
-        width_of_one(
-            least,
-            greatest,
-            self.primary[place],
-            self.secondary[place],
-            reserved,
-        )
+        width_of_many(greatest - least, reserved)
     }
 
-    /// The shortest of the runs from `at` on that cost least with the codes after them, and this cost.
+    /// Adds the cost of one code more to that of each run, and gives the least of them.
     #[inline]
-    pub(crate) fn cheapest(&self, at: usize) -> Cheapest
-        requires { at < 2 ^ 32 }
-        ensures some { 1 ≤ result.length }
-        ensures most { result.length ≤ 64 }
-        ensures cost { slice_index self.now.cost ((at + result.length) % 64) ≡ result.cost }
-        ensures least { (place : ℕ) → place < 64 → result.cost ≤ slice_index self.now.cost place }
-        ensures first { (l : ℕ) → 1 ≤ l → l < result.length → result.cost < slice_index self.now.cost ((at + l) % 64) }
+    pub(crate) fn lengthen(&mut self) -> u32
+        requires { (place : ℕ) → place < 64 → slice_index self.old.cost place + slice_index self.old.width place < 2 ^ 32 }
+        ensures cost { (place : ℕ) → place < 64
+            → slice_index self.new.cost place ≡ slice_index self.old.cost place + slice_index self.old.width place }
+        ensures least { (place : ℕ) → place < 64 → result ≤ slice_index self.new.cost place }
+        ensures one { (place : ℕ) × (place < 64) × (slice_index self.new.cost place ≡ result) }
+        ensures numbers { SameNumbers self.old self.new }
+        ensures marks { SameMarks self.old self.new }
+        ensures widths { SameWidths self.old self.new }
+        ensures after { self.new.after ≡ self.old.after }
     {
-        let cost = least_of(&self.cost);
-        let places = places_of(&self.cost, cost);
-        Cheapest {
-            length: first_from(places, (at + 1) % 64) + 1,
-            cost,
+        let mut least = u32::MAX;
+        for place in 0..64 {
+            let cost = self.cost[place] + self.width[place];
+            self.cost[place] = cost;
+            least = least.min(cost);
         }
+        least
+    }
+
+    /// The length of the shortest of the runs from `at` on that have this cost, the least.
+    #[inline]
+    pub(crate) fn shortest(&self, at: usize, cost: u32) -> u32
+        requires place { at < 2 ^ 32 }
+        requires least { (place : ℕ) → place < 64 → cost ≤ slice_index self.now.cost place }
+        requires one { (place : ℕ) × (place < 64) × (slice_index self.now.cost place ≡ cost) }
+        ensures some { 1 ≤ result }
+        ensures most { result ≤ 64 }
+        ensures here { slice_index self.now.cost ((at + result) % 64) ≡ cost }
+        ensures first { (l : ℕ) → 1 ≤ l → l < result → cost < slice_index self.now.cost ((at + l) % 64) }
+    {
+        first_of(&self.cost, cost, at)
     }
 }
 
@@ -334,28 +337,19 @@ impl Slots {
     }
 
     /// The shortest of the runs from `at` on with the least cost after them, and this cost. It does not rise from one
-    /// place to the next, so that it is the one after 64 codes; the search begins at a length.
+    /// place to the next, so that it is the one after 64 codes.
     #[inline]
-    pub(crate) fn soonest(&self, at: usize, from: u32) -> Cheapest
+    pub(crate) fn soonest(&self, at: usize) -> Cheapest
         requires place { at < 2 ^ 32 }
-        requires some { 1 ≤ from }
-        requires most { from ≤ 64 }
         requires falls { (l : ℕ) → 1 ≤ l → l < 64 → after_of self.now at (l + 1) ≤ after_of self.now at l }
         ensures cost { result.cost ≡ after_of self.now at 64 }
-        ensures some { 1 ≤ result.length }
-        ensures most { result.length ≤ 64 }
-        ensures least { after_of self.now at result.length ≡ result.cost }
-        ensures first { (l : ℕ) → 1 ≤ l → l < result.length → result.cost < after_of self.now at l }
+        ensures soonest { Soonest self.now at result.length }
     {
         let cost = self.after[at % 64];
-        let mut length = from;
-        if self.after[(at + from as usize) % 64] > cost {
-            length = 64;
+        Cheapest {
+            length: first_of(&self.after, cost, at),
+            cost,
         }
-        while length > 1 && self.after[(at + length as usize - 1) % 64] <= cost {
-            length -= 1;
-        }
-        Cheapest { length, cost }
     }
 
     /// Whether the least cost does not rise from `at`, where it is this, over the 64 places after it.
@@ -373,21 +367,31 @@ impl Slots {
     }
 }
 
-/// The width of a run whose numbers are not all the same, in bits.
+/// The width of a run whose numbers are not all the same, from the difference of the greatest and the least.
 #[inline]
-fn width_of_many(least: u32, greatest: u32, reserved: u32) -> Width
+fn width_of_many(spread: u32, reserved: u32) -> Width
     requires few { reserved ≤ 2 }
-    requires small { greatest + reserved < 2 ^ 32 }
-    requires many { least < greatest }
+    requires small { spread + reserved < 2 ^ 32 }
+    ensures is { result.bits ≡ digits (spread + reserved) }
     ensures few { result.bits ≤ 32 }
-    ensures wide { (primary secondary : ℕ) (run : List code_io.Code) → Tells least greatest primary secondary run
-        → Wide reserved result.bits result.limit run }
+    ensures stays { (result.limit ≤ 1) ⊎ (result.limit + reserved ≤ 2 ^ result.bits) }
 {
-    let top = (greatest - least + reserved).ilog2();
+    let bits = digits_of(spread + reserved);
     Width {
-        bits: top + 1,
-        limit: limit_of(top, reserved),
+        bits,
+        limit: limit_of(bits, reserved),
     }
+}
+
+/// The number of binary digits of a number, 0 for 0. It has one digit less than twice the number and 1, which is
+/// never 0, as the search for its highest digit then need not ask.
+#[inline]
+fn digits_of(number: u32) -> u32
+    ensures is { result ≡ digits number }
+    ensures few { result ≤ 32 }
+    ensures below { number < 2 ^ result }
+{
+    63 - (2 * u64::from(number) + 1).leading_zeros()
 }
 
 /// The width of a run whose numbers are all the same, or that has none.
@@ -407,43 +411,45 @@ fn width_of_one(least: u32, greatest: u32, primary: u8, secondary: u8, reserved:
         return Width { bits: 0, limit: 1 };
     }
     Width {
-        bits: bit_length(u64::from(reserved)),
+        bits: digits_of(reserved),
         limit: 1,
     }
 }
 
-/// The difference of numbers below which they take no more than `top + 1` bits beside the reserved codes; 0 where
-/// 32 bits hold any.
+/// The difference of numbers below which they take no more than these bits beside the reserved codes; 0 where 32 bits
+/// hold any.
 #[inline]
-fn limit_of(top: u32, reserved: u32) -> u32
-    requires top { top < 32 }
-    requires few { reserved ≤ 2 }
-    ensures { (result ≤ 1) ⊎ (result + reserved ≤ 2 ^ (top + 1)) }
+fn limit_of(bits: u32, reserved: u32) -> u32
+    requires bits { bits ≤ 32 }
+    requires room { reserved ≤ 2 ^ bits }
+    ensures { (result ≤ 1) ⊎ (result + reserved ≤ 2 ^ bits) }
 {
-    (2u32 << top).wrapping_sub(reserved)
+    (((1u64 << bits) - u64::from(reserved)) % 4294967296) as u32
 }
 
-/// The length of the run from `at` on that ends at a place.
+/// How many codes the run from `at` on that ends at a place has after its first.
 #[inline]
-fn length_at(at: usize, place: usize) -> u32
+fn more_at(at: usize, place: usize) -> u32
     requires { place < 64 }
-    ensures is { result ≡ length_to at place }
+    ensures is { result ≡ length_to at place - 1 }
     ensures most { result ≤ 64 }
 {
-    ((place + 63 - at % 64) % 64 + 1) as u32
+    ((place + 63 - at % 64) % 64) as u32
 }
 
-/// The least of 64 costs.
+/// The least length after which a cost stands, where the cost after a length stands so far from `at` on, counted
+/// round 64.
 #[inline]
-fn least_of(costs: &[u32; 64]) -> u32
-    ensures least { (place : ℕ) → place < 64 → result ≤ slice_index costs.now place }
-    ensures one { (place : ℕ) × (place < 64) × (slice_index costs.now place ≡ result) }
+fn first_of(costs: &[u32; 64], cost: u32, at: usize) -> u32
+    requires place { at < 2 ^ 32 }
+    requires one { (place : ℕ) × (place < 64) × (slice_index costs.now place ≡ cost) }
+    ensures some { 1 ≤ result }
+    ensures most { result ≤ 64 }
+    ensures here { slice_index costs.now ((at + result) % 64) ≡ cost }
+    ensures first { (l : ℕ) → 1 ≤ l → l < result → slice_index costs.now ((at + l) % 64) ≢ cost }
 {
-    let mut least = costs[0];
-    for place in 0..64 {
-        least = least.min(costs[place]);
-    }
-    least
+    let places = places_of(costs, cost);
+    first_from(places, (at + 1) % 64) + 1
 }
 
 /// The places of a cost.

@@ -113,7 +113,7 @@ fn wait_for<K: Performer>(performer: &K, octets: &[u8], fault: Fault) -> Wait
 }
 
 /// Whether octets are refused only for their end, so that more of them may be accepted.
-fn is_truncated(fault: &Fault) -> bool
+pub fn is_truncated(fault: &Fault) -> bool
     ensures { result ≡ outcomes.is_truncated fault.now.reason }
 {
     matches!(fault.reason, Reason::Truncated)

@@ -16,11 +16,13 @@ mod searching;
 mod window;
 
 pub use answering::{LIMIT, answer_within};
+pub use deciding::is_truncated;
 pub use gathering::{Rest, gather, probe};
 pub use grib_causes::{Cause, Kept, Loss, TableRefusal};
 pub use hearing::{Deaf, HearStop, Hearer};
 pub use outcome::Outcome;
 pub use performer::{Performed, Performer, Whole};
 pub use place::{Place, Totals};
+pub use running::read_on;
 pub use searching::octets_before_mark;
 pub use window::{READ, Window};

@@ -92,7 +92,7 @@ pub(crate) fn answer_messages<K: Performer, S: Source, T: Sink, H: Shelf>(
                 count(&mut totals, &message);
                 continue 'messages;
             }
-            Rest::Open => read_on(&mut window, input, &wait, &mut left)?,
+            Rest::Open => read_on(&mut window, input, wait.wanted, &mut left)?,
             Rest::Full => {
                 probe(input)?;
                 return conclude(&wait, &here, &totals, window.len());
@@ -116,20 +116,24 @@ fn count(totals: &mut Totals, message: &Whole)
 }
 
 /// Reads as much as is wanted, as far as the input goes and as much may be taken.
-fn read_on<S: Source>(
+///
+/// # Errors
+///
+/// The input failed, or there is no memory: the outcome of the run.
+pub fn read_on<S: Source>(
     window: &mut Window,
     input: &mut S,
-    wait: &Wait,
+    wanted: u64,
     left: &mut u64,
 ) -> Result<Rest, Outcome>
-    requires few { length window.old.octets < wait.now.wanted }
+    requires few { length window.old.octets < wanted }
     ensures gathers { Gathers (S.left input.old) (S.left input.new) window.old.octets window.new.octets
         left.old left.new }
     ensures stands { IfOk result
-        (λ rest. Stands rest wait.now.wanted (length window.new.octets) left.new (S.left input.new)) }
-    ensures few { OnErr result (length window.new.octets < wait.now.wanted) }
-    ensures short { length window.new.octets ≤ max wait.now.wanted 65536 }
-    ensures room { window.new.room ≤ max window.old.room (wait.now.wanted + 65536) }
+        (λ rest. Stands rest wanted (length window.new.octets) left.new (S.left input.new)) }
+    ensures few { OnErr result (length window.new.octets < wanted) }
+    ensures short { length window.new.octets ≤ max wanted 65536 }
+    ensures room { window.new.room ≤ max window.old.room (wanted + 65536) }
     ensures one_of { IfErr result (λ outcome. (outcome ≡ ReadFault) ⊎ (outcome ≡ Memory)) }
     ensures read_fault { IfErr result (λ outcome. outcome ≡ ReadFault
         → Counted (S.faults input.old) (S.faults input.new)) }
@@ -137,7 +141,7 @@ fn read_on<S: Source>(
         → S.faults input.new ≡ S.faults input.old) }
     ensures calm { OnOk result (S.faults input.new ≡ S.faults input.old) }
 {
-    match gather(window, input, wait.wanted as usize, left) {
+    match gather(window, input, wanted as usize, left) {
         Ok(rest) => Ok(rest),
         Err(Stop::Failed) => Err(Outcome::ReadFault),
         Err(Stop::Memory) => Err(Outcome::Memory),

@@ -1,7 +1,7 @@
 //! Runs that go past what is refused or kept.
 
 use grib_engine::Outcome;
-use grib_runs::{CALM, run_over};
+use grib_runs::gives;
 use grib_samples::{FIRST_EDITION, PLAIN, edited, message_of};
 use std::alloc::{AllocError, Global};
 use std::test::Fail;
@@ -9,24 +9,6 @@ use std::test::Fail;
 // At the end of the input this many refusals were passed, and this many messages kept.
 fn passed(refused: u64, kept: u64) -> Outcome {
     Outcome::Passed { refused, kept }
-}
-
-// Whether a run over octets in pieces of each size ends so, with this output and these notes.
-fn gives(
-    alloc: Global,
-    words: &str,
-    octets: &[u8],
-    outcome: Outcome,
-    output: &[u8],
-    notes: &str,
-) -> Result<bool, AllocError> {
-    for piece in [1, 7, 600] {
-        let ran = run_over(alloc, words, octets, piece, CALM)?;
-        if !ran.gave(outcome, output, notes) {
-            return Ok(false);
-        }
-    }
-    Ok(true)
 }
 
 // Whether `check` past one refusal prints these lines and notes.

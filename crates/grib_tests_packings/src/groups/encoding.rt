@@ -2,6 +2,7 @@
 
 use grib_base::Code;
 use grib_bits::BitWriter;
+use grib_codes::{Codes, word_of};
 use grib_groups::{Layout, encode_groups, encode_measured_groups, measures_of};
 use std::test::Fail;
 
@@ -24,7 +25,12 @@ const LAYOUT: Layout = Layout {
 
 #[test]
 fn a_primary_missing_value(rt: HostRuntime) -> Result<(), Fail> {
-    let codes = [Code::Present(5), PRIMARY, Code::Present(6)];
+    let words = [
+        word_of(Code::Present(5)),
+        word_of(PRIMARY),
+        word_of(Code::Present(6)),
+    ];
+    let codes = Codes::of(&words, 1);
     let mut out = BitWriter::new(rt.alloc());
     out.reserve(32)?;
     encode_groups(&codes, &[3], &LAYOUT, &mut out);
@@ -35,7 +41,13 @@ fn a_primary_missing_value(rt: HostRuntime) -> Result<(), Fail> {
 
 #[test]
 fn marks_alone(rt: HostRuntime) -> Result<(), Fail> {
-    let codes = [PRIMARY, SECONDARY, PRIMARY, SECONDARY];
+    let words = [
+        word_of(PRIMARY),
+        word_of(SECONDARY),
+        word_of(PRIMARY),
+        word_of(SECONDARY),
+    ];
+    let codes = Codes::of(&words, 2);
     let mut out = BitWriter::new(rt.alloc());
     out.reserve(32)?;
     let layout = Layout {
@@ -53,12 +65,13 @@ fn marks_alone(rt: HostRuntime) -> Result<(), Fail> {
 
 #[test]
 fn a_number_that_would_be_all_ones(rt: HostRuntime) -> Result<(), Fail> {
-    let codes = [
-        Code::Present(7),
-        PRIMARY,
-        Code::Present(7),
-        Code::Present(7),
+    let words = [
+        word_of(Code::Present(7)),
+        word_of(PRIMARY),
+        word_of(Code::Present(7)),
+        word_of(Code::Present(7)),
     ];
+    let codes = Codes::of(&words, 1);
     let mut out = BitWriter::new(rt.alloc());
     out.reserve(32)?;
     let layout = Layout {
@@ -76,12 +89,13 @@ fn a_number_that_would_be_all_ones(rt: HostRuntime) -> Result<(), Fail> {
 
 #[test]
 fn a_group_of_width_0_with_known_references_and_widths(rt: HostRuntime) -> Result<(), Fail> {
-    let codes = [
-        Code::Present(0),
-        Code::Present(0),
-        Code::Present(16),
-        Code::Present(11),
+    let words = [
+        word_of(Code::Present(0)),
+        word_of(Code::Present(0)),
+        word_of(Code::Present(16)),
+        word_of(Code::Present(11)),
     ];
+    let codes = Codes::of(&words, 0);
     let mut out = BitWriter::new(rt.alloc());
     out.reserve(48)?;
     let layout = Layout {
@@ -102,12 +116,13 @@ fn a_group_of_width_0_with_known_references_and_widths(rt: HostRuntime) -> Resul
 
 #[test]
 fn numbers_of_eight_bits(rt: HostRuntime) -> Result<(), Fail> {
-    let codes = [
-        Code::Present(6),
-        Code::Present(126),
-        Code::Present(65),
-        Code::Present(171),
+    let words = [
+        word_of(Code::Present(6)),
+        word_of(Code::Present(126)),
+        word_of(Code::Present(65)),
+        word_of(Code::Present(171)),
     ];
+    let codes = Codes::of(&words, 0);
     let mut out = BitWriter::new(rt.alloc());
     out.reserve(56)?;
     let layout = Layout {

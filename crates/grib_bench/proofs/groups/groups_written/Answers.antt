@@ -1,4 +1,4 @@
-use Rattle.std.proofs.Common.{ℕ, List, length, ap, arith}
+use Rattle.std.proofs.Common.{ℕ, ◌*◌, ◌^◌, List, length, ap, arith}
 use Rattle.grib_packing.specs.Packed.{group_parts}
 use Rattle.grib_packing.proofs.Bounds.{width_bits-few}
 use Rattle.grib_bench.proofs.Room.{groups_most}
@@ -14,10 +14,12 @@ pub encode_groups-requires-clause-room : goal.encode_groups-requires-clause-room
 encode_groups-requires-clause-room c =
     let most = groups_most c.args.groups.now.layout c.args.codes.now c.args.groups.now.lengths.items c.requires.lays_out in
     let same = ap (λ (ls : List ℕ). length (group_parts c.args.groups.now.layout.management c.args.codes.now ls)) c.deref.ensures.value in
-    omega (arith, most, same, c.in_ok-reserve.ensures.spare, c.room_for.ensures)
+    let product = ap (λ (n : ℕ). 2 ^ c.args.groups.now.layout.width_bits * n) c.len.ensures in
+    omega (arith, most, same, product, c.in_ok-reserve.ensures.spare, c.room_for.ensures)
 
 pub encode_measured_groups-requires-clause-room : goal.encode_measured_groups-requires-clause-room
 encode_measured_groups-requires-clause-room c =
     let most = groups_most c.args.groups.now.layout c.args.codes.now c.args.groups.now.lengths.items c.requires.lays_out in
     let same = ap (λ (ls : List ℕ). length (group_parts c.args.groups.now.layout.management c.args.codes.now ls)) c.deref-in-MeasuredGroups.ensures.value in
-    omega (arith, most, same, c.in_ok-reserve.ensures.spare, c.room_for.ensures)
+    let product = ap (λ (n : ℕ). 2 ^ c.args.groups.now.layout.width_bits * n) c.len.ensures in
+    omega (arith, most, same, product, c.in_ok-reserve.ensures.spare, c.room_for.ensures)

@@ -4,8 +4,10 @@ use Rattle.std.specs.Io.KnownBytes.{Appends}
 use Rattle.grib_stream.specs.Acts.{world}
 use Rattle.grib_stream.specs.Faults.{OneCounted}
 use Rattle.grib_stream.proofs.Exits.{cut_broken}
+use Rattle.grib_stream.proofs.Worlds.{did_keep}
 use Rattle.grib_passing.specs.Deeds.{outside}
 use Rattle.grib_passing_law.specs.Leaving.{JudgesPast, LeavesPast}
+use Rattle.grib_passing_law.specs.Shelved.{LeavesPartsPast}
 use Rattle.grib_stream.specs.declared.outcome.Outcome.TheVariants.{WriteFault, Memory}
 use Rattle.grib_answers.specs.Outcomes.{NotesFront}
 use Rattle.grib_answers.proofs.Noted.{memory_stands}
@@ -13,7 +15,7 @@ use Rattle.grib_tasks.specs.Passing.{ServesPassing, StandsBehind}
 use Rattle.grib_tasks.specs.Tasks.{work_of}
 use Rattle.grib_cli.specs.Words.{job_of}
 use Rattle.grib_cli.proofs.Runs.{OneOf, asks, if_asked, if_unasked, one_at_memory, cut_memory, memory_front, other_front}
-use Rattle.grib_cli.proofs.Passing.{serves_nothing, stands_work, plain_note, counts_unasked, ok_unasked}
+use Rattle.grib_cli.proofs.Passing.{runs_work, serves_nothing, stands_work, plain_note, counts_unasked, ok_unasked}
 use Rattle.grib_cli.proofs.past.run_past.Goals as goal
 
 pub returns-in-Ok-clause-passes : goal.returns-in-Ok-clause-passes
@@ -58,6 +60,28 @@ returns-in-Err-clause-fields g c = λ unbroken.
     if_asked (job_of (map string_bytes c.args.words.now)) c.in-Err.fault _ c.in-Err.ensures.asked
     (λ memory job. absurd (false≢true (sym unbroken ∙ cut_broken c.close_with_note.result
     (cut_memory c.in-Err.fault c.close_with_note.result memory (subst (λ o. OneOf o c.close_with_note.result) c.outcome_of.ensures c.close_with_note.ensures.ends.one_of)))))
+
+pub returns-in-Ok-clause-parts : goal.returns-in-Ok-clause-parts
+returns-in-Ok-clause-parts g c =
+    subst (λ r. IfOk r (λ job. LeavesPartsPast job c.args.passing c.serve_passing.result (g.S.Source.left c.args.input.now) (g.S.Source.left c.serve_passing.new.input)
+    (outside (world (g.T.Sink.contents c.args.output.now) (g.H.Shelf.contents c.args.shelf.now)) (g.N.Sink.contents c.args.notes.now))
+    (outside (world (g.T.Sink.contents c.serve_passing.new.output) (g.H.Shelf.contents c.serve_passing.new.shelf)) (g.N.Sink.contents c.serve_passing.new.notes))))
+    (asks c.in-Ok.job (map string_bytes c.args.words.now) c.in-Ok.ensures.asked)
+    (c.what_split_leaves_past_others.ensures c.in-Ok.job c.args.passing c.serve_passing.result _ _ _ _ c.serve_passing.ensures.runs)
+
+pub returns-in-Err-clause-parts : goal.returns-in-Err-clause-parts
+returns-in-Err-clause-parts g c =
+    let fault = c.in-Err.fault in
+    let result = c.close_with_note.result in
+    let one = subst (λ o. OneOf o result) c.outcome_of.ensures c.close_with_note.ensures.ends.one_of in
+    let noted = subst (λ o. NotesFront (g.N.Sink.contents c.args.notes.now) (g.N.Sink.contents c.close_with_note.new.notes) _ o) c.outcome_of.ensures c.close_with_note.ensures.ends.noted_front in
+    let before = outside (world (g.T.Sink.contents c.args.output.now) (g.H.Shelf.contents c.args.shelf.now)) (g.N.Sink.contents c.args.notes.now) in
+    let now = outside (world (g.T.Sink.contents c.close_with_note.new.output) (g.H.Shelf.contents c.args.shelf.now)) (g.N.Sink.contents c.close_with_note.new.notes) in
+    if_asked (job_of (map string_bytes c.args.words.now)) fault _ c.in-Err.ensures.asked
+    (λ memory job. c.what_split_leaves_past_others.ensures job c.args.passing result (g.S.Source.left c.args.input.now) (g.S.Source.left c.args.input.now) before now
+    (runs_work c.args.passing result (g.S.Source.left c.args.input.now) before now (cut_memory fault result memory one)
+    (did_keep (g.T.Sink.contents c.args.output.now) (g.T.Sink.contents c.close_with_note.new.output) (g.H.Shelf.contents c.args.shelf.now) c.close_with_note.ensures.output_kept)
+    (memory_front fault (g.N.Sink.contents c.args.notes.now) (g.N.Sink.contents c.close_with_note.new.notes) memory noted) (work_of job)))
 
 pub returns-in-Ok-clause-stands : goal.returns-in-Ok-clause-stands
 returns-in-Ok-clause-stands g c =

@@ -148,6 +148,12 @@ pub returns-in-Some-clause-passes_fields : goal.returns-in-Some-clause-passes_fi
 returns-in-Some-clause-passes_fields g c = λ unbroken.
     some_past _ (passing_of (map string_bytes c.args.words.now)) c.in-Some.passing (sym c.in-Some.is ∙ c.passing_of.ensures) (c.run_past.ensures.fields unbroken)
 
+pub returns-in-None-clause-passes_parts : goal.returns-in-None-clause-passes_parts
+returns-in-None-clause-passes_parts g c = none_past _ (passing_of (map string_bytes c.args.words.now)) (sym c.in-None.is ∙ c.passing_of.ensures)
+
+pub returns-in-Some-clause-passes_parts : goal.returns-in-Some-clause-passes_parts
+returns-in-Some-clause-passes_parts g c = some_past _ (passing_of (map string_bytes c.args.words.now)) c.in-Some.passing (sym c.in-Some.is ∙ c.passing_of.ensures) c.run_past.ensures.parts
+
 pub returns-in-None-clause-passes_stand : goal.returns-in-None-clause-passes_stand
 returns-in-None-clause-passes_stand g c = none_past _ (passing_of (map string_bytes c.args.words.now)) (sym c.in-None.is ∙ c.passing_of.ensures)
 

@@ -9,18 +9,18 @@ use Rattle.grib_groups.proofs.encoding.put_widths.Goals as goal
 pub split_at-run-requires : goal.split_at-run-requires
 split_at-run-requires c = grouping-within c.args.lengths.now c.loop-length.length-index (omega arith) (length c.loop-length.rest) c.loop-length.invariant.grouping
 
-pub next_of-measure-requires-clause-codes : goal.next_of-measure-requires-clause-codes
-next_of-measure-requires-clause-codes c = all_below c.args.reserved _ (told_run c.args.reserved c.loop-length.rest c.split_at-run.result.0 _ c.split_at-run.ensures.front c.loop-length.invariant.codes)
+pub next_measure-measure-requires-clause-codes : goal.next_measure-measure-requires-clause-codes
+next_measure-measure-requires-clause-codes c = all_below c.args.reserved _ (told_run c.args.reserved c.loop-length.rest c.split_at-run.result.0 _ c.split_at-run.ensures.front c.loop-length.invariant.codes)
 
-pub next_of-measure-requires-clause-known : goal.next_of-measure-requires-clause-known
-next_of-measure-requires-clause-known c =
+pub next_measure-measure-requires-clause-known : goal.next_measure-measure-requires-clause-known
+next_measure-measure-requires-clause-known c =
     known-here c.args.reserved c.args.reference_bits c.args.lengths.now c.loop-length.length-index (omega arith) c.loop-length.told.now c.loop-length.rest c.split_at-run.result.0
     c.split_at-run.ensures.front c.loop-length.invariant.known
 
 pub put-requires-clause-fits : goal.put-requires-clause-fits
 put-requires-clause-fits c =
     fits-here c.args.lengths.now c.loop-length.length-index (omega arith) (width_of c.args.reserved) (2 ^ c.args.bits) c.from.result c.loop-length.rest c.split_at-run.result.0
-    c.split_at-run.ensures.front (c.from.ensures ∙ c.next_of-measure.ensures.width) c.loop-length.invariant.fits
+    c.split_at-run.ensures.front (c.from.ensures ∙ c.next_measure-measure.ensures.width) c.loop-length.invariant.fits
 
 pub put-requires-clause-room : goal.put-requires-clause-room
 put-requires-clause-room c =
@@ -43,7 +43,7 @@ loop-length-preserved c =
       fits = fits-next lengths i (omega arith) (λ xs. width_of c.args.reserved xs < 2 ^ c.args.bits) rest after c.split_at-run.ensures.back c.loop-length.invariant.fits;
       written =
           field_more lengths i (omega arith) (width_of c.args.reserved) c.args.bits c.args.out.now c.loop-length.out c.put.new.self _ c.from.result rest run after
-          c.split_at-run.ensures.front c.split_at-run.ensures.back (c.from.ensures ∙ c.next_of-measure.ensures.width) c.loop-length.invariant.written c.put.ensures.bits c.put.ensures.spare;
+          c.split_at-run.ensures.front c.split_at-run.ensures.back (c.from.ensures ∙ c.next_measure-measure.ensures.width) c.loop-length.invariant.written c.put.ensures.bits c.put.ensures.spare;
     }
 
 pub returns : goal.returns

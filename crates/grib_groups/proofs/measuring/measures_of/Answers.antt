@@ -17,7 +17,7 @@ loop-length-preserved c =
     let rest = c.loop-length.rest in
     let run = c.split_at-run.result.0 in
     let after = c.split_at-run.result.1 in
-    let measure = c.of_stretch.result in
+    let measure = c.of.result in
     let before = c.loop-length.measures.items in
     record {
       grouping = grouping-next lengths i c.loop-length-test.true rest after c.split_at-run.ensures.back c.loop-length.invariant.grouping;
@@ -26,7 +26,7 @@ loop-length-preserved c =
           subst (λ (ms : List Measure). AreMeasures c.args.reserved c.args.bits ms (runs lengths c.args.codes.now))
           (sym (append_assoc before (measure ∷ []) more) ∙ ap (λ (ms : List Measure). ms ++ more) (sym c.in_ok-push.ensures.items))
           (c.loop-length.invariant.are (measure ∷ more)
-          (known-more c.args.reserved c.args.bits lengths i c.loop-length-test.true measure more rest run after c.split_at-run.ensures.front c.split_at-run.ensures.back c.of_stretch.ensures.is are));
+          (known-more c.args.reserved c.args.bits lengths i c.loop-length-test.true measure more rest run after c.split_at-run.ensures.front c.split_at-run.ensures.back c.of.ensures.is are));
       count = omega (arith, ap length c.in_ok-push.ensures.items, length-append before (measure ∷ []), c.loop-length.invariant.count);
     }
 

@@ -3,7 +3,7 @@ use Rattle.grib_packing.specs.Groupings.{width_of}
 use Rattle.grib_split.specs.Costs.{header_of}
 use Rattle.grib_split.specs.Runs.{Afters}
 use Rattle.grib_split.proofs.Begin.{same_but, waits_begun, afters_begun}
-use Rattle.grib_split.proofs.Going.{longer, afters_same, best_same}
+use Rattle.grib_split.proofs.Going.{afters_same, best_same}
 use Rattle.grib_split.proofs.choosing.best_of_all.Goals as goal
 use Rattle.grib_split.proofs.choosing.best_of_all.Goals.{After-begin}
 
@@ -13,13 +13,11 @@ best_at-requires-clause-runs c =
     let costs = c.args.costs.now in
     let codes = c.args.codes.now in
     let at = c.args.at in
-    let t = c.lengthen.ensures in
     let b = c.begin.ensures in
-    let old = c.lengthen.new.self in
+    let old = c.args.slots.now in
     let new = c.begin.new.self in
     let same = same_but old new ((at + 1) % 64) _ _ _ _ _ _ _ _ b.least b.greatest b.primary b.secondary b.width b.limit b.cost b.after in
-    waits_begun costs.reserved codes at c.args.cost old new b.here same
-    (longer costs codes (at + 1) c.args.slots.now old q.split t.cost t.numbers t.marks t.widths t.after q.after q.runs)
+    waits_begun costs.reserved codes at c.args.cost old new b.here same q.runs
 
 -- what comes after the runs that wait for the code
 afters_here : (c : After-begin) → Afters (header_of c.args.costs.now) c.args.costs.now.reserved c.args.codes.now c.args.at c.begin.new.self
@@ -30,11 +28,10 @@ afters_here c =
     let codes = c.args.codes.now in
     let at = c.args.at in
     let b = c.begin.ensures in
-    let old = c.lengthen.new.self in
+    let old = c.args.slots.now in
     let new = c.begin.new.self in
     let same = same_but old new ((at + 1) % 64) _ _ _ _ _ _ _ _ b.least b.greatest b.primary b.secondary b.width b.limit b.cost b.after in
-    afters_begun header k codes at c.args.cost old new q.place b.here same q.cost
-    (afters_same header k codes (at + 1) c.args.slots.now old c.lengthen.ensures.after q.after)
+    afters_begun header k codes at c.args.cost old new q.place b.here same q.cost q.after
 
 pub best_at-requires-clause-after : goal.best_at-requires-clause-after
 best_at-requires-clause-after c = afters_here (goal.at.best_at-requires-clause-after c).After-begin

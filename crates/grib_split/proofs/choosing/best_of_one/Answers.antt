@@ -1,9 +1,28 @@
 use Rattle.std.proofs.Common.{◌≡◌, ◌+◌, ◌≤◌, arith}
 use Rattle.grib_split.specs.Costs.{header_of}
 use Rattle.grib_split.specs.Runs.{after_of}
-use Rattle.grib_split.proofs.Steadily.{falls_to, falls_next, falls_here}
+use Rattle.grib_split.proofs.Steadily.{falls_to, falls_next, falls_here, soonest_on, cost_on}
 use Rattle.grib_split.proofs.choosing.best_of_one.Goals as goal
 use Rattle.grib_split.proofs.choosing.best_of_one.Goals.{After-soonest-least}
+
+pub returns-then-next-lt64-clause-soonest : goal.returns-then-next-lt64-clause-soonest
+returns-then-next-lt64-clause-soonest c =
+    let q = c.requires in
+    let p = c.put_after.ensures in
+    soonest_on (header_of c.args.costs.now) c.args.at c.args.next.cost c.args.next.length c.args.slots.now c.put_after.new.self p.after p.here q.falls q.cost (omega arith) q.soonest c.if-next-lt64.true
+
+pub returns-then-next-lt64-clause-falls : goal.returns-then-next-lt64-clause-falls
+returns-then-next-lt64-clause-falls c =
+    let q = c.requires in
+    let p = c.put_after.ensures in
+    let now = cost_on (header_of c.args.costs.now) c.args.at c.args.next.cost c.args.next.length c.args.slots.now c.put_after.new.self p.after p.here q.falls q.cost q.soonest c.if-next-lt64.true in
+    falls_here (header_of c.args.costs.now) c.args.at c.args.next.cost c.args.next.cost c.args.slots.now c.put_after.new.self p.after p.here q.falls q.cost now
+
+pub returns-then-next-lt64-clause-cost : goal.returns-then-next-lt64-clause-cost
+returns-then-next-lt64-clause-cost c =
+    let q = c.requires in
+    let p = c.put_after.ensures in
+    cost_on (header_of c.args.costs.now) c.args.at c.args.next.cost c.args.next.length c.args.slots.now c.put_after.new.self p.after p.here q.falls q.cost q.soonest c.if-next-lt64.true
 
 pub soonest-least-requires-clause-falls : goal.soonest-least-requires-clause-falls
 soonest-least-requires-clause-falls c =
@@ -15,14 +34,14 @@ least_cost c =
     let next = falls_next c.args.at c.args.next.cost c.args.slots.now c.put_after.new.self c.put_after.ensures.after c.put_after.ensures.here c.requires.falls in
     omega (arith, c.soonest-least.ensures.cost, c.put_after.ensures.here, c.requires.small, falls_to (after_of c.put_after.new.self c.args.at) next 1 64 (omega arith) (omega arith) (omega arith))
 
-pub overflow_add-result : goal.overflow_add-result
-overflow_add-result c = record { fits = omega (arith, least_cost (goal.at.overflow_add-result c).After-soonest-least, c.requires.header) }
-
 pub overflow_add-result-2 : goal.overflow_add-result-2
 overflow_add-result-2 c = record { fits = omega (arith, least_cost (goal.at.overflow_add-result-2 c).After-soonest-least, c.requires.header) }
 
 pub overflow_add-result-3 : goal.overflow_add-result-3
 overflow_add-result-3 c = record { fits = omega (arith, least_cost (goal.at.overflow_add-result-3 c).After-soonest-least, c.requires.header) }
+
+pub overflow_add-result-4 : goal.overflow_add-result-4
+overflow_add-result-4 c = record { fits = omega (arith, least_cost (goal.at.overflow_add-result-4 c).After-soonest-least, c.requires.header) }
 
 pub returns-clause-falls : goal.returns-clause-falls
 returns-clause-falls c =

@@ -1,12 +1,15 @@
-use Rattle.std.proofs.Common.{◌≡◌, ◌-◌, length}
-use Rattle.grib_split.specs.Alike.{Known}
+use Rattle.std.proofs.Common.{◌≡◌, ◌≤◌, length}
+use Rattle.grib_split.specs.Alike.{HeadsFrom, Known}
 use Rattle.grib_split.specs.Costs.{header_of}
-use Rattle.grib_split.proofs.Choices.{HeadsFrom}
 use Rattle.grib_split.proofs.choosing.least_choices.Given as goal
 
-abbrev pub invariant-loop-done : goal.invariant-loop-done
-invariant-loop-done l = record {
+abbrev pub invariant-loop-at : goal.invariant-loop-at
+invariant-loop-at l = record {
   size : length l.choices ≡ length l.codes;
-  known : Known (header_of l.costs) l.costs.reserved l.codes (length l.codes - l.done) l.slots l.here;
-  heads : HeadsFrom l.costs l.codes (length l.codes - l.done) l.choices;
+  place : l.at ≤ length l.codes;
+  known : Known (header_of l.costs) l.costs.reserved l.codes l.at l.slots l.here;
+  heads : HeadsFrom l.costs l.codes l.at l.choices;
 }
+
+abbrev pub decreases-loop-at : goal.decreases-loop-at
+decreases-loop-at l = l.at

@@ -15,7 +15,7 @@ returns-then-max-eq0-clause-wide c run t =
 
 pub returns-clause-wide : goal.returns-clause-wide
 returns-clause-wide c run t =
-    let e : c.from.result ≡ c.args.greatest - c.args.least + c.args.reserved = omega (arith, c.from.ensures, c.requires.one) in
+    let e : c.args.reserved ≡ c.args.greatest - c.args.least + c.args.reserved = omega (arith, c.requires.one) in
     wide_many c.args.least c.args.greatest c.args.primary c.args.secondary c.args.reserved _ 1 run t c.if-greatest-least.false
-    (λ none. c.if-max-eq0.false (omega (arith, none, c.max.ensures))) (c.bit_length.ensures.is ∙ ap digits e)
-    (c.bit_length.ensures.few (omega (arith, c.from.ensures, c.requires.few))) (inl (omega arith))
+    (λ none. c.if-max-eq0.false (omega (arith, none, c.max.ensures))) (c.digits_of.ensures.is ∙ ap digits e)
+    c.digits_of.ensures.few (inl (omega arith))

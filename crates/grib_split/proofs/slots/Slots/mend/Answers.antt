@@ -1,4 +1,4 @@
-use Rattle.std.proofs.Common.{◌≡◌, ◌≢◌, ℕ, ◌⊎◌, inl, inr, ap, ◌∙◌, subst, arith}
+use Rattle.std.proofs.Common.{◌≡◌, ◌≢◌, ℕ, ◌-◌, ◌⊎◌, inl, inr, ap, ◌∙◌, subst, arith}
 use Rattle.std.specs.Int.{w64, trailing_zeros, bit_at}
 use Rattle.std.proofs.lemmas.Nat.Bits.{bit_at-trailing_zeros, bit_at-zero}
 use Rattle.grib_split.specs.Runs.{Priced, length_to}
@@ -25,12 +25,12 @@ loop-rest-preserved c =
       after = m.after ∙ i.after;
       priced = λ run told right place within unset. elim (same_or_not at_place place) [
         | inl here ↦
-            let P : ℕ → Type 0 = λ p. Priced c.args.reserved c.mend_one.new.self p (length_to c.args.at p) (run p) in
+            let P : ℕ → Type 0 = λ p. Priced c.args.reserved c.mend_one.new.self p (length_to c.args.at p - 1) (run p) in
             let Q : ℕ → Type 0 = λ l. Priced c.args.reserved c.mend_one.new.self at_place l (run at_place) in
-            subst P here (subst Q c.length_at.ensures.is (m.priced (run at_place) (told_same c.args.self.now c.loop-rest.self at_place (run at_place) i.numbers i.marks (told at_place t.0))))
+            subst P here (subst Q c.more_at.ensures.is (m.priced (run at_place) (told_same c.args.self.now c.loop-rest.self at_place (run at_place) i.numbers i.marks (told at_place t.0))))
         | inr other ↦
             let kept : bit_at rest place ≡ 0 = cleared_other rest place c.loop-rest.auto.rest-fits.fits c.loop-rest-test.true other unset in
-            priced_other c.args.reserved c.loop-rest.self c.mend_one.new.self at_place place (length_to c.args.at place) (run place) other m.width m.limit m.cost m.after (i.priced run told right place within kept)
+            priced_other c.args.reserved c.loop-rest.self c.mend_one.new.self at_place place (length_to c.args.at place - 1) (run place) other m.width m.limit m.cost m.after (i.priced run told right place within kept)
       ];
     }
 

@@ -1,0 +1,20 @@
+use Rattle.std.proofs.Common.{◌≡◌, [], ◌∷◌, ◌∙◌, arith, rules}
+use Rattle.grib_base.specs.declared.code.Code.TheVariants.{Primary, Secondary}
+use Rattle.grib_tests_packings.proofs.Words.{four_codes}
+use Rattle.grib_tests_packings.proofs.groups.encoding.marks_alone.Goals as goal
+
+pub encode_groups-requires-clause-lays_out : goal.encode_groups-requires-clause-lays_out
+encode_groups-requires-clause-lays_out g c =
+    let are : c.of-codes.result ≡ Primary ∷ Secondary ∷ Primary ∷ Secondary ∷ [] =
+    c.of-codes.ensures
+    ∙ four_codes 2 c.word_of.result c.word_of-2.result c.word_of-3.result c.word_of-4.result Primary Secondary Primary Secondary
+    (c.word_of.ensures 2 (omega arith) (omega arith)) (c.word_of-2.ensures 2 (omega arith) (omega arith)) (c.word_of-3.ensures 2 (omega arith) (omega arith)) (c.word_of-4.ensures 2 (omega arith) (omega arith)) in
+    rw are (search rules)
+
+pub encode_groups-requires-clause-room : goal.encode_groups-requires-clause-room
+encode_groups-requires-clause-room g c =
+    let are : c.of-codes.result ≡ Primary ∷ Secondary ∷ Primary ∷ Secondary ∷ [] =
+    c.of-codes.ensures
+    ∙ four_codes 2 c.word_of.result c.word_of-2.result c.word_of-3.result c.word_of-4.result Primary Secondary Primary Secondary
+    (c.word_of.ensures 2 (omega arith) (omega arith)) (c.word_of-2.ensures 2 (omega arith) (omega arith)) (c.word_of-3.ensures 2 (omega arith) (omega arith)) (c.word_of-4.ensures 2 (omega arith) (omega arith)) in
+    rw are (search rules)
