@@ -99,7 +99,7 @@ placed_told k (Scaled x ∷ points) (n ∷ numbers) one two each =
     All-cons (IsTold k) (Present n) (placed_codes points numbers) (All-head (λ n. n + k < 2 ^ 32) n numbers each)
     (placed_told k points numbers one two (All-tail (λ n. n + k < 2 ^ 32) n numbers each))
 
-number_small : (k : ℕ) (x : ℤ) → k ≤ 2 → is_outside (greatest_code k) x ≡ false → nat_abs x + k < 2 ^ 32
+pub number_small : (k : ℕ) (x : ℤ) → k ≤ 2 → is_outside (greatest_code k) x ≡ false → nat_abs x + k < 2 ^ 32
 number_small k (pos n) few inside =
     let both = parts_false (nat_lt n 0) (nat_lt (greatest_code k) n) inside in
     omega (arith, ltb-false (greatest_code k) n both.1)

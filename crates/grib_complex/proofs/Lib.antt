@@ -11,6 +11,7 @@ pub mod Begun
 pub mod SoFar
 pub mod Starting
 pub mod CodeByCode
+pub mod Worded
 pub mod GroupByGroup
 pub mod Wholly
 pub mod Differing

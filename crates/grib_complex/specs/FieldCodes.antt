@@ -6,5 +6,5 @@ use Rattle.grib_complex.specs.declared.grouping.FieldCodes.TheVariants.{Each, Sa
 
 -- one for each point
 abbrev pub codes_in : FieldCodes → List Code
-codes_in (Each codes) = codes.items
+codes_in (Each codes) = codes
 codes_in (Same code count) = replicate count code

@@ -1,11 +1,14 @@
 //! The codes of a column.
 
-ghost use Rattle.std.specs.Prelude.{◌≡◌, ◌≤◌, ◌∷◌, [], length, false, true, None, IfOk, MatchOption, MatchResult};
+ghost use Rattle.std.specs.Prelude.{◌≡◌, ◌≤◌, ◌∷◌, [], length, false, true, None, All, IfOk, MatchOption, MatchResult};
 ghost use Rattle.grib_packing.specs.Misfits.{ToComplex, first_misfit, is_outside as is_outside_of, is_scaled_outside, management_of, scaled_numbers as numbers_in};
 ghost use Rattle.grib_packing.specs.Packed.{placed_codes, target_codes};
+ghost use Rattle.grib_packing.specs.Span.{IsTold};
 ghost use Rattle.grib_packing.specs.Written.{IsPackFault};
 
+use crate::words::Words;
 use grib_base::Code;
+use grib_codes::word_of;
 use grib_packing::{PackFault, Point};
 use std::alloc::{AllocError, Global};
 
@@ -40,24 +43,24 @@ pub fn marks(point: Point) -> u8
 /// # Errors
 ///
 /// A scaled number is negative, or it and the reserved codes take more than 32 bits; or there is no memory.
-pub fn plain_codes(alloc: Global, points: &[Point], management: u8) -> Result<Vec<Code>, PackFault>
+pub fn plain_codes(alloc: Global, points: &[Point], management: u8) -> Result<Words, PackFault>
     requires few { length points.now ≤ 33554432 }
     requires management { management ≡ management_of points.now }
     ensures { MatchResult result
-        (λ codes. (first_misfit ToComplex points.now ≡ None) × (codes.items ≡ target_codes ToComplex points.now))
+        (λ codes. (first_misfit ToComplex points.now ≡ None) × (codes ≡ target_codes ToComplex points.now))
         (IsPackFault (first_misfit ToComplex points.now)) }
 {
     let greatest = u32::MAX - u32::from(management);
-    let mut codes = Vec::with_capacity(alloc, points.len())?;
+    let mut words = Vec::with_capacity(alloc, points.len())?;
     for index in 0..points.len() {
         let Some(code) = plain_code(points[index], greatest) else {
             return Err(PackFault::OutOfRange(index as u32 + 1));
         };
-        let Ok(()) = codes.push(code) else {
+        let Ok(()) = words.push(word_of(code)) else {
             return Err(PackFault::Memory);
         };
     }
-    Ok(codes)
+    Ok(Words::of(words, management))
 }
 
 /// The code of a point itself, unless its number is outside 0 to the greatest.
@@ -113,11 +116,14 @@ pub fn codes_at_points(
     alloc: Global,
     points: &[Point],
     numbers: &[u64],
-) -> Result<Vec<Code>, AllocError>
-    requires { length numbers.now ≡ length (numbers_in points.now) }
-    ensures { IfOk result (λ codes. codes.items ≡ placed_codes points.now numbers.now) }
+    management: u8,
+) -> Result<Words, AllocError>
+    requires as_many { length numbers.now ≡ length (numbers_in points.now) }
+    requires few { management ≤ 2 }
+    requires told { All (IsTold management) (placed_codes points.now numbers.now) }
+    ensures { IfOk result (λ codes. codes ≡ placed_codes points.now numbers.now) }
 {
-    let mut codes = Vec::with_capacity(alloc, points.len())?;
+    let mut words = Vec::with_capacity(alloc, points.len())?;
     let mut used = 0;
     for point in points {
         let code = match *point {
@@ -128,7 +134,7 @@ pub fn codes_at_points(
             Point::Missing => Code::Primary,
             Point::Missing2 => Code::Secondary,
         };
-        codes.push(code)?;
+        words.push(word_of(code))?;
     }
-    Ok(codes)
+    Ok(Words::of(words, management))
 }

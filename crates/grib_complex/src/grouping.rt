@@ -7,7 +7,9 @@ ghost use Rattle.grib_packing.specs.Span.{IsTold, IsBelow};
 ghost use Rattle.grib_groups.specs.Encoding.{AreMeasures, LaysOut};
 ghost use Rattle.grib_complex.specs.FieldCodes.{codes_in};
 
+use crate::words::Words;
 use grib_base::Code;
+use grib_codes::Codes;
 use grib_groups::{Layout, Measure, later_measures, measures_of, next_measure};
 use grib_packing::{Span, bit_length};
 use grib_split::{Costs, chosen_lengths, fewest_lengths};
@@ -17,7 +19,7 @@ use std::alloc::{AllocError, Global};
 #[derive(Debug, Drop)]
 pub enum FieldCodes {
     /// One for each point.
-    Each(Vec<Code>),
+    Each(Words),
     /// The code that all points have, and how many points there are.
     Same(Code, u32),
 }
@@ -29,7 +31,7 @@ impl FieldCodes {
         ensures { result ≡ length (codes_in self.now) }
     {
         match self {
-            FieldCodes::Each(codes) => codes.len() as u32,
+            FieldCodes::Each(words) => words.len() as u32,
             FieldCodes::Same(_code, count) => *count,
         }
     }
@@ -67,7 +69,7 @@ pub fn grouping_of(
         Chosen (header_bits management (codes_in codes.now)) (width_of management) (codes_in codes.now) grouping.lengths.items) }
 {
     match codes {
-        FieldCodes::Each(codes) => grouping_of_each(alloc, codes, management),
+        FieldCodes::Each(words) => grouping_of_each(alloc, &words.codes(), management),
         FieldCodes::Same(code, count) => grouping_of_same(alloc, *code, *count, management),
     }
 }
@@ -77,7 +79,11 @@ pub fn grouping_of(
 /// # Errors
 ///
 /// There is no memory for the lengths.
-fn grouping_of_each(alloc: Global, codes: &[Code], management: u8) -> Result<Grouping, AllocError>
+fn grouping_of_each(
+    alloc: Global,
+    codes: &Codes<'_>,
+    management: u8,
+) -> Result<Grouping, AllocError>
     requires some { 1 ≤ length codes.now }
     requires most { length codes.now ≤ 33554432 }
     requires few { management ≤ 2 }
@@ -90,7 +96,7 @@ fn grouping_of_each(alloc: Global, codes: &[Code], management: u8) -> Result<Gro
         Chosen (header_bits management codes.now) (width_of management) codes.now grouping.lengths.items) }
 {
     let reserved = u32::from(management);
-    let span = Span::of(codes);
+    let span = codes.span();
     let costs = Costs {
         reserved,
         reference_bits: span.reference_bits(reserved),
@@ -209,14 +215,14 @@ fn bits_of_groups(
     ensures few { result ≤ 32 * length (codes_in codes.now) }
 {
     match codes {
-        FieldCodes::Each(codes) => bits_of_each(codes, lengths, known, reserved, reference_bits),
+        FieldCodes::Each(words) => bits_of_each(words, lengths, known, reserved, reference_bits),
         FieldCodes::Same(_code, _count) => 0,
     }
 }
 
 /// The grouping of codes that are looked at one after another.
 fn bits_of_each(
-    codes: &[Code],
+    codes: &Words,
     lengths: &[u32],
     known: &[Measure],
     reserved: u32,
@@ -231,12 +237,12 @@ fn bits_of_each(
     ensures is { (bits : ℕ) → result ≡ length (joined (map (group_fields reserved bits) (runs lengths.now codes.now))) }
     ensures few { result ≤ 32 * length codes.now }
 {
-    let mut rest = codes;
+    let mut rest = codes.codes();
     let mut told = known;
     let mut bits = 0;
     for length in lengths {
         let (run, after) = rest.split_at(*length as usize);
-        let measure = next_measure(told, run, reserved, reference_bits);
+        let measure = next_measure(told, &run, reserved, reference_bits);
         bits += *length * u32::from(measure.width);
         rest = after;
         told = later_measures(told);

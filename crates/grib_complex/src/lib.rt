@@ -22,6 +22,7 @@ mod telling;
 mod told_codes;
 mod unpacking;
 mod values;
+mod words;
 mod writing;
 
 pub use feeding::{Feeder, Feeding};

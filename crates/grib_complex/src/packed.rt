@@ -4,7 +4,7 @@ ghost use Rattle.std.specs.Prelude.{◌≡◌, ◌⊎◌, ◌^◌, ◌<◌, All,
 ghost use Rattle.std.specs.List.{list_any};
 ghost use Rattle.grib_packing.specs.Differences.{descriptors_of, difference_codes};
 ghost use Rattle.grib_packing.specs.Entries.{is_out_of_range};
-ghost use Rattle.grib_packing.specs.Misfits.{ToComplex, ToSpatial, are_differences_out, management_of, scaled_numbers as numbers_in};
+ghost use Rattle.grib_packing.specs.Misfits.{ToComplex, ToSpatial, management_of, scaled_numbers as numbers_in};
 ghost use Rattle.grib_packing.specs.Packed.{IsComplex, IsSpatial, target_codes};
 ghost use Rattle.grib_spatial.specs.Undoing.{read_with};
 ghost use Rattle.grib_packing.specs.Span.{IsTold};
@@ -20,7 +20,6 @@ use crate::told_codes::plainly_told;
 use crate::writing::{
     Differencing, complex_representation, groups_section, spatial_representation,
 };
-use grib_base::Code;
 use grib_packing::{Column, PackFault, Packed, Point, no_bitmap, room_for, write_head};
 use grib_simple::common_point;
 use grib_spatial::{Differences, difference};
@@ -155,7 +154,8 @@ fn pack_each(alloc: Global, column: &Column, kind: u8, order: u8) -> Result<Pack
     if are_out(&differences, management) {
         return Err(PackFault::DifferenceRange);
     }
-    let Ok(codes) = codes_at_points(alloc, points, differences.codes.as_slice()) else {
+    let numbers = differences.codes.as_slice();
+    let Ok(codes) = codes_at_points(alloc, points, numbers, management) else {
         return Err(PackFault::Memory);
     };
     let codes = FieldCodes::Each(codes);

@@ -134,7 +134,9 @@ fn put_groups(
     ensures { out.new.bits ≡ out.old.bits ++ group_parts layout.now.management (codes_in codes.now) lengths.now }
 {
     match codes {
-        FieldCodes::Each(codes) => encode_measured_groups(codes, lengths, known, layout, out),
+        FieldCodes::Each(words) => {
+            encode_measured_groups(&words.codes(), lengths, known, layout, out)
+        }
         FieldCodes::Same(code, count) => encode_same(*code, *count, lengths, layout, out),
     }
 }

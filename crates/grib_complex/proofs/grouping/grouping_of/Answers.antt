@@ -8,7 +8,7 @@ use Rattle.grib_complex.proofs.grouping.grouping_of.Goals as goal
 pub returns-in-Each-clause-chosen : goal.returns-in-Each-clause-chosen
 returns-in-Each-clause-chosen c =
     let k = c.args.management in
-    let same : codes_in c.args.codes.now ≡ c.deref.result.now = ap codes_in c.in-Each.is ∙ sym c.deref.ensures.value in
+    let same : codes_in c.args.codes.now ≡ c.codes.result = ap codes_in c.in-Each.is ∙ sym c.codes.ensures in
     subst (λ (cs : List Code). IfOk c.grouping_of_each.result (λ grouping. Chosen (header_bits k cs) (width_of k) cs grouping.lengths.items)) (sym same) c.grouping_of_each.ensures.chosen
 
 pub returns-in-Same-clause-chosen : goal.returns-in-Same-clause-chosen
@@ -19,7 +19,7 @@ returns-in-Same-clause-chosen c =
 
 pub returns-in-Each-clause-known : goal.returns-in-Each-clause-known
 returns-in-Each-clause-known c =
-    let same : codes_in c.args.codes.now ≡ c.deref.result.now = ap codes_in c.in-Each.is ∙ sym c.deref.ensures.value in
+    let same : codes_in c.args.codes.now ≡ c.codes.result = ap codes_in c.in-Each.is ∙ sym c.codes.ensures in
     subst (λ (cs : List Code). IfOk c.grouping_of_each.result
     (λ grouping. AreMeasures grouping.layout.management grouping.layout.reference_bits grouping.measures.items (runs grouping.lengths.items cs))) (sym same) c.grouping_of_each.ensures.known
 

@@ -10,7 +10,7 @@ use Rattle.grib_complex.proofs.grouping.grouping_of_each.Goals as goal
 pub width-requires-clause-small : goal.width-requires-clause-small
 width-requires-clause-small c =
     let k = c.args.management in
-    let small = c.of-span.ensures.small k c.requires.few (all_below k c.args.codes.now c.requires.codes) in
+    let small = c.span-span.ensures.small k c.requires.few (all_below k c.args.codes.now c.requires.codes) in
     omega (arith, small, c.from-reserved.ensures)
 
 -- the bits of widths
@@ -29,7 +29,7 @@ chosen_lengths-requires c =
         reserved = omega (arith, c.from-reserved.ensures, c.requires.few);
         references = c.reference_bits.ensures.few;
         widths = width_bits-few k c.bit_length.result codes
-            (widths_are k c.from-reserved.result c.bit_length.result c.from.result c.width.result codes c.from-reserved.ensures c.bit_length.ensures.is c.from.ensures (c.width.ensures.is codes c.of-span.ensures.span))
+            (widths_are k c.from-reserved.result c.bit_length.result c.from.result c.width.result codes c.from-reserved.ensures c.bit_length.ensures.is c.from.ensures (c.width.ensures.is codes c.span-span.ensures.span))
             c.requires.few c.requires.codes;
         codes = subst (λ (j : ℕ). All (IsBelow j) codes) (sym c.from-reserved.ensures) (all_below k codes c.requires.codes);
       };
@@ -60,9 +60,9 @@ returns-clause-lays_out c =
       codes_are_told = c.requires.codes;
       grouping = chosen.grouping;
       groups = count;
-      reference_bits = c.reference_bits.ensures.is codes c.of-span.ensures.span ∙ ap (λ (j : ℕ). reference_bits_of j codes) c.from-reserved.ensures;
+      reference_bits = c.reference_bits.ensures.is codes c.span-span.ensures.span ∙ ap (λ (j : ℕ). reference_bits_of j codes) c.from-reserved.ensures;
       width_reference = omega arith;
-      width_bits = widths_are k c.from-reserved.result c.bit_length.result c.from.result c.width.result codes c.from-reserved.ensures c.bit_length.ensures.is c.from.ensures (c.width.ensures.is codes c.of-span.ensures.span);
+      width_bits = widths_are k c.from-reserved.result c.bit_length.result c.from.result c.width.result codes c.from-reserved.ensures c.bit_length.ensures.is c.from.ensures (c.width.ensures.is codes c.span-span.ensures.span);
       length_reference = omega arith;
       length_increment = omega arith;
       last_length = get_or_read lengths (c.len-2.result - 1) c.index.result.now within c.index.ensures 0 ∙ ap (λ (n : ℕ). get_or lengths (n - 1) 0) again;
@@ -74,7 +74,7 @@ returns-clause-chosen c =
     let k = c.args.management in
     let codes = c.args.codes.now in
     let lengths = c.in_ok-lengths.lengths.items in
-    let references = c.reference_bits.ensures.is codes c.of-span.ensures.span ∙ ap (λ (j : ℕ). reference_bits_of j codes) c.from-reserved.ensures in
-    let widths = widths_are k c.from-reserved.result c.bit_length.result c.from.result c.width.result codes c.from-reserved.ensures c.bit_length.ensures.is c.from.ensures (c.width.ensures.is codes c.of-span.ensures.span) in
+    let references = c.reference_bits.ensures.is codes c.span-span.ensures.span ∙ ap (λ (j : ℕ). reference_bits_of j codes) c.from-reserved.ensures in
+    let widths = widths_are k c.from-reserved.result c.bit_length.result c.from.result c.width.result codes c.from-reserved.ensures c.bit_length.ensures.is c.from.ensures (c.width.ensures.is codes c.span-span.ensures.span) in
     let header : c.reference_bits.result + c.bit_length.result + length_bits ≡ header_bits k codes = ap₂ (λ (r w : ℕ). r + w + length_bits) references widths in
     subst₂ (λ (h j : ℕ). Chosen h (width_of j) codes lengths) header c.from-reserved.ensures c.in_ok-lengths.ensures
