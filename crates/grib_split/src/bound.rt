@@ -61,8 +61,8 @@ fn block_bits(codes: &Codes<'_>, from: usize, costs: &Costs) -> u32
     rest[BLOCK]
 }
 
-/// Bits that no grouping of so many codes from `from` on takes fewer than; `rest` tells such bits for each smaller
-/// count of the last ones of them.
+/// Bits that no grouping of `count` codes from `from` on takes fewer than. `rest` tells such bits for each smaller
+/// count of the last of these codes.
 #[inline]
 fn best_of(codes: &Codes<'_>, from: usize, count: usize, costs: &Costs, rest: &[u32; 9]) -> u32
     requires split { CanSplit costs.now codes.now }
