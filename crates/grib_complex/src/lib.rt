@@ -4,6 +4,7 @@
 mod coding;
 mod constant;
 mod descriptors;
+mod difference_coding;
 mod differencing;
 mod feeding;
 mod field;
