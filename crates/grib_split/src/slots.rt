@@ -417,8 +417,8 @@ fn width_of_one(least: u32, greatest: u32, primary: u8, secondary: u8, reserved:
     }
 }
 
-/// The difference of numbers below which they take no more than these bits beside the reserved codes; 0 where 32 bits
-/// hold any.
+/// The difference of numbers below which they take no more than these bits beside the reserved codes. It is 0 in
+/// place of 4,294,967,296: the width of such a run is found anew with each code.
 #[inline]
 fn limit_of(bits: u32, reserved: u32) -> u32
     requires bits { bits ≤ 32 }
@@ -428,7 +428,7 @@ fn limit_of(bits: u32, reserved: u32) -> u32
     (((1u64 << bits) - u64::from(reserved)) % 4294967296) as u32
 }
 
-/// How many codes the run from `at` on that ends at a place has after its first.
+/// How many codes the run from `at` on that ends at a place has after its first: it ends so far behind the shortest.
 #[inline]
 fn more_at(at: usize, place: usize) -> u32
     requires { place < 64 }
@@ -439,7 +439,7 @@ fn more_at(at: usize, place: usize) -> u32
     ((place + 64 - start) % 64) as u32
 }
 
-/// The least length after which a cost stands, where the cost after a length stands so far from `at` on, counted
+/// The least length with this cost, where the costs of the lengths 1 to 64 stand at the places after `at`, counted
 /// round 64.
 #[inline]
 fn first_of(costs: &[u32; 64], cost: u32, at: usize) -> u32
