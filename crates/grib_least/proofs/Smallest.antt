@@ -1,34 +1,12 @@
 -- Lemmas on the first of the smallest forms.
-use Rattle.std.proofs.Common.{◌≡◌, ℕ, ◌≤◌, Bool, true, false, cond, nat_lt, Option, Some, None, unwrap_or, List, [], ◌∷◌, inl, inr, refl, ap, ◌∙◌, arith, subst, le-ltb, ltb-false}
+use Rattle.std.proofs.Common.{◌≡◌, ℕ, ◌+◌, ◌≤◌, ◌<◌, ◌⊎◌, Bool, true, false, cond, nat_lt, min, Option, Some, None, unwrap_or, List, [], ◌∷◌, inl, inr, refl, sym, ap, ◌∙◌, arith, subst, lt-ltb, le-ltb, ltb-false}
 use Rattle.std.specs.List.{cons_option, filter_map}
 use Rattle.std.proofs.lemmas.Bool.{ltb-true}
 use Rattle.grib_packing.specs.Misfits.{Target, ToSimple, ToComplex, ToSpatial, Misfit}
 use Rattle.grib_packing.specs.Written.{IsTarget}
 use Rattle.grib_packing.specs.declared.written.Packed.{Packed}
 use Rattle.grib_least.specs.Least.{targets, unless_misfit, size_of, smaller, smallest}
-
--- ---- forms one after another
-
-one_more : (best : Packed) (form : Option Packed) (later : List Packed) → smallest (smallest best (cons_option form [])) later ≡ smallest best (cons_option form later)
-one_more best (Some form) later = refl
-one_more best None later = refl
-
--- four of them
-module _ (f : Target → Option Packed) (best : Packed) (a b c d : Target) where
-  abbrev one : Packed
-  one = smallest best (filter_map f (a ∷ []))
-
-  abbrev two : Packed
-  two = smallest one (filter_map f (b ∷ []))
-
-  abbrev three : Packed
-  three = smallest two (filter_map f (c ∷ []))
-
-  pub four : smallest three (filter_map f (d ∷ [])) ≡ smallest best (filter_map f (a ∷ b ∷ c ∷ d ∷ []))
-  four =
-      one_more two (f c) (filter_map f (d ∷ []))
-      ∙ one_more one (f b) (filter_map f (c ∷ d ∷ []))
-      ∙ one_more best (f a) (filter_map f (b ∷ c ∷ d ∷ []))
+use Rattle.grib_least.specs.Earlier.{or_earlier, or_form}
 
 -- ---- what is so of each form is so of the smallest
 
@@ -87,6 +65,76 @@ pub smallest_stays : (best : Packed) (later : List Packed) → Each (λ form. si
 smallest_stays best [] each = refl
 smallest_stays best (form ∷ later) each =
     ap (λ (x : Packed). smallest x later) (smaller_stays best form each.0) ∙ smallest_stays best later each.1
+
+-- ---- from the last form to the first
+
+which : (m n : ℕ) → (m < n) ⊎ (n ≤ m)
+which m n = go (nat_lt m n) refl where
+  go : (b : Bool) → nat_lt m n ≡ b → (m < n) ⊎ (n ≤ m)
+  go true e = inl (ltb-true m n e)
+  go false e = inr (ltb-false m n e)
+
+-- a smaller one takes its place
+smaller_taken : (best form : Packed) → size_of form < size_of best → smaller best form ≡ form
+smaller_taken best form low = ap (λ (b : Bool). cond b form best) (lt-ltb (size_of form) (size_of best) low)
+
+-- one form more
+more_forms : (own form first : Packed) (later : List Packed) → size_of form ≤ size_of own
+    → ((other : Packed) → size_of form ≤ size_of other → smallest form later ≡ smaller form (smallest other later))
+    → smallest (smaller form first) later ≡ smaller form (smallest (smaller own first) later)
+more_forms own form first later low rest = elim (which (size_of first) (size_of form)) [
+  | inl less ↦
+      let least = (smallest_least first later).0 in
+      ap (λ (x : Packed). smallest x later) (smaller_taken form first less)
+      ∙ sym (ap (λ (x : Packed). smaller form (smallest x later)) (smaller_taken own first (omega (arith, less, low)))
+      ∙ smaller_taken form (smallest first later) (omega (arith, less, least)))
+  | inr more ↦
+      let here : smallest (smaller form first) later ≡ smallest form later = ap (λ (x : Packed). smallest x later) (smaller_stays form first more) in
+      elim (which (size_of first) (size_of own)) [
+        | inl less ↦ here ∙ rest first more ∙ sym (ap (λ (x : Packed). smaller form (smallest x later)) (smaller_taken own first less))
+        | inr kept ↦ here ∙ rest own low ∙ sym (ap (λ (x : Packed). smaller form (smallest x later)) (smaller_stays own first kept))
+      ]
+]
+
+-- a form in place of one that has as many octets or more
+in_place : (own form : Packed) (later : List Packed) → size_of form ≤ size_of own → smallest form later ≡ smaller form (smallest own later)
+in_place own form [] low = sym (smaller_stays form own low)
+in_place own form (first ∷ later) low = more_forms own form first later low (λ other below. in_place other form later below)
+
+before_later : (own form : Packed) (later : List Packed) → smallest own (form ∷ later) ≡ or_earlier (size_of own) form (smallest own later)
+before_later own form later = elim (which (size_of form) (size_of own)) [
+  | inl less ↦
+      ap (λ (x : Packed). smallest x later) (smaller_taken own form less)
+      ∙ in_place own form later (omega (arith, less))
+      ∙ sym (ap (λ (b : Bool). cond b (smaller form (smallest own later)) (smallest own later)) (lt-ltb (size_of form) (size_of own) less))
+  | inr more ↦
+      ap (λ (x : Packed). smallest x later) (smaller_stays own form more)
+      ∙ sym (ap (λ (b : Bool). cond b (smaller form (smallest own later)) (smallest own later)) (le-ltb (size_of form) (size_of own) more))
+]
+
+one_before : (own : Packed) (form : Option Packed) (later : List Packed) → smallest own (cons_option form later) ≡ or_form (size_of own) form (smallest own later)
+one_before own (Some form) later = before_later own form later
+one_before own None later = refl
+
+-- four of them
+pub four : (f : Target → Option Packed) (own : Packed) (a b c d : Target)
+    → smallest own (filter_map f (a ∷ b ∷ c ∷ d ∷ []))
+    ≡ or_form (size_of own) (f a) (or_form (size_of own) (f b) (or_form (size_of own) (f c) (or_form (size_of own) (f d) own)))
+four f own a b c d =
+    let limit = size_of own in
+    one_before own (f a) (filter_map f (b ∷ c ∷ d ∷ []))
+    ∙ ap (or_form limit (f a)) (one_before own (f b) (filter_map f (c ∷ d ∷ []))
+    ∙ ap (or_form limit (f b)) (one_before own (f c) (filter_map f (d ∷ []))
+    ∙ ap (or_form limit (f c)) (one_before own (f d) [])))
+
+-- a form that has too many octets is left out
+pub left_out : (limit : ℕ) (form best : Packed) → min limit (size_of best + 1) ≤ size_of form → or_earlier limit form best ≡ best
+left_out limit form best most = elim (which (size_of form) limit) [
+  | inl less ↦
+      ap (λ (b : Bool). cond b (smaller form best) best) (lt-ltb (size_of form) limit less)
+      ∙ smaller_taken form best (omega (arith, most, less))
+  | inr more ↦ ap (λ (b : Bool). cond b (smaller form best) best) (le-ltb (size_of form) limit more)
+]
 
 -- ---- each packing is tried
 

@@ -1,14 +1,14 @@
 -- Lemmas on the form that is chosen.
-use Rattle.std.proofs.Common.{◌≡◌, ℕ, ◌≤◌, ◌<◌, Bool, cond, nat_lt, Option, Some, None, List, [], ◌∷◌, length, refl, sym, ap, ◌∙◌, arith, subst, le-ltb}
-use Rattle.std.specs.List.{cons_option, filter_map}
+use Rattle.std.proofs.Common.{◌≡◌, ℕ, ◌+◌, ◌≤◌, ◌<◌, Bool, cond, nat_lt, min, Option, Some, None, List, length, refl, sym, ap, ◌∙◌, arith, subst, le-ltb}
+use Rattle.std.specs.List.{filter_map}
 use Rattle.grib_packing.specs.declared.column.Column.{Column}
 use Rattle.grib_packing.specs.Misfits.{Target, ToSimple, ToComplex, ToSpatial, Misfit, first_misfit}
 use Rattle.grib_packing.specs.Packed.{Packed as HasPacked}
 use Rattle.grib_packing.specs.declared.written.Packed.{Packed}
 use Rattle.grib_packing.specs.declared.written.PackFault.{PackFault}
 use Rattle.grib_packing.specs.declared.written.PackFault.TheVariants.{SecondaryMissing, OutOfRange, DifferenceRange, Memory}
-use Rattle.grib_packing.specs.Written.{IsPackFault}
-use Rattle.grib_packed.specs.Written.{packed}
+use Rattle.grib_packing.specs.Written.{IsPackFault, IsTarget, MayBePacked}
+use Rattle.grib_packed.specs.Written.{HasWords, packed}
 use Rattle.grib2_message.specs.Assembled.{IsShort, IsAssembleFault}
 use Rattle.grib2_message.specs.declared.fault.AssembleFault.{AssembleFault}
 use Rattle.grib2_message.specs.declared.fault.AssembleFault.TheVariants.{TooLong}
@@ -16,10 +16,12 @@ use Rattle.grib2_message.specs.Fields.{field_count, column_of}
 use Rattle.grib2_message.specs.Message.{IsMessage}
 use Rattle.grib_select.proofs.Alone.{part_short}
 use Rattle.grib_repack.specs.Repacked.{kind_of}
+use Rattle.grib_repack.proofs.Kept.{IsWritten}
 use Rattle.grib_repack.proofs.Packing.{IsOnly}
 use Rattle.grib_repack.proofs.Sections.{are_written}
-use Rattle.grib_least.specs.Least.{own_form, unless_misfit, form_of, least_form, smaller, smallest, targets}
-use Rattle.grib_least.proofs.Smallest.{four, that_fits}
+use Rattle.grib_least.specs.Least.{own_form, unless_misfit, form_of, least_form, size_of, smallest, targets}
+use Rattle.grib_least.specs.Earlier.{or_earlier, or_form}
+use Rattle.grib_least.proofs.Smallest.{four, left_out, that_fits}
 
 same_parts : (p q : Packed) → (p.section5 ≡ q.section5) × (p.section6 ≡ q.section6) × (p.section7 ≡ q.section7) → p ≡ q
 same_parts p q e = λ i. record { section5 = e.0 i; section6 = e.1 i; section7 = e.2 i }
@@ -38,40 +40,54 @@ packed_short target column kind p has =
     let written = are_written target column kind p.section5 p.section6 p.section7 has in
     record { short_5 = written.short_5; short_6 = written.short_6; short_7 = written.short_7 }
 
--- the smaller of a form and what was packed
-pub with_packed : IsOnly → (target : Target) (column : Column) (kind : ℕ) (best p : Packed) → first_misfit target column.points ≡ None → HasPacked target column kind p.section5 p.section6 p.section7
-    → smaller best p ≡ smallest best (filter_map (form_of column kind) (target ∷ []))
-with_packed only target column kind best p none has =
-    ap (smaller best) (same_parts p (packed target column kind) (only target column kind p.section5 p.section6 p.section7 has))
-    ∙ sym (ap (λ (o : Option Packed). smallest best (cons_option o [])) (that_fits (first_misfit target column.points) (packed target column kind) none))
+-- a form that was packed
+pub with_packed : IsOnly → (target : Target) (column : Column) (kind limit : ℕ) (best p : Packed) → first_misfit target column.points ≡ None → HasPacked target column kind p.section5 p.section6 p.section7
+    → or_earlier limit p best ≡ or_form limit (form_of column kind target) best
+with_packed only target column kind limit best p none has =
+    ap (λ (x : Packed). or_earlier limit x best) (same_parts p (packed target column kind) (only target column kind p.section5 p.section6 p.section7 has))
+    ∙ sym (ap (λ (o : Option Packed). or_form limit o best) (that_fits (first_misfit target column.points) (packed target column kind) none))
 
--- the form alone, where something does not fit
-misfit_there : (misfit : Option Misfit) (form best : Packed) (fault : PackFault) → IsPackFault misfit fault → (fault ≡ Memory → ⊥)
-    → best ≡ smallest best (cons_option (unless_misfit misfit form) [])
-misfit_there (Some misfit) form best fault is other = refl
-misfit_there None form best (SecondaryMissing point) is other = absurd (cc)
-misfit_there None form best (OutOfRange point) is other = absurd (cc)
-misfit_there None form best DifferenceRange is other = absurd (cc)
-misfit_there None form best Memory is other = absurd (other refl)
+-- one that was left out, since it has too many octets
+pub with_many : IsWritten → (target : Target) (column : Column) (kind limit most : ℕ) (best : Packed)
+    → MayBePacked column → HasWords column → IsTarget target → kind < 256 → first_misfit target column.points ≡ None
+    → most ≡ min limit (size_of best + 1)
+    → ((s5 s6 s7 : List ℕ) → HasPacked target column kind s5 s6 s7 → most ≤ length s5 + length s6 + length s7)
+    → best ≡ or_form limit (form_of column kind target) best
+with_many written target column kind limit most best may words is small none most_is many =
+    let p = packed target column kind in
+    let least = many p.section5 p.section6 p.section7 (written target column kind may words is small none) in
+    sym (ap (λ (o : Option Packed). or_form limit o best) (that_fits (first_misfit target column.points) p none)
+    ∙ left_out limit p best (omega (arith, most_is, least)))
 
-pub without_packed : (target : Target) (column : Column) (kind : ℕ) (best : Packed) (fault : PackFault) → IsPackFault (first_misfit target column.points) fault → (fault ≡ Memory → ⊥)
-    → best ≡ smallest best (filter_map (form_of column kind) (target ∷ []))
-without_packed target column kind best fault is other = misfit_there (first_misfit target column.points) (packed target column kind) best fault is other
+-- the best alone, where something does not fit
+misfit_there : (misfit : Option Misfit) (limit : ℕ) (form best : Packed) (fault : PackFault) → IsPackFault misfit fault → (fault ≡ Memory → ⊥)
+    → best ≡ or_form limit (unless_misfit misfit form) best
+misfit_there (Some misfit) limit form best fault is other = refl
+misfit_there None limit form best (SecondaryMissing point) is other = absurd (cc)
+misfit_there None limit form best (OutOfRange point) is other = absurd (cc)
+misfit_there None limit form best DifferenceRange is other = absurd (cc)
+misfit_there None limit form best Memory is other = absurd (other refl)
 
--- the four packings one after another
-pub form_is : (message : List ℕ) (i : ℕ) (column : Column) (kind : ℕ) (own one two three last : Packed) → column ≡ column_of message i → kind ≡ kind_of message i → own ≡ own_form message i
-    → one ≡ smallest own (filter_map (form_of column kind) (ToSimple ∷ []))
-    → two ≡ smallest one (filter_map (form_of column kind) (ToComplex ∷ []))
-    → three ≡ smallest two (filter_map (form_of column kind) (ToSpatial 1 ∷ []))
-    → last ≡ smallest three (filter_map (form_of column kind) (ToSpatial 2 ∷ []))
+pub without_packed : (target : Target) (column : Column) (kind limit : ℕ) (best : Packed) (fault : PackFault) → IsPackFault (first_misfit target column.points) fault → (fault ≡ Memory → ⊥)
+    → best ≡ or_form limit (form_of column kind target) best
+without_packed target column kind limit best fault is other = misfit_there (first_misfit target column.points) limit (packed target column kind) best fault is other
+
+-- the four packings, from the last to the first
+pub form_is : (message : List ℕ) (i : ℕ) (column : Column) (kind limit : ℕ) (own one two three last : Packed) → column ≡ column_of message i → kind ≡ kind_of message i → own ≡ own_form message i
+    → limit ≡ size_of own
+    → one ≡ or_form limit (form_of column kind (ToSpatial 2)) own
+    → two ≡ or_form limit (form_of column kind (ToSpatial 1)) one
+    → three ≡ or_form limit (form_of column kind ToComplex) two
+    → last ≡ or_form limit (form_of column kind ToSimple) three
     → last ≡ least_form message i
-form_is message i column kind own one two three last column_is kind_is own_is first second third fourth =
+form_is message i column kind limit own one two three last column_is kind_is own_is limit_is first second third fourth =
     let f = form_of column kind in
     fourth
-    ∙ ap (λ (x : Packed). smallest x (filter_map f (ToSpatial 2 ∷ []))) (third
-    ∙ ap (λ (x : Packed). smallest x (filter_map f (ToSpatial 1 ∷ []))) (second
-    ∙ ap (λ (x : Packed). smallest x (filter_map f (ToComplex ∷ []))) first))
-    ∙ four f own ToSimple ToComplex (ToSpatial 1) (ToSpatial 2)
+    ∙ ap (or_form limit (f ToSimple)) (third
+    ∙ ap (or_form limit (f ToComplex)) (second
+    ∙ ap (or_form limit (f (ToSpatial 1))) first))
+    ∙ ap (λ (n : ℕ). or_form n (f ToSimple) (or_form n (f ToComplex) (or_form n (f (ToSpatial 1)) (or_form n (f (ToSpatial 2)) own)))) limit_is
+    ∙ sym (four f own ToSimple ToComplex (ToSpatial 1) (ToSpatial 2))
     ∙ (λ j. smallest (own_is j) (filter_map (form_of (column_is j) (kind_is j)) targets))
 
 -- a message that is not put together, since it would be too long

@@ -1,19 +1,23 @@
 //! Writing a message in the fewest octets.
 
-ghost use Rattle.std.specs.Prelude.{◌≡◌, ◌≤◌, [], ◌∷◌, All, IfOk};
-ghost use Rattle.std.specs.List.{filter_map};
-ghost use Rattle.grib_packing.specs.Written.{MayBePacked};
+ghost use Rattle.std.specs.Prelude.{◌≡◌, ◌+◌, ◌≤◌, min, All, IfOk};
+ghost use Rattle.grib_packing.specs.Written.{IsTarget, MayBePacked};
 ghost use Rattle.grib2_message.specs.Assembled.{IsShort};
 ghost use Rattle.grib2_message.specs.Fields.{field_count};
 ghost use Rattle.grib2_message.specs.Message.{IsMessage};
+ghost use Rattle.grib_repack.specs.Faults.{target_of};
+ghost use Rattle.grib_least.specs.Below.{IsPackedBelow};
+ghost use Rattle.grib_least.specs.Earlier as earlier;
+ghost use Rattle.grib_least.specs.Earlier.{or_form};
 ghost use Rattle.grib_least.specs.Least as definitions;
-ghost use Rattle.grib_least.specs.Least.{form_of, least, size_of, smallest};
+ghost use Rattle.grib_least.specs.Least.{form_of, least, size_of};
 
+use crate::below::{pack_complex_below, pack_spatial_below};
 use grib_base::List;
 use grib_bits::u8_at;
-use grib_complex::{ComplexPacking, SpatialPacking};
-use grib_packed::laws::one_packing_is_written;
+use grib_packed::laws::{a_packing_is_written, one_packing_is_written};
 use grib_packing::{Column, PackFault, Packed, Packing};
+use grib_repack::RepackTarget;
 use grib_simple::SimplePacking;
 use grib2_message::{AssembleFault, Message};
 use std::alloc::{AllocError, Global};
@@ -77,10 +81,11 @@ fn least_form(alloc: Global, message: &Message<'_>, field: u32) -> Result<Packed
     let column = message.column(alloc, field)?;
     let own = own_form(alloc, message, field)?;
     let kind = u8_at(own.section5.as_slice(), 21);
-    let best = or_packed(alloc, &column, kind, &SimplePacking, own)?;
-    let best = or_packed(alloc, &column, kind, &ComplexPacking, best)?;
-    let best = or_packed(alloc, &column, kind, &SpatialPacking::new(1), best)?;
-    or_packed(alloc, &column, kind, &SpatialPacking::new(2), best)
+    let limit = size(&own);
+    let best = or_packed(alloc, &column, kind, RepackTarget::Spatial(2), limit, own)?;
+    let best = or_packed(alloc, &column, kind, RepackTarget::Spatial(1), limit, best)?;
+    let best = or_packed(alloc, &column, kind, RepackTarget::Complex, limit, best)?;
+    or_packed(alloc, &column, kind, RepackTarget::Simple, limit, best)
 }
 
 /// The Sections 5, 6 and 7 that a field has, counted from 1.
@@ -99,26 +104,79 @@ fn own_form(alloc: Global, message: &Message<'_>, field: u32) -> Result<Packed, 
     })
 }
 
-/// A form of a field, or what this packing writes of its column, where nothing fails to fit and it has fewer
-/// octets.
-fn or_packed<P: Packing>(
+/// The form of a field that this packing writes, or the best of its own form and the packings after this one.
+/// It is the packing where nothing fails to fit, and it has fewer octets than `limit`, those of the own form,
+/// and no more than the best. Sections that a quick look shows to have more are not written at all.
+///
+/// # Errors
+///
+/// There is no memory.
+fn or_packed(
     alloc: Global,
     column: &Column,
     kind: u8,
-    packing: &P,
+    target: RepackTarget,
+    limit: u64,
     best: Packed,
 ) -> Result<Packed, AllocError>
+    requires target { IsTarget (target_of target) }
     requires column { MayBePacked column.now }
     requires short { IsShort best }
-    ensures form { IfOk result (λ form. form
-        ≡ smallest best (filter_map (form_of column.now kind) (P.target packing.now ∷ []))) }
+    ensures form { IfOk result (λ form. form ≡ or_form limit (form_of column.now kind (target_of target)) best) }
     ensures short { IfOk result IsShort }
 {
+    a_packing_is_written();
     one_packing_is_written();
-    match packing.pack(alloc, column, kind) {
-        Ok(form) => Ok(smaller(best, form)),
+    // R, E and D are within their types
+    let _reference = column.reference;
+    let _e = column.e;
+    let _d = column.d;
+    let most = limit.min(size(&best) + 1);
+    match pack_below(alloc, column, kind, target, most) {
+        Ok(Some(form)) => Ok(or_earlier(limit, form, best)),
+        Ok(None) => Ok(best),
         Err(PackFault::Memory) => Err(AllocError),
         Err(_) => Ok(best),
+    }
+}
+
+/// The sections of this packing, or none, only where they have at least `most` octets.
+///
+/// # Errors
+///
+/// The first misfit of the column, or there is no memory.
+fn pack_below(
+    alloc: Global,
+    column: &Column,
+    kind: u8,
+    target: RepackTarget,
+    most: u64,
+) -> Result<Option<Packed>, PackFault>
+    requires target { IsTarget (target_of target) }
+    requires column { MayBePacked column.now }
+    ensures { IsPackedBelow (target_of target) column.now kind most result }
+{
+    match target {
+        RepackTarget::Simple => match SimplePacking.pack(alloc, column, kind) {
+            Ok(form) => Ok(Some(form)),
+            Err(fault) => Err(fault),
+        },
+        RepackTarget::Complex => pack_complex_below(alloc, column, kind, most),
+        RepackTarget::Spatial(order) => pack_spatial_below(alloc, column, kind, order, most),
+    }
+}
+
+/// A form where it has fewer octets than `limit` and no more than the best of those after it; else that best.
+fn or_earlier(limit: u64, form: Packed, best: Packed) -> Packed
+    requires form { IsShort form }
+    requires best { IsShort best }
+    ensures earlier { result ≡ earlier.or_earlier limit form best }
+    ensures short { IsShort result }
+{
+    if size(&form) < limit {
+        smaller(form, best)
+    } else {
+        best
     }
 }
 

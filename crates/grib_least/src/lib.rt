@@ -1,6 +1,7 @@
 //! Messages in the fewest octets: each field in the smallest of its forms.
 #![tactic(auto)]
 
+mod below;
 mod choosing;
 pub mod laws;
 

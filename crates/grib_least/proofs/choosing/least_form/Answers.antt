@@ -1,14 +1,11 @@
-use Rattle.std.proofs.Common.{◌≡◌, ℕ, [], ◌∷◌, List, IfOk, length, sym, ap, ◌∙◌, arith, subst}
-use Rattle.std.specs.List.{filter_map}
+use Rattle.std.proofs.Common.{◌≡◌, ℕ, List, IfOk, length, refl, sym, ap, ◌∙◌, arith, subst}
 use Rattle.grib_bits.specs.Octets.{octets}
 use Rattle.grib2_grids.specs.Grid.{grid_points}
-use Rattle.grib_packing.specs.Misfits.{ToSpatial}
 use Rattle.grib_packing.specs.declared.written.Packed.{Packed}
 use Rattle.grib2_message.specs.Assembled.{IsShort}
 use Rattle.grib2_message.specs.Fields.{part_octets}
 use Rattle.grib2_message.proofs.Lengths.{packing_least}
 use Rattle.grib_repack.proofs.Columns.{packable}
-use Rattle.grib_least.specs.Least.{form_of, smallest}
 use Rattle.grib_least.proofs.Tried.{own_short, form_is}
 use Rattle.grib_least.proofs.choosing.least_form.Goals as goal
 
@@ -23,6 +20,10 @@ pub or_packed-requires-clause-column : goal.or_packed-requires-clause-column
 or_packed-requires-clause-column c =
     let e = c.in_ok-column.ensures in
     packable c.args.message.now c.args.field c.in_ok-column.column e.column e.passes e.some e.few
+
+pub size-limit-requires : goal.size-limit-requires
+size-limit-requires c =
+    subst IsShort (sym c.in_ok-own.ensures) (own_short c.args.message.now c.args.field c.requires.message c.requires.first c.requires.last)
 
 pub or_packed-requires-clause-short : goal.or_packed-requires-clause-short
 or_packed-requires-clause-short c =
@@ -47,14 +48,9 @@ pub returns-clause-form : goal.returns-clause-form
 returns-clause-form c =
     let m = c.args.message.now in
     let i = c.args.field in
-    let column = c.in_ok-column.column in
-    let kind = c.u8_at-kind.result in
-    let two = c.in_ok-best-2.best in
-    let three = c.in_ok-best-3.best in
     let kind_is = c.u8_at-kind.ensures ∙ ap (λ (s : List ℕ). octets s 21 21) (c.as_slice.ensures ∙ ap (λ (p : Packed). p.section5) c.in_ok-own.ensures) in
-    let third = c.in_ok-best-3.ensures.form ∙ ap (λ (n : ℕ). smallest two (filter_map (form_of column kind) (ToSpatial n ∷ []))) c.new.ensures in
-    let fourth = ap (λ (n : ℕ). smallest three (filter_map (form_of column kind) (ToSpatial n ∷ []))) c.new-2.ensures in
     subst (λ (p : Packed). IfOk c.or_packed-4.result (λ form. form ≡ p))
-    (form_is m i column kind c.in_ok-own.own c.in_ok-best.best two three _ c.in_ok-column.ensures.column kind_is c.in_ok-own.ensures
-    c.in_ok-best.ensures.form c.in_ok-best-2.ensures.form third fourth)
+    (form_is m i c.in_ok-column.column c.u8_at-kind.result c.size-limit.result c.in_ok-own.own c.in_ok-best.best c.in_ok-best-2.best c.in_ok-best-3.best _
+    c.in_ok-column.ensures.column kind_is c.in_ok-own.ensures c.size-limit.ensures
+    c.in_ok-best.ensures.form c.in_ok-best-2.ensures.form c.in_ok-best-3.ensures.form refl)
     c.or_packed-4.ensures.form
