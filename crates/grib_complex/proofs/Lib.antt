@@ -23,3 +23,4 @@ pub mod AtOnce
 pub mod NotedNumbers
 pub mod Described
 pub mod Represented
+pub mod AtLeast

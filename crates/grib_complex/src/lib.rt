@@ -1,6 +1,7 @@
 //! Complex packing, with and without spatial differencing: templates 5.2 and 5.3.
 #![tactic(auto)]
 
+mod below;
 mod coding;
 mod constant;
 mod descriptors;
@@ -25,6 +26,7 @@ mod values;
 mod words;
 mod writing;
 
+pub use below::pack_complex_below;
 pub use feeding::{Feeder, Feeding};
 pub use field::Representation;
 pub use grib_groups::Layout;

@@ -46,7 +46,7 @@ pub fn pack_complex(alloc: Global, column: &Column, kind: u8) -> Result<Packed, 
 /// # Errors
 ///
 /// There is no memory.
-fn pack_plainly(
+pub fn pack_plainly(
     alloc: Global,
     column: &Column,
     kind: u8,
