@@ -1,5 +1,5 @@
 -- Lemmas on differences that can be written.
-use Rattle.std.proofs.Common.{◌≡◌, ◌⊎◌, ◌==◌, ℕ, ◌+◌, ◌-◌, ◌*◌, ◌^◌, ◌<◌, ◌≤◌, ◌||◌, inl, inr, Bool, true, false, cond, ℤ, pos, negsuc, nat_abs, nat_lt, List, [], ◌∷◌, ◌++◌, length, All, ap, ◌∙◌, arith, subst, subst₂, eq-eqb, ne_eqb, ltb-false}
+use Rattle.std.proofs.Common.{◌≡◌, ◌⊎◌, ◌==◌, ℕ, ◌+◌, ◌-◌, ◌*◌, ◌^◌, ◌<◌, ◌≤◌, ◌||◌, inl, inr, Bool, true, false, cond, ℤ, sym, pos, negsuc, nat_abs, nat_lt, List, [], ◌∷◌, ◌++◌, length, All, ap, ◌∙◌, arith, subst, subst₂, eq-eqb, ne_eqb, ltb-false}
 use Rattle.std.specs.List.{list_any}
 use Rattle.std.proofs.lemmas.List.{length-append}
 use Rattle.std.proofs.lemmas.List.Elements.{All-nil, All-cons}
@@ -122,3 +122,17 @@ is_spatial order column kind k codes d s5 s6 s7 is_codes is_k is_d long is_order
       bitmap = g.bitmap;
       values = g.values;
     }
+
+-- ---- whether differences have a place, by their values and by their codes
+
+abbrev pub are_values_out : Descriptors → Bool
+are_values_out d = (is_outside (2 ^ 31 - 1) d.first || is_outside (2 ^ 31 - 1) d.second) || nat_lt (2 ^ 31 - 1) (nat_abs d.minimum)
+
+module _ (order k : ℕ) (numbers : List ℤ) (values : Descriptors) (is : values ≡ descriptors_of order numbers) where
+  pub out_by_values : are_values_out values ≡ true → are_differences_out order k numbers ≡ true
+  out_by_values out =
+      ap (λ (b : Bool). b || list_any (λ code. nat_lt (greatest_code k) code) (difference_codes order numbers)) (ap are_values_out (sym is) ∙ out)
+
+  pub out_by_codes : are_values_out values ≡ false → are_differences_out order k numbers ≡ list_any (λ code. nat_lt (greatest_code k) code) (difference_codes order numbers)
+  out_by_codes inside =
+      ap (λ (b : Bool). b || list_any (λ code. nat_lt (greatest_code k) code) (difference_codes order numbers)) (ap are_values_out (sym is) ∙ inside)

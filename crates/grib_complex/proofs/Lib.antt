@@ -12,9 +12,11 @@ pub mod SoFar
 pub mod Starting
 pub mod CodeByCode
 pub mod Worded
+pub mod PointByPoint
 pub mod GroupByGroup
 pub mod Wholly
 pub mod Differing
+pub mod DifferencesCoded
 pub mod FirstValues
 pub mod Back
 pub mod ByDifferences

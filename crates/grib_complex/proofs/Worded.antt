@@ -1,8 +1,7 @@
 -- Lemmas on the words that codes are kept in.
-use Rattle.std.proofs.Common.{◌≡◌, ℕ, suc, zero, ◌+◌, ◌<◌, Bool, true, false, ◌||◌, List, [], ◌∷◌, ◌++◌, length, get_or, drop, drop-cons, append_assoc, All, ℤ, refl, sym, ap, ap₂, ◌∙◌, arith, subst}
+use Rattle.std.proofs.Common.{◌≡◌, ℕ, suc, zero, ◌+◌, ◌<◌, Bool, true, false, ◌||◌, List, [], ◌∷◌, ◌++◌, length, get_or, drop, drop-cons, append_assoc, ℤ, refl, sym, ap, ap₂, ◌∙◌, arith, subst}
 use Rattle.std.specs.List.{list_any}
 use Rattle.std.proofs.lemmas.List.{map-append}
-use Rattle.std.proofs.lemmas.List.Elements.{All-head, All-tail}
 use Rattle.grib_base.specs.declared.code.Code.{Code}
 use Rattle.grib_base.specs.declared.code.Code.TheVariants.{Present, Primary, Secondary}
 use Rattle.grib_codes.specs.Words.{code_of, codes_of}
@@ -28,7 +27,7 @@ either_way : (a b : Bool) → b ≡ true → (a || b) ≡ true
 either_way true b is = refl
 either_way false b is = is
 
-any_at : (test : Point → Bool) (points : List Point) (i : ℕ) (d : Point) → i < length points → test (get_or points i d) ≡ true → list_any test points ≡ true
+pub any_at : (test : Point → Bool) (points : List Point) (i : ℕ) (d : Point) → i < length points → test (get_or points i d) ≡ true → list_any test points ≡ true
 any_at test [] i d within is = absurd (omega arith)
 any_at test (p ∷ points) zero d within is = rw is refl
 any_at test (p ∷ points) (suc i) d within is = either_way (test p) (list_any test points) (any_at test points i d (omega arith) is)
@@ -53,7 +52,6 @@ module _ (points : List Point) (i : ℕ) (d : Point) (within : i < length points
 -- at this place a code stands, and the codes after it take the numbers from another place on
 pub record Step (points : List Point) (i : ℕ) (numbers : List ℕ) (used next : ℕ) (code : Code) : Type 0 where
   pub placed : placed_codes (drop i points) (drop used numbers) ≡ code ∷ placed_codes (drop (i + 1) points) (drop next numbers)
-  pub left : next + length (scaled_numbers (drop (i + 1) points)) ≡ length numbers
 
 module _ (points : List Point) (i : ℕ) (d : Point) (within : i < length points) (numbers : List ℕ) (used next : ℕ) (code : Code) (left : used + length (scaled_numbers (drop i points)) ≡ length numbers) where
   points_are : (p : Point) → get_or points i d ≡ p → drop i points ≡ p ∷ drop (i + 1) points
@@ -72,29 +70,21 @@ module _ (points : List Point) (i : ℕ) (d : Point) (within : i < length points
         placed =
             ap₂ placed_codes points_here (drop-cons numbers used 0 some ∙ ap (λ (n : ℕ). get_or numbers used 0 ∷ drop n numbers) more)
             ∙ ap (λ (c : Code). c ∷ placed_codes (drop (i + 1) points) (drop next numbers)) number;
-        left = omega (arith, count, left);
       }
 
   pub step_mark : (p : Point) (mark : Code) → get_or points i d ≡ p → code ≡ mark → next ≡ used → ((ps : List Point) (ns : List ℕ) → placed_codes (p ∷ ps) ns ≡ mark ∷ placed_codes ps ns)
-      → ((ps : List Point) → scaled_numbers (p ∷ ps) ≡ scaled_numbers ps) → Step points i numbers used next code
-  step_mark p mark here is_code is_next is none =
+      → Step points i numbers used next code
+  step_mark p mark here is_code is_next is =
       let points_here = points_are p here in
       let rest = drop (i + 1) points in
       record {
         placed =
             ap (λ (ps : List Point). placed_codes ps (drop used numbers)) points_here ∙ is rest (drop used numbers)
             ∙ ap₂ (λ (c : Code) (n : ℕ). c ∷ placed_codes rest (drop n numbers)) (sym is_code) (sym is_next);
-        left = omega (arith, ap length (ap scaled_numbers points_here ∙ none rest), left, is_next);
       }
 
 -- a code more
-module _ (k : ℕ) (before after : List Code) (code : Code) (step : before ≡ code ∷ after) (told : All (IsTold k) before) where
-  pub code_told : IsTold k code
-  code_told = All-head (IsTold k) code after (subst (All (IsTold k)) step told)
-
-  pub rest_told : All (IsTold k) after
-  rest_told = All-tail (IsTold k) code after (subst (All (IsTold k)) step told)
-
+module _ (k : ℕ) (before after : List Code) (code : Code) (step : before ≡ code ∷ after) where
   pub whole_more : (old new : List ℕ) (word : ℕ) (whole : List Code) → codes_of k old ++ before ≡ whole → new ≡ old ++ word ∷ [] → code_of k word ≡ code
       → codes_of k new ++ after ≡ whole
   whole_more old new word whole so_far more is =

@@ -1,16 +1,15 @@
 //! The codes of a column.
 
-ghost use Rattle.std.specs.Prelude.{◌≡◌, ◌≤◌, ◌∷◌, [], length, false, true, None, All, IfOk, MatchOption, MatchResult};
-ghost use Rattle.grib_packing.specs.Misfits.{ToComplex, first_misfit, is_outside as is_outside_of, is_scaled_outside, management_of, scaled_numbers as numbers_in};
-ghost use Rattle.grib_packing.specs.Packed.{placed_codes, target_codes};
-ghost use Rattle.grib_packing.specs.Span.{IsTold};
+ghost use Rattle.std.specs.Prelude.{◌≡◌, ◌≤◌, ◌∷◌, [], length, false, true, None, MatchOption, MatchResult};
+ghost use Rattle.grib_packing.specs.Misfits.{ToComplex, first_misfit, is_outside as is_outside_of, is_scaled_outside, management_of};
+ghost use Rattle.grib_packing.specs.Packed.{target_codes};
 ghost use Rattle.grib_packing.specs.Written.{IsPackFault};
 
 use crate::words::Words;
 use grib_base::Code;
 use grib_codes::word_of;
 use grib_packing::{PackFault, Point};
-use std::alloc::{AllocError, Global};
+use std::alloc::Global;
 
 /// The missing value management of these points (code table 5.5), which is also how many codes are reserved:
 /// 2 where a point is secondary missing, else 1 where one is missing, else 0.
@@ -88,53 +87,4 @@ pub fn is_outside(x: i64, greatest: u32) -> bool
     ensures { result ≡ is_outside_of greatest x }
 {
     x < 0 || x.unsigned_abs() > u64::from(greatest)
-}
-
-/// The scaled numbers of the points that are not missing.
-///
-/// # Errors
-///
-/// There is no memory for the numbers.
-pub fn scaled_numbers(alloc: Global, points: &[Point]) -> Result<Vec<i64>, AllocError>
-    ensures { IfOk result (λ numbers. numbers.items ≡ numbers_in points.now) }
-{
-    let mut numbers = Vec::with_capacity(alloc, points.len())?;
-    for point in points {
-        if let Point::Scaled(x) = *point {
-            numbers.push(x)?;
-        }
-    }
-    Ok(numbers)
-}
-
-/// These codes at the points that are not missing, and the marks of missing points.
-///
-/// # Errors
-///
-/// There is no memory for the codes.
-pub fn codes_at_points(
-    alloc: Global,
-    points: &[Point],
-    numbers: &[u64],
-    management: u8,
-) -> Result<Words, AllocError>
-    requires as_many { length numbers.now ≡ length (numbers_in points.now) }
-    requires few { management ≤ 2 }
-    requires told { All (IsTold management) (placed_codes points.now numbers.now) }
-    ensures { IfOk result (λ codes. codes ≡ placed_codes points.now numbers.now) }
-{
-    let mut words = Vec::with_capacity(alloc, points.len())?;
-    let mut used = 0;
-    for point in points {
-        let code = match *point {
-            Point::Scaled(_) => {
-                used += 1;
-                Code::Present(numbers[used - 1])
-            }
-            Point::Missing => Code::Primary,
-            Point::Missing2 => Code::Secondary,
-        };
-        words.push(word_of(code))?;
-    }
-    Ok(Words::of(words, management))
 }

@@ -1,10 +1,8 @@
 //! Extra descriptors of spatial differencing, as they are written.
 
-ghost use Rattle.std.specs.Prelude.{◌≡◌, ◌⊎◌, ℕ, ◌+◌, ◌-◌, ◌*◌, ◌^◌, ◌<◌, ◌≤◌, ◌++◌, List, ℤ, nat_abs, nat_lt, int_lt, pos};
+ghost use Rattle.std.specs.Prelude.{◌≡◌, ◌⊎◌, ℕ, ◌+◌, ◌-◌, ◌*◌, ◌^◌, ◌<◌, ◌≤◌, ◌++◌, ◌||◌, nat_abs, nat_lt, int_lt, pos};
 ghost use Rattle.grib_bits.specs.Bits.{digit};
-ghost use Rattle.std.specs.List.{list_any};
-ghost use Rattle.grib_packing.specs.Differences.{descriptors_of, difference_codes};
-ghost use Rattle.grib_packing.specs.Misfits.{are_differences_out, greatest_code};
+ghost use Rattle.grib_packing.specs.Misfits.{is_outside as is_outside_of};
 ghost use Rattle.grib_packing.specs.Packed.{descriptor_fields, descriptor_size};
 ghost use Rattle.grib_spatial.specs.Undoing.{read_with};
 
@@ -15,32 +13,14 @@ use grib_spatial::Differences;
 /// The greatest magnitude of a first value and of the minimum.
 pub const MOST: u32 = (1 << 31) - 1;
 
-/// Whether a first value, the minimum or a code has no place, where this many codes are reserved.
-pub fn are_out(differences: &Differences, reserved: u8) -> bool
-    requires { reserved ≤ 2 }
-    ensures { (order : ℕ) (numbers : List ℤ) → read_with order differences.now ≡ descriptors_of order numbers
-        → differences.now.codes ≡ difference_codes order numbers
-        → result ≡ are_differences_out order reserved numbers }
+/// Whether a first value or the minimum has no place.
+pub fn are_out(differences: &Differences) -> bool
+    ensures { result ≡ (is_outside_of (2 ^ 31 - 1) differences.now.first || is_outside_of (2 ^ 31 - 1) differences.now.second
+        || nat_lt (2 ^ 31 - 1) (nat_abs differences.now.minimum)) }
 {
     is_outside(differences.first, MOST)
         || is_outside(differences.second, MOST)
         || differences.minimum.unsigned_abs() > u64::from(MOST)
-        || is_any_above(
-            differences.codes.as_slice(),
-            u64::from(u32::MAX - u32::from(reserved)),
-        )
-}
-
-/// Whether a code is above the greatest.
-fn is_any_above(codes: &[u64], greatest: u64) -> bool
-    ensures { result ≡ list_any (λ code. nat_lt greatest code) codes.now }
-{
-    for code in codes {
-        if *code > greatest {
-            return true;
-        }
-    }
-    false
 }
 
 /// The octets of each extra descriptor: the least from 1 to 4 that hold the first values, whose top bit is

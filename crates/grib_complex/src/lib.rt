@@ -5,6 +5,7 @@ mod below;
 mod coding;
 mod constant;
 mod descriptors;
+mod difference_coding;
 mod differencing;
 mod feeding;
 mod field;

@@ -1,9 +1,7 @@
 //! Columns that are packed in groups.
 
-ghost use Rattle.std.specs.Prelude.{◌≡◌, ◌⊎◌, ◌^◌, ◌<◌, All, IfOk, length, replicate, nat_abs, false};
-ghost use Rattle.std.specs.List.{list_any};
-ghost use Rattle.grib_packing.specs.Differences.{descriptors_of, difference_codes};
-ghost use Rattle.grib_packing.specs.Entries.{is_out_of_range};
+ghost use Rattle.std.specs.Prelude.{◌≡◌, ◌⊎◌, ◌^◌, ◌<◌, All, IfOk, length, replicate, nat_abs};
+ghost use Rattle.grib_packing.specs.Differences.{descriptors_of};
 ghost use Rattle.grib_packing.specs.Misfits.{ToComplex, ToSpatial, management_of, scaled_numbers as numbers_in};
 ghost use Rattle.grib_packing.specs.Packed.{IsComplex, IsSpatial, target_codes};
 ghost use Rattle.grib_spatial.specs.Undoing.{read_with};
@@ -12,8 +10,9 @@ ghost use Rattle.grib_complex.specs.Constant.{DifferencesOf};
 ghost use Rattle.grib_complex.specs.FieldCodes.{codes_in};
 ghost use Rattle.grib_packing.specs.Written.{IsPacked, MayBePacked};
 
-use crate::coding::{codes_at_points, management, scaled_numbers};
+use crate::coding::management;
 use crate::constant::Constant;
+use crate::difference_coding::{codes_of_differences, differences_of};
 use crate::differencing::{are_out, descriptor_octets, write_descriptors};
 use crate::grouping::{FieldCodes, grouping_of, octets_of_groups};
 use crate::told_codes::plainly_told;
@@ -22,7 +21,7 @@ use crate::writing::{
 };
 use grib_packing::{Column, PackFault, Packed, Point, no_bitmap, room_for, write_head};
 use grib_simple::common_point;
-use grib_spatial::{Differences, difference};
+use grib_spatial::Differences;
 use std::alloc::{AllocError, Global};
 
 /// Sections 5, 6 and 7 of a column: its scaled numbers and missing points in the groups of 1 to 64
@@ -148,37 +147,14 @@ fn pack_each(alloc: Global, column: &Column, kind: u8, order: u8) -> Result<Pack
 {
     let points = column.points.as_slice();
     let management = management(points);
-    let Ok(differences) = differences_of(alloc, points, order) else {
-        return Err(PackFault::Memory);
-    };
-    if are_out(&differences, management) {
+    let differences = differences_of(alloc, points, order);
+    if are_out(&differences) {
         return Err(PackFault::DifferenceRange);
     }
-    let numbers = differences.codes.as_slice();
-    let Ok(codes) = codes_at_points(alloc, points, numbers, management) else {
-        return Err(PackFault::Memory);
-    };
+    let codes = codes_of_differences(alloc, points, order, differences.minimum, management)?;
     let codes = FieldCodes::Each(codes);
-    let packed = pack_spatially(alloc, column, kind, &codes, &differences, order, management);
-    let Ok(packed) = packed else {
-        return Err(PackFault::Memory);
-    };
+    let packed = pack_spatially(alloc, column, kind, &codes, &differences, order, management)?;
     Ok(packed)
-}
-
-/// The differences of the points that are not missing.
-///
-/// # Errors
-///
-/// There is no memory for them.
-fn differences_of(alloc: Global, points: &[Point], order: u8) -> Result<Differences, AllocError>
-    requires order { (order ≡ 1) ⊎ (order ≡ 2) }
-    requires within { list_any is_out_of_range points.now ≡ false }
-    ensures told { IfOk result (λ told. read_with order told ≡ descriptors_of order (numbers_in points.now)) }
-    ensures codes { IfOk result (λ told. told.codes ≡ difference_codes order (numbers_in points.now)) }
-{
-    let numbers = scaled_numbers(alloc, points)?;
-    difference(alloc, &numbers, order)
 }
 
 /// The sections of a column whose points have these codes, which tell its differences.

@@ -1,12 +1,8 @@
 //! The codes that a column is packed by. A column of one value, or wholly missing, is looked at once.
 
-ghost use Rattle.std.specs.Prelude.{◌≡◌, ◌⊎◌, ℕ, ◌^◌, ◌<◌, ◌≤◌, length, replicate, nat_abs, None, false, IfOk, IfSome, MatchResult};
-ghost use Rattle.std.specs.List.{list_any};
-ghost use Rattle.grib_packing.specs.Differences.{descriptors_of, difference_codes};
-ghost use Rattle.grib_packing.specs.Entries.{is_out_of_range};
-ghost use Rattle.grib_packing.specs.Misfits.{ToComplex, ToSpatial, are_differences_out, first_misfit, management_of, scaled_numbers as numbers_in};
+ghost use Rattle.std.specs.Prelude.{◌≡◌, ◌≤◌, length, None, MatchResult};
+ghost use Rattle.grib_packing.specs.Misfits.{ToComplex, first_misfit, management_of};
 ghost use Rattle.grib_packing.specs.Packed.{target_codes};
-ghost use Rattle.grib_spatial.specs.Undoing.{read_with};
 ghost use Rattle.grib_packing.specs.Written.{IsPackFault};
 ghost use Rattle.grib_complex.specs.FieldCodes.{codes_in};
 

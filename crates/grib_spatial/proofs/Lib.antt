@@ -6,3 +6,4 @@ pub mod Again
 pub mod Reach
 pub mod Following
 pub mod Steadily
+pub mod Telling

@@ -3,3 +3,4 @@ pub mod Running
 pub mod Follows
 pub mod Reach
 pub mod Undoing
+pub mod Trail

@@ -56,7 +56,7 @@ fn difference_of(values: &[i64], order: usize, place: usize) -> i64
 
 /// The second difference of three numbers that follow one another.
 #[inline]
-fn second_difference(x: i64, y: i64, z: i64) -> i64
+pub fn second_difference(x: i64, y: i64, z: i64) -> i64
     requires x { nat_abs x ≤ 2 ^ 60 }
     requires y { nat_abs y ≤ 2 ^ 60 }
     requires z { nat_abs z ≤ 2 ^ 60 }
@@ -85,7 +85,7 @@ fn least_difference(values: &[i64], order: usize) -> i64
 
 /// The lesser of two numbers.
 #[inline]
-fn lesser_of(x: i64, y: i64) -> i64
+pub fn lesser_of(x: i64, y: i64) -> i64
     ensures { result ≡ lesser x y }
 {
     if y < x { y } else { x }

@@ -6,10 +6,12 @@ mod differencing;
 pub mod laws;
 mod running;
 mod steady;
+mod trail;
 mod undoing;
 
 pub use differences::Differences;
 pub use differencing::difference;
 pub use running::{Running, ScaledRange};
 pub use steady::Steady;
+pub use trail::{FirstAndLeast, Trail};
 pub use undoing::{UndoFault, undo};
