@@ -1,16 +1,18 @@
 -- Lemmas on the octets that groups take at least.
-use Rattle.std.proofs.Common.{◌≡◌, ℕ, ◌+◌, ◌-◌, ◌*◌, ◌/◌, ◌≤◌, Bool, List, [], ◌∷◌, ◌++◌, length, take, drop, map, sum, refl, sym, ap, ap₂, ◌∙◌, arith, subst₂}
+use Rattle.std.proofs.Common.{◌≡◌, ◌⊎◌, ℕ, ◌+◌, ◌-◌, ◌*◌, ◌/◌, ◌≤◌, Bool, List, [], ◌∷◌, ◌++◌, length, take, drop, map, sum, refl, sym, ap, ◌∙◌, arith, subst₂}
 use Rattle.std.proofs.lemmas.List.{length-append, length-drop, length-take-le, length-map}
 use Rattle.grib_bits.specs.Bits.{bits}
 use Rattle.grib_bits.proofs.OctetBits.{length-bits}
 use Rattle.grib_base.specs.declared.code.Code.{Code}
 use Rattle.grib_packing.specs.declared.column.Column.{Column}
+use Rattle.grib_packing.specs.Differences.{Descriptors, descriptors_of}
 use Rattle.grib_packing.specs.Groupings.{IsGrouping, cost_of, header_bits, joined, length_bits, reference_bits_of, runs, width_bits_of, width_of}
-use Rattle.grib_packing.specs.Misfits.{ToComplex, management_of}
-use Rattle.grib_packing.specs.Packed.{HasContents, IsComplex, fields, group_fields, group_parts, padded, reference_of, target_codes}
+use Rattle.grib_packing.specs.Misfits.{ToComplex, ToSpatial, management_of, scaled_numbers}
+use Rattle.grib_packing.specs.Packed.{HasContents, IsComplex, IsSpatial, descriptor_fields, descriptor_size, fields, group_fields, group_parts, padded, reference_of, target_codes}
 use Rattle.grib_packing.proofs.Fields.{length-fields, length-padded8}
 use Rattle.grib_groups.proofs.Back.{length-runs}
 use Rattle.grib_groups.proofs.Parts.{length-parts, sum-more}
+use Rattle.grib_complex.proofs.Differing.{length-descriptors}
 use Rattle.grib_complex.proofs.GroupByGroup.{run_bits}
 
 -- the cost of a grouping is that of the headers and of the packed numbers
@@ -82,3 +84,19 @@ complex_at_least column kind k codes s5 s6 s7 is_codes is_k h =
     let long = section_at_least 7 s7 _ h.values in
     subst₂ (λ (j : ℕ) (cs : List Code). Grouped (8 * 58) j cs s5 s6 s7) (sym is_k) (sym is_codes)
     (record { lengths = h.lengths; grouping = h.chosen.grouping; at_least = omega (arith, h.as_long, ap length h.bitmap, long) })
+
+pub spatial_at_least : (order : ℕ) (column : Column) (kind k : ℕ) (codes : List Code) (d : Descriptors) (s5 s6 s7 : List ℕ) → (order ≡ 1) ⊎ (order ≡ 2)
+    → codes ≡ target_codes (ToSpatial order) column.points → k ≡ management_of column.points → d ≡ descriptors_of order (scaled_numbers column.points)
+    → IsSpatial order column kind s5 s6 s7 → Grouped (8 * (60 + (order + 1) * descriptor_size d)) k codes s5 s6 s7
+spatial_at_least order column kind k codes d s5 s6 s7 either is_codes is_k is_d h =
+    let told = descriptors_of order (scaled_numbers column.points) in
+    let parts = group_parts (management_of column.points) (target_codes (ToSpatial order) column.points) h.lengths in
+    let long = section_at_least 7 s7 (descriptor_fields told ++ parts) h.values in
+    let front : length (descriptor_fields told) ≡ 8 * ((order + 1) * descriptor_size told) = length-descriptors told either in
+    let size : (order + 1) * descriptor_size d ≡ (order + 1) * descriptor_size told = ap (λ (e : Descriptors). (order + 1) * descriptor_size e) is_d in
+    subst₂ (λ (j : ℕ) (cs : List Code). Grouped (8 * (60 + (order + 1) * descriptor_size d)) j cs s5 s6 s7) (sym is_k) (sym is_codes)
+    (record {
+      lengths = h.lengths;
+      grouping = h.chosen.grouping;
+      at_least = omega (arith, h.as_long, ap length h.bitmap, long, length-append (descriptor_fields told) parts, front, size);
+    })

@@ -26,3 +26,4 @@ pub mod NotedNumbers
 pub mod Described
 pub mod Represented
 pub mod AtLeast
+pub mod DifferencesTold

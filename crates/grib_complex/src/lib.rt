@@ -22,12 +22,13 @@ mod runs;
 mod stages;
 mod telling;
 mod told_codes;
+mod told_differences;
 mod unpacking;
 mod values;
 mod words;
 mod writing;
 
-pub use below::pack_complex_below;
+pub use below::{pack_complex_below, pack_spatial_below};
 pub use feeding::{Feeder, Feeding};
 pub use field::Representation;
 pub use grib_groups::Layout;

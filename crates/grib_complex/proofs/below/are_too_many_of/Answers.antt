@@ -1,4 +1,4 @@
-use Rattle.std.proofs.Common.{◌≡◌, ℕ, ◌+◌, ◌*◌, ◌≤◌, List, length, ap, ap₂, sym, ◌∙◌, arith, subst, subst₂}
+use Rattle.std.proofs.Common.{◌≡◌, ℕ, ◌+◌, ◌≤◌, List, length, ap, ap₂, sym, ◌∙◌, arith, subst, subst₂}
 use Rattle.std.proofs.lemmas.Bool.{leb-true}
 use Rattle.grib_base.specs.declared.code.Code.{Code}
 use Rattle.grib_packing.specs.Groupings.{IsGrouping, cost_of, header_bits, length_bits, reference_bits_of, width_bits_of, width_of}

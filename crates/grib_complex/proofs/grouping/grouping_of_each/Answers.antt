@@ -1,9 +1,8 @@
-use Rattle.std.proofs.Common.{◌≡◌, ℕ, ◌+◌, ◌-◌, ◌≤◌, ◌<◌, List, length, get_or, All, ap, ap₂, sym, ◌∙◌, arith, subst, subst₂}
+use Rattle.std.proofs.Common.{◌≡◌, ℕ, ◌+◌, ◌-◌, ◌≤◌, ◌<◌, length, get_or, All, ap, ap₂, sym, ◌∙◌, arith, subst, subst₂}
 use Rattle.std.proofs.lemmas.List.{get_or_read}
-use Rattle.grib_base.specs.declared.code.Code.{Code}
-use Rattle.grib_packing.specs.Groupings.{Chosen, digits, header_bits, length_bits, width_of, width_bits_of, reference_bits_of}
+use Rattle.grib_packing.specs.Groupings.{Chosen, header_bits, length_bits, width_of}
 use Rattle.grib_packing.specs.Span.{IsBelow}
-use Rattle.grib_packing.proofs.Bounds.{all_below, width_bits-few}
+use Rattle.grib_packing.proofs.Bounds.{all_below}
 use Rattle.grib_complex.proofs.GroupByGroup.{few_groups, some_groups}
 use Rattle.grib_complex.proofs.grouping.grouping_of_each.Goals as goal
 
