@@ -25,3 +25,5 @@ pub mod AtOnce
 pub mod NotedNumbers
 pub mod Described
 pub mod Represented
+pub mod AtLeast
+pub mod DifferencesTold

@@ -1,10 +1,11 @@
 //! How the codes of a column are laid out in groups.
 
 ghost use Rattle.std.specs.Prelude.{◌≡◌, ℕ, ◌+◌, ◌*◌, ◌/◌, ◌<◌, ◌≤◌, length, map, replicate, All, IfOk};
-ghost use Rattle.grib_packing.specs.Groupings.{Chosen, IsGrouping, header_bits, joined, runs, width_of};
+ghost use Rattle.grib_packing.specs.Groupings.{Chosen, IsGrouping, header_bits, joined, reference_bits_of, runs, width_bits_of, width_of};
 ghost use Rattle.grib_packing.specs.Packed.{group_fields, group_parts};
 ghost use Rattle.grib_packing.specs.Span.{IsTold, IsBelow};
 ghost use Rattle.grib_groups.specs.Encoding.{AreMeasures, LaysOut};
+ghost use Rattle.grib_split.specs.Costs.{CanSplit};
 ghost use Rattle.grib_complex.specs.FieldCodes.{codes_in};
 
 use crate::words::Words;
@@ -95,15 +96,9 @@ fn grouping_of_each(
     ensures chosen { IfOk result (λ grouping.
         Chosen (header_bits management codes.now) (width_of management) codes.now grouping.lengths.items) }
 {
-    let reserved = u32::from(management);
-    let span = codes.span();
-    let costs = Costs {
-        reserved,
-        reference_bits: span.reference_bits(reserved),
-        width_bits: bit_length(u64::from(span.width(reserved))),
-    };
+    let costs = costs_of(codes, management);
     let lengths = chosen_lengths(alloc, codes, &costs)?;
-    let measures = measures_of(alloc, codes, &lengths, reserved, costs.reference_bits)?;
+    let measures = measures_of(alloc, codes, &lengths, costs.reserved, costs.reference_bits)?;
     let layout = Layout {
         groups: lengths.len() as u32,
         reference_bits: costs.reference_bits as u8,
@@ -120,6 +115,26 @@ fn grouping_of_each(
         measures,
         layout,
     })
+}
+
+/// What the cost of a grouping of these codes rests on.
+pub fn costs_of(codes: &Codes<'_>, management: u8) -> Costs
+    requires some { 1 ≤ length codes.now }
+    requires most { length codes.now ≤ 33554432 }
+    requires few { management ≤ 2 }
+    requires codes { All (IsTold management) codes.now }
+    ensures split { CanSplit result codes.now }
+    ensures reserved { result.reserved ≡ management }
+    ensures references { result.reference_bits ≡ reference_bits_of management codes.now }
+    ensures widths { result.width_bits ≡ width_bits_of management codes.now }
+{
+    let reserved = u32::from(management);
+    let span = codes.span();
+    Costs {
+        reserved,
+        reference_bits: span.reference_bits(reserved),
+        width_bits: bit_length(u64::from(span.width(reserved))),
+    }
 }
 
 /// The groups of this many codes that are all the same: none takes a bit beside its header, so they are the

@@ -1,6 +1,7 @@
 //! Complex packing, with and without spatial differencing: templates 5.2 and 5.3.
 #![tactic(auto)]
 
+mod below;
 mod coding;
 mod constant;
 mod descriptors;
@@ -21,11 +22,13 @@ mod runs;
 mod stages;
 mod telling;
 mod told_codes;
+mod told_differences;
 mod unpacking;
 mod values;
 mod words;
 mod writing;
 
+pub use below::{pack_complex_below, pack_spatial_below};
 pub use feeding::{Feeder, Feeding};
 pub use field::Representation;
 pub use grib_groups::Layout;

@@ -8,6 +8,7 @@ use Rattle.grib_packing.proofs.Sections.{head_of}
 use Rattle.grib_groups.specs.Encoding.{LaysOut}
 use Rattle.grib_spatial.specs.Undoing.{read_with}
 use Rattle.grib_complex.proofs.Wholly.{contents_whole, grouped_by}
+use Rattle.grib_complex.proofs.DifferencesTold.{codes_as_long, codes_told}
 use Rattle.grib_complex.proofs.Differing.{length-descriptors, is_spatial}
 use Rattle.grib_complex.specs.FieldCodes.{codes_in}
 use Rattle.grib_complex.proofs.packed.pack_spatially.Goals as goal
@@ -22,9 +23,30 @@ counted : (order size : ℕ) (d : Descriptors) (o s : ℕ) → o ≡ order → s
 counted order size d o s is_o is_s is_size is_order either =
     length-descriptors d either ∙ ap₂ (λ (m n : ℕ). 8 * ((m + 1) * n)) (is_order ∙ sym is_o) (sym is_size ∙ sym is_s)
 
+pub grouping_of-requires-clause-some : goal.grouping_of-requires-clause-some
+grouping_of-requires-clause-some c = omega (arith, codes_as_long _ _ _ _ _ c.requires.told, c.requires.column.some)
+
+pub grouping_of-requires-clause-most : goal.grouping_of-requires-clause-most
+grouping_of-requires-clause-most c = omega (arith, codes_as_long _ _ _ _ _ c.requires.told, c.requires.column.few)
+
+pub grouping_of-requires-clause-codes : goal.grouping_of-requires-clause-codes
+grouping_of-requires-clause-codes c = codes_told _ _ _ _ _ c.requires.told
+
+pub octets_of_groups-groups-requires-clause-most : goal.octets_of_groups-groups-requires-clause-most
+octets_of_groups-groups-requires-clause-most c = omega (arith, codes_as_long _ _ _ _ _ c.requires.told, c.requires.column.few)
+
+pub count-values-requires : goal.count-values-requires
+count-values-requires c = omega (arith, codes_as_long _ _ _ _ _ c.requires.told, c.requires.column.few)
+
+pub groups_section-requires-clause-some : goal.groups_section-requires-clause-some
+groups_section-requires-clause-some c = omega (arith, codes_as_long _ _ _ _ _ c.requires.told, c.requires.column.some)
+
+pub groups_section-requires-clause-most : goal.groups_section-requires-clause-most
+groups_section-requires-clause-most c = omega (arith, codes_as_long _ _ _ _ _ c.requires.told, c.requires.column.few)
+
 pub groups_section-requires-clause-whole : goal.groups_section-requires-clause-whole
 groups_section-requires-clause-whole c =
-    let d = read_with c.args.order c.args.differences.now in
+    let d = read_with c.args.order c.args.told.now.differences in
     let octets = 5 + (c.from.result + 1) * c.from-2.result + c.octets_of_groups-groups.result in
     let head : c.write_head.new.out.bits ≡ bits (head_of octets 7) =
     c.write_head.ensures.bits ∙ ap (λ xs. xs ++ bits (head_of octets 7)) c.in_ok-section7.ensures.0 in
@@ -33,7 +55,7 @@ groups_section-requires-clause-whole c =
 
 pub groups_section-requires-clause-room : goal.groups_section-requires-clause-room
 groups_section-requires-clause-room c =
-    let codes = codes_in c.args.codes.now in
+    let codes = codes_in c.args.told.now.codes in
     let layout = c.in_ok-grouping.grouping.layout in
     let first : c.deref.result.now ≡ c.in_ok-grouping.grouping.lengths.items = c.deref.ensures.value in
     let second : c.deref-3.result.now ≡ c.in_ok-grouping.grouping.lengths.items = c.deref-3.ensures.value in
@@ -44,12 +66,12 @@ groups_section-requires-clause-room c =
 pub returns : goal.returns
 returns c =
     let column = c.args.column.now in
-    let codes = codes_in c.args.codes.now in
-    let k = c.args.management in
+    let codes = codes_in c.args.told.now.codes in
+    let k = c.args.told.now.management in
     let grouping = c.in_ok-grouping.grouping in
     let layout = grouping.layout in
     let lengths = grouping.lengths.items in
-    let d = read_with c.args.order c.args.differences.now in
+    let d = read_with c.args.order c.args.told.now.differences in
     let fields = descriptor_fields d in
     let laid : LaysOut layout codes lengths = c.in_ok-grouping.ensures.lays_out in
     let octets = 5 + (c.from.result + 1) * c.from-2.result + c.octets_of_groups-groups.result in
@@ -72,7 +94,7 @@ returns c =
     let whole = length-append fields parts in
     let contents : HasContents 7 c.groups_section.result (fields ++ parts) =
     contents_whole c.groups_section.result 7 octets (fields ++ parts) each (omega arith) (omega arith) (omega arith) ended in
-    is_spatial c.args.order column c.args.kind k codes d c.spatial_representation.result c.no_bitmap.result c.groups_section.result c.requires.codes c.requires.management c.requires.differences
+    is_spatial c.args.order column c.args.kind k codes d c.spatial_representation.result c.no_bitmap.result c.groups_section.result c.requires.told.codes_are c.requires.told.management c.requires.told.told
     c.spatial_representation.ensures.length c.spatial_representation.ensures.order (c.spatial_representation.ensures.size ∙ is_size)
-    (grouped_by column c.args.kind 3 k c.count-values.result codes lengths layout fields c.spatial_representation.result c.no_bitmap.result c.groups_section.result (c.count-values.ensures ∙ c.requires.as_long) laid c.in_ok-grouping.ensures.management
+    (grouped_by column c.args.kind 3 k c.count-values.result codes lengths layout fields c.spatial_representation.result c.no_bitmap.result c.groups_section.result (c.count-values.ensures ∙ codes_as_long _ _ _ _ _ c.requires.told) laid c.in_ok-grouping.ensures.management
     c.in_ok-grouping.ensures.chosen c.spatial_representation.ensures.numbers c.spatial_representation.ensures.layout c.no_bitmap.ensures.section contents)
