@@ -6,15 +6,15 @@ ghost use Rattle.grib2_message.specs.Assembled.{IsShort};
 ghost use Rattle.grib2_message.specs.Fields.{field_count};
 ghost use Rattle.grib2_message.specs.Message.{IsMessage};
 ghost use Rattle.grib_repack.specs.Faults.{target_of};
-ghost use Rattle.grib_least.specs.Below.{IsPackedBelow};
+ghost use Rattle.grib_complex.specs.Below.{IsPackedBelow};
 ghost use Rattle.grib_least.specs.Earlier as earlier;
 ghost use Rattle.grib_least.specs.Earlier.{or_form};
 ghost use Rattle.grib_least.specs.Least as definitions;
 ghost use Rattle.grib_least.specs.Least.{form_of, least, size_of};
 
-use crate::below::{pack_complex_below, pack_spatial_below};
 use grib_base::List;
 use grib_bits::u8_at;
+use grib_complex::{pack_complex_below, pack_spatial_below};
 use grib_packed::laws::{a_packing_is_written, one_packing_is_written};
 use grib_packing::{Column, PackFault, Packed, Packing};
 use grib_repack::RepackTarget;

@@ -1,7 +1,6 @@
 //! Messages in the fewest octets: each field in the smallest of its forms.
 #![tactic(auto)]
 
-mod below;
 mod choosing;
 pub mod laws;
 
