@@ -14,7 +14,7 @@ use Rattle.grib_split.specs.Runs.{Runs, Afters, Falls, Soonest, Holds, after_of}
 abbrev pub code_at : List Code → ℕ → Code
 code_at codes at = get_or codes at (Present 0)
 
--- so many codes from a place on are the same, 64 at most
+-- `count` codes from a place on are the same, 64 at most
 pub record Alike (codes : List Code) (at count : ℕ) : Type 0 where
   pub most : count ≤ 64
   pub fits : at + count ≤ length codes

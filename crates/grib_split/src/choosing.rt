@@ -125,7 +125,7 @@ fn here_at(slots: &mut Slots, codes: &Codes<'_>, at: usize, next: Here, costs: &
     }
 }
 
-/// How many codes from `at` on are the same, up to 64, where so many after it are.
+/// How many codes from `at` on are the same, up to 64, where `after` of those behind it are.
 #[inline]
 fn alike_from(codes: &Codes<'_>, at: usize, after: u32) -> u32
     requires place { at < length codes.now }

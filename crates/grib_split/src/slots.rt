@@ -224,7 +224,7 @@ impl Slots {
         }
     }
 
-    /// Finds the width of the run at a place, and the cost of so many of its codes.
+    /// Finds the width of the run at a place, and what `count` of its codes cost.
     #[inline]
     fn mend_one(&mut self, place: usize, count: u32, reserved: u32)
         requires place { place < 64 }
