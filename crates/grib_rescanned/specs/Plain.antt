@@ -16,7 +16,7 @@ takes_numbers (Crop area) s = true
 abbrev pub plain_column : PlainField → Column
 plain_column field = record { reference = field.reference; e = field.e; d = field.d; points = number_points field.numbers }
 
--- the numbers can be read, and there is one for each of so many grid points
+-- the numbers can be read, and there are as many as grid points
 pub record PlainStands (points : ℕ) (field : PlainField) : Type 0 where
   pub numbers : NumbersStand field.numbers
   pub count : field.numbers.count ≡ points

@@ -152,7 +152,7 @@ pub fn edited(alloc: Global, octets: &[u8], edits: &[(usize, u8)]) -> Result<Vec
     Ok(copy)
 }
 
-/// The octets behind the first `from` of these, up to the first `to`; none where they do not have so many.
+/// The octets behind the first `from` of these, up to the first `to`; none where they have fewer.
 pub fn between(octets: &[u8], from: usize, to: usize) -> &[u8] {
     octets.get(from..to).unwrap_or(&[])
 }
