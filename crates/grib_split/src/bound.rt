@@ -16,22 +16,27 @@ const BLOCK: usize = 8;
 /// The bits that a block takes at most, as one group: 44 for its header and 32 for each code.
 const MOST: u32 = 300;
 
-/// How many blocks, at least, tell what all of them may come to.
-const TELLING: usize = 64;
+/// Fewer blocks than these are all looked at.
+const FEW: usize = 64;
+
+/// Of so many blocks one is looked at first: no power of 2, since a grid's rows often have a multiple of 128 points.
+const STRIDE: usize = 17;
 
 /// Bits that no grouping of these codes into runs of 1 to 64 takes fewer than: a quick look, which ends once `enough`
-/// are known, or where the first codes show that they will hardly be.
+/// are known, or where some of the codes show that they will hardly be.
 pub fn bits_at_least(codes: &Codes<'_>, costs: &Costs, enough: u64) -> u64
     requires split { CanSplit costs.now codes.now }
     requires told { All (IsTold costs.now.reserved) codes.now }
     ensures { (lengths : List ℕ) → IsGrouping (length codes.now) lengths
         → result ≤ cost_of (header_of costs.now) (width_of costs.now.reserved) lengths codes.now }
 {
+    if !may_reach(codes, costs, enough) {
+        return 0;
+    }
     let header = costs.reference_bits + costs.width_bits + 6;
-    let blocks = codes.len() / BLOCK;
     let mut bits = 0;
-    for block in 0..blocks {
-        if bits >= enough || is_hopeless(bits, block, blocks, enough) {
+    for block in 0..codes.len() / BLOCK {
+        if bits >= enough {
             return bits;
         }
         bits += u64::from(block_bits(codes, block * BLOCK, costs).saturating_sub(header));
@@ -39,11 +44,22 @@ pub fn bits_at_least(codes: &Codes<'_>, costs: &Costs, enough: u64) -> u64
     bits
 }
 
-/// Whether the first blocks, a sixteenth of all, take so few bits that all of them will hardly take `enough`.
-#[inline]
-fn is_hopeless(bits: u64, done: usize, blocks: usize, enough: u64) -> bool {
-    let telling = (blocks / 16).max(TELLING);
-    done == telling && bits.saturating_mul(blocks as u64) / (telling as u64) < enough
+/// Whether the bits of some blocks, all over the codes, let those of all blocks come to `enough`.
+fn may_reach(codes: &Codes<'_>, costs: &Costs, enough: u64) -> bool
+    requires { CanSplit costs.now codes.now }
+{
+    let blocks = codes.len() / BLOCK;
+    if blocks < FEW {
+        return true;
+    }
+    let header = costs.reference_bits + costs.width_bits + 6;
+    let looks = blocks / STRIDE;
+    let mut bits = 0;
+    for look in 0..looks {
+        let from = look * STRIDE * BLOCK;
+        bits += u64::from(block_bits(codes, from, costs).saturating_sub(header));
+    }
+    bits * blocks as u64 / looks as u64 >= enough
 }
 
 /// Bits that no grouping of the 8 codes from `from` on takes fewer than.
