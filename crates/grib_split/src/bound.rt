@@ -7,6 +7,7 @@ ghost use Rattle.grib_split.specs.Bound.{NoneTakesFewer};
 ghost use Rattle.grib_split.specs.Costs.{CanSplit, header_of};
 
 use crate::choosing::Costs;
+use grib_base::Code;
 use grib_codes::Codes;
 use grib_packing::Span;
 
@@ -62,7 +63,8 @@ fn may_reach(codes: &Codes<'_>, costs: &Costs, enough: u64) -> bool
     bits * blocks as u64 / looks as u64 >= enough
 }
 
-/// Bits that no grouping of the 8 codes from `from` on takes fewer than.
+/// Bits that no grouping of the 8 codes from `from` on takes fewer than: none where they are the same, whose only bits
+/// are those of a header.
 #[inline]
 fn block_bits(codes: &Codes<'_>, from: usize, costs: &Costs) -> u32
     requires split { CanSplit costs.now codes.now }
@@ -70,6 +72,9 @@ fn block_bits(codes: &Codes<'_>, from: usize, costs: &Costs) -> u32
     ensures few { result ≤ 300 }
     ensures bits { NoneTakesFewer (header_of costs.now) (width_of costs.now.reserved) (take 8 (drop from codes.now)) result }
 {
+    if are_alike(codes, from) {
+        return 0;
+    }
     let mut rest = [0; BLOCK + 1];
     for count in 1..BLOCK + 1 {
         rest[count] = best_of(codes, from + BLOCK - count, count, costs, &rest);
@@ -77,10 +82,59 @@ fn block_bits(codes: &Codes<'_>, from: usize, costs: &Costs) -> u32
     rest[BLOCK]
 }
 
+/// Whether the 8 codes from `from` on are the same.
+#[inline]
+fn are_alike(codes: &Codes<'_>, from: usize) -> bool
+    requires most { length codes.now ≤ 33554432 }
+    requires fits { from + 8 ≤ length codes.now }
+{
+    for at in 1..BLOCK {
+        if !codes.are_same(from, from + at) {
+            return false;
+        }
+    }
+    true
+}
+
 /// Bits that no grouping of so many codes from `from` on takes fewer than; `rest` tells such bits for each smaller
-/// count of the last ones of them.
+/// count of the last ones of them. It looks for numbers alone, and leaves codes with missing points to `best_of_any`.
 #[inline]
 fn best_of(codes: &Codes<'_>, from: usize, count: usize, costs: &Costs, rest: &[u32; 9]) -> u32
+    requires split { CanSplit costs.now codes.now }
+    requires some { 1 ≤ count }
+    requires short { count ≤ 8 }
+    requires fits { from + count ≤ length codes.now }
+    requires small { (place : ℕ) → place < 9 → slice_index rest.now place ≤ 300 }
+    requires rest { (l : ℕ) → 1 ≤ l → l ≤ count
+        → NoneTakesFewer (header_of costs.now) (width_of costs.now.reserved) (take (count - l) (drop (from + l) codes.now))
+        (slice_index rest.now (count - l)) }
+    ensures few { result ≤ 300 }
+    ensures bits { NoneTakesFewer (header_of costs.now) (width_of costs.now.reserved) (take count (drop from codes.now)) result }
+{
+    let header = costs.reference_bits + costs.width_bits + 6;
+    let mut span = Span::none();
+    let mut best = MOST;
+    for at in 0..count {
+        let code = codes.at(from + at);
+        if !is_number(code) {
+            return best_of_any(codes, from, count, costs, rest);
+        }
+        span = span.with(code);
+        let numbers = (at as u32 + 1) * span.width(costs.reserved);
+        best = best.min(header + numbers + rest[count - 1 - at]);
+    }
+    best
+}
+
+/// Whether a code is a number.
+#[inline]
+fn is_number(code: Code) -> bool {
+    matches!(code, Code::Present(_))
+}
+
+/// What `best_of` gives, of numbers and missing points.
+#[inline(never)]
+fn best_of_any(codes: &Codes<'_>, from: usize, count: usize, costs: &Costs, rest: &[u32; 9]) -> u32
     requires split { CanSplit costs.now codes.now }
     requires some { 1 ≤ count }
     requires short { count ≤ 8 }
