@@ -17,3 +17,4 @@ pub mod Alike
 pub mod Steadily
 pub mod Narrow
 pub mod Cut
+pub mod Looks

@@ -23,7 +23,7 @@ loop-block-preserved c =
     let k = costs.reserved in
     let from = c.loop-block.block * 8 in
     let rest_codes = drop from codes in
-    let room : from + 8 ≤ length codes = omega (arith, c.loop-block-test.true, c.len-blocks.ensures) in
+    let room : from + 8 ≤ length codes = omega (arith, c.loop-block-test.true, c.len-block-end.ensures) in
     let next : from + 8 ≡ (c.loop-block.block + 1) * 8 = omega arith in
     let added : c.from-bits.result ≡ c.block_bits.result - header = omega (arith, c.from-bits.ensures, c.saturating_sub.ensures) in
     record {
