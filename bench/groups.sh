@@ -2,8 +2,7 @@
 # Measures, in one run, how fast random numbers of a width are written in groups of 64, by `encode_groups` and by
 # `encode_measured_groups`, which knows the references and widths, against a loop that writes the same numbers by
 # `BitWriter::put`. A ratio is the loop's time over that of the groups, both less the time to make the numbers
-# and to take memory: above 1, the groups are the faster. A code takes 16 octets and a number 8, so that a large
-# field is no faster than its codes come from memory.
+# and to take memory: above 1, the groups are the faster. A code takes 4 octets and a number 8.
 #
 #     bench/groups.sh [WIDTH [COUNT]]     12 bits and 16,000,000 numbers where none is given; at most 24 bits
 set -euo pipefail
