@@ -6,7 +6,7 @@ use Rattle.grib_tests_packings.proofs.groups.encoding.a_number_that_would_be_all
 pub encode_groups-requires-clause-lays_out : goal.encode_groups-requires-clause-lays_out
 encode_groups-requires-clause-lays_out g c =
     let are : c.of-codes.result ≡ Present 7 ∷ Primary ∷ Present 7 ∷ Present 7 ∷ [] =
-    c.of-codes.ensures
+    c.of-codes.ensures.is
     ∙ four_codes 1 c.word_of.result c.word_of-2.result c.word_of-3.result c.word_of-4.result (Present 7) Primary (Present 7) (Present 7)
     (c.word_of.ensures 1 (omega arith) (omega arith)) (c.word_of-2.ensures 1 (omega arith) (omega arith)) (c.word_of-3.ensures 1 (omega arith) (omega arith)) (c.word_of-4.ensures 1 (omega arith) (omega arith)) in
     rw are (search rules)
@@ -14,7 +14,7 @@ encode_groups-requires-clause-lays_out g c =
 pub encode_groups-requires-clause-room : goal.encode_groups-requires-clause-room
 encode_groups-requires-clause-room g c =
     let are : c.of-codes.result ≡ Present 7 ∷ Primary ∷ Present 7 ∷ Present 7 ∷ [] =
-    c.of-codes.ensures
+    c.of-codes.ensures.is
     ∙ four_codes 1 c.word_of.result c.word_of-2.result c.word_of-3.result c.word_of-4.result (Present 7) Primary (Present 7) (Present 7)
     (c.word_of.ensures 1 (omega arith) (omega arith)) (c.word_of-2.ensures 1 (omega arith) (omega arith)) (c.word_of-3.ensures 1 (omega arith) (omega arith)) (c.word_of-4.ensures 1 (omega arith) (omega arith)) in
     rw are (search rules)

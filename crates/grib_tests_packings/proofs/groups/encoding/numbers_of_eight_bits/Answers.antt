@@ -6,7 +6,7 @@ use Rattle.grib_tests_packings.proofs.groups.encoding.numbers_of_eight_bits.Goal
 pub encode_groups-requires-clause-lays_out : goal.encode_groups-requires-clause-lays_out
 encode_groups-requires-clause-lays_out g c =
     let are : c.of-codes.result ≡ Present 6 ∷ Present 126 ∷ Present 65 ∷ Present 171 ∷ [] =
-    c.of-codes.ensures
+    c.of-codes.ensures.is
     ∙ four_codes 0 c.word_of.result c.word_of-2.result c.word_of-3.result c.word_of-4.result (Present 6) (Present 126) (Present 65) (Present 171)
     (c.word_of.ensures 0 (omega arith) (omega arith)) (c.word_of-2.ensures 0 (omega arith) (omega arith)) (c.word_of-3.ensures 0 (omega arith) (omega arith)) (c.word_of-4.ensures 0 (omega arith) (omega arith)) in
     rw are (search rules)
@@ -14,7 +14,7 @@ encode_groups-requires-clause-lays_out g c =
 pub encode_groups-requires-clause-room : goal.encode_groups-requires-clause-room
 encode_groups-requires-clause-room g c =
     let are : c.of-codes.result ≡ Present 6 ∷ Present 126 ∷ Present 65 ∷ Present 171 ∷ [] =
-    c.of-codes.ensures
+    c.of-codes.ensures.is
     ∙ four_codes 0 c.word_of.result c.word_of-2.result c.word_of-3.result c.word_of-4.result (Present 6) (Present 126) (Present 65) (Present 171)
     (c.word_of.ensures 0 (omega arith) (omega arith)) (c.word_of-2.ensures 0 (omega arith) (omega arith)) (c.word_of-3.ensures 0 (omega arith) (omega arith)) (c.word_of-4.ensures 0 (omega arith) (omega arith)) in
     rw are (search rules)
