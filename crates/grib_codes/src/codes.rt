@@ -1,9 +1,10 @@
 //! Codes in 32 bits each.
 
-ghost use Rattle.std.specs.Prelude.{◌≡◌, ℕ, ◌+◌, ◌≤◌, ◌<◌, ◌^◌, ◌∷◌, [], length, take, drop, get_or, max, min, true, All};
+ghost use Rattle.std.specs.Prelude.{◌≡◌, ◌≢◌, ℕ, ◌+◌, ◌≤◌, ◌<◌, ◌^◌, ◌∷◌, [], length, take, drop, get_or, max, min, true, false, All};
 ghost use Rattle.grib_base.specs.declared.code.Code as code_io;
 ghost use Rattle.grib_codes.specs.Words.{code_of, codes_of};
-ghost use Rattle.grib_packing.specs.Groupings.{greatest, smallest};
+ghost use Rattle.grib_base.specs.declared.code.Code.TheVariants.{Primary};
+ghost use Rattle.grib_packing.specs.Groupings.{greatest, smallest, present_codes, is_present};
 ghost use Rattle.grib_packing.specs.Span.{IsBelow, IsOrdered, IsSmallWith, IsSpan, IsTold};
 
 use grib_base::Code;
@@ -76,7 +77,8 @@ impl<'a> Codes<'a> {
     pub fn are_same(&self, place: usize, other: usize) -> bool
         requires place { place < length self.now }
         requires other { other < length self.now }
-        ensures { (default : code_io.Code) → result ≡ true → get_or self.now place default ≡ get_or self.now other default }
+        ensures same { (default : code_io.Code) → result ≡ true → get_or self.now place default ≡ get_or self.now other default }
+        ensures differ { (default : code_io.Code) → result ≡ false → get_or self.now place default ≢ get_or self.now other default }
     {
         let words = self.words;
         words[place] == words[other]
@@ -112,7 +114,8 @@ impl<'a> Codes<'a> {
     }
 }
 
-/// What the codes of these words span. Where all are numbers only the least and the greatest are looked for.
+/// What the codes of these words span. Where all are numbers only the least and the greatest are looked for, and where
+/// some are primary missing and no other code is reserved, the greatest number too.
 fn span_of_words(words: &[u32], reserved: u32) -> Span
     requires { reserved ≤ 2 }
     ensures span { IsSpan result (codes_of reserved words.now) }
@@ -121,9 +124,27 @@ fn span_of_words(words: &[u32], reserved: u32) -> Span
 {
     let (least, greatest) = ends(words);
     if words.len() == 0 || greatest > u32::MAX - reserved {
-        return span_of_each(words, reserved);
+        return span_with_marks(words, least, greatest, reserved);
     }
     span_between(u64::from(least), u64::from(greatest))
+}
+
+/// What the codes of these words span, of which these are the least and the greatest, where some may be marks.
+fn span_with_marks(words: &[u32], least: u32, most: u32, reserved: u32) -> Span
+    requires few { reserved ≤ 2 }
+    requires least { least ≡ smallest (u32.MAX ∷ words.now) }
+    requires greatest { most ≡ greatest words.now }
+    ensures span { IsSpan result (codes_of reserved words.now) }
+    ensures ordered { IsOrdered result }
+    ensures small { (k : ℕ) → k ≤ 2 → All (IsBelow k) (codes_of reserved words.now) → IsSmallWith k result }
+{
+    if reserved != 1 || most < u32::MAX {
+        return span_of_each(words, reserved);
+    }
+    if least == u32::MAX {
+        return Span::none().with(Code::Primary);
+    }
+    span_around(u64::from(least), u64::from(greatest_number(words)))
 }
 
 /// The least and the greatest of some words. The first is the greatest word where there is none.
@@ -132,28 +153,12 @@ fn ends(words: &[u32]) -> (u32, u32)
     ensures greatest { result.1 ≡ greatest words.now }
 {
     let mut least = u32::MAX;
-    let mut most = 0;
+    let mut most: u32 = 0;
     for word in words {
-        least = lesser(least, *word);
-        most = greater(most, *word);
+        least = least.min(*word);
+        most = most.max(*word);
     }
     (least, most)
-}
-
-/// The lesser of two words.
-#[inline(always)]
-fn lesser(one: u32, other: u32) -> u32
-    ensures { result ≡ min one other }
-{
-    if other < one { other } else { one }
-}
-
-/// The greater of two words.
-#[inline(always)]
-fn greater(one: u32, other: u32) -> u32
-    ensures { result ≡ max one other }
-{
-    if one < other { other } else { one }
 }
 
 /// What two numbers span.
@@ -165,6 +170,37 @@ fn span_between(least: u64, greatest: u64) -> Span
     Span::none()
         .with(Code::Present(least))
         .with(Code::Present(greatest))
+}
+
+/// What two numbers and a primary missing point span.
+#[inline]
+fn span_around(least: u64, greatest: u64) -> Span
+    ensures span { IsSpan result (Code.Present greatest ∷ Code.Present least ∷ Primary ∷ []) }
+    ensures ordered { IsOrdered result }
+{
+    Span::none()
+        .with(Code::Primary)
+        .with(Code::Present(least))
+        .with(Code::Present(greatest))
+}
+
+/// The greatest number of some words, where the one code that is reserved is for primary missing points; 0 for none.
+fn greatest_number(words: &[u32]) -> u32
+    ensures { result ≡ greatest (present_codes (codes_of 1 words.now)) }
+{
+    let mut most: u32 = 0;
+    for word in words {
+        most = most.max(number_or_none(*word));
+    }
+    most
+}
+
+/// The number that a word stands for, and 0 for a mark.
+#[inline(always)]
+fn number_or_none(word: u32) -> u32
+    ensures { result ≡ greatest (present_codes (code_of 1 word ∷ [])) }
+{
+    if word == u32::MAX { 0 } else { word }
 }
 
 /// What the codes of these words span, each looked at.
@@ -194,6 +230,14 @@ fn code_in(word: u32, reserved: u32) -> Code
     } else {
         Code::Secondary
     }
+}
+
+/// Whether a code is a number, and no mark.
+#[inline(always)]
+pub fn is_number(code: Code) -> bool
+    ensures { result ≡ is_present code }
+{
+    matches!(code, Code::Present(_))
 }
 
 /// The word that stands for a code.

@@ -3,4 +3,4 @@
 
 mod codes;
 
-pub use codes::{Codes, word_of};
+pub use codes::{Codes, is_number, word_of};

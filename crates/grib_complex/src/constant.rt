@@ -1,6 +1,6 @@
 //! A column of one value, or of missing points alone, by differences.
 
-ghost use Rattle.std.specs.Prelude.{◌≡◌, ◌⊎◌, ℕ, ◌^◌, ◌-◌, ◌<◌, ◌≤◌, IfSome, replicate, get_or, cond, ◌==◌, nat_abs, pos, false};
+ghost use Rattle.std.specs.Prelude.{◌≡◌, ◌⊎◌, ◌^◌, ◌-◌, ◌≤◌, IfSome, replicate, get_or, cond, ◌==◌, pos, false};
 ghost use Rattle.grib_packing.specs.Misfits.{is_outside as is_outside_of};
 ghost use Rattle.grib_spatial.specs.Undoing.{read_with};
 ghost use Rattle.grib_complex.specs.Constant.{DifferencesOf};
@@ -26,11 +26,8 @@ impl Constant {
     pub fn of(alloc: Global, point: Point, count: u32, order: u8) -> Option<Constant>
         requires some { 1 ≤ count }
         requires order { (order ≡ 1) ⊎ (order ≡ 2) }
-        ensures told { IfSome result (λ told. DifferencesOf order (replicate count point)
+        ensures { IfSome result (λ told. DifferencesOf order (replicate count point)
             (read_with order told.differences) (replicate count told.code) told.management) }
-        ensures first { IfSome result (λ told. nat_abs told.differences.first < 2 ^ 31) }
-        ensures second { IfSome result (λ told. nat_abs told.differences.second < 2 ^ 31) }
-        ensures minimum { IfSome result (λ told. nat_abs told.differences.minimum < 2 ^ 31) }
     {
         match point {
             Point::Scaled(x) => Constant::of_number(alloc, x, count, order),
@@ -51,11 +48,8 @@ impl Constant {
     fn of_number(alloc: Global, x: i64, count: u32, order: u8) -> Option<Constant>
         requires some { 1 ≤ count }
         requires order { (order ≡ 1) ⊎ (order ≡ 2) }
-        ensures told { IfSome result (λ told. DifferencesOf order (replicate count (Point.Scaled x))
+        ensures { IfSome result (λ told. DifferencesOf order (replicate count (Point.Scaled x))
             (read_with order told.differences) (replicate count told.code) told.management) }
-        ensures first { IfSome result (λ told. nat_abs told.differences.first < 2 ^ 31) }
-        ensures second { IfSome result (λ told. nat_abs told.differences.second < 2 ^ 31) }
-        ensures minimum { IfSome result (λ told. nat_abs told.differences.minimum < 2 ^ 31) }
     {
         if is_outside(x, MOST) {
             return None;
@@ -84,8 +78,7 @@ fn same_differences(alloc: Global, first: i64, second: i64) -> Differences
 
 /// The second first value where this many numbers are the same.
 fn second_of(x: i64, count: u32, order: u8) -> i64
-    ensures is { result ≡ cond (order == 1) (pos 0) (get_or (replicate count x) 1 (pos 0)) }
-    ensures small { nat_abs x < 2 ^ 31 → nat_abs result < 2 ^ 31 }
+    ensures { result ≡ cond (order == 1) (pos 0) (get_or (replicate count x) 1 (pos 0)) }
 {
     if order != 1 && count > 1 { x } else { 0 }
 }

@@ -13,7 +13,7 @@ use crate::Layout;
 use crate::measuring::{Measure, later_measures, next_measure};
 use grib_base::Code;
 use grib_bits::BitWriter;
-use grib_codes::Codes;
+use grib_codes::{Codes, is_number};
 use grib_packing::Span;
 
 /// Writes codes as groups of these lengths: the references, the widths, the lengths less 1 in 6 bits each
@@ -212,14 +212,6 @@ fn has_no_mark(run: &Codes<'_>, reserved: u32) -> bool
         }
     }
     true
-}
-
-/// Whether a code is a number, and no mark.
-#[inline(always)]
-fn is_number(code: Code) -> bool
-    ensures { result ≡ is_present code }
-{
-    matches!(code, Code::Present(_))
 }
 
 /// Writes the packed numbers of a group of this width and reference that has no mark: several at once, and the

@@ -199,7 +199,7 @@ width_mono false true true false q' r' s g lo hi k hp hq hr low high ordered sma
 width_mono false true false p' q' r' s g lo hi k hp hq hr low high ordered small marks = omega arith
 width_mono false false r p' q' r' s g lo hi k hp hq hr low high ordered small marks = omega arith
 
-width-within : (k lo hi : ℕ) (p q r : Bool) (run : List Code) → hi + k < 2 ^ 32 → (q ≡ true → r ≡ true → 1 ≤ k)
+pub width-within : (k lo hi : ℕ) (p q r : Bool) (run : List Code) → hi + k < 2 ^ 32 → (q ≡ true → r ≡ true → 1 ≤ k)
     → All (IsWithin lo hi p q r) run → width_of k run ≤ width_by p q r lo hi k
 width-within k lo hi p q r run small marks all =
     let numbers = present_codes run in
@@ -217,7 +217,7 @@ widths_below k lo hi m p q r (n ∷ ns) codes small marks below all =
     All-cons (λ run. width_of k run < m) run (runs ns (drop n codes)) (omega (arith, here, below))
     (widths_below k lo hi m p q r ns (drop n codes) small marks below (All-drop (IsWithin lo hi p q r) n codes all))
 
-primary_reserved : (k : ℕ) (codes : List Code) → All (IsTold k) codes → list_any is_primary codes ≡ true → 1 ≤ k
+pub primary_reserved : (k : ℕ) (codes : List Code) → All (IsTold k) codes → list_any is_primary codes ≡ true → 1 ≤ k
 primary_reserved k [] told e = cc
 primary_reserved k (Present n ∷ codes) told e = primary_reserved k codes (All-tail (IsTold k) (Present n) codes told) e
 primary_reserved k (Primary ∷ codes) told e = All-head (IsTold k) Primary codes told

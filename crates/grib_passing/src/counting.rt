@@ -20,11 +20,10 @@ pub(crate) fn one_answered(totals: &PassTotals, message: &Whole) -> PassTotals
         counted: Totals {
             messages: totals.counted.messages + 1,
             fields: totals.counted.fields + message.fields,
-            skipped: totals.counted.skipped,
             written: totals.counted.written + message.written,
+            ..totals.counted
         },
-        refused: totals.refused,
-        kept: totals.kept,
+        ..*totals
     }
 }
 
@@ -41,11 +40,11 @@ pub(crate) fn one_kept(totals: &PassTotals, message: &Extent, written: u64) -> P
         counted: Totals {
             messages: totals.counted.messages + 1,
             fields: totals.counted.fields + message.fields,
-            skipped: totals.counted.skipped,
             written: totals.counted.written + written,
+            ..totals.counted
         },
-        refused: totals.refused,
         kept: totals.kept + 1,
+        ..*totals
     }
 }
 
@@ -57,12 +56,10 @@ pub(crate) fn one_refused(totals: &PassTotals, octets: u64) -> PassTotals
 {
     PassTotals {
         counted: Totals {
-            messages: totals.counted.messages,
-            fields: totals.counted.fields,
             skipped: totals.counted.skipped + octets,
-            written: totals.counted.written,
+            ..totals.counted
         },
         refused: totals.refused + 1,
-        kept: totals.kept,
+        ..*totals
     }
 }

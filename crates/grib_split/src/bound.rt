@@ -7,8 +7,7 @@ ghost use Rattle.grib_split.specs.Bound.{NoneTakesFewer};
 ghost use Rattle.grib_split.specs.Costs.{CanSplit, header_of};
 
 use crate::choosing::Costs;
-use grib_base::Code;
-use grib_codes::Codes;
+use grib_codes::{Codes, is_number};
 use grib_packing::Span;
 
 /// How many codes are looked at by themselves.
@@ -34,7 +33,7 @@ pub fn bits_at_least(codes: &Codes<'_>, costs: &Costs, enough: u64) -> u64
     if !may_reach(codes, costs, enough) {
         return 0;
     }
-    let header = costs.reference_bits + costs.width_bits + 6;
+    let header = costs.header();
     let mut bits = 0;
     for block in 0..codes.len() / BLOCK {
         if bits >= enough {
@@ -53,7 +52,7 @@ fn may_reach(codes: &Codes<'_>, costs: &Costs, enough: u64) -> bool
     if blocks < FEW {
         return true;
     }
-    let header = costs.reference_bits + costs.width_bits + 6;
+    let header = costs.header();
     let looks = blocks / STRIDE;
     let mut bits = 0;
     for look in 0..looks {
@@ -111,7 +110,7 @@ fn best_of(codes: &Codes<'_>, from: usize, count: usize, costs: &Costs, rest: &[
     ensures few { result ≤ 300 }
     ensures bits { NoneTakesFewer (header_of costs.now) (width_of costs.now.reserved) (take count (drop from codes.now)) result }
 {
-    let header = costs.reference_bits + costs.width_bits + 6;
+    let header = costs.header();
     let mut span = Span::none();
     let mut best = MOST;
     for at in 0..count {
@@ -124,12 +123,6 @@ fn best_of(codes: &Codes<'_>, from: usize, count: usize, costs: &Costs, rest: &[
         best = best.min(header + numbers + rest[count - 1 - at]);
     }
     best
-}
-
-/// Whether a code is a number.
-#[inline]
-fn is_number(code: Code) -> bool {
-    matches!(code, Code::Present(_))
 }
 
 /// What `best_of` gives, of numbers and missing points.
@@ -146,7 +139,7 @@ fn best_of_any(codes: &Codes<'_>, from: usize, count: usize, costs: &Costs, rest
     ensures few { result ≤ 300 }
     ensures bits { NoneTakesFewer (header_of costs.now) (width_of costs.now.reserved) (take count (drop from codes.now)) result }
 {
-    let header = costs.reference_bits + costs.width_bits + 6;
+    let header = costs.header();
     let mut span = Span::none();
     let mut best = MOST;
     for at in 0..count {

@@ -21,6 +21,17 @@ pub struct Costs {
     pub width_bits: u32,
 }
 
+impl Costs {
+    /// The bits that a group takes beside its numbers.
+    #[inline(always)]
+    pub(crate) fn header(&self) -> u32
+        requires { header_of self.now ≤ 44 }
+        ensures { result ≡ header_of self.now }
+    {
+        self.reference_bits + self.width_bits + 6
+    }
+}
+
 /// Writes for each place the length of the first group of the grouping that is chosen for the codes from
 /// that place on: of the groupings into runs of 1 to 64 codes that take the fewest bits, the first one,
 /// where the first length that differs decides and the smaller stands first. It takes no memory.
@@ -168,7 +179,7 @@ fn best_of_one(slots: &mut Slots, at: usize, next: Cheapest, costs: &Costs) -> C
     let least = slots.soonest(at);
     Cheapest {
         length: least.length,
-        cost: least.cost + costs.reference_bits + costs.width_bits + 6,
+        cost: least.cost + costs.header(),
     }
 }
 
@@ -217,6 +228,6 @@ fn best_at(slots: &mut Slots, codes: &Codes<'_>, at: usize, costs: &Costs) -> Ch
     let cost = slots.lengthen();
     Cheapest {
         length: slots.shortest(at, cost),
-        cost: cost + costs.reference_bits + costs.width_bits + 6,
+        cost: cost + costs.header(),
     }
 }

@@ -11,6 +11,6 @@ loop-word-preserved c =
     let word = get_or words i 0 in
     let next = take_more words i 0 c.loop-word-test.true in
     record {
-      least = omega (arith, c.lesser-least.ensures, c.loop-word.invariant.least, smallest-behind word 4294967295 (take i words), ap (λ ws. smallest (4294967295 ∷ ws)) next);
-      most = omega (arith, c.greater-most.ensures, c.loop-word.invariant.most, greatest-behind word (take i words), ap greatest next);
+      least = omega (arith, c.min-least.ensures, c.loop-word.invariant.least, smallest-behind word 4294967295 (take i words), ap (λ ws. smallest (4294967295 ∷ ws)) next);
+      most = omega (arith, c.max-most.ensures, c.loop-word.invariant.most, greatest-behind word (take i words), ap greatest next);
     }

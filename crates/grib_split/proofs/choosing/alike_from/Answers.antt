@@ -9,7 +9,7 @@ returns c =
     let codes = c.args.codes.now in
     let at = c.args.at in
     let after = c.requires.after in
-    let next : code_at codes at ≡ code_at codes (at + 1) = c.are_same.ensures (Present 0) c.if-not-are_same.false in
+    let next : code_at codes at ≡ code_at codes (at + 1) = c.are_same.ensures.same (Present 0) c.if-not-are_same.false in
     let less : c.min.result ≡ min (c.args.after + 1) 64 = c.min.ensures in
     record {
       most = omega (arith, less);

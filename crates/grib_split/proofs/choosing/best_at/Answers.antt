@@ -114,13 +114,7 @@ least_cost c =
     omega (arith, one, c.lengthen-cost.ensures.least ((at + 1) % 64) (omega arith))
 
 pub overflow_add-result : goal.overflow_add-result
-overflow_add-result c = record { fits = omega (arith, least_cost (goal.at.overflow_add-result c).After-shortest, c.requires.split.references, c.requires.split.widths) }
-
-pub overflow_add-result-2 : goal.overflow_add-result-2
-overflow_add-result-2 c = record { fits = omega (arith, least_cost (goal.at.overflow_add-result-2 c).After-shortest, c.requires.split.references, c.requires.split.widths) }
-
-pub overflow_add-result-3 : goal.overflow_add-result-3
-overflow_add-result-3 c = record { fits = omega (arith, least_cost (goal.at.overflow_add-result-3 c).After-shortest, c.requires.split.references, c.requires.split.widths) }
+overflow_add-result c = record { fits = omega (arith, least_cost (goal.at.overflow_add-result c).After-shortest, c.header.ensures, c.requires.split.references, c.requires.split.widths) }
 
 pub returns-clause-runs : goal.returns-clause-runs
 returns-clause-runs c = lengthened_runs (goal.at.returns-clause-runs c).After-shortest
@@ -143,4 +137,4 @@ returns-clause-cost c =
     let n = c.shortest.result in
     let is = costing c.args.costs.now.reserved c.args.codes.now at c.lengthen-cost.new.self (lengthened_runs (goal.at.returns-clause-cost c).After-shortest) n best.some best.most in
     let same : after_of c.lengthen-cost.new.self at n ≡ after_of c.args.slots.now at n = ap (λ xs. slice_index xs ((at + n) % 64)) (after_stays (goal.at.returns-clause-cost c).After-shortest) in
-    omega (arith, is, same, best.here)
+    omega (arith, is, same, best.here, c.header.ensures)

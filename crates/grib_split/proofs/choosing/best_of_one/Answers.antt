@@ -35,17 +35,11 @@ least_cost c =
     omega (arith, c.soonest-least.ensures.cost, c.put_after.ensures.here, c.requires.small, falls_to (after_of c.put_after.new.self c.args.at) next 1 64 (omega arith) (omega arith) (omega arith))
 
 pub overflow_add-result-2 : goal.overflow_add-result-2
-overflow_add-result-2 c = record { fits = omega (arith, least_cost (goal.at.overflow_add-result-2 c).After-soonest-least, c.requires.header) }
-
-pub overflow_add-result-3 : goal.overflow_add-result-3
-overflow_add-result-3 c = record { fits = omega (arith, least_cost (goal.at.overflow_add-result-3 c).After-soonest-least, c.requires.header) }
-
-pub overflow_add-result-4 : goal.overflow_add-result-4
-overflow_add-result-4 c = record { fits = omega (arith, least_cost (goal.at.overflow_add-result-4 c).After-soonest-least, c.requires.header) }
+overflow_add-result-2 c = record { fits = omega (arith, least_cost (goal.at.overflow_add-result-2 c).After-soonest-least, c.header.ensures, c.requires.header) }
 
 pub returns-clause-falls : goal.returns-clause-falls
 returns-clause-falls c =
-    let cost = c.soonest-least.result.cost + c.args.costs.now.reference_bits + c.args.costs.now.width_bits + 6 in
-    let is : cost ≡ header_of c.args.costs.now + after_of c.put_after.new.self c.args.at 64 = omega (arith, c.soonest-least.ensures.cost) in
+    let cost = c.soonest-least.result.cost + c.header.result in
+    let is : cost ≡ header_of c.args.costs.now + after_of c.put_after.new.self c.args.at 64 = omega (arith, c.soonest-least.ensures.cost, c.header.ensures) in
     falls_here (header_of c.args.costs.now) c.args.at c.args.next.cost cost c.args.slots.now c.put_after.new.self c.put_after.ensures.after c.put_after.ensures.here
     c.requires.falls c.requires.cost is

@@ -41,7 +41,7 @@ loop-at-preserved c =
     let heads = subst H next i.heads in
     let steady = known.steady refl in
     let within : at < length codes = omega (arith, i.place) in
-    let alike = alike_more codes at (c.are_same.ensures (Present 0) c.if-are_same.true ∙ ap (code_at codes) next) known.alike in
+    let alike = alike_more codes at (c.are_same.ensures.same (Present 0) c.if-are_same.true ∙ ap (code_at codes) next) known.alike in
     let afters = afters_put header k codes at c.loop-at.best.cost old new within b.here
     (λ p other. other_at old.after new.after ((at + 1) % 64) p c.loop-at.best.cost other b.after) known.cost known.after in
     let best = best_alike header k codes at n new alike b.falls.next b.soonest.some b.soonest.most b.soonest.least b.soonest.first in

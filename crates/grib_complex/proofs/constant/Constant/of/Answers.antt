@@ -14,16 +14,16 @@ told_by : (order n : ℕ) (p q : Point) (d e : Descriptors) (codes : List Code) 
 told_by order n p q d e codes k same is told =
     subst₂ (λ (r : Point) (f : Descriptors). DifferencesOf order (replicate n r) f codes k) (sym same) is told
 
-pub returns-in-Missing-clause-told : goal.returns-in-Missing-clause-told
-returns-in-Missing-clause-told c =
+pub returns-in-Missing : goal.returns-in-Missing
+returns-in-Missing c =
     let order = c.args.order in
     let n = c.args.count in
     told_by order n c.args.point Missing (read_with order c.same_differences.result) _ (replicate n Primary) 1 c.in-Missing.is
     (read_is order c.same_differences.result (pos 0) (pos 0) c.same_differences.ensures.first c.same_differences.ensures.second c.same_differences.ensures.minimum)
     (primary_told order n c.requires.some c.requires.order)
 
-pub returns-in-Missing2-clause-told : goal.returns-in-Missing2-clause-told
-returns-in-Missing2-clause-told c =
+pub returns-in-Missing2 : goal.returns-in-Missing2
+returns-in-Missing2 c =
     let order = c.args.order in
     let n = c.args.count in
     told_by order n c.args.point Missing2 (read_with order c.same_differences-in-Missing2.result) _ (replicate n Secondary) 2 c.in-Missing2.is

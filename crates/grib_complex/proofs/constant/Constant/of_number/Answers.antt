@@ -8,8 +8,8 @@ use Rattle.grib_complex.specs.Constant.{DifferencesOf}
 use Rattle.grib_complex.proofs.AllTheSame.{read_is, one_number_told}
 use Rattle.grib_complex.proofs.constant.Constant.of_number.Goals as goal
 
-pub returns-clause-told : goal.returns-clause-told
-returns-clause-told c =
+pub returns : goal.returns
+returns c =
     let order = c.args.order in
     let n = c.args.count in
     let x = c.args.x in
@@ -17,7 +17,7 @@ returns-clause-told c =
     let back = to_z-of_z c.ranges.x in
     let inside : is_outside (2 ^ 31 - 1) x ≡ false = ap (is_outside (2 ^ 31 - 1)) (sym back) ∙ sym c.is_outside.ensures ∙ c.if-is_outside.false in
     let second : c.second_of.result ≡ cond (order == 1) (pos 0) (get_or (replicate n x) 1 (pos 0)) =
-    c.second_of.ensures.is ∙ ap (λ (z : ℤ). cond (order == 1) (pos 0) (get_or (replicate n z) 1 (pos 0))) back in
+    c.second_of.ensures ∙ ap (λ (z : ℤ). cond (order == 1) (pos 0) (get_or (replicate n z) 1 (pos 0))) back in
     let is_first : c.same_differences.result.first ≡ x = search rules in
     let is_second : c.same_differences.result.second ≡ c.second_of.result = search rules in
     let told = one_number_told order n x x c.second_of.result c.requires.some c.requires.order inside first second in
