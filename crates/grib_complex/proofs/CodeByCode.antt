@@ -1,7 +1,7 @@
 -- Lemmas on the codes of points, one after another.
 use Rattle.std.proofs.Common.{◌≡◌, ℕ, suc, ◌+◌, ◌^◌, ◌<◌, ◌≤◌, Bool, true, false, cond, Some, None, ℤ, pos, negsuc, nat_abs, nat_lt, List, [], ◌∷◌, ◌++◌, length, drop, get_or, map, All, refl, sym, ap, ◌∙◌, arith, drop-cons, append_assoc, ne_eqb, ltb-false}
 use Rattle.std.specs.List.{list_any}
-use Rattle.std.proofs.lemmas.List.{append-nil, drop_all}
+use Rattle.std.proofs.lemmas.List.{append-nil, drop_all, length-map}
 use Rattle.std.proofs.lemmas.List.Elements.{All-nil, All-cons, All-head, All-tail}
 use Rattle.grib_base.specs.declared.code.Code.{Code}
 use Rattle.grib_base.specs.declared.code.Code.TheVariants.{Present, Primary, Secondary}
@@ -135,3 +135,6 @@ length-placed (Missing ∷ points) numbers e = ap suc (length-placed points numb
 length-placed (Missing2 ∷ points) numbers e = ap suc (length-placed points numbers e)
 length-placed (Scaled x ∷ points) [] e = absurd (omega arith)
 length-placed (Scaled x ∷ points) (n ∷ numbers) e = ap suc (length-placed points numbers (omega arith))
+
+pub length-codes : (points : List Point) → length (target_codes ToComplex points) ≡ length points
+length-codes points = length-placed points (map nat_abs (scaled_numbers points)) (length-map (scaled_numbers points) nat_abs)

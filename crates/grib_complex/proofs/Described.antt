@@ -1,6 +1,6 @@
 -- Lemmas on extra descriptors that come in pieces.
-use Rattle.std.proofs.Common.{◌≡◌, ℕ, zero, suc, ◌+◌, ◌*◌, ◌^◌, ◌<◌, ◌≤◌, Bool, false, cond, eqb, Some, None, List, [], ◌++◌, length, map, drop, refl, sym, ap, ap₂, ◌∙◌, arith, mul_comm, subst, inl, inr}
-use Rattle.std.proofs.lemmas.List.{length-append, length-drop, drop_all, take_all}
+use Rattle.std.proofs.Common.{◌≡◌, ℕ, zero, suc, ◌+◌, ◌*◌, ◌^◌, ◌<◌, ◌≤◌, Bool, false, cond, eqb, Some, None, List, [], ◌++◌, length, drop, refl, sym, ap, ap₂, ◌∙◌, arith, mul_comm, subst, inl, inr}
+use Rattle.std.proofs.lemmas.List.{drop_all, take_all}
 use Rattle.grib_bits.specs.Bits.{bits}
 use Rattle.grib_bits.specs.Plain.{plain}
 use Rattle.grib_base.specs.declared.code.Code.{Code}
@@ -10,7 +10,7 @@ use Rattle.grib_base.specs.Rows.{refusal}
 use Rattle.grib_packing.specs.declared.group.Group.{Group}
 use Rattle.grib_packing.specs.declared.layout.Layout.{Layout}
 use Rattle.grib_packing.specs.Differences.{Descriptors, NoNumber}
-use Rattle.grib_packing.specs.Groups.{codes_from, packed_bits, list_octets}
+use Rattle.grib_packing.specs.Groups.{codes_from, packed_bits}
 use Rattle.grib_packing.proofs.Fields.{length-plain}
 use Rattle.grib_groups.specs.declared.feeding.Fed.{Fed}
 use Rattle.grib_groups.specs.declared.list_feeding.FedLists.{FedLists}
@@ -24,7 +24,7 @@ use Rattle.grib_complex.specs.declared.representation.Complex.{Complex}
 use Rattle.grib_complex.specs.declared.stages.Beginning.{Beginning}
 use Rattle.grib_complex.specs.Descriptors.{AreTold, IsAccepted, descriptors_by, descriptors_in, descriptors_told, is_signed_at, is_signed_number, numbers_at, sign_fault}
 use Rattle.grib_complex.specs.Feeding.{AreClear, BeginningAgrees, Continues, IsFaultOf, ListingAgrees}
-use Rattle.grib_complex.specs.Told.{Telling, Plainly, After}
+use Rattle.grib_complex.specs.Told.{Plainly, After}
 use Rattle.grib_complex.proofs.Arriving.{signs_refuse}
 use Rattle.grib_complex.proofs.Begun.{descriptors_fed, numbers_read, read_numbers}
 use Rattle.grib_complex.proofs.NotedNumbers.{among, sign_stays, signed_is, told_by_numbers}

@@ -1,5 +1,5 @@
 -- Lemmas on the extra descriptors as numbers that stand one after another.
-use Rattle.std.proofs.Common.{◌≡◌, ℕ, ◌+◌, ◌-◌, ◌*◌, ◌/◌, ◌^◌, ◌<◌, ◌≤◌, ◌⊎◌, Bool, true, false, cond, ◌&&◌, eqb, ltb, Option, Some, None, All, List, [], ◌∷◌, ◌++◌, get_or, length, map, take, drop, pos, refl, sym, ap, ap₂, ◌∙◌, arith, subst, add-mul, mul_comm, le-ltb, lt-ltb, pow_mono, inl, inr}
+use Rattle.std.proofs.Common.{◌≡◌, ℕ, ◌+◌, ◌-◌, ◌*◌, ◌/◌, ◌^◌, ◌<◌, ◌≤◌, ◌⊎◌, Bool, true, false, cond, ◌&&◌, eqb, ltb, Option, Some, None, All, List, [], ◌∷◌, ◌++◌, get_or, length, take, drop, pos, refl, sym, ap, ap₂, ◌∙◌, arith, subst, add-mul, le-ltb, lt-ltb, pow_mono, inl, inr}
 use Rattle.std.specs.List.{range_with_len}
 use Rattle.std.proofs.lemmas.Bool.{cases_lt, cases_eq, cond-false, ne_eqb, ltb-false}
 use Rattle.std.proofs.lemmas.List.{drop-drop, length-append, length-drop, length-take-le, take-take, get_or_append_left}
@@ -12,10 +12,9 @@ use Rattle.std.proofs.lemmas.List.FromFn.{get_or-map-range_with_len}
 use Rattle.std.proofs.Math.Nat.{mul-le-mul_right, div-lt_iff_lt-mul}
 use Rattle.grib_bits.specs.Bits.{bits, bits_of, num, signed}
 use Rattle.grib_bits.specs.Octets.{octets, octet_list, num_on, signed_octets}
-use Rattle.grib_bits.specs.Plain.{plain, plain_at}
+use Rattle.grib_bits.specs.Plain.{plain_at}
 use Rattle.grib_bits.proofs.Numbers.{bits_of-num, num-take}
 use Rattle.grib_bits.proofs.OctetBits.{AreOctets, length-bits, take-bits, drop-bits}
-use Rattle.grib_packing.specs.Differences.{Descriptors}
 use Rattle.grib_packing.proofs.Fields.{length-plain}
 use Rattle.grib_complex.specs.Descriptors.{descriptor_at, descriptors_by, descriptors_told, is_signed_at, is_signed_number, numbers_at, sign_fault}
 use Rattle.grib_complex.proofs.Fields.{field-octets}

@@ -1,12 +1,13 @@
 //! Columns that are packed in groups.
 
-ghost use Rattle.std.specs.Prelude.{◌≡◌, ◌⊎◌, All, IfOk, length};
-ghost use Rattle.grib_packing.specs.Misfits.{ToComplex, ToSpatial, management_of};
-ghost use Rattle.grib_packing.specs.Packed.{IsComplex, IsSpatial, target_codes};
+ghost use Rattle.std.specs.Prelude.{◌≡◌, ◌⊎◌, ◌≤◌, All, IfOk, length};
+ghost use Rattle.grib_packing.specs.declared.column.Column as column_packing;
+ghost use Rattle.grib_packing.specs.Misfits.{ToComplex, ToSpatial};
+ghost use Rattle.grib_packing.specs.Packed.{IsComplex, IsSpatial};
 ghost use Rattle.grib_spatial.specs.Undoing.{read_with};
 ghost use Rattle.grib_packing.specs.Span.{IsTold};
 ghost use Rattle.grib_complex.specs.Constant.{DifferencesOf};
-ghost use Rattle.grib_complex.specs.FieldCodes.{codes_in};
+ghost use Rattle.grib_complex.specs.FieldCodes.{codes_in, HasCodes};
 ghost use Rattle.grib_packing.specs.Written.{IsPacked, MayBePacked};
 
 use crate::differencing::{descriptor_octets, write_descriptors};
@@ -35,7 +36,7 @@ pub fn pack_complex(alloc: Global, column: &Column, kind: u8) -> Result<Packed, 
     Ok(packed)
 }
 
-/// The sections of a column whose points have these codes.
+/// The sections of a column whose points have these codes. Of the column only R, E and D are looked at.
 ///
 /// # Errors
 ///
@@ -47,13 +48,14 @@ pub fn pack_plainly(
     codes: &FieldCodes,
     management: u8,
 ) -> Result<Packed, AllocError>
-    requires column { MayBePacked column.now }
-    requires codes { codes_in codes.now ≡ target_codes ToComplex column.now.points }
-    requires as_long { length (codes_in codes.now) ≡ length column.now.points }
-    requires management { management ≡ management_of column.now.points }
+    requires some { 1 ≤ length (codes_in codes.now) }
+    requires most { length (codes_in codes.now) ≤ 33554432 }
+    requires few { management ≤ 2 }
     requires told { All (IsTold management) (codes_in codes.now) }
-    ensures { IfOk result (λ packed.
-        IsComplex column.now kind packed.section5 packed.section6 packed.section7) }
+    ensures { IfOk result (λ packed. (field : column_packing.Column)
+        → field.reference ≡ column.now.reference → field.e ≡ column.now.e → field.d ≡ column.now.d
+        → HasCodes field management (codes_in codes.now)
+        → IsComplex field kind packed.section5 packed.section6 packed.section7) }
 {
     let grouping = grouping_of(alloc, codes, management)?;
     let layout = &grouping.layout;

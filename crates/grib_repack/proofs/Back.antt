@@ -1,15 +1,12 @@
 -- What is packed may be unpacked, and gives the same column.
-use Rattle.std.proofs.Common.{◌≡◌, ◌≢◌, ◌⊎◌, inl, inr, ℕ, ◌<◌, Bool, Option, Some, None, option_map, Ok, Err, MatchResult, List, length, refl, sym, ap, ◌∙◌, subst, arith}
+use Rattle.std.proofs.Common.{◌≡◌, ◌≢◌, ◌⊎◌, inl, inr, ℕ, ◌<◌, Bool, Option, Some, None, Ok, Err, MatchResult, List, length, refl, sym, ap, ◌∙◌, arith}
 use Rattle.std.specs.declared.result.Result.{Result}
-use Rattle.grib_bits.specs.Octets.{octets}
-use Rattle.grib_base.specs.declared.fault.Fault.{Fault}
 use Rattle.grib_base.specs.declared.fault.ReadFault.{ReadFault}
 use Rattle.grib_base.specs.declared.fault.ReadFault.TheVariants.{Refused, Memory}
-use Rattle.grib_base.specs.Faults.{IsReadFault}
 use Rattle.grib_base.specs.Rows.{located}
 use Rattle.grib_bitmap.specs.Mask.{bitmap_indicator, mask_of}
 use Rattle.grib_packing.specs.declared.column.Column.{Column}
-use Rattle.grib_packing.specs.Entries.{data_fault, packing_fault, column_from}
+use Rattle.grib_packing.specs.Entries.{data_fault, packing_fault}
 use Rattle.grib_packing.specs.Laws.{UnpackTo}
 use Rattle.grib_packing.specs.Misfits.{Target, ToSimple, ToComplex, ToSpatial, template_of}
 use Rattle.grib_packing.specs.Packed.{Packed as HasPacked}

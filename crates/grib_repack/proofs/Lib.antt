@@ -8,3 +8,5 @@ pub mod Kept
 pub mod Back
 mod Standing
 mod Simply
+mod AsWords
+mod Placed

@@ -1,3 +1,4 @@
 pub mod Repacked
 pub mod Faults
 pub mod Plain
+pub mod Words

@@ -9,9 +9,10 @@ ghost use Rattle.grib_repack.specs.Repacked.{kind_of, packed_field, packed_field
 ghost use Rattle.grib_repack.specs.Faults.{target_of, IsRepackFault};
 
 use crate::column::pack_column;
+use crate::groups::pack_in_groups;
 use crate::plain::pack_simply;
 use crate::{RepackFault, RepackTarget};
-use grib_complex::{ComplexPacking, SpatialPacking};
+use grib_complex::SpatialPacking;
 use grib_packed::laws::one_packing_is_written;
 use grib_packing::{PackFault, Packed};
 use grib2_message::Message;
@@ -19,7 +20,8 @@ use std::alloc::Global;
 
 /// The message with the same fields, packed to the target: Sections 5, 6 and 7 of each field are written
 /// anew, and all other octets but the total length stay. It holds the message, the new sections and one
-/// column at a time; none of a field that stands in simple packing and stays in it.
+/// column at a time; none of a field that stands in simple packing and stays in it, and 4 octets for each point
+/// in place of a column where a field is packed in groups without differences.
 ///
 /// # Errors
 ///
@@ -101,7 +103,7 @@ fn pack_to(
 {
     match target {
         RepackTarget::Simple => pack_simply(alloc, message, field),
-        RepackTarget::Complex => pack_column(alloc, message, field, &ComplexPacking),
+        RepackTarget::Complex => pack_in_groups(alloc, message, field),
         RepackTarget::Spatial(order) => {
             pack_column(alloc, message, field, &SpatialPacking::new(order))
         }

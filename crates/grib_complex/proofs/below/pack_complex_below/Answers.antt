@@ -1,16 +1,15 @@
-use Rattle.std.proofs.Common.{◌≡◌, ℕ, ◌+◌, ◌*◌, ◌≤◌, List, length, map, nat_abs, All, None, ap, sym, ◌∙◌, arith, subst, subst₂}
-use Rattle.std.proofs.lemmas.List.{length-map}
+use Rattle.std.proofs.Common.{◌≡◌, ℕ, ◌+◌, ◌*◌, ◌≤◌, List, length, All, None, ap, sym, ◌∙◌, arith, refl, subst, subst₂}
 use Rattle.grib_base.specs.declared.code.Code.{Code}
 use Rattle.grib_base.proofs.Passing.{carried}
 use Rattle.grib_packing.specs.declared.column.Point.{Point}
 use Rattle.grib_packing.specs.Groupings.{IsGrouping}
-use Rattle.grib_packing.specs.Misfits.{ToComplex, first_misfit, management_of, scaled_numbers}
+use Rattle.grib_packing.specs.Misfits.{ToComplex, first_misfit, management_of}
 use Rattle.grib_packing.specs.Packed.{IsComplex, group_parts, target_codes}
 use Rattle.grib_packing.specs.Span.{IsTold}
 use Rattle.grib_packing.specs.Written.{IsPackFault}
 use Rattle.grib_complex.specs.FieldCodes.{codes_in}
 use Rattle.grib_complex.proofs.AtLeast.{complex_at_least}
-use Rattle.grib_complex.proofs.CodeByCode.{plain_told, length-placed}
+use Rattle.grib_complex.proofs.CodeByCode.{plain_told, length-codes}
 use Rattle.grib_complex.proofs.below.pack_complex_below.Goals as goal
 
 pub returns-in_err-told : goal.returns-in_err-told
@@ -18,7 +17,7 @@ returns-in_err-told c =
     carried _ _ _ _ c.from_residual.ensures.1 (subst (λ (ps : List Point). IsPackFault (first_misfit ToComplex ps) c.in_err-told.field-0.0) c.as_slice.ensures c.in_err-told.ensures)
 
 as_long : (codes : List Code) (points : List Point) → codes ≡ target_codes ToComplex points → length codes ≡ length points
-as_long codes points is = ap length is ∙ length-placed points (map nat_abs (scaled_numbers points)) (length-map (scaled_numbers points) nat_abs)
+as_long codes points is = ap length is ∙ length-codes points
 
 told : (k : ℕ) (codes : List Code) (points : List Point) → codes ≡ target_codes ToComplex points → k ≡ management_of points → first_misfit ToComplex points ≡ None → All (IsTold k) codes
 told k codes points is_codes is_k none = subst₂ (λ (j : ℕ) (cs : List Code). All (IsTold j) cs) (sym is_k) (sym is_codes) (plain_told points none)
@@ -47,13 +46,21 @@ returns-then-are_too_many c =
     omega (arith, above many.lengths many.grouping, many.at_least)) in
     (none, no_fewer)
 
-pub pack_plainly-requires-clause-as_long : goal.pack_plainly-requires-clause-as_long
-pack_plainly-requires-clause-as_long c = as_long _ _ c.in_ok-told.ensures.1 ∙ ap length c.as_slice.ensures
+pub pack_plainly-requires-clause-some : goal.pack_plainly-requires-clause-some
+pack_plainly-requires-clause-some c = omega (arith, as_long _ _ c.in_ok-told.ensures.1, ap length c.as_slice.ensures, c.requires.some)
+
+pub pack_plainly-requires-clause-most : goal.pack_plainly-requires-clause-most
+pack_plainly-requires-clause-most c = omega (arith, as_long _ _ c.in_ok-told.ensures.1, ap length c.as_slice.ensures, c.requires.few)
 
 pub pack_plainly-requires-clause-told : goal.pack_plainly-requires-clause-told
 pack_plainly-requires-clause-told c = told _ _ c.as_slice.result.now c.in_ok-told.ensures.1 c.in_ok-told.ensures.2 c.in_ok-told.ensures.0
 
 pub returns : goal.returns
 returns c =
-    let none : first_misfit ToComplex c.args.column.now.points ≡ None = subst (λ (ps : List Point). first_misfit ToComplex ps ≡ None) c.as_slice.ensures c.in_ok-told.ensures.0 in
-    (none, c.in_ok-packed.ensures)
+    let none : first_misfit ToComplex c.args.column.now.points ≡ None = subst (λ (ps : List Point). first_misfit ToComplex ps ≡ None) c.as_slice.ensures c.in_ok-told.ensures.0 in (
+      none,
+      c.in_ok-packed.ensures c.args.column.now refl refl refl (record {
+        management = c.in_ok-told.ensures.2 ∙ ap management_of c.as_slice.ensures;
+        codes_are = c.in_ok-told.ensures.1 ∙ ap (target_codes ToComplex) c.as_slice.ensures;
+      }),
+    )

@@ -1,4 +1,4 @@
-use Rattle.std.proofs.Common.{◌≡◌, ◌^◌, ◌≤◌, nat_abs, get_or, ℕ, sym, ap, ◌∙◌, arith, subst, w64, SFits, to_z-of_z}
+use Rattle.std.proofs.Common.{◌^◌, ◌≤◌, nat_abs, get_or, ℕ, sym, ap, ◌∙◌, arith, subst, w64, SFits, to_z-of_z}
 use Rattle.grib_complex.proofs.NotedNumbers.{natural_small}
 use Rattle.grib_complex.proofs.noted.first_value_of.Goals as goal
 

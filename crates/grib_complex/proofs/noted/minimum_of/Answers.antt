@@ -1,4 +1,4 @@
-use Rattle.std.proofs.Common.{◌≡◌, ◌*◌, ◌^◌, ◌≤◌, nat_abs, sym, ◌∙◌, arith, subst, w64, SFits, to_z-of_z}
+use Rattle.std.proofs.Common.{◌*◌, ◌^◌, ◌≤◌, nat_abs, sym, ◌∙◌, arith, subst, w64, SFits, to_z-of_z}
 use Rattle.grib_bits.specs.Bits.{bits_of}
 use Rattle.grib_bits.proofs.Numbers.{length-bits_of}
 use Rattle.grib_complex.proofs.Fields.{signed-small}

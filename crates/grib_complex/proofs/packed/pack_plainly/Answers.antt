@@ -3,13 +3,13 @@ use Rattle.grib_bits.specs.Bits.{bits}
 use Rattle.grib_packing.specs.Packed.{HasContents, group_parts}
 use Rattle.grib_packing.proofs.Sections.{head_of}
 use Rattle.grib_groups.specs.Encoding.{LaysOut}
-use Rattle.grib_complex.proofs.Wholly.{contents_whole, grouped_by, is_complex}
+use Rattle.grib_complex.proofs.CodeByCode.{length-codes}
+use Rattle.grib_complex.proofs.Wholly.{contents_whole, grouped_by, is_complex, same_numbers}
 use Rattle.grib_complex.specs.FieldCodes.{codes_in}
 use Rattle.grib_complex.proofs.packed.pack_plainly.Goals as goal
 
 pub returns : goal.returns
-returns c =
-    let column = c.args.column.now in
+returns c = λ column same_reference same_e same_d has.
     let codes = codes_in c.args.codes.now in
     let k = c.args.management in
     let grouping = c.in_ok-grouping.grouping in
@@ -29,6 +29,8 @@ returns c =
     c.groups_section.ensures.bits ∙ ap₂ (λ xs ls. xs ++ group_parts layout.management codes ls) begun second in
     let each = c.groups_section.ensures.octets in
     let contents : HasContents 7 c.groups_section.result parts = contents_whole c.groups_section.result 7 octets parts each (omega arith) (omega arith) (omega arith) ended in
-    is_complex column c.args.kind k codes c.complex_representation.result c.no_bitmap.result c.groups_section.result c.requires.codes c.requires.management c.complex_representation.ensures.length
-    (grouped_by column c.args.kind 2 k c.count-values.result codes lengths layout [] c.complex_representation.result c.no_bitmap.result c.groups_section.result (c.count-values.ensures ∙ c.requires.as_long) laid c.in_ok-grouping.ensures.management
-    c.in_ok-grouping.ensures.chosen c.complex_representation.ensures.numbers c.complex_representation.ensures.layout c.no_bitmap.ensures.section contents)
+    let as_long = ap length has.codes_are ∙ length-codes column.points in
+    is_complex column c.args.kind k codes c.complex_representation.result c.no_bitmap.result c.groups_section.result has.codes_are has.management c.complex_representation.ensures.length
+    (grouped_by column c.args.kind 2 k c.count-values.result codes lengths layout [] c.complex_representation.result c.no_bitmap.result c.groups_section.result (c.count-values.ensures ∙ as_long) laid c.in_ok-grouping.ensures.management
+    c.in_ok-grouping.ensures.chosen (same_numbers c.complex_representation.result c.args.column.now column c.count-values.result 2 layout.reference_bits c.args.kind same_reference same_e same_d c.complex_representation.ensures.numbers)
+    c.complex_representation.ensures.layout c.no_bitmap.ensures.section contents)

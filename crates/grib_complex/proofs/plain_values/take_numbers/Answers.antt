@@ -1,4 +1,4 @@
-use Rattle.std.proofs.Common.{◌≡◌, ◌*◌, ◌^◌, ◌≤◌, List, [], length, ap, ◌∙◌, arith, subst, pow_mono}
+use Rattle.std.proofs.Common.{◌*◌, ◌^◌, ◌≤◌, List, [], length, ap, ◌∙◌, arith, subst, pow_mono}
 use Rattle.grib_bits.specs.Bits.{bits}
 use Rattle.grib_bits.specs.Plain.{plain}
 use Rattle.grib_packing.specs.declared.column.Point.{Point}

@@ -1,13 +1,9 @@
-use Rattle.std.proofs.Common.{rules, ◌≡◌, ℕ, ◌+◌, ◌-◌, ◌*◌, min, ◌^◌, ◌≤◌, eqb, ℤ, nat_abs, to_z-of_z, SFits, w64, ap, sym, ◌∙◌, arith, inl, inr}
+use Rattle.std.proofs.Common.{rules, ◌≡◌, ℕ, ◌+◌, ◌-◌, ◌*◌, min, ◌^◌, ◌≤◌, ℤ, nat_abs, to_z-of_z, SFits, w64, ap, ◌∙◌, arith}
 use Rattle.std.proofs.lemmas.Int.{ints}
-use Rattle.std.proofs.lemmas.Bool.{cond-false, ne_eqb, leb-true}
-use Rattle.grib_base.specs.Rows.{first_place}
-use Rattle.grib_packing.specs.Entries.{is_out_of_range}
-use Rattle.grib_packing.specs.Differences.{NoNumber}
+use Rattle.std.proofs.lemmas.Bool.{leb-true}
 use Rattle.grib_packing.specs.Groups.{codes_from}
 use Rattle.grib_groups.specs.Table.{groups_in}
 use Rattle.grib_groups.proofs.Taken.{length-codes_from}
-use Rattle.grib_complex.specs.Told.{Telling, Plainly, After, told}
 use Rattle.grib_complex.specs.Range.{reach}
 use Rattle.grib_complex.specs.Descriptors.{descriptors_in}
 use Rattle.grib_complex.proofs.Reach.{groups_near, stays_by as near_stays}

@@ -1,4 +1,4 @@
-use Rattle.std.proofs.Common.{◌≡◌, ℕ, ℤ, eqb, to_z, of_z, to_z-of_z, SFits, w64, refl, ap, sym, ◌∙◌, arith, inl, inr}
+use Rattle.std.proofs.Common.{◌≡◌, eqb, to_z, of_z, to_z-of_z, SFits, w64, ap, sym, ◌∙◌, arith, inl, inr}
 use Rattle.std.proofs.lemmas.Bool.{cond-false, ne_eqb}
 use Rattle.grib_base.specs.Rows.{first_place}
 use Rattle.grib_packing.specs.Differences.{Descriptors, NoNumber}

@@ -1,6 +1,6 @@
-use Rattle.std.proofs.Common.{sym, ◌∙◌, subst}
+use Rattle.std.proofs.Common.{subst}
 use Rattle.grib_complex.specs.Field.{Represents}
-use Rattle.grib_complex.proofs.Represented.{simple_width, complex_accepted}
+use Rattle.grib_complex.proofs.Represented.{complex_accepted}
 use Rattle.grib_complex.proofs.stages.start_state.Goals as goal
 
 pub returns-in-Simple : goal.returns-in-Simple

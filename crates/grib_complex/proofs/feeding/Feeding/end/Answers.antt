@@ -1,4 +1,4 @@
-use Rattle.std.proofs.Common.{◌≡◌, ℕ, Some, Option, List, length, drop, sym, ap, ap₂, ◌∙◌, arith, subst}
+use Rattle.std.proofs.Common.{◌≡◌, ℕ, Some, Option, length, drop, sym, ap, ap₂, ◌∙◌, arith, subst}
 use Rattle.grib_base.specs.declared.fault.Reason.TheVariants.{ScaledRange}
 use Rattle.grib_base.specs.Rows.{refusal}
 use Rattle.grib_packing.specs.Entries.{entries_of}

@@ -1,6 +1,4 @@
-use Rattle.std.proofs.Common.{◌≡◌, ℕ, List, Some, [], refl, arith}
-use Rattle.grib_complex.specs.Field.{Represents}
-use Rattle.grib_complex.specs.Feeding.{HasRead}
+use Rattle.std.proofs.Common.{[], refl, arith}
 use Rattle.grib_complex.proofs.Begun.{state_pends}
 use Rattle.grib_complex.proofs.feeding.Feeding.start.Goals as goal
 use Rattle.grib_complex.proofs.feeding.Feeding.start.Goals.{In_ok-state}

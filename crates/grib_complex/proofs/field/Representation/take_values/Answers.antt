@@ -1,6 +1,5 @@
-use Rattle.std.proofs.Common.{◌≡◌, Option, Result, MatchResult, None, ℕ, List, length, sym, ◌∙◌, ap, subst, subst₂}
+use Rattle.std.proofs.Common.{◌≡◌, Option, MatchResult, None, List, length, sym, subst, subst₂}
 use Rattle.grib_base.specs.declared.fault.Fault.{Fault}
-use Rattle.grib_base.specs.declared.fault.ReadFault.{ReadFault}
 use Rattle.grib_base.specs.Faults.{IsReadFault}
 use Rattle.grib_base.specs.Rows.{located}
 use Rattle.grib_packing.specs.declared.column.Point.{Point}

@@ -1,14 +1,11 @@
-use Rattle.std.proofs.Common.{◌≡◌, ℕ, ◌+◌, ◌*◌, ◌++◌, ◌≤◌, ◌<◌, ◌^◌, All, false, Some, List, [], length, refl, sym, ap, ◌∙◌, arith, subst}
+use Rattle.std.proofs.Common.{ℕ, ◌+◌, ◌*◌, ◌++◌, ◌≤◌, ◌<◌, ◌^◌, All, List, length, sym, ap, ◌∙◌, arith, subst}
 use Rattle.std.proofs.lemmas.List.{length-append}
-use Rattle.grib_base.specs.declared.fault.Fault.{Fault}
 use Rattle.grib_base.specs.declared.fault.Reason.TheVariants.{FirstValueSign}
 use Rattle.grib_base.specs.Rows.{refusal}
 use Rattle.grib_packing.proofs.Fields.{length-plain}
 use Rattle.grib_bits.specs.Bits.{bits}
-use Rattle.grib_bits.proofs.OctetNumbers.{AreOctets-known}
 use Rattle.grib_complex.specs.Descriptors.{is_signed_number, sign_fault, AreTold}
-use Rattle.grib_complex.proofs.Begun.{both_octets}
-use Rattle.grib_complex.proofs.Described.{begins_list, begun_more, few_orders, numbers_are, sign_refuses, signs_clear}
+use Rattle.grib_complex.proofs.Described.{begins_list, begun_more, numbers_are, sign_refuses, signs_clear}
 use Rattle.grib_complex.proofs.NotedNumbers.{no_sign, numbers_small}
 use Rattle.grib_complex.proofs.stages.Beginning.push.Goals as goal
 

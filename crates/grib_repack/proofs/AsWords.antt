@@ -1,0 +1,145 @@
+-- Words of codes, once all points came.
+use Rattle.std.proofs.Common.{◌≡◌, ℕ, ◌+◌, ◌-◌, ◌^◌, ◌<◌, ◌≤◌, ◌||◌, Bool, true, false, cond, max, Some, None, nat_abs, nat_lt, ℤ, pos, negsuc, List, [], ◌∷◌, length, map, refl, sym, ap, ap₂, ◌∙◌, arith, ltb-false, lt-ltb, le-ltb}
+use Rattle.std.specs.List.{list_any}
+use Rattle.grib_base.specs.declared.code.Code.{Code}
+use Rattle.grib_base.specs.declared.code.Code.TheVariants.{Present, Primary, Secondary}
+use Rattle.grib_base.specs.Rows.{first_place}
+use Rattle.grib_codes.specs.Words.{code_of, codes_of}
+use Rattle.grib_bitmap.specs.Mask.{present_count}
+use Rattle.grib_bitmap.proofs.Runs.{present_count-cons, all_present}
+use Rattle.grib_packing.specs.declared.column.Column.{Column}
+use Rattle.grib_packing.specs.declared.column.Point.{Point}
+use Rattle.grib_packing.specs.declared.column.Point.TheVariants.{Scaled, Missing, Missing2}
+use Rattle.grib_packing.specs.Column.{points_with_mask}
+use Rattle.grib_packing.specs.Misfits.{ToComplex, OutOfRange, first_misfit, is_missing, is_missing2, is_outside, is_scaled_outside, greatest_code, management_of}
+use Rattle.grib_packing.specs.Packed.{target_codes}
+use Rattle.grib_simple.proofs.Masked.{with_mask_all}
+use Rattle.grib_complex.specs.FieldCodes.{HasCodes}
+use Rattle.grib_complex.proofs.CodeByCode.{management-few, number_small, reserved_1, reserved_2}
+use Rattle.grib_repack.specs.Words.{word_for}
+
+parts_false : (a b : Bool) → (a || b) ≡ false → (a ≡ false) × (b ≡ false)
+parts_false true b e = absurd (cc)
+parts_false false b e = (refl, e)
+
+-- ---- what words stand for
+
+number_stands : (k : ℕ) (x : ℤ) → k ≤ 2 → is_outside (greatest_code 2) x ≡ false → code_of k (cond (is_outside (greatest_code 2) x) 0 (nat_abs x)) ≡ Present (nat_abs x)
+number_stands k x few inside =
+    let small : nat_abs x + 2 < 2 ^ 32 = number_small 2 x (omega arith) inside in
+    let fits : nat_lt (nat_abs x + k) (2 ^ 32) ≡ true = lt-ltb (nat_abs x + k) (2 ^ 32) (omega arith) in
+    rw inside (rw fits refl)
+
+primary_stands : (k : ℕ) → 1 ≤ k → code_of k (2 ^ 32 - 1) ≡ Primary
+primary_stands k some =
+    let above : nat_lt (2 ^ 32 - 1 + k) (2 ^ 32) ≡ false = le-ltb (2 ^ 32 - 1 + k) (2 ^ 32) (omega arith) in
+    rw above refl
+
+secondary_stands : (k : ℕ) → 2 ≤ k → code_of k (2 ^ 32 - 2) ≡ Secondary
+secondary_stands k some =
+    let above : nat_lt (2 ^ 32 - 2 + k) (2 ^ 32) ≡ false = le-ltb (2 ^ 32 - 2 + k) (2 ^ 32) (omega arith) in
+    rw above refl
+
+codes_stand : (k : ℕ) (points : List Point) → k ≤ 2 → (list_any is_missing points ≡ true → 1 ≤ k) → (list_any is_missing2 points ≡ true → 2 ≤ k)
+    → list_any (is_scaled_outside (greatest_code 2)) points ≡ false → codes_of k (map word_for points) ≡ target_codes ToComplex points
+codes_stand k [] few one two inside = refl
+codes_stand k (Scaled x ∷ points) few one two inside =
+    let both = parts_false (is_outside (greatest_code 2) x) (list_any (is_scaled_outside (greatest_code 2)) points) inside in
+    ap₂ (λ (c : Code) (cs : List Code). c ∷ cs) (number_stands k x few both.0) (codes_stand k points few one two both.1)
+codes_stand k (Missing ∷ points) few one two inside =
+    ap₂ (λ (c : Code) (cs : List Code). c ∷ cs) (primary_stands k (one refl)) (codes_stand k points few (λ e. one refl) two inside)
+codes_stand k (Missing2 ∷ points) few one two inside =
+    ap₂ (λ (c : Code) (cs : List Code). c ∷ cs) (secondary_stands k (two refl)) (codes_stand k points few one (λ e. two refl) inside)
+
+-- ---- what fits with two codes reserved fits with fewer
+
+outside_fewer : (k : ℕ) (x : ℤ) → k ≤ 2 → is_outside (greatest_code 2) x ≡ false → is_outside (greatest_code k) x ≡ false
+outside_fewer k (negsuc n) few inside = absurd (cc)
+outside_fewer k (pos n) few inside =
+    let both = parts_false (nat_lt n 0) (nat_lt (greatest_code 2) n) inside in
+    let small : n ≤ greatest_code 2 = ltb-false (greatest_code 2) n both.1 in
+    let fits : nat_lt (greatest_code k) n ≡ false = le-ltb (greatest_code k) n (omega arith) in
+    rw (both.0, fits) refl
+
+fits_fewer : (k : ℕ) (points : List Point) → k ≤ 2 → list_any (is_scaled_outside (greatest_code 2)) points ≡ false → list_any (is_scaled_outside (greatest_code k)) points ≡ false
+fits_fewer k [] few inside = refl
+fits_fewer k (Scaled x ∷ points) few inside =
+    let both = parts_false (is_outside (greatest_code 2) x) (list_any (is_scaled_outside (greatest_code 2)) points) inside in
+    ap₂ (λ (a b : Bool). a || b) (outside_fewer k x few both.0) (fits_fewer k points few both.1)
+fits_fewer k (Missing ∷ points) few inside = fits_fewer k points few inside
+fits_fewer k (Missing2 ∷ points) few inside = fits_fewer k points few inside
+
+module _ (points : List Point) (inside : list_any (is_scaled_outside (greatest_code 2)) points ≡ false) where
+  pub none_misfits : first_misfit ToComplex points ≡ None
+  none_misfits =
+      let k = management_of points in
+      ap (λ (b : Bool). cond b (Some (OutOfRange (first_place (is_scaled_outside (greatest_code k)) points))) None) (fits_fewer k points (management-few points) inside)
+
+  pub words_stand : codes_of (management_of points) (map word_for points) ≡ target_codes ToComplex points
+  words_stand = codes_stand (management_of points) points (management-few points) (reserved_1 points) (reserved_2 points) inside
+
+-- ---- points that a mask leaves out
+
+inside_masked : (m : ℕ) (mask : List Bool) (entries : List Point) → list_any (is_scaled_outside m) entries ≡ false → list_any (is_scaled_outside m) (points_with_mask mask entries) ≡ false
+inside_masked m [] entries inside = refl
+inside_masked m (false ∷ mask) entries inside = inside_masked m mask entries inside
+inside_masked m (true ∷ mask) [] inside = inside_masked m mask [] inside
+inside_masked m (true ∷ mask) (e ∷ entries) inside =
+    let both = parts_false (is_scaled_outside m e) (list_any (is_scaled_outside m) entries) inside in
+    ap₂ (λ (a b : Bool). a || b) both.0 (inside_masked m mask entries both.1)
+
+secondary_masked : (mask : List Bool) (entries : List Point) → present_count mask ≡ length entries → list_any is_missing2 (points_with_mask mask entries) ≡ list_any is_missing2 entries
+secondary_masked [] [] e = refl
+secondary_masked [] (x ∷ xs) e = absurd (omega arith)
+secondary_masked (false ∷ mask) xs e = secondary_masked mask xs (omega (arith, present_count-cons false mask))
+secondary_masked (true ∷ mask) [] e = absurd (omega (arith, present_count-cons true mask))
+secondary_masked (true ∷ mask) (x ∷ xs) e = ap (λ (b : Bool). is_missing2 x || b) (secondary_masked mask xs (omega (arith, present_count-cons true mask)))
+
+either_true : (a b : Bool) → b ≡ true → (a || b) ≡ true
+either_true true b e = refl
+either_true false b e = e
+
+some_missing : (mask : List Bool) (entries : List Point) → present_count mask < length mask → list_any is_missing (points_with_mask mask entries) ≡ true
+some_missing [] entries less = absurd (omega arith)
+some_missing (false ∷ mask) entries less = refl
+some_missing (true ∷ mask) [] less = refl
+some_missing (true ∷ mask) (e ∷ entries) less =
+    either_true (is_missing e) (list_any is_missing (points_with_mask mask entries)) (some_missing mask entries (omega (arith, present_count-cons true mask)))
+
+-- the management, where a point is left out and where none is
+pub masked_management : (mask : List Bool) (entries : List Point) → present_count mask ≡ length entries → present_count mask < length mask
+    → max (management_of entries) 1 ≡ management_of (points_with_mask mask entries)
+masked_management mask entries e less =
+    go (list_any is_missing2 entries) (list_any is_missing entries)
+    ∙ ap₂ (λ (a b : Bool). cond a 2 (cond b 1 0)) (sym (secondary_masked mask entries e)) (sym (some_missing mask entries less)) where
+      go : (a b : Bool) → max (cond a 2 (cond b 1 0)) 1 ≡ cond a 2 (cond true 1 0)
+      go true b = refl
+      go false true = refl
+      go false false = refl
+
+pub whole_mask : (mask : List Bool) (entries : List Point) → present_count mask ≡ length entries → length mask ≤ present_count mask → points_with_mask mask entries ≡ entries
+whole_mask mask entries e whole =
+    let full : present_count mask ≡ length mask = omega (arith, present-few mask) in
+    ap (λ (bs : List Bool). points_with_mask bs entries) (all_present mask full) ∙ with_mask_all (length mask) entries (omega arith) where
+      present-few : (bs : List Bool) → present_count bs ≤ length bs
+      present-few [] = omega arith
+      present-few (false ∷ bs) = omega (arith, present_count-cons false bs, present-few bs)
+      present-few (true ∷ bs) = omega (arith, present_count-cons true bs, present-few bs)
+
+pub masked_inside : (mask : List Bool) (entries : List Point) → list_any (is_scaled_outside (greatest_code 2)) entries ≡ false
+    → list_any (is_scaled_outside (greatest_code 2)) (points_with_mask mask entries) ≡ false
+masked_inside mask entries inside = inside_masked (greatest_code 2) mask entries inside
+
+-- ---- a field
+
+module _ (column : Column) (mask : List Bool) (entries : List Point) (points_are : column.points ≡ points_with_mask mask entries) (inside : list_any (is_scaled_outside (greatest_code 2)) entries ≡ false) where
+  pub none_of_field : first_misfit ToComplex column.points ≡ None
+  none_of_field = ap (first_misfit ToComplex) points_are ∙ none_misfits (points_with_mask mask entries) (masked_inside mask entries inside)
+
+  pub codes_of_field : (k : ℕ) (words : List ℕ) → k ≡ management_of (points_with_mask mask entries) → words ≡ map word_for (points_with_mask mask entries) → HasCodes column k (codes_of k words)
+  codes_of_field k words is_k is_words = record {
+    management = is_k ∙ ap management_of (sym points_are);
+    codes_are =
+        ap₂ codes_of is_k is_words ∙ words_stand (points_with_mask mask entries) (masked_inside mask entries inside)
+        ∙ ap (target_codes ToComplex) (sym points_are);
+  }
