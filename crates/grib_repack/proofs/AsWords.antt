@@ -1,6 +1,7 @@
 -- Words of codes, once all points came.
-use Rattle.std.proofs.Common.{◌≡◌, ℕ, ◌+◌, ◌-◌, ◌^◌, ◌<◌, ◌≤◌, ◌||◌, Bool, true, false, cond, max, Some, None, nat_abs, nat_lt, ℤ, pos, negsuc, List, [], ◌∷◌, length, map, refl, sym, ap, ap₂, ◌∙◌, arith, ltb-false, lt-ltb, le-ltb}
+use Rattle.std.proofs.Common.{◌≡◌, ℕ, ◌+◌, ◌-◌, ◌^◌, ◌<◌, ◌≤◌, ◌||◌, Bool, true, false, cond, max, Some, None, nat_abs, nat_lt, ℤ, pos, negsuc, List, [], ◌∷◌, length, map, refl, sym, ap, ap₂, ◌∙◌, arith, ltb-false, lt-ltb, le-ltb, All}
 use Rattle.std.specs.List.{list_any}
+use Rattle.std.proofs.lemmas.List.Elements.{All-head, All-tail}
 use Rattle.grib_base.specs.declared.code.Code.{Code}
 use Rattle.grib_base.specs.declared.code.Code.TheVariants.{Present, Primary, Secondary}
 use Rattle.grib_base.specs.Rows.{first_place}
@@ -17,6 +18,7 @@ use Rattle.grib_simple.proofs.Masked.{with_mask_all}
 use Rattle.grib_complex.specs.FieldCodes.{HasCodes}
 use Rattle.grib_complex.proofs.CodeByCode.{management-few, number_small, reserved_1, reserved_2}
 use Rattle.grib_repack.specs.Words.{word_for}
+use Rattle.grib_repack.proofs.Standing.{plain_point}
 
 parts_false : (a b : Bool) → (a || b) ≡ false → (a ≡ false) × (b ≡ false)
 parts_false true b e = absurd (cc)
@@ -143,3 +145,41 @@ module _ (column : Column) (mask : List Bool) (entries : List Point) (points_are
         ap₂ codes_of is_k is_words ∙ words_stand (points_with_mask mask entries) (masked_inside mask entries inside)
         ∙ ap (target_codes ToComplex) (sym points_are);
   }
+
+-- ---- numbers
+
+small_inside : (n : ℕ) → n < 2 ^ 31 → is_outside (greatest_code 2) (pos n) ≡ false
+small_inside n small =
+    let fits : nat_lt (greatest_code 2) n ≡ false = le-ltb (greatest_code 2) n (omega arith) in
+    let never : nat_lt n 0 ≡ false = le-ltb n 0 (omega arith) in
+    rw (never, fits) refl
+
+-- the words of small numbers are these numbers, and no code is reserved
+pub record NumbersAreWords (numbers : List ℕ) (points : List Point) : Type 0 where
+  pub words : numbers ≡ map word_for points
+  pub none : management_of points ≡ 0
+  pub inside : list_any (is_scaled_outside (greatest_code 2)) points ≡ false
+
+pub numbers_are_words : (numbers : List ℕ) → All (λ n. n < 2 ^ 31) numbers → NumbersAreWords numbers (map plain_point numbers)
+numbers_are_words numbers small = record { words = same numbers small; none = reserved numbers; inside = within numbers small } where
+  same : (ns : List ℕ) → All (λ n. n < 2 ^ 31) ns → ns ≡ map word_for (map plain_point ns)
+  same [] each = refl
+  same (n ∷ ns) each =
+      let here : n ≡ word_for (plain_point n) = ap (λ (b : Bool). cond b 0 n) (sym (small_inside n (All-head (λ n. n < 2 ^ 31) n ns each))) in
+      ap₂ (λ (w : ℕ) (ws : List ℕ). w ∷ ws) here (same ns (All-tail (λ n. n < 2 ^ 31) n ns each))
+
+  none_2 : (ns : List ℕ) → list_any is_missing2 (map plain_point ns) ≡ false
+  none_2 [] = refl
+  none_2 (n ∷ ns) = none_2 ns
+
+  none_1 : (ns : List ℕ) → list_any is_missing (map plain_point ns) ≡ false
+  none_1 [] = refl
+  none_1 (n ∷ ns) = none_1 ns
+
+  reserved : (ns : List ℕ) → management_of (map plain_point ns) ≡ 0
+  reserved ns = ap₂ (λ (a b : Bool). cond a 2 (cond b 1 0)) (none_2 ns) (none_1 ns)
+
+  within : (ns : List ℕ) → All (λ n. n < 2 ^ 31) ns → list_any (is_scaled_outside (greatest_code 2)) (map plain_point ns) ≡ false
+  within [] each = refl
+  within (n ∷ ns) each =
+      ap₂ (λ (a b : Bool). a || b) (small_inside n (All-head (λ n. n < 2 ^ 31) n ns each)) (within ns (All-tail (λ n. n < 2 ^ 31) n ns each))

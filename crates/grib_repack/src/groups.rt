@@ -1,18 +1,20 @@
 //! Complex packing of fields by the words of their codes.
 
-ghost use Rattle.std.specs.Prelude.{◌≡◌, ◌≤◌, IfOk, MatchOption};
+ghost use Rattle.std.specs.Prelude.{◌≡◌, ◌≤◌, length, IfOk, MatchOption};
 ghost use Rattle.grib_packing.specs.Misfits.{ToComplex};
 ghost use Rattle.grib_packing.specs.Written.{IsPacked};
+ghost use Rattle.grib_packing.specs.Entries.{entries_of};
 ghost use Rattle.grib_packing.specs.Packing.{value_count};
+ghost use Rattle.grib_packing.specs.Representation.{Spelled};
 ghost use Rattle.grib2_message.specs.Fields.{field_count, part_octets, column_of};
 ghost use Rattle.grib_repack.specs.Repacked.{kind_of};
-ghost use Rattle.grib_repack.specs.Words.{TellsField};
+ghost use Rattle.grib_repack.specs.Words.{AreWords, TellsField};
 
 use crate::column::pack_column;
 use crate::masked::masked_words;
 use crate::words::PointWords;
 use grib_complex::{ComplexPacking, pack_words};
-use grib_packing::{PackFault, Packed, numbers_of};
+use grib_packing::{PackFault, Packed, Simple, numbers_of};
 use grib2_message::Message;
 use std::alloc::{AllocError, Global};
 
@@ -43,13 +45,13 @@ pub(crate) fn pack_in_groups(
         unreachable!();
     };
     let simple = numbers_of(section5.octets);
-    let Some(told) = field_words(alloc, message, field, simple.values)? else {
+    let Some(told) = field_words(alloc, message, field, &simple)? else {
         return pack_column(alloc, message, field, &ComplexPacking);
     };
     Ok(pack_words(alloc, &simple, told.words, told.management)?)
 }
 
-/// The words of a field's points, of which this many have values; none where a number is outside 0 to 4,294,967,293.
+/// The words of a field's points, with the numbers of its Section 5; none where a number is outside 0 to 4,294,967,293.
 ///
 /// # Errors
 ///
@@ -58,24 +60,56 @@ fn field_words(
     alloc: Global,
     message: &Message<'_>,
     field: u32,
-    values: u32,
+    simple: &Simple,
 ) -> Result<Option<FieldWords>, AllocError>
     requires first { 1 ≤ field }
     requires last { field ≤ field_count message.now }
-    requires values { values ≡ value_count (part_octets message.now field 5) }
+    requires spelled { Spelled simple.now (part_octets message.now field 5) }
     ensures { IfOk result (λ told. MatchOption told (Unit {0}) (TellsField (column_of message.now field))) }
 {
-    let kept = PointWords::start(alloc, values)?;
-    let kept = message.take_values(alloc, field, kept)?;
+    let kept = value_words(alloc, message, field, simple)?;
     if kept.is_outside {
         return Ok(None);
     }
     let mask = message.mask(alloc, field)?;
-    let management = if values < mask.len() {
+    let management = if simple.values < mask.len() {
         kept.management.max(1)
     } else {
         kept.management
     };
     let words = masked_words(alloc, &mask, kept.words)?;
     Ok(Some(FieldWords { words, management }))
+}
+
+/// The words of a field's values, with the numbers of its Section 5. Numbers of 1 to 31 bits in simple packing are read where
+/// they stand.
+///
+/// # Errors
+///
+/// There is no memory for the words.
+fn value_words(
+    alloc: Global,
+    message: &Message<'_>,
+    field: u32,
+    simple: &Simple,
+) -> Result<PointWords, AllocError>
+    requires first { 1 ≤ field }
+    requires last { field ≤ field_count message.now }
+    requires spelled { Spelled simple.now (part_octets message.now field 5) }
+    ensures words { IfOk result (AreWords
+        (entries_of (part_octets message.now field 5) (part_octets message.now field 7))) }
+    ensures count { IfOk result (λ _. length (entries_of (part_octets message.now field 5) (part_octets message.now field 7))
+        ≡ value_count (part_octets message.now field 5)) }
+{
+    if simple.template == 0 && 1 <= simple.bits && simple.bits <= 31 {
+        let Some(section7) = message.part(field, 7) else {
+            unreachable!();
+        };
+        let octets = &section7.octets[5..];
+        let kept = PointWords::of_numbers(alloc, octets, u32::from(simple.bits), simple.values)?;
+        return Ok(kept);
+    }
+    let none = PointWords::start(alloc, simple.values)?;
+    let kept = message.take_values(alloc, field, none)?;
+    Ok(kept)
 }

@@ -183,6 +183,29 @@ fn put_numbers(octets: &[u8], bits: u32, count: u32, width: u32, out: &mut BitWr
     }
 }
 
+/// These numbers, 32 bits for each.
+///
+/// # Errors
+///
+/// There is no memory for the numbers.
+pub(crate) fn number_words(
+    alloc: Global,
+    octets: &[u8],
+    bits: u32,
+    count: u32,
+) -> Result<Vec<u32>, AllocError>
+    requires some { 1 ≤ bits }
+    requires bits { bits ≤ 31 }
+    requires within { bits * count ≤ 8 * length octets.now }
+    ensures { IfOk result (λ words. words.items ≡ plain (bits_in octets.now) bits count) }
+{
+    let mut words = Vec::with_capacity(alloc, count as usize)?;
+    for index in 0..count {
+        words.push(number_at(octets, bits, index) as u32)?;
+    }
+    Ok(words)
+}
+
 /// The bits of the greatest of these numbers, none for 0. It looks no further than the first number that needs all bits.
 pub(crate) fn least_width(octets: &[u8], bits: u32, count: u32) -> u32
     requires bits { bits ≤ 48 }

@@ -1,10 +1,13 @@
 //! The words of codes of points, as these come.
 
-ghost use Rattle.std.specs.Prelude.{◌≡◌, ◌<◌, ◌≤◌, ◌∷◌, [], ◌++◌, IfOk, vec_len, vec_capacity};
+ghost use Rattle.std.specs.Prelude.{◌≡◌, ◌*◌, ◌<◌, ◌≤◌, ◌∷◌, [], ◌++◌, length, map, pos, IfOk, vec_len, vec_capacity};
+ghost use Rattle.grib_bits.specs.Bits.{bits as bits_in};
+ghost use Rattle.grib_bits.specs.Plain.{plain};
 ghost use Rattle.grib_packing.specs.declared.column.Point.TheVariants.{Scaled};
 ghost use Rattle.grib_packing.specs.Misfits.{greatest_code, is_outside, is_scaled_outside, management_of};
 ghost use Rattle.grib_repack.specs.Words.{AreWords, WordsKept, word_for, words-none, words-more};
 
+use crate::numbers::number_words;
 use grib_base::push_within;
 use grib_complex::Keeper;
 use grib_packing::Point;
@@ -43,6 +46,31 @@ impl PointWords {
         ensures room { IfOk result (λ none. count ≤ vec_capacity none.words) }
     {
         let words = Vec::with_capacity(alloc, count as usize)?;
+        Ok(PointWords {
+            words,
+            management: 0,
+            is_outside: false,
+        })
+    }
+
+    /// The words of as many points as there are numbers of 1 to 31 bits each, which stand one after another: each is its
+    /// number, and no point is missing.
+    ///
+    /// # Errors
+    ///
+    /// There is no memory for the words.
+    pub(crate) fn of_numbers(
+        alloc: Global,
+        octets: &[u8],
+        bits: u32,
+        count: u32,
+    ) -> Result<PointWords, AllocError>
+        requires some { 1 ≤ bits }
+        requires bits { bits ≤ 31 }
+        requires within { bits * count ≤ 8 * length octets.now }
+        ensures { IfOk result (AreWords (map (λ x. Scaled (pos x)) (plain (bits_in octets.now) bits count))) }
+    {
+        let words = number_words(alloc, octets, bits, count)?;
         Ok(PointWords {
             words,
             management: 0,

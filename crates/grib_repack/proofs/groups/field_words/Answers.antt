@@ -1,4 +1,4 @@
-use Rattle.std.proofs.Common.{◌≡◌, ℕ, Bool, false, max, List, [], length, map, All, ap, sym, ◌∙◌, refl, arith, subst₂}
+use Rattle.std.proofs.Common.{◌≡◌, ℕ, Bool, false, max, List, length, map, All, ap, sym, ◌∙◌, refl, arith, subst₂}
 use Rattle.std.specs.List.{list_any}
 use Rattle.std.proofs.lemmas.List.{length-map}
 use Rattle.grib_base.specs.declared.code.Code.{Code}
@@ -10,16 +10,10 @@ use Rattle.grib_packing.specs.Span.{IsTold}
 use Rattle.grib_complex.proofs.CodeByCode.{management-few, plain_told}
 use Rattle.grib2_message.specs.Fields.{part_octets, field_mask, column_of}
 use Rattle.grib2_message.proofs.Masks.{points_bounds, points_of_mask}
-use Rattle.grib_repack.specs.Words.{AreWords, word_for}
+use Rattle.grib_repack.specs.Words.{word_for}
 use Rattle.grib_repack.proofs.AsWords.{codes_of_field, masked_management, none_of_field, whole_mask}
 use Rattle.grib_repack.proofs.groups.field_words.Goals as goal
-use Rattle.grib_repack.proofs.groups.field_words.Goals.{then-values-len, else-values-len}
-
--- the words of all values
-kept_words : (c : goal.After-drop-mask-inside-2) → AreWords (entries_of (part_octets c.args.message.now c.args.field 5) (part_octets c.args.message.now c.args.field 7)) c.in_ok-kept-2.kept
-kept_words c =
-    let none = ap length c.in_ok-kept.ensures.are.words in
-    c.in_ok-kept-2.ensures.kept.keeps [] (omega (arith, none, c.in_ok-kept.kept.words.ok.0, c.in_ok-kept-2.ensures.count, c.requires.values, c.in_ok-kept.ensures.room)) c.in_ok-kept.ensures.are
+use Rattle.grib_repack.proofs.groups.field_words.Goals.{then-simple-len, else-simple-len}
 
 pub returns : goal.returns
 returns c =
@@ -29,21 +23,21 @@ returns c =
     let mask = field_mask m i in
     let entries = entries_of (part_octets m i 5) (part_octets m i 7) in
     let points = points_with_mask mask entries in
-    let k = c.if-values-len.management in
+    let k = c.if-simple-len.management in
     let words = c.in_ok-words.words.items in
-    let are = kept_words c in
+    let are = c.in_ok-kept.ensures.words in
     let inside : list_any (is_scaled_outside (greatest_code 2)) entries ≡ false = sym are.outside ∙ c.if-kept.false in
     let same = c.in_ok-mask.ensures.mask in
-    let present : present_count mask ≡ length entries = ap present_count (sym same) ∙ c.in_ok-mask.ensures.values ∙ sym c.in_ok-kept-2.ensures.count in
+    let present : present_count mask ≡ length entries = ap present_count (sym same) ∙ c.in_ok-mask.ensures.values ∙ sym c.in_ok-kept.ensures.count in
     let is_words : words ≡ map word_for points = c.in_ok-words.ensures entries are.words ∙ ap (λ (bs : List Bool). map word_for (points_with_mask bs entries)) same in
     let long = ap length same in
-    let is_k : k ≡ management_of points = elim c.if-values-len.branch [
-      | then-values-len w ↦
+    let is_k : k ≡ management_of points = elim c.if-simple-len.branch [
+      | then-simple-len w ↦
           w.management-is ∙ w.max-management.ensures ∙ ap (λ (n : ℕ). max n 1) are.management
-          ∙ masked_management mask entries present (omega (arith, present, w.if-values-len.true, c.len.ensures, long, c.in_ok-kept-2.ensures.count, c.requires.values))
-      | else-values-len w ↦
+          ∙ masked_management mask entries present (omega (arith, present, w.if-simple-len.true, c.len.ensures, long, c.in_ok-kept.ensures.count, c.requires.spelled.values))
+      | else-simple-len w ↦
           w.management-is ∙ are.management
-          ∙ ap management_of (sym (whole_mask mask entries present (omega (arith, present, w.if-values-len.false, c.len.ensures, long, c.in_ok-kept-2.ensures.count, c.requires.values))))
+          ∙ ap management_of (sym (whole_mask mask entries present (omega (arith, present, w.if-simple-len.false, c.len.ensures, long, c.in_ok-kept.ensures.count, c.requires.spelled.values))))
     ] in
     let none = none_of_field column mask entries refl inside in
     let codes = codes_of_field column mask entries refl inside k words is_k is_words in

@@ -15,10 +15,8 @@ numbers_of-simple-requires c =
     let packing = packing_passes (part_octets m i 5) (grid_points (part_octets m i 3)) c.in-Some.ensures.passes.packing in
     omega (arith, packing.long, ap length c.in-Some.ensures.part.1)
 
-pub field_words-requires-clause-values : goal.field_words-requires-clause-values
-field_words-requires-clause-values c =
-    let spelled = subst (Spelled c.numbers_of-simple.result) c.in-Some.ensures.part.1 c.numbers_of-simple.ensures in
-    spelled.values
+pub field_words-requires-clause-spelled : goal.field_words-requires-clause-spelled
+field_words-requires-clause-spelled c = subst (Spelled c.numbers_of-simple.result) c.in-Some.ensures.part.1 c.numbers_of-simple.ensures
 
 pub returns : goal.returns
 returns c =
