@@ -1,5 +1,5 @@
 -- Codes that are all the same, and the runs of them.
-use Rattle.std.proofs.Common.{◌≡◌, ℕ, zero, suc, ◌+◌, ◌-◌, ◌*◌, ◌%◌, ◌<◌, ◌≤◌, ◌||◌, max, Bool, true, false, cond, List, [], ◌∷◌, length, take, drop, replicate, refl, ap, ap₂, sym, ◌∙◌, subst, arith}
+use Rattle.std.proofs.Common.{◌≡◌, ℕ, zero, suc, ◌+◌, ◌-◌, ◌%◌, ◌<◌, ◌≤◌, ◌||◌, max, Bool, true, false, cond, List, [], ◌∷◌, length, take, drop, replicate, refl, ap, ap₂, sym, ◌∙◌, subst, arith}
 use Rattle.std.specs.Prelude.{slice_index}
 use Rattle.std.specs.List.{list_any}
 use Rattle.grib_base.specs.declared.code.Code.{Code}
@@ -10,7 +10,7 @@ use Rattle.grib_split.specs.Alike.{Alike, code_at}
 use Rattle.grib_split.specs.declared.slots.Slots.{Slots}
 use Rattle.grib_split.specs.Runs.{Run, Runs, Tells, Told, Wide, Holds, length_to, SameNumbers, SameMarks, SameWidths}
 use Rattle.grib_split.proofs.Bounds.{single_width}
-use Rattle.grib_split.proofs.Kept.{told_same, wide_as, priced_as}
+use Rattle.grib_split.proofs.Kept.{told_same, wide_as}
 use Rattle.grib_split.proofs.Going.{run_more, back, length_some, length_most}
 
 -- ---- runs of one code
@@ -106,12 +106,12 @@ wide_hold k bits limit m c w zero some = absurd (omega arith)
 wide_hold k bits limit m c w (suc n) some = wide_one k bits limit c m n w
 
 run_at : (k : ℕ) (codes : List Code) (at p : ℕ) (slots : Slots) → Alike codes at 64 → Runs k codes at slots → p < 64
-    → Run k slots p (length_to at p) (replicate (suc (length_to at p - 1)) (code_at codes at))
+    → Run k slots p (replicate (suc (length_to at p - 1)) (code_at codes at))
 run_at k codes at p slots alike runs within =
     let l = length_to at p in
-    let P : ℕ → Type 0 = λ q. Run k slots q l (take l (drop at codes)) in
-    let Q : List Code → Type 0 = λ run. Run k slots p l run in
-    let R : ℕ → Type 0 = λ n. Run k slots p l (replicate n (code_at codes at)) in
+    let P : ℕ → Type 0 = λ q. Run k slots q (take l (drop at codes)) in
+    let Q : List Code → Type 0 = λ run. Run k slots p run in
+    let R : ℕ → Type 0 = λ n. Run k slots p (replicate n (code_at codes at)) in
     let more : l ≡ suc (l - 1) = omega (arith, length_some at p) in
     subst R more (subst Q (run_of codes at l alike (length_most at p)) (subst P (back at p within) (runs l (length_some at p) (length_most at p))))
 
@@ -119,7 +119,7 @@ pub holds_of_runs : (k : ℕ) (codes : List Code) (at : ℕ) (slots : Slots) →
 holds_of_runs k codes at slots alike runs = record {
   told = λ p n within some. told_hold slots p (length_to at p - 1) (code_at codes at) (run_at k codes at p slots alike runs within).told n some;
   wide = λ p n within some.
-      wide_hold k (slice_index slots.width p) (slice_index slots.limit p) (length_to at p - 1) (code_at codes at) (run_at k codes at p slots alike runs within).priced.wide n some;
+      wide_hold k (slice_index slots.width p) (slice_index slots.limit p) (length_to at p - 1) (code_at codes at) (run_at k codes at p slots alike runs within).wide n some;
 }
 
 pub holds_same : (k : ℕ) (a b : Slots) (c : Code) → SameNumbers a b → SameMarks a b → SameWidths a b → Holds k a c → Holds k b c
@@ -129,32 +129,10 @@ holds_same k a b c numbers marks widths h = record {
       wide_as k a b p (replicate n c) (ap (λ xs. slice_index xs p) widths.width) (ap (λ xs. slice_index xs p) widths.limit) (h.wide p n within some);
 }
 
--- the runs are right once they are priced
-pub runs_of_holds : (k : ℕ) (codes : List Code) (at : ℕ) (slots : Slots) → Alike codes at 64 → Holds k slots (code_at codes at) → slots.cost ≡ slots.after
-    → Runs k codes at slots
-runs_of_holds k codes at slots alike h cost l some most =
+-- the runs are right
+pub runs_of_holds : (k : ℕ) (codes : List Code) (at : ℕ) (slots : Slots) → Alike codes at 64 → Holds k slots (code_at codes at) → Runs k codes at slots
+runs_of_holds k codes at slots alike h l some most =
     let p = (at + l) % 64 in
     let within : p < 64 = omega arith in
-    let run = run_of codes at l alike most in
-    let P : List Code → Type 0 = λ run. Told slots p run in
-    let Q : List Code → Type 0 = λ run. Wide k (slice_index slots.width p) (slice_index slots.limit p) run in
-    let wide : Wide k (slice_index slots.width p) (slice_index slots.limit p) (take l (drop at codes)) = subst Q (sym run) (h.wide p l within some) in
-    let none : l * slice_index slots.width p ≡ l * 0 = ap (λ w. l * w) (wide.is ∙ width_alike k codes at l alike some most) in
-    record {
-      told = subst P (sym run) (h.told p l within some);
-      priced = record {
-        wide = wide;
-        cost = ap (λ xs. slice_index xs p) cost ∙ (let e : slice_index slots.after p ≡ l * slice_index slots.width p + slice_index slots.after p = omega (arith, none) in e);
-      };
-    }
-
-pub runs_same : (k : ℕ) (codes : List Code) (at : ℕ) (a b : Slots) → SameNumbers a b → SameMarks a b → SameWidths a b → b.cost ≡ a.cost → b.after ≡ a.after
-    → Runs k codes at a → Runs k codes at b
-runs_same k codes at a b numbers marks widths cost after runs l some most =
-    let p = (at + l) % 64 in
-    let r = runs l some most in
-    record {
-      told = told_same a b p (take l (drop at codes)) numbers marks r.told;
-      priced = priced_as k a b p l (take l (drop at codes)) (ap (λ xs. slice_index xs p) widths.width) (ap (λ xs. slice_index xs p) widths.limit)
-          (ap (λ xs. slice_index xs p) cost) (ap (λ xs. slice_index xs p) after) r.priced;
-    }
+    let P : List Code → Type 0 = λ run. Run k slots p run in
+    subst P (sym (run_of codes at l alike most)) (record { told = h.told p l within some; wide = h.wide p l within some })

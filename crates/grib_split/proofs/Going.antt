@@ -1,21 +1,22 @@
 -- The runs of a place by the places of their ends, and with one code more.
-use Rattle.std.proofs.Common.{◌≡◌, ℕ, suc, ◌+◌, ◌-◌, ◌*◌, ◌^◌, ◌%◌, ◌<◌, ◌≤◌, ◌⊎◌, inl, inr, List, ◌∷◌, length, get_or, take, drop, All, ap, ap₂, sym, ◌∙◌, subst, arith, drop-cons, length-drop}
+use Rattle.std.proofs.Common.{◌≡◌, ℕ, suc, ◌+◌, ◌-◌, ◌*◌, ◌^◌, ◌%◌, ◌<◌, ◌≤◌, ◌⊎◌, inl, inr, List, ◌∷◌, length, get_or, take, drop, All, ap, ap₂, sym, ◌∙◌, subst, arith, drop-cons, drop-drop, length-drop}
 use Rattle.std.specs.Prelude.{slice_index}
 use Rattle.std.specs.Int.{bit_at}
-use Rattle.std.proofs.Math.Nat.{mul-le-mul, suc-mul}
+use Rattle.std.proofs.Math.Nat.{mul-le-mul}
 use Rattle.std.proofs.lemmas.List.Elements.{All-take, All-drop}
 use Rattle.grib_base.specs.declared.code.Code.{Code}
-use Rattle.grib_packing.specs.Groupings.{width_of, greatest, present_codes}
+use Rattle.grib_packing.specs.Groupings.{IsGrouping, cost_of, width_of, greatest, present_codes}
 use Rattle.grib_packing.specs.Span.{IsBelow}
 use Rattle.grib_packing.proofs.Spans.{small_run}
 use Rattle.grib_split.specs.declared.choosing.Costs.{Costs}
+use Rattle.grib_split.specs.declared.behind.Behind.{Behind}
 use Rattle.grib_split.specs.declared.slots.Slots.{Slots}
 use Rattle.grib_split.specs.Costs.{CanSplit, header_of}
 use Rattle.grib_split.specs.Least as least
 use Rattle.grib_split.specs.Least.{IsLeast, with_first}
-use Rattle.grib_split.specs.Runs.{Run, Runs, Waits, After, Afters, after_of, Wide, Priced, PricedBut, Told, length_to, SameWidths}
-use Rattle.grib_split.proofs.Bounds.{cost_bound}
-use Rattle.grib_split.proofs.Kept.{wide_as, priced_as}
+use Rattle.grib_split.specs.Runs.{Run, Runs, Waits, After, Afters, after_of, WideAt, WideBut, Told, length_to, price_at, cost_at, IsNear}
+use Rattle.grib_split.proofs.Bounds.{cost_bound, least_bound}
+use Rattle.grib_split.proofs.Optimal.{code_joined}
 
 -- ---- places
 
@@ -32,17 +33,17 @@ pub length_most : (at p : ℕ) → length_to at p ≤ 64
 length_most at p = omega arith
 
 pub runs_by : (k : ℕ) (codes : List Code) (at : ℕ) (slots : Slots)
-    → ((p : ℕ) → p < 64 → Run k slots p (length_to at p) (take (length_to at p) (drop at codes))) → Runs k codes at slots
+    → ((p : ℕ) → p < 64 → Run k slots p (take (length_to at p) (drop at codes))) → Runs k codes at slots
 runs_by k codes at slots r l some most =
     let p = (at + l) % 64 in
-    let P : ℕ → Type 0 = λ n. Run k slots p n (take n (drop at codes)) in
+    let P : ℕ → Type 0 = λ n. Run k slots p (take n (drop at codes)) in
     subst P (forth at l some most) (r p (omega arith))
 
 pub waits_by : (k : ℕ) (codes : List Code) (at : ℕ) (slots : Slots) → Waits k codes at slots
-    → (p : ℕ) → p < 64 → Run k slots p (length_to at p - 1) (take (length_to at p - 1) (drop (at + 1) codes))
+    → (p : ℕ) → p < 64 → Run k slots p (take (length_to at p - 1) (drop (at + 1) codes))
 waits_by k codes at slots w p within =
     let l = length_to at p in
-    let P : ℕ → Type 0 = λ n. Run k slots n (l - 1) (take (l - 1) (drop (at + 1) codes)) in
+    let P : ℕ → Type 0 = λ n. Run k slots n (take (l - 1) (drop (at + 1) codes)) in
     subst P (back at p within) (w l (length_some at p) (length_most at p))
 
 -- ---- runs with one code more before them
@@ -68,74 +69,94 @@ told_small k codes at l p slots few each t = omega (arith, t.tells.most, run_sma
 either : (a b : ℕ) → (a ≤ b) ⊎ (b < a)
 either a b = grind arith
 
-pub after_small : (costs : Costs) (codes : List Code) (from after : ℕ) → CanSplit costs codes → After (header_of costs) costs.reserved codes from after → after ≤ 2147483648
-after_small costs codes from after split a = elim (either from (length codes)) [
-  | inl some ↦ let b = cost_bound costs (drop from codes) after split.references split.widths (omega (arith, split.most, length-drop from codes)) (a.some some) in omega (arith, b)
-  | inr none ↦ omega (arith, a.none none)
-]
+-- the least cost is at most that of a first run and the least cost after it
+least_with : (header : ℕ) (width : List Code → ℕ) (codes : List Code) (from l cost rest : ℕ) → 1 ≤ l → l ≤ 64 → from + l ≤ length codes
+    → IsLeast header width (drop from codes) cost → IsLeast header width (drop (from + l) codes) rest
+    → cost ≤ header + l * width (take l (drop from codes)) + rest
+least_with header width codes from l cost rest some most fits is after =
+    let behind : drop l (drop from codes) ≡ drop (from + l) codes = drop-drop l from codes in
+    let P : List Code → Type 0 = λ xs. IsGrouping (length xs) after.lengths in
+    let grouping = code_joined (drop from codes) l after.lengths some most (omega (arith, fits, length-drop from codes)) (subst P (sym behind) after.grouping) in
+    let reached : cost_of header width after.lengths (drop l (drop from codes)) ≡ rest = ap (cost_of header width after.lengths) behind ∙ after.reached in
+    omega (arith, is.least (l ∷ after.lengths) grouping, reached)
 
-pub after_at : (costs : Costs) (codes : List Code) (at p : ℕ) (slots : Slots) → CanSplit costs codes → Afters (header_of costs) costs.reserved codes at slots → p < 64
-    → slice_index slots.after p ≤ 2147483648
-after_at costs codes at p slots split afters within =
-    let l = length_to at p in
-    let P : ℕ → Type 0 = λ n. slice_index slots.after n ≤ 2147483648 in
-    subst P (back at p within) (after_small costs codes (at + l) (after_of slots at l) split (afters l (length_some at p) (length_most at p)))
+-- the least cost from a place on is hardly more than those after the runs from there on
+pub near_runs : (costs : Costs) (codes : List Code) (at cost : ℕ) (slots : Slots) → CanSplit costs codes → at < length codes
+    → Runs costs.reserved codes (at + 1) slots → Afters (header_of costs) costs.reserved codes (at + 1) slots
+    → IsLeast (header_of costs) (width_of costs.reserved) (drop (at + 1) codes) cost → IsNear slots.after ((at + 1) % 64) cost
+near_runs costs codes at cost slots split place runs afters is other within differs =
+    let l = length_to (at + 1) other in
+    let short : l ≤ 63 = omega (arith, within, differs) in
+    let P : ℕ → Type 0 = λ p. cost ≤ cost_at slots.after p + 4096 in
+    subst P (back (at + 1) other within) (near_run costs codes at cost l slots split place (length_some (at + 1) other) short runs afters is)
+  where
+    near_run : (costs : Costs) (codes : List Code) (at cost l : ℕ) (slots : Slots) → CanSplit costs codes → at < length codes → 1 ≤ l → l ≤ 63
+        → Runs costs.reserved codes (at + 1) slots → Afters (header_of costs) costs.reserved codes (at + 1) slots
+        → IsLeast (header_of costs) (width_of costs.reserved) (drop (at + 1) codes) cost → cost ≤ after_of slots (at + 1) l + 4096
+    near_run costs codes at cost l slots split place some short runs afters is = elim (either (at + 1 + l) (length codes)) [
+      | inl inside ↦
+          let r = (runs l some (omega arith)).wide in
+          let rest = (afters l some (omega arith)).some inside in
+          let first = least_with (header_of costs) (width_of costs.reserved) codes (at + 1) l cost (after_of slots (at + 1) l) some (omega arith) inside is rest in
+          let w : width_of costs.reserved (take l (drop (at + 1) codes)) ≤ 32 = omega (arith, r.is, r.few) in
+          let m : l * width_of costs.reserved (take l (drop (at + 1) codes)) ≤ 63 * 32 = mul-le-mul short w in
+          omega (arith, first, m, split.references, split.widths)
+      | inr outside ↦
+          let few : length (drop (at + 1) codes) ≤ 63 = omega (arith, outside, short, length-drop (at + 1) codes) in
+          let b = least_bound (header_of costs) costs.reserved (drop (at + 1) codes) cost is in
+          let low : header_of costs ≤ 44 = omega (arith, split.references, split.widths) in
+          let m : length (drop (at + 1) codes) * header_of costs ≤ 63 * 44 = mul-le-mul few low in
+          omega (arith, (afters l some (omega arith)).none outside, b, m)
+    ]
 
--- ---- the runs that cost one code more
+-- ---- prices
 
--- the cost of one code more fits 32 bits
-fits_more : (l w a old : ℕ) → l ≤ 64 → w ≤ 32 → a ≤ 2147483648 → old ≡ (l - 1) * w + a → old + w < 4294967296
-fits_more l w a old most few small is =
-    let less : l - 1 ≤ 64 = omega arith in
-    let m : (l - 1) * w ≤ 64 * 32 = mul-le-mul less few in
-    omega (arith, m, is)
-
-pub fits_lengthened : (k : ℕ) (slots : Slots) (at p : ℕ) (run : List Code) → slice_index slots.after p ≤ 2147483648
-    → Priced k slots p (length_to at p - 1) run → slice_index slots.cost p + slice_index slots.width p < 2 ^ 32
-fits_lengthened k slots at p run small priced =
-    fits_more (length_to at p) (slice_index slots.width p) (slice_index slots.after p) (slice_index slots.cost p) (length_most at p) priced.wide.few small priced.cost
-
-pub priced_lengthened : (k : ℕ) (a b : Slots) (at p : ℕ) (run : List Code) → slice_index b.cost p ≡ slice_index a.cost p + slice_index a.width p
-    → SameWidths a b → b.after ≡ a.after → Priced k a p (length_to at p - 1) run → Priced k b p (length_to at p) run
-priced_lengthened k a b at p run cost same same_after priced =
-    let w = slice_index a.width p in
-    let n = length_to at p - 1 in
-    let one_more : length_to at p ≡ suc n = omega (arith, length_some at p) in
-    let whole : length_to at p * w ≡ suc n * w = ap (λ m. m * w) one_more in
-    let more : slice_index b.cost p ≡ length_to at p * w + slice_index a.after p = omega (arith, cost, priced.cost, whole, suc-mul n w) in
-    record {
-      wide = wide_as k a b p run (ap (λ xs. slice_index xs p) same.width) (ap (λ xs. slice_index xs p) same.limit) priced.wide;
-      cost = more ∙ ap₂ (λ n m. length_to at p * n + m) (sym (ap (λ xs. slice_index xs p) same.width)) (sym (ap (λ xs. slice_index xs p) same_after));
-    }
+-- a price fits 16 bits
+pub fits_price : (l w a : ℕ) → l ≤ 64 → w ≤ 32 → a ≤ 60000 → l * w + a < 65536
+fits_price l w a most few low = let m : l * w ≤ 64 * 32 = mul-le-mul most few in omega (arith, m, low)
 
 -- ---- the best of the runs
 
 -- what each run costs
 abbrev pub Costing : ℕ → List Code → ℕ → Slots → Type 0
 Costing k codes at slots = (l : ℕ) → 1 ≤ l → l ≤ 64
-    → slice_index slots.cost ((at + l) % 64) ≡ l * width_of k (take l (drop at codes)) + after_of slots at l
+    → slice_index slots.cost ((at + l) % 64) + slots.after.base ≡ l * width_of k (take l (drop at codes)) + after_of slots at l
 
-pub costing : (k : ℕ) (codes : List Code) (at : ℕ) (slots : Slots) → Runs k codes at slots → Costing k codes at slots
-costing k codes at slots r l some most =
-    let p = (r l some most).priced in p.cost ∙ ap (λ w. l * w + after_of slots at l) p.wide.is
+pub costing : (k : ℕ) (codes : List Code) (at : ℕ) (slots : Slots) → Runs k codes at slots
+    → ((p : ℕ) → p < 64 → slice_index slots.cost p ≡ price_at slots at p) → Costing k codes at slots
+costing k codes at slots r price l some most =
+    let p = (at + l) % 64 in
+    let w : length_to at p * slice_index slots.width p ≡ l * width_of k (take l (drop at codes)) = ap₂ (λ m n. m * n) (forth at l some most) (r l some most).wide.is in
+    omega (arith, price p (omega arith), w)
 
 -- the cost of the run of one code
 pub first_cost : (costs : Costs) (codes : List Code) (at : ℕ) (slots : Slots) → at < length codes → CanSplit costs codes
-    → Afters (header_of costs) costs.reserved codes at slots → Runs costs.reserved codes at slots
-    → slice_index slots.cost ((at + 1) % 64) ≤ 1476395040
-first_cost costs codes at slots place split afters r =
-    let p = (r 1 (omega arith) (omega arith)).priced in
+    → Afters (header_of costs) costs.reserved codes at slots → Runs costs.reserved codes at slots → Costing costs.reserved codes at slots
+    → slice_index slots.cost ((at + 1) % 64) + slots.after.base ≤ 1476395040
+first_cost costs codes at slots place split afters r each =
+    let wide = (r 1 (omega arith) (omega arith)).wide in
     let b = cost_bound costs (drop (at + 1) codes) (after_of slots at 1) split.references split.widths (omega (arith, split.most, length-drop (at + 1) codes)) ((afters 1 (omega arith) (omega arith)).some (omega arith)) in
-    omega (arith, p.cost, p.wide.few, b)
+    omega (arith, each 1 (omega arith) (omega arith), wide.is, wide.few, b)
+
+-- it is low where fewer than 64 codes follow
+first_short : (costs : Costs) (codes : List Code) (at : ℕ) (slots : Slots) → at < length codes → length codes < at + 64 → CanSplit costs codes
+    → Afters (header_of costs) costs.reserved codes at slots → Runs costs.reserved codes at slots → Costing costs.reserved codes at slots
+    → slice_index slots.cost ((at + 1) % 64) + slots.after.base < 60000
+first_short costs codes at slots place short split afters r each =
+    let wide = (r 1 (omega arith) (omega arith)).wide in
+    let header = header_of costs in
+    let few : length (drop (at + 1) codes) ≤ 63 = omega (arith, short, length-drop (at + 1) codes) in
+    let b = least_bound header costs.reserved (drop (at + 1) codes) (after_of slots at 1) ((afters 1 (omega arith) (omega arith)).some (omega arith)) in
+    let low : header ≤ 44 = omega (arith, split.references, split.widths) in
+    let m : length (drop (at + 1) codes) * header ≤ 63 * 44 = mul-le-mul few low in
+    omega (arith, each 1 (omega arith) (omega arith), wide.is, wide.few, b, m)
 
 pub best_by : (costs : Costs) (codes : List Code) (at n cost : ℕ) (slots : Slots) → at < length codes → CanSplit costs codes
-    → Afters (header_of costs) costs.reserved codes at slots → Runs costs.reserved codes at slots
+    → Afters (header_of costs) costs.reserved codes at slots → Runs costs.reserved codes at slots → Costing costs.reserved codes at slots
     → 1 ≤ n → n ≤ 64 → slice_index slots.cost ((at + n) % 64) ≡ cost → ((p : ℕ) → p < 64 → cost ≤ slice_index slots.cost p)
     → ((l : ℕ) → 1 ≤ l → l < n → cost < slice_index slots.cost ((at + l) % 64))
     → least.Best (header_of costs) (width_of costs.reserved) (drop at codes) (after_of slots at) n
-best_by costs codes at n cost slots place split afters r some within is low first =
-    let each = costing costs.reserved codes at slots r in
-    let one = first_cost costs codes at slots place split afters r in
+best_by costs codes at n cost slots place split afters r each some within is low first =
     let place_of : (l : ℕ) → (at + l) % 64 < 64 = λ l. omega arith in
     record {
       some = some;
@@ -144,6 +165,7 @@ best_by costs codes at n cost slots place split afters r some within is low firs
         | inl inside ↦ omega (arith, inside, length-drop at codes)
         | inr outside ↦ absurd (
             let none = (afters n some within).none outside in
+            let one = first_short costs codes at slots place (omega (arith, outside, within)) split afters r each in
             omega (arith, none, each n some within, is, low ((at + 1) % 64) (place_of 1), one)
             )
       ];
@@ -161,30 +183,27 @@ told_taken k codes at d a b place waits told p within =
     let P : List Code → Type 0 = λ run. Told b p run in
     subst P (sym (run_more codes at l d place (length_some at p))) (told p (take (l - 1) (drop (at + 1) codes)) within (waits_by k codes at a waits p within).told)
 
-pub priced_taken : (k : ℕ) (codes : List Code) (at places : ℕ) (d : Code) (a b : Slots) → at < length codes
+pub wide_taken : (k : ℕ) (codes : List Code) (at places : ℕ) (d : Code) (a b : Slots) → at < length codes
     → k ≤ 2 → All (IsBelow k) codes → Waits k codes at a
-    → ((p k : ℕ) (run : List Code) → p < 64 → k ≤ 2 → bit_at places p ≡ 0 → IsBelow k (get_or codes at d) → slice_index a.greatest p + k < 2 ^ 32
-    → Told a p run → Wide k (slice_index a.width p) (slice_index a.limit p) run
-    → Wide k (slice_index a.width p) (slice_index a.limit p) (get_or codes at d ∷ run))
-    → b.cost ≡ a.cost → b.width ≡ a.width → b.limit ≡ a.limit → b.after ≡ a.after
-    → PricedBut k b at places (λ p. take (length_to at p) (drop at codes))
-priced_taken k codes at places d a b place few each waits wide same_cost same_width same_limit same_after p within unset =
+    → ((p : ℕ) (run : List Code) → p < 64 → bit_at places p ≡ 0 → slice_index a.greatest p + k < 2 ^ 32
+    → Told a p run → WideAt k a p run → WideAt k b p (get_or codes at d ∷ run))
+    → WideBut k b places (λ p. take (length_to at p) (drop at codes))
+wide_taken k codes at places d a b place few each waits wide p within unset =
     let l = length_to at p in
     let w = waits_by k codes at a waits p within in
     let small = told_small k codes (at + 1) (l - 1) p a few each w.told in
     let run = get_or codes at d ∷ take (l - 1) (drop (at + 1) codes) in
-    let wider = wide p k (take (l - 1) (drop (at + 1) codes)) within few unset (each at d place) small w.told w.priced.wide in
-    let P : List Code → Type 0 = λ run. Priced k b p (l - 1) run in
-    subst P (sym (run_more codes at l d place (length_some at p))) (priced_as k a b p (l - 1) run (ap (λ xs. slice_index xs p) same_width) (ap (λ xs. slice_index xs p) same_limit)
-    (ap (λ xs. slice_index xs p) same_cost) (ap (λ xs. slice_index xs p) same_after) (record { wide = wider; cost = w.priced.cost }))
+    let wider = wide p (take (l - 1) (drop (at + 1) codes)) within unset small w.told w.wide in
+    let P : List Code → Type 0 = λ run. WideAt k b p run in
+    subst P (sym (run_more codes at l d place (length_some at p))) wider
 
 pub afters_same : (header k : ℕ) (codes : List Code) (at : ℕ) (a b : Slots) → b.after ≡ a.after → Afters header k codes at a → Afters header k codes at b
 afters_same header k codes at a b same afters l some most =
-    let P : List ℕ → Type 0 = λ xs. After header k codes (at + l) (slice_index xs ((at + l) % 64)) in
+    let P : Behind → Type 0 = λ x. After header k codes (at + l) (cost_at x ((at + l) % 64)) in
     subst P (sym same) (afters l some most)
 
 pub best_same : (header : ℕ) (width : List Code → ℕ) (codes : List Code) (at n : ℕ) (a b : Slots) → b.after ≡ a.after
     → least.Best header width codes (after_of b at) n → least.Best header width codes (after_of a at) n
 best_same header width codes at n a b same best =
-    let P : List ℕ → Type 0 = λ xs. least.Best header width codes (λ l. slice_index xs ((at + l) % 64)) n in
+    let P : Behind → Type 0 = λ x. least.Best header width codes (λ l. cost_at x ((at + l) % 64)) n in
     subst P same best

@@ -1,10 +1,10 @@
--- What is kept of a run, and what it costs, in slots that are the same at its place.
-use Rattle.std.proofs.Common.{◌≡◌, ◌≢◌, ℕ, ◌+◌, ◌*◌, List, ap, ap₂, sym, ◌∙◌, subst}
+-- What is kept of a run in slots that are the same at its place.
+use Rattle.std.proofs.Common.{◌≡◌, ◌≢◌, ℕ, List, ap, sym, ◌∙◌, subst}
 use Rattle.std.specs.Prelude.{slice_index, slice_set}
 use Rattle.std.proofs.lemmas.List.{get_or-set_other}
 use Rattle.grib_base.specs.declared.code.Code.{Code}
 use Rattle.grib_split.specs.declared.slots.Slots.{Slots}
-use Rattle.grib_split.specs.Runs.{Told, Wide, Priced, SameNumbers, SameMarks}
+use Rattle.grib_split.specs.Runs.{Told, Wide, WideAt, SameNumbers, SameMarks}
 use Rattle.grib_split.proofs.Widths.{tells_as}
 
 pub told_same : (a b : Slots) (place : ℕ) (run : List Code) → SameNumbers a b → SameMarks a b → Told a place run → Told b place run
@@ -23,21 +23,11 @@ wide_as k a b place run width limit wide =
     let Q : ℕ → Type 0 = λ n. Wide k (slice_index a.width place) n run in
     subst P (sym width) (subst Q (sym limit) wide)
 
--- the price by its numbers
-pub priced_as : (k : ℕ) (a b : Slots) (place count : ℕ) (run : List Code) → slice_index b.width place ≡ slice_index a.width place
-    → slice_index b.limit place ≡ slice_index a.limit place → slice_index b.cost place ≡ slice_index a.cost place → slice_index b.after place ≡ slice_index a.after place
-    → Priced k a place count run → Priced k b place count run
-priced_as k a b place count run width limit cost after p = record {
-  wide = wide_as k a b place run width limit p.wide;
-  cost = cost ∙ (p.cost ∙ ap₂ (λ w n. count * w + n) (sym width) (sym after));
-}
-
 pub other_at : (xs ys : List ℕ) (here place value : ℕ) → here ≢ place → ys ≡ slice_set xs here value → slice_index ys place ≡ slice_index xs place
 other_at xs ys here place value other is = ap (λ zs. slice_index zs place) is ∙ get_or-set_other xs here place value 0 (λ e. other (sym e))
 
-pub priced_other : (k : ℕ) (a b : Slots) (here place count : ℕ) (run : List Code) → here ≢ place
+pub wide_other : (k : ℕ) (a b : Slots) (here place : ℕ) (run : List Code) → here ≢ place
     → b.width ≡ slice_set a.width here (slice_index b.width here) → b.limit ≡ slice_set a.limit here (slice_index b.limit here)
-    → b.cost ≡ slice_set a.cost here (slice_index b.cost here) → b.after ≡ a.after → Priced k a place count run → Priced k b place count run
-priced_other k a b here place count run other width limit cost after p =
-    priced_as k a b place count run (other_at a.width b.width here place _ other width) (other_at a.limit b.limit here place _ other limit)
-    (other_at a.cost b.cost here place _ other cost) (ap (λ xs. slice_index xs place) after) p
+    → WideAt k a place run → WideAt k b place run
+wide_other k a b here place run other width limit w =
+    wide_as k a b place run (other_at a.width b.width here place _ other width) (other_at a.limit b.limit here place _ other limit) w

@@ -4,9 +4,14 @@ use Rattle.std.specs.Prelude.{replicate, slice_index}
 use Rattle.std.specs.Int.{bit_at}
 use Rattle.std.specs.Simd.Lanes.{zip2, sel_l, mask_l, top, chunk, put_chunk}
 use Rattle.std.proofs.lemmas.Simd.{tops_compared, get_or-sel_l, get_or-zip2, get_or-replicate, get_or-chunk, get_or-put_chunk_below, get_or-put_chunk_at, get_or-put_chunk_above, length-zip2, length-replicate, length-chunk, length-sel_l, bit_mask_l, mask_l-mod, mask_l-lt}
-use Rattle.std.proofs.lemmas.Nat.{shl_whole, pow_pos}
+use Rattle.std.proofs.lemmas.Nat.{shl_whole, pow_pos, leading_length, leading_le}
+use Rattle.std.proofs.lemmas.List.{get_or-map, length-map}
 use Rattle.std.proofs.lemmas.Nat.Bits.{bit_at_cat_high}
 use Rattle.std.proofs.lemmas.Bool.{leb-false, eqb-true, eqb-false}
+use Rattle.grib_packing.specs.Groupings.{digits}
+use Rattle.grib_packing.proofs.Digits.{highest}
+use Rattle.grib_packing.proofs.Spans.{digits-is}
+use lib.Count.{count_leading_zeros}
 use mir.Syntax.{Width, w32}
 use mir.Val.{bits, hbits}
 
@@ -165,6 +170,17 @@ moved m i place small fits from =
     plus_none : (n : ℕ) → n ≡ n + 0
     plus_none n = omega arith
 
+-- the bits of 16 tests
+small_mask : (t : ℕ → ℕ → Bool) (xs ys : List ℕ) → length xs ≡ 16 → length ys ≡ 16
+    → mask_l (map (top (hbits w32)) (zip2 (λ a b. cond (t a b) (2 ^ bits w32 - 1) 0) xs ys)) % 2 ^ 64 < 2 ^ 16
+small_mask t xs ys a b =
+    let tests = zip2 t xs ys in
+    let long : length tests ≡ 16 = length-zip2 t xs ys (omega arith) ∙ a in
+    let is = ap (λ ms. mask_l ms % 2 ^ 64) (tops_compared w32 t xs ys) ∙ mask_l-mod tests 64 (omega arith) in
+    let P : ℕ → Type 0 = λ n. mask_l tests < 2 ^ n in
+    let below : mask_l tests < 2 ^ 16 = subst P long (mask_l-lt tests) in
+    omega (arith, is, below)
+
 -- each bit that is not set has a difference below the limit
 pub apart_lane : (f : ℕ → ℕ → ℕ) (gs ls ms : List ℕ) (i place : ℕ) → i + 16 ≤ 64
     → i + 16 ≤ length gs → i + 16 ≤ length ls → i + 16 ≤ length ms → i ≤ place → place < i + 16
@@ -186,13 +202,96 @@ apart_lane f gs ls ms i place fits a b d from to same unset =
     let here : get_or spread k 0 ≡ f (get_or gs place 0) (get_or ls place 0) =
     get_or-zip2 f (chunk i 16 gs) (chunk i 16 ls) k 0 0 0 (omega arith) (omega arith) ∙ ap₂ f (loaded gs i place from to) (loaded ls i place from to) in
     omega (arith, less, here, same, loaded ms i place from to)
-  where
-    small_mask : (t : ℕ → ℕ → Bool) (xs ys : List ℕ) → length xs ≡ 16 → length ys ≡ 16
-        → mask_l (map (top (hbits w32)) (zip2 (λ a b. cond (t a b) (2 ^ bits w32 - 1) 0) xs ys)) % 2 ^ 64 < 2 ^ 16
-    small_mask t xs ys a b =
-        let tests = zip2 t xs ys in
-        let long : length tests ≡ 16 = length-zip2 t xs ys (omega arith) ∙ a in
-        let is = ap (λ ms. mask_l ms % 2 ^ 64) (tops_compared w32 t xs ys) ∙ mask_l-mod tests 64 (omega arith) in
-        let P : ℕ → Type 0 = λ n. mask_l tests < 2 ^ n in
-        let below : mask_l tests < 2 ^ 16 = subst P long (mask_l-lt tests) in
-        omega (arith, is, below)
+
+-- ---- the bits of numbers of 16 bits
+
+zeros_digits : (a : ℕ) → a < 2 ^ 16 → 16 - count_leading_zeros 16 a ≡ digits a
+zeros_digits a small =
+    let found = leading_length 16 a small in
+    let m = found.0 in
+    let fits = found.1 in
+    let below = found.2 in
+    let least = found.3 in
+    omega (arith, fits, digits-is a m (omega (arith, fits)) below (λ some. highest a m least some))
+
+-- lanes go round
+abbrev pub minus_32 : ℕ → ℕ → ℕ
+minus_32 x y = (x + (4294967296 - y)) % 4294967296
+
+abbrev pub minus_16 : ℕ → ℕ → ℕ
+minus_16 x y = (x + (65536 - y)) % 65536
+
+-- a number that fits is cast as it is
+abbrev pub as_it_is : ℕ → ℕ
+as_it_is x = x
+
+-- the bits of a difference
+pub digits_in_lane : (high low : ℕ) → low ≤ high → high < 65536 → minus_16 16 (count_leading_zeros 16 (minus_32 high low)) ≡ digits (high - low)
+digits_in_lane high low order small =
+    let inner : minus_32 high low ≡ high - low = omega (arith, order, small) in
+    ap (λ n. minus_16 16 (count_leading_zeros 16 n)) inner
+    ∙ omega (arith, leading_le 16 (high - low), zeros_digits (high - low) (omega (arith, order, small)))
+
+-- differences that 16 bits hold
+pub narrow_lane : (gs ls : List ℕ) (i p : ℕ) → i + 16 ≤ length gs → i + 16 ≤ length ls
+    → ((place : ℕ) → i ≤ place → place < i + 16 → slice_index ls place ≤ slice_index gs place)
+    → ((place : ℕ) → i ≤ place → place < i + 16 → slice_index gs place < 65536)
+    → p < length (zip2 minus_32 (chunk i 16 gs) (chunk i 16 ls)) → get_or (zip2 minus_32 (chunk i 16 gs) (chunk i 16 ls)) p 0 < 65536
+narrow_lane gs ls i p a b order small within =
+    let long_g = length-chunk i 16 gs a in
+    let long_l = length-chunk i 16 ls b in
+    let long = length-zip2 minus_32 (chunk i 16 gs) (chunk i 16 ls) (omega (arith, long_g, long_l)) in
+    let here = get_or-zip2 minus_32 (chunk i 16 gs) (chunk i 16 ls) p 0 0 0 (omega (arith, within, long)) (omega (arith, within, long, long_g, long_l)) in
+    let at_g : get_or (chunk i 16 gs) p 0 ≡ slice_index gs (i + p) = get_or-chunk i 16 gs p 0 (omega (arith, within, long, long_g)) in
+    let at_l : get_or (chunk i 16 ls) p 0 ≡ slice_index ls (i + p) = get_or-chunk i 16 ls p 0 (omega (arith, within, long, long_g)) in
+    omega (arith, here, at_g, at_l, order (i + p) (omega arith) (omega (arith, within, long, long_g)), small (i + p) (omega arith) (omega (arith, within, long, long_g)))
+
+pub zeros_lane : (xs : List ℕ) (p : ℕ) → p < length (map (count_leading_zeros 16) xs) → get_or (map (count_leading_zeros 16) xs) p 0 < 65536
+zeros_lane xs p within =
+    let at_p = get_or-map (count_leading_zeros 16) xs p 0 0 (omega (arith, within, length-map xs (count_leading_zeros 16))) in
+    omega (arith, at_p, leading_le 16 (get_or xs p 0))
+
+-- what is made of 16 lanes of two lists
+abbrev made_lanes : (ℕ → ℕ → ℕ) → (ℕ → ℕ) → (ℕ → ℕ) → (ℕ → ℕ) → (ℕ → ℕ → ℕ) → List ℕ → List ℕ → List ℕ
+made_lanes f g h j sub gs ls = zip2 sub (replicate 16 16) (map j (map h (map g (zip2 f gs ls))))
+
+-- how many they are
+long_inner : (f : ℕ → ℕ → ℕ) (g h j : ℕ → ℕ) (gs ls : List ℕ) → length gs ≡ 16 → length ls ≡ 16 → length (map j (map h (map g (zip2 f gs ls)))) ≡ 16
+long_inner f g h j gs ls a b =
+    let spread = zip2 f gs ls in
+    length-map (map h (map g spread)) j ∙ (length-map (map g spread) h ∙ (length-map spread g ∙ (length-zip2 f gs ls (omega (arith, a, b)) ∙ a)))
+
+long_made : (f : ℕ → ℕ → ℕ) (g h j : ℕ → ℕ) (sub : ℕ → ℕ → ℕ) (gs ls : List ℕ) → length gs ≡ 16 → length ls ≡ 16
+    → length (made_lanes f g h j sub gs ls) ≡ 16
+long_made f g h j sub gs ls a b =
+    length-zip2 sub (replicate 16 16) (map j (map h (map g (zip2 f gs ls)))) (omega (arith, long_inner f g h j gs ls a b, length-replicate {A = ℕ} 16 16)) ∙ length-replicate {A = ℕ} 16 16
+
+made_lane : (f : ℕ → ℕ → ℕ) (g h j : ℕ → ℕ) (sub : ℕ → ℕ → ℕ) (gs ls : List ℕ) (p : ℕ) → length gs ≡ 16 → length ls ≡ 16 → p < 16
+    → get_or (made_lanes f g h j sub gs ls) p 0 ≡ sub 16 (j (h (g (f (get_or gs p 0) (get_or ls p 0)))))
+made_lane f g h j sub gs ls p a b within =
+    let spread = zip2 f gs ls in
+    let long_spread : length spread ≡ 16 = length-zip2 f gs ls (omega (arith, a, b)) ∙ a in
+    let long_g : length (map g spread) ≡ 16 = length-map spread g ∙ long_spread in
+    let long_h : length (map h (map g spread)) ≡ 16 = length-map (map g spread) h ∙ long_g in
+    let at_spread : get_or spread p 0 ≡ f (get_or gs p 0) (get_or ls p 0) = get_or-zip2 f gs ls p 0 0 0 (omega (arith, a, within)) (omega (arith, b, within)) in
+    let at_g : get_or (map g spread) p 0 ≡ g (get_or spread p 0) = get_or-map g spread p 0 0 (omega (arith, long_spread, within)) in
+    let at_h : get_or (map h (map g spread)) p 0 ≡ h (get_or (map g spread) p 0) = get_or-map h (map g spread) p 0 0 (omega (arith, long_g, within)) in
+    let at_j : get_or (map j (map h (map g spread))) p 0 ≡ j (get_or (map h (map g spread)) p 0) = get_or-map j (map h (map g spread)) p 0 0 (omega (arith, long_h, within)) in
+    get_or-zip2 sub (replicate 16 16) (map j (map h (map g spread))) p 0 0 0 (omega (arith, length-replicate {A = ℕ} 16 16, within)) (omega (arith, long_inner f g h j gs ls a b, within))
+    ∙ ap₂ sub (get_or-replicate 16 p 16 0 within) (at_j ∙ ap j (at_h ∙ ap h (at_g ∙ ap g at_spread)))
+
+pub made_here : (f : ℕ → ℕ → ℕ) (g h j : ℕ → ℕ) (sub : ℕ → ℕ → ℕ) (gs ls ws : List ℕ) (i place : ℕ) → i + 16 ≤ length gs → i + 16 ≤ length ls → i + 16 ≤ length ws
+    → i ≤ place → place < i + 16
+    → slice_index (put_chunk i ws (made_lanes f g h j sub (chunk i 16 gs) (chunk i 16 ls))) place ≡ sub 16 (j (h (g (f (slice_index gs place) (slice_index ls place)))))
+made_here f g h j sub gs ls ws i place a b d from to =
+    let long_g = length-chunk i 16 gs a in
+    let long_l = length-chunk i 16 ls b in
+    stored ws (made_lanes f g h j sub (chunk i 16 gs) (chunk i 16 ls)) i place (long_made f g h j sub (chunk i 16 gs) (chunk i 16 ls) long_g long_l) d from to
+    ∙ (made_lane f g h j sub (chunk i 16 gs) (chunk i 16 ls) (place - i) long_g long_l (omega (arith, from, to))
+    ∙ ap₂ (λ x y. sub 16 (j (h (g (f x y))))) (loaded gs i place from to) (loaded ls i place from to))
+
+pub made_others : (f : ℕ → ℕ → ℕ) (g h j : ℕ → ℕ) (sub : ℕ → ℕ → ℕ) (gs ls ws : List ℕ) (i place : ℕ) → i + 16 ≤ length gs → i + 16 ≤ length ls
+    → (place < i) ⊎ (i + 16 ≤ place) → slice_index (put_chunk i ws (made_lanes f g h j sub (chunk i 16 gs) (chunk i 16 ls))) place ≡ slice_index ws place
+made_others f g h j sub gs ls ws i place a b out =
+    not_stored ws (made_lanes f g h j sub (chunk i 16 gs) (chunk i 16 ls)) i place
+    (long_made f g h j sub (chunk i 16 gs) (chunk i 16 ls) (length-chunk i 16 gs a) (length-chunk i 16 ls b)) out

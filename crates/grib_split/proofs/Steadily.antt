@@ -1,16 +1,15 @@
 -- The best first group where 64 codes are the same and the least cost does not rise from one place to the next.
 use Rattle.std.proofs.Common.{◌≡◌, ℕ, zero, suc, ◌+◌, ◌-◌, ◌*◌, ◌%◌, ◌<◌, ◌≤◌, ◌⊎◌, inl, inr, List, take, drop, ap, sym, ◌∙◌, subst, arith, length-drop}
-use Rattle.std.specs.Prelude.{slice_index, slice_set}
 use Rattle.grib_base.specs.declared.code.Code.{Code}
 use Rattle.grib_packing.specs.Groupings.{width_of}
 use Rattle.grib_split.specs.Alike.{Alike}
 use Rattle.grib_split.specs.declared.slots.Slots.{Slots}
 use Rattle.grib_split.specs.Least as least
 use Rattle.grib_split.specs.Least.{with_first}
-use Rattle.grib_split.specs.Runs.{Falls, Soonest, after_of}
+use Rattle.grib_split.specs.Runs.{Falls, Soonest, OthersStay, IsNear, after_of, cost_at, length_to}
 use Rattle.grib_split.proofs.Alike.{width_alike}
 use Rattle.grib_split.proofs.Begin.{apart}
-use Rattle.grib_split.proofs.Kept.{other_at}
+use Rattle.grib_split.proofs.Going.{back, length_some, length_most}
 
 -- ---- costs that do not rise
 
@@ -32,16 +31,16 @@ falls_to f next a b some order most =
 two_on : (at l : ℕ) → (at + (l + 1)) % 64 ≡ (at + 1 + l) % 64
 two_on at l = omega arith
 
-pub after_next : (at cost l : ℕ) (a b : Slots) → b.after ≡ slice_set a.after ((at + 1) % 64) cost → 1 ≤ l → l < 64
+pub after_next : (at cost l : ℕ) (a b : Slots) → OthersStay a b ((at + 1) % 64) → 1 ≤ l → l < 64
     → after_of b at (l + 1) ≡ after_of a (at + 1) l
 after_next at cost l a b is some most =
-    other_at a.after b.after ((at + 1) % 64) ((at + (l + 1)) % 64) cost (apart at (l + 1) (omega arith) (omega arith)) is
-    ∙ ap (λ p. slice_index a.after p) (two_on at l)
+    is ((at + (l + 1)) % 64) (omega arith) (λ e. apart at (l + 1) (omega arith) (omega arith) (sym e))
+    ∙ ap (λ p. cost_at a.after p) (two_on at l)
 
 one_or_more : (l : ℕ) → 1 ≤ l → (l ≡ 1) ⊎ (2 ≤ l)
 one_or_more l some = grind arith
 
-pub falls_next : (at cost : ℕ) (a b : Slots) → b.after ≡ slice_set a.after ((at + 1) % 64) cost → after_of b at 1 ≡ cost → Falls a (at + 1) cost
+pub falls_next : (at cost : ℕ) (a b : Slots) → OthersStay a b ((at + 1) % 64) → after_of b at 1 ≡ cost → Falls a (at + 1) cost
     → (l : ℕ) → 1 ≤ l → l < 64 → after_of b at (l + 1) ≤ after_of b at l
 falls_next at cost a b is here falls l some most = elim (one_or_more l some) [
   | inl one ↦
@@ -56,17 +55,26 @@ falls_next at cost a b is here falls l some most = elim (one_or_more l some) [
 ]
 
 -- the cost at this place is not less than at the next
-pub falls_here : (header at cost now : ℕ) (a b : Slots) → b.after ≡ slice_set a.after ((at + 1) % 64) cost → after_of b at 1 ≡ cost → Falls a (at + 1) cost
+pub falls_here : (header at cost now : ℕ) (a b : Slots) → OthersStay a b ((at + 1) % 64) → after_of b at 1 ≡ cost → Falls a (at + 1) cost
     → cost ≡ header + after_of a (at + 1) 64 → now ≡ header + after_of b at 64 → Falls b at now
 falls_here header at cost now a b is here falls cost_is now_is = record {
   here = omega (arith, here, cost_is, now_is, after_next at cost 63 a b is (omega arith) (omega arith), falls.next 63 (omega arith) (omega arith));
   next = falls_next at cost a b is here falls;
 }
 
+-- the cost is hardly more than those after it
+pub near_falls : (header at cost : ℕ) (slots : Slots) → Falls slots (at + 1) cost → cost ≡ header + after_of slots (at + 1) 64 → header ≤ 44
+    → IsNear slots.after ((at + 1) % 64) cost
+near_falls header at cost slots falls is few other within differs =
+    let l = length_to (at + 1) other in
+    let low = falls_to (after_of slots (at + 1)) falls.next l 64 (length_some (at + 1) other) (length_most (at + 1) other) (omega arith) in
+    let P : ℕ → Type 0 = λ p. cost ≤ cost_at slots.after p + 4096 in
+    subst P (back (at + 1) other within) (omega (arith, low, is, few))
+
 -- ---- the first length with the least cost after it
 
 -- it goes on by one code, and the cost after 64 codes stays
-least_stays : (at cost n : ℕ) (a b : Slots) → b.after ≡ slice_set a.after ((at + 1) % 64) cost → after_of b at 1 ≡ cost → Falls a (at + 1) cost
+least_stays : (at cost n : ℕ) (a b : Slots) → OthersStay a b ((at + 1) % 64) → after_of b at 1 ≡ cost → Falls a (at + 1) cost
     → Soonest a (at + 1) n → n < 64 → after_of b at 64 ≡ after_of a (at + 1) 64
 least_stays at cost n a b is here falls soonest more =
     omega (
@@ -78,7 +86,7 @@ least_stays at cost n a b is here falls soonest more =
       falls.next 63 (omega arith) (omega arith),
     )
 
-pub soonest_on : (header at cost n : ℕ) (a b : Slots) → b.after ≡ slice_set a.after ((at + 1) % 64) cost → after_of b at 1 ≡ cost → Falls a (at + 1) cost
+pub soonest_on : (header at cost n : ℕ) (a b : Slots) → OthersStay a b ((at + 1) % 64) → after_of b at 1 ≡ cost → Falls a (at + 1) cost
     → cost ≡ header + after_of a (at + 1) 64 → 1 ≤ header → Soonest a (at + 1) n → n < 64 → Soonest b at (n + 1)
 soonest_on header at cost n a b is here falls cost_is some soonest more =
     let stays = least_stays at cost n a b is here falls soonest more in
@@ -95,7 +103,7 @@ soonest_on header at cost n a b is here falls cost_is some soonest more =
       ];
     }
 
-pub cost_on : (header at cost n : ℕ) (a b : Slots) → b.after ≡ slice_set a.after ((at + 1) % 64) cost → after_of b at 1 ≡ cost → Falls a (at + 1) cost
+pub cost_on : (header at cost n : ℕ) (a b : Slots) → OthersStay a b ((at + 1) % 64) → after_of b at 1 ≡ cost → Falls a (at + 1) cost
     → cost ≡ header + after_of a (at + 1) 64 → Soonest a (at + 1) n → n < 64 → cost ≡ header + after_of b at 64
 cost_on header at cost n a b is here falls cost_is soonest more =
     omega (arith, cost_is, least_stays at cost n a b is here falls soonest more)

@@ -1,10 +1,11 @@
 -- Widths of runs, and what is kept of runs, with one code more.
-use Rattle.std.proofs.Common.{◌≡◌, ℕ, ◌+◌, ◌-◌, ◌^◌, ◌<◌, ◌≤◌, ◌⊎◌, inl, inr, min, max, Bool, true, false, cond, List, [], ◌∷◌, length, refl, sym, ap, ap₂, ◌∙◌, arith, eq-eqb, ne_eqb}
+use Rattle.std.proofs.Common.{◌≡◌, ℕ, ◌+◌, ◌-◌, ◌^◌, ◌<◌, ◌≤◌, ◌⊎◌, inl, inr, min, max, Bool, true, false, cond, List, [], ◌∷◌, length, refl, sym, ap, ap₂, ◌∙◌, arith, eq-eqb, ne_eqb, nat_eq}
 use Rattle.std.specs.List.{list_any}
 use Rattle.grib_base.specs.declared.code.Code.{Code}
 use Rattle.grib_base.specs.declared.code.Code.TheVariants.{Present, Primary, Secondary}
 use Rattle.grib_packing.specs.Groupings.{width_of, digits, greatest, smallest, present_codes, is_present, is_primary, is_secondary}
-use Rattle.grib_packing.proofs.Spans.{smallest-more, smallest-one, some_present, none_present, smallest_at_most, width_by, width_of-by}
+use Rattle.std.proofs.Math.Nat.{pow-le-pow_right}
+use Rattle.grib_packing.proofs.Spans.{digits-is, smallest-more, smallest-one, some_present, none_present, smallest_at_most, width_by, width_of-by}
 use Rattle.grib_packing.proofs.Digits.{digits-most, digits-mono}
 use Rattle.grib_split.specs.Runs.{Tells, Wide}
 
@@ -245,6 +246,74 @@ wide_many low high p s k bits limit run t order more is few stays = record {
   none = λ e long. absurd (with_numbers (list_any is_present run) low high (smallest (present_codes run)) (greatest (present_codes run)) t.least t.most (none_greatest run) order e);
   stays = stays;
 }
+
+-- ---- a width that is found anew, where no code is reserved
+
+cond_most : (b : Bool) (n : ℕ) → cond b 0 n ≤ n
+cond_most true n = omega arith
+cond_most false n = omega arith
+
+-- that of numbers is at most the bits of their difference
+many_most : (q r : Bool) (low high k : ℕ) → k ≡ 0 → width_by true q r low high k ≤ digits (high - low)
+many_most true r low high k none = let e : digits (high - low + k) ≡ digits (high - low) = ap digits (omega arith) in omega (arith, e)
+many_most false true low high k none = let e : digits (high - low + k) ≡ digits (high - low) = ap digits (omega arith) in omega (arith, e)
+many_most false false low high k none =
+    let e : digits (high - low + k) ≡ digits (high - low) = ap digits (omega arith) in
+    omega (arith, e, cond_most (nat_eq high low) (digits (high - low + k)))
+
+-- and no less
+many_alone : (q r : Bool) (low high k : ℕ) → k ≡ 0 → low ≤ high → digits (high - low) ≡ width_by true q r low high k
+many_alone true r low high k none order = ap digits (omega arith)
+many_alone false true low high k none order = ap digits (omega arith)
+many_alone false false low high k none order = elim (one_or_more (high - low)) [
+  | inl one ↦
+      let same : high ≡ low = omega (arith, one, order) in
+      let zero_wide : digits (high - low) ≡ 0 = ap digits one ∙ digits-is 0 0 (omega arith) (omega arith) (λ some. absurd (omega (arith, some))) in
+      zero_wide ∙ sym (let e : width_by true false false low high k ≡ 0 = rw (eq-eqb high low same) refl in e)
+  | inr some ↦
+      let wide : width_by true false false low high k ≡ digits (high - low + k) = rw (ne_eqb high low (λ e. omega (arith, some, e))) refl in
+      ap digits (omega arith) ∙ sym wide
+]
+  where
+    one_or_more : (n : ℕ) → (n ≡ 0) ⊎ (1 ≤ n)
+    one_or_more n = grind arith
+
+-- the limit of a run holds with one number more
+limit_next : (k bits limit low high p s n w : ℕ) (run : List Code) → Tells low high p s run → n + k < 2 ^ 32 → high + k < 2 ^ 32
+    → list_any is_present run ≡ true → k ≡ 0 → w ≡ digits (max high n - min low n) → limit + k ≤ 2 ^ bits → Wide k bits limit run → limit + k ≤ 2 ^ w
+limit_next k bits limit low high p s n w run t small below some none is room wide =
+    let numbers = present_codes run in
+    let low_is : low ≡ smallest numbers = t.least ∙ rw some refl in
+    let bits_are : bits ≡ width_by true (list_any is_primary run) (list_any is_secondary run) (smallest numbers) (greatest numbers) k =
+    wide.is ∙ (width_of-by k run ∙ ap (λ b. width_by b (list_any is_primary run) (list_any is_secondary run) (smallest numbers) (greatest numbers) k) some) in
+    let most = many_most (list_any is_primary run) (list_any is_secondary run) (smallest numbers) (greatest numbers) k none in
+    let more = digits-mono (greatest numbers - smallest numbers) (max high n - min low n) (omega (arith, t.most, low_is, smallest_at_most numbers)) (omega (arith, small, below)) in
+    let grows : 2 ^ bits ≤ 2 ^ w = pow-le-pow_right (omega arith) (omega (arith, bits_are, most, more, is)) in
+    omega (arith, room, grows)
+
+limit_holds : (k bits limit low high p s n w : ℕ) (run : List Code) → Tells low high p s run → n + k < 2 ^ 32 → high + k < 2 ^ 32
+    → k ≡ 0 → w ≡ digits (max high n - min low n) → Wide k bits limit run → (limit ≤ 1) ⊎ (limit + k ≤ 2 ^ bits) → (limit ≤ 1) ⊎ (limit + k ≤ 2 ^ w)
+limit_holds k bits limit low high p s n w run t small below none is wide (inl few) = inl few
+limit_holds k bits limit low high p s n w [] t small below none is wide (inr room) = let one : 2 ^ bits ≡ 1 = ap (λ b. 2 ^ b) wide.is in inl (omega (arith, one, room))
+limit_holds k bits limit low high p s n w (code ∷ codes) t small below none is wide (inr room) = elim (true_or_false (list_any is_present (code ∷ codes))) [
+  | inl some ↦ inr (limit_next k bits limit low high p s n w (code ∷ codes) t small below some none is room wide)
+  | inr marks ↦ inl (omega (arith, wide.none marks (omega arith)))
+]
+
+pub wide_anew : (k bits limit low high p s n w : ℕ) (run : List Code) → Tells low high p s run → n + k < 2 ^ 32 → high + k < 2 ^ 32
+    → k ≡ 0 → w ≡ digits (max high n - min low n) → Wide k bits limit run → Wide k w limit (Present n ∷ run)
+wide_anew k bits limit low high p s n w run t small below none is wide =
+    let now = tells_number low high p s n run (omega (arith, small)) t in
+    let numbers = n ∷ present_codes run in
+    record {
+      is = is
+          ∙ (ap₂ (λ x y. digits (x - y)) now.most now.least
+          ∙ (many_alone (list_any is_primary run) (list_any is_secondary run) (smallest numbers) (greatest numbers) k none (smallest_at_most numbers)
+          ∙ sym (width_of-by k (Present n ∷ run))));
+      few = omega (arith, is, digits-most (max high n - min low n) 32 (omega (arith, small, below)) (omega (arith, small, below)));
+      none = λ e long. cc;
+      stays = limit_holds k bits limit low high p s n w run t small below none is wide wide.stays;
+    }
 
 pub tells_as : (low high p s low' high' p' s' : ℕ) (run : List Code) → Tells low high p s run
     → low' ≡ low → high' ≡ high → p' ≡ p → s' ≡ s → Tells low' high' p' s' run

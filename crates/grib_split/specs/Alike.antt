@@ -8,7 +8,7 @@ use Rattle.grib_split.specs.declared.choosing.Here.{Here}
 use Rattle.grib_split.specs.declared.slots.Slots.{Slots}
 use Rattle.grib_split.specs.Costs.{header_of}
 use Rattle.grib_split.specs.Least.{IsLeast, IsHead}
-use Rattle.grib_split.specs.Runs.{Runs, Afters, Falls, Soonest, Holds, after_of}
+use Rattle.grib_split.specs.Runs.{Runs, Afters, Falls, Soonest, Holds, IsLow, after_of}
 
 -- the code at a place
 abbrev pub code_at : List Code → ℕ → Code
@@ -32,6 +32,8 @@ pub record Steady (header reserved : ℕ) (codes : List Code) (at : ℕ) (slots 
 pub record Known (header reserved : ℕ) (codes : List Code) (at : ℕ) (slots : Slots) (here : Here) : Type 0 where
   pub alike : Alike codes at here.alike
   pub after : Afters header reserved codes at slots
+  pub low : IsLow slots.after
+  pub base : slots.after.base ≤ here.best.cost
   pub cost : IsLeast header (width_of reserved) (drop at codes) here.best.cost
   pub some : 1 ≤ here.best.length
   pub most : here.best.length ≤ 64

@@ -5,9 +5,9 @@ ghost use Rattle.grib_packing.specs.Groupings.{width_of};
 ghost use Rattle.grib_split.specs.Costs.{CanSplit, header_of};
 ghost use Rattle.grib_split.specs.Alike.{Alike, HeadsFrom, Known};
 ghost use Rattle.grib_split.specs.Least.{AreHeads, IsLeast, Best, with_first};
-ghost use Rattle.grib_split.specs.Runs.{Runs, Waits, Afters, Falls, Soonest, after_of, SameNumbers, SameMarks, SameWidths};
+ghost use Rattle.grib_split.specs.Runs.{Runs, Waits, Afters, Falls, Soonest, OthersStay, IsLow, AreLengths, after_of, SameNumbers, SameMarks, SameWidths};
 
-use crate::slots::{Cheapest, Slots};
+use crate::slots::{Cheapest, Slots, lengths_round};
 use grib_codes::Codes;
 
 /// The numbers that a grouping's cost rests on.
@@ -40,6 +40,7 @@ pub fn least_choices(codes: &Codes<'_>, costs: &Costs, choices: &mut [u8])
     requires same { length choices.old ≡ length codes.now }
     ensures { AreHeads (header_of costs.now) (width_of costs.now.reserved) codes.now choices.new }
 {
+    let lengths = lengths_round();
     let mut slots = Slots::none();
     let mut here = Here {
         best: Cheapest { length: 1, cost: 0 },
@@ -49,7 +50,7 @@ pub fn least_choices(codes: &Codes<'_>, costs: &Costs, choices: &mut [u8])
     let mut at = codes.len();
     while at > 0 {
         at -= 1;
-        here = here_at(&mut slots, codes, at, here, costs);
+        here = here_at(&mut slots, codes, at, here, costs, &lengths);
         choices[at] = here.best.length as u8;
         if here.steady {
             let gone = go_on(&mut slots, codes, at, here, costs, choices);
@@ -117,8 +118,16 @@ fn go_on(
 
 /// Goes on by the code at place `at`, from what is known at the next place.
 #[inline]
-fn here_at(slots: &mut Slots, codes: &Codes<'_>, at: usize, next: Here, costs: &Costs) -> Here
+fn here_at(
+    slots: &mut Slots,
+    codes: &Codes<'_>,
+    at: usize,
+    next: Here,
+    costs: &Costs,
+    lengths: &[u16; 128],
+) -> Here
     requires split { CanSplit costs.now codes.now }
+    requires lengths { AreLengths lengths.now }
     requires place { at < length codes.now }
     requires known { Known (header_of costs.now) costs.now.reserved codes.now (at + 1) slots.old next }
     ensures known { Known (header_of costs.now) costs.now.reserved codes.now at slots.new result }
@@ -126,8 +135,7 @@ fn here_at(slots: &mut Slots, codes: &Codes<'_>, at: usize, next: Here, costs: &
         (after_of slots.new at) result.best.length }
 {
     let alike = alike_from(codes, at, next.alike);
-    slots.price(next.steady);
-    let best = best_of_all(slots, codes, at, next.best.cost, costs);
+    let best = best_of_all(slots, codes, at, next.best.cost, costs, lengths);
     let steady = alike == 64 && slots.falls(at, best.cost);
     Here {
         best,
@@ -160,8 +168,12 @@ fn best_of_one(slots: &mut Slots, at: usize, next: Cheapest, costs: &Costs) -> C
     requires cost { next.cost ≡ header_of costs.now + after_of slots.old (at + 1) 64 }
     requires small { next.cost ≤ 1476395040 }
     requires header { header_of costs.now ≤ 44 }
+    requires low { IsLow slots.old.after }
+    requires base { slots.old.after.base ≤ next.cost }
     ensures here { after_of slots.new at 1 ≡ next.cost }
-    ensures after { slots.new.after ≡ slice_set slots.old.after ((at + 1) % 64) next.cost }
+    ensures after { OthersStay slots.old slots.new ((at + 1) % 64) }
+    ensures low { IsLow slots.new.after }
+    ensures base { slots.new.after.base ≤ result.cost }
     ensures numbers { SameNumbers slots.old slots.new }
     ensures marks { SameMarks slots.old slots.new }
     ensures widths { SameWidths slots.old slots.new }
@@ -191,12 +203,18 @@ fn best_of_all(
     at: usize,
     cost: u32,
     costs: &Costs,
+    lengths: &[u16; 128],
 ) -> Cheapest
     requires split { CanSplit costs.now codes.now }
+    requires lengths { AreLengths lengths.now }
     requires place { at < length codes.now }
     requires runs { Runs costs.now.reserved codes.now (at + 1) slots.old }
     requires after { Afters (header_of costs.now) costs.now.reserved codes.now (at + 1) slots.old }
     requires cost { IsLeast (header_of costs.now) (width_of costs.now.reserved) (drop (at + 1) codes.now) cost }
+    requires low { IsLow slots.old.after }
+    requires base { slots.old.after.base ≤ cost }
+    ensures low { IsLow slots.new.after }
+    ensures base { slots.new.after.base ≤ result.cost }
     ensures runs { Runs costs.now.reserved codes.now at slots.new }
     ensures after { Afters (header_of costs.now) costs.now.reserved codes.now at slots.new }
     ensures best { Best (header_of costs.now) (width_of costs.now.reserved) (drop at codes.now)
@@ -205,17 +223,25 @@ fn best_of_all(
         result.length (after_of slots.new at result.length) }
 {
     slots.begin((at + 1) % 64, cost);
-    best_at(slots, codes, at, costs)
+    best_at(slots, codes, at, costs, lengths)
 }
 
 /// Puts the code at place `at` before the runs that wait for it, and gives the best first group and the least
 /// cost from there on.
 #[inline]
-fn best_at(slots: &mut Slots, codes: &Codes<'_>, at: usize, costs: &Costs) -> Cheapest
+fn best_at(
+    slots: &mut Slots,
+    codes: &Codes<'_>,
+    at: usize,
+    costs: &Costs,
+    lengths: &[u16; 128],
+) -> Cheapest
     requires split { CanSplit costs.now codes.now }
+    requires lengths { AreLengths lengths.now }
     requires place { at < length codes.now }
     requires runs { Waits costs.now.reserved codes.now at slots.old }
     requires after { Afters (header_of costs.now) costs.now.reserved codes.now at slots.old }
+    requires low { IsLow slots.old.after }
     ensures runs { Runs costs.now.reserved codes.now at slots.new }
     ensures after { slots.new.after ≡ slots.old.after }
     ensures best { Best (header_of costs.now) (width_of costs.now.reserved) (drop at codes.now)
@@ -223,11 +249,11 @@ fn best_at(slots: &mut Slots, codes: &Codes<'_>, at: usize, costs: &Costs) -> Ch
     ensures cost { result.cost ≡ with_first (header_of costs.now) (width_of costs.now.reserved) (drop at codes.now)
         result.length (after_of slots.old at result.length) }
 {
-    let places = slots.take(codes.at(at), (at + 1) % 64);
-    slots.mend(places, at, costs.reserved);
-    let cost = slots.lengthen();
+    let places = slots.take(codes.at(at), (at + 1) % 64, costs.reserved);
+    slots.mend(places, costs.reserved);
+    let cost = slots.price(at, lengths);
     Cheapest {
         length: slots.shortest(at, cost),
-        cost: cost + costs.header(),
+        cost: slots.whole(cost) + costs.header(),
     }
 }

@@ -1,6 +1,7 @@
 //! The choice of groups: the grouping of a field's codes that takes the fewest bits.
 #![tactic(auto)]
 
+mod behind;
 mod bound;
 mod choosing;
 mod chosen;

@@ -5,8 +5,9 @@ ghost use Rattle.std.specs.Int.{bit_at};
 ghost use Rattle.grib_base.specs.declared.code.Code as code_io;
 ghost use Rattle.grib_packing.specs.Groupings.{digits};
 ghost use Rattle.grib_packing.specs.Span.{IsBelow};
-ghost use Rattle.grib_split.specs.Runs.{Tells, Told, Wide, Begun, Priced, PricedBut, Soonest, Falls, Nested, Covers, Numbered, StayAt, length_to, after_of, SameNumbers, SameMarks, SameWidths};
+ghost use Rattle.grib_split.specs.Runs.{Tells, Told, Wide, WideAt, WideBut, Begun, AreLengths, price_at, Soonest, Falls, Nested, Settled, Covers, Covered, Numbered, IsNarrow, StayAt, after_of, cost_at, OthersStay, IsLow, IsNear, SameNumbers, SameMarks, SameWidths};
 
+use crate::behind::{Behind, first_of};
 use grib_base::Code;
 use std::simd::prelude::*;
 
@@ -20,11 +21,12 @@ pub(crate) struct Slots {
     /// A run keeps its width while its numbers differ by less; 0 for a run of marks alone.
     limit: [u32; 64],
     /// The width of each run as a group, in bits.
-    width: [u32; 64],
+    width: [u16; 64],
     /// The least cost of the codes after each run.
-    after: [u32; 64],
-    /// What the numbers of each run and the codes after it cost, without the header of the run.
-    cost: [u32; 64],
+    after: Behind,
+    /// What each run and the codes after it cost, without the header of the run and above the base of these costs, at
+    /// the place that was priced last.
+    cost: [u16; 64],
     /// 1 where the run has a primary missing point, and a secondary one, else 0.
     primary: [u8; 64],
     secondary: [u8; 64],
@@ -51,8 +53,8 @@ impl Slots {
         ensures greatest { result.greatest ≡ replicate 64 0 }
         ensures limit { result.limit ≡ replicate 64 0 }
         ensures width { result.width ≡ replicate 64 0 }
-        ensures after { result.after ≡ replicate 64 2147483648 }
-        ensures cost { result.cost ≡ replicate 64 2147483648 }
+        ensures base { result.after.base ≡ 0 }
+        ensures after { result.after.above ≡ replicate 64 60000 }
         ensures primary { result.primary ≡ replicate 64 0 }
         ensures secondary { result.secondary ≡ replicate 64 0 }
     {
@@ -61,8 +63,8 @@ impl Slots {
             greatest: [0; 64],
             limit: [0; 64],
             width: [0; 64],
-            after: [2147483648; 64],
-            cost: [2147483648; 64],
+            after: Behind::none(),
+            cost: [0; 64],
             primary: [0; 64],
             secondary: [0; 64],
         }
@@ -71,14 +73,18 @@ impl Slots {
     /// Puts the run of no codes, before codes of this least cost, at a place.
     #[inline]
     pub(crate) fn begin(&mut self, place: usize, cost: u32)
-        requires { place < 64 }
+        requires place { place < 64 }
+        requires base { self.old.after.base ≤ cost }
+        requires most { cost ≤ 1476395040 }
+        requires near { IsNear self.old.after place cost }
+        requires low { IsLow self.old.after }
         ensures here { Begun self.new place cost }
         ensures least { self.new.least ≡ slice_set self.old.least place 4294967295 }
         ensures greatest { self.new.greatest ≡ slice_set self.old.greatest place 0 }
         ensures limit { self.new.limit ≡ slice_set self.old.limit place 1 }
         ensures width { self.new.width ≡ slice_set self.old.width place 0 }
-        ensures after { self.new.after ≡ slice_set self.old.after place cost }
-        ensures cost { self.new.cost ≡ slice_set self.old.cost place cost }
+        ensures after { OthersStay self.old self.new place }
+        ensures low { IsLow self.new.after }
         ensures primary { self.new.primary ≡ slice_set self.old.primary place 0 }
         ensures secondary { self.new.secondary ≡ slice_set self.old.secondary place 0 }
     {
@@ -86,32 +92,31 @@ impl Slots {
         self.greatest[place] = 0;
         self.limit[place] = 1;
         self.width[place] = 0;
-        self.after[place] = cost;
-        self.cost[place] = cost;
         self.primary[place] = 0;
         self.secondary[place] = 0;
+        self.after.put(place, cost);
     }
 
     /// Puts a code before each run, of which the shortest is at place `start`, and gives the places where the width
-    /// may be another one.
+    /// is still to be found.
     #[inline]
-    pub(crate) fn take(&mut self, code: Code, start: usize) -> u64
-        requires below { IsBelow 0 code }
+    pub(crate) fn take(&mut self, code: Code, start: usize, reserved: u32) -> u64
+        requires below { IsBelow reserved code }
         requires start { start < 64 }
         requires nested { Nested self.old start }
         ensures told { (place : ℕ) (run : List code_io.Code) → place < 64
             → Told self.old place run → Told self.new place (code ∷ run) }
-        ensures wide { (place k : ℕ) (run : List code_io.Code) → place < 64 → k ≤ 2 → bit_at result place ≡ 0
-            → IsBelow k code → slice_index self.old.greatest place + k < 2 ^ 32 → Told self.old place run
-            → Wide k (slice_index self.old.width place) (slice_index self.old.limit place) run
-            → Wide k (slice_index self.old.width place) (slice_index self.old.limit place) (code ∷ run) }
-        ensures cost { self.new.cost ≡ self.old.cost }
-        ensures limit { self.new.limit ≡ self.old.limit }
-        ensures width { self.new.width ≡ self.old.width }
+        ensures wide { (place : ℕ) (run : List code_io.Code) → place < 64 → bit_at result place ≡ 0
+            → slice_index self.old.greatest place + reserved < 2 ^ 32 → Told self.old place run
+            → WideAt reserved self.old place run → WideAt reserved self.new place (code ∷ run) }
         ensures after { self.new.after ≡ self.old.after }
     {
         match code {
-            Code::Present(number) => self.take_number(number as u32, start),
+            Code::Present(number) => {
+                let number = number as u32;
+                let narrow = self.are_narrow(number, start, reserved);
+                self.take_number(number, start, narrow)
+            }
             Code::Primary => self.take_primary(),
             Code::Secondary => self.take_secondary(),
         }
@@ -120,46 +125,63 @@ impl Slots {
     /// Goes on from the shortest run to longer ones, 16 places at a time, and ends where the number is between the
     /// least and the greatest one of a run: it is so for each longer run, and what is kept of them stays.
     #[inline]
-    fn take_number(&mut self, number: u32, start: usize) -> u64
+    fn take_number(&mut self, number: u32, start: usize, narrow: bool) -> u64
         requires start { start < 64 }
         requires nested { Nested self.old start }
+        requires narrow { narrow ≡ true → (place : ℕ) → place < 64 → IsNarrow self.old place number }
         ensures least { (place : ℕ) → place < 64
             → slice_index self.new.least place ≡ min (slice_index self.old.least place) number }
         ensures greatest { (place : ℕ) → place < 64
             → slice_index self.new.greatest place ≡ max (slice_index self.old.greatest place) number }
-        ensures places { (place : ℕ) → place < 64 → bit_at result place ≡ 0
-            → (slice_index self.new.greatest place - slice_index self.new.least place < slice_index self.old.limit place)
-            ⊎ Covers self.old place number }
+        ensures settled { (place : ℕ) → place < 64 → bit_at result place ≡ 0
+            → Settled narrow self.old self.new place ⊎ Covered self.old self.new place number }
+        ensures limit { self.new.limit ≡ self.old.limit }
         ensures marks { SameMarks self.old self.new }
-        ensures widths { SameWidths self.old self.new }
         ensures after { self.new.after ≡ self.old.after }
-        ensures cost { self.new.cost ≡ self.old.cost }
     {
         let first = start / 16 * 16;
-        let mut places = self.take_part(number, first);
+        let mut places = self.take_part(number, first, narrow);
         let mut seen = 16;
         while seen < 64 && self.misses(number, (first + seen) % 64) {
-            places |= self.take_part(number, (first + seen) % 64);
+            places |= self.take_part(number, (first + seen) % 64, narrow);
             seen += 16;
         }
         places
     }
 
-    /// Puts a number before the runs at the 16 places from `from` on, and gives those of them where the width
-    /// may be another one.
+    /// Whether no code is reserved, and a number and those of the runs take 16 bits at most. The longest run ends before
+    /// place `start`, and no other one has a greater number.
     #[inline]
-    fn take_part(&mut self, number: u32, from: usize) -> u64
-        requires { from + 16 ≤ 64 }
+    fn are_narrow(&self, number: u32, start: usize, reserved: u32) -> bool
+        requires start { start < 64 }
+        requires nested { Nested self.now start }
+        ensures none { result ≡ true → reserved ≡ 0 }
+        ensures narrow { result ≡ true → (place : ℕ) → place < 64 → IsNarrow self.now place number }
+    {
+        let greatest = self.greatest[(start + 63) % 64].max(number);
+        reserved == 0 && greatest < 65536
+    }
+
+    /// Puts a number before the runs at the 16 places from `from` on, and gives those of them where the width is still
+    /// to be found. Where numbers are narrow, and no code is reserved, all 16 widths are found at once.
+    #[inline]
+    fn take_part(&mut self, number: u32, from: usize, narrow: bool) -> u64
+        requires from { from + 16 ≤ 64 }
+        requires narrow { narrow ≡ true → (place : ℕ) → from ≤ place → place < from + 16
+            → IsNarrow self.old place number }
         ensures here { (place : ℕ) → from ≤ place → place < from + 16
-            → Numbered self.old self.new number result place }
+            → Numbered narrow self.old self.new number result place }
         ensures others { (place : ℕ) → (place < from) ⊎ (from + 16 ≤ place) → StayAt self.old self.new place }
+        ensures limit { self.new.limit ≡ self.old.limit }
         ensures marks { SameMarks self.old self.new }
-        ensures widths { SameWidths self.old self.new }
         ensures after { self.new.after ≡ self.old.after }
-        ensures cost { self.new.cost ≡ self.old.cost }
     {
         lesser_from(&mut self.least, number, from);
         greater_from(&mut self.greatest, number, from);
+        if narrow {
+            widths_from(&self.least, &self.greatest, &mut self.width, from);
+            return 0;
+        }
         places_apart(&self.least, &self.greatest, &self.limit, from)
     }
 
@@ -180,7 +202,6 @@ impl Slots {
         ensures numbers { SameNumbers self.old self.new }
         ensures widths { SameWidths self.old self.new }
         ensures after { self.new.after ≡ self.old.after }
-        ensures cost { self.new.cost ≡ self.old.cost }
     {
         let places = places_of_zero(&self.primary);
         self.primary = [1; 64];
@@ -195,7 +216,6 @@ impl Slots {
         ensures numbers { SameNumbers self.old self.new }
         ensures widths { SameWidths self.old self.new }
         ensures after { self.new.after ≡ self.old.after }
-        ensures cost { self.new.cost ≡ self.old.cost }
     {
         let places = places_of_zero(&self.secondary);
         self.secondary = [1; 64];
@@ -204,14 +224,13 @@ impl Slots {
 }
 
 impl Slots {
-    /// Finds the width of the run at each of these places, and its cost without that of one code.
+    /// Finds the width of the run at each of these places.
     #[inline]
-    pub(crate) fn mend(&mut self, places: u64, at: usize, reserved: u32)
+    pub(crate) fn mend(&mut self, places: u64, reserved: u32)
         requires few { reserved ≤ 2 }
         requires small { (place : ℕ) → place < 64 → slice_index self.old.greatest place + reserved < 2 ^ 32 }
-        requires after { (place : ℕ) → place < 64 → slice_index self.old.after place ≤ 2147483648 }
-        ensures priced { (run : ℕ → List code_io.Code) → ((place : ℕ) → place < 64 → Told self.old place (run place))
-            → PricedBut reserved self.old at places run → PricedBut reserved self.new at 0 run }
+        ensures wide { (run : ℕ → List code_io.Code) → ((place : ℕ) → place < 64 → Told self.old place (run place))
+            → WideBut reserved self.old places run → WideBut reserved self.new 0 run }
         ensures numbers { SameNumbers self.old self.new }
         ensures marks { SameMarks self.old self.new }
         ensures after { self.new.after ≡ self.old.after }
@@ -219,31 +238,27 @@ impl Slots {
         let mut rest = places;
         while rest != 0 {
             let place = rest.trailing_zeros();
-            self.mend_one(place as usize, more_at(at, place as usize), reserved);
+            self.mend_one(place as usize, reserved);
             rest &= rest - 1;
         }
     }
 
-    /// Finds the width of the run at a place, and what `count` of its codes cost.
+    /// Finds the width of the run at a place.
     #[inline]
-    fn mend_one(&mut self, place: usize, count: u32, reserved: u32)
+    fn mend_one(&mut self, place: usize, reserved: u32)
         requires place { place < 64 }
-        requires count { count ≤ 64 }
         requires few { reserved ≤ 2 }
         requires small { slice_index self.old.greatest place + reserved < 2 ^ 32 }
-        requires after { slice_index self.old.after place ≤ 2147483648 }
-        ensures priced { (run : List code_io.Code) → Told self.old place run → Priced reserved self.new place count run }
+        ensures wide { (run : List code_io.Code) → Told self.old place run → WideAt reserved self.new place run }
         ensures width { self.new.width ≡ slice_set self.old.width place (slice_index self.new.width place) }
         ensures limit { self.new.limit ≡ slice_set self.old.limit place (slice_index self.new.limit place) }
-        ensures cost { self.new.cost ≡ slice_set self.old.cost place (slice_index self.new.cost place) }
         ensures numbers { SameNumbers self.old self.new }
         ensures marks { SameMarks self.old self.new }
         ensures after { self.new.after ≡ self.old.after }
     {
         let width = self.width_at(place, reserved);
-        self.width[place] = width.bits;
+        self.width[place] = width.bits as u16;
         self.limit[place] = width.limit;
-        self.cost[place] = count * width.bits + self.after[place];
     }
 
     /// The width of the run at a place by what is kept of it.
@@ -269,12 +284,13 @@ impl Slots {
         width_of_many(greatest - least, reserved)
     }
 
-    /// Adds the cost of one code more to that of each run, and gives the least of them.
+    /// Finds what each of the runs from `at` on costs with the codes after it, and gives the least of these costs.
     #[inline]
-    pub(crate) fn lengthen(&mut self) -> u32
-        requires { (place : ℕ) → place < 64 → slice_index self.old.cost place + slice_index self.old.width place < 2 ^ 32 }
-        ensures cost { (place : ℕ) → place < 64
-            → slice_index self.new.cost place ≡ slice_index self.old.cost place + slice_index self.old.width place }
+    pub(crate) fn price(&mut self, at: usize, lengths: &[u16; 128]) -> u16
+        requires lengths { AreLengths lengths.now }
+        requires wide { (place : ℕ) → place < 64 → slice_index self.old.width place ≤ 32 }
+        requires low { IsLow self.old.after }
+        ensures cost { (place : ℕ) → place < 64 → slice_index self.new.cost place ≡ price_at self.old at place }
         ensures least { (place : ℕ) → place < 64 → result ≤ slice_index self.new.cost place }
         ensures one { (place : ℕ) × (place < 64) × (slice_index self.new.cost place ≡ result) }
         ensures numbers { SameNumbers self.old self.new }
@@ -282,18 +298,28 @@ impl Slots {
         ensures widths { SameWidths self.old self.new }
         ensures after { self.new.after ≡ self.old.after }
     {
-        let mut least = u32::MAX;
+        let first = 63 - at % 64;
+        let mut least = u16::MAX;
         for place in 0..64 {
-            let cost = self.cost[place] + self.width[place];
+            let cost = lengths[first + place] * self.width[place] + self.after.above[place];
             self.cost[place] = cost;
             least = least.min(cost);
         }
         least
     }
 
+    /// A cost above the base of these costs as a whole.
+    #[inline]
+    pub(crate) fn whole(&self, above: u16) -> u32
+        requires { self.now.after.base ≤ 1476395040 }
+        ensures { result ≡ self.now.after.base + above }
+    {
+        self.after.base + u32::from(above)
+    }
+
     /// The length of the shortest of the runs from `at` on that have this cost, the least.
     #[inline]
-    pub(crate) fn shortest(&self, at: usize, cost: u32) -> u32
+    pub(crate) fn shortest(&self, at: usize, cost: u16) -> u32
         requires place { at < 2 ^ 32 }
         requires least { (place : ℕ) → place < 64 → cost ≤ slice_index self.now.cost place }
         requires one { (place : ℕ) × (place < 64) × (slice_index self.now.cost place ≡ cost) }
@@ -308,32 +334,23 @@ impl Slots {
 
 /// The costs after runs of one code.
 impl Slots {
-    /// Prices the runs anew, none of which takes a bit.
-    #[inline]
-    pub(crate) fn price(&mut self, anew: bool)
-        ensures anew { anew ≡ true → self.new.cost ≡ self.old.after }
-        ensures same { anew ≡ false → self.new.cost ≡ self.old.cost }
-        ensures numbers { SameNumbers self.old self.new }
-        ensures marks { SameMarks self.old self.new }
-        ensures widths { SameWidths self.old self.new }
-        ensures after { self.new.after ≡ self.old.after }
-    {
-        if anew {
-            self.cost = self.after;
-        }
-    }
-
     /// Puts the least cost of the codes after a run.
     #[inline]
     pub(crate) fn put_after(&mut self, place: usize, cost: u32)
-        requires { place < 64 }
-        ensures here { slice_index self.new.after place ≡ cost }
-        ensures after { self.new.after ≡ slice_set self.old.after place cost }
+        requires place { place < 64 }
+        requires base { self.old.after.base ≤ cost }
+        requires most { cost ≤ 1476395040 }
+        requires near { IsNear self.old.after place cost }
+        requires low { IsLow self.old.after }
+        ensures here { cost_at self.new.after place ≡ cost }
+        ensures after { OthersStay self.old self.new place }
+        ensures low { IsLow self.new.after }
+        ensures base { self.new.after.base ≤ cost }
         ensures numbers { SameNumbers self.old self.new }
         ensures marks { SameMarks self.old self.new }
         ensures widths { SameWidths self.old self.new }
     {
-        self.after[place] = cost;
+        self.after.put(place, cost);
     }
 
     /// The shortest of the runs from `at` on with the least cost after them, and this cost. It does not rise from one
@@ -341,29 +358,31 @@ impl Slots {
     #[inline]
     pub(crate) fn soonest(&self, at: usize) -> Cheapest
         requires place { at < 2 ^ 32 }
+        requires base { self.now.after.base ≤ 1476395040 }
         requires falls { (l : ℕ) → 1 ≤ l → l < 64 → after_of self.now at (l + 1) ≤ after_of self.now at l }
         ensures cost { result.cost ≡ after_of self.now at 64 }
         ensures soonest { Soonest self.now at result.length }
     {
-        let cost = self.after[at % 64];
+        let least = self.after.above[at % 64];
         Cheapest {
-            length: first_of(&self.after, cost, at),
-            cost,
+            length: first_of(&self.after.above, least, at),
+            cost: self.whole(least),
         }
     }
 
     /// Whether the least cost does not rise from `at`, where it is this, over the 64 places after it.
     #[inline]
     pub(crate) fn falls(&self, at: usize, cost: u32) -> bool
-        requires { at < 2 ^ 32 }
+        requires place { at < 2 ^ 32 }
+        requires base { self.now.after.base ≤ 1476395040 }
         ensures { result ≡ true → Falls self.now at cost }
     {
         for length in 1..64 {
-            if self.after[(at + length + 1) % 64] > self.after[(at + length) % 64] {
+            if self.after.above[(at + length + 1) % 64] > self.after.above[(at + length) % 64] {
                 return false;
             }
         }
-        self.after[(at + 1) % 64] <= cost
+        self.whole(self.after.above[(at + 1) % 64]) <= cost
     }
 }
 
@@ -428,58 +447,16 @@ fn limit_of(bits: u32, reserved: u32) -> u32
     (((1u64 << bits) - u64::from(reserved)) % 4294967296) as u32
 }
 
-/// How many codes the run from `at` on that ends at a place has after its first: it ends so far behind the shortest.
-#[inline]
-fn more_at(at: usize, place: usize) -> u32
-    requires { place < 64 }
-    ensures is { result ≡ length_to at place - 1 }
-    ensures most { result ≤ 64 }
+/// The lengths 1 to 64, twice over: from `63 - at % 64` on, the lengths of the runs from `at` on by the places of their
+/// ends.
+pub(crate) fn lengths_round() -> [u16; 128]
+    ensures { AreLengths result }
 {
-    let start = (at % 64 + 1) % 64;
-    ((place + 64 - start) % 64) as u32
-}
-
-/// The least length with this cost, where the costs of the lengths 1 to 64 stand at the places after `at`, counted
-/// round 64.
-#[inline]
-fn first_of(costs: &[u32; 64], cost: u32, at: usize) -> u32
-    requires place { at < 2 ^ 32 }
-    requires one { (place : ℕ) × (place < 64) × (slice_index costs.now place ≡ cost) }
-    ensures some { 1 ≤ result }
-    ensures most { result ≤ 64 }
-    ensures here { slice_index costs.now ((at + result) % 64) ≡ cost }
-    ensures first { (l : ℕ) → 1 ≤ l → l < result → slice_index costs.now ((at + l) % 64) ≢ cost }
-{
-    let places = places_of(costs, cost);
-    first_from(places, (at + 1) % 64) + 1
-}
-
-/// The places of a cost.
-#[inline]
-fn places_of(costs: &[u32; 64], cost: u32) -> u64
-    ensures in_places { (place : ℕ) → place < 64 → bit_at result place ≡ 1 → slice_index costs.now place ≡ cost }
-    ensures not_in { (place : ℕ) → place < 64 → bit_at result place ≡ 0 → slice_index costs.now place ≢ cost }
-{
-    u32x64::from_array(*costs)
-        .simd_eq(u32x64::splat(cost))
-        .to_bitmask()
-}
-
-/// How far the first of some places is from `start` on, counted round 64.
-#[inline]
-fn first_from(places: u64, start: usize) -> u32
-    requires start { start < 64 }
-    requires some { 0 < places }
-    ensures within { result < 64 }
-    ensures is { bit_at places ((start + result) % 64) ≡ 1 }
-    ensures first { (n : ℕ) → n < result → bit_at places ((start + n) % 64) ≡ 0 }
-{
-    let later = places >> start;
-    if later != 0 {
-        later.trailing_zeros()
-    } else {
-        64 - start as u32 + places.trailing_zeros()
+    let mut lengths = [0; 128];
+    for index in 0..128 {
+        lengths[index] = (index % 64) as u16 + 1;
     }
+    lengths
 }
 
 /// Puts the lesser of each of 16 numbers and one in their places.
@@ -523,6 +500,27 @@ fn places_apart(least: &[u32], greatest: &[u32], limit: &[u32], from: usize) -> 
     let spread = u32x16::from_slice(&greatest[from..]) - u32x16::from_slice(&least[from..]);
     let apart = u32x16::from_slice(&limit[from..]).simd_le(spread);
     apart.to_bitmask() << from
+}
+
+/// Puts the widths of the runs at 16 places: the bits of the difference of the greatest and the least number of each,
+/// 16 at most.
+#[inline]
+fn widths_from(least: &[u32], greatest: &[u32], width: &mut [u16], from: usize)
+    requires least { from + 16 ≤ length least.now }
+    requires greatest { from + 16 ≤ length greatest.now }
+    requires width { from + 16 ≤ length width.old }
+    requires ordered { (place : ℕ) → from ≤ place → place < from + 16
+        → slice_index least.now place ≤ slice_index greatest.now place }
+    requires narrow { (place : ℕ) → from ≤ place → place < from + 16 → slice_index greatest.now place < 65536 }
+    ensures here { (place : ℕ) → from ≤ place → place < from + 16 → slice_index width.new place
+        ≡ digits (slice_index greatest.now place - slice_index least.now place) }
+    ensures others { (place : ℕ) → (place < from) ⊎ (from + 16 ≤ place)
+        → slice_index width.new place ≡ slice_index width.old place }
+{
+    let spread = u32x16::from_slice(&greatest[from..]) - u32x16::from_slice(&least[from..]);
+    let narrow = spread.cast::<u16>();
+    let bits = u16x16::splat(16) - narrow.leading_zeros();
+    bits.copy_to_slice(&mut width[from..]);
 }
 
 /// The places of zero.

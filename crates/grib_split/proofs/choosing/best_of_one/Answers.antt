@@ -1,7 +1,7 @@
 use Rattle.std.proofs.Common.{◌≡◌, ◌+◌, ◌≤◌, arith}
 use Rattle.grib_split.specs.Costs.{header_of}
 use Rattle.grib_split.specs.Runs.{after_of}
-use Rattle.grib_split.proofs.Steadily.{falls_to, falls_next, falls_here, soonest_on, cost_on}
+use Rattle.grib_split.proofs.Steadily.{near_falls, falls_to, falls_next, falls_here, soonest_on, cost_on}
 use Rattle.grib_split.proofs.choosing.best_of_one.Goals as goal
 use Rattle.grib_split.proofs.choosing.best_of_one.Goals.{After-soonest-least}
 
@@ -23,6 +23,9 @@ returns-then-next-lt64-clause-cost c =
     let q = c.requires in
     let p = c.put_after.ensures in
     cost_on (header_of c.args.costs.now) c.args.at c.args.next.cost c.args.next.length c.args.slots.now c.put_after.new.self p.after p.here q.falls q.cost q.soonest c.if-next-lt64.true
+
+pub put_after-requires-clause-near : goal.put_after-requires-clause-near
+put_after-requires-clause-near c = near_falls (header_of c.args.costs.now) c.args.at c.args.next.cost c.args.slots.now c.requires.falls c.requires.cost c.requires.header
 
 pub soonest-least-requires-clause-falls : goal.soonest-least-requires-clause-falls
 soonest-least-requires-clause-falls c =

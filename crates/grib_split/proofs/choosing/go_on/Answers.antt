@@ -1,4 +1,4 @@
-use Rattle.std.proofs.Common.{◌≡◌, ℕ, true, ◌+◌, ◌-◌, ◌%◌, ◌<◌, length, length-set, length-drop, drop, refl, ap, ◌∙◌, subst, arith}
+use Rattle.std.proofs.Common.{◌≡◌, ℕ, true, ◌+◌, ◌-◌, ◌<◌, length, length-set, length-drop, drop, refl, ap, ◌∙◌, subst, arith}
 use Rattle.grib_base.specs.declared.code.Code.{Code}
 use Rattle.grib_base.specs.declared.code.Code.TheVariants.{Present}
 use Rattle.grib_split.specs.Alike.{HeadsFrom, Known, code_at}
@@ -8,7 +8,6 @@ use Rattle.grib_split.proofs.Alike.{alike_more, code_same, holds_same}
 use Rattle.grib_split.proofs.Begin.{afters_put}
 use Rattle.grib_split.proofs.Bounds.{cost_bound}
 use Rattle.grib_split.proofs.Choices.{cost_of_best, head_of_best, heads_more}
-use Rattle.grib_split.proofs.Kept.{other_at}
 use Rattle.grib_split.proofs.Steadily.{best_alike, cost_alike}
 use Rattle.grib_split.proofs.choosing.go_on.Goals as goal
 
@@ -43,7 +42,7 @@ loop-at-preserved c =
     let within : at < length codes = omega (arith, i.place) in
     let alike = alike_more codes at (c.are_same.ensures.same (Present 0) c.if-are_same.true ∙ ap (code_at codes) next) known.alike in
     let afters = afters_put header k codes at c.loop-at.best.cost old new within b.here
-    (λ p other. other_at old.after new.after ((at + 1) % 64) p c.loop-at.best.cost other b.after) known.cost known.after in
+    b.after known.cost known.after in
     let best = best_alike header k codes at n new alike b.falls.next b.soonest.some b.soonest.most b.soonest.least b.soonest.first in
     let C : Code → Type 0 = λ code. Holds k new code in
     record {
@@ -53,6 +52,8 @@ loop-at-preserved c =
       known = record {
         alike = alike;
         after = afters;
+        low = b.low;
+        base = b.base;
         cost = cost_of_best costs codes at n cost new within afters best (cost_alike header k codes at n cost new alike b.soonest.some b.soonest.most b.soonest.least b.cost);
         some = b.soonest.some;
         most = b.soonest.most;

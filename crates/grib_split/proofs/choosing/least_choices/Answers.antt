@@ -2,7 +2,7 @@ use Rattle.std.proofs.Common.{◌≡◌, ℕ, ◌+◌, ◌-◌, ◌<◌, length,
 use Rattle.std.specs.Prelude.{slice_set}
 use Rattle.grib_split.specs.Alike.{HeadsFrom}
 use Rattle.grib_split.specs.Costs.{header_of}
-use Rattle.grib_split.proofs.Begin.{Blank, least_none, runs_none, afters_none}
+use Rattle.grib_split.proofs.Begin.{Blank, least_none, low_none, runs_none, afters_none}
 use Rattle.grib_split.proofs.Choices.{head_of_best, heads_more}
 use Rattle.grib_split.proofs.choosing.least_choices.Goals as goal
 use Rattle.grib_split.proofs.choosing.least_choices.Goals.{After-here_at-here}
@@ -20,8 +20,8 @@ loop-at-init c =
       greatest = s.greatest;
       limit = s.limit;
       width = s.width;
+      base = s.base;
       after = s.after;
-      cost = s.cost;
       primary = s.primary;
       secondary = s.secondary;
     } in
@@ -31,6 +31,8 @@ loop-at-init c =
       known = record {
         alike = record { most = omega arith; fits = omega (arith, all); same = λ i within. absurd (omega (arith, within)) };
         after = afters_none header k codes n c.none-slots.result (omega (arith, all)) blank;
+        low = low_none c.none-slots.result blank;
+        base = omega (arith, s.base);
         cost = least_none header k (drop n codes) (omega (arith, all, length-drop n codes));
         some = omega arith;
         most = omega arith;

@@ -1,9 +1,9 @@
-use Rattle.std.proofs.Common.{◌≡◌, ◌≢◌, ℕ, ◌-◌, ◌⊎◌, inl, inr, ap, ◌∙◌, subst, arith}
+use Rattle.std.proofs.Common.{◌≡◌, ◌≢◌, ℕ, ◌⊎◌, inl, inr, ap, ◌∙◌, subst, arith}
 use Rattle.std.specs.Int.{w64, trailing_zeros, bit_at}
 use Rattle.std.proofs.lemmas.Nat.Bits.{bit_at-trailing_zeros, bit_at-zero}
-use Rattle.grib_split.specs.Runs.{Priced, length_to}
+use Rattle.grib_split.specs.Runs.{WideAt}
 use Rattle.grib_split.proofs.Bits.{cleared_less, cleared_other}
-use Rattle.grib_split.proofs.Kept.{told_same, priced_other}
+use Rattle.grib_split.proofs.Kept.{told_same, wide_other}
 use Rattle.grib_split.proofs.slots.Slots.mend.Goals as goal
 
 same_or_not : (a b : ℕ) → (a ≡ b) ⊎ (a ≢ b)
@@ -23,17 +23,16 @@ loop-rest-preserved c =
       numbers = record { least = m.numbers.least ∙ i.numbers.least; greatest = m.numbers.greatest ∙ i.numbers.greatest };
       marks = record { primary = m.marks.primary ∙ i.marks.primary; secondary = m.marks.secondary ∙ i.marks.secondary };
       after = m.after ∙ i.after;
-      priced = λ run told right place within unset. elim (same_or_not at_place place) [
+      wide = λ run told right place within unset. elim (same_or_not at_place place) [
         | inl here ↦
-            let P : ℕ → Type 0 = λ p. Priced c.args.reserved c.mend_one.new.self p (length_to c.args.at p - 1) (run p) in
-            let Q : ℕ → Type 0 = λ l. Priced c.args.reserved c.mend_one.new.self at_place l (run at_place) in
-            subst P here (subst Q c.more_at.ensures.is (m.priced (run at_place) (told_same c.args.self.now c.loop-rest.self at_place (run at_place) i.numbers i.marks (told at_place t.0))))
+            let P : ℕ → Type 0 = λ p. WideAt c.args.reserved c.mend_one.new.self p (run p) in
+            subst P here (m.wide (run at_place) (told_same c.args.self.now c.loop-rest.self at_place (run at_place) i.numbers i.marks (told at_place t.0)))
         | inr other ↦
             let kept : bit_at rest place ≡ 0 = cleared_other rest place c.loop-rest.auto.rest-fits.fits c.loop-rest-test.true other unset in
-            priced_other c.args.reserved c.loop-rest.self c.mend_one.new.self at_place place (length_to c.args.at place - 1) (run place) other m.width m.limit m.cost m.after (i.priced run told right place within kept)
+            wide_other c.args.reserved c.loop-rest.self c.mend_one.new.self at_place place (run place) other m.width m.limit (i.wide run told right place within kept)
       ];
     }
 
-pub returns-clause-priced : goal.returns-clause-priced
-returns-clause-priced c run told right place within unset =
-    c.loop-rest.invariant.priced run told right place within (ap (λ n. bit_at n place) c.loop-rest-test.false ∙ bit_at-zero place)
+pub returns-clause-wide : goal.returns-clause-wide
+returns-clause-wide c run told right place within unset =
+    c.loop-rest.invariant.wide run told right place within (ap (λ n. bit_at n place) c.loop-rest-test.false ∙ bit_at-zero place)

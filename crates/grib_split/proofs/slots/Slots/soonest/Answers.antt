@@ -1,7 +1,6 @@
-use Rattle.std.proofs.Common.{◌≡◌, ℕ, ◌+◌, ◌%◌, sym, ap, ◌∙◌, arith}
-use Rattle.std.specs.Prelude.{slice_index}
+use Rattle.std.proofs.Common.{◌≡◌, ℕ, ◌+◌, ◌%◌, ap, arith}
 use Rattle.grib_split.specs.declared.slots.Slots.{Slots}
-use Rattle.grib_split.specs.Runs.{after_of}
+use Rattle.grib_split.specs.Runs.{after_of, cost_at}
 use Rattle.grib_split.proofs.Steadily.{falls_to}
 use Rattle.grib_split.proofs.slots.Slots.soonest.Goals as goal
 
@@ -9,8 +8,8 @@ use Rattle.grib_split.proofs.slots.Slots.soonest.Goals as goal
 round : (at : ℕ) → (at + 64) % 64 ≡ at % 64
 round at = omega arith
 
-last_after : (slots : Slots) (at : ℕ) → after_of slots at 64 ≡ slice_index slots.after (at % 64)
-last_after slots at = ap (λ p. slice_index slots.after p) (round at)
+last_after : (slots : Slots) (at : ℕ) → after_of slots at 64 ≡ cost_at slots.after (at % 64)
+last_after slots at = ap (λ p. cost_at slots.after p) (round at)
 
 pub returns-clause-soonest : goal.returns-clause-soonest
 returns-clause-soonest c =
@@ -20,7 +19,7 @@ returns-clause-soonest c =
     record {
       some = f.some;
       most = f.most;
-      least = f.here ∙ sym last;
+      least = omega (arith, f.here, last);
       first = λ l l_some less.
           let low = falls_to (after_of slots c.args.at) c.requires.falls l 64 l_some (omega (arith, less, f.most)) (omega arith) in
           omega (arith, low, last, f.first l l_some less);

@@ -1,6 +1,6 @@
 use Rattle.std.proofs.Common.{◌≡◌, ◌+◌, ◌-◌, ◌%◌, ◌<◌, sym, ap, ◌∙◌, arith}
 use Rattle.std.specs.Int.{bit_at}
-use Rattle.grib_split.proofs.slots.first_of.Goals as goal
+use Rattle.grib_split.proofs.behind.first_of.Goals as goal
 
 pub returns-clause-first : goal.returns-clause-first
 returns-clause-first c l some less =

@@ -1,5 +1,5 @@
 use Rattle.grib_split.proofs.Bits.{first_later, first_round}
-use Rattle.grib_split.proofs.slots.first_from.Goals as goal
+use Rattle.grib_split.proofs.behind.first_from.Goals as goal
 
 pub returns-then-later-ne0-clause-is : goal.returns-then-later-ne0-clause-is
 returns-then-later-ne0-clause-is c = (first_later c.args.places c.args.start c.requires.start c.ranges.places.fits c.if-later-ne0.true).is
