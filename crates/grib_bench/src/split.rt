@@ -22,10 +22,11 @@ pub fn measure(alloc: Global, arguments: &mut Args) -> Result<u64> {
     let kind = Kind::of(word.as_str()).context("no such kind of field")?;
     ensure!(1 <= count && count <= 33_554_432, "1 to 33,554,432 codes");
     let words = words_of(alloc, kind, count)?;
+    let reserved = kind.reserved();
     let mut choices = vec![in alloc; 0u8; words.len()]?;
     let mut sum = 0u64;
     for _pass in 0..passes {
-        sum = sum.wrapping_add(choice_sum(&words, &mut choices));
+        sum = sum.wrapping_add(choice_sum(&words, reserved, &mut choices));
     }
     Ok(sum)
 }
@@ -55,6 +56,16 @@ impl Kind {
             "missing" => Some(Kind::Missing),
             "still" => Some(Kind::Still),
             _ => None,
+        }
+    }
+
+    /// How many codes are reserved for its missing points.
+    fn reserved(self) -> u32
+        ensures { result ≤ 1 }
+    {
+        match self {
+            Kind::Missing => 1,
+            _ => 0,
         }
     }
 }
@@ -94,17 +105,18 @@ fn words_of(alloc: Global, kind: Kind, count: u32) -> Result<Vec<u32>, AllocErro
 }
 
 /// The sum of the choices, each times its place.
-fn choice_sum(words: &[u32], choices: &mut [u8]) -> u64
+fn choice_sum(words: &[u32], reserved: u32, choices: &mut [u8]) -> u64
+    requires few { reserved ≤ 1 }
     requires some { 1 ≤ length words.now }
     requires most { length words.now ≤ 33554432 }
     requires same { length choices.old ≡ length words.now }
 {
     let costs = Costs {
-        reserved: 1,
+        reserved,
         reference_bits: 15,
         width_bits: 4,
     };
-    least_choices(&Codes::of(words, costs.reserved), &costs, choices);
+    least_choices(&Codes::of(words, reserved), &costs, choices);
     let mut sum = 0u64;
     for place in 0..choices.len() {
         let more = u64::from(choices[place]).wrapping_mul(place as u64);
