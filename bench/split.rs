@@ -18,11 +18,15 @@ fn main() {
     let count: u32 = arguments[2].parse().unwrap();
     let passes: u32 = arguments[3].parse().unwrap();
     let codes = codes_of(&arguments[1], count);
-    let reserved = u64::from(arguments[1] == "missing");
+    let missing = arguments[1] == "missing";
     let mut choices = vec![0u8; codes.len()];
     let mut sum = 0u64;
     for _ in 0..passes {
-        least_choices(&codes, reserved, &mut choices);
+        if missing {
+            least_choices::<1>(&codes, &mut choices);
+        } else {
+            least_choices::<0>(&codes, &mut choices);
+        }
         for (place, choice) in choices.iter().enumerate() {
             sum = sum.wrapping_add(u64::from(*choice).wrapping_mul(place as u64));
         }
@@ -49,7 +53,7 @@ fn codes_of(kind: &str, count: u32) -> Vec<Code> {
 }
 
 #[inline(never)]
-fn least_choices(codes: &[Code], reserved: u64, choices: &mut [u8]) {
+fn least_choices<const RESERVED: u64>(codes: &[Code], choices: &mut [u8]) {
     let mut costs = [0u32; 64];
     for at in (0..codes.len()).rev() {
         let (mut least, mut greatest) = (u64::MAX, 0);
@@ -70,7 +74,7 @@ fn least_choices(codes: &[Code], reserved: u64, choices: &mut [u8]) {
             } else if least == greatest && !primary && !secondary {
                 0
             } else {
-                64 - (greatest - least + reserved).leading_zeros()
+                64 - (greatest - least + RESERVED).leading_zeros()
             };
             let cost = HEADER + length as u32 * width + costs[(at + length) % 64];
             if cost < best_cost {
