@@ -39,6 +39,18 @@ pub length-octets_of : (k n : ℕ) → length (octets_of k n) ≡ k
 length-octets_of zero n = refl
 length-octets_of (suc k) n = ap suc (length-octets_of k n)
 
+drop-octets_of : (k size n : ℕ) → drop k (octets_of (k + size) n) ≡ octets_of size n
+drop-octets_of zero size n = let e : 0 + size ≡ size = omega arith in ap (λ (j : ℕ). octets_of j n) e
+drop-octets_of (suc k) size n =
+    let e : suc k + size ≡ suc (k + size) = omega arith in
+    ap (λ (j : ℕ). drop (suc k) (octets_of j n)) e ∙ drop-octets_of k size n
+
+-- the last of the eight octets of a number, as the slice `&octets[8 - size..]`
+pub last_octets : (size n : ℕ) → size ≤ 8 → take (8 - (8 - size)) (drop (8 - size) (octets_of 8 n)) ≡ octets_of size n
+last_octets size n few =
+    let e : 8 ≡ 8 - size + size = omega arith in
+    take_rest (octets_of 8 n) (8 - size) ∙ ap (λ (j : ℕ). drop (8 - size) (octets_of j n)) e ∙ drop-octets_of (8 - size) size n
+
 -- the last octet of a number is below 256, and so is each other
 byte_at-lt : (k n : ℕ) → byte_at k n < 256
 byte_at-lt zero n = mod_below n 256 (omega arith)

@@ -8,3 +8,4 @@ pub mod WordNumbers
 pub mod Encoding
 pub mod Counted
 pub mod Listed
+pub mod AllOctets

@@ -1,7 +1,7 @@
 -- Bits, numbers and signs (WMO-No. 306, Volume I.2, FM 92 GRIB: octets and bits are numbered from the
 -- left, bit 1 of an octet is its most significant; regulation 92.1.5: a negative number has its first
 -- bit set).
-use Rattle.std.specs.Prelude.{ℕ, zero, suc, ◌+◌, ◌*◌, ◌/◌, ◌%◌, ◌^◌, Bool, true, false, List, [], ◌∷◌, ◌++◌, length, ℤ, pos, neg_ℤ, ◌==◌}
+use Rattle.std.specs.Prelude.{ℕ, zero, suc, ◌+◌, ◌-◌, ◌*◌, ◌/◌, ◌%◌, ◌^◌, Bool, true, false, List, [], ◌∷◌, ◌++◌, length, ℤ, pos, neg_ℤ, ◌==◌}
 
 -- the last `width` binary digits of a number, the most significant first
 abbrev pub bits_of : ℕ → ℕ → List Bool
@@ -12,6 +12,10 @@ bits_of (suc width) n = (n / 2 ^ width % 2 == 1) ∷ bits_of width n
 abbrev pub bits : List ℕ → List Bool
 bits [] = []
 bits (octet ∷ octets) = bits_of 8 octet ++ bits octets
+
+-- bit n of an octet, bit 1 being the most significant
+abbrev pub bit : ℕ → ℕ → Bool
+bit n octet = octet / 2 ^ (8 - n) % 2 == 1
 
 -- what a bit counts
 abbrev pub digit : Bool → ℕ

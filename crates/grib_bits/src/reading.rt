@@ -1,6 +1,7 @@
 //! Numbers at octets of a section as the manual counts them, from 1.
 
 ghost use Rattle.std.specs.Prelude.{◌≡◌, ◌+◌, ◌-◌, ◌≤◌, length};
+ghost use Rattle.grib_bits.specs.Bits.{bit};
 ghost use Rattle.grib_bits.specs.Octets.{octets as octets_of};
 
 use byteorder::{BigEndian, ByteOrder};
@@ -45,4 +46,14 @@ pub fn uint_at(octets: &[u8], first: usize, size: usize) -> u32
     ensures { result ≡ octets_of octets.now first (first + size - 1) }
 {
     BigEndian::read_uint(&octets[first - 1..], size) as u32
+}
+
+/// Bit `number` of an octet, bit 1 being the most significant.
+#[inline]
+pub fn has_bit(octet: u8, number: u32) -> bool
+    requires low { 1 ≤ number }
+    requires high { number ≤ 8 }
+    ensures { result ≡ bit number octet }
+{
+    octet >> (8 - number) & 1 == 1
 }
