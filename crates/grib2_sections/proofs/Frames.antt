@@ -1,15 +1,13 @@
 -- Lemmas on the section that stands at an octet of a message.
-use Rattle.std.proofs.Common.{◌≡◌, ℕ, ◌+◌, ◌-◌, ◌<◌, ◌≤◌, Bool, true, false, cond, ◌||◌, Some, None, List, length, take, drop, get_or, nat_lt, refl, sym, ap, ◌∙◌, add-zero, arith, le-ltb, take-take, drop-drop, subst, lt-ltb, length-take}
-use Rattle.std.proofs.lemmas.Bool.{or_from, not_from_true, not_from_false}
+use Rattle.std.proofs.Common.{◌≡◌, ℕ, ◌+◌, ◌-◌, ◌<◌, ◌≤◌, Bool, true, false, cond, ◌||◌, not, Option, Some, None, List, length, take, drop, get_or, nat_lt, refl, sym, ap, ◌∙◌, add-zero, arith, le-ltb, take-take, drop-drop, lt-ltb}
 use Rattle.std.proofs.lemmas.List.{drop-take, length-drop, length-take-le, get_or-drop}
 use Rattle.grib_base.specs.declared.fault.Fault.{Fault}
-use Rattle.grib_base.specs.declared.fault.Reason.TheVariants.{SectionOrder, Truncated}
-use Rattle.grib_base.specs.Rows.{first_fault, refusal}
+use Rattle.grib_base.specs.declared.fault.Reason.TheVariants.{SectionLength, SectionOrder, Truncated}
+use Rattle.grib_base.specs.Rows.{refusal, choose}
 use Rattle.grib_bits.specs.Octets.{num_on, octets, StatesItself}
 use Rattle.grib_bits.proofs.OctetBits.{AreOctets}
-use Rattle.grib_bits.proofs.OctetNumbers.{big_number-octets, big_number-rest}
-use Rattle.byteorder.specs.Endian.{big_number}
-use Rattle.grib2_sections.specs.Frame.{Position, frame_rows, may_follow, section_at}
+use Rattle.grib_bits.proofs.OctetNumbers.{big_number-octets}
+use Rattle.grib2_sections.specs.Frame.{Position, mark_fault, frame_fault, end_fault, opening_fault, may_follow, section_at, Step, End, Fails, Next, unless_fails, ends_at, step_from}
 
 -- the number of one octet
 pub octet_alone : (m : List ℕ) (first : ℕ) → AreOctets m → 1 ≤ first → first ≤ length m → get_or m (first - 1) 0 ≡ octets m first first
@@ -21,49 +19,89 @@ octet_alone m first known counted within =
 
 -- ---- the rows of a frame
 
-third_of_four : (a b c d : Bool) (fa fb fc fd : Fault) → a ≡ false → b ≡ false → c ≡ true
-    → cond a (Some fa) (cond b (Some fb) (cond c (Some fc) (cond d (Some fd) None))) ≡ Some fc
-third_of_four a b c d fa fb fc fd ea eb ec = rw (ea, eb, ec) refl
+-- what comes after rows that do not refuse, and what they refuse
+after_two : (a b : Bool) (fa fb : Fault) (later : Option Fault) → cond a (Some fa) (cond b (Some fb) None) ≡ None
+    → cond a (Some fa) (cond b (Some fb) later) ≡ later
+after_two true b fa fb later e = cc
+after_two false true fa fb later e = cc
+after_two false false fa fb later e = refl
 
-fourth_of_four : (a b c d : Bool) (fa fb fc fd : Fault) → a ≡ false → b ≡ false → c ≡ false → d ≡ true
-    → cond a (Some fa) (cond b (Some fb) (cond c (Some fc) (cond d (Some fd) None))) ≡ Some fd
-fourth_of_four a b c d fa fb fc fd ea eb ec ed = rw (ea, eb, ec, ed) refl
+of_two : (a b : Bool) (fa fb fault : Fault) (later : Option Fault) → cond a (Some fa) (cond b (Some fb) None) ≡ Some fault
+    → cond a (Some fa) (cond b (Some fb) later) ≡ Some fault
+of_two true b fa fb fault later e = e
+of_two false true fa fb fault later e = e
+of_two false false fa fb fault later e = cc
 
-none_of_four : (a b c d : Bool) (fa fb fc fd : Fault) → a ≡ false → b ≡ false → c ≡ false → d ≡ false
-    → cond a (Some fa) (cond b (Some fb) (cond c (Some fc) (cond d (Some fd) None))) ≡ None
-none_of_four a b c d fa fb fc fd ea eb ec ed = rw (ea, eb, ec, ed) refl
+module _ (m : List ℕ) (at : Position) where
+  -- the refusal where these octets are all that there is
+  abbrev pub cut_off : Fault
+  cut_off = refusal (length m + 1) Truncated (length m)
 
--- the lengths that the rows F5 and F6 ask for
-pub record HasRoom (m : List ℕ) (total q : ℕ) : Type 0 where
-  pub there : q + 4 ≤ length m
-  pub least : 5 ≤ octets m q (q + 3)
-  pub within : q - 1 + octets m q (q + 3) + 4 ≤ total
+  abbrev mark : ℕ
+  mark = octets m at.place (at.place + 3)
 
-room_5 : (m : List ℕ) (total q : ℕ) → HasRoom m total q → nat_lt (length m) (q + 4) ≡ false
-room_5 m total q h = le-ltb (length m) (q + 4) h.there
+  pub mark_cut : length m < at.place + 3 → mark_fault m at ≡ Some cut_off
+  mark_cut short = ap (λ (b : Bool). cond b (Some cut_off) (end_fault at mark)) (lt-ltb (length m) (at.place + 3) short)
 
-room_6 : (m : List ℕ) (total q : ℕ) → HasRoom m total q
-    → (nat_lt (octets m q (q + 3)) 5 || nat_lt total (q - 1 + octets m q (q + 3) + 4)) ≡ false
-room_6 m total q h =
-    or_from (nat_lt (octets m q (q + 3)) 5) (nat_lt total (q - 1 + octets m q (q + 3) + 4))
-    (le-ltb (octets m q (q + 3)) 5 h.least) (le-ltb total (q - 1 + octets m q (q + 3) + 4) h.within)
+  pub mark_there : at.place + 3 ≤ length m → mark_fault m at ≡ end_fault at mark
+  mark_there there = ap (λ (b : Bool). cond b (Some cut_off) (end_fault at mark)) (le-ltb (length m) (at.place + 3) there)
 
-pub fails_7 : (m : List ℕ) (total last q : ℕ) → HasRoom m total q → may_follow last (octets m (q + 4) (q + 4)) ≡ false
-    → first_fault (frame_rows m total last q) ≡ Some (refusal (q + 4) SectionOrder (octets m (q + 4) (q + 4)))
-fails_7 m total last q h off =
-    third_of_four _ _ _ _ _ _ _ _ (room_5 m total q h) (room_6 m total q h) (not_from_false (may_follow last (octets m (q + 4) (q + 4))) off)
+  abbrev number : ℕ
+  number = octets m (at.place + 4) (at.place + 4)
 
-pub fails_8 : (m : List ℕ) (total last q : ℕ) → HasRoom m total q → may_follow last (octets m (q + 4) (q + 4)) ≡ true
-    → nat_lt (length m) (q - 1 + octets m q (q + 3)) ≡ true
-    → first_fault (frame_rows m total last q) ≡ Some (refusal (length m + 1) Truncated (length m))
-fails_8 m total last q h on cut =
-    fourth_of_four _ _ _ _ _ _ _ _ (room_5 m total q h) (room_6 m total q h) (not_from_true (may_follow last (octets m (q + 4) (q + 4))) on) cut
+  -- the frame, by the tests of its rows
+  abbrev unsized : Bool
+  unsized = nat_lt mark 5 || nat_lt at.total (at.place - 1 + mark + 4)
 
-pub frame_passes : (m : List ℕ) (total last q : ℕ) → HasRoom m total q → may_follow last (octets m (q + 4) (q + 4)) ≡ true
-    → q - 1 + octets m q (q + 3) ≤ length m → first_fault (frame_rows m total last q) ≡ None
-frame_passes m total last q h on whole =
-    none_of_four _ _ _ _ _ _ _ _ (room_5 m total q h) (room_6 m total q h) (not_from_true (may_follow last (octets m (q + 4) (q + 4))) on)
-    (le-ltb (length m) (q - 1 + octets m q (q + 3)) whole)
+  abbrev misplaced : Bool
+  misplaced = not (may_follow at.last number)
+
+  abbrev by_rows : Bool → Bool → Option Fault
+  by_rows cut short =
+      cond cut (Some cut_off)
+      (cond unsized (Some (refusal at.place SectionLength mark))
+      (cond misplaced (Some (refusal (at.place + 4) SectionOrder number)) (cond short (Some cut_off) None)))
+
+  pub frame_cut : length m < at.place + 4 → frame_fault m at ≡ Some cut_off
+  frame_cut short = ap (λ (b : Bool). by_rows b (nat_lt (length m) (at.place - 1 + mark))) (lt-ltb (length m) (at.place + 4) short)
+
+  module _ (there : at.place + 4 ≤ length m) where
+    frame_there : (short : Bool) → nat_lt (length m) (at.place - 1 + mark) ≡ short → frame_fault m at ≡ by_rows false short
+    frame_there short is = λ i. by_rows (le-ltb (length m) (at.place + 4) there i) (is i)
+
+    goes_on : (later : Option Fault) → opening_fault at mark number ≡ None
+        → cond unsized (Some (refusal at.place SectionLength mark)) (cond misplaced (Some (refusal (at.place + 4) SectionOrder number)) later) ≡ later
+    goes_on later e = after_two unsized misplaced (refusal at.place SectionLength mark) (refusal (at.place + 4) SectionOrder number) later e
+
+    pub frame_refused : (fault : Fault) → opening_fault at mark number ≡ Some fault → frame_fault m at ≡ Some fault
+    frame_refused fault e =
+        frame_there (nat_lt (length m) (at.place - 1 + mark)) refl
+        ∙ of_two unsized misplaced (refusal at.place SectionLength mark) (refusal (at.place + 4) SectionOrder number) fault _ e
+
+    pub frame_short : opening_fault at mark number ≡ None → length m < at.place - 1 + mark → frame_fault m at ≡ Some cut_off
+    frame_short e short = frame_there true (lt-ltb (length m) (at.place - 1 + mark) short) ∙ goes_on (Some cut_off) e
+
+    pub frame_passes : opening_fault at mark number ≡ None → at.place - 1 + mark ≤ length m → frame_fault m at ≡ None
+    frame_passes e whole = frame_there false (le-ltb (length m) (at.place - 1 + mark) whole) ∙ goes_on None e
+
+  -- ---- the step
+
+  abbrev by_faults : Option Fault → Bool → Option Fault → Step
+  by_faults first ends second = unless_fails first (λ _. choose ends (λ _. End) (λ _. unless_fails second (λ _. Next (section_at m at.place))))
+
+  pub step_refused : (fault : Fault) → mark_fault m at ≡ Some fault → step_from m at ≡ Fails fault
+  step_refused fault e = ap (λ (o : Option Fault). by_faults o (ends_at m at.place) (frame_fault m at)) e
+
+  module _ (passes : mark_fault m at ≡ None) where
+    pub step_ends : ends_at m at.place ≡ true → step_from m at ≡ End
+    step_ends on = λ i. by_faults (passes i) (on i) (frame_fault m at)
+
+    module _ (off : ends_at m at.place ≡ false) where
+      pub step_frame : (fault : Fault) → frame_fault m at ≡ Some fault → step_from m at ≡ Fails fault
+      step_frame fault e = λ i. by_faults (passes i) (off i) (e i)
+
+      pub step_next : frame_fault m at ≡ None → step_from m at ≡ Next (section_at m at.place)
+      step_next e = λ i. by_faults (passes i) (off i) (e i)
 
 -- ---- the section
 
@@ -94,65 +132,3 @@ states_itself m q l number low is_length is_number least whole =
           ∙ ap (λ k. num_on 0 (take k (drop ((q + 4) - 1) m))) (sym one)
           ∙ is_number;
     }
-
--- ---- the same as the code reads it
-
--- the length and the number that were read at octet q, where the rows F5 and F6 pass
-pub record Reads (m : List ℕ) (total q l number : ℕ) : Type 0 where
-  pub room : HasRoom m total q
-  pub is_length : octets m q (q + 3) ≡ l
-  pub is_number : octets m (q + 4) (q + 4) ≡ number
-
-pub reads : (m : List ℕ) (total q l word : ℕ) → AreOctets m → 1 ≤ q → q + 4 ≤ length m
-    → word ≡ big_number 4 (take (length m - (q - 1)) (drop (q - 1) m)) → l ≡ word → 5 ≤ l → q - 1 + l + 4 ≤ total
-    → Reads m total q l (get_or m (q - 1 + 4) 0)
-reads m total q l word known low there is_word is_l least within =
-    let is_length : octets m q (q + 3) ≡ l =
-    sym (big_number-rest m q (q + 3) 4 known low (omega arith) (omega arith)) ∙ sym is_word ∙ sym is_l in
-    let place : q + 4 - 1 ≡ q - 1 + 4 = omega arith in
-    record {
-      room = record { there = there; least = omega arith; within = omega arith };
-      is_length = is_length;
-      is_number = sym (octet_alone m (q + 4) known (omega arith) there) ∙ ap (λ (i : ℕ). get_or m i 0) place;
-    }
-
-module _ (m : List ℕ) (total last q l number : ℕ) (at : Position) (is_at : record { total = total; place = q; last = last } ≡ at) (low : 1 ≤ q) (r : Reads m total q l number) where
-  pub read_fails_7 : (fault : Fault) → fault ≡ refusal (q + 4) SectionOrder number → may_follow last number ≡ false
-      → first_fault (frame_rows m at.total at.last at.place) ≡ Some fault
-  read_fails_7 fault is_fault off =
-      let read : may_follow last (octets m (q + 4) (q + 4)) ≡ false = ap (may_follow last) r.is_number ∙ off in
-      subst (λ (p : Position). first_fault (frame_rows m p.total p.last p.place) ≡ Some fault) is_at
-      (fails_7 m total last q r.room read ∙ ap (λ (n : ℕ). Some (refusal (q + 4) SectionOrder n)) r.is_number ∙ ap Some (sym is_fault))
-
-  pub read_fails_8 : (fault : Fault) → fault ≡ refusal (length m + 1) Truncated (length m) → may_follow last number ≡ true
-      → length m < q - 1 + l → first_fault (frame_rows m at.total at.last at.place) ≡ Some fault
-  read_fails_8 fault is_fault on cut =
-      let read : may_follow last (octets m (q + 4) (q + 4)) ≡ true = ap (may_follow last) r.is_number ∙ on in
-      let short : nat_lt (length m) (q - 1 + octets m q (q + 3)) ≡ true = lt-ltb (length m) (q - 1 + octets m q (q + 3)) (omega (arith, r.is_length)) in
-      subst (λ (p : Position). first_fault (frame_rows m p.total p.last p.place) ≡ Some fault) is_at
-      (fails_8 m total last q r.room read short ∙ ap Some (sym is_fault))
-
-  pub read_passes : may_follow last number ≡ true → q - 1 + l ≤ length m → first_fault (frame_rows m at.total at.last at.place) ≡ None
-  read_passes on whole =
-      let read : may_follow last (octets m (q + 4) (q + 4)) ≡ true = ap (may_follow last) r.is_number ∙ on in
-      subst (λ (p : Position). first_fault (frame_rows m p.total p.last p.place) ≡ None) is_at
-      (frame_passes m total last q r.room read (omega (arith, r.is_length)))
-
-  -- the slice of the code, which ends at its second number
-  pub read_section : (end : ℕ) → end ≡ q - 1 + l → take (end - (q - 1)) (drop (q - 1) m) ≡ section_at m at.place
-  read_section end is_end =
-      let long : end - (q - 1) ≡ l = omega arith in
-      subst (λ (p : Position). take (end - (q - 1)) (drop (q - 1) m) ≡ section_at m p.place) is_at
-      (ap (λ (k : ℕ). take k (drop (q - 1) m)) long ∙ section_is m q l low r.is_length)
-
-  pub read_states : (end : ℕ) → end ≡ q - 1 + l → q - 1 + l ≤ length m → StatesItself number (take (end - (q - 1)) (drop (q - 1) m))
-  read_states end is_end whole =
-      let long : l ≡ end - (q - 1) = omega arith in
-      subst (λ (k : ℕ). StatesItself number (take k (drop (q - 1) m))) long
-      (states_itself m q l number low r.is_length r.is_number (omega (arith, r.is_length, r.room.least)) whole)
-
-  pub read_room : (end : ℕ) → end ≡ q - 1 + l → q - 1 + l ≤ length m → at.place + length (take (end - (q - 1)) (drop (q - 1) m)) + 3 ≤ at.total
-  read_room end is_end whole =
-      let short : length (take (end - (q - 1)) (drop (q - 1) m)) ≤ end - (q - 1) = omega (arith, length-take (end - (q - 1)) (drop (q - 1) m)) in
-      subst (λ (p : Position). p.place + length (take (end - (q - 1)) (drop (q - 1) m)) + 3 ≤ p.total) is_at
-      (omega (arith, r.is_length, r.room.within))

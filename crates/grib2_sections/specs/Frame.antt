@@ -29,29 +29,39 @@ may_end last = last == 7
 abbrev pub ends_at : List ℕ → ℕ → Bool
 ends_at message q = octets message q (q + 3) == 926365495
 
--- rows F1 to F4, at octet q of a message with this total length, where the section before has the
--- number `last`
+-- Rows F2 to F4, where these four octets stand at octet q of a message with this total length, and the section
+-- before has the number `last`.
+abbrev pub end_rows : ℕ → ℕ → ℕ → ℕ → List Row
+end_rows total last q mark =
+    let ends = mark == 926365495 in
+    row (ends && not (may_end last)) q SectionOrder 8  -- F2
+    ∷ row (ends && nat_lt (q + 3) total) (q + 4) LengthDisagrees (total - (q + 3))  -- F3
+    ∷ row (not ends && (q + 3 == total)) q EndMark mark  -- F4
+    ∷ []
+
+-- rows F1 to F4 of a message
 abbrev pub mark_rows : List ℕ → ℕ → ℕ → ℕ → List Row
 mark_rows message total last q =
     let k = length message in
-    let ends = ends_at message q in
     row (nat_lt k (q + 3)) (k + 1) Truncated k  -- F1
-    ∷ row (ends && not (may_end last)) q SectionOrder 8  -- F2
-    ∷ row (ends && nat_lt (q + 3) total) (q + 4) LengthDisagrees (total - (q + 3))  -- F3
-    ∷ row (not ends && (q + 3 == total)) q EndMark (octets message q (q + 3))  -- F4
-    ∷ []
+    ∷ end_rows total last q (octets message q (q + 3))
+
+-- rows F6 and F7, for a section of l octets with this number, and then others
+abbrev pub opening_rows : ℕ → ℕ → ℕ → ℕ → ℕ → List Row → List Row
+opening_rows total last q l number others =
+    row (nat_lt l 5 || nat_lt total (q - 1 + l + 4)) q SectionLength l  -- F6
+    ∷ row (not (may_follow last number)) (q + 4) SectionOrder number  -- F7
+    ∷ others
 
 -- rows F5 to F8, where no end mark stands
 abbrev pub frame_rows : List ℕ → ℕ → ℕ → ℕ → List Row
 frame_rows message total last q =
     let k = length message in
     let l = octets message q (q + 3) in
-    let number = octets message (q + 4) (q + 4) in
     row (nat_lt k (q + 4)) (k + 1) Truncated k  -- F5
-    ∷ row (nat_lt l 5 || nat_lt total (q - 1 + l + 4)) q SectionLength l  -- F6
-    ∷ row (not (may_follow last number)) (q + 4) SectionOrder number  -- F7
-    ∷ row (nat_lt k (q - 1 + l)) (k + 1) Truncated k  -- F8
-    ∷ []
+    ∷ opening_rows total last q l (octets message (q + 4) (q + 4)) (
+    row (nat_lt k (q - 1 + l)) (k + 1) Truncated k  -- F8
+    ∷ [])
 
 -- the octets of the section at octet q
 abbrev pub section_at : List ℕ → ℕ → List ℕ
@@ -94,6 +104,13 @@ mark_fault message at = first_fault (mark_rows message at.total at.last at.place
 
 abbrev pub frame_fault : List ℕ → Position → Option Fault
 frame_fault message at = first_fault (frame_rows message at.total at.last at.place)
+
+-- what the rows refuse that ask for no octet beyond these four, or beyond this length and this number
+abbrev pub end_fault : Position → ℕ → Option Fault
+end_fault at mark = first_fault (end_rows at.total at.last at.place mark)
+
+abbrev pub opening_fault : Position → ℕ → ℕ → Option Fault
+opening_fault at l number = first_fault (opening_rows at.total at.last at.place l number [])
 
 abbrev pub step_from : List ℕ → Position → Step
 step_from message at = step message at.total at.last at.place

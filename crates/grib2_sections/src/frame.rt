@@ -1,12 +1,12 @@
 //! The sections of a message, one after another.
 
-ghost use Rattle.std.specs.Prelude.{◌≡◌, ◌+◌, ◌≤◌, false, length, IsTrue, Some, None, MatchResult, MatchOption};
+ghost use Rattle.std.specs.Prelude.{◌≡◌, ◌+◌, ◌≤◌, ◌==◌, length, IsTrue, Some, None, MatchResult, MatchOption};
 ghost use Rattle.grib_bits.specs.Octets.{StatesItself};
-ghost use Rattle.grib2_sections.specs.Frame.{End, Fails, Next, step_from, position_after, mark_fault, frame_fault, ends_at, section_at, may_follow as is_successor};
+ghost use Rattle.grib2_sections.specs.Frame.{End, Fails, Next, step_from, position_after, mark_fault, frame_fault, end_fault, opening_fault, ends_at, section_at, may_follow as is_successor};
 
 use crate::refusing::truncated;
-use byteorder::{BigEndian, ByteOrder};
 use grib_base::{Fault, Reason, Section};
+use grib_bits::{u8_at, u32_at};
 use std::marker::Model;
 
 /// The walk over the sections of a message of edition 2 after Section 0 (WMO-No. 306, Volume I.2,
@@ -49,6 +49,20 @@ impl Frame {
         }
     }
 
+    /// The octet at which the next section or the end mark begins.
+    pub fn place(&self) -> u64
+        ensures { result ≡ self.now.place }
+    {
+        self.place
+    }
+
+    /// The total length of the message.
+    pub fn total(&self) -> u64
+        ensures { result ≡ self.now.total }
+    {
+        self.total
+    }
+
     /// The next section of the message that begins with these octets, which may go on past its end,
     /// or nothing at the end mark. A refusal is that of the first row of the profile that fails: the
     /// octets end too early, a section may not stand there, or a length disagrees with the total. It
@@ -66,24 +80,28 @@ impl Frame {
             return Ok(None);
         }
         let section = self.section(octets)?;
-        self.place += section.octets.len() as u64;
-        self.last = section.number;
+        self.go_past(section.octets.len() as u64, section.number);
         Ok(Some(section))
     }
 
-    /// Whether the end mark stands here, and may.
-    fn is_at_end(&self, octets: &[u8]) -> Result<bool, Fault>
-        ensures { MatchResult result
-            (λ ends. (mark_fault octets.now self.now ≡ None)
-            × (ends ≡ ends_at octets.now self.now.place))
-            (λ fault. mark_fault octets.now self.now ≡ Some fault) }
+    /// Goes past a section of this length, with this number, that stands here.
+    pub fn go_past(&mut self, length: u64, number: u8)
+        requires room { self.old.place + length + 3 ≤ self.old.total }
+        requires number { number ≤ 7 }
+        ensures { self.new ≡ record { total = self.old.total; place = self.old.place + length; last = number } }
     {
-        let present = octets.len() as u64;
+        self.place += length;
+        self.last = number;
+    }
+
+    /// Whether these four octets, which stand here, are the end mark. A refusal is that of the first row
+    /// that fails: an end mark may not stand here, or another has to.
+    pub fn ends(&self, mark: u32) -> Result<bool, Fault>
+        ensures { MatchResult result
+            (λ ends. (end_fault self.now mark ≡ None) × (ends ≡ (mark == 926365495)))
+            (λ fault. end_fault self.now mark ≡ Some fault) }
+    {
         let last_octet = self.place + 3;
-        if present < last_octet {
-            return Err(truncated(present));
-        }
-        let mark = BigEndian::read_u32(&octets[self.place as usize - 1..]);
         if mark == END_MARK && self.last != 7 {
             return Err(Fault::at(self.place, Reason::SectionOrder, 8));
         }
@@ -95,6 +113,38 @@ impl Frame {
             return Err(Fault::at(self.place, Reason::EndMark, u64::from(mark)));
         }
         Ok(mark == END_MARK)
+    }
+
+    /// Tries whether a section of this length, with this number, may stand here. A refusal is that of
+    /// the first row that fails.
+    pub fn opens(&self, length: u32, number: u8) -> Result<(), Fault>
+        ensures { MatchResult result
+            (λ _. (opening_fault self.now length number ≡ None) × (5 ≤ length) × (number ≤ 7)
+            × IsTrue (is_successor self.now.last number) × (self.now.place + length + 3 ≤ self.now.total))
+            (λ fault. opening_fault self.now length number ≡ Some fault) }
+    {
+        let octets = u64::from(length);
+        if octets < 5 || self.total < self.place - 1 + octets + 4 {
+            return Err(Fault::at(self.place, Reason::SectionLength, octets));
+        }
+        if !may_follow(self.last, number) {
+            return Err(Fault::at(self.place + 4, Reason::SectionOrder, u64::from(number)));
+        }
+        Ok(())
+    }
+
+    /// Whether the end mark stands here, and may.
+    fn is_at_end(&self, octets: &[u8]) -> Result<bool, Fault>
+        ensures { MatchResult result
+            (λ ends. (mark_fault octets.now self.now ≡ None)
+            × (ends ≡ ends_at octets.now self.now.place))
+            (λ fault. mark_fault octets.now self.now ≡ Some fault) }
+    {
+        let present = octets.len() as u64;
+        if present < self.place + 3 {
+            return Err(truncated(present));
+        }
+        self.ends(u32_at(octets, self.place as usize))
     }
 
     /// The section that stands here, and may.
@@ -111,22 +161,18 @@ impl Frame {
         if present < self.place + 4 {
             return Err(truncated(present));
         }
-        let before = self.place - 1;
-        let length = u64::from(BigEndian::read_u32(&octets[before as usize..]));
-        let number = octets[before as usize + 4];
-        if length < 5 || self.total < before + length + 4 {
-            return Err(Fault::at(self.place, Reason::SectionLength, length));
-        }
-        if !may_follow(self.last, number) {
-            return Err(Fault::at(self.place + 4, Reason::SectionOrder, u64::from(number)));
-        }
-        if present < before + length {
+        let first = self.place as usize;
+        let length = u32_at(octets, first);
+        let number = u8_at(octets, first + 4);
+        self.opens(length, number)?;
+        let end = first - 1 + length as usize;
+        if octets.len() < end {
             return Err(truncated(present));
         }
         Ok(Section {
             number,
             start: self.place,
-            octets: &octets[before as usize..(before + length) as usize],
+            octets: &octets[first - 1..end],
         })
     }
 }
