@@ -1,4 +1,5 @@
 pub mod Lists
+pub mod Numbers
 pub mod Passing
 pub mod Readable
 pub mod Rebuilt

@@ -12,35 +12,21 @@ use Rattle.grib_base.specs.Rows.{first_fault, first_fault_at}
 use Rattle.grib_base.proofs.Passing.{passes_from_none, none-located}
 use Rattle.grib2_sections.specs.Template.{least_length}
 use Rattle.grib2_grids.specs.Grid.{grid_rows, grid_templates, grid_template, grid_points, list_octets, list_meaning, list_start, ni, nj, row_list, may_have_list}
-use Rattle.grib2_grids.specs.Whole.{HasList}
+use Rattle.grib2_grids.specs.Whole.{HasNumbers}
 use Rattle.grib2_grids.specs.Spelled.{IsSectionOf, Spelled, common_of, written_length}
 use Rattle.grib2_grids.specs.Writable.{ListsRows, ListsNone, IsWritable}
 use Rattle.grib2_grids.specs.declared.grid.GridSection.{GridSection}
 use Rattle.grib2_grids.proofs.Lists.{row_list-whole, row_list-none, list_start-some}
-use Rattle.grib2_grids.proofs.Passing.{listed_test, plain_test, points_test, meaning_test, octets_test, count_test, same_test}
+use Rattle.grib2_grids.proofs.Numbers.{has_numbers}
+use Rattle.grib2_grids.proofs.Passing.{listed_test, plain_test, points_test, meaning_test, count_test, same_test}
 use Rattle.grib2_grids.proofs.ByTemplate.{common_spelled, list_start-least}
 
 module _ (value : GridSection) (s : List ℕ) (is : IsSectionOf value s) where
   known : AreOctets s
   known = AreOctets-from_All s is.small
 
-  has_list : HasList s
-  has_list =
-      let rows = passes_from_none (grid_rows s) is.rows in
-      record {
-        word = (octets_test (list_octets s) (may_have_list (grid_template s)) rows.1.1.1.1.1.1.0).0;
-        long = λ some. ltb-false (length s) _ (listed_test (list_octets s) _ rows.1.1.1.1.1.1.1.1.0 some);
-      }
-
-  least : least_length grid_templates (grid_template s) ≤ length s
-  least =
-      let rows = passes_from_none (grid_rows s) is.rows in
-      ltb-false (length s) _ rows.1.1.1.0
-
-  with_list : 0 < list_octets s → may_have_list (grid_template s) ≡ true
-  with_list some =
-      let rows = passes_from_none (grid_rows s) is.rows in
-      (octets_test (list_octets s) (may_have_list (grid_template s)) rows.1.1.1.1.1.1.0).1 some
+  has : HasNumbers s
+  has = has_numbers s is.rows
 
   nj_is : (common_of value.grid).nj ≡ nj s
   nj_is = (common_spelled value.grid s is.spelled.grid).nj
@@ -52,7 +38,7 @@ module _ (value : GridSection) (s : List ℕ) (is : IsSectionOf value s) where
   -- with a list there are Nj rows
   whole_list : 0 < list_octets s → value.rows ≡ numbers_at s (list_start s) (list_octets s) (nj s)
   whole_list some =
-      is.spelled.rows ∙ sym (row_list-whole s (list_start s) (list_octets s) (nj s) (has_list value s is) refl refl refl some)
+      is.spelled.rows ∙ sym (row_list-whole s (list_start s) (list_octets s) (nj s) (has value s is).list refl refl refl some)
 
   row_count : 0 < list_octets s → length value.rows ≡ nj s
   row_count some = ap length (whole_list some) ∙ length-numbers_at s (list_start s) (list_octets s) (nj s)
@@ -69,11 +55,11 @@ module _ (value : GridSection) (s : List ℕ) (is : IsSectionOf value s) where
       elim (cases_lt 0 (list_octets s)) as (λ _. written_length value ≤ length s) [
         | inl some ↦
             let listed = ap₂ ◌*◌ is.spelled.list_octets (row_count value s is some) in
-            let start = list_start-least (grid_template s) (with_list value s is some) in
-            omega (arith, (has_list value s is).long some)
+            let start = list_start-least (grid_template s) ((has value s is).may_list some) in
+            omega (arith, (has value s is).list.long some)
         | inr none ↦
             let listed = ap (λ (rows : List ℕ). value.list_octets * length rows) (no_rows value s is (omega arith)) in
-            omega (arith, least value s is)
+            omega (arith, (has value s is).template.long)
       ]
 
   length-lt : length s < 2 ^ 32
@@ -85,9 +71,9 @@ module _ (value : GridSection) (s : List ℕ) (is : IsSectionOf value s) where
   nj-lt some =
       let rows = passes_from_none (grid_rows s) is.rows in
       let test = listed_test (list_octets s) _ rows.1.1.1.1.1.1.1.0 some in
-      let start = list_start-least (grid_template s) (with_list value s is some) in
+      let start = list_start-least (grid_template s) ((has value s is).may_list some) in
       let far = list_start-some s in
-      let fits = octets-lt s 35 38 4 (known value s is) (omega arith) (omega arith) (omega (arith, least value s is)) in
+      let fits = octets-lt s 35 38 4 (known value s is) (omega arith) (omega arith) (omega (arith, (has value s is).template.long)) in
       count_test (nj s) test (omega arith)
 
   -- each row fits its octets
@@ -96,7 +82,7 @@ module _ (value : GridSection) (s : List ℕ) (is : IsSectionOf value s) where
       let f = list_start s in
       let size = list_octets s in
       let start = list_start-some s in
-      let long = (has_list value s is).long some in
+      let long = (has value s is).list.long some in
       let Fit : ℕ → List ℕ → Type 0 = λ n rows. All (λ (row : ℕ). row < 256 ^ n) rows in
       let fit = All-from_get_or (λ (row : ℕ). row < 256 ^ size) (numbers_at s f size (nj s)) 0
       (λ k below. numbers_at-lt s f size (nj s) (known value s is) (omega arith) some (omega arith) k (omega (arith, length-numbers_at s f size (nj s)))) in
@@ -113,8 +99,8 @@ module _ (value : GridSection) (s : List ℕ) (is : IsSectionOf value s) where
       let bounds = nj-lt value s is some in
       record {
         meaning = elim meaning [ inl e ↦ inl (is.spelled.list_meaning ∙ e) | inr e ↦ inr (is.spelled.list_meaning ∙ e) ];
-        word = omega (arith, (has_list value s is).word, is.spelled.list_octets);
-        template = ap may_have_list is.spelled.template ∙ with_list value s is some;
+        word = omega (arith, (has value s is).list.word, is.spelled.list_octets);
+        template = ap may_have_list is.spelled.template ∙ (has value s is).may_list some;
         count = count ∙ sym (nj_is value s is);
         some = omega (arith, count, bounds.0);
         known = omega (arith, count, bounds.1);

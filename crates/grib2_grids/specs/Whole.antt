@@ -1,7 +1,7 @@
 -- What the rows of Section 3 tell of a section's length.
 use Rattle.std.specs.Prelude.{◌≡◌, ℕ, ◌+◌, ◌-◌, ◌*◌, ◌<◌, ◌≤◌, true, List, length}
 use Rattle.grib2_sections.specs.Template.{is_template, least_length}
-use Rattle.grib2_grids.specs.Grid.{grid_templates, grid_source, grid_template, list_octets, list_start, nj}
+use Rattle.grib2_grids.specs.Grid.{grid_templates, grid_source, grid_template, list_octets, list_start, may_have_list, nj}
 
 -- the section has a grid by a template of the profile, as a whole
 pub record IsWhole (s : List ℕ) : Type 0 where
@@ -14,3 +14,9 @@ pub record IsWhole (s : List ℕ) : Type 0 where
 pub record HasList (s : List ℕ) : Type 0 where
   pub word : list_octets s ≤ 4
   pub long : 0 < list_octets s → list_start s - 1 + list_octets s * nj s ≤ length s
+
+-- the section has a grid by a template of the profile and, where its template may have one, its list of rows
+pub record HasNumbers (s : List ℕ) : Type 0 where
+  pub template : IsWhole s
+  pub list : HasList s
+  pub may_list : 0 < list_octets s → may_have_list (grid_template s) ≡ true

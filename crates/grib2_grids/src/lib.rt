@@ -10,6 +10,7 @@ mod writing;
 
 pub use grib_base::ReadFault as GridFault;
 pub use grid::{Grid, GridSection};
-pub use reading::read_grid;
+pub use reading::{grid_of, read_grid};
+pub use rows::check_grid;
 pub use templates::{Gaussian, Lambert, LatLon, Mercator, Polar, Rotation};
 pub use writing::write_grid;

@@ -1,14 +1,14 @@
 //! Reading Section 3.
 
-ghost use Rattle.std.specs.Prelude.{◌≡◌, ◌≢◌, ◌^◌, ◌<◌, ◌≤◌, length, vec_len, Some, None, Err, MatchResult, IfOk, IsOk};
+ghost use Rattle.std.specs.Prelude.{◌≡◌, ◌≢◌, ◌≤◌, length, None, Err, MatchResult, IfOk, IsOk};
 ghost use Rattle.grib_bits.specs.Octets.{octets as octets_of};
 ghost use Rattle.grib_base.specs.Rows.{first_fault_at};
 ghost use Rattle.grib2_grids.specs.Grid.{grid_rows, list_octets, row_list};
-ghost use Rattle.grib2_grids.specs.Whole.{IsWhole, HasList};
+ghost use Rattle.grib2_grids.specs.Whole.{IsWhole, HasNumbers};
 ghost use Rattle.grib_base.specs.Faults.{IsReadFault};
 ghost use Rattle.grib2_grids.specs.Spelled.{Spelled, SpelledTemplate, template_of, SpelledCommon, SpelledLatLon, SpelledRotation, SpelledMercator, SpelledPolar, SpelledLambert, gaussian_lat_lon};
 
-use crate::rows::{check_head, check_list, check_points, list_start};
+use crate::rows::{check_grid, list_start};
 use crate::templates::{Common, template};
 use crate::{Gaussian, Grid, GridSection, Lambert, LatLon, Mercator, Polar, Rotation};
 use grib_base::{List, ReadFault, Section};
@@ -19,9 +19,8 @@ use std::alloc::{AllocError, Global};
 ///
 /// # Errors
 ///
-/// The first row of the profile that fails: the section is too short, has a grid that the profile
-/// does not have or a list of rows of another shape, or states another number of points than it has.
-/// Or there is no memory for the list of rows, where there is one.
+/// The first row of the profile that fails, as `check_grid` tells it. Or there is no memory for the list
+/// of rows, where there is one.
 pub fn read_grid(alloc: Global, section: &Section<'_>) -> Result<GridSection, ReadFault>
     ensures rows { MatchResult result
         (λ value. (first_fault_at section.now.start (grid_rows section.now.octets.now) ≡ None)
@@ -29,11 +28,21 @@ pub fn read_grid(alloc: Global, section: &Section<'_>) -> Result<GridSection, Re
         (IsReadFault (first_fault_at section.now.start (grid_rows section.now.octets.now))) }
     ensures memory { list_octets section.now.octets.now ≡ 0 → result ≢ Err ReadFault.Memory }
 {
-    let octets = section.octets;
-    check_head(section)?;
-    check_list(section)?;
+    check_grid(section)?;
+    Ok(grid_of(alloc, section.octets)?)
+}
+
+/// What a Section 3 says that no row of the profile refuses.
+///
+/// # Errors
+///
+/// There is no memory for the list of rows, where there is one.
+pub fn grid_of(alloc: Global, octets: &[u8]) -> Result<GridSection, AllocError>
+    requires { HasNumbers octets.now }
+    ensures numbers { IfOk result (λ value. Spelled value octets.now) }
+    ensures memory { list_octets octets.now ≡ 0 → IsOk result }
+{
     let rows = read_rows(alloc, octets)?;
-    check_points(section, rows.as_slice())?;
     Ok(GridSection {
         points: u32_at(octets, 7),
         list_octets: u8_at(octets, 11),
@@ -45,24 +54,19 @@ pub fn read_grid(alloc: Global, section: &Section<'_>) -> Result<GridSection, Re
 
 /// The list of rows, empty where octet 11 is 0.
 fn read_rows(alloc: Global, octets: &[u8]) -> Result<Vec<u32>, AllocError>
-    requires long { 65 ≤ length octets.now }
-    requires list { HasList octets.now }
+    requires { HasNumbers octets.now }
     ensures rows { IfOk result (λ rows. rows.items ≡ row_list octets.now) }
-    ensures few { IfOk result (λ rows. vec_len rows < 2 ^ 32) }
     ensures memory { list_octets octets.now ≡ 0 → IsOk result }
 {
     let size = u8_at(octets, 11);
     if size == 0 {
         return Ok(Vec::new(alloc));
     }
-    let first = list_start(u16_at(octets, 13));
-    read_list(
-        alloc,
-        octets,
-        first,
-        usize::from(size),
-        u32_at(octets, 35) as usize,
-    )
+    let Some(first) = list_start(u16_at(octets, 13)) else {
+        unreachable!();
+    };
+    let count = u32_at(octets, 35) as usize;
+    read_list(alloc, octets, first, usize::from(size), count)
 }
 
 /// The template, by its number in octets 13-14.
@@ -77,7 +81,8 @@ fn read_template(octets: &[u8]) -> Grid
         10 => Grid::Mercator(read_mercator(octets)),
         20 => Grid::Polar(read_polar(octets)),
         30 => Grid::Lambert(read_lambert(octets)),
-        _ => Grid::Gaussian(read_gaussian(octets)),
+        40 => Grid::Gaussian(read_gaussian(octets)),
+        _ => unreachable!(),
     }
 }
 

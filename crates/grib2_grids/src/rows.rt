@@ -1,15 +1,14 @@
 //! The rows of the profile that decide whether Section 3 is accepted.
 
-ghost use Rattle.std.specs.Prelude.{◌≡◌, ◌+◌, ◌-◌, ◌*◌, ◌<◌, ◌≤◌, ◌^◌, ◌==◌, true, false, if◌then◌else◌, length, take, drop, sum, Some, None, MatchResult, MatchOption, OnOk};
+ghost use Rattle.std.specs.Prelude.{◌≡◌, ◌+◌, ◌-◌, ◌*◌, ◌<◌, ◌≤◌, ◌==◌, true, false, if◌then◌else◌, length, take, drop, sum, Some, None, MatchResult, MatchOption, OnOk};
 ghost use Rattle.grib_base.specs.Rows as rows;
 ghost use Rattle.grib_base.specs.Rows.{first_fault, first_fault_at, fault_at};
 ghost use Rattle.grib2_sections.specs.Template.{is_template, least_length as least_of};
-ghost use Rattle.grib2_grids.specs.Grid as grid;
-ghost use Rattle.grib2_grids.specs.Grid.{grid_rows, grid_templates, row_list};
-ghost use Rattle.grib2_grids.specs.Whole.{IsWhole, HasList};
+ghost use Rattle.grib2_grids.specs.Grid.{grid_rows, grid_templates, list_octets, may_have_list, row_list};
+ghost use Rattle.grib2_grids.specs.Whole.{IsWhole, HasNumbers};
 
 use grib_base::{Fault, MOST_POINTS, Reason, Section};
-use grib_bits::{u8_at, u16_at, u32_at};
+use grib_bits::{u8_at, u16_at, u32_at, uint_at};
 
 /// The least length in octets of a section with this template, if the profile has it.
 fn least_length(template: u16) -> Option<usize>
@@ -26,15 +25,38 @@ fn least_length(template: u16) -> Option<usize>
     }
 }
 
-/// The octet at which the list of rows begins.
-pub(crate) fn list_start(template: u16) -> usize
-    ensures { result ≡ (if template == 1 then 85 else 73) }
+/// The octet at which the list of rows begins, for a template that may have one.
+pub(crate) fn list_start(template: u16) -> Option<usize>
+    ensures { MatchOption result (may_have_list template ≡ false)
+        (λ first. (may_have_list template ≡ true)
+        × (first ≡ (if template == 1 then 85 else 73))) }
 {
-    if template == 1 { 85 } else { 73 }
+    match template {
+        0 | 40 => Some(73),
+        1 => Some(85),
+        _ => None,
+    }
+}
+
+/// Tries the rows of Section 3. No memory is taken.
+///
+/// # Errors
+///
+/// The first row of the profile that fails: the section is too short, has a grid that the profile
+/// does not have or a list of rows of another shape, or states another number of points than it has.
+pub fn check_grid(section: &Section<'_>) -> Result<(), Fault>
+    ensures { MatchResult result
+        (λ _. first_fault_at section.now.start (grid_rows section.now.octets.now) ≡ None)
+        (λ fault. first_fault_at section.now.start (grid_rows section.now.octets.now)
+        ≡ Some fault) }
+{
+    check_head(section)?;
+    check_list(section)?;
+    check_points(section)
 }
 
 /// Rows S3.1 to S3.5: the source, the template, the length and the number of points.
-pub(crate) fn check_head(section: &Section<'_>) -> Result<(), Fault>
+fn check_head(section: &Section<'_>) -> Result<(), Fault>
     ensures rows { MatchResult result
         (λ _. first_fault (take 5 (grid_rows section.now.octets.now)) ≡ None)
         (λ fault. first_fault_at section.now.start (take 5 (grid_rows section.now.octets.now))
@@ -65,13 +87,13 @@ pub(crate) fn check_head(section: &Section<'_>) -> Result<(), Fault>
 }
 
 /// Rows S3.6 to S3.9: the list of rows, where there is one.
-pub(crate) fn check_list(section: &Section<'_>) -> Result<(), Fault>
-    requires long { 65 ≤ length section.now.octets.now }
+fn check_list(section: &Section<'_>) -> Result<(), Fault>
+    requires { IsWhole section.now.octets.now }
     ensures rows { MatchResult result
         (λ _. first_fault (take 4 (drop 5 (grid_rows section.now.octets.now))) ≡ None)
         (λ fault. first_fault_at section.now.start
         (take 4 (drop 5 (grid_rows section.now.octets.now))) ≡ Some fault) }
-    ensures list { OnOk result (HasList section.now.octets.now) }
+    ensures list { OnOk result (HasNumbers section.now.octets.now) }
 {
     let octets = section.octets;
     let size = u8_at(octets, 11);
@@ -82,15 +104,14 @@ pub(crate) fn check_list(section: &Section<'_>) -> Result<(), Fault>
     if meaning != 1 && meaning != 2 {
         return Err(section.fault_at(12, Reason::ListShape, u64::from(meaning)));
     }
-    let template = u16_at(octets, 13);
-    if size > 4 || !may_have_list(template) {
-        return Err(section.fault_at(11, Reason::ListShape, u64::from(size)));
-    }
+    let first = match list_start(u16_at(octets, 13)) {
+        Some(first) if size <= 4 => first as u64,
+        _ => return Err(section.fault_at(11, Reason::ListShape, u64::from(size))),
+    };
     let nj = u32_at(octets, 35);
     if nj == 0 || nj == u32::MAX {
         return Err(section.fault_at(35, Reason::ListShape, u64::from(nj)));
     }
-    let first = list_start(template) as u64;
     if first - 1 + u64::from(size) * u64::from(nj) > octets.len() as u64 {
         return Err(section.fault_at(first, Reason::ListShape, u64::from(nj)));
     }
@@ -98,10 +119,8 @@ pub(crate) fn check_list(section: &Section<'_>) -> Result<(), Fault>
 }
 
 /// Rows S3.10 and S3.11: the number of points, by the list of rows or else by Ni and Nj.
-pub(crate) fn check_points(section: &Section<'_>, rows: &[u32]) -> Result<(), Fault>
-    requires long { 65 ≤ length section.now.octets.now }
-    requires few { length rows.now < 2 ^ 32 }
-    requires rows { rows.now ≡ row_list section.now.octets.now }
+fn check_points(section: &Section<'_>) -> Result<(), Fault>
+    requires { HasNumbers section.now.octets.now }
     ensures { MatchResult result
         (λ _. first_fault (drop 9 (grid_rows section.now.octets.now)) ≡ None)
         (λ fault. first_fault_at section.now.start (drop 9 (grid_rows section.now.octets.now))
@@ -112,7 +131,7 @@ pub(crate) fn check_points(section: &Section<'_>, rows: &[u32]) -> Result<(), Fa
     let stated = if u8_at(octets, 11) == 0 {
         u64::from(u32_at(octets, 31)) * u64::from(u32_at(octets, 35))
     } else {
-        total(rows)
+        total(octets)
     };
     if stated != points {
         return Err(section.fault_at(7, Reason::PointCount, stated));
@@ -120,17 +139,19 @@ pub(crate) fn check_points(section: &Section<'_>, rows: &[u32]) -> Result<(), Fa
     Ok(())
 }
 
-/// Whether a grid with this template may have a list of rows.
-fn may_have_list(template: u16) -> bool
-    ensures { result ≡ grid.may_have_list template }
+/// The sum of the numbers of points of each row, which are read where they stand.
+fn total(octets: &[u8]) -> u64
+    requires numbers { HasNumbers octets.now }
+    requires some { 0 < list_octets octets.now }
+    ensures { result ≡ sum (row_list octets.now) }
 {
-    matches!(template, 0 | 1 | 40)
-}
-
-/// The sum of the numbers of points of each row.
-fn total(rows: &[u32]) -> u64
-    requires { length rows.now < 2 ^ 32 }
-    ensures { result ≡ sum rows.now }
-{
-    rows.iter().map(|row| u64::from(*row)).sum()
+    let Some(first) = list_start(u16_at(octets, 13)) else {
+        unreachable!();
+    };
+    let size = usize::from(u8_at(octets, 11));
+    let mut total = 0;
+    for row in 0..u32_at(octets, 35) as usize {
+        total += u64::from(uint_at(octets, first + row * size, size));
+    }
+    total
 }

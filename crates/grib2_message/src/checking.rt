@@ -13,8 +13,6 @@ ghost use Rattle.grib_base.specs.Faults.{AreTried, IsReadFault};
 use crate::places::Bitmap;
 use grib_base::{Fault, ReadFault, Reason, Section};
 use grib_bitmap::read_mask;
-use grib2_grids::read_grid;
-use grib2_products::read_product;
 use grib2_sections::read_identification;
 use std::alloc::Global;
 
@@ -35,8 +33,7 @@ pub fn check_grid(alloc: Global, section: &Section<'_>) -> Result<(), ReadFault>
     ensures { AreTried (first_fault_at section.now.start
         (grid_rows section.now.octets.now)) result }
 {
-    read_grid(alloc, section)?;
-    Ok(())
+    Ok(grib2_grids::check_grid(section)?)
 }
 
 /// Tries the rows of a Section 4 that stands after this number of fields.
@@ -51,8 +48,7 @@ pub fn check_product(alloc: Global, fields: usize, section: &Section<'_>) -> Res
             MOST_FIELDS as u64 + 1,
         )));
     }
-    read_product(alloc, section)?;
-    Ok(())
+    Ok(grib2_products::check_product(section)?)
 }
 
 /// Tries the rows of a Section 6, where the grid in force has this number of points and Section 5 this number

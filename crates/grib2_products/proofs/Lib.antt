@@ -1,4 +1,5 @@
 pub mod ByTemplate
+pub mod Numbers
 pub mod Ranges
 pub mod Readable
 pub mod Rebuilt

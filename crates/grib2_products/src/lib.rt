@@ -11,6 +11,7 @@ mod writing;
 
 pub use grib_base::ReadFault as ProductFault;
 pub use product::{Product, ProductSection};
-pub use reading::read_product;
+pub use reading::{product_of, read_product};
+pub use rows::check_product;
 pub use templates::{Ensemble, Instant, Interval, Spec};
 pub use writing::write_product;

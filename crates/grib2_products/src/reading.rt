@@ -9,7 +9,7 @@ ghost use Rattle.grib_base.specs.Faults.{IsReadFault};
 ghost use Rattle.grib2_products.specs.Spelled.{Spelled, SpelledTemplate, template_of, SpelledInstant, SpelledEnsemble, SpelledInterval};
 
 use crate::lists::{read_coordinates, read_specs};
-use crate::rows::check;
+use crate::rows::check_product;
 use crate::{Ensemble, Instant, Interval, Product, ProductSection};
 use grib_base::{List, ReadFault, Section};
 use grib_bits::{u8_at, u16_at, u32_at};
@@ -19,9 +19,8 @@ use std::alloc::{AllocError, Global};
 ///
 /// # Errors
 ///
-/// The first row of the profile that fails: the section is too short for its template, time ranges
-/// and coordinate values, or has a template that the profile does not have. Or there is no memory
-/// for the time ranges or the coordinate values, where there are any.
+/// The first row of the profile that fails, as `check_product` tells it. Or there is no memory for the
+/// time ranges or the coordinate values, where there are any.
 pub fn read_product(alloc: Global, section: &Section<'_>) -> Result<ProductSection, ReadFault>
     ensures rows { MatchResult result
         (λ value. (first_fault_at section.now.start (product_rows section.now.octets.now 1) ≡ None)
@@ -30,8 +29,20 @@ pub fn read_product(alloc: Global, section: &Section<'_>) -> Result<ProductSecti
     ensures memory { time_ranges section.now.octets.now ≡ 0
         → coordinate_count section.now.octets.now ≡ 0 → result ≢ Err ReadFault.Memory }
 {
-    let octets = section.octets;
-    check(section)?;
+    check_product(section)?;
+    Ok(product_of(alloc, section.octets)?)
+}
+
+/// What a Section 4 says that no row of the profile refuses.
+///
+/// # Errors
+///
+/// There is no memory for the time ranges or the coordinate values, where there are any.
+pub fn product_of(alloc: Global, octets: &[u8]) -> Result<ProductSection, AllocError>
+    requires { IsWhole octets.now }
+    ensures numbers { IfOk result (λ value. Spelled value octets.now) }
+    ensures memory { time_ranges octets.now ≡ 0 → coordinate_count octets.now ≡ 0 → IsOk result }
+{
     let coordinates = read_coordinates(alloc, octets)?;
     let product = read_template(alloc, octets)?;
     Ok(ProductSection {
@@ -52,10 +63,11 @@ fn read_template(alloc: Global, octets: &[u8]) -> Result<Product, AllocError>
         0 => Ok(Product::Instant(instant)),
         1 => Ok(Product::Ensemble(instant, read_ensemble(octets))),
         8 => Ok(Product::Interval(instant, read_interval(alloc, octets, 35)?)),
-        _ => {
+        11 => {
             let interval = read_interval(alloc, octets, 38)?;
             Ok(Product::EnsembleInterval(instant, read_ensemble(octets), interval))
         }
+        _ => unreachable!(),
     }
 }
 

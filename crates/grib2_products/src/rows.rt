@@ -1,8 +1,8 @@
 //! The rows of the profile that decide whether Section 4 is accepted.
 
-ghost use Rattle.std.specs.Prelude.{◌≡◌, ◌+◌, ◌*◌, ◌<◌, ◌≤◌, true, false, length, Some, None, MatchResult, MatchOption, OnOk};
+ghost use Rattle.std.specs.Prelude.{◌≡◌, ◌+◌, ◌*◌, ◌<◌, ◌≤◌, true, false, length, Some, None, MatchResult, MatchOption};
 ghost use Rattle.grib_base.specs.Rows as rows;
-ghost use Rattle.grib_base.specs.Rows.{first_fault, first_fault_at, fault_at};
+ghost use Rattle.grib_base.specs.Rows.{first_fault_at, fault_at};
 ghost use Rattle.grib2_sections.specs.Template.{is_template, least_length as least_of};
 ghost use Rattle.grib2_products.specs.Product as product;
 ghost use Rattle.grib2_products.specs.Product.{product_rows, product_templates, product_template};
@@ -40,13 +40,18 @@ pub(crate) fn time_ranges(octets: &[u8]) -> u8
     }
 }
 
-/// Rows S4.1 to S4.5: the length, by the template, its time ranges and the coordinate values.
-pub(crate) fn check(section: &Section<'_>) -> Result<(), Fault>
-    ensures rows { MatchResult result
-        (λ _. first_fault (product_rows section.now.octets.now 1) ≡ None)
+/// Tries the rows of Section 4. How many there are in a message is for the reader of the message to see.
+/// No memory is taken.
+///
+/// # Errors
+///
+/// The first row of the profile that fails: the section is too short for its template, time ranges
+/// and coordinate values, or has a template that the profile does not have.
+pub fn check_product(section: &Section<'_>) -> Result<(), Fault>
+    ensures { MatchResult result
+        (λ _. first_fault_at section.now.start (product_rows section.now.octets.now 1) ≡ None)
         (λ fault. first_fault_at section.now.start (product_rows section.now.octets.now 1)
         ≡ Some fault) }
-    ensures whole { OnOk result (IsWhole section.now.octets.now) }
 {
     let octets = section.octets;
     let length = octets.len();
@@ -73,11 +78,8 @@ pub(crate) fn coordinate_start(octets: &[u8]) -> usize
     requires { IsWhole octets.now }
     ensures { result ≡ product.template_length octets.now + 1 }
 {
-    let least = match u16_at(octets, 8) {
-        0 => 34,
-        1 => 37,
-        8 => 46,
-        _ => 49,
+    let Some(least) = least_length(u16_at(octets, 8)) else {
+        unreachable!();
     };
     least + 12 * usize::from(time_ranges(octets)) + 1
 }

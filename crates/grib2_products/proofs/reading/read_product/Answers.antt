@@ -1,18 +1,10 @@
-use Rattle.std.proofs.Common.{length, ap, ◌+◌, ◌∙◌}
-use Rattle.grib_bits.proofs.Listed.{length-numbers_at}
-use Rattle.grib_base.specs.Rows.{located}
-use Rattle.grib2_products.specs.Product.{template_length, coordinate_count}
+use Rattle.grib_base.specs.Rows.{first_fault}
+use Rattle.grib_base.proofs.Passing.{none-located}
+use Rattle.grib2_products.specs.Product.{product_rows}
+use Rattle.grib2_products.proofs.Numbers.{is_whole}
 use Rattle.grib2_products.proofs.reading.read_product.Goals as goal
 
-pub returns-clause-rows : goal.returns-clause-rows
-returns-clause-rows c =
+pub product_of-requires : goal.product_of-requires
+product_of-requires c =
     let s = c.args.section.now.octets.now in
-    let coordinates = c.of.ensures ∙ c.in_ok-coordinates.ensures.coordinates in (
-      ap (located c.args.section.now.start) c.in_ok-check.ensures.rows,
-      record {
-        count = ap length coordinates ∙ length-numbers_at s (template_length s + 1) 4 (coordinate_count s);
-        template = c.in_ok-product.ensures.template;
-        product = c.in_ok-product.ensures.octets;
-        coordinates = coordinates;
-      },
-    )
+    is_whole s (none-located c.args.section.now.start (first_fault (product_rows s 1)) c.in_ok-check_product.ensures)
