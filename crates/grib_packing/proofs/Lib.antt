@@ -5,3 +5,4 @@ pub mod Left
 pub mod Fields
 pub mod Sections
 pub mod Packings
+pub mod Masks
