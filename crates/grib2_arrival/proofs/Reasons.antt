@@ -9,11 +9,12 @@ use Rattle.grib2_sections.specs.Identification.{identification_rows}
 use Rattle.grib2_grids.specs.Grid.{grid_rows}
 use Rattle.grib2_products.specs.Product.{product_rows}
 use Rattle.grib_bitmap.specs.Mask.{bitmap_rows}
-use Rattle.grib_packing.specs.Packing.{packing_template, template_reason, packing_rows, value_count}
+use Rattle.grib_packing.specs.Packing.{packing_template, template_reason, value_count}
 use Rattle.grib_packing.specs.Complex.{complex_rows, layout_of, descriptor_octets}
 use Rattle.grib_packing.specs.Groups.{list_rows}
 use Rattle.grib_packing.specs.Simple.{simple_rows}
-use Rattle.grib_packing.specs.Entries.{packing_fault, data_fault, complex_data_fault, group_data_fault, group_data_rows, range_rows, has_no_groups}
+use Rattle.grib_packing.specs.Entries.{own_packing, packing_rows, packing_fault, data_fault, complex_data_fault, group_data_fault, group_data_rows, range_rows, has_no_groups}
+use Rattle.grib_packing.proofs.Packings.{each_packing}
 use Rattle.grib2_message.specs.View.{octets_in_force, points_in_force, earlier_mask, section_count}
 use Rattle.grib2_message.specs.Acceptance.{section_fault, contents_faults, no_rows}
 
@@ -46,10 +47,6 @@ choose_other : (b : Bool) (x y : Unit {0} → Option Fault) → IsOther (x tt) �
 choose_other true x y h k = h
 choose_other false x y h k = k
 
-choose_rows : (b : Bool) (x y : Unit {0} → List Row) → AllOther (x tt) → AllOther (y tt) → AllOther (choose b x y)
-choose_rows true x y h k = h
-choose_rows false x y h k = k
-
 template_by : (a b c : Bool) → cond a Jpeg2000 (cond b PngPacked (cond c Ccsds PackingTemplate)) ≢ Truncated
 template_by true b c = λ e. cc
 template_by false true c = λ e. cc
@@ -76,9 +73,9 @@ complex_other s = (λ e. cc, (λ e. cc, (λ e. cc, (λ e. cc, (λ e. cc, (λ e. 
 
 packing_other : (s : List ℕ) (points : ℕ) → IsOther (packing_fault s points)
 packing_other s points =
-    then_other (first_fault (packing_rows s points)) (λ _. choose (packing_template s == 0) (λ _. []) (λ _. complex_rows s))
+    then_other (first_fault (packing_rows s points)) (λ _. (own_packing s).rows s)
     (rows_other (packing_rows s points) (λ e. cc, (template_other (packing_template s), (λ e. cc, (λ e. cc, (λ e. cc, (λ e. cc, tt)))))))
-    (choose_rows (packing_template s == 0) (λ _. []) (λ _. complex_rows s) tt (complex_other s))
+    (each_packing (λ p. AllOther (p.rows s)) (packing_template s) tt (complex_other s) (complex_other s) tt)
 
 group_other : (s5 s7 : List ℕ) → IsOther (group_data_fault s5 s7)
 group_other s5 s7 =
@@ -89,9 +86,8 @@ group_other s5 s7 =
 
 pub data_other : (s5 s7 : List ℕ) → IsOther (data_fault s5 s7)
 data_other s5 s7 =
-    choose_other (packing_template s5 == 0) (λ _. first_fault (simple_rows s5 (length s7))) (λ _. complex_data_fault s5 s7)
-    (rows_other (simple_rows s5 (length s7)) (λ e. cc, tt))
-    (choose_other (has_no_groups s5) (λ _. None) (λ _. group_data_fault s5 s7) tt (group_other s5 s7))
+    let complex : IsOther (complex_data_fault s5 s7) = choose_other (has_no_groups s5) (λ _. None) (λ _. group_data_fault s5 s7) tt (group_other s5 s7) in
+    each_packing (λ p. IsOther (p.fault s5 s7)) (packing_template s5) (rows_other (simple_rows s5 (length s7)) (λ e. cc, tt)) complex complex tt
 
 by_number : (n : ℕ) (before : List Placed) (s : Placed) → IsOther (get_or contents_faults n no_rows before s)
 by_number zero before s = tt

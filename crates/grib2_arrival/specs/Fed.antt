@@ -2,7 +2,7 @@
 use Rattle.std.specs.Prelude.{◌≡◌, ◌≤◌, ◌+◌, ℕ, List, length}
 use Rattle.grib_packing.specs.declared.column.Point.{Point}
 use Rattle.grib_complex.specs.Feeding.{HasRead}
-use Rattle.grib_complex.specs.declared.keeping.Nothing.{Nothing}
+use Rattle.grib_packing.specs.declared.keeping.Nothing.{Nothing}
 use Rattle.grib2_arrival.specs.declared.data.Data.{Data}
 
 -- nothing is kept of the points

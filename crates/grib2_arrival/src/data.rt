@@ -7,7 +7,8 @@ ghost use Rattle.grib_complex.specs.Field.{Represents};
 ghost use Rattle.grib2_arrival.specs.Fed.{DataAgrees, HasAll, MayBeFed};
 
 use grib_base::Fault;
-use grib_complex::{Feeding, Nothing, Representation};
+use grib_complex::{Feeding, Representation};
+use grib_packing::Nothing;
 use std::alloc::{AllocError, Global};
 
 /// Tries the rows of a Section 7 as its octets come, and keeps none of its values.

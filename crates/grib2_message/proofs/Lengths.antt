@@ -1,14 +1,12 @@
 -- How long the sections of a field are at least, by the rows that do not refuse them.
-use Rattle.std.proofs.Common.{◌≡◌, ℕ, ◌≤◌, Bool, true, false, cond, ◌||◌, Option, Some, None, List, [], ◌∷◌, length, ◌==◌, find, refl, sym, ap, ◌∙◌, arith, subst, ltb-false}
+use Rattle.std.proofs.Common.{◌≡◌, ℕ, ◌≤◌, Bool, true, false, cond, ◌||◌, Some, None, List, [], ◌∷◌, length, ◌==◌, find, refl, sym, ap, ◌∙◌, arith, subst, ltb-false}
 use Rattle.std.specs.Option.{option_map_or}
 use Rattle.std.proofs.lemmas.Bool.{not-false}
-use Rattle.grib_base.specs.declared.fault.Fault.{Fault}
-use Rattle.grib_base.specs.Rows.{first_fault, or_then, choose}
+use Rattle.grib_base.specs.Rows.{first_fault}
 use Rattle.grib2_sections.specs.Template.{Template, is_template, least_length}
 use Rattle.grib2_products.specs.Product.{product_templates, product_template, product_rows}
-use Rattle.grib_packing.specs.Complex.{complex_rows}
 use Rattle.grib_packing.specs.Entries.{packing_fault}
-use Rattle.grib_packing.specs.Packing.{packing_templates, packing_template, packing_rows}
+use Rattle.grib_packing.proofs.Packings.{packing_passes}
 use Rattle.grib2_message.proofs.Passed.{passes_from_none}
 
 -- each template has at least this number of octets
@@ -36,13 +34,5 @@ product_least s none =
     let least = at_least product_templates (product_template s) 34 (omega arith, (omega arith, (omega arith, (omega arith, tt)))) known in
     omega (arith, ltb-false (length s) (least_length product_templates (product_template s)) p.1.1.1.0, least)
 
-first_none : (first : Option Fault) (points : ℕ) (s : List ℕ) → or_then first (λ _. choose (packing_template s == 0) (λ _. []) (λ _. complex_rows s)) ≡ None → first ≡ None
-first_none None points s e = refl
-first_none (Some f) points s e = cc
-
 pub packing_least : (s : List ℕ) (points : ℕ) → packing_fault s points ≡ None → 21 ≤ length s
-packing_least s points none =
-    let p = passes_from_none (packing_rows s points) (first_none (first_fault (packing_rows s points)) points s none) in
-    let known = not-false (is_template packing_templates (packing_template s)) p.1.0 in
-    let least = at_least packing_templates (packing_template s) 21 (omega arith, (omega arith, (omega arith, tt))) known in
-    omega (arith, ltb-false (length s) (least_length packing_templates (packing_template s)) p.1.1.0, least)
+packing_least s points none = (packing_passes s points none).long

@@ -14,8 +14,7 @@ use crate::places::{Places, section_from};
 use grib_base::{ReadFault, Section};
 use grib_bitmap::{Mask, read_mask};
 use grib_bits::u8_at;
-use grib_complex::Keeper;
-use grib_packing::Column;
+use grib_packing::{Column, Keeper};
 use std::alloc::{AllocError, Global};
 
 /// The indicator of a Section 6 that repeats an earlier bitmap (code table 6.0).

@@ -19,8 +19,7 @@ use crate::places::Places;
 use crate::{AssembleFault, NewGrid};
 use grib_base::Section;
 use grib_bitmap::Mask;
-use grib_complex::Keeper;
-use grib_packing::{Column, Packed};
+use grib_packing::{Column, Keeper, Packed};
 use std::alloc::{AllocError, Global};
 use std::marker::Model;
 

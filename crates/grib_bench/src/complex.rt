@@ -14,8 +14,8 @@ use anyhow::{Context, Result, anyhow, bail, ensure};
 use byteorder::{BigEndian, ByteOrder};
 use grib_base::{ReadFault, Section};
 use grib_bitmap::{Mask, ones};
-use grib_complex::{Feeder, Nothing, read_complex, take_values};
-use grib_packing::{Column, Point, read_simple};
+use grib_complex::{Feeder, read_complex, take_values};
+use grib_packing::{Column, Nothing, Point, read_simple};
 use std::alloc::Global;
 use std::env::Args;
 

@@ -15,7 +15,7 @@ use Rattle.grib_packing.specs.Complex.{layout_of, descriptor_octets}
 use Rattle.grib_packing.specs.Entries.{data_fault, entries_of, group_data_fault, group_entries, first_value_rows, complex_data_fault, complex_entries, range_rows}
 use Rattle.grib_packing.specs.Groups.{list_rows, group_rows, list_octets, references, widths, lengths, groups, groups_from, codes_from}
 use Rattle.grib_packing.specs.Packing.{packing_template, value_count}
-use Rattle.grib_packing.specs.Simple.{simple_rows, simple_entries}
+use Rattle.grib_packing.proofs.Packings.{IsComplexTemplate, data_fault-complex, entries_of-complex}
 use Rattle.grib_groups.specs.declared.lists.Lists.{Lists}
 use Rattle.grib_groups.specs.declared.table.Table.{Table}
 use Rattle.grib_groups.specs.Table.{IsWhole, IsNarrow}
@@ -103,15 +103,18 @@ module _ (s t : List ℕ) (order extra : ℕ) (same : take ((order + 1) * extra)
 
 -- ---- the branch of a field with groups
 
-pub is_grouped : (template : ℕ) → (template ≡ 2) ⊎ (template ≡ 3) → eqb template 0 ≡ false
+pub is_grouped : (template : ℕ) → IsComplexTemplate template → eqb template 0 ≡ false
 is_grouped template (inl two) = ne_eqb template 0 (λ none. absurd (omega arith))
 is_grouped template (inr three) = ne_eqb template 0 (λ none. absurd (omega arith))
 
-pub template_of : (complex : Complex) (s5 : List ℕ) → Spelled complex s5 → IsAccepted complex → eqb (packing_template s5) 0 ≡ false
-template_of complex s5 spelled accepted = is_grouped (packing_template s5) (elim accepted.order [
+pub complex_of : (complex : Complex) (s5 : List ℕ) → Spelled complex s5 → IsAccepted complex → IsComplexTemplate (packing_template s5)
+complex_of complex s5 spelled accepted = elim accepted.order [
   | inl two ↦ inl (sym spelled.simple.template ∙ two.0)
   | inr three ↦ inr (sym spelled.simple.template ∙ three.0)
-])
+]
+
+pub template_of : (complex : Complex) (s5 : List ℕ) → Spelled complex s5 → IsAccepted complex → eqb (packing_template s5) 0 ≡ false
+template_of complex s5 spelled accepted = is_grouped (packing_template s5) (complex_of complex s5 spelled accepted)
 
 module _ (complex : Complex) (s5 : List ℕ) (spelled : Spelled complex s5) (accepted : IsAccepted complex) (some : 1 ≤ complex.layout.groups) (s7 : List ℕ) where
   pub has_groups : eqb (octets s5 32 35) 0 ≡ false
@@ -119,12 +122,12 @@ module _ (complex : Complex) (s5 : List ℕ) (spelled : Spelled complex s5) (acc
 
   pub fault_grouped : data_fault s5 s7 ≡ group_data_fault s5 s7
   fault_grouped =
-      ap (λ (b : Bool). choose b (λ _. first_fault (simple_rows s5 (length s7))) (λ _. complex_data_fault s5 s7)) (template_of complex s5 spelled accepted)
+      data_fault-complex s5 s7 (complex_of complex s5 spelled accepted)
       ∙ ap (λ (b : Bool). choose b (λ _. let o : Option Fault = None in o) (λ _. group_data_fault s5 s7)) has_groups
 
   pub entries_grouped : entries_of s5 s7 ≡ group_entries s5 s7
   entries_grouped =
-      ap (λ (b : Bool). choose b (λ _. simple_entries s5 s7) (λ _. complex_entries s5 s7)) (template_of complex s5 spelled accepted)
+      entries_of-complex s5 s7 (complex_of complex s5 spelled accepted)
       ∙ ap (λ (b : Bool). choose b (λ _. replicate (value_count s5) (Scaled (pos 0))) (λ _. group_entries s5 s7)) has_groups
 
 -- ---- the lists

@@ -25,6 +25,7 @@ use Rattle.grib_packing.specs.Span.{IsTold}
 use Rattle.grib_groups.specs.Encoding.{LaysOut, ReadsBack}
 use Rattle.grib_packing.specs.Laws.{UnpackTo}
 use Rattle.grib_packing.specs.Written.{MayBePacked}
+use Rattle.grib_packing.proofs.Packings.{IsComplexTemplate, data_fault-complex, entries_of-complex, packing_fault-complex}
 use Rattle.grib_simple.proofs.Accepted.{same_column}
 use Rattle.grib_simple.proofs.Back.{shared_rows}
 use Rattle.grib_simple.proofs.Fitting.{parts_false, number_back}
@@ -126,11 +127,11 @@ module _ (s5 s7 : List ℕ) (codes : List Code) (lengths : List ℕ) (laid : Lay
       ap (λ (f : Option Fault). or_then (or_then f (λ _. group_data_rows s5 s7)) (λ _. range_rows s5 s7)) reads.list_rows_pass
       ∙ ap (λ (f : Option Fault). or_then f (λ _. range_rows s5 s7)) rows ∙ range
 
-  pub data_passes : (packing_template s5 == 0) ≡ false → group_data_fault s5 s7 ≡ None → data_fault s5 s7 ≡ None
-  data_passes template passes = rw (template, some_here) passes
+  pub data_passes : IsComplexTemplate (packing_template s5) → group_data_fault s5 s7 ≡ None → data_fault s5 s7 ≡ None
+  data_passes template passes = data_fault-complex s5 s7 template ∙ rw some_here passes
 
-  pub entries_are : (packing_template s5 == 0) ≡ false → entries_of s5 s7 ≡ group_entries s5 s7
-  entries_are template = rw (template, some_here) refl
+  pub entries_are : IsComplexTemplate (packing_template s5) → entries_of s5 s7 ≡ group_entries s5 s7
+  entries_are template = entries_of-complex s5 s7 template ∙ rw some_here refl
 
 -- ---- without differences
 
@@ -148,8 +149,8 @@ module _ (column : Column) (kind : ℕ) (s5 s6 s7 : List ℕ) (may : MayBePacked
   not_spatial : (packing_template s5 == 3) ≡ false
   not_spatial = ap (λ (t : ℕ). t == 3) h.numbers.template_stands
 
-  not_simple : (packing_template s5 == 0) ≡ false
-  not_simple = ap (λ (t : ℕ). t == 0) h.numbers.template_stands
+  is_complex : IsComplexTemplate (packing_template s5)
+  is_complex = inl h.numbers.template_stands
 
   no_order : difference_order s5 ≡ 0
   no_order = ap (λ (b : Bool). cond b (octets s5 48 48) 0) not_spatial
@@ -185,8 +186,7 @@ module _ (column : Column) (kind : ℕ) (s5 s6 s7 : List ℕ) (may : MayBePacked
         let narrow = references_few (layout_of s5) codes h.lengths laid_out in
         let shared = shared_rows s5 column (length column.points) (length column.points) 2 (reference_bits_of (management_of column.points) codes) kind h.numbers
         refl (omega (arith, h.as_long)) (omega (arith, h.as_long)) (omega arith) may.finite (omega (arith, narrow, h.numbers.bit_width_stands)) in
-        ap (λ (f : Option Fault). or_then f (λ _. choose (packing_template s5 == 0) (λ _. []) (λ _. complex_rows s5))) shared
-        ∙ ap (λ (b : Bool). first_fault (choose b (λ _. []) (λ _. complex_rows s5))) not_simple
+        packing_fault-complex s5 (length column.points) shared is_complex
         ∙ complex_rows_pass s5 codes h.lengths laid_out values h.numbers.template_stands
 
     not_signed : (j : ℕ) → is_first_value_signed s5 s7 j ≡ false
@@ -198,7 +198,7 @@ module _ (column : Column) (kind : ℕ) (s5 s6 s7 : List ℕ) (may : MayBePacked
     data_none =
         let rows = two_pass _ _ _ _ _ (not_signed 0) (not_signed 1) (groups_pass s5 s7 codes h.lengths laid_out some values reads) in
         let range = one_passes _ _ (ap (λ (b : Bool). b && nat_lt 0 (first_place is_out_of_range (group_entries s5 s7))) not_spatial) in
-        data_passes s5 s7 codes h.lengths laid_out some values reads not_simple (group_data_passes s5 s7 codes h.lengths laid_out some values reads rows range)
+        data_passes s5 s7 codes h.lengths laid_out some values reads is_complex (group_data_passes s5 s7 codes h.lengths laid_out some values reads rows range)
 
     numbers_back : numbers_of s5 s7 ≡ scaled_numbers column.points
     numbers_back =
@@ -211,7 +211,7 @@ module _ (column : Column) (kind : ℕ) (s5 s6 s7 : List ℕ) (may : MayBePacked
     points_back : entries_of s5 s7 ≡ column.points
     points_back =
         let numbers = map nat_abs (scaled_numbers column.points) in
-        entries_are s5 s7 codes h.lengths laid_out some values reads not_simple
+        entries_are s5 s7 codes h.lengths laid_out some values reads is_complex
         ∙ ap₂ refilled (codes_stand s5 s7 codes h.lengths laid_out some values reads) numbers_back
         ∙ refilled_placed column.points numbers (length-map (scaled_numbers column.points) nat_abs)
 

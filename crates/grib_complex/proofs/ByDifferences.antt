@@ -25,6 +25,7 @@ use Rattle.grib_spatial.proofs.Undone.{undone_1, undone_2, undone-first, undone-
 use Rattle.grib_groups.specs.Encoding.{LaysOut, ReadsBack}
 use Rattle.grib_packing.specs.Laws.{UnpackTo}
 use Rattle.grib_packing.specs.Written.{MayBePacked}
+use Rattle.grib_packing.proofs.Packings.{IsComplexTemplate, packing_fault-complex}
 use Rattle.grib_simple.proofs.Accepted.{same_column}
 use Rattle.grib_simple.proofs.Back.{shared_rows}
 use Rattle.grib_simple.proofs.Fitting.{number_back, parts_false}
@@ -153,8 +154,8 @@ module _ (order : ℕ) (column : Column) (kind : ℕ) (s5 s6 s7 : List ℕ) (kno
   is_spatial : (packing_template s5 == 3) ≡ true
   is_spatial = ap (λ (t : ℕ). t == 3) h.numbers.template_stands
 
-  not_simple : (packing_template s5 == 0) ≡ false
-  not_simple = ap (λ (t : ℕ). t == 0) h.numbers.template_stands
+  is_complex : IsComplexTemplate (packing_template s5)
+  is_complex = inr h.numbers.template_stands
 
   is_order : difference_order s5 ≡ order
   is_order = ap (λ (b : Bool). cond b (octets s5 48 48) 0) is_spatial ∙ h.order_stands
@@ -272,8 +273,7 @@ module _ (order : ℕ) (column : Column) (kind : ℕ) (s5 s6 s7 : List ℕ) (kno
         let narrow = references_few (layout_of s5) codes h.lengths laid_out in
         let shared = shared_rows s5 column (length column.points) (length column.points) 3 (reference_bits_of (management_of column.points) codes) kind h.numbers
         refl (omega (arith, h.as_long)) (omega (arith, h.as_long)) (omega arith) may.finite (omega (arith, narrow, h.numbers.bit_width_stands)) in
-        ap (λ (f : Option Fault). or_then f (λ _. choose (packing_template s5 == 0) (λ _. []) (λ _. complex_rows s5))) shared
-        ∙ ap (λ (b : Bool). first_fault (choose b (λ _. []) (λ _. complex_rows s5))) not_simple
+        packing_fault-complex s5 (length column.points) shared is_complex
         ∙ spatial_rows_pass s5 codes h.lengths laid_out values order_of few_octets
 
     stand : codes_of s5 s7 ≡ target_codes (ToSpatial order) column.points
@@ -297,11 +297,11 @@ module _ (order : ℕ) (column : Column) (kind : ℕ) (s5 s6 s7 : List ℕ) (kno
         let within : (packing_template s5 == 3 && nat_lt 0 (first_place is_out_of_range (group_entries s5 s7))) ≡ false =
         ap₂ (λ (b : Bool) (n : ℕ). b && nat_lt 0 n) is_spatial place in
         let range = one_passes _ _ within in
-        data_passes s5 s7 codes h.lengths laid_out some values reads not_simple (group_data_passes s5 s7 codes h.lengths laid_out some values reads rows range)
+        data_passes s5 s7 codes h.lengths laid_out some values reads is_complex (group_data_passes s5 s7 codes h.lengths laid_out some values reads rows range)
 
     column_is : (mask : List Bool) → mask ≡ replicate (length column.points) true → column_from s5 mask s7 ≡ column
     column_is mask is =
-        let entries : entries_of s5 s7 ≡ column.points = entries_are s5 s7 codes h.lengths laid_out some values reads not_simple ∙ group_points in
+        let entries : entries_of s5 s7 ≡ column.points = entries_are s5 s7 codes h.lengths laid_out some values reads is_complex ∙ group_points in
         let points : points_with_mask mask (entries_of s5 s7) ≡ column.points = ap₂ points_with_mask is entries ∙ with_mask_all (length column.points) column.points refl in
         sym (same_column s5 column.reference column.e column.d column.points (points_with_mask mask (entries_of s5 s7))
         (sym h.numbers.reference_stands) (sym h.numbers.binary_scale_stands) (sym h.numbers.decimal_scale_stands) (sym points))

@@ -1,5 +1,4 @@
 pub mod Told
-pub mod Masks
 pub mod Fields
 pub mod Decided
 pub mod Results

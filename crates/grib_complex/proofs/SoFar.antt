@@ -24,14 +24,14 @@ use Rattle.grib_groups.specs.Taking.{values, values_within}
 use Rattle.grib_groups.proofs.Pieces.{fed_within}
 use Rattle.grib_groups.proofs.Taken.{length-codes_from}
 use Rattle.grib_complex.specs.declared.feeding.Feeding.{Feeding}
-use Rattle.grib_complex.specs.declared.keeping.Points.{Points}
+use Rattle.grib_packing.specs.declared.keeping.Points.{Points}
 use Rattle.grib_complex.specs.declared.representation.Complex.{Complex}
 use Rattle.grib_complex.specs.declared.stages.State.{State}
 use Rattle.grib_complex.specs.declared.stages.State.TheVariants.{Begins, Lists, Reads, Passes, Refused}
 use Rattle.grib_complex.specs.declared.values.Values.{Values}
 use Rattle.grib_complex.specs.Descriptors.{IsAccepted, telling_by}
 use Rattle.grib_complex.specs.Feeding.{Agrees, ColumnAgrees, Continues, HasRead, KeepsMask, PassingAgrees, PointsAgree, ReadingAgrees, StateAgrees, entries_so_far, first_telling, is_one_list, number_groups, numbers_in, octets_before, table_of}
-use Rattle.grib_complex.specs.Kept.{ArePoints, PointsKept}
+use Rattle.grib_packing.specs.Kept.{ArePoints, PointsKept}
 use Rattle.grib_complex.specs.Laws.{told-append}
 use Rattle.grib_complex.specs.Representation.{Spelled}
 use Rattle.grib_complex.specs.Tells.{PointsWent, Tells, ValuesTook, telling_of}

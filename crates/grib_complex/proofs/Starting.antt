@@ -12,7 +12,8 @@ use Rattle.grib_packing.specs.declared.column.Point.TheVariants.{Scaled}
 use Rattle.grib_packing.specs.Entries.{data_fault, entries_of, group_data_fault, group_entries, complex_data_fault, complex_entries}
 use Rattle.grib_packing.specs.Groups.{codes_from, list_octets, list_rows}
 use Rattle.grib_packing.specs.Packing.{packing_template, value_count, bit_width}
-use Rattle.grib_packing.specs.Simple.{plain_bits, simple_rows, simple_entries}
+use Rattle.grib_packing.specs.Simple.{plain_bits}
+use Rattle.grib_packing.proofs.Packings.{IsComplexTemplate, data_fault-simple, data_fault-complex, entries_of-simple, entries_of-complex}
 use Rattle.grib_packing.proofs.Fields.{plain-add}
 use Rattle.grib_groups.specs.declared.feeding.Fed.{Fed}
 use Rattle.grib_groups.specs.declared.lists.Lists.{Lists as GroupLists}
@@ -113,24 +114,24 @@ module _ (s5 : List ℕ) (zero_template : packing_template s5 ≡ 0) where
   pub plain_entries : (w count : ℕ) → w ≡ bit_width s5 → count ≡ value_count s5 → (s7 : List ℕ) → map (λ n. Scaled (pos n)) (plain (bits (drop 5 s7)) w count) ≡ entries_of s5 s7
   plain_entries w count is_w is_count s7 =
       ap₂ (λ (k n : ℕ). map (λ x. Scaled (pos x)) (plain (bits (drop 5 s7)) k n)) is_w is_count
-      ∙ sym (ap (λ (b : Bool). choose b (λ _. simple_entries s5 s7) (λ _. complex_entries s5 s7)) simple_branch)
+      ∙ sym (entries_of-simple s5 s7 zero_template)
 
   pub plain_passes : (l w count : ℕ) → w ≡ bit_width s5 → count ≡ value_count s5 → count * w + 40 ≤ 8 * l → (s7 : List ℕ) → length s7 ≡ l → data_fault s5 s7 ≡ None
   plain_passes l w count is_w is_count enough s7 long =
       let room : plain_bits s5 + 40 ≤ 8 * length s7 = omega (arith, long, ap₂ (λ (n k : ℕ). n * k) is_count is_w) in
-      ap (λ (b : Bool). choose b (λ _. first_fault (simple_rows s5 (length s7))) (λ _. complex_data_fault s5 s7)) simple_branch
+      data_fault-simple s5 s7 zero_template
       ∙ ap (λ (b : Bool). cond b (Some (refusal 1 DataTooShort (length s7))) None) (le-ltb (8 * length s7) (plain_bits s5 + 40) room)
 
   pub plain_refused : (start l w count : ℕ) → w ≡ bit_width s5 → count ≡ value_count s5 → 8 * l < count * w + 40 → (s7 : List ℕ) → length s7 ≡ l → located start (data_fault s5 s7) ≡ Some (refusal start DataTooShort l)
   plain_refused start l w count is_w is_count short s7 long =
       let over : 8 * length s7 < plain_bits s5 + 40 = omega (arith, long, ap₂ (λ (n k : ℕ). n * k) is_count is_w) in
       let origin : start + 0 ≡ start = omega arith in
-      ap (λ (b : Bool). located start (choose b (λ _. first_fault (simple_rows s5 (length s7))) (λ _. complex_data_fault s5 s7))) simple_branch
+      ap (located start) (data_fault-simple s5 s7 zero_template)
       ∙ ap (λ (b : Bool). located start (cond b (Some (refusal 1 DataTooShort (length s7))) None)) (lt-ltb (8 * length s7) (plain_bits s5 + 40) over)
       ∙ ap₂ (λ (o d : ℕ). Some (refusal o DataTooShort d)) origin long
 
 -- where there are no groups
-module _ (s5 : List ℕ) (grouped : eqb (packing_template s5) 0 ≡ false) (none : octets s5 32 35 ≡ 0) where
+module _ (s5 : List ℕ) (complex : IsComplexTemplate (packing_template s5)) (none : octets s5 32 35 ≡ 0) where
   pub no_groups : eqb (octets s5 32 35) 0 ≡ true
   no_groups = eq-eqb (octets s5 32 35) 0 none
 
@@ -138,12 +139,12 @@ module _ (s5 : List ℕ) (grouped : eqb (packing_template s5) 0 ≡ false) (none
   zero_entries count is_count s7 =
       no_bits (bits (drop 5 s7)) count
       ∙ ap (λ (n : ℕ). replicate n (Scaled (pos 0))) is_count
-      ∙ sym (ap (λ (b : Bool). choose b (λ _. simple_entries s5 s7) (λ _. complex_entries s5 s7)) grouped
+      ∙ sym (entries_of-complex s5 s7 complex
       ∙ ap (λ (b : Bool). choose b (λ _. replicate (value_count s5) (Scaled (pos 0))) (λ _. group_entries s5 s7)) no_groups)
 
   pub zero_passes : (s7 : List ℕ) → data_fault s5 s7 ≡ None
   zero_passes s7 =
-      ap (λ (b : Bool). choose b (λ _. first_fault (simple_rows s5 (length s7))) (λ _. complex_data_fault s5 s7)) grouped
+      data_fault-complex s5 s7 complex
       ∙ ap (λ (b : Bool). choose b (λ _. let o : Option Fault = None in o) (λ _. group_data_fault s5 s7)) no_groups
 
 -- ---- before the lists

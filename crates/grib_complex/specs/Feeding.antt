@@ -24,10 +24,10 @@ use Rattle.grib_complex.specs.declared.stages.Between.{Between}
 use Rattle.grib_complex.specs.declared.feeding.Feeding.{Feeding}
 use Rattle.grib_complex.specs.declared.stages.State.{State}
 use Rattle.grib_complex.specs.declared.stages.State.TheVariants.{Begins, Lists, Reads, Passes, Refused}
-use Rattle.grib_complex.specs.declared.keeping.Points.{Points}
+use Rattle.grib_packing.specs.declared.keeping.Points.{Points}
 use Rattle.grib_complex.specs.declared.values.Values.{Values}
 use Rattle.grib_complex.specs.Descriptors.{IsAccepted, is_signed_at, telling_by, telling_told}
-use Rattle.grib_complex.specs.Kept.{ArePoints, PointsKept}
+use Rattle.grib_packing.specs.Kept.{ArePoints, PointsKept}
 use Rattle.grib_complex.specs.Representation.{Spelled}
 use Rattle.grib_complex.specs.Tells.{Tells, PointsWent, ValuesTook, telling_of}
 use Rattle.grib_complex.specs.Told.{Telling, Plainly, told, undoing}

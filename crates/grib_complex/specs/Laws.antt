@@ -1,16 +1,14 @@
--- Laws of what takes codes and of what keeps points.
+-- Laws of what takes codes.
 use Rattle.std.proofs.Common.{◌≡◌, ◌<◌, List, [], ◌∷◌, ◌++◌, refl, sym, ap, ◌∙◌, arith, append_assoc, subst, inl, inr}
 use Rattle.std.proofs.lemmas.Bool.{cases_lt}
 use Rattle.std.proofs.lemmas.List.{append-nil, length-append}
 use Rattle.grib_base.specs.declared.code.Code.{Code}
 use Rattle.grib_base.specs.declared.code.Code.TheVariants.{Present, Primary, Secondary}
 use Rattle.grib_packing.specs.declared.column.Point.{Point}
-use Rattle.grib_complex.specs.declared.keeping.Points.{Points}
 use Rattle.grib_complex.specs.declared.values.Plain.{Plain}
 use Rattle.grib_complex.specs.declared.values.Values.{Values}
 use Rattle.grib_complex.specs.Told.{Telling, Plainly, point_of, telling_after, told, after}
 use Rattle.grib_complex.specs.Tells.{Tells, PlainTook, ValuesTook}
-use Rattle.grib_complex.specs.Kept.{ArePoints, PointsKept}
 
 -- codes after codes
 pub told-append : (telling : Telling) (codes more : List Code) → told telling (codes ++ more) ≡ told telling codes ++ told (after telling codes) more
@@ -85,17 +83,3 @@ plain-more kept more before between last codes more_codes first second =
     let points : told Plainly codes ++ told Plainly more_codes ≡ told Plainly (codes ++ more_codes) =
     ap (λ (t : Telling). told Plainly codes ++ told t more_codes) (sym (after-plainly codes)) ∙ sym (told-append Plainly codes more_codes) in
     subst (λ (ps : List Point). kept before.keeper ps last.keeper) points (more before.keeper between.keeper last.keeper _ _ first second)
-
-pub points-none : (keeper : Points) → PointsKept keeper [] keeper
-points-none keeper = record {
-  keeps = λ mask seen room are. subst (λ (ps : List Point). ArePoints mask ps keeper) (sym (append-nil seen)) are;
-}
-
-pub points-more : (before between last : Points) (points more_points : List Point) → PointsKept before points between → PointsKept between more_points last
-    → PointsKept before (points ++ more_points) last
-points-more before between last points more_points first second = record {
-  keeps = λ mask seen room are.
-      let one = first.keeps mask seen (omega (arith, length-append points more_points)) are in
-      let two = second.keeps mask (seen ++ points) (omega (arith, length-append points more_points, length-append seen points)) one in
-      subst (λ (ps : List Point). ArePoints mask ps last) (append_assoc seen points more_points) two;
-}

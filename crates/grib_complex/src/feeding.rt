@@ -6,16 +6,15 @@ ghost use Rattle.grib_bitmap.specs.Mask.{present_count};
 ghost use Rattle.grib_packing.specs.Entries.{packing_fault, data_fault, entries_of, column_from};
 ghost use Rattle.grib_packing.specs.Packing.{value_count};
 ghost use Rattle.grib_complex.specs.Field.{Represents};
-ghost use Rattle.grib_complex.specs.Kept.{PointsKept};
+ghost use Rattle.grib_packing.specs.Kept.{PointsKept};
 ghost use Rattle.grib_complex.specs.Feeding.{HasRead, Agrees, IsFed, octets_left};
 
 use crate::field::Representation;
-use crate::keeping::{Keeper, Points};
 use crate::stages::{State, start_state};
 use crate::values::Values;
 use grib_base::{Fault, List, Reason, Section};
 use grib_bitmap::Mask;
-use grib_packing::{Column, Simple};
+use grib_packing::{Column, Keeper, Points, Simple};
 use std::alloc::{AllocError, Global};
 
 /// Reads the values of a field as the octets of its Section 7 come, in any pieces (WMO-No. 306, Volume I.2,

@@ -10,14 +10,13 @@ ghost use Rattle.grib_packing.specs.Representation.{Spelled};
 ghost use Rattle.grib_packing.specs.Unpacked.{IsUnpacked};
 ghost use Rattle.grib_complex.specs.Field.{Represents};
 
-use crate::keeping::{Keeper, Nothing};
 use crate::packing::unpack_complex;
 use crate::plain_values::take_simple_values;
 use crate::representation::{Complex, complex_of};
 use crate::unpacking::take_complex_values;
 use grib_base::{Fault, ReadFault, Section};
 use grib_bitmap::Mask;
-use grib_packing::{Column, Simple, read_simple};
+use grib_packing::{Column, Keeper, Nothing, Simple, read_simple};
 use grib_simple::{check_simple, unpack_simple};
 use std::alloc::Global;
 

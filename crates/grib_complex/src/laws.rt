@@ -9,9 +9,9 @@ ghost use Rattle.grib_packing.specs.Laws.{UnpackTo};
 ghost use Rattle.grib_packing.specs.Packing.{value_count};
 ghost use Rattle.grib_packing.specs.Written.{MayBePacked};
 ghost use Rattle.grib_complex.specs.declared.feeding.Feeding as feeding;
-ghost use Rattle.grib_complex.specs.declared.keeping.Points as keeping;
+ghost use Rattle.grib_packing.specs.declared.keeping.Points as keeping;
 ghost use Rattle.grib_complex.specs.Feeding.{Agrees, HasRead};
-ghost use Rattle.grib_complex.specs.Kept.{ArePoints, PointsKept};
+ghost use Rattle.grib_packing.specs.Kept.{ArePoints, PointsKept};
 
 use grib_groups::laws::what_is_written_reads_back;
 use grib_spatial::laws::differences_tell_their_numbers;

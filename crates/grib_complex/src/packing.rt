@@ -8,13 +8,12 @@ ghost use Rattle.grib_packing.specs.Written.{order_known};
 ghost use Rattle.grib_complex.specs.Descriptors.{IsAccepted};
 ghost use Rattle.grib_complex.specs.Representation.{Spelled};
 
-use crate::keeping::Points;
 use crate::packed::{pack_complex, pack_spatial};
 use crate::representation::{Complex, accepted_complex};
 use crate::unpacking::take_complex_values;
 use grib_base::{List, ReadFault, Section};
 use grib_bitmap::Mask;
-use grib_packing::{Column, PackFault, Packed, Packing};
+use grib_packing::{Column, PackFault, Packed, Packing, Points};
 use std::alloc::Global;
 
 /// Complex packing: the numbers of the present points stand in groups, each with a reference and a

@@ -10,12 +10,11 @@ ghost use Rattle.grib_packing.specs.Entries.{data_fault, entries_of};
 ghost use Rattle.grib_packing.specs.Packing.{packing_template, value_count};
 ghost use Rattle.grib_packing.specs.Representation.{Spelled};
 
-use crate::keeping::Keeper;
 use crate::unpacking::length_of;
 use crate::values::Plain;
 use grib_base::{ReadFault, Section};
 use grib_groups::Fed;
-use grib_packing::Simple;
+use grib_packing::{Keeper, Simple};
 use grib_simple::check_simple;
 use std::alloc::Global;
 

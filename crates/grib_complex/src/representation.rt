@@ -4,8 +4,8 @@ ghost use Rattle.std.specs.Prelude.{◌≡◌, ◌⊎◌, ◌+◌, ◌*◌, ◌^
 ghost use Rattle.grib_bits.specs.Octets.{StatesItself};
 ghost use Rattle.grib_base.specs.Rows.{first_fault, first_fault_at};
 ghost use Rattle.grib_packing.specs.Complex.{complex_rows, layout_of};
-ghost use Rattle.grib_packing.specs.Entries.{packing_fault};
-ghost use Rattle.grib_packing.specs.Packing.{packing_rows, packing_template};
+ghost use Rattle.grib_packing.specs.Entries.{packing_fault, packing_rows};
+ghost use Rattle.grib_packing.specs.Packing.{packing_template};
 ghost use Rattle.grib_packing.specs.Representation as shared;
 ghost use Rattle.grib_complex.specs.Descriptors.{IsAccepted};
 ghost use Rattle.grib_complex.specs.Representation.{Spelled};

@@ -5,11 +5,10 @@ ghost use Rattle.grib_groups.specs.Taking.{number_of};
 ghost use Rattle.grib_complex.specs.Told.{Plainly, point_of, telling_after, told};
 ghost use Rattle.grib_complex.specs.Tells.{IsWithin, PlainTook, SteadilyTook, telling_of};
 
-use crate::keeping::Keeper;
 use crate::values::Plain;
 use grib_base::Code;
 use grib_groups::CodeRun;
-use grib_packing::Point;
+use grib_packing::{Keeper, Point};
 use grib_spatial::Steady;
 
 /// Hands the point of each code of a difference on, none of whose numbers can be out of range.

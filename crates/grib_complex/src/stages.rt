@@ -22,7 +22,6 @@ ghost use Rattle.grib_complex.specs.Told.{After, told as points_of};
 ghost use Rattle.grib_complex.specs.Feeding.{AreOctets, BeginningAgrees, CanBegin, CanList, IsFedState, IsWholeListing, ListingAgrees, StateAgrees, is_one_list, number_groups};
 
 use crate::field::Representation;
-use crate::keeping::Keeper;
 use crate::noted::{Told, signed_fault};
 use crate::range::stays_by;
 use crate::representation::Complex;
@@ -32,7 +31,7 @@ use grib_base::{Fault, Reason};
 use grib_groups::{
     Fed, FedLists, Lists, References, Table, lists_fit, octets_of_lists, part_of, rest_of,
 };
-use grib_packing::Simple;
+use grib_packing::{Keeper, Simple};
 use grib_simple::is_too_short;
 use std::alloc::{AllocError, Global};
 

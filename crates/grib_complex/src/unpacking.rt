@@ -11,7 +11,6 @@ ghost use Rattle.grib_complex.specs.Representation.{Spelled};
 ghost use Rattle.grib_complex.specs.Descriptors.{IsAccepted, IsReadable};
 
 use crate::descriptors::{running, signed_first_value};
-use crate::keeping::Keeper;
 use crate::range::stays_within;
 use crate::representation::{Complex, accepted_complex};
 use crate::telling::Teller;
@@ -19,7 +18,7 @@ use crate::values::{Plain, Values};
 use byteorder::{BigEndian, ByteOrder};
 use grib_base::{Fault, ReadFault, Reason, Section};
 use grib_groups::{Table, lists_fit, read_groups, take_codes};
-use grib_packing::Point;
+use grib_packing::{Keeper, Point};
 use std::alloc::Global;
 
 /// Hands the points of all values of a field on, in their order, from its Section 5, which is accepted

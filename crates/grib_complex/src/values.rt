@@ -4,12 +4,11 @@ ghost use Rattle.std.specs.Prelude.{◌≤◌, ◌^◌};
 ghost use Rattle.grib_complex.specs.Tells.{StayWithin, PlainTook, ValuesTook};
 ghost use Rattle.grib_complex.specs.Laws.{plain-none, plain-more, values-none, values-more};
 
-use crate::keeping::Keeper;
 use crate::runs::{Steadily, keep_plainly, keep_steadily, plain_point};
 use crate::telling::Teller;
 use grib_base::Code;
 use grib_groups::{CodeRun, RunTaker, Taker};
-use grib_packing::Point;
+use grib_packing::{Keeper, Point};
 
 /// Tells the point of each code, and hands it on.
 #[derive(Debug, Drop)]

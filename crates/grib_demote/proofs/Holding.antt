@@ -13,7 +13,7 @@ use Rattle.grib2_products.specs.Product.{product_rows, product_templates, produc
 use Rattle.grib2_products.specs.Whole.{IsWhole as IsWholeProduct}
 use Rattle.grib2_message.specs.Fields.{part_octets}
 use Rattle.grib2_message.specs.Message.{FieldPasses}
-use Rattle.grib_repack.proofs.Ranges.{packing_passes}
+use Rattle.grib_packing.proofs.Packings.{packing_passes}
 use Rattle.grib_demote.specs.Held.{Holds}
 
 -- ---- the least lengths of the templates

@@ -6,15 +6,15 @@ use Rattle.grib_bits.specs.Plain.{plain}
 use Rattle.grib_bits.specs.Octets.{StatesItself}
 use Rattle.grib_bits.specs.Encoding.{section_of}
 use Rattle.grib_bits.proofs.Encoding.{num_on-octets_of, StatesItself-section_of}
-use Rattle.grib_base.specs.Rows.{first_fault, or_then, choose}
+use Rattle.grib_base.specs.Rows.{first_fault}
 use Rattle.grib_base.proofs.Passing.{none_from_passes}
 use Rattle.grib_dyadic.specs.Reference.{IsFinite}
 use Rattle.grib_bitmap.specs.Mask.{bitmap_rows, mask_of, present_count}
 use Rattle.grib_packing.specs.declared.column.Point.TheVariants.{Scaled}
-use Rattle.grib_packing.specs.Packing.{packing_rows, packing_template, value_count, reference_word, binary_scale, decimal_scale, bit_width}
+use Rattle.grib_packing.specs.Packing.{value_count, reference_word, binary_scale, decimal_scale, bit_width}
 use Rattle.grib_packing.specs.Simple.{simple_rows}
-use Rattle.grib_packing.specs.Complex.{complex_rows}
-use Rattle.grib_packing.specs.Entries.{packing_fault, data_fault, entries_of}
+use Rattle.grib_packing.specs.Entries.{packing_rows, packing_fault, data_fault, entries_of}
+use Rattle.grib_packing.proofs.Packings.{packing_fault-simple}
 use Rattle.grib1_sections.specs.Bitmap as bitmap1
 use Rattle.grib_migrate.specs.declared.number.Number.TheVariants.{One, Two, Four}
 use Rattle.grib_migrate.specs.Numbers.{all_octets}
@@ -75,8 +75,7 @@ module _ (values reference e d width kind : ℕ) (may : MayBeWritten values refe
 
   pub packing_passes : (points : ℕ) → values ≤ points → packing_fault (packing_with values reference e d width kind) points ≡ None
   packing_passes points few =
-      let s = packing_with values reference e d width kind in
-      ap (λ f. or_then f (λ _. choose (packing_template s == 0) (λ _. []) (λ _. complex_rows s))) (rows_pass points few)
+      packing_fault-simple (packing_with values reference e d width kind) points (rows_pass points few) refl
 
   pub packing_itself : StatesItself 5 (packing_with values reference e d width kind)
   packing_itself = StatesItself-section_of 5 (all_octets (Four values ∷ Two 0 ∷ Four reference ∷ Two e ∷ Two d ∷ One width ∷ One kind ∷ [])) (omega arith)

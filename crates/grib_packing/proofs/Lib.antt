@@ -4,3 +4,5 @@ pub mod Bounds
 pub mod Left
 pub mod Fields
 pub mod Sections
+pub mod Packings
+pub mod Masks

@@ -1,10 +1,12 @@
--- Section 7 of complex packing (WMO-No. 306, Volume I.2, FM 92 GRIB edition 2, data templates 7.2 and 7.3).
-use Rattle.std.specs.Prelude.{ℕ, ◌+◌, ◌-◌, ◌*◌, Bool, false, cond, ◌&&◌, Option, List, [], ◌∷◌, ◌++◌, length, drop, map, replicate, Some, None, nat_lt, ◌==◌, ℤ, pos}
-use Rattle.std.specs.List.{filter_map}
+-- What packed data mean: Section 7 of complex packing, and the list of the packings, by which all is read
+-- (WMO-No. 306, Volume I.2, FM 92 GRIB edition 2, code table 5.0 and data templates 7.0, 7.2 and 7.3).
+use Rattle.std.specs.Prelude.{ℕ, ◌+◌, ◌-◌, ◌*◌, Bool, false, not, cond, ◌&&◌, Option, List, [], ◌∷◌, ◌++◌, length, drop, map, replicate, Some, None, unwrap_or, find, nat_lt, ◌==◌, ℤ, pos}
+use Rattle.std.specs.List.{filter_map, list_any}
+use Rattle.grib_bits.specs.Binary32.{ieee_exponent}
 use Rattle.grib_bits.specs.Octets.{octets, signed_octets}
 use Rattle.grib_base.specs.declared.code.Code.{Code}
 use Rattle.grib_base.specs.declared.code.Code.TheVariants.{Present, Primary, Secondary}
-use Rattle.grib_base.specs.declared.fault.Reason.TheVariants.{FirstValueSign, ScaledRange}
+use Rattle.grib_base.specs.declared.fault.Reason.TheVariants.{FirstValueSign, ScaledRange, SectionLength, ValueCount, ReferenceNotFinite, BitWidth}
 use Rattle.grib_base.specs.declared.fault.Fault.{Fault}
 use Rattle.grib_base.specs.Rows.{Row, row, first_fault, first_place, or_then, choose}
 use Rattle.grib_packing.specs.Groups.{grouped, list_rows, group_rows}
@@ -13,9 +15,11 @@ use Rattle.grib_packing.specs.Simple.{simple_rows, simple_entries}
 use Rattle.grib_packing.specs.declared.column.Column.{Column}
 use Rattle.grib_packing.specs.declared.column.Point.{Point}
 use Rattle.grib_packing.specs.declared.column.Point.TheVariants.{Scaled, Missing, Missing2}
-use Rattle.grib_packing.specs.Packing.{packing_template, value_count, packing_rows}
+use Rattle.grib_packing.specs.Packing.{packing_template, value_count, reference_word, bit_width, template_reason}
 use Rattle.grib_packing.specs.Differences.{Descriptors, undone, is_beyond}
 use Rattle.grib_packing.specs.Complex.{layout_of, complex_rows, difference_order, extra_octets, descriptor_octets}
+
+-- ---- complex packing
 
 -- whether there are no groups: then every value is 0 and Section 7 is not read
 abbrev pub has_no_groups : List ℕ → Bool
@@ -115,21 +119,89 @@ abbrev pub complex_entries : List ℕ → List ℕ → List Point
 complex_entries s5 s7 =
     choose (has_no_groups s5) (λ _. replicate (value_count s5) (Scaled (pos 0))) (λ _. group_entries s5 s7)
 
--- the refusal of a Section 7 by rows S7.1 to S7.7
-abbrev pub data_fault : List ℕ → List ℕ → Option Fault
-data_fault s5 s7 =
-    choose (packing_template s5 == 0) (λ _. first_fault (simple_rows s5 (length s7))) (λ _. complex_data_fault s5 s7)
+-- ---- the packings
 
--- the entries of the present points of any field
+-- What a data representation template (code table 5.0) says of Sections 5 and 7 in its own way.
+pub record PackingTemplate : Type 0 where
+  pub number : ℕ  -- of the template
+  pub least : ℕ  -- the least length of Section 5, in octets
+  pub most : ℕ  -- the most bits of each packed number, or of each group reference
+  pub rows : List ℕ → List Row  -- the rows of Section 5 that other templates do not share
+  pub fault : List ℕ → List ℕ → Option Fault  -- the refusal of a Section 7, from Sections 5 and 7
+  pub entries : List ℕ → List ℕ → List Point  -- the entries of the present points, from Sections 5 and 7
+
+abbrev pub simple_packing : PackingTemplate
+simple_packing = record {
+  number = 0;
+  least = 21;
+  most = 48;
+  rows = λ s. [];
+  fault = λ s5 s7. first_fault (simple_rows s5 (length s7));
+  entries = simple_entries;
+}
+
+abbrev pub complex_packing : ℕ → ℕ → PackingTemplate
+complex_packing number least = record {
+  number = number;
+  least = least;
+  most = 32;
+  rows = complex_rows;
+  fault = complex_data_fault;
+  entries = complex_entries;
+}
+
+-- the packings of the profile
+abbrev pub packings : List PackingTemplate
+packings = simple_packing ∷ complex_packing 2 47 ∷ complex_packing 3 49 ∷ []
+
+-- a template that is not in the list has no rows of its own, no refusal and no entries
+abbrev pub unlisted_packing : ℕ → PackingTemplate
+unlisted_packing number = record {
+  number = number;
+  least = 0;
+  most = 255;
+  rows = λ s. [];
+  fault = λ s5 s7. None;
+  entries = λ s5 s7. [];
+}
+
+abbrev pub is_packing : ℕ → Bool
+is_packing t = list_any (λ p. p.number == t) packings
+
+abbrev pub packing_of : ℕ → PackingTemplate
+packing_of t = unwrap_or (find (λ p. p.number == t) packings) (unlisted_packing t)
+
+-- the packing that a Section 5 names
+abbrev pub own_packing : List ℕ → PackingTemplate
+own_packing s5 = packing_of (packing_template s5)
+
+-- ---- what is read by them
+
+-- rows S5.1 to S5.6, which all templates share, where the grid has this many points
+abbrev pub packing_rows : List ℕ → ℕ → List Row
+packing_rows s points =
+    let l = length s in
+    let t = packing_template s in
+    row (nat_lt l 11) 1 SectionLength l  -- S5.1
+    ∷ row (not (is_packing t)) 10 (template_reason t) t  -- S5.2
+    ∷ row (nat_lt l (packing_of t).least) 1 SectionLength l  -- S5.3
+    ∷ row (nat_lt points (value_count s)) 6 ValueCount (value_count s)  -- S5.4
+    ∷ row (ieee_exponent (reference_word s) == 255) 12 ReferenceNotFinite (reference_word s)  -- S5.5
+    ∷ row (nat_lt (packing_of t).most (bit_width s)) 20 BitWidth (bit_width s)  -- S5.6
+    ∷ []
+
+-- the refusal of a Section 5 by these rows and by those of its template: rows S5.1 to S5.13
+abbrev pub packing_fault : List ℕ → ℕ → Option Fault
+packing_fault s points = or_then (first_fault (packing_rows s points)) (λ _. (own_packing s).rows s)
+
+-- the refusal of a Section 7: rows S7.1 to S7.7
+abbrev pub data_fault : List ℕ → List ℕ → Option Fault
+data_fault s5 s7 = (own_packing s5).fault s5 s7
+
+-- the entries of the present points of a field
 abbrev pub entries_of : List ℕ → List ℕ → List Point
-entries_of s5 s7 =
-    choose (packing_template s5 == 0) (λ _. simple_entries s5 s7) (λ _. complex_entries s5 s7)
+entries_of s5 s7 = (own_packing s5).entries s5 s7
 
 -- the column of a field with this Section 5, mask and Section 7
 abbrev pub column_from : List ℕ → List Bool → List ℕ → Column
 column_from s5 mask s7 = column_with s5 (points_with_mask mask (entries_of s5 s7))
-
--- the refusal of a Section 5 by rows S5.1 to S5.13
-abbrev pub packing_fault : List ℕ → ℕ → Option Fault
-packing_fault s points =
-    or_then (first_fault (packing_rows s points)) (λ _. choose (packing_template s == 0) (λ _. []) (λ _. complex_rows s))

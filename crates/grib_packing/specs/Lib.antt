@@ -14,5 +14,6 @@ pub mod Sections
 pub mod Unpacked
 pub mod Written
 pub mod Laws
+pub mod Kept
 pub use Rattle.grib_bitmap.specs.Mask
 pub use Rattle.grib_base.specs.Faults

@@ -4,6 +4,7 @@
 
 mod column;
 mod group;
+mod keeping;
 mod layout;
 mod packing;
 mod representation;
@@ -13,6 +14,7 @@ mod written;
 
 pub use column::{Column, Point};
 pub use group::Group;
+pub use keeping::{Keeper, Nothing, Points};
 pub use layout::Layout;
 pub use packing::Packing;
 pub use representation::{Simple, numbers_of, read_simple};

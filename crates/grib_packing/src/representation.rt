@@ -1,13 +1,12 @@
 //! Section 5, the data representation section: what all packings share.
 
-ghost use Rattle.std.specs.Prelude.{◌≡◌, ◌==◌, ◌≤◌, length, not, cond, Some, None, MatchResult};
+ghost use Rattle.std.specs.Prelude.{◌≡◌, ◌==◌, ◌≤◌, length, not, true, false, Some, None, MatchResult};
 ghost use Rattle.grib_bits.specs.Binary32.{ieee_exponent};
 ghost use Rattle.grib_bits.specs.Octets.{StatesItself};
 ghost use Rattle.grib_base.specs.Rows as rows;
 ghost use Rattle.grib_base.specs.Rows.{first_fault_at};
-ghost use Rattle.grib2_sections.specs.Template.{is_template, least_length as least};
-ghost use Rattle.grib_packing.specs.Packing as packing;
-ghost use Rattle.grib_packing.specs.Packing.{packing_rows, packing_templates};
+ghost use Rattle.grib_packing.specs.Entries.{packing_rows, is_packing, packing_of};
+ghost use Rattle.grib_packing.specs.Packing.{template_reason};
 ghost use Rattle.grib_packing.specs.Representation.{Spelled};
 
 use byteorder::{BigEndian, ByteOrder};
@@ -51,10 +50,11 @@ pub fn read_simple(section: &Section<'_>, points: u32) -> Result<Simple, Fault>
         return Err(Fault::at(start, Reason::SectionLength, length));
     }
     let template = BigEndian::read_u16(&octets[9..]);
-    let Some(least) = least_length(template) else {
-        return Err(Fault::at(start + 9, template_reason(template), u64::from(template)));
+    let limits = match limits_of(template) {
+        Ok(limits) => limits,
+        Err(reason) => return Err(Fault::at(start + 9, reason, u64::from(template))),
     };
-    if length < least {
+    if length < limits.least_length {
         return Err(Fault::at(start, Reason::SectionLength, length));
     }
     let simple = numbers_of(octets);
@@ -68,7 +68,7 @@ pub fn read_simple(section: &Section<'_>, points: u32) -> Result<Simple, Fault>
             u64::from(simple.reference),
         ));
     }
-    if simple.bits > most_bits(template) {
+    if simple.bits > limits.most_bits {
         return Err(Fault::at(start + 19, Reason::BitWidth, u64::from(simple.bits)));
     }
     Ok(simple)
@@ -90,29 +90,35 @@ pub fn numbers_of(octets: &[u8]) -> Simple
     }
 }
 
-/// The least length of a Section 5 with this template, in octets.
-fn least_length(template: u16) -> Option<u64>
-    ensures { result ≡ cond (is_template packing_templates template)
-        (Some (least packing_templates template)) None }
-{
-    match template {
-        0 => Some(21),
-        2 => Some(47),
-        3 => Some(49),
-        _ => None,
-    }
+/// What a template of the profile asks of a Section 5.
+#[derive(Clone, Copy)]
+struct Limits {
+    /// The least length of the section, in octets.
+    least_length: u64,
+    /// The most bits of each packed number, or of each group reference.
+    most_bits: u8,
 }
 
-/// Why a template that is not of the profile is refused.
-fn template_reason(template: u16) -> Reason
-    ensures { result ≡ packing.template_reason template }
+/// The limits of a template of the profile, or why a template is refused.
+fn limits_of(template: u16) -> Result<Limits, Reason>
+    ensures { MatchResult result
+        (λ limits. (is_packing template ≡ true) × (limits.least_length ≡ (packing_of template).least)
+        × (limits.most_bits ≡ (packing_of template).most))
+        (λ reason. (is_packing template ≡ false) × (reason ≡ template_reason template)) }
 {
-    match template {
-        40 => Reason::Jpeg2000,
-        41 => Reason::PngPacked,
-        42 => Reason::Ccsds,
-        _ => Reason::PackingTemplate,
-    }
+    let (least_length, most_bits) = match template {
+        0 => (21, 48),
+        2 => (47, 32),
+        3 => (49, 32),
+        40 => return Err(Reason::Jpeg2000),
+        41 => return Err(Reason::PngPacked),
+        42 => return Err(Reason::Ccsds),
+        _ => return Err(Reason::PackingTemplate),
+    };
+    Ok(Limits {
+        least_length,
+        most_bits,
+    })
 }
 
 /// Whether a binary32 word is neither infinite nor NaN.
@@ -120,11 +126,4 @@ fn is_finite(word: u32) -> bool
     ensures { result ≡ not (ieee_exponent word == 255) }
 {
     word >> 23 & 255 != 255
-}
-
-/// The most bits of a number in this template.
-fn most_bits(template: u16) -> u8
-    ensures { result ≡ packing.most_bits template }
-{
-    if template == 0 { 48 } else { 32 }
 }

@@ -1,28 +1,19 @@
 -- The reference value of a field of an accepted message is finite.
-use Rattle.std.proofs.Common.{◌≡◌, ◌≢◌, ℕ, ◌<◌, None, Option, Some, List, [], ◌==◌, refl, sym, ◌∙◌, subst, arith}
+use Rattle.std.proofs.Common.{◌≡◌, ◌≢◌, ℕ, ◌<◌, List, ◌==◌, sym, ◌∙◌, subst, arith}
 use Rattle.std.proofs.lemmas.Bool.{false≢true, eq-eqb}
 use Rattle.grib_bits.specs.Binary32.{ieee_exponent}
-use Rattle.grib_base.specs.declared.fault.Fault.{Fault}
-use Rattle.grib_base.specs.Rows.{Row, first_fault, or_then, choose}
 use Rattle.grib_packing.specs.declared.column.Column.{Column}
-use Rattle.grib_packing.specs.Packing.{packing_rows, packing_template, reference_word}
-use Rattle.grib_packing.specs.Complex.{complex_rows}
+use Rattle.grib_packing.specs.Packing.{reference_word}
+use Rattle.grib_packing.proofs.Packings.{packing_passes}
 use Rattle.grib2_message.specs.Grid.{grid_points}
 use Rattle.grib2_message.specs.Fields.{part_octets, column_of}
 use Rattle.grib2_message.specs.Message.{FieldPasses}
-use Rattle.grib2_message.proofs.Passed.{passes_from_none}
-
-none_first : (first : Option Fault) (later : Unit {0} → List Row) → or_then first later ≡ None → first ≡ None
-none_first None later none = refl
-none_first (Some fault) later none = let no : ⊥ = cc in absurd no
 
 finite_word : (m : List ℕ) (i : ℕ) → FieldPasses m i → ieee_exponent (reference_word (part_octets m i 5)) < 255
 finite_word m i passes =
     let octets = part_octets m i 5 in
-    let points = grid_points (part_octets m i 3) in
-    let first = none_first (first_fault (packing_rows octets points)) (λ _. choose (packing_template octets == 0) (λ _. []) (λ _. complex_rows octets)) passes.packing in
-    let p = passes_from_none (packing_rows octets points) first in
-    let other : ieee_exponent (reference_word octets) ≢ 255 = λ e. false≢true (sym p.1.1.1.1.0 ∙ eq-eqb (ieee_exponent (reference_word octets)) 255 e) in
+    let packing = packing_passes octets (grid_points (part_octets m i 3)) passes.packing in
+    let other : ieee_exponent (reference_word octets) ≢ 255 = λ e. false≢true (sym packing.finite ∙ eq-eqb (ieee_exponent (reference_word octets)) 255 e) in
     let bound : ieee_exponent (reference_word octets) < 256 = omega arith in
     omega arith
 

@@ -11,7 +11,8 @@ use Rattle.grib2_message.specs.Fields.{part_octets, field_mask, column_of}
 use Rattle.grib2_message.specs.Message.{FieldPasses}
 use Rattle.grib2_message.proofs.Masks.{points_bounds, points_of_mask}
 use Rattle.grib_repack.specs.Repacked.{kind_of}
-use Rattle.grib_repack.proofs.Ranges.{packing_passes, entries_within, none_with_mask, any_of_none}
+use Rattle.grib_packing.proofs.Packings.{packing_passes}
+use Rattle.grib_repack.proofs.Ranges.{entries_within, none_with_mask, any_of_none}
 use Rattle.grib_repack.proofs.Octets.{part_of_octets, octets_few}
 
 -- a column of such a field with 1 to 33,554,432 points
@@ -26,7 +27,7 @@ packable message i column is passes some few =
     subst MayBePacked (sym is) (record {
       some = omega (arith, same, some);
       few = omega (arith, same, few);
-      within = any_of_none is_out_of_range (points_with_mask mask (entries_of s5 s7)) (none_with_mask mask (entries_of s5 s7) (entries_within s5 s7 packing.narrow passes.values));
+      within = any_of_none is_out_of_range (points_with_mask mask (entries_of s5 s7)) (none_with_mask mask (entries_of s5 s7) (entries_within s5 s7 _ packing passes.values));
       finite = packing.finite;
     })
 

@@ -1,10 +1,7 @@
 -- The numbers of a field that is accepted are within the range of the columns that are packed.
 use Rattle.std.proofs.Common.{◌≡◌, ℕ, zero, suc, ◌+◌, ◌*◌, ◌^◌, ◌<◌, ◌≤◌, ◌⊎◌, Bool, true, false, cond, not, ◌&&◌, ◌||◌, ◌==◌, nat_lt, find, Option, Some, None, List, [], ◌∷◌, ◌++◌, length, drop, map, replicate, pos, inl, inr, refl, sym, ap, ap₂, ◌∙◌, arith, subst, le-ltb, ltb-false, pow_mono}
 use Rattle.std.specs.List.{list_any, filter_map, range_with_len}
-use Rattle.std.specs.Option.{option_map_or}
-use Rattle.std.proofs.lemmas.Bool.{not-false}
 use Rattle.grib_bits.specs.Bits.{bits}
-use Rattle.grib_bits.specs.Binary32.{ieee_exponent}
 use Rattle.grib_bits.specs.Plain.{plain, plain_at}
 use Rattle.grib_bits.proofs.WordNumbers.{number-lt}
 use Rattle.grib_base.specs.declared.code.Code.{Code}
@@ -17,13 +14,12 @@ use Rattle.grib_packing.specs.declared.column.Point.TheVariants.{Scaled}
 use Rattle.grib_packing.specs.declared.group.Group.{Group}
 use Rattle.grib_packing.specs.declared.layout.Layout.{Layout}
 use Rattle.grib_packing.specs.Column.{points_with_mask}
-use Rattle.grib_packing.specs.Complex.{layout_of, descriptor_octets, complex_rows}
+use Rattle.grib_packing.specs.Complex.{layout_of, descriptor_octets}
 use Rattle.grib_packing.specs.Differences.{undone}
-use Rattle.grib_packing.specs.Entries.{data_fault, packing_fault, complex_data_fault, complex_entries, group_data_fault, group_data_rows, group_entries, range_rows, entries_of, codes_of, descriptors, refilled, present_code, has_no_groups, is_out_of_range}
+use Rattle.grib_packing.specs.Entries.{data_fault, complex_data_fault, complex_entries, group_data_fault, group_data_rows, group_entries, range_rows, entries_of, codes_of, descriptors, refilled, present_code, has_no_groups, is_out_of_range}
 use Rattle.grib_packing.specs.Groups.{code_of, codes_from, marked, groups_from, groups, references, widths, lengths, list_octets, list_rows}
-use Rattle.grib2_sections.specs.Template.{Template, is_template, least_length}
-use Rattle.grib_packing.specs.Packing.{packing_template, packing_templates, packing_rows, bit_width, most_bits, reference_word, value_count}
-use Rattle.grib_packing.specs.Simple.{simple_entries, simple_rows}
+use Rattle.grib_packing.specs.Packing.{packing_template, bit_width, value_count}
+use Rattle.grib_packing.proofs.Packings.{IsComplexTemplate, PackingPasses, most-simple, most-complex, data_fault-complex, entries_of-simple, entries_of-complex}
 use Rattle.grib_simple.proofs.Seen.{first_place-any}
 use Rattle.grib2_message.proofs.Passed.{passes_from_none}
 
@@ -157,65 +153,28 @@ or_tells : (fault : Option Fault) (later : Unit {0} → List Row) → or_then fa
 or_tells (Some fault) later none = absurd (cc)
 or_tells None later none = (refl, none)
 
--- what the rows of Section 5 say of the reference value and the bits
-pub record PackingPasses (s5 : List ℕ) : Type 0 where
-  pub long : 21 ≤ length s5
-  pub finite : (ieee_exponent (reference_word s5) == 255) ≡ false
-  pub narrow : bit_width s5 ≤ most_bits (packing_template s5)
-
 true_or_false : (b : Bool) → (b ≡ true) ⊎ (b ≡ false)
 true_or_false true = inl refl
 true_or_false false = inr refl
-
--- each template has at least this number of octets
-abbrev AreAtLeast : ℕ → List Template → Type 0
-AreAtLeast bound [] = Unit {0}
-AreAtLeast bound (t ∷ templates) = (bound ≤ t.least) × AreAtLeast bound templates
-
-at_least : (templates : List Template) (number bound : ℕ) → AreAtLeast bound templates → is_template templates number ≡ true → bound ≤ least_length templates number
-at_least [] number bound h e = cc
-at_least (t ∷ templates) number bound h e = first_or (t.number == number) refl e (at_least templates number bound h.1) where
-  first_or : (b : Bool) → (t.number == number) ≡ b → ((t.number == number) || is_template templates number) ≡ true
-      → (is_template templates number ≡ true → bound ≤ least_length templates number) → bound ≤ least_length (t ∷ templates) number
-  first_or true here e' rest =
-      subst (λ (n : ℕ). bound ≤ n)
-      (sym (ap (λ (b : Bool). option_map_or (λ x. x.least) (cond b (Some t) (find (λ x. x.number == number) templates)) 0) here)) h.0
-  first_or false there e' rest =
-      subst (λ (n : ℕ). bound ≤ n)
-      (sym (ap (λ (b : Bool). option_map_or (λ x. x.least) (cond b (Some t) (find (λ x. x.number == number) templates)) 0) there))
-      (rest (sym (ap (λ (b : Bool). b || is_template templates number) there) ∙ e'))
-
-pub packing_passes : (s5 : List ℕ) (points : ℕ) → packing_fault s5 points ≡ None → PackingPasses s5
-packing_passes s5 points none =
-    let shared = or_tells (first_fault (packing_rows s5 points)) (λ _. choose (packing_template s5 == 0) (λ _. []) (λ _. complex_rows s5)) none in
-    let rows = passes_from_none (packing_rows s5 points) shared.0 in
-    let known = not-false (is_template packing_templates (packing_template s5)) rows.1.0 in
-    let least = at_least packing_templates (packing_template s5) 21 (omega arith, (omega arith, (omega arith, tt))) known in
-    record {
-      long = omega (arith, ltb-false (length s5) (least_length packing_templates (packing_template s5)) rows.1.1.0, least);
-      finite = rows.1.1.1.1.0;
-      narrow = ltb-false (most_bits (packing_template s5)) (bit_width s5) rows.1.1.1.1.1.0;
-    }
 
 second_true : (a b : Bool) → (a && b) ≡ false → a ≡ true → b ≡ false
 second_true true b e on = e
 second_true false b e on = absurd (cc)
 
-module _ (s5 s7 : List ℕ) (narrow : bit_width s5 ≤ most_bits (packing_template s5)) (values : data_fault s5 s7 ≡ None) where
-  simple_within : (packing_template s5 == 0) ≡ true → NoneOf is_out_of_range (entries_of s5 s7)
+module _ (s5 s7 : List ℕ) (points : ℕ) (packing : PackingPasses s5 points) (values : data_fault s5 s7 ≡ None) where
+  simple_within : packing_template s5 ≡ 0 → NoneOf is_out_of_range (entries_of s5 s7)
   simple_within simple =
-      let few : bit_width s5 ≤ 48 = subst (λ (b : Bool). bit_width s5 ≤ cond b 48 32) simple narrow in
-      subst (λ (b : Bool). NoneOf is_out_of_range (choose b (λ _. simple_entries s5 s7) (λ _. complex_entries s5 s7))) (sym simple)
+      let few : bit_width s5 ≤ 48 = omega (arith, packing.narrow, most-simple (packing_template s5) simple) in
+      subst (λ (ps : List Point). NoneOf is_out_of_range ps) (sym (entries_of-simple s5 s7 simple))
       (plain_within (bits (drop 5 s7)) (bit_width s5) (range_with_len 0 (value_count s5)) few)
 
   -- with groups
-  module _ (grouped : (packing_template s5 == 0) ≡ false) where
+  module _ (complex : IsComplexTemplate (packing_template s5)) where
     few_bits : bit_width s5 ≤ 32
-    few_bits = subst (λ (b : Bool). bit_width s5 ≤ cond b 48 32) grouped narrow
+    few_bits = omega (arith, packing.narrow, most-complex (packing_template s5) complex)
 
     complex_passes : complex_data_fault s5 s7 ≡ None
-    complex_passes =
-        subst (λ (b : Bool). choose b (λ _. first_fault (simple_rows s5 (length s7))) (λ _. complex_data_fault s5 s7) ≡ None) grouped values
+    complex_passes = sym (data_fault-complex s5 s7 complex) ∙ values
 
     groups_within : has_no_groups s5 ≡ false → NoneOf is_out_of_range (group_entries s5 s7)
     groups_within some =
@@ -252,9 +211,7 @@ module _ (s5 s7 : List ℕ) (narrow : bit_width s5 ≤ most_bits (packing_templa
     ]
 
   pub entries_within : NoneOf is_out_of_range (entries_of s5 s7)
-  entries_within = elim (true_or_false (packing_template s5 == 0)) [
+  entries_within = elim packing.template [
     | inl simple ↦ simple_within simple
-    | inr grouped ↦
-        subst (λ (b : Bool). NoneOf is_out_of_range (choose b (λ _. simple_entries s5 s7) (λ _. complex_entries s5 s7))) (sym grouped)
-        (complex_within grouped)
+    | inr complex ↦ subst (λ (ps : List Point). NoneOf is_out_of_range ps) (sym (entries_of-complex s5 s7 complex)) (complex_within complex)
   ]

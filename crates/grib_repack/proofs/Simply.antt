@@ -11,11 +11,11 @@ use Rattle.grib_packing.specs.Entries.{data_fault}
 use Rattle.grib_packing.specs.Groupings.{digits, greatest}
 use Rattle.grib_packing.specs.Misfits.{ToSimple, first_misfit}
 use Rattle.grib_packing.specs.Packed.{HasContents, HasNumbers, IsBitmap, IsSimple, fields, present_bits, simple_numbers, simple_width}
-use Rattle.grib_packing.specs.Packing.{packing_template, value_count, bit_width, most_bits}
+use Rattle.grib_packing.specs.Packing.{packing_template, value_count, bit_width}
 use Rattle.grib_packing.specs.Representation.{Spelled}
 use Rattle.grib_packing.proofs.Fields.{length-plain}
 use Rattle.grib_packing.specs.Simple.{simple_rows}
-use Rattle.grib_simple.proofs.Accepted.{data_fault-simple, entries_of-simple}
+use Rattle.grib_packing.proofs.Packings.{data_fault-simple, entries_of-simple, most-simple}
 use Rattle.grib2_message.proofs.Passed.{passes_from_none}
 use Rattle.grib2_message.specs.Fields.{part_octets, field_mask, column_of}
 use Rattle.grib_repack.specs.Plain.{HasNumbersOf}
@@ -90,8 +90,8 @@ has_numbers s5 s7 template none =
     ltb-false (8 * length s7) (value_count s5 * bit_width s5 + 40) rows.0
 
 -- a number of simple packing has 48 bits at most
-pub narrow_bits : (s5 : List ℕ) → packing_template s5 ≡ 0 → bit_width s5 ≤ most_bits (packing_template s5) → bit_width s5 ≤ 48
-narrow_bits s5 template narrow = omega (arith, narrow, ap most_bits template)
+pub narrow_bits : (s5 : List ℕ) → packing_template s5 ≡ 0 → bit_width s5 ≤ (own_packing s5).most → bit_width s5 ≤ 48
+narrow_bits s5 template narrow = omega (arith, narrow, most-simple (packing_template s5) template)
 
 -- what is read from octet 6 of Section 7 on, by the numbers of Section 5
 module _ (message : List ℕ) (i : ℕ) (simple : Simple) (s7 : List ℕ) (w : ℕ) (spelled : Spelled simple (part_octets message i 5))

@@ -9,8 +9,7 @@ ghost use Rattle.grib_repack.specs.Words.{AreWords, WordsKept, word_for, words-n
 
 use crate::numbers::number_words;
 use grib_base::push_within;
-use grib_complex::Keeper;
-use grib_packing::Point;
+use grib_packing::{Keeper, Point};
 use std::alloc::{AllocError, Global};
 
 /// The greatest number that has a code of 32 bits, however many codes are reserved for missing points.
@@ -81,11 +80,6 @@ impl PointWords {
 
 impl Keeper for PointWords {
     ghost kept = { WordsKept };
-
-    #[inline]
-    fn keeps(&self) -> bool {
-        true
-    }
 
     ghost room = { λ _. 4294967295 };
 

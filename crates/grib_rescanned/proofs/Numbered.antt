@@ -7,7 +7,7 @@ use Rattle.grib_packing.specs.Column.{points_with_mask}
 use Rattle.grib_packing.specs.Entries.{data_fault, entries_of}
 use Rattle.grib_packing.specs.Packing.{packing_template, value_count, bit_width}
 use Rattle.grib_packing.specs.Simple.{simple_rows}
-use Rattle.grib_simple.proofs.Accepted.{data_fault-simple, entries_of-simple}
+use Rattle.grib_packing.proofs.Packings.{data_fault-simple, entries_of-simple}
 use Rattle.grib_simple.proofs.Masked.{with_full_mask}
 use Rattle.grib2_message.proofs.Passed.{passes_from_none}
 use Rattle.grib_rescan.proofs.Added.{scaled}

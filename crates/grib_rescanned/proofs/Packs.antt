@@ -5,43 +5,23 @@ use Rattle.std.proofs.lemmas.Bool.{cases_eq, not-false}
 use Rattle.grib_bits.specs.Bits.{bits}
 use Rattle.grib_bits.specs.Octets.{octets}
 use Rattle.grib_bits.specs.Plain.{plain}
-use Rattle.grib_base.specs.declared.fault.Fault.{Fault}
-use Rattle.grib_base.specs.Rows.{Row, first_fault, choose, or_then}
-use Rattle.grib2_sections.specs.Template.{is_template, least_length}
 use Rattle.grib_packing.specs.declared.column.Point.{Point}
 use Rattle.grib_packing.specs.declared.column.Point.TheVariants.{Scaled}
 use Rattle.grib_packing.specs.Column.{points_with_mask}
 use Rattle.grib_packing.specs.Complex.{complex_rows, difference_order}
-use Rattle.grib_packing.specs.Entries.{packing_fault, entries_of, complex_entries}
-use Rattle.grib_packing.specs.Simple.{simple_entries}
+use Rattle.grib_packing.specs.Entries.{packing_fault, packing_of, entries_of}
 use Rattle.grib_packing.specs.Misfits.{Target, ToSimple, ToComplex, ToSpatial, Misfit, SecondaryMissing, OutOfRange, DifferenceRange, first_misfit, first_of, is_missing2}
-use Rattle.grib_packing.specs.Packing.{packing_template, packing_templates, packing_rows, bit_width, value_count}
+use Rattle.grib_packing.specs.Packing.{packing_template, bit_width, value_count}
 use Rattle.grib_packing.specs.Written.{IsTarget}
+use Rattle.grib_packing.proofs.Packings.{entries_of-simple, packing_fault-complex, packing_shared, packing_passes}
 use Rattle.grib2_message.proofs.Passed.{passes_from_none}
 use Rattle.grib2_message.specs.Fields.{part_octets, field_mask, column_of}
 use Rattle.grib_rescanned.specs.Rescanned.{own_target}
 
 -- ---- the template and the order of a Section 5 that no row refuses
 
-or_tells : (fault : Option Fault) (later : Unit {0} → List Row) → or_then fault later ≡ None → (fault ≡ None) × (first_fault (later tt) ≡ None)
-or_tells (Some fault) later none = absurd (cc)
-or_tells None later none = (refl, none)
-
 target_by : ℕ → ℕ → Target
 target_by template order = cond (template == 0) ToSimple (cond (template == 2) ToComplex (ToSpatial order))
-
-or_true : (a b : Bool) → (a || b) ≡ true → (a ≡ true) ⊎ (b ≡ true)
-or_true true b e = inl refl
-or_true false b e = inr e
-
-known : (t : ℕ) → is_template packing_templates t ≡ true → (t ≡ 0) ⊎ ((t ≡ 2) ⊎ (t ≡ 3))
-known t e = elim (or_true (0 == t) ((2 == t) || ((3 == t) || false)) e) [
-  | inl none ↦ inl (sym (eqb-true 0 t none))
-  | inr more ↦ elim (or_true (2 == t) ((3 == t) || false) more) [
-    | inl two ↦ inr (inl (sym (eqb-true 2 t two)))
-    | inr most ↦ elim (or_true (3 == t) false most) [ inl three ↦ inr (inr (sym (eqb-true 3 t three))) | inr never ↦ absurd (cc) ]
-  ]
-]
 
 both_known : (spatial : Bool) (o : ℕ) → (spatial && not (o == 1) && not (o == 2)) ≡ false → spatial ≡ true → (o ≡ 1) ⊎ (o ≡ 2)
 both_known spatial o e is = elim (cases_eq o 1) [
@@ -63,35 +43,29 @@ pub record PacksAs (s5 : List ℕ) : Type 0 where
   pub long : 21 ≤ length s5
   pub longer : packing_template s5 ≢ 0 → packing_template s5 ≢ 2 → 49 ≤ length s5
 
-by_template : (s5 : List ℕ) (t : ℕ) → packing_template s5 ≡ t → least_length packing_templates t ≤ length s5 → 21 ≤ least_length packing_templates t
+by_template : (s5 : List ℕ) (t : ℕ) → packing_template s5 ≡ t → 21 ≤ length s5
     → IsTarget (target_by t (octets s5 48 48)) → (t ≢ 0 → t ≢ 2 → 49 ≤ length s5) → PacksAs s5
 unfolding target_by
-by_template s5 t is least some target longer = record {
+by_template s5 t is long target longer = record {
   target = subst (λ (n : ℕ). IsTarget (target_by n (octets s5 48 48))) (sym is) target;
-  long = omega (arith, least, some);
+  long = long;
   longer = λ not_0 not_2. longer (λ e. not_0 (is ∙ e)) (λ e. not_2 (is ∙ e));
 }
 
 pub packs_as : (s5 : List ℕ) (points : ℕ) → packing_fault s5 points ≡ None → PacksAs s5
 unfolding target_by
 packs_as s5 points none =
-    let shared = or_tells (first_fault (packing_rows s5 points)) (λ _. choose (packing_template s5 == 0) (λ _. []) (λ _. complex_rows s5)) none in
-    let rows = passes_from_none (packing_rows s5 points) shared.0 in
-    let template = not-false (is_template packing_templates (packing_template s5)) rows.1.0 in
-    let least = ltb-false (length s5) (least_length packing_templates (packing_template s5)) rows.1.1.0 in
-    elim (known (packing_template s5) template) [
-      | inl is ↦
-          by_template s5 0 is (subst (λ (t : ℕ). least_length packing_templates t ≤ length s5) is least) (omega arith) tt (λ not_0 not_2. absurd (not_0 refl))
+    let passes = packing_passes s5 points none in
+    elim passes.template [
+      | inl is ↦ by_template s5 0 is passes.long tt (λ not_0 not_2. absurd (not_0 refl))
       | inr others ↦ elim others [
-        | inl is ↦
-            by_template s5 2 is (subst (λ (t : ℕ). least_length packing_templates t ≤ length s5) is least) (omega arith) tt (λ not_0 not_2. absurd (not_2 refl))
+        | inl is ↦ by_template s5 2 is passes.long tt (λ not_0 not_2. absurd (not_2 refl))
         | inr is ↦
-            let later = subst (λ (t : ℕ). first_fault (choose (t == 0) (λ _. []) (λ _. complex_rows s5)) ≡ None) is shared.1 in
-            let more = passes_from_none (complex_rows s5) later in
+            let more = passes_from_none (complex_rows s5) (sym (packing_fault-complex s5 points (packing_shared s5 points none) (inr is)) ∙ none) in
             let spatial : (packing_template s5 == 3) ≡ true = ap (λ (t : ℕ). t == 3) is in
             let order : difference_order s5 ≡ octets s5 48 48 = ap (λ (t : ℕ). cond (t == 3) (octets s5 48 48) 0) is in
-            let long : 49 ≤ length s5 = subst (λ (t : ℕ). least_length packing_templates t ≤ length s5) is least in
-            by_template s5 3 is long (omega arith) (subst (λ (o : ℕ). (o ≡ 1) ⊎ (o ≡ 2)) order (both_known (packing_template s5 == 3) (difference_order s5) more.1.1.1.1.1.0 spatial)) (λ not_0 not_2. long)
+            let long : 49 ≤ length s5 = subst (λ (t : ℕ). (packing_of t).least ≤ length s5) is passes.least in
+            by_template s5 3 is passes.long (subst (λ (o : ℕ). (o ≡ 1) ⊎ (o ≡ 2)) order (both_known (packing_template s5 == 3) (difference_order s5) more.1.1.1.1.1.0 spatial)) (λ not_0 not_2. long)
       ]
     ]
 
@@ -118,8 +92,7 @@ none_simple message i simple =
     let s5 = part_octets message i 5 in
     let s7 = part_octets message i 7 in
     none_with (field_mask message i) (entries_of s5 s7)
-    (subst (λ (t : ℕ). list_any is_missing2 (choose (t == 0) (λ _. simple_entries s5 s7) (λ _. complex_entries s5 s7)) ≡ false) (sym simple)
-    (none_scaled (plain (bits (drop 5 s7)) (bit_width s5) (value_count s5))))
+    (ap (list_any is_missing2) (entries_of-simple s5 s7 simple) ∙ none_scaled (plain (bits (drop 5 s7)) (bit_width s5) (value_count s5)))
 
 -- so no such misfit is met
 no_range : (b : Bool) (at point : ℕ) → cond b (Some (OutOfRange at)) None ≡ Some (SecondaryMissing point) → ⊥

@@ -2,17 +2,16 @@
 use Rattle.std.proofs.Common.{◌≡◌, ◌≢◌, ℕ, cond, ◌+◌, ◌-◌, ◌*◌, ◌<◌, ◌≤◌, Bool, true, false, not, ◌||◌, ◌&&◌, ◌==◌, Option, Some, None, List, [], length, nat_lt, ◌⊎◌, inl, inr, refl, sym, ap, ◌∙◌, arith, subst, ltb-false, eqb-true, ltb-true, eq-eqb}
 use Rattle.std.specs.Option.{option_map_or}
 use Rattle.std.proofs.lemmas.Bool.{not-false, cases_eq, eqb-false}
-use Rattle.grib_base.specs.Rows.{Row, first_fault, or_then, choose}
+use Rattle.grib_base.specs.Rows.{first_fault}
 use Rattle.grib2_sections.specs.Template.{is_template, least_length}
 use Rattle.grib2_sections.specs.Identification.{identification_rows}
 use Rattle.grib2_grids.specs.Grid.{grid_rows, grid_points, grid_template, grid_templates}
 use Rattle.grib2_message.specs.Message.{FieldPasses}
 use Rattle.grib2_message.specs.Fields.{part_octets}
 use Rattle.grib2_products.specs.Product.{product_rows, product_template, product_templates, product_length, time_ranges}
-use Rattle.grib_packing.specs.Packing.{packing_template, packing_templates, packing_rows}
-use Rattle.grib_packing.specs.Complex.{complex_rows}
+use Rattle.grib_packing.specs.Packing.{packing_template}
 use Rattle.grib_packing.specs.Entries.{packing_fault}
-use Rattle.grib_base.specs.declared.fault.Fault.{Fault}
+use Rattle.grib_packing.proofs.Packings.{packing_passes}
 use Rattle.grib_keys.specs.declared.key.Key.{Key}
 use Rattle.grib_keys.specs.declared.key.Key.TheVariants.{Discipline, RangeProcess, RangeIncrementType, RangeUnit, RangeLength}
 use Rattle.grib_keys.specs.declared.table.Layout.{Layout}
@@ -240,26 +239,9 @@ count_counted s n none =
     let least : least_length product_templates t ≤ length s = ltb-false (length s) (least_length product_templates t) rows.1.1.1.0 in
     omega (arith, least, count_within t known)
 
--- the least lengths of Section 5 are 21 and more
-at_least_21 : (t l : ℕ) → is_template packing_templates t ≡ true → least_length packing_templates t ≤ l → 21 ≤ l
-at_least_21 t l e least =
-    let P : ℕ → Type 0 = λ n. least_length packing_templates n ≤ l → 21 ≤ l in
-    by_template P 0 t _ e (λ h. omega arith)
-    (λ e1. by_template P 2 t _ e1 (λ h. omega arith)
-    (λ e2. by_template P 3 t _ e2 (λ h. omega arith) (λ e3. cc))) least
-
-first_none : (first : Option Fault) (later : Unit {0} → List Row) → or_then first later ≡ None → first ≡ None
-first_none (Some fault) later e = e
-first_none None later e = refl
-
 pub packing_within : (s : List ℕ) (points : ℕ) → packing_fault s points ≡ None → KeysWithin 5 s
 packing_within s points none key p section place =
-    let shared = first_none (first_fault (packing_rows s points)) (λ _. choose (packing_template s == 0) (λ _. []) (λ _. complex_rows s)) none in
-    let rows = passes_from_none (packing_rows s points) shared in
-    let t = packing_template s in
-    let known : is_template packing_templates t ≡ true = not-false (is_template packing_templates t) rows.1.0 in
-    let least : least_length packing_templates t ≤ length s = ltb-false (length s) (least_length packing_templates t) rows.1.1.0 in
-    longer 21 (length s) p (at_least_21 t (length s) known least) (within_tells 5 t 0 21 key p (packing_keys t key) section place)
+    longer 21 (length s) p (packing_passes s points none).long (within_tells 5 (packing_template s) 0 21 key p (packing_keys (packing_template s) key) section place)
 
 -- ---- the sections in force for a field
 

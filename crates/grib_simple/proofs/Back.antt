@@ -7,22 +7,21 @@ use Rattle.grib_bits.specs.Bits.{bits}
 use Rattle.grib_bits.specs.Plain.{plain}
 use Rattle.grib_bits.proofs.OctetBits.{length-bits}
 use Rattle.grib_base.specs.declared.fault.Fault.{Fault}
-use Rattle.grib_base.specs.Rows.{first_fault, or_then, choose}
-use Rattle.grib2_sections.specs.Template.{is_template, least_length}
+use Rattle.grib_base.specs.Rows.{first_fault}
 use Rattle.grib_packing.specs.declared.column.Column.{Column}
 use Rattle.grib_packing.specs.declared.column.Point.{Point}
 use Rattle.grib_packing.specs.declared.column.Point.TheVariants.{Scaled, Missing, Missing2}
 use Rattle.grib_packing.specs.Column.{points_with_mask}
-use Rattle.grib_packing.specs.Complex.{complex_rows}
-use Rattle.grib_packing.specs.Entries.{packing_fault, data_fault, entries_of, column_from}
+use Rattle.grib_packing.specs.Entries.{is_packing, packing_of, packing_rows, packing_fault, data_fault, entries_of, column_from}
 use Rattle.grib_packing.specs.Misfits.{ToSimple, first_misfit, is_missing2}
 use Rattle.grib_packing.specs.Packed.{HasNumbers, IsSimple, fields, padded, present_bits, simple_numbers, simple_width}
-use Rattle.grib_packing.specs.Packing.{packing_template, packing_templates, packing_rows, value_count, bit_width, most_bits}
+use Rattle.grib_packing.specs.Packing.{value_count, bit_width}
 use Rattle.grib_packing.specs.Simple.{plain_bits}
 use Rattle.grib_packing.proofs.Fields.{length-fields, length-padded8, plain-padded}
 use Rattle.grib_simple.specs.Survey.{is_too_wide}
 use Rattle.grib_packing.specs.Written.{MayBePacked}
-use Rattle.grib_simple.proofs.Accepted.{data_fault-simple, entries_of-simple, same_column}
+use Rattle.grib_packing.proofs.Packings.{data_fault-simple, entries_of-simple, packing_fault-simple}
+use Rattle.grib_simple.proofs.Accepted.{same_column}
 use Rattle.grib_simple.proofs.Fitting.{few_numbers, none_fail, number_back, parts_false, width_few, width_fits}
 
 -- ---- the rows of Section 5
@@ -36,15 +35,15 @@ one_passes a fault e = rw e refl
 
 -- a Section 5 of a template of the profile, as it is written, passes the rows of all templates
 pub shared_rows : (s : List ℕ) (column : Column) (points values template bit_width kind : ℕ) → HasNumbers s column values template bit_width kind
-    → is_template packing_templates template ≡ true → least_length packing_templates template ≤ length s → 11 ≤ length s → values ≤ points
-    → (ieee_exponent column.reference == 255) ≡ false → bit_width ≤ most_bits template → first_fault (packing_rows s points) ≡ None
+    → is_packing template ≡ true → (packing_of template).least ≤ length s → 11 ≤ length s → values ≤ points
+    → (ieee_exponent column.reference == 255) ≡ false → bit_width ≤ (packing_of template).most → first_fault (packing_rows s points) ≡ None
 shared_rows s column points values template width kind h known least long few finite narrow =
     let t = h.template_stands in
-    none_of_six _ _ _ _ _ _ _ _ _ _ _ _ (le-ltb (length s) 11 long) (ap (λ t. not (is_template packing_templates t)) t ∙ ap not known)
-    (ap (λ t. nat_lt (length s) (least_length packing_templates t)) t ∙ le-ltb (length s) (least_length packing_templates template) least)
+    none_of_six _ _ _ _ _ _ _ _ _ _ _ _ (le-ltb (length s) 11 long) (ap (λ t. not (is_packing t)) t ∙ ap not known)
+    (ap (λ t. nat_lt (length s) (packing_of t).least) t ∙ le-ltb (length s) (packing_of template).least least)
     (ap (nat_lt points) h.values_stand ∙ le-ltb points values few)
     (ap (λ r. ieee_exponent r == 255) h.reference_stands ∙ finite)
-    (ap₂ (λ t w. nat_lt (most_bits t) w) t h.bit_width_stands ∙ le-ltb (most_bits template) width narrow)
+    (ap₂ (λ t w. nat_lt (packing_of t).most w) t h.bit_width_stands ∙ le-ltb (packing_of template).most width narrow)
 
 -- ---- the points
 
@@ -63,8 +62,7 @@ module _ (column : Column) (kind : ℕ) (s5 s6 s7 : List ℕ) (may : MayBePacked
   accepted =
       let shared = shared_rows s5 column (length column.points) (length (simple_numbers column.points)) 0 (simple_width column.points) kind h.numbers
       refl (omega (arith, h.as_long)) (omega (arith, h.as_long)) (few_numbers column.points) may.finite (width_few column.points none) in
-      ap (λ (f : Option Fault). or_then f (λ _. choose (packing_template s5 == 0) (λ _. []) (λ _. complex_rows s5))) shared
-      ∙ ap (λ (t : ℕ). first_fault (choose (t == 0) (λ _. []) (λ _. complex_rows s5))) h.numbers.template_stands
+      packing_fault-simple s5 (length column.points) shared h.numbers.template_stands
 
   -- ---- Section 7
 

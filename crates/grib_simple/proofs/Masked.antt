@@ -6,6 +6,7 @@ use Rattle.grib_bits.specs.Plain.{plain, plain_at}
 use Rattle.grib_bitmap.specs.Mask.{present_count}
 use Rattle.grib_bitmap.proofs.Runs.{present_count-run, all_present}
 use Rattle.grib_packing.specs.Column.{points_with_mask}
+use Rattle.grib_packing.proofs.Masks.{with_mask_missing}
 use Rattle.grib_packing.specs.declared.column.Point.{Point}
 use Rattle.grib_packing.specs.declared.column.Point.TheVariants.{Missing}
 use Rattle.grib_simple.specs.Part.{plain_from}
@@ -18,12 +19,6 @@ with_mask_present zero rest [] ys e = refl
 with_mask_present zero rest (x ∷ xs) ys e = absurd (omega arith)
 with_mask_present (suc n) rest [] ys e = absurd (omega arith)
 with_mask_present (suc n) rest (x ∷ xs) ys e = ap (λ (zs : List Point). x ∷ zs) (with_mask_present n rest xs ys (omega arith))
-
--- and a run of points that are left out takes none
-pub with_mask_missing : (n : ℕ) (rest : List Bool) (entries : List Point)
-    → points_with_mask (replicate n false ++ rest) entries ≡ replicate n Missing ++ points_with_mask rest entries
-with_mask_missing zero rest entries = refl
-with_mask_missing (suc n) rest entries = ap (λ (zs : List Point). Missing ∷ zs) (with_mask_missing n rest entries)
 
 -- where no point is left out, the entries are the points
 pub with_mask_all : (n : ℕ) (entries : List Point) → length entries ≡ n → points_with_mask (replicate n true) entries ≡ entries

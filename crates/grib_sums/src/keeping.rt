@@ -7,9 +7,8 @@ ghost use Rattle.grib_sums.specs.declared.keeping.Tallying.{Tallying as tallying
 ghost use Rattle.grib_sums.specs.Kept.{IsStart, TallyKept};
 ghost use Rattle.grib_sums.specs.Laws.{tally-none, tally-more};
 
-use grib_complex::Keeper;
 use grib_decimal::{Summary, Tally};
-use grib_packing::Point;
+use grib_packing::{Keeper, Point};
 
 /// The sums of the points of values. No point is kept.
 #[derive(Debug, Drop)]
@@ -38,11 +37,6 @@ impl Tallying {
 
 impl Keeper for Tallying {
     ghost kept = { TallyKept };
-
-    #[inline]
-    fn keeps(&self) -> bool {
-        true
-    }
 
     ghost room = { λ _. 4294967295 };
 

@@ -7,16 +7,16 @@ ghost use Rattle.grib_bitmap.specs.Mask.{present_count};
 ghost use Rattle.grib_packing.specs.Entries.{packing_fault};
 ghost use Rattle.grib_packing.specs.Packing.{packing_template, value_count};
 ghost use Rattle.grib_complex.specs.Feeding.{IsFed, octets_left};
-ghost use Rattle.grib_complex.specs.Kept.{PointsKept};
+ghost use Rattle.grib_packing.specs.Kept.{PointsKept};
 
 use crate::given::section;
 use grib_base::{Fault, ReadFault, Reason, Section};
 use grib_bitmap::{Mask, ones, read_mask};
 use grib_complex::{
-    Complex, ComplexPacking, Feeder, Feeding, Keeper, Layout, Nothing, Representation,
-    SpatialPacking, read_complex, take_values,
+    Complex, ComplexPacking, Feeder, Feeding, Layout, Representation, SpatialPacking, read_complex,
+    take_values,
 };
-use grib_packing::{Column, Packing, Point, read_simple};
+use grib_packing::{Column, Keeper, Nothing, Packing, Point, read_simple};
 use std::alloc::Global;
 use std::process::Abort;
 use std::test::Fail;

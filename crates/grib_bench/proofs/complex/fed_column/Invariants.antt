@@ -1,5 +1,5 @@
 use Rattle.grib_complex.specs.Feeding.{IsFed}
-use Rattle.grib_complex.specs.Kept.{PointsKept}
+use Rattle.grib_packing.specs.Kept.{PointsKept}
 use Rattle.grib_bench.proofs.complex.fed_column.Given as goal
 
 abbrev pub invariant-loop-piece : goal.invariant-loop-piece

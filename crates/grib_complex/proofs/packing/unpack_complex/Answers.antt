@@ -6,7 +6,7 @@ use Rattle.grib_packing.specs.Column.{points_with_mask}
 use Rattle.grib_packing.specs.Entries.{complex_entries}
 use Rattle.grib_base.proofs.Passing.{carried}
 use Rattle.grib_simple.proofs.Accepted.{same_column}
-use Rattle.grib_complex.specs.Kept.{ArePoints}
+use Rattle.grib_packing.specs.Kept.{ArePoints}
 use Rattle.grib_complex.proofs.Represented.{data_fault-complex, entries_of-complex}
 use Rattle.grib_complex.proofs.packing.unpack_complex.Goals as goal
 

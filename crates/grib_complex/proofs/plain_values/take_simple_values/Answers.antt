@@ -8,7 +8,7 @@ use Rattle.grib_packing.specs.declared.column.Point.{Point}
 use Rattle.grib_packing.specs.declared.column.Point.TheVariants.{Scaled}
 use Rattle.grib_packing.specs.Entries.{entries_of}
 use Rattle.grib_packing.specs.Packing.{bit_width, value_count}
-use Rattle.grib_simple.proofs.Accepted.{entries_of-simple}
+use Rattle.grib_packing.proofs.Packings.{entries_of-simple}
 use Rattle.grib_complex.proofs.plain_values.take_simple_values.Goals as goal
 
 pub returns-in_err-check_simple : goal.returns-in_err-check_simple

@@ -4,7 +4,7 @@ use Rattle.grib_packing.specs.Misfits.{ToSimple, first_misfit}
 use Rattle.grib_packing.specs.Written.{IsPackFault}
 use Rattle.grib2_message.specs.Fields.{part_octets, column_of}
 use Rattle.grib_repack.specs.Repacked.{kind_of}
-use Rattle.grib_repack.proofs.Ranges.{packing_passes}
+use Rattle.grib_packing.proofs.Packings.{packing_passes}
 use Rattle.grib_demote.specs.Losses.{loses_reference}
 use Rattle.grib_demote.proofs.Packing.{packed_found, not_by_differences}
 use Rattle.grib_demote.proofs.demoting.pack_simply.Goals as goal

@@ -4,7 +4,7 @@ use Rattle.grib2_grids.specs.Grid.{grid_points}
 use Rattle.grib_packing.specs.declared.column.Column.{Column}
 use Rattle.grib_packing.specs.Written.{IsPacked}
 use Rattle.grib2_message.specs.Fields.{part_octets}
-use Rattle.grib_repack.proofs.Ranges.{packing_passes}
+use Rattle.grib_packing.proofs.Packings.{packing_passes}
 use Rattle.grib_repack.proofs.Columns.{packable}
 use Rattle.grib_repack.proofs.column.pack_column.Goals as goal
 

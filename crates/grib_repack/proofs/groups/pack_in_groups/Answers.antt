@@ -5,7 +5,7 @@ use Rattle.grib_packing.specs.Representation.{Spelled}
 use Rattle.grib2_message.specs.Fields.{part_octets, column_of}
 use Rattle.grib_repack.specs.declared.groups.FieldWords.{FieldWords}
 use Rattle.grib_repack.specs.Words.{TellsField}
-use Rattle.grib_repack.proofs.Ranges.{packing_passes}
+use Rattle.grib_packing.proofs.Packings.{packing_passes}
 use Rattle.grib_repack.proofs.groups.pack_in_groups.Goals as goal
 
 pub numbers_of-simple-requires : goal.numbers_of-simple-requires

@@ -3,7 +3,7 @@ use Rattle.std.proofs.lemmas.List.{length-map}
 use Rattle.grib_packing.specs.declared.column.Point.{Point}
 use Rattle.grib_packing.specs.Packing.{bit_width, packing_template, value_count}
 use Rattle.grib_packing.proofs.Fields.{length-plain}
-use Rattle.grib_simple.proofs.Accepted.{entries_of-simple}
+use Rattle.grib_packing.proofs.Packings.{entries_of-simple}
 use Rattle.grib2_message.specs.Fields.{part_octets}
 use Rattle.grib_repack.specs.Words.{AreWords}
 use Rattle.grib_repack.proofs.Simply.{numbers_read, room_read}

@@ -8,7 +8,7 @@ use Rattle.grib_packing.specs.Packed.{HasContents, fields, present_bits}
 use Rattle.grib_packing.specs.Representation.{Spelled}
 use Rattle.grib2_message.specs.Fields.{part_octets, field_mask}
 use Rattle.grib2_message.proofs.Masks.{points_bounds}
-use Rattle.grib_repack.proofs.Ranges.{packing_passes}
+use Rattle.grib_packing.proofs.Packings.{packing_passes}
 use Rattle.grib_repack.proofs.Simply.{numbers_in, simply_packed, numbers_stand, narrow_bits, numbers_read, room_read}
 use Rattle.grib_repack.proofs.plain.pack_plainly.Goals as goal
 

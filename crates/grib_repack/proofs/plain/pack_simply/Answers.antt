@@ -2,7 +2,7 @@ use Rattle.std.proofs.Common.{length, sym, ap, ◌∙◌, arith}
 use Rattle.grib2_grids.specs.Grid.{grid_points}
 use Rattle.grib_packing.specs.Packing.{packing_template}
 use Rattle.grib2_message.specs.Fields.{part_octets}
-use Rattle.grib_repack.proofs.Ranges.{packing_passes}
+use Rattle.grib_packing.proofs.Packings.{packing_passes}
 use Rattle.grib_repack.proofs.plain.pack_simply.Goals as goal
 
 pub u16_at-template-requires-clause-within : goal.u16_at-template-requires-clause-within

@@ -5,10 +5,10 @@ use Rattle.grib_bits.specs.Bits.{bits}
 use Rattle.grib_bits.specs.Plain.{plain}
 use Rattle.grib_packing.specs.Column.{points_with_mask}
 use Rattle.grib_packing.specs.Entries.{entries_of}
-use Rattle.grib_packing.specs.Packing.{packing_template, value_count, bit_width, most_bits}
+use Rattle.grib_packing.specs.Packing.{packing_template, value_count, bit_width}
 use Rattle.grib_packing.specs.Representation.{Spelled}
 use Rattle.grib2_message.specs.Fields.{part_octets}
-use Rattle.grib_repack.proofs.Ranges.{packing_passes}
+use Rattle.grib_packing.proofs.Packings.{most-simple, packing_passes}
 use Rattle.grib_simple.proofs.Accepted.{same_column}
 use Rattle.grib_rescan.proofs.Added.{scaled}
 use Rattle.grib_rescanned.proofs.Numbered.{has_numbers, are_points}
@@ -39,7 +39,7 @@ returns-clause-stands c =
     ap length (take_rest own 5 ∙ ap (drop 5) c.in-Some-Some.ensures'.part.1) ∙ length-drop 5 s7 in
     record {
       numbers = record {
-        width = omega (arith, bits_are, packing.narrow, ap most_bits template);
+        width = omega (arith, bits_are, packing.narrow, most-simple (packing_template s5) template);
         within = omega (arith, product, room, rest);
       };
       count = c.if-simple-len.false ∙ c.len.ensures ∙ c.in_ok-mask.ensures.long;

@@ -6,7 +6,8 @@ use Rattle.grib_packing.specs.declared.column.Point.{Point}
 use Rattle.grib_packing.specs.declared.column.Point.TheVariants.{Scaled}
 use Rattle.grib_packing.specs.Column.{points_with_mask}
 use Rattle.grib_base.proofs.Passing.{refused}
-use Rattle.grib_simple.proofs.Accepted.{entries_of-simple, same_column}
+use Rattle.grib_packing.proofs.Packings.{entries_of-simple}
+use Rattle.grib_simple.proofs.Accepted.{same_column}
 use Rattle.grib_simple.proofs.simple.unpack_simple.Goals as goal
 
 pub returns-in_err-check_simple : goal.returns-in_err-check_simple

@@ -3,7 +3,8 @@ use Rattle.grib2_grids.specs.Grid.{grid_points}
 use Rattle.grib_packing.specs.Column.{points_with_mask}
 use Rattle.grib_packing.specs.Entries.{entries_of, is_out_of_range}
 use Rattle.grib2_message.specs.Fields.{part_octets, field_mask}
-use Rattle.grib_repack.proofs.Ranges.{packing_passes, entries_within, none_with_mask, any_of_none}
+use Rattle.grib_packing.proofs.Packings.{packing_passes}
+use Rattle.grib_repack.proofs.Ranges.{entries_within, none_with_mask, any_of_none}
 use Rattle.grib_sums.proofs.scaling.field_scaling.Goals as goal
 
 pub numbers_of-numbers-requires : goal.numbers_of-numbers-requires
@@ -22,4 +23,4 @@ returns-clause-small c =
     let passes = c.part.ensures.passes in
     let packing = packing_passes s5 (grid_points (part_octets m i 3)) passes.packing in
     any_of_none is_out_of_range (points_with_mask (field_mask m i) (entries_of s5 s7))
-    (none_with_mask (field_mask m i) (entries_of s5 s7) (entries_within s5 s7 packing.narrow passes.values))
+    (none_with_mask (field_mask m i) (entries_of s5 s7) (entries_within s5 s7 _ packing passes.values))

@@ -1,10 +1,11 @@
 use Rattle.std.proofs.Common.{◌≡◌, ap, sym, ◌∙◌}
-use Rattle.grib_base.proofs.Passing.{carried}
+use Rattle.grib_base.proofs.Passing.{carried, none-located}
 use Rattle.grib_base.specs.Rows.{first_fault, located}
 use Rattle.grib_packing.specs.Complex.{complex_rows}
-use Rattle.grib_packing.specs.Packing.{packing_rows, packing_template}
+use Rattle.grib_packing.specs.Entries.{packing_rows}
+use Rattle.grib_packing.specs.Packing.{packing_template}
+use Rattle.grib_packing.proofs.Packings.{complex_unless, shared_passes, packing_fault-complex}
 use Rattle.grib_simple.proofs.Accepted.{accepted-simple}
-use Rattle.grib_complex.proofs.Accepting.{none_located, complex_template, fault_complex}
 use Rattle.grib_complex.proofs.field.Representation.read.Goals as goal
 
 pub returns-then-simple-eq0 : goal.returns-then-simple-eq0
@@ -20,9 +21,9 @@ returns-in_err-complex c =
     let s5 = c.args.section5.now.octets.now in
     let start = c.args.section5.now.start in
     let simple = c.in_ok-simple.ensures in
-    let passes = none_located start (first_fault (packing_rows s5 c.args.points)) simple.0 in
-    let other : packing_template s5 ≡ 0 → ⊥ = λ zero. c.if-simple-eq0.false (simple.1.template ∙ zero) in
-    carried _ _ _ _ c.from_residual-in_err-complex.ensures.1 (ap (located start) (fault_complex s5 c.args.points passes other) ∙ c.in_err-complex.ensures)
+    let passes = none-located start (first_fault (packing_rows s5 c.args.points)) simple.0 in
+    let templates = complex_unless (packing_template s5) (shared_passes s5 c.args.points passes).template (λ zero. c.if-simple-eq0.false (simple.1.template ∙ zero)) in
+    carried _ _ _ _ c.from_residual-in_err-complex.ensures.1 (ap (located start) (packing_fault-complex s5 c.args.points passes templates) ∙ c.in_err-complex.ensures)
 
 pub returns : goal.returns
 returns c =
@@ -30,7 +31,7 @@ returns c =
     let start = c.args.section5.now.start in
     let simple = c.in_ok-simple.ensures in
     let complex = c.in_ok-complex.ensures in
-    let passes = none_located start (first_fault (packing_rows s5 c.args.points)) simple.0 in
-    let other : packing_template s5 ≡ 0 → ⊥ = λ zero. c.if-simple-eq0.false (simple.1.template ∙ zero) in
-    let accepted = fault_complex s5 c.args.points passes other ∙ none_located start (first_fault (complex_rows s5)) complex.0 in
-    (accepted, record { numbers = (complex_template s5 c.args.points passes other, complex.1); points = c.args.points; accepted = accepted })
+    let passes = none-located start (first_fault (packing_rows s5 c.args.points)) simple.0 in
+    let templates = complex_unless (packing_template s5) (shared_passes s5 c.args.points passes).template (λ zero. c.if-simple-eq0.false (simple.1.template ∙ zero)) in
+    let accepted = packing_fault-complex s5 c.args.points passes templates ∙ none-located start (first_fault (complex_rows s5)) complex.0 in
+    (accepted, record { numbers = (templates, complex.1); points = c.args.points; accepted = accepted })

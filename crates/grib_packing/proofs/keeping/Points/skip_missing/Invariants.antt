@@ -1,7 +1,7 @@
 use Rattle.std.proofs.Common.{◌-◌, ◌≡◌, List, Bool, length}
 use Rattle.grib_packing.specs.declared.column.Point.{Point}
-use Rattle.grib_complex.specs.Kept.{ArePoints}
-use Rattle.grib_complex.proofs.keeping.Points.skip_missing.Given as goal
+use Rattle.grib_packing.specs.Kept.{ArePoints}
+use Rattle.grib_packing.proofs.keeping.Points.skip_missing.Given as goal
 
 abbrev pub invariant-loop-place : goal.invariant-loop-place
 invariant-loop-place l = record {

@@ -1,5 +1,5 @@
 -- Lemmas on points that take the places of a mask.
-use Rattle.std.proofs.Common.{◌≡◌, ℕ, suc, ◌+◌, ◌-◌, ◌<◌, ◌≤◌, Bool, true, false, List, [], ◌∷◌, ◌++◌, length, drop, replicate, vec_capacity, refl, sym, ap, ap₂, ◌∙◌, arith, append_assoc, subst, inl, inr}
+use Rattle.std.proofs.Common.{◌≡◌, ℕ, zero, suc, ◌+◌, ◌-◌, ◌<◌, ◌≤◌, Bool, true, false, List, [], ◌∷◌, ◌++◌, length, drop, replicate, vec_capacity, refl, sym, ap, ap₂, ◌∙◌, arith, append_assoc, subst, inl, inr}
 use Rattle.std.proofs.lemmas.Bool.{cases_lt}
 use Rattle.std.proofs.lemmas.List.{append-nil, drop-drop, drop_all, length-append, length-replicate, length-drop, length_push}
 use Rattle.grib_bitmap.specs.Mask.{present_count}
@@ -7,9 +7,14 @@ use Rattle.grib_bitmap.proofs.Runs.{present_count-run, present_count-cons}
 use Rattle.grib_packing.specs.declared.column.Point.{Point}
 use Rattle.grib_packing.specs.declared.column.Point.TheVariants.{Missing}
 use Rattle.grib_packing.specs.Column.{points_with_mask}
-use Rattle.grib_simple.proofs.Masked.{with_mask_missing}
-use Rattle.grib_complex.specs.declared.keeping.Points.{Points}
-use Rattle.grib_complex.specs.Kept.{ArePoints}
+use Rattle.grib_packing.specs.declared.keeping.Points.{Points}
+use Rattle.grib_packing.specs.Kept.{ArePoints}
+
+-- a run of points that are left out takes no entry
+pub with_mask_missing : (n : ℕ) (rest : List Bool) (entries : List Point)
+    → points_with_mask (replicate n false ++ rest) entries ≡ replicate n Missing ++ points_with_mask rest entries
+with_mask_missing zero rest entries = refl
+with_mask_missing (suc n) rest entries = ap (λ (zs : List Point). Missing ∷ zs) (with_mask_missing n rest entries)
 
 module _ (mask : List Bool) (seen : List Point) (before after : Points) (are : ArePoints mask seen before) (none : before.left ≡ 0) (n : ℕ) (within : length before.points.items + n ≤ length mask) (same_mask : after.mask.value ≡ before.mask.value) where
   -- points that the mask leaves out

@@ -1,6 +1,6 @@
 use Rattle.std.proofs.Common.{◌≡◌, ◌+◌, ◌≤◌, ◌++◌, replicate, vec_len, vec_capacity}
 use Rattle.grib_packing.specs.declared.column.Point.TheVariants.{Missing}
-use Rattle.grib_complex.proofs.keeping.push_missing.Given as goal
+use Rattle.grib_packing.proofs.keeping.push_missing.Given as goal
 
 abbrev pub invariant-loop-index : goal.invariant-loop-index
 invariant-loop-index l = record {

@@ -1,6 +1,6 @@
 use Rattle.std.proofs.Common.{refl, arith}
-use Rattle.grib_complex.proofs.Masks.{are_kept}
-use Rattle.grib_complex.proofs.keeping.Points.keep_next.Goals as goal
+use Rattle.grib_packing.proofs.Masks.{are_kept}
+use Rattle.grib_packing.proofs.keeping.Points.keep_next.Goals as goal
 
 pub returns : goal.returns
 returns c = record {

@@ -1,6 +1,6 @@
 use Rattle.std.proofs.Common.{◌-◌, refl, arith}
-use Rattle.grib_complex.proofs.Masks.{are_kept}
-use Rattle.grib_complex.proofs.keeping.PointsKeeper.keep_within.Goals as goal
+use Rattle.grib_packing.proofs.Masks.{are_kept}
+use Rattle.grib_packing.proofs.keeping.PointsKeeper.keep_within.Goals as goal
 
 pub returns-clause-kept : goal.returns-clause-kept
 returns-clause-kept c = record {

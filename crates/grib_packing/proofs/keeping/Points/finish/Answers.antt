@@ -1,7 +1,7 @@
 use Rattle.std.proofs.Common.{◌≡◌, ℕ, ◌-◌, ◌++◌, length, replicate, ap, ◌∙◌, arith}
 use Rattle.grib_packing.specs.declared.column.Point.TheVariants.{Missing}
-use Rattle.grib_complex.proofs.Masks.{all_points}
-use Rattle.grib_complex.proofs.keeping.Points.finish.Goals as goal
+use Rattle.grib_packing.proofs.Masks.{all_points}
+use Rattle.grib_packing.proofs.keeping.Points.finish.Goals as goal
 
 pub returns : goal.returns
 returns c = λ mask seen are.

@@ -5,12 +5,11 @@ ghost use Rattle.grib_bitmap.specs.Mask.{present_count};
 ghost use Rattle.grib_packing.specs.Column.{points_with_mask};
 ghost use Rattle.grib_packing.specs.declared.column.Point.{Point as point};
 ghost use Rattle.grib_packing.specs.declared.column.Point.TheVariants.{Missing};
-ghost use Rattle.grib_complex.specs.Kept.{ArePoints, PointsKept};
-ghost use Rattle.grib_complex.specs.Laws.{points-none, points-more};
+ghost use Rattle.grib_packing.specs.Kept.{ArePoints, PointsKept, points-none, points-more};
 
+use crate::Point;
 use grib_base::push_within;
 use grib_bitmap::Mask;
-use grib_packing::Point;
 use std::alloc::{AllocError, Global};
 
 /// What the points of values go to, one after another, by value like what takes codes.
@@ -19,8 +18,12 @@ pub trait Keeper {
     ghost kept: { Self → List point → Self → Type 0 };
 
     /// Whether it keeps points. One that keeps none need not be handed any.
+    #[inline]
     fn keeps(&self) -> bool
-        ensures { result ≡ false → (points : List point) → kept self.now points self.now };
+        ensures { result ≡ false → (points : List point) → kept self.now points self.now }
+    {
+        true
+    }
 
     // How many points it keeps without a look at where they go.
     ghost room: { Self → ℕ };
@@ -119,11 +122,6 @@ impl Points {
 
 impl Keeper for Points {
     ghost kept = { PointsKept };
-
-    #[inline]
-    fn keeps(&self) -> bool {
-        true
-    }
 
     ghost room = { λ points. points.left };
 

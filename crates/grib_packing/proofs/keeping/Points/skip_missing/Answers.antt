@@ -2,8 +2,8 @@ use Rattle.std.proofs.Common.{◌≡◌, ◌∙◌, ℕ, ◌+◌, ◌≤◌, ◌
 use Rattle.std.proofs.lemmas.List.{length-append, length-replicate}
 use Rattle.grib_packing.specs.declared.column.Point.{Point}
 use Rattle.grib_packing.specs.declared.column.Point.TheVariants.{Missing}
-use Rattle.grib_complex.proofs.Masks.{are_missing, are_present, some_ahead}
-use Rattle.grib_complex.proofs.keeping.Points.skip_missing.Goals as goal
+use Rattle.grib_packing.proofs.Masks.{are_missing, are_present, some_ahead}
+use Rattle.grib_packing.proofs.keeping.Points.skip_missing.Goals as goal
 
 -- a run of the mask that is kept, as one of that which is meant
 run_of : (mask kept : List Bool) (place at n : ℕ) (present expected : Bool) → kept ≡ mask → at ≡ place → present ≡ expected → drop at kept ≡ replicate n present ++ drop (at + n) kept
