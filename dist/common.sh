@@ -10,7 +10,11 @@ built_here_from=$crate/out/grib.built
 sources() (
   cd "$top/" && mapfile -t names < <(crates_of_program) && ((${#names[@]} > 0)) && {
     cat HANDLES
-    printf '%s\n' "${names[@]}" | LC_ALL=C sort | while read -r name; do grep "^$name[ :]" crates.txt; done
+    # the lines of crates.txt on these, in the order of the names
+    awk -F '[ :]' '
+      NR == FNR { wanted[$1]; next }
+      $1 in wanted && $0 != $1 { print $1 "\t" $0 }' <(printf '%s\n' "${names[@]}") crates.txt |
+      LC_ALL=C sort -s -t $'\t' -k 1,1 | cut -f 2-
     find "${names[@]/#/crates/}" -name out -prune -o -type f \( -path '*/src/*' -o -path '*/specs/*' -o -path '*/proofs/*' \) -print0 |
       LC_ALL=C sort -z | xargs -0 sha256sum
   } | sha256sum
