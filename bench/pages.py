@@ -8,7 +8,7 @@ Each command, name and key of the page has a reading in the program and stands i
 has no others; so have the words on what a run goes past, each with the commands that take it. `help` of the program
 has a line on each command, and no others, and the page has the version. A key that the page has for `set` can be set,
 and one that it has for `filter` alone cannot. The statuses of the page are those of chapter 9 of docs/PROFILE.md, with
-11 and 70. A shell completes names of files, odd ones too. Each link of a page leads to a page, here and in what install.sh
+11, 70 and 127. A shell completes names of files, odd ones too. Each link of a page leads to a page, here and in what install.sh
 puts under PREFIX, and so does each path that the man page has. What does not hold is printed, and the end is status 1."""
 import os
 import pty
@@ -109,6 +109,7 @@ def check_links(page):
         script = file.read()
     files = re.findall(r"^\d{3} (\S+) (\S+)$", script, re.M)
     places = {place for _, place in files} | set(re.findall(r"^put \d{3} .* (\S+)$", script.replace("  put", "put"), re.M))
+    places |= set(re.findall(r"^installed=(\S+)$", script, re.M))
     places |= set(re.search(r"<<LINKS\n(.*?)^LINKS", script, re.M | re.S).group(1).split()[1::2])
     pages = subprocess.run(["git", "-C", top, "ls-files", "*.md"], capture_output=True, text=True).stdout.split()
     hold(pages and files, "pages")
@@ -187,7 +188,7 @@ def main():
 
     statuses = {int(number) for number in re.findall(r"^\.B (\d+)$", section(page, "EXIT STATUS"), re.M)}
     rows = {int(number) for number in re.findall(r"^\| \w+(?:\(i\))? \| (\d+) \|", re.search(r"^### Outcomes and statuses\n(.*?)^###", profile, re.M | re.S).group(1), re.M)}
-    hold(statuses == rows - {10} | {11, 70}, f"statuses of the page: {sorted(statuses)}, of PROFILE: {sorted(rows)}")
+    hold(statuses == rows - {10} | {11, 70, 127}, f"statuses of the page: {sorted(statuses)}, of PROFILE: {sorted(rows)}")
     check_links(page)
     had = typed([line for line, _ in TYPED])
     for (line, words), got in zip(TYPED, had + ["nothing"] * len(TYPED)):
