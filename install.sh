@@ -94,7 +94,7 @@ earlier() {
     share/doc/grib/GUIDE.md share/doc/grib/PROFILE.md share/doc/grib/GUARANTEES.md
 }
 
-# What a file or link is, as it stands in the list: its checksum, or what the link leads to.
+# What a file or link is, as it stands in the list: its checksum, or what the link leads to; nothing of a folder.
 what_is() { # FILE
   if [[ -L $1 ]]; then
     printf 'link:%s' "$(readlink -- "$1")"
@@ -109,7 +109,9 @@ listed() {
 
 # Whether a place has what the list says that was put there.
 is_ours() { # PLACE
-  [[ " ${ours[$1]-} " == *" $(what_is "$under/$1") "* ]]
+  local what
+  what=$(what_is "$under/$1")
+  [[ -n $what && " ${ours[$1]-} " == *" $what "* ]]
 }
 is_there() { # PLACE
   [[ -e $under/$1 || -L $under/$1 ]]

@@ -6,7 +6,12 @@
 #                                              and as many small ones as MANY says, 300,000 where none is given
 #
 # The shipped program of an earlier commit: git show COMMIT:dist/grib-x86_64-linux-gnu > OTHER
+#
+# shellcheck disable=SC2015 # what stands behind || is meant for either
+# shellcheck disable=SC2034 # names for functions of common.sh
+# shellcheck disable=SC2154 # common.sh sets some names
 set -euo pipefail
+# shellcheck source=bench/common.sh
 source "$(dirname "$0")/common.sh"
 [[ $# -ge 1 && -x $1 ]] || fail "which other program?"
 other=$(readlink -f "$1")

@@ -4,7 +4,10 @@
 # A ratio is the plain program's time over ours: above 1, ours is the faster.
 #
 #     bench/bitmap.sh [POINTS [PASSES]]     POINTS in place of 33,554,432, PASSES times in place of 40
+#
+# shellcheck disable=SC2154 # common.sh sets some names
 set -euo pipefail
+# shellcheck source=bench/common.sh
 source "$(dirname "$0")/common.sh"
 most=${1:-33554432}
 often=${2:-40}

@@ -4,7 +4,10 @@
 # and built by `rustc -O`. A ratio is the plain program's time over ours: above 1, ours is the faster.
 #
 #     bench/bits.sh [WIDTH]     the width is 12 bits where none is given, and at most 32
+#
+# shellcheck disable=SC2154 # common.sh sets some names
 set -euo pipefail
+# shellcheck source=bench/common.sh
 source "$(dirname "$0")/common.sh"
 width=${1:-12}
 [[ $width =~ ^([0-9]|[12][0-9]|3[0-2])$ ]] || fail "the width is a number up to 32"

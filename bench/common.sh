@@ -1,9 +1,14 @@
 # What the measuring scripts share. Each defines the functions `ours` and `theirs`, which run the two
 # programs on the same work.
+#
+# shellcheck shell=bash
+# shellcheck disable=SC2015 # what stands behind || is meant for either
+# shellcheck disable=SC2034 # the scripts use the names that are set here
 export LC_ALL=C # `time` and awk then have a decimal point
 top=$(cd "$(dirname "${BASH_SOURCE[0]}")/.." && pwd)
 work=$(mktemp -d)
 trap 'rm -rf "$work"' EXIT
+trap 'exit 1' HUP INT QUIT TERM
 
 fail() {
   echo "$0: $*" >&2
@@ -68,6 +73,7 @@ ratio() { # WHAT ROUNDS
 
 # Prints the path of the program of these sources.
 our_program() (
+  # shellcheck source=dist/common.sh
   source "$top/dist/common.sh"
   find_program
   echo "$program"

@@ -7,7 +7,11 @@
 # octets, against unpacking them whole: above 1, deciding and pieces are the faster.
 #
 #     bench/complex.sh [COUNT]     COUNT points in place of 16 million
+#
+# shellcheck disable=SC2154 # common.sh sets some names
+# shellcheck disable=SC2317 # common.sh runs `ours` and `theirs`
 set -euo pipefail
+# shellcheck source=bench/common.sh
 source "$(dirname "$0")/common.sh"
 most=${1:-16000000}
 build complex.rs complex column 1 8 10 1 5000 2

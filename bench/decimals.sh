@@ -6,7 +6,11 @@
 #     bench/decimals.sh [SIDE [FILE..]]     the messages have SIDE times SIDE points, 4096 where none is given
 #
 # Files are measured beside them, as one with spatial differencing (Debian's python-grib-doc has some).
+#
+# shellcheck disable=SC2154 # common.sh sets some names
+# shellcheck disable=SC2317 # common.sh runs `ours` and `theirs`
 set -euo pipefail
+# shellcheck source=bench/common.sh
 source "$(dirname "$0")/common.sh"
 need grib_ls "Debian: libeccodes-tools"
 side=${1:-4096}

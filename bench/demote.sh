@@ -6,7 +6,10 @@
 #
 # A message of edition 1 of more than 8,388,607 octets is one that ecCodes 2.28 states otherwise: 2.25 million points
 # of 14 bits stay below.
+#
+# shellcheck disable=SC2154 # common.sh sets some names
 set -euo pipefail
+# shellcheck source=bench/common.sh
 source "$(dirname "$0")/common.sh"
 need grib_set "Debian: libeccodes-tools"
 side=${1:-1500}

@@ -9,7 +9,11 @@
 #
 # `check` decides every row of the format, and is compared with `grib_ls -p max`, which decodes every value.
 # `dump` prints the scaled number of every point, where `grib_get_data` prints places and rounded values.
+#
+# shellcheck disable=SC2154 # common.sh sets some names
+# shellcheck disable=SC2317 # common.sh runs `ours` and `theirs`
 set -euo pipefail
+# shellcheck source=bench/common.sh
 source "$(dirname "$0")/common.sh"
 need grib_ls "Debian: libeccodes-tools"
 side=${1:-2048}

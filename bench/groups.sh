@@ -5,7 +5,10 @@
 # and to take memory: above 1, the groups are the faster. A code takes 4 octets and a number 8.
 #
 #     bench/groups.sh [WIDTH [COUNT]]     12 bits and 16,000,000 numbers where none is given; at most 24 bits
+#
+# shellcheck disable=SC2154 # common.sh sets some names
 set -euo pipefail
+# shellcheck source=bench/common.sh
 source "$(dirname "$0")/common.sh"
 width=${1:-12}
 count=${2:-16000000}

@@ -6,7 +6,10 @@
 #
 # ecCodes 2.28 reads total lengths from 8,388,608 octets on as multiples of 120, so a message is to have fewer: four
 # million points of 16 bits have.
+#
+# shellcheck disable=SC2154 # common.sh sets some names
 set -euo pipefail
+# shellcheck source=bench/common.sh
 source "$(dirname "$0")/common.sh"
 need grib_set "Debian: libeccodes-tools"
 side=${1:-2000}

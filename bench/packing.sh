@@ -9,7 +9,10 @@
 #
 #     bench/packing.sh [SIDE [COLUMNS]]     a field of SIDE times SIDE points in place of 4,000, and
 #                                           COLUMNS random columns in place of 10,000
+#
+# shellcheck disable=SC2154 # common.sh sets some names
 set -euo pipefail
+# shellcheck source=bench/common.sh
 source "$(dirname "$0")/common.sh"
 most=${1:-4000}
 columns=${2:-10000}
@@ -78,6 +81,7 @@ done
 
 # How much memory is taken beside the column: the most that is resident, less that where the field is made alone.
 resident() { # TASK
+  # shellcheck disable=SC2069 # the errors are read, and the output is let go
   /usr/bin/time -f %M "$bench" packing "$1" "$most" "$which" "$field" 2>&1 >/dev/null
 }
 need /usr/bin/time

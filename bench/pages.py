@@ -1,5 +1,6 @@
 #!/usr/bin/env python3
-"""Compares the words of docs/grib.1 and of the completion with those of a program, and the man page with `man`.
+"""Compares the words of docs/grib.1 and of the completion with those of a program, the man page with `man`, and the
+links of the pages with what is there, here and where install.sh puts them.
 
     bench/pages.py PROGRAM
 
@@ -7,11 +8,16 @@ Each command, name and key of the page has a reading in the program and stands i
 has no others; so have the words on what a run goes past, each with the commands that take it. `help` of the program
 has a line on each command, and no others, and the page has the version. A key that the page has for `set` can be set,
 and one that it has for `filter` alone cannot. The statuses of the page are those of chapter 9 of docs/PROFILE.md, with
-11 and 70. Words that the program does not have are printed, and the end is status 1."""
+11, 70 and 127. A shell completes names of files, odd ones too. Each link of a page leads to a page, here and in what install.sh
+puts under PREFIX, and so does each path that the man page has. What does not hold is printed, and the end is status 1."""
 import os
+import pty
 import re
+import select
 import subprocess
 import sys
+import tempfile
+import time
 
 top = os.path.dirname(os.path.dirname(os.path.abspath(__file__)))
 # For each command words that have a reading.
@@ -47,6 +53,79 @@ def completed(line):
     """What the completion gives for a line."""
     script = f'source "{top}/share/bash-completion/completions/grib"; COMP_LINE=$1 COMP_POINT=${{#1}}; _grib; printf "%s\\n" "${{COMPREPLY[@]}}"'
     return subprocess.run(["bash", "-c", script, "bash", line], capture_output=True, text=True).stdout.split()
+
+
+# What is typed, and the words and the input that the command then has. The names of files are these.
+NAMES = ["a b.grib2", "star*x", "new\nline", "-dash", "quote'\"d", "$(touch ran)"]
+TYPED = [
+    ("grib list < a\t", "[list]a b.grib2"),
+    ("grib list <a\t", "[list]a b.grib2"),
+    ("grib list 2> /dev/null < st\t", "[list]star*x"),
+    ("grib list < ne\t", "[list]new\nline"),
+    ("grib li\t< qu\t", "[list]quote'\"d"),
+    ("grib list < ./-d\t", "[list]-dash"),
+    ("grib list < \\$\t", "[list]$(touch ran)"),
+    ("grib < a\tli\t", "[list]a b.grib2"),
+    ("grib migrate params=a\t< st\t", "[migrate][params=a b.grib2]star*x"),
+    ("grib migrate params=st\tlo\tke\t< a\t", "[migrate][params=star*x][local=keep]a b.grib2"),
+    ("grib migrate params=ne\t< a\t", "[migrate][params=new\nline]a b.grib2"),
+    ("grib split out=qu\t< a\t", "[split][out=quote'\"d]a b.grib2"),
+    ("grib-parallel 2 resc\t< a\t", "[2][rescan]a b.grib2"),
+]
+
+
+def typed(lines):
+    """What a shell with the completion hands to the commands, each line typed at its terminal."""
+    with tempfile.TemporaryDirectory() as folder:
+        os.mkdir(f"{folder}/files")
+        for name in NAMES:
+            with open(f"{folder}/files/{name}", "w", encoding="utf-8") as file:
+                file.write(name)
+        with open(f"{folder}/start", "w", encoding="utf-8") as file:
+            file.write(f'source "{top}/share/bash-completion/completions/grib"\nbind "set bell-style none"\nbind "set enable-bracketed-paste off"\n')
+            file.write(f'grib() {{ {{ printf "[%s]" "$@"; cat; printf "\\0"; }} >>"{folder}/had"; }}\ngrib-parallel() {{ grib "$@"; }}\ncd "{folder}/files"\n')
+        process, terminal = pty.fork()
+        if process == 0:
+            os.environ.update(TERM="dumb", PS1="", INPUTRC="/dev/null", HISTFILE="/dev/null")
+            os.execvp("bash", ["bash", "--noprofile", "--rcfile", f"{folder}/start", "-i"])
+        had, until = [], time.monotonic() + 60
+        for number, line in enumerate(lines, 1):
+            os.write(terminal, line.encode() + b"\n")
+            while len(had) < number and time.monotonic() < until:
+                if select.select([terminal], [], [], 0.05)[0]:
+                    os.read(terminal, 65536)
+                if os.path.exists(f"{folder}/had"):
+                    with open(f"{folder}/had", encoding="utf-8") as file:
+                        had = file.read().split("\0")[:-1]
+        os.close(terminal)
+        os.waitpid(process, 0)
+        hold(sorted(os.listdir(f"{folder}/files")) == sorted(NAMES), f"files of the completion: {os.listdir(f'{folder}/files')}")
+        return had
+
+
+def check_links(page):
+    """The links of the pages, as they lie here and as install.sh puts them, and the places that the man page names."""
+    with open(f"{top}/install.sh", encoding="ascii") as file:
+        script = file.read()
+    files = re.findall(r"^\d{3} (\S+) (\S+)$", script, re.M)
+    places = {place for _, place in files} | set(re.findall(r"^put \d{3} .* (\S+)$", script.replace("  put", "put"), re.M))
+    places |= set(re.findall(r"^installed=(\S+)$", script, re.M))
+    places |= set(re.search(r"<<LINKS\n(.*?)^LINKS", script, re.M | re.S).group(1).split()[1::2])
+    pages = subprocess.run(["git", "-C", top, "ls-files", "*.md"], capture_output=True, text=True).stdout.split()
+    hold(pages and files, "pages")
+    for name in pages:
+        with open(f"{top}/{name}", encoding="utf-8") as file:
+            links = [link for link in re.findall(r"\]\(([^)#]+)[^)]*\)", file.read()) if "://" not in link]
+        for link in links:
+            hold(os.path.exists(os.path.join(top, os.path.dirname(name), link)), f"link of {name}: {link}")
+        for place in (place for source, place in files if source == name):
+            for link in links:
+                hold(os.path.normpath(os.path.join(os.path.dirname(place), link)) in places, f"link of {place}, installed: {link}")
+    for source, _ in files:
+        hold(os.path.isfile(f"{top}/{source}"), f"not here, and installed: {source}")
+    named = re.findall(r"PREFIX /?(\S+)", section(page, "FILES")) + re.findall(r"\$HOME/\.local/(\S+)", page)
+    for place in named:
+        hold(place.strip("/") in places | {os.path.dirname(place.strip("/")) for place in places}, f"place of the man page: {place}")
 
 
 def section(page, name):
@@ -109,7 +188,11 @@ def main():
 
     statuses = {int(number) for number in re.findall(r"^\.B (\d+)$", section(page, "EXIT STATUS"), re.M)}
     rows = {int(number) for number in re.findall(r"^\| \w+(?:\(i\))? \| (\d+) \|", re.search(r"^### Outcomes and statuses\n(.*?)^###", profile, re.M | re.S).group(1), re.M)}
-    hold(statuses == rows - {10} | {11, 70}, f"statuses of the page: {sorted(statuses)}, of PROFILE: {sorted(rows)}")
+    hold(statuses == rows - {10} | {11, 70, 127}, f"statuses of the page: {sorted(statuses)}, of PROFILE: {sorted(rows)}")
+    check_links(page)
+    had = typed([line for line, _ in TYPED])
+    for (line, words), got in zip(TYPED, had + ["nothing"] * len(TYPED)):
+        hold(got == words, f"completed {line!r}: {got!r}")
     said = subprocess.run(["man", "--warnings", "-l", f"{top}/docs/grib.1"], env={**os.environ, "MANWIDTH": "100"}, capture_output=True, text=True)
     hold(said.returncode == 0 and said.stderr == "", f"man: {said.stderr}")
     for what in failed:

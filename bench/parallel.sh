@@ -129,7 +129,7 @@ for number in 0 1000 99999 4x '{}'; do ends "$number jobs" 1 "Runs a command of 
 GRIB=/absent/grib ends "no program" 70 "grib-parallel: /absent/grib is no program" "$parallel" 2 set centre=98
 GRIB=$work ends "a folder as program" 70 "grib-parallel: * is no program" "$parallel" 2 set centre=98
 GRIB="eval" ends "a word of the shell as program" 70 "grib-parallel: eval is neither *" "$parallel" 2 'touch ran'
-TMPDIR=/absent ends "no folder for temporary files" 70 "*grib-parallel: no folder for temporary files" bash -c 'TMPDIR=/absent "$top/grib-parallel" 2 set centre=98'
+ends "no folder for temporary files" 70 "*grib-parallel: no folder for temporary files" bash -c 'TMPDIR=/absent "$top/grib-parallel" 2 set centre=98'
 for names in 'one;touch ran' '$(touch ran)' $'one\ntouch ran' '-oProxyCommand=touch ran' '{= system("touch ran") =}' '`touch ran`'; do
   GRIB_HOSTS=$names ends "hosts named $names" 70 "grib-parallel: GRIB_HOSTS has to be names of hosts *" "$parallel" 2 set centre=98
 done
@@ -188,17 +188,17 @@ for name in "${names[@]}"; do
   echo '98,2,11,0,0,0,2,0' >"$folder/$name.csv"
   cp "$GRIB" "$folder/grib"
   cp "$parallel" "$folder/grib-parallel"
-  for word in params="$name.csv" params="$folder/$name.csv" params=/dev/fd/7 params="$folder" params=absent; do
+  for word in params="$name.csv" params="$folder/$name.csv" params=1.csv; do
     one=0 many=0
-    (cd "$folder" && exec -a grib ./grib migrate "$word" local=keep) <"$odd/forty" >"$work/one.out" 2>"$work/one.note" 7< <(cat "$folder/$name.csv") || one=$?
-    (cd "$folder" && TMPDIR="$folder/$name" exec -- "$folder/grib-parallel" 2 migrate "$word" local=keep) <"$odd/forty" >"$work/many.out" 2>"$work/many.note" 7< <(cat "$folder/$name.csv") || many=$?
+    (cd "$folder" && exec -a grib ./grib migrate "$word" local=keep) <"$odd/forty" >"$work/one.out" 2>"$work/one.note" || one=$?
+    (cd "$folder" && unset GRIB && TMPDIR="$folder/$name" exec -- "$folder/grib-parallel" 2 migrate "$word" local=keep) <"$odd/forty" >"$work/many.out" 2>"$work/many.note" || many=$?
     if ((one != many)) || ! cmp "$work/one.out" "$work/many.out" || ! cmp "$work/one.note" "$work/many.note" || [[ -n $(ls -A "$folder/$name") ]]; then
       printf 'named %q, %q: status %s and %s, notes %q and %q\n' "$name" "$word" "$one" "$many" "$(cat "$work/one.note")" "$(cat "$work/many.note")" >&2
       failed=1
     fi
   done
 done
-[[ -z $(find "$odd" "$PWD" -name ran 2>/dev/null) ]] || { echo "a name was run" >&2; failed=1; }
+[[ -z $(find "$odd" -name ran) && ! -e ran ]] || { echo "a name was run" >&2; failed=1; }
 echo "${#names[@]} odd names: tried"
 
 # Any signal, at any time: what was started ends, and the folder goes.

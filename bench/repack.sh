@@ -8,7 +8,10 @@
 # Files are packed to each template too, and the octets that ours writes are said beside those of the file.
 # ecCodes 2.28 writes order 0 of differences whatever is asked for, which is not in the profile, so the message
 # with differences is made by ours.
+#
+# shellcheck disable=SC2154 # common.sh sets some names
 set -euo pipefail
+# shellcheck source=bench/common.sh
 source "$(dirname "$0")/common.sh"
 need grib_set "Debian: libeccodes-tools"
 side=${1:-4096}

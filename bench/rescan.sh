@@ -4,7 +4,11 @@
 # over ours: above 1, ours is the faster.
 #
 #     bench/rescan.sh [SIDE]     4096 where none is given
+#
+# shellcheck disable=SC2154 # common.sh sets some names
+# shellcheck disable=SC2317 # common.sh runs `ours` and `theirs`
 set -euo pipefail
+# shellcheck source=bench/common.sh
 source "$(dirname "$0")/common.sh"
 need grib_set "Debian: libeccodes-tools"
 need cdo "Debian: cdo"

@@ -7,7 +7,11 @@
 #
 # The fields lie on 8 levels, of which one is picked, so that one field of eight is written. Beside each ratio stands
 # the part that `check` takes of the time of ours: the rows of acceptance.
+#
+# shellcheck disable=SC2015 # what stands behind || is meant for either
+# shellcheck disable=SC2154 # common.sh sets some names
 set -euo pipefail
+# shellcheck source=bench/common.sh
 source "$(dirname "$0")/common.sh"
 need grib_copy "Debian: libeccodes-tools"
 fields=${1:-400}

@@ -6,7 +6,10 @@
 # is the faster.
 #
 #     bench/simple.sh [COUNT [PASSES]]     COUNT numbers in place of 10 million, PASSES times in place of 5
+#
+# shellcheck disable=SC2154 # common.sh sets some names
 set -euo pipefail
+# shellcheck source=bench/common.sh
 source "$(dirname "$0")/common.sh"
 most=${1:-10000000}
 often=${2:-5}

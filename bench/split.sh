@@ -5,7 +5,10 @@
 # A ratio is the plain program's time over ours: above 1, ours is the faster.
 #
 #     bench/split.sh [COUNT]     COUNT codes in place of 16 million
+#
+# shellcheck disable=SC2154 # common.sh sets some names
 set -euo pipefail
+# shellcheck source=bench/common.sh
 source "$(dirname "$0")/common.sh"
 most=${1:-16000000}
 build split.rs split noise 1000 3

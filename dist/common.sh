@@ -1,10 +1,16 @@
 # What `grib`, install.sh and the scripts beside this page share. Each sets `top`, the folder of the
 # repository, and has a function `fail` that ends it.
+#
+# shellcheck shell=bash
+# shellcheck disable=SC2015 # what stands behind || is meant for either
+# shellcheck disable=SC2034 # the scripts read `program` and `program_from`
+# shellcheck disable=SC2154 # they set `top`
 crate=$top/crates/grib_main
 shipped=$top/dist/grib-x86_64-linux-gnu # the program as it is shipped, and what it was built from:
 shipped_from=$top/dist/built-from       # the checksum of the sources, and the kit
 built=$crate/out/grib                   # the same of a program that was built here
 built_here_from=$crate/out/grib.built
+processor=/proc/cpuinfo
 
 # The checksum of the names and the contents of all that the program is built from.
 sources() (
@@ -87,9 +93,23 @@ take_turn() {
   flock 9
 }
 
+# Ends where the processor is older than x86-64-v2, which the program is for. Where the system does not say what its
+# processor has, the program itself looks.
+need_processor() {
+  local has name lacking=''
+  [[ $(uname -m) == x86_64 ]] || return 0
+  has=$(sed -n '/^flags[[:blank:]]*:/{s/.*://p;q;}' "$processor" 2>/dev/null)
+  [[ -n $has ]] || return 0
+  for name in cx16 lahf_lm pni ssse3 sse4_1 sse4_2 popcnt; do # as the system calls them; pni is SSE3
+    [[ " $has " == *" $name "* ]] || lacking+=" $name"
+  done
+  [[ -z $lacking ]] || fail "the program is for processors of x86-64-v2 (Intel and AMD from about 2011 on), and this one lacks$lacking"
+}
+
 # Sets `program` to one of the sources at hand, the shipped one or else one that is built here, and `program_from` to
 # the file that says what it was built from.
 find_program() {
+  need_processor
   sources=$(sources) || fail "cannot read the sources"
   program=$shipped program_from=$shipped_from
   is_shipped && return
