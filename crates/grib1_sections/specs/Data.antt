@@ -3,10 +3,10 @@
 -- octet 14) and a count of unused bits, which is not used. Octet 11 is the number of bits of each number.
 -- The numbers stand from octet 12 on, one for each point that is present.
 use Rattle.std.specs.Prelude.{ℕ, ◌+◌, ◌*◌, List, [], ◌∷◌, length, nat_lt}
+use Rattle.grib_bits.specs.Bits.{bit}
 use Rattle.grib_bits.specs.Octets.{octets}
 use Rattle.grib_base.specs.declared.fault.Reason.TheVariants.{Harmonics, SecondOrder, ExtraFlags, BitWidth, DataTooShort}
 use Rattle.grib_base.specs.Rows.{Row, row}
-use Rattle.grib1_sections.specs.Frame.{bit}
 
 abbrev pub data_flags : List ℕ → ℕ
 data_flags s = octets s 4 4

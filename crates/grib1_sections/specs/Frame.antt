@@ -10,10 +10,6 @@ use Rattle.grib2_sections.specs.Frame.{ends_at}
 abbrev pub section_length : List ℕ → ℕ
 section_length section = octets section 1 3
 
--- bit n of an octet, bit 1 being the most significant
-abbrev pub bit : ℕ → ℕ → Bool
-bit n octet = octet / 2 ^ (8 - n) % 2 == 1
-
 -- rows B1 to B3, of a section at octet q whose kind has this least length
 abbrev pub frame_rows : List ℕ → ℕ → ℕ → List Row
 frame_rows message q least =

@@ -1,10 +1,10 @@
 -- Section 1, the product definition section (WMO-No. 306, Volume I.2, FM 92 GRIB edition 1): octet 8
 -- flags the sections that follow (code table 1), bit 1 Section 2, bit 2 Section 3.
 use Rattle.std.specs.Prelude.{ℕ, Bool, not, List, [], ◌∷◌}
+use Rattle.grib_bits.specs.Bits.{bit}
 use Rattle.grib_bits.specs.Octets.{octets}
 use Rattle.grib_base.specs.declared.fault.Reason.TheVariants.{NoGridSection}
 use Rattle.grib_base.specs.Rows.{Row, row}
-use Rattle.grib1_sections.specs.Frame.{bit}
 
 abbrev pub section_flags : List ℕ → ℕ
 section_flags s = octets s 8 8

@@ -13,10 +13,10 @@ ghost use Rattle.grib1_sections.specs.Data.{data_rows};
 ghost use Rattle.grib_base.specs.Faults.{IsReadFault};
 ghost use Rattle.grib1_sections.specs.Known.{HasRows};
 
-use crate::frame::{Placed, has_bit};
+use crate::frame::Placed;
 use grib_base::{Fault, MOST_POINTS, ReadFault, Reason};
 use grib_bitmap::{Mask, ones};
-use grib_bits::{u8_at, u16_at};
+use grib_bits::{has_bit, u8_at, u16_at};
 use std::alloc::Global;
 
 /// Tries the row of Section 1.

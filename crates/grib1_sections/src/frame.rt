@@ -4,7 +4,7 @@ ghost use Rattle.std.specs.Prelude.{◌≡◌, ◌+◌, ◌-◌, ◌≤◌, ◌<
 ghost use Rattle.grib_base.specs.Rows as rows;
 ghost use Rattle.grib_base.specs.Rows.{first_fault};
 ghost use Rattle.grib2_sections.specs.Head.{total_length_1};
-ghost use Rattle.grib1_sections.specs.Frame.{frame_rows, end_rows, bit};
+ghost use Rattle.grib1_sections.specs.Frame.{frame_rows, end_rows};
 ghost use Rattle.grib1_sections.specs.Known.{Stands};
 
 use grib_base::{Fault, Reason};
@@ -103,13 +103,4 @@ fn truncated(octets: &[u8]) -> Fault
 {
     let present = octets.len() as u64;
     Fault::at(present + 1, Reason::Truncated, present)
-}
-
-/// Bit `number` of an octet, bit 1 being the most significant.
-pub(crate) fn has_bit(octet: u8, number: u8) -> bool
-    requires low { 1 ≤ number }
-    requires high { number ≤ 8 }
-    ensures { result ≡ bit number octet }
-{
-    octet >> (8 - number) & 1 == 1
 }

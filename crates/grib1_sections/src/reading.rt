@@ -15,9 +15,9 @@ ghost use Rattle.grib1_sections.specs.Known.{Stands, HasBitmap};
 
 use crate::Message1;
 use crate::checking::{check_bitmap, check_data, check_grid, check_identification};
-use crate::frame::{Placed, check_end, has_bit, section_from};
+use crate::frame::{Placed, check_end, section_from};
 use grib_base::{Fault, ReadFault};
-use grib_bits::u8_at;
+use grib_bits::{has_bit, u8_at};
 use grib2_sections::read_head;
 use std::alloc::Global;
 

@@ -1,6 +1,7 @@
 -- Lemmas on numbers that stand one after another.
-use Rattle.std.proofs.Common.{◌≡◌, ℕ, ◌+◌, ◌*◌, ◌<◌, ◌≤◌, List, [], ◌∷◌, ◌++◌, length, take, get_or, refl, sym, ap, ◌∙◌, arith, append_assoc, append-nil}
+use Rattle.std.proofs.Common.{◌≡◌, ℕ, ◌+◌, ◌*◌, ◌<◌, ◌≤◌, List, [], ◌∷◌, ◌++◌, length, take, get_or, subst, refl, sym, ap, ◌∙◌, arith, append_assoc, append-nil}
 use Rattle.std.proofs.lemmas.List.{length-append, take_more}
+use Rattle.std.specs.Prelude.{Result, Ok, Err, OnOk}
 use Rattle.grib_bits.specs.declared.adding.Number.{Number}
 use Rattle.grib_bits.specs.declared.adding.Number.TheVariants.{One, Two, Three, Four}
 use Rattle.grib_bits.specs.Encoding.{number_octets, all_octets}
@@ -37,3 +38,12 @@ pub octets_behind : (old before now : List ℕ) (xs ys : List Number) → before
 octets_behind old before now xs ys first second =
     second ∙ ap (λ (zs : List ℕ). zs ++ all_octets ys) first ∙ append_assoc old (all_octets xs) (all_octets ys)
     ∙ ap (λ (zs : List ℕ). old ++ zs) (sym (all_octets-append xs ys))
+
+-- the same of what was added where there was memory
+pub added_behind : {E : Type 0} (old before now : List ℕ) (xs ys : List Number) (result : Result (Unit {0}) E) → before ≡ old ++ all_octets xs → OnOk result (now ≡ before ++ all_octets ys)
+    → OnOk result (now ≡ old ++ all_octets (xs ++ ys))
+added_behind old before now xs ys (Ok done) first second = octets_behind old before now xs ys first second
+added_behind old before now xs ys (Err fault) first second = tt
+
+pub added_same : {E : Type 0} (old now : List ℕ) (xs ys : List Number) (result : Result (Unit {0}) E) → xs ≡ ys → OnOk result (now ≡ old ++ all_octets xs) → OnOk result (now ≡ old ++ all_octets ys)
+added_same old now xs ys result same added = subst (λ (zs : List Number). OnOk result (now ≡ old ++ all_octets zs)) same added

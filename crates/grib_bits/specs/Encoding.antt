@@ -21,6 +21,16 @@ abbrev pub all_octets : List Number → List ℕ
 all_octets [] = []
 all_octets (number ∷ numbers) = number_octets number ++ all_octets numbers
 
+-- missing, in one octet, in two and in four: all ones
+abbrev pub missing_1 : ℕ
+missing_1 = 255
+
+abbrev pub missing_2 : ℕ
+missing_2 = 65535
+
+abbrev pub missing_4 : ℕ
+missing_4 = 4294967295
+
 -- octets 1-4 of a section of edition 2 are its length in octets, octet 5 is its number: those of a section with
 -- this number of octets behind them, and the section with these contents
 abbrev pub section_head : ℕ → ℕ → List ℕ

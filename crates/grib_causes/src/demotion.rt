@@ -3,6 +3,8 @@
 ghost use Rattle.std.specs.Prelude.{◌≡◌};
 ghost use Rattle.grib_causes.specs.Demotions.{name_of, number_of};
 
+use std::fmt;
+
 /// What would be lost. Points and vertical coordinates count from 1.
 #[derive(Clone, Copy, Debug, PartialEq, Eq)]
 pub enum Demotion {
@@ -86,6 +88,15 @@ impl Demotion {
             | Demotion::OutOfRange(number) => Some(u64::from(number)),
             Demotion::TooLong(length) => Some(length),
             _ => None,
+        }
+    }
+}
+
+impl fmt::Display for Demotion {
+    fn fmt<W: fmt::Write>(&self, f: &mut fmt::Formatter<W>) -> fmt::Result {
+        match self.number() {
+            Some(number) => write!(f, "{} {number}", self.name()),
+            None => f.write_str(self.name()),
         }
     }
 }

@@ -3,6 +3,8 @@
 ghost use Rattle.std.specs.Prelude.{◌≡◌};
 ghost use Rattle.grib_causes.specs.Losses.{name_of, number_of};
 
+use std::fmt;
+
 /// What would be lost.
 #[derive(Clone, Copy, Debug, PartialEq, Eq)]
 pub enum Loss {
@@ -58,6 +60,15 @@ impl Loss {
             Loss::GridNumber(octet) => Some(octet),
             Loss::Coordinate(index) => Some(index),
             _ => None,
+        }
+    }
+}
+
+impl fmt::Display for Loss {
+    fn fmt<W: fmt::Write>(&self, f: &mut fmt::Formatter<W>) -> fmt::Result {
+        match self.number() {
+            Some(number) => write!(f, "{} {number}", self.name()),
+            None => f.write_str(self.name()),
         }
     }
 }

@@ -6,19 +6,18 @@ use Rattle.std.proofs.Math.Seq.{drop-cons, drop-length}
 use Rattle.std.proofs.lemmas.List.{map-append}
 use Rattle.std.proofs.lemmas.Bool.{eqb-false}
 use Rattle.std.specs.Option.{option_or}
-use Rattle.grib_bits.specs.Encoding.{octets_of}
+use Rattle.grib_bits.specs.Encoding.{octets_of, all_octets}
 use Rattle.grib_bits.specs.Listed.{numbers_octets}
 use Rattle.grib_bits.proofs.Listed.{numbers_octets-more}
 use Rattle.grib_migrate.specs.declared.level.Surface.{Surface}
 use Rattle.grib_demote.specs.declared.level.Level.{Level}
 use Rattle.grib_causes.specs.declared.demotion.Demotion.TheVariants.{Coordinate}
-use Rattle.grib_demote.specs.declared.number.Number.TheVariants.{Four}
-use Rattle.grib_demote.specs.Numbers.{all_octets}
+use Rattle.grib_bits.specs.declared.adding.Number.TheVariants.{Four}
 use Rattle.grib_demote.specs.Words.{ibm_of}
 use Rattle.grib_demote.specs.Levels.{level_with, level_among}
 use Rattle.grib_demote.specs.Losses.{is_lost, coordinate_loss_from}
 use Rattle.grib_demote.specs.Products.{coordinate_numbers}
-use Rattle.grib_demote.proofs.Numbers.{all_octets-append}
+use Rattle.grib_bits.proofs.AllOctets.{all_octets-append}
 
 next : (k : ℕ) → suc k ≡ k + 1
 next k = omega arith

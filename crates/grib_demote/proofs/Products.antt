@@ -7,7 +7,7 @@ use Rattle.grib_packing.specs.Packing.{decimal_scale}
 use Rattle.grib_migrate.specs.declared.date.Moment.{Moment}
 use Rattle.grib_demote.specs.declared.product.Told.{Told}
 use Rattle.grib_demote.specs.declared.time.TimeRange.{TimeRange}
-use Rattle.grib_demote.specs.declared.number.Number.TheVariants.{One, Two}
+use Rattle.grib_bits.specs.declared.adding.Number.TheVariants.{One, Two}
 use Rattle.grib_demote.specs.Dates.{reference_time, century, year_of_century}
 use Rattle.grib_demote.specs.Times.{time_range}
 use Rattle.grib_demote.specs.Products.{centre, sub_centre, has_local, local_octets, identification_numbers}

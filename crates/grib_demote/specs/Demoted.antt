@@ -1,6 +1,6 @@
 -- The message of edition 1 that has the values of a field of edition 2 (WMO-No. 306, Volume I.2, FM 92 GRIB).
 use Rattle.std.specs.Prelude.{ℕ, ◌+◌, Bool, cond, Option, Some, None, List, [], ◌∷◌, ◌++◌, length, nat_lt, unwrap_or, option_map}
-use Rattle.grib_bits.specs.Encoding.{octets_of}
+use Rattle.grib_bits.specs.Encoding.{octets_of, all_octets, section1_of}
 use Rattle.grib_bits.specs.Listed.{numbers_octets}
 use Rattle.grib2_sections.specs.Head.{indicator, end_mark, discipline}
 use Rattle.grib_params.specs.Table.{Entries}
@@ -13,7 +13,6 @@ use Rattle.grib2_message.specs.Fields.{part_octets, column_of}
 use Rattle.grib_repack.specs.Repacked.{packed_field}
 use Rattle.grib_causes.specs.declared.demotion.Demotion.{Demotion}
 use Rattle.grib_causes.specs.declared.demotion.Demotion.TheVariants as losses
-use Rattle.grib_demote.specs.Numbers.{all_octets, section_of}
 use Rattle.grib_demote.specs.Levels.{level, level_of}
 use Rattle.grib_demote.specs.Times.{unit_of}
 use Rattle.grib_demote.specs.Grids.{type_of, header, template_numbers}
@@ -34,7 +33,7 @@ told_in table discipline s1 s4 = record {
 -- Section 1
 abbrev pub product_section : Told → Bool → Bool → List ℕ → List ℕ → List ℕ → List ℕ → List ℕ
 product_section told keep_local bitmapped s1 s2 s4 s5 =
-    section_of (all_octets (identification_numbers told bitmapped s1 s4 s5) ++ local_octets keep_local s2)
+    section1_of (all_octets (identification_numbers told bitmapped s1 s4 s5) ++ local_octets keep_local s2)
 
 -- Section 2, with these words of the vertical coordinates; behind them stands the list of rows
 abbrev pub grid_octets : List ℕ → List ℕ → List ℕ
@@ -51,7 +50,7 @@ message_with sections = indicator ++ (octets_of 3 (8 + length sections + 4) ++ 1
 abbrev pub all_sections : Told → Bool → List ℕ → List ℕ → List ℕ → List ℕ → List ℕ → Packed → ℕ → List ℕ
 all_sections told keep_local s1 s2 s4 s5 grid values points =
     product_section told keep_local (has_bitmap values) s1 s2 s4 s5
-    ++ (section_of grid ++ (bitmap_section values points ++ data_section s5 values))
+    ++ (section1_of grid ++ (bitmap_section values points ++ data_section s5 values))
 
 -- those of field i
 abbrev pub demoted_sections : Entries → Bool → List ℕ → ℕ → List ℕ

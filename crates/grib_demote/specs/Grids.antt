@@ -3,14 +3,13 @@
 -- in 10^-6 degree and lengths in 10^-3 metre, edition 1 in 10^-3 degree and in metres.
 use Rattle.std.specs.Prelude.{ℕ, ◌+◌, ◌-◌, ◌*◌, ◌%◌, ◌/◌, ◌^◌, Bool, not, cond, ◌&&◌, ◌||◌, Option, option_map, find, List, [], ◌∷◌, ◌++◌, nat_lt, ◌==◌}
 use Rattle.std.specs.List.{list_any}
-use Rattle.grib_bits.specs.Bits.{digit}
+use Rattle.grib_bits.specs.Bits.{bit, digit}
 use Rattle.grib_bits.specs.Octets.{octets}
-use Rattle.grib1_sections.specs.Frame.{bit}
 use Rattle.grib2_grids.specs.Grid.{grid_template, list_octets, list_meaning, ni, nj, row_list}
-use Rattle.grib_migrate.specs.Numbers.{missing_4}
+use Rattle.grib_bits.specs.Encoding.{missing_4}
 use Rattle.grib_migrate.specs.Grids as migrate
-use Rattle.grib_demote.specs.declared.number.Number.{Number}
-use Rattle.grib_demote.specs.declared.number.Number.TheVariants.{One, Two, Three, Four}
+use Rattle.grib_bits.specs.declared.adding.Number.{Number}
+use Rattle.grib_bits.specs.declared.adding.Number.TheVariants.{One, Two, Three, Four}
 use Rattle.grib_demote.specs.declared.tested.Tested.{Tested}
 use Rattle.grib_causes.specs.declared.demotion.Demotion.{Demotion}
 use Rattle.grib_causes.specs.declared.demotion.Demotion.TheVariants.{GridNumber}
@@ -77,10 +76,6 @@ length_fits n = (n == missing_4) || is_thousands n
 
 abbrev pub increment_fits : Bool → ℕ → Bool
 increment_fits given n = not given || (n == missing_4) || (is_thousands n && not (nat_lt 65534000 n))
-
--- 60 degrees, in the hemisphere of the projection centre: bit 1 says that it is the south pole
-abbrev pub true_latitude : ℕ → ℕ
-true_latitude centre = 2 ^ 31 * digit (bit 1 centre) + 60000000
 
 -- a number by the first of its octets, and whether it fits
 abbrev pub tested : ℕ → Bool → Tested
@@ -168,7 +163,7 @@ abbrev pub tested_numbers : List ℕ → List Tested
 tested_numbers s =
     let t = grid_template s in
     cond (t == 10) (mercator_tested s)
-    (cond (t == 20) (polar_tested s (true_latitude (octets s 64 64)))
+    (cond (t == 20) (polar_tested s (migrate.true_latitude (octets s 64 64)))
     (cond (t == 30) (polar_tested s (four s 66) ++ lambert_tested s) (lat_lon_tested s)))
 
 abbrev pub grid_loss : List ℕ → Option Demotion

@@ -6,7 +6,7 @@ use Rattle.std.specs.List.{range_with_len}
 use Rattle.std.specs.Option.{option_and_then, option_or}
 use Rattle.grib_bits.specs.Octets.{octets}
 use Rattle.grib_migrate.specs.Levels.{surface, surfaces_at}
-use Rattle.grib_migrate.specs.Numbers.{missing_1, missing_4}
+use Rattle.grib_bits.specs.Encoding.{missing_1, missing_4}
 use Rattle.grib_migrate.specs.declared.level.Surface.{Surface}
 use Rattle.grib_migrate.specs.declared.level.Surfaces.{Surfaces}
 use Rattle.grib_demote.specs.declared.level.Level.{Level}

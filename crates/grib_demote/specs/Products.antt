@@ -7,8 +7,8 @@ use Rattle.grib_params.specs.Table.{Entries}
 use Rattle.grib_params.specs.Pairs.{Pair, first_pair}
 use Rattle.grib_params.specs.declared.row.Target.{Target}
 use Rattle.grib_packing.specs.Packing.{decimal_scale}
-use Rattle.grib_demote.specs.declared.number.Number.{Number}
-use Rattle.grib_demote.specs.declared.number.Number.TheVariants.{One, Two, Four}
+use Rattle.grib_bits.specs.declared.adding.Number.{Number}
+use Rattle.grib_bits.specs.declared.adding.Number.TheVariants.{One, Two, Four}
 use Rattle.grib_demote.specs.declared.product.Told.{Told}
 use Rattle.grib_demote.specs.declared.time.TimeRange.{TimeRange}
 use Rattle.grib_demote.specs.Words.{ibm_of}

@@ -11,7 +11,7 @@ ghost use Rattle.grib2_message.specs.Fields.{field_count, part_octets, column_of
 ghost use Rattle.grib_repack.specs.Repacked.{packed_field};
 ghost use Rattle.grib_demote.specs.Losses as losses;
 ghost use Rattle.grib_demote.specs.Losses.{first_of, form_losses};
-ghost use Rattle.grib_demote.specs.Numbers.{all_octets};
+ghost use Rattle.grib_bits.specs.Encoding.{all_octets};
 ghost use Rattle.grib_demote.specs.Grids as grids;
 ghost use Rattle.grib_demote.specs.Products as products;
 ghost use Rattle.grib_demote.specs.Demoted as spec;
@@ -23,14 +23,13 @@ use crate::DemoteFault;
 use crate::checking::{check_product, coordinate_loss, form_loss};
 use crate::field::{Field, there};
 use crate::grid::{add_header, add_template, type_of};
-use crate::number::Number::Four;
-use crate::number::{add_numbers, add_section, add_three, add_two};
 use crate::product::{Told, product_octets};
 use crate::tested::grid_loss;
 use crate::values::{add_bitmap, data_octets, has_bitmap};
 use crate::word::ibm_of;
 use grib_base::List;
-use grib_bits::{u16_at, u32_at};
+use grib_bits::Number::Four;
+use grib_bits::{add_numbers, add_section1, add_uint, u16_at, u32_at};
 use grib_causes::Demotion;
 use grib_packed::laws::one_packing_is_written;
 use grib_packing::{PackFault, Packed};
@@ -177,7 +176,7 @@ fn add_rows(rows: &[u32], out: &mut Vec<u8>) -> Result<(), AllocError>
     ensures { OnOk result (out.new.items ≡ out.old.items ++ numbers_octets 2 rows.now) }
 {
     for row in rows {
-        add_two(*row, out)?;
+        add_uint(u64::from(*row), 2, out)?;
     }
     Ok(())
 }
@@ -235,10 +234,10 @@ fn all_sections(
     let identification = product_octets(alloc, field, told, keep_local, has_bitmap(packed))?;
     let data = data_octets(alloc, field.packing, packed)?;
     let mut sections = Vec::new(alloc);
-    add_section(identification.as_slice(), &mut sections)?;
-    add_section(grid, &mut sections)?;
+    add_section1(identification.as_slice(), &mut sections)?;
+    add_section1(grid, &mut sections)?;
     add_bitmap(alloc, packed, points, &mut sections)?;
-    add_section(data.as_slice(), &mut sections)?;
+    add_section1(data.as_slice(), &mut sections)?;
     Ok(sections)
 }
 
@@ -255,7 +254,7 @@ fn whole_message(alloc: Global, sections: &[u8]) -> Result<Vec<u8>, DemoteFault>
     }
     let mut octets = Vec::with_capacity(alloc, total as usize)?;
     octets.extend_from_slice(b"GRIB")?;
-    add_three(total, &mut octets)?;
+    add_uint(total, 3, &mut octets)?;
     octets.extend_from_slice(&[1])?;
     octets.extend_from_slice(sections)?;
     octets.extend_from_slice(b"7777")?;

@@ -5,13 +5,16 @@ ghost use Rattle.grib_demote.specs.declared.demotion.DemoteFault.TheVariants as 
 
 use grib_causes::Demotion;
 use std::alloc::AllocError;
+use thiserror::Error;
 
 /// Why a field is not demoted.
-#[derive(Clone, Copy, Debug, PartialEq, Eq)]
+#[derive(Clone, Copy, Debug, PartialEq, Eq, Error)]
 pub enum DemoteFault {
     /// The first loss.
+    #[error("edition 1 has no place for this: {0}")]
     Lost(Demotion),
     /// There is no memory.
+    #[error("out of memory")]
     Memory,
 }
 

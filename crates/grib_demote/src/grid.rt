@@ -1,16 +1,13 @@
 //! Section 2: the grid.
 
 ghost use Rattle.std.specs.Prelude.{◌≡◌, ◌+◌, ◌≤◌, ◌<◌, ◌^◌, ◌++◌, None, Some, true, false, length, OnOk};
-ghost use Rattle.grib1_sections.specs.Frame as frame;
 ghost use Rattle.grib2_grids.specs.Grid as grid2;
 ghost use Rattle.grib2_grids.specs.Whole.{IsWhole};
-ghost use Rattle.grib_demote.specs.Numbers.{all_octets};
+ghost use Rattle.grib_bits.specs.Encoding.{all_octets};
 ghost use Rattle.grib_demote.specs.Grids as grids;
 
-use crate::Number;
-use crate::number::Number::{Four, One, Three, Two};
-use crate::number::add_numbers;
-use grib_bits::{u8_at, u16_at, u32_at};
+use grib_bits::Number::{Four, One, Three, Two};
+use grib_bits::{Number, add_numbers, has_bit, u8_at, u16_at, u32_at};
 use std::alloc::AllocError;
 
 /// Where the rows differ in length, or an increment is not told.
@@ -28,15 +25,6 @@ pub(crate) fn type_of(template: u16) -> Option<u8>
         40 => Some(4),
         _ => None,
     }
-}
-
-/// Whether bit n of an octet is set, bit 1 being the most significant.
-pub(crate) fn has_bit(octet: u8, n: u32) -> bool
-    requires low { 1 ≤ n }
-    requires high { n ≤ 8 }
-    ensures { result ≡ frame.bit n octet }
-{
-    octet >> (8 - n) & 1 == 1
 }
 
 /// Whether the template is 3.0 or 3.40.
@@ -272,58 +260,20 @@ pub(crate) fn add_template(section3: &[u8], out: &mut Vec<u8>) -> Result<(), All
     ensures { OnOk result (out.new.items ≡ out.old.items ++ all_octets (grids.template_numbers section3.now)) }
 {
     match u16_at(section3, 13) {
-        10 => add_mercator(section3, out),
-        20 => add_polar_stereographic(section3, out),
-        30 => add_lambert(section3, out),
-        _ => add_lat_lon(section3, out),
+        10 => add_numbers(&mercator_numbers(section3), out),
+        20 => add_polar(section3, &[Four(0)], out),
+        30 => add_polar(section3, &lambert_numbers(section3), out),
+        _ => add_numbers(&lat_lon_numbers(section3), out),
     }
 }
 
-/// Adds octets 11 to 32 of types 0 and 4.
-fn add_lat_lon(section3: &[u8], out: &mut Vec<u8>) -> Result<(), AllocError>
-    requires whole { IsWhole section3.now }
-    requires long { 72 ≤ length section3.now }
-    ensures { OnOk result (out.new.items ≡ out.old.items ++ all_octets (grids.lat_lon section3.now)) }
-{
-    add_numbers(&lat_lon_numbers(section3), out)
-}
-
-/// Adds octets 11 to 42 of type 1.
-fn add_mercator(section3: &[u8], out: &mut Vec<u8>) -> Result<(), AllocError>
-    requires whole { IsWhole section3.now }
-    requires long { 72 ≤ length section3.now }
-    ensures { OnOk result (out.new.items ≡ out.old.items ++ all_octets (grids.mercator section3.now)) }
-{
-    add_numbers(&mercator_numbers(section3), out)
-}
-
-/// Adds octets 11 to 28 of types 5 and 3.
-fn add_polar(section3: &[u8], out: &mut Vec<u8>) -> Result<(), AllocError>
+/// Adds octets 11 to 28 of types 5 and 3, and then the others.
+fn add_polar(section3: &[u8], others: &[Number], out: &mut Vec<u8>) -> Result<(), AllocError>
     requires { IsWhole section3.now }
-    ensures { OnOk result (out.new.items ≡ out.old.items ++ all_octets (grids.polar section3.now)) }
+    ensures { OnOk result (out.new.items ≡ out.old.items ++ all_octets (grids.polar section3.now ++ others.now)) }
 {
-    add_numbers(&polar_numbers(section3), out)
-}
-
-/// Adds octets 11 to 32 of type 5.
-fn add_polar_stereographic(section3: &[u8], out: &mut Vec<u8>) -> Result<(), AllocError>
-    requires { IsWhole section3.now }
-    ensures { OnOk result (out.new.items ≡ out.old.items
-        ++ all_octets (grids.polar section3.now ++ grids.polar_end)) }
-{
-    add_polar(section3, out)?;
-    add_numbers(&[Four(0)], out)
-}
-
-/// Adds octets 11 to 42 of type 3.
-fn add_lambert(section3: &[u8], out: &mut Vec<u8>) -> Result<(), AllocError>
-    requires whole { IsWhole section3.now }
-    requires long { 81 ≤ length section3.now }
-    ensures { OnOk result (out.new.items ≡ out.old.items
-        ++ all_octets (grids.polar section3.now ++ grids.lambert section3.now)) }
-{
-    add_polar(section3, out)?;
-    add_numbers(&lambert_numbers(section3), out)
+    add_numbers(&polar_numbers(section3), out)?;
+    add_numbers(others, out)
 }
 
 /// The numbers of octets 11 to 32 of types 0 and 4.

@@ -2,20 +2,18 @@
 
 ghost use Rattle.std.specs.Prelude.{◌≡◌, ◌+◌, ◌*◌, ◌≤◌, ◌<◌, ◌^◌, ◌++◌, true, false, length, OnOk, IfOk};
 ghost use Rattle.grib_bits.specs.Bits.{digit};
-ghost use Rattle.grib_demote.specs.Numbers.{all_octets};
+ghost use Rattle.grib_bits.specs.Encoding.{all_octets};
 ghost use Rattle.grib_demote.specs.Dates as dates;
 ghost use Rattle.grib_demote.specs.Times as times;
 ghost use Rattle.grib_demote.specs.Held.{IsDemoted};
 ghost use Rattle.grib_demote.specs.Products as products;
 
-use crate::Number;
 use crate::date::{century, reference_time, year_of_century};
 use crate::field::Field;
 use crate::level::Level;
-use crate::number::Number::{One, Two};
-use crate::number::add_numbers;
 use crate::time::time_range;
-use grib_bits::{u8_at, u16_at};
+use grib_bits::Number::{One, Two};
+use grib_bits::{Number, add_numbers, u8_at, u16_at};
 use std::alloc::{AllocError, Global};
 
 /// What Section 1 has of a product.

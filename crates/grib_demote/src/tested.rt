@@ -5,9 +5,10 @@ ghost use Rattle.grib2_grids.specs.Whole.{IsWhole};
 ghost use Rattle.grib2_grids.specs.Grid as grid2;
 ghost use Rattle.grib_demote.specs.Grids as grids;
 
-use crate::grid::{are_given, has_bit, is_listed};
+use crate::grid::{are_given, is_listed};
 use grib_bits::{u8_at, u16_at, u32_at};
 use grib_causes::Demotion;
+use grib_migrate::true_latitude;
 
 /// A number of Section 3, by the first of its octets.
 #[derive(Clone, Copy, Debug)]
@@ -17,9 +18,6 @@ pub struct Tested {
     /// Whether it fits.
     pub fits: bool,
 }
-
-/// 60 degrees in 10^-6 degree.
-const TRUE_LATITUDE: u32 = 60_000_000;
 
 /// The greatest increment, in 10^-6 degree.
 const MOST_INCREMENT: u32 = 65_534_000;
@@ -57,17 +55,6 @@ fn increment_fits(given: bool, number: u32) -> bool
     ensures { result ≡ grids.increment_fits given number }
 {
     !given || number == u32::MAX || (number % 1000 == 0 && number <= MOST_INCREMENT)
-}
-
-/// 60 degrees, in the hemisphere of the projection centre.
-fn true_latitude(centre: u8) -> u32
-    ensures { result ≡ grids.true_latitude centre }
-{
-    if has_bit(centre, 1) {
-        (1 << 31) + TRUE_LATITUDE
-    } else {
-        TRUE_LATITUDE
-    }
 }
 
 /// The angle in the four octets from `first` on.

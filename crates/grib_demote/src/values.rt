@@ -4,11 +4,9 @@ ghost use Rattle.std.specs.Prelude.{◌≡◌, ◌+◌, ◌*◌, ◌^◌, ◌≤
 ghost use Rattle.grib_demote.specs.Values as values;
 ghost use Rattle.grib_demote.specs.Held.{HoldsPacked};
 
-use crate::Number;
-use crate::number::Number::{Four, One, Two};
-use crate::number::{add_numbers, add_section, even_out, padding};
 use crate::word::ibm_of;
-use grib_bits::{u8_at, u16_at, u32_at};
+use grib_bits::Number::{Four, One, Two};
+use grib_bits::{Number, add_numbers, add_section1, u8_at, u16_at, u32_at};
 use grib_packing::Packed;
 use std::alloc::{AllocError, Global};
 
@@ -18,6 +16,23 @@ pub(crate) fn has_bitmap(packed: &Packed) -> bool
     ensures { result ≡ values.has_bitmap packed.now }
 {
     u8_at(packed.section6.as_slice(), 6) != 255
+}
+
+/// The bits that fill a section of this many bits up to an even number of octets.
+fn padding(bits: u64) -> u8
+    ensures { result ≡ values.padding bits }
+{
+    ((16 - bits % 16) % 16) as u8
+}
+
+/// Adds a zero where the contents of a section have an even number of octets.
+fn even_out(contents: &mut Vec<u8>) -> Result<(), AllocError>
+    ensures { OnOk result (contents.new.items ≡ values.evened contents.old.items) }
+{
+    if contents.len() % 2 == 0 {
+        contents.push(0)?;
+    }
+    Ok(())
 }
 
 /// Octet 4 and further of Section 3, for this number of points.
@@ -81,5 +96,5 @@ pub(crate) fn add_bitmap(
         return Ok(());
     }
     let octets = bitmap_octets(alloc, packed, points)?;
-    add_section(octets.as_slice(), out)
+    add_section1(octets.as_slice(), out)
 }

@@ -39,7 +39,7 @@ use Rattle.grib1_sections.specs.Message.{IsMessage1}
 use Rattle.grib1_sections.proofs.Joined.{grammar_accepted}
 use Rattle.grib_demote.specs.declared.product.Told.{Told}
 use Rattle.grib_demote.specs.Products.{local_octets}
-use Rattle.grib_demote.specs.Numbers.{section_of}
+use Rattle.grib_bits.specs.Encoding.{section1_of}
 use Rattle.grib_demote.specs.Values.{has_bitmap, bitmap_section, data_section}
 use Rattle.grib_demote.specs.Demoted.{told_in, grid_octets, message_with, demoted, demoted_sections}
 use Rattle.grib_demote.proofs.Lists.{few_coordinates}
@@ -106,7 +106,7 @@ module _ (table : Entries) (keep any : Bool) (message : List ℕ) (i : ℕ) (may
   a = section_1 told (has_bitmap values) (part 1) (part 4) (part 5) local
 
   abbrev pub b : List ℕ
-  b = section_of (grid_octets words (part 3))
+  b = section1_of (grid_octets words (part 3))
 
   abbrev pub c : Option (List ℕ)
   c = section_3 values n

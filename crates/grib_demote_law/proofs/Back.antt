@@ -9,11 +9,12 @@ use Rattle.grib2_sections.specs.Template.{least_length}
 use Rattle.grib2_grids.specs.Grid.{grid_template, grid_templates}
 use Rattle.grib2_grids.specs.Whole.{IsWhole}
 use Rattle.grib_migrate.specs.Grids as migrate
-use Rattle.grib_demote.specs.declared.number.Number.{Number}
-use Rattle.grib_demote.specs.declared.number.Number.TheVariants.{One, Two, Four}
+use Rattle.grib_bits.specs.declared.adding.Number.{Number}
+use Rattle.grib_bits.specs.declared.adding.Number.TheVariants.{One, Two, Four}
+use Rattle.grib_migrate.specs.Grids.{true_latitude}
 use Rattle.grib_demote.specs.declared.tested.Tested.{Tested}
-use Rattle.grib_demote.specs.Numbers.{all_octets}
-use Rattle.grib_demote.specs.Grids.{type_of, four, scanning, angle, longitude, angle_fits, longitude_fits, old_flags, are_given, increment, last_number, angle_at, longitude_at, increment_at, mercator, polar, polar_end, lambert, lat_lon, lat_lon_tested, mercator_tested, polar_tested, lambert_tested, true_latitude, grid_loss}
+use Rattle.grib_bits.specs.Encoding.{all_octets}
+use Rattle.grib_demote.specs.Grids.{type_of, four, scanning, angle, longitude, angle_fits, longitude_fits, old_flags, are_given, increment, last_number, angle_at, longitude_at, increment_at, mercator, polar, polar_end, lambert, lat_lon, lat_lon_tested, mercator_tested, polar_tested, lambert_tested, grid_loss}
 use Rattle.grib_demote_law.proofs.Grids.{section_2}
 use Rattle.grib_demote_law.proofs.Template.{NoneLost, first_fits, numbers_by}
 use Rattle.grib_demote_law.proofs.Flags.{old_flags_known}

@@ -6,7 +6,7 @@ use Rattle.std.proofs.lemmas.Bool.{or_parts}
 use Rattle.std.proofs.lemmas.List.{length-map}
 use Rattle.std.proofs.lemmas.List.FromFn.{fill_by_all}
 use Rattle.grib_bits.specs.Octets.{octets}
-use Rattle.grib_bits.specs.Encoding.{octets_of}
+use Rattle.grib_bits.specs.Encoding.{octets_of, all_octets}
 use Rattle.grib_bits.specs.Listed.{number_at, numbers_at, numbers_octets}
 use Rattle.grib_bits.proofs.Encoding.{length-octets_of, octets-within, num_on-octets_of}
 use Rattle.grib_causes.specs.declared.demotion.Demotion.TheVariants.{Coordinate}
@@ -15,7 +15,6 @@ use Rattle.grib1_sections.specs.Grid.{nv, list_place, has_list, lists_rows}
 use Rattle.grib1_sections.specs.Coordinates.{coordinate_list}
 use Rattle.grib_migrate.specs.Losses as migrate
 use Rattle.grib_migrate.specs.References.{binary32_of}
-use Rattle.grib_demote.specs.Numbers.{all_octets}
 use Rattle.grib_demote.specs.Words.{ibm_of}
 use Rattle.grib_demote.specs.Losses.{is_lost, coordinate_loss_from}
 use Rattle.grib_demote.specs.Products.{coordinate_numbers}

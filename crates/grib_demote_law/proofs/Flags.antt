@@ -1,9 +1,8 @@
 -- The flags of Section 2 as they are written lose nothing when they are migrated.
 use Rattle.std.proofs.Common.{◌≡◌, ℕ, ◌+◌, ◌*◌, ◌/◌, ◌%◌, ◌^◌, ◌<◌, ◌||◌, ◌==◌, Bool, true, false, not, List, refl, ap, ap₂, ◌∙◌, arith, eqb-true, eq-eqb}
 use Rattle.std.proofs.lemmas.Bool.{not-false, or_parts}
-use Rattle.grib_bits.specs.Bits.{digit}
+use Rattle.grib_bits.specs.Bits.{bit, digit}
 use Rattle.grib_bits.specs.Octets.{octets}
-use Rattle.grib1_sections.specs.Frame.{bit}
 use Rattle.grib_migrate.specs.Grids as migrate
 use Rattle.grib_demote.specs.Grids.{flags, scanning, are_given, old_flags, loses_flags}
 

@@ -1,6 +1,6 @@
 -- Section 2 as it is written passes its rows.
 use Rattle.std.proofs.Common.{◌≡◌, ℕ, ◌+◌, ◌-◌, ◌*◌, ◌^◌, ◌<◌, ◌≤◌, ◌&&◌, ◌||◌, ◌==◌, Bool, true, false, not, cond, List, [], ◌∷◌, ◌++◌, length, get_or, sum, nat_lt, refl, sym, ap, ap₂, ◌∙◌, arith, lt-ltb, le-ltb, eq-eqb, ne_eqb, length-append, append_assoc}
-use Rattle.grib_bits.specs.Encoding.{octets_of}
+use Rattle.grib_bits.specs.Encoding.{octets_of, all_octets, section1_of}
 use Rattle.grib_bits.specs.Listed.{numbers_octets, numbers_at}
 use Rattle.grib_bits.proofs.Encoding.{num_on-octets_of}
 use Rattle.grib_bits.proofs.Listed.{numbers_at-behind}
@@ -8,9 +8,8 @@ use Rattle.grib_base.proofs.Passing.{none_from_passes}
 use Rattle.grib2_sections.specs.Template.{is_template, least_length}
 use Rattle.grib1_sections.specs.Grid.{grid_types, grid_rows, grid_type, grid_points, nv, ni, nj, list_place, lists_rows, has_list, row_count, row_list, lists_end, is_regular}
 use Rattle.grib1_sections.specs.Grammar.{IsSection}
-use Rattle.grib_demote.specs.declared.number.Number.{Number}
-use Rattle.grib_demote.specs.declared.number.Number.TheVariants.{One, Two}
-use Rattle.grib_demote.specs.Numbers.{all_octets, section_of}
+use Rattle.grib_bits.specs.declared.adding.Number.{Number}
+use Rattle.grib_bits.specs.declared.adding.Number.TheVariants.{One, Two}
 use Rattle.grib_demote_law.proofs.Joined.{stands}
 
 -- a Section 2 by its numbers: octets 4-10, the octets of its template, and its lists
@@ -19,7 +18,7 @@ header_with count place t columns rows = One count ∷ One place ∷ One t ∷ T
 
 abbrev pub section_2 : ℕ → ℕ → ℕ → ℕ → ℕ → List ℕ → List ℕ → List ℕ → List ℕ
 section_2 count place t columns rows numbers coordinates list =
-    section_of (all_octets (header_with count place t columns rows) ++ (numbers ++ (coordinates ++ list)))
+    section1_of (all_octets (header_with count place t columns rows) ++ (numbers ++ (coordinates ++ list)))
 
 -- where the lists begin, behind the octets of the template
 abbrev pub place_with : ℕ → Bool → ℕ → ℕ

@@ -4,12 +4,12 @@ use Rattle.grib_base.specs.Rows.{first_fault}
 use Rattle.grib1_sections.specs.Identification.{identification_rows, flags_bitmap}
 use Rattle.grib1_sections.specs.Grammar.{IsSection}
 use Rattle.grib_demote.specs.declared.product.Told.{Told}
-use Rattle.grib_demote.specs.Numbers.{all_octets, section_of}
+use Rattle.grib_bits.specs.Encoding.{all_octets, section1_of}
 use Rattle.grib_demote.specs.Products.{identification_numbers}
 use Rattle.grib_demote_law.proofs.Joined.{stands}
 
 abbrev pub section_1 : Told → Bool → List ℕ → List ℕ → List ℕ → List ℕ → List ℕ
-section_1 told bitmapped s1 s4 s5 local = section_of (all_octets (identification_numbers told bitmapped s1 s4 s5) ++ local)
+section_1 told bitmapped s1 s4 s5 local = section1_of (all_octets (identification_numbers told bitmapped s1 s4 s5) ++ local)
 
 module _ (told : Told) (s1 s4 s5 local : List ℕ) where
   pub length_1 : (b : Bool) → length (section_1 told b s1 s4 s5 local) ≡ 28 + length local

@@ -3,7 +3,7 @@ use Rattle.std.proofs.Common.{◌≡◌, ℕ, ◌+◌, ◌-◌, ◌*◌, ◌<◌
 use Rattle.std.specs.Prelude.{is_none, option_map, unwrap_or}
 use Rattle.std.specs.Option.{option_map_or}
 use Rattle.grib_bits.specs.Octets.{octets}
-use Rattle.grib_bits.specs.Encoding.{section_of}
+use Rattle.grib_bits.specs.Encoding.{section_of, all_octets}
 use Rattle.grib_bits.proofs.Encoding.{num_on-octets_of}
 use Rattle.grib_bits.proofs.OctetBits.{AreOctets}
 use Rattle.grib_bits.proofs.OctetNumbers.{octets-lt}
@@ -19,7 +19,6 @@ use Rattle.grib_migrate.specs.Dates as dates
 use Rattle.grib_migrate.specs.Dates.{later, is_civil}
 use Rattle.grib_migrate.specs.Levels.{surfaces_of}
 use Rattle.grib_migrate.specs.Migrated.{no_unit, no_surfaces}
-use Rattle.grib_migrate.specs.Numbers.{all_octets}
 use Rattle.grib_migrate.specs.Products.{product_octets, instant_numbers, interval_numbers, coordinate_numbers}
 use Rattle.grib_migrate.specs.Times as times
 use Rattle.grib_keys.specs.declared.key.Key.TheVariants.{EndYear, EndMonth, EndDay, EndHour, EndMinute, EndSecond, RangeProcess, RangeIncrementType, RangeUnit, RangeLength}

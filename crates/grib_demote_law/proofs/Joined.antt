@@ -10,14 +10,14 @@ use Rattle.grib1_sections.specs.Grid.{grid_rows, grid_points}
 use Rattle.grib1_sections.specs.Bitmap.{mask_of}
 use Rattle.grib1_sections.specs.Data.{data_rows}
 use Rattle.grib1_sections.specs.Grammar.{IsSection, IsBitmap, Grammar1}
-use Rattle.grib_demote.specs.Numbers.{section_of}
+use Rattle.grib_bits.specs.Encoding.{section1_of}
 use Rattle.grib_demote.specs.Demoted.{message_with}
 
 -- a section states its length
-pub stands : (contents : List ℕ) → length contents ≤ 16777212 → section_length (section_of contents) ≡ length (section_of contents)
+pub stands : (contents : List ℕ) → length contents ≤ 16777212 → section_length (section1_of contents) ≡ length (section1_of contents)
 stands contents few =
     let l = 3 + length contents in
-    num_on-octets_of 3 l (omega (arith, few)) ∙ (let e : l ≡ length (section_of contents) = omega arith in e)
+    num_on-octets_of 3 l (omega (arith, few)) ∙ (let e : l ≡ length (section1_of contents) = omega arith in e)
 
 pub length-message : (sections : List ℕ) → length (message_with sections) ≡ 12 + length sections
 length-message sections = omega (arith, length-append sections end_mark)

@@ -3,7 +3,7 @@ use Rattle.std.proofs.Common.{◌≡◌, ℕ, ◌*◌, ◌<◌, ◌≤◌, ◌^�
 use Rattle.std.specs.Prelude.{is_none, option_map, unwrap_or}
 use Rattle.grib_bits.specs.Octets.{octets}
 use Rattle.grib_bits.specs.Bits.{bits_of, signed}
-use Rattle.grib_bits.specs.Encoding.{section_of}
+use Rattle.grib_bits.specs.Encoding.{section_of, all_octets}
 use Rattle.grib_bits.proofs.Encoding.{num_on-octets_of}
 use Rattle.grib_bits.proofs.OctetBits.{AreOctets}
 use Rattle.grib_bits.proofs.OctetNumbers.{octets-lt}
@@ -15,8 +15,7 @@ use Rattle.grib_keys.specs.declared.key.Key.TheVariants.{Scanning, La1, Lo1}
 use Rattle.grib_keys.specs.declared.table.Layout.{Layout}
 use Rattle.grib_keys.specs.Keys.{unsigned, signed as with_sign, scanning_place, first_point}
 use Rattle.grib_select.specs.Values.{value_at, value_in}
-use Rattle.grib_migrate.specs.declared.number.Number.{Number}
-use Rattle.grib_migrate.specs.Numbers.{all_octets}
+use Rattle.grib_bits.specs.declared.adding.Number.{Number}
 use Rattle.grib_migrate.specs.Grids as migrate
 use Rattle.grib_migrate.specs.Grids.{header, common, template_numbers, row_octets, grid_octets, three}
 use Rattle.grib_demote.specs.Grids.{type_of, four, scanning, angle, longitude, angle_fits, longitude_fits}
@@ -106,7 +105,7 @@ module _ (n : ℕ) (g s3 : List ℕ) (back : IsBack g s3) (small : AreOctets s3)
   numbers_for k =
       cond (k == 1) (migrate.mercator g)
       (cond (k == 3) (migrate.polar g (migrate.angle (three g 29)) ++ migrate.lambert g)
-      (cond (k == 4) (migrate.lat_lon g (octets g 26 27)) (cond (k == 5) (migrate.polar g (migrate.true_latitude g)) (migrate.lat_lon g (migrate.increment g 26)))))
+      (cond (k == 4) (migrate.lat_lon g (octets g 26 27)) (cond (k == 5) (migrate.polar g (migrate.true_latitude (migrate.centre g))) (migrate.lat_lon g (migrate.increment g 26)))))
 
   w_is : (k : ℕ) → grid1.grid_type g ≡ k → w ≡ with_numbers (numbers_for k)
   w_is k is = ap (λ (j : ℕ). with_numbers (numbers_for j)) is
@@ -140,7 +139,7 @@ module _ (n : ℕ) (g s3 : List ℕ) (back : IsBack g s3) (small : AreOctets s3)
 
   polar_same : grid_template s3 ≡ 20 → grid1.grid_type g ≡ 5 → 65 ≤ length s3 → SameGrid w s3
   polar_same at type long =
-      let written = with_numbers (migrate.polar g (migrate.true_latitude g)) in
+      let written = with_numbers (migrate.polar g (migrate.true_latitude (migrate.centre g))) in
       let t = template_is 5 20 type refl (omega arith) in
       let is = w_is 5 type in
       let la = plane_la1 (ap la_place at) (ap lo_place at) (omega (arith, long)) in

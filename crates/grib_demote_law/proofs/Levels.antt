@@ -5,7 +5,7 @@ use Rattle.std.specs.Option.{option_and_then, option_or}
 use Rattle.grib_migrate.specs.declared.level.Surface.{Surface}
 use Rattle.grib_migrate.specs.declared.level.Surfaces.{Surfaces}
 use Rattle.grib_migrate.specs.Levels.{LevelRow, level_rows, surfaces_at, is_shared, lacks_number, one_surface, bare}
-use Rattle.grib_migrate.specs.Numbers.{missing_1}
+use Rattle.grib_bits.specs.Encoding.{missing_1}
 use Rattle.grib_demote.specs.declared.level.Level.{Level}
 use Rattle.grib_demote.specs.Levels.{is_bare, number_in, below, number_below, layer, number_by, level, level_with, level_among, level_types, level_of, surface_at}
 

@@ -34,7 +34,7 @@ use Rattle.grib_migrate.specs.Migrated.{migrated}
 use Rattle.grib_migrate_law.specs.Source.{MayBeMigrated}
 use Rattle.grib_migrate_law.proofs.Meanings.{column_with, points_mean}
 use Rattle.grib_migrate_law.proofs.Migrated.{migrated_points, migrated_meaning}
-use Rattle.grib_demote.specs.Numbers.{all_octets}
+use Rattle.grib_bits.specs.Encoding.{all_octets}
 use Rattle.grib_demote.specs.Values.{packing_numbers}
 use Rattle.grib_demote.specs.Words.{ibm_of}
 use Rattle.grib_demote.specs.Demoted.{demoted}

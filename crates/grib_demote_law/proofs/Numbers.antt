@@ -3,11 +3,10 @@ use Rattle.std.proofs.Common.{◌≡◌, ℕ, ◌+◌, ◌/◌, ◌%◌, ◌^◌
 use Rattle.grib_bits.proofs.Encoding.{num_on-octets_of}
 use Rattle.grib_bits.proofs.OctetBits.{AreOctets}
 use Rattle.grib_bits.proofs.OctetNumbers.{octets-lt}
-use Rattle.grib_migrate.specs.Numbers.{missing_4}
+use Rattle.grib_bits.specs.Encoding.{missing_4, all_octets}
 use Rattle.grib_migrate.specs.Grids as migrate
-use Rattle.grib_demote.specs.declared.number.Number.{Number}
-use Rattle.grib_demote.specs.declared.number.Number.TheVariants.{One, Two, Four}
-use Rattle.grib_demote.specs.Numbers.{all_octets}
+use Rattle.grib_bits.specs.declared.adding.Number.{Number}
+use Rattle.grib_bits.specs.declared.adding.Number.TheVariants.{One, Two, Four}
 use Rattle.grib_demote.specs.Grids.{four, angle, longitude, distance, longitude_fits, is_thousands, mercator, polar, polar_end, lambert, old_flags, scanning, angle_at, longitude_at, increment_at}
 use Rattle.grib_demote_law.proofs.Grids.{section_2}
 

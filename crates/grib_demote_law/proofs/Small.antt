@@ -1,7 +1,7 @@
 -- What a field is demoted to has octets.
 use Rattle.std.proofs.Common.{ℕ, ◌+◌, ◌<◌, ◌==◌, ◌%◌, ◌&&◌, Bool, true, false, cond, List, [], ◌∷◌, ◌++◌, length, drop, replicate, All, arith}
 use Rattle.std.proofs.lemmas.List.Elements.{All-nil, All-cons, All-append, All-drop, All-replicate, All-from_recursion}
-use Rattle.grib_bits.specs.Encoding.{octets_of}
+use Rattle.grib_bits.specs.Encoding.{octets_of, number_octets, all_octets, section1_of}
 use Rattle.grib_bits.specs.Listed.{numbers_octets}
 use Rattle.grib_bits.proofs.Encoding.{All-octets_of}
 use Rattle.grib_bits.proofs.Listed.{AreOctets-from_All, All-from_AreOctets}
@@ -12,12 +12,11 @@ use Rattle.grib2_message.specs.Fields.{part_octets}
 use Rattle.grib2_message.proofs.Holding.{field_octets}
 use Rattle.grib_packing.specs.declared.written.Packed.{Packed}
 use Rattle.grib_params.specs.Table.{Entries}
-use Rattle.grib_demote.specs.declared.number.Number.{Number}
-use Rattle.grib_demote.specs.declared.number.Number.TheVariants.{One, Two, Three, Four}
-use Rattle.grib_demote.specs.Numbers.{number_octets, all_octets, section_of, evened}
+use Rattle.grib_bits.specs.declared.adding.Number.{Number}
+use Rattle.grib_bits.specs.declared.adding.Number.TheVariants.{One, Two, Three, Four}
+use Rattle.grib_demote.specs.Values.{evened, has_bitmap, bitmap_numbers, bitmap_octets, bitmap_section, packing_numbers, data_octets, data_section}
 use Rattle.grib_demote.specs.Grids.{header, template_numbers}
 use Rattle.grib_demote.specs.Products.{identification_numbers, local_octets, has_local, coordinate_numbers}
-use Rattle.grib_demote.specs.Values.{has_bitmap, bitmap_numbers, bitmap_octets, bitmap_section, packing_numbers, data_octets, data_section}
 use Rattle.grib_demote.specs.Demoted.{grid_octets, message_with, demoted, demoted_sections}
 use Rattle.grib_demote_law.specs.Field.{MayBeDemoted}
 use Rattle.grib_demote_law.proofs.Accepted as accepted
@@ -39,7 +38,7 @@ listed_small : (xs : List ℕ) → All IsOctet (numbers_octets 2 xs)
 listed_small [] = All-nil IsOctet
 listed_small (x ∷ xs) = All-append IsOctet (octets_of 2 x) (numbers_octets 2 xs) (All-octets_of 2 x) (listed_small xs)
 
-section_small : (contents : List ℕ) → All IsOctet contents → All IsOctet (section_of contents)
+section_small : (contents : List ℕ) → All IsOctet contents → All IsOctet (section1_of contents)
 section_small contents small = All-append IsOctet (octets_of 3 (3 + length contents)) contents (All-octets_of 3 (3 + length contents)) small
 
 evened_small : (contents : List ℕ) → All IsOctet contents → All IsOctet (evened contents)
@@ -59,7 +58,7 @@ local_small keep s2 small = by (keep && has_local s2)
 bitmap_small : (values : Packed) (n : ℕ) → All IsOctet values.section6 → All IsOctet (bitmap_section values n)
 bitmap_small values n small = by (has_bitmap values)
   where
-    by : (b : Bool) → All IsOctet (cond b (section_of (bitmap_octets values n)) [])
+    by : (b : Bool) → All IsOctet (cond b (section1_of (bitmap_octets values n)) [])
     by true =
         section_small (bitmap_octets values n)
         (evened_small (all_octets (bitmap_numbers n) ++ drop 6 values.section6)
@@ -72,7 +71,7 @@ data_small s5 values small =
     (evened_small (all_octets (packing_numbers s5 values) ++ drop 5 values.section7)
     (All-append IsOctet (all_octets (packing_numbers s5 values)) (drop 5 values.section7) (numbers_small (packing_numbers s5 values)) (All-drop IsOctet 5 values.section7 small)))
 
-grid_small : (words s3 : List ℕ) → All IsOctet (section_of (grid_octets words s3))
+grid_small : (words s3 : List ℕ) → All IsOctet (section1_of (grid_octets words s3))
 grid_small words s3 =
     section_small (grid_octets words s3)
     (All-append IsOctet (all_octets (header (length words) _ s3)) (all_octets (template_numbers s3) ++ (all_octets (coordinate_numbers words) ++ numbers_octets 2 (row_list s3))) (numbers_small (header (length words) _ s3))

@@ -13,10 +13,10 @@ use Rattle.grib2_grids.proofs.Lists.{row_list-whole, row_list-none}
 use Rattle.grib1_sections.specs.Grid.{grid_types, grid_rows, grid_points, is_regular}
 use Rattle.grib1_sections.specs.Grammar.{IsSection}
 use Rattle.grib_causes.specs.declared.demotion.Demotion.TheVariants.{GridNumber}
-use Rattle.grib_demote.specs.declared.number.Number.{Number}
-use Rattle.grib_demote.specs.declared.number.Number.TheVariants.{One, Two, Four}
+use Rattle.grib_bits.specs.declared.adding.Number.{Number}
+use Rattle.grib_bits.specs.declared.adding.Number.TheVariants.{One, Two, Four}
 use Rattle.grib_demote.specs.declared.tested.Tested.{Tested}
-use Rattle.grib_demote.specs.Numbers.{number_octets, all_octets}
+use Rattle.grib_bits.specs.Encoding.{number_octets, all_octets}
 use Rattle.grib_demote.specs.Grids.{type_of, four, scanning, are_given, increment, is_listed, has_long_row, loses_rows, template_numbers, mercator, polar, polar_end, lambert, lat_lon, last_number, loss_among, grid_loss, tested_ni, tested_nj}
 use Rattle.grib_demote.specs.Products.{coordinate_numbers}
 use Rattle.grib_demote.proofs.Holding.{grid_list}

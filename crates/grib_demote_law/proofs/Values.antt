@@ -3,7 +3,7 @@ use Rattle.std.proofs.Common.{◌≡◌, ℕ, ◌+◌, ◌*◌, ◌/◌, ◌%◌
 use Rattle.std.specs.Prelude.{unwrap_or, is_some}
 use Rattle.std.specs.List.{list_any}
 use Rattle.std.proofs.lemmas.List.{length-map, take-append-le, take_at}
-use Rattle.grib_bits.specs.Bits.{bits, bits_of, digit}
+use Rattle.grib_bits.specs.Bits.{bit, bits, bits_of, digit}
 use Rattle.grib_bits.specs.Octets.{octets}
 use Rattle.grib_bits.specs.Written as written
 use Rattle.grib_bits.proofs.Encoding.{num_on-octets_of}
@@ -16,12 +16,11 @@ use Rattle.grib_packing.specs.Packing.{value_count, bit_width as bit_width_2}
 use Rattle.grib_packing.specs.Packed.{HasContents, padded, present_bits}
 use Rattle.grib_packing.proofs.Left.{padded-more}
 use Rattle.grib_demote_law.proofs.Bitmaps.{all_present, indicator_is, mask_bits}
-use Rattle.grib1_sections.specs.Frame.{bit}
 use Rattle.grib1_sections.specs.Bitmap.{bitmap_rows, bitmap_number, mask_of}
 use Rattle.grib1_sections.specs.Data.{data_rows, data_flags, bit_width}
 use Rattle.grib1_sections.specs.Grammar.{IsSection, IsBitmap}
-use Rattle.grib_demote.specs.Numbers.{all_octets, section_of, padding}
-use Rattle.grib_demote.specs.Values.{has_bitmap, bitmap_numbers, bitmap_octets, bitmap_section, packing_numbers, data_octets, data_section}
+use Rattle.grib_bits.specs.Encoding.{all_octets, section1_of}
+use Rattle.grib_demote.specs.Values.{padding, has_bitmap, bitmap_numbers, bitmap_octets, bitmap_section, packing_numbers, data_octets, data_section}
 use Rattle.grib_demote_law.proofs.Joined.{stands}
 
 -- what is added to an even number of octets
@@ -35,23 +34,23 @@ padding_few n = omega arith
 
 -- Section 3, where a point is missing
 abbrev pub section_3 : Packed → ℕ → Option (List ℕ)
-section_3 values points = cond (has_bitmap values) (Some (section_of (bitmap_octets values points))) None
+section_3 values points = cond (has_bitmap values) (Some (section1_of (bitmap_octets values points))) None
 
 pub section_3-octets : (values : Packed) (points : ℕ) → unwrap_or (section_3 values points) [] ≡ bitmap_section values points
 section_3-octets values points = by (has_bitmap values) where
-  by : (b : Bool) → unwrap_or (cond b (Some (section_of (bitmap_octets values points))) None) [] ≡ cond b (section_of (bitmap_octets values points)) []
+  by : (b : Bool) → unwrap_or (cond b (Some (section1_of (bitmap_octets values points))) None) [] ≡ cond b (section1_of (bitmap_octets values points)) []
   by true = refl
   by false = refl
 
 pub section_3-some : (values : Packed) (points : ℕ) → is_some (section_3 values points) ≡ has_bitmap values
 section_3-some values points = by (has_bitmap values) where
-  by : (b : Bool) → is_some (cond b (Some (section_of (bitmap_octets values points))) None) ≡ b
+  by : (b : Bool) → is_some (cond b (Some (section1_of (bitmap_octets values points))) None) ≡ b
   by true = refl
   by false = refl
 
 module _ (points : List Point) (values : Packed) (n : ℕ) (long : length points ≡ n) where
   abbrev bitmap : List ℕ
-  bitmap = section_of (bitmap_octets values n)
+  bitmap = section1_of (bitmap_octets values n)
 
   abbrev octets_6 : List ℕ
   octets_6 = drop 6 values.section6
@@ -98,9 +97,9 @@ bitmap_stands points values n long h short = by (list_any is_missing points) ref
   by true some own =
       let zero = indicator_is values.section6 0 (present_bits points) own (omega arith) in
       let on : has_bitmap values ≡ true = ap (λ (k : ℕ). not (k == 255)) zero in
-      let here : section_3 values n ≡ Some (section_of (bitmap_octets values n)) = ap (λ (b : Bool). cond b (Some (section_of (bitmap_octets values n))) None) on in
-      let few : length (section_of (bitmap_octets values n)) ≤ 16777215 =
-      subst (λ (b : Bool). length (cond b (section_of (bitmap_octets values n)) []) ≤ 16777215) on short in
+      let here : section_3 values n ≡ Some (section1_of (bitmap_octets values n)) = ap (λ (b : Bool). cond b (Some (section1_of (bitmap_octets values n))) None) on in
+      let few : length (section1_of (bitmap_octets values n)) ≤ 16777215 =
+      subst (λ (b : Bool). length (cond b (section1_of (bitmap_octets values n)) []) ≤ 16777215) on short in
       let both = own_is points values n long own few in
       record {
         passes = subst (IsBitmap n) (sym here) both.0;
@@ -109,7 +108,7 @@ bitmap_stands points values n long h short = by (list_any is_missing points) ref
   by false none full =
       let ones = indicator_is values.section6 255 [] full (omega arith) in
       let off : has_bitmap values ≡ false = ap (λ (k : ℕ). not (k == 255)) ones in
-      let here : section_3 values n ≡ None = ap (λ (b : Bool). cond b (Some (section_of (bitmap_octets values n))) None) off in
+      let here : section_3 values n ≡ None = ap (λ (b : Bool). cond b (Some (section1_of (bitmap_octets values n))) None) off in
       record {
         passes = subst (IsBitmap n) (sym here) tt;
         mask_is = ap (λ (c : Option (List ℕ)). mask_of c n) here ∙ sym (all_present points none ∙ ap (λ (k : ℕ). replicate k true) long);

@@ -4,7 +4,7 @@ use Rattle.std.specs.Prelude.{is_none, unwrap_or}
 use Rattle.std.specs.Option.{option_map_or}
 use Rattle.std.proofs.lemmas.List.{length-map}
 use Rattle.grib_bits.specs.Octets.{octets}
-use Rattle.grib_bits.specs.Encoding.{octets_of, section_of}
+use Rattle.grib_bits.specs.Encoding.{octets_of, section_of, all_octets}
 use Rattle.grib_bits.specs.Listed.{numbers_octets, numbers_at}
 use Rattle.grib_bits.proofs.Encoding.{num_on-octets_of}
 use Rattle.grib_bits.proofs.Listed.{numbers_at-behind}
@@ -18,7 +18,6 @@ use Rattle.grib1_sections.specs.Keys.{key_in}
 use Rattle.grib1_sections.specs.declared.key.Key1.TheVariants.{TimeRange}
 use Rattle.grib_migrate.specs.declared.level.Surfaces.{Surfaces}
 use Rattle.grib_migrate.specs.declared.time.Unit.{Unit as UnitOfTime}
-use Rattle.grib_migrate.specs.Numbers.{all_octets}
 use Rattle.grib_migrate.specs.Products.{template_of, instant_numbers, interval_numbers, coordinate_numbers, product_octets}
 use Rattle.grib_migrate.specs.References.{binary32_of}
 use Rattle.grib_migrate.specs.Times.{is_interval}

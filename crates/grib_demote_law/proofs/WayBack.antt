@@ -27,7 +27,7 @@ use Rattle.grib_demote.specs.declared.product.Told.{Told}
 use Rattle.grib_demote.specs.declared.level.Level.{Level}
 use Rattle.grib_demote.specs.Levels.{level, level_of}
 use Rattle.grib_demote.specs.Products.{centre, sub_centre, loses_centre, target_of, pair_in, local_octets, coordinate_numbers}
-use Rattle.grib_demote.specs.Numbers.{all_octets}
+use Rattle.grib_bits.specs.Encoding.{all_octets}
 use Rattle.grib_demote.specs.Grids.{is_listed, list_place}
 use Rattle.grib_demote.specs.Values as values1
 use Rattle.grib_demote.specs.Demoted.{demoted}

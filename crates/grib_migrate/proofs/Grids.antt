@@ -7,13 +7,13 @@ use Rattle.grib_bits.specs.Octets.{octets}
 use Rattle.grib_causes.specs.declared.loss.Loss.{Loss}
 use Rattle.grib_causes.specs.declared.loss.Loss.TheVariants.{GridNumber}
 use Rattle.grib_migrate.specs.declared.loss.MigrateFault.{MigrateFault}
-use Rattle.grib_migrate.specs.declared.number.Number.TheVariants.{One, Four}
+use Rattle.grib_bits.specs.declared.adding.Number.TheVariants.{One, Four}
 use Rattle.grib_migrate.specs.GridParts.{IsGridPart}
-use Rattle.grib_migrate.specs.declared.number.Number.{Number}
+use Rattle.grib_bits.specs.declared.adding.Number.{Number}
 use Rattle.grib_migrate.specs.declared.scaled.Scaled.{Scaled}
-use Rattle.grib_migrate.specs.Numbers.{all_octets}
-use Rattle.grib_migrate.specs.Grids.{fits, first_octet, loss_among, grid_loss, scaled_numbers, lat_lon_scaled, template_numbers, lat_lon, increment, mercator, polar, lambert, angle, longitude, distance, new_flags, scanning, three, true_latitude, row_octets, header, common, grid_octets}
-use Rattle.grib_migrate.proofs.Numbers.{all_octets-append, length-all_octets}
+use Rattle.grib_bits.specs.Encoding.{all_octets}
+use Rattle.grib_migrate.specs.Grids.{fits, first_octet, loss_among, grid_loss, scaled_numbers, lat_lon_scaled, template_numbers, lat_lon, increment, mercator, polar, lambert, angle, longitude, distance, new_flags, scanning, three, centre, true_latitude, row_octets, header, common, grid_octets}
+use Rattle.grib_bits.proofs.AllOctets.{length-all_octets}
 
 abbrev pub AllFit : List ℕ → List Scaled → Type 0
 AllFit s [] = Unit {0}
@@ -41,12 +41,6 @@ pub fits_before : (s : List ℕ) (xs ys : List Scaled) → loss_among s xs ≡ N
 fits_before s [] ys e = refl
 fits_before s (x ∷ xs) ys e = before_by s x xs ys (fits s x) refl e (fits_before s xs ys)
 
--- numbers behind others
-pub octets_behind : (old before now : List ℕ) (xs ys : List Number) → before ≡ old ++ all_octets xs → now ≡ before ++ all_octets ys → now ≡ old ++ all_octets (xs ++ ys)
-octets_behind old before now xs ys first second =
-    second ∙ ap (λ (zs : List ℕ). zs ++ all_octets ys) first ∙ append_assoc old (all_octets xs) (all_octets ys)
-    ∙ ap (λ (zs : List ℕ). old ++ zs) (sym (all_octets-append xs ys))
-
 -- ---- what is written and what is lost, by the type of grid
 
 abbrev scaled_by : Bool → Bool → Bool → List Scaled
@@ -57,7 +51,7 @@ numbers_by s one three_is four five =
     cond one (mercator s)
     (cond three_is (polar s (angle (three s 29)) ++ lambert s)
     (cond four (lat_lon s (octets s 26 27))
-    (cond five (polar s (true_latitude s)) (lat_lon s (increment s 26)))))
+    (cond five (polar s (true_latitude (centre s))) (lat_lon s (increment s 26)))))
 
 pub record OfType (s : List ℕ) (numbers : List Number) : Type 0 where
   pub numbers_are : template_numbers s ≡ numbers
@@ -91,24 +85,11 @@ part_same result l l' old new n n' e f part =
 pub mercator_same : (s : List ℕ) (la1 lo1 flags latin la2 lo2 mode di dj : ℕ) → la1 ≡ angle (three s 11) → lo1 ≡ longitude (three s 14) → flags ≡ new_flags s
     → latin ≡ angle (three s 24) → la2 ≡ angle (three s 18) → lo2 ≡ longitude (three s 21) → mode ≡ scanning s → di ≡ distance (three s 29) → dj ≡ distance (three s 32)
     → (Four la1 ∷ Four lo1 ∷ One flags ∷ Four latin ∷ Four la2 ∷ Four lo2 ∷ One mode ∷ Four 0 ∷ Four di ∷ Four dj ∷ []) ≡ mercator s
-mercator_same s la1 lo1 flags latin la2 lo2 mode di dj e1 e2 e3 e4 e5 e6 e7 e8 e9 =
-    ap (λ (x : ℕ). Four x ∷ Four lo1 ∷ One flags ∷ Four latin ∷ Four la2 ∷ Four lo2 ∷ One mode ∷ Four 0 ∷ Four di ∷ Four dj ∷ []) e1
-    ∙ ap (λ (x : ℕ). Four (angle (three s 11)) ∷ Four x ∷ One flags ∷ Four latin ∷ Four la2 ∷ Four lo2 ∷ One mode ∷ Four 0 ∷ Four di ∷ Four dj ∷ []) e2
-    ∙ ap (λ (x : ℕ). Four (angle (three s 11)) ∷ Four (longitude (three s 14)) ∷ One x ∷ Four latin ∷ Four la2 ∷ Four lo2 ∷ One mode ∷ Four 0 ∷ Four di ∷ Four dj ∷ []) e3
-    ∙ ap (λ (x : ℕ). Four (angle (three s 11)) ∷ Four (longitude (three s 14)) ∷ One (new_flags s) ∷ Four x ∷ Four la2 ∷ Four lo2 ∷ One mode ∷ Four 0 ∷ Four di ∷ Four dj ∷ []) e4
-    ∙ ap (λ (x : ℕ). Four (angle (three s 11)) ∷ Four (longitude (three s 14)) ∷ One (new_flags s) ∷ Four (angle (three s 24)) ∷ Four x ∷ Four lo2 ∷ One mode ∷ Four 0 ∷ Four di ∷ Four dj ∷ []) e5
-    ∙ ap (λ (x : ℕ). Four (angle (three s 11)) ∷ Four (longitude (three s 14)) ∷ One (new_flags s) ∷ Four (angle (three s 24)) ∷ Four (angle (three s 18)) ∷ Four x ∷ One mode ∷ Four 0 ∷ Four di ∷ Four dj ∷ []) e6
-    ∙ ap (λ (x : ℕ). Four (angle (three s 11)) ∷ Four (longitude (three s 14)) ∷ One (new_flags s) ∷ Four (angle (three s 24)) ∷ Four (angle (three s 18)) ∷ Four (longitude (three s 21)) ∷ One x ∷ Four 0 ∷ Four di ∷ Four dj ∷ []) e7
-    ∙ ap (λ (x : ℕ). Four (angle (three s 11)) ∷ Four (longitude (three s 14)) ∷ One (new_flags s) ∷ Four (angle (three s 24)) ∷ Four (angle (three s 18)) ∷ Four (longitude (three s 21)) ∷ One (scanning s) ∷ Four 0 ∷ Four x ∷ Four dj ∷ []) e8
-    ∙ ap (λ (x : ℕ). Four (angle (three s 11)) ∷ Four (longitude (three s 14)) ∷ One (new_flags s) ∷ Four (angle (three s 24)) ∷ Four (angle (three s 18)) ∷ Four (longitude (three s 21)) ∷ One (scanning s) ∷ Four 0 ∷ Four (distance (three s 29)) ∷ Four x ∷ []) e9
+mercator_same s la1 lo1 flags latin la2 lo2 mode di dj e1 e2 e3 e4 e5 e6 e7 e8 e9 = cc
 
 pub lambert_same : (s : List ℕ) (latin1 latin2 la lo : ℕ) → latin1 ≡ angle (three s 29) → latin2 ≡ angle (three s 32) → la ≡ angle (three s 35) → lo ≡ longitude (three s 38)
     → (Four latin1 ∷ Four latin2 ∷ Four la ∷ Four lo ∷ []) ≡ lambert s
-lambert_same s latin1 latin2 la lo e1 e2 e3 e4 =
-    ap (λ (x : ℕ). Four x ∷ Four latin2 ∷ Four la ∷ Four lo ∷ []) e1
-    ∙ ap (λ (x : ℕ). Four (angle (three s 29)) ∷ Four x ∷ Four la ∷ Four lo ∷ []) e2
-    ∙ ap (λ (x : ℕ). Four (angle (three s 29)) ∷ Four (angle (three s 32)) ∷ Four x ∷ Four lo ∷ []) e3
-    ∙ ap (λ (x : ℕ). Four (angle (three s 29)) ∷ Four (angle (three s 32)) ∷ Four (angle (three s 35)) ∷ Four x ∷ []) e4
+lambert_same s latin1 latin2 la lo e1 e2 e3 e4 = cc
 
 -- numbers that are the same
 pub octets_same : (old new : List ℕ) (xs ys : List Number) → new ≡ old ++ all_octets xs → xs ≡ ys → new ≡ old ++ all_octets ys

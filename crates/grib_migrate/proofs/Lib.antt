@@ -1,4 +1,3 @@
-pub mod Numbers
 pub mod Fronts
 pub mod Grids
 pub mod Products

@@ -4,38 +4,30 @@ use Rattle.std.proofs.lemmas.List.{length-append, length-map, take_more}
 use Rattle.grib_params.specs.declared.row.Target.{Target}
 use Rattle.grib1_sections.specs.Keys.{key_in}
 use Rattle.grib1_sections.specs.declared.key.Key1.TheVariants.{P1, P2, TimeRange, AverageMissing}
-use Rattle.grib_migrate.specs.declared.number.Number.{Number}
-use Rattle.grib_migrate.specs.declared.number.Number.TheVariants.{One, Two, Four}
+use Rattle.grib_bits.specs.declared.adding.Number.{Number}
+use Rattle.grib_bits.specs.declared.adding.Number.TheVariants.{One, Two, Four}
 use Rattle.grib_migrate.specs.declared.date.Moment.{Moment}
 use Rattle.grib_migrate.specs.declared.level.Surfaces.{Surfaces}
 use Rattle.grib_migrate.specs.declared.time.Unit.{Unit as UnitOfTime}
-use Rattle.grib_migrate.specs.Numbers.{all_octets}
+use Rattle.grib_bits.specs.Encoding.{all_octets}
 use Rattle.grib_migrate.specs.Times.{is_interval, statistic}
 use Rattle.grib_migrate.specs.Dates.{end_of}
 use Rattle.grib_migrate.specs.Products.{moment_numbers, interval_numbers, end_numbers, instant_numbers, coordinate_numbers, product_octets}
 use Rattle.grib_causes.specs.declared.loss.Loss.TheVariants.{Coordinate}
 use Rattle.grib_migrate.specs.Losses.{coordinate_loss, coordinate_loss_from}
 use Rattle.grib_migrate.specs.References.{binary32_of}
-use Rattle.grib_migrate.proofs.Numbers.{all_octets-append, length-all_octets}
+use Rattle.grib_bits.proofs.AllOctets.{all_octets-append, length-all_octets}
 use Rattle.std.specs.Option.{option_map_or}
 use Rattle.std.specs.Prelude.{is_none, suc}
 use Rattle.std.proofs.Math.Seq.{take-length, drop-length, drop-cons}
 use Rattle.std.proofs.lemmas.List.{map-append}
 
--- an interval by its end, the statistic and the length
-abbrev interval_with : Moment → ℕ → ℕ → ℕ → ℕ → List Number
-interval_with end code missing statistic_is length_is =
-    moment_numbers end ++ (One 1 ∷ Four missing ∷ One statistic_is ∷ One 2 ∷ One code ∷ Four length_is ∷ One code ∷ Four 0 ∷ [])
-
-pub interval_same : (s1 : List ℕ) (unit : UnitOfTime) (end : Moment) (missing missing' statistic_is length_is length_is' : ℕ) → end ≡ end_of s1 unit.seconds → missing ≡ missing' → missing' ≡ key_in s1 AverageMissing
-    → statistic_is ≡ statistic (key_in s1 TimeRange) → length_is ≡ length_is' → length_is' ≡ key_in s1 P2 - key_in s1 P1
-    → (Two end.year ∷ One end.month ∷ One end.day ∷ One end.hour ∷ One end.minute ∷ One end.second ∷ One 1 ∷ Four missing ∷ One statistic_is ∷ One 2 ∷ One unit.code ∷ Four length_is ∷ One unit.code ∷ Four 0 ∷ [])
+-- an interval by its parts
+pub interval_same : (s1 : List ℕ) (unit : UnitOfTime) (end : Moment) (year missing statistic_is length_is p2 p1 : ℕ) → end ≡ end_of s1 unit.seconds → year ≡ end.year → missing ≡ key_in s1 AverageMissing
+    → statistic_is ≡ statistic (key_in s1 TimeRange) → length_is ≡ p2 - p1 → p2 ≡ key_in s1 P2 → p1 ≡ key_in s1 P1
+    → (Two year ∷ One end.month ∷ One end.day ∷ One end.hour ∷ One end.minute ∷ One end.second ∷ One 1 ∷ Four missing ∷ One statistic_is ∷ One 2 ∷ One unit.code ∷ Four length_is ∷ One unit.code ∷ Four 0 ∷ [])
     ≡ interval_numbers s1 unit
-interval_same s1 unit end missing missing' statistic_is length_is length_is' e1 e2 e2' e3 e4 e4' =
-    ap (λ (x : Moment). interval_with x unit.code missing statistic_is length_is) e1
-    ∙ ap (λ (x : ℕ). interval_with (end_of s1 unit.seconds) unit.code x statistic_is length_is) (e2 ∙ e2')
-    ∙ ap (λ (x : ℕ). interval_with (end_of s1 unit.seconds) unit.code (key_in s1 AverageMissing) x length_is) e3
-    ∙ ap (λ (x : ℕ). interval_with (end_of s1 unit.seconds) unit.code (key_in s1 AverageMissing) (statistic (key_in s1 TimeRange)) x) (e4 ∙ e4')
+interval_same s1 unit end year missing statistic_is length_is p2 p1 e1 e2 e3 e4 e5 e6 e7 = cc
 
 -- ---- vertical coordinates
 

@@ -2,9 +2,9 @@
 use Rattle.std.specs.Prelude.{◌≡◌, ℕ, Option, None, List, ◌++◌, Result, Ok, Err}
 use Rattle.grib_causes.specs.declared.loss.Loss.{Loss}
 use Rattle.grib_migrate.specs.declared.loss.MigrateFault.{MigrateFault}
-use Rattle.grib_migrate.specs.declared.number.Number.{Number}
+use Rattle.grib_bits.specs.declared.adding.Number.{Number}
 use Rattle.grib_migrate.specs.declared.grid.Polar.{Polar}
-use Rattle.grib_migrate.specs.Numbers.{all_octets}
+use Rattle.grib_bits.specs.Encoding.{all_octets}
 use Rattle.grib_migrate.specs.Answered.{IsMigrateFault}
 use Rattle.grib_migrate.specs.Grids.{three, angle, longitude, distance}
 

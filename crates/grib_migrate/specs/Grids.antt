@@ -2,17 +2,16 @@
 -- Section 3 of edition 2 with templates 3.0, 3.10, 3.30, 3.40 and 3.20, from octet 6 on. Edition 1 counts
 -- angles in 10^-3 degree and lengths in metres, edition 2 in 10^-6 degree and in 10^-3 metre.
 use Rattle.std.specs.Prelude.{ℕ, ◌+◌, ◌-◌, ◌*◌, ◌%◌, ◌/◌, ◌^◌, Bool, not, cond, ◌&&◌, ◌||◌, Option, Some, None, option_map, find, List, [], ◌∷◌, ◌++◌, take, drop, nat_lt, ◌==◌}
-use Rattle.grib_bits.specs.Bits.{digit}
+use Rattle.grib_bits.specs.Bits.{bit, digit}
 use Rattle.grib_bits.specs.Octets.{octets}
-use Rattle.grib1_sections.specs.Frame.{bit}
 use Rattle.grib1_sections.specs.Grid.{grid_type, nv, list_place, ni, nj, lists_rows, row_count}
 use Rattle.grib_causes.specs.declared.loss.Loss.{Loss}
 use Rattle.grib_causes.specs.declared.loss.Loss.TheVariants.{GridNumber}
-use Rattle.grib_migrate.specs.declared.number.Number.{Number}
-use Rattle.grib_migrate.specs.declared.number.Number.TheVariants.{One, Two, Four}
+use Rattle.grib_bits.specs.declared.adding.Number.{Number}
+use Rattle.grib_bits.specs.declared.adding.Number.TheVariants.{One, Two, Four}
 use Rattle.grib_migrate.specs.declared.scaled.Scaled.{Scaled}
 use Rattle.grib_migrate.specs.declared.scaled.Scaled.TheVariants.{Angle, Longitude, Distance}
-use Rattle.grib_migrate.specs.Numbers.{all_octets, missing_1, missing_4}
+use Rattle.grib_bits.specs.Encoding.{all_octets, missing_1, missing_4}
 
 -- the number of the three octets from `first` on
 abbrev pub three : List ℕ → ℕ → ℕ
@@ -120,9 +119,12 @@ abbrev pub increment : List ℕ → ℕ → ℕ
 increment s first =
     let n = octets s first (first + 1) in cond (not (are_given s) || (n == 65535)) missing_4 (1000 * n)
 
--- 60 degrees, in the hemisphere of the projection centre: bit 1 of octet 27 says that it is the south pole
-abbrev pub true_latitude : List ℕ → ℕ
-true_latitude s = 2 ^ 31 * digit (bit 1 (octets s 27 27)) + 60000000
+-- the projection centre: bit 1 says that it is the south pole; where lengths are true, 60 degrees in its hemisphere
+abbrev pub centre : List ℕ → ℕ
+centre s = octets s 27 27
+
+abbrev pub true_latitude : ℕ → ℕ
+true_latitude centre = 2 ^ 31 * digit (bit 1 centre) + 60000000
 
 -- the template of a type of grid
 abbrev pub template_of : ℕ → ℕ
@@ -189,7 +191,7 @@ polar s lad =
     ∷ Four (longitude (three s 18))  -- 52-55: LoV
     ∷ Four (distance (three s 21))  -- 56-59: Dx
     ∷ Four (distance (three s 24))  -- 60-63: Dy
-    ∷ One (octets s 27 27)  -- 64: the projection centre
+    ∷ One (centre s)  -- 64: the projection centre
     ∷ One (scanning s)  -- 65
     ∷ []
 
@@ -209,7 +211,7 @@ template_numbers s =
     cond (t == 1) (mercator s)
     (cond (t == 3) (polar s (angle (three s 29)) ++ lambert s)
     (cond (t == 4) (lat_lon s (octets s 26 27))
-    (cond (t == 5) (polar s (true_latitude s)) (lat_lon s (increment s 26)))))
+    (cond (t == 5) (polar s (true_latitude (centre s))) (lat_lon s (increment s 26)))))
 
 -- the list of rows, two octets for each, where there is one: it stands behind the vertical coordinates
 abbrev pub row_octets : List ℕ → List ℕ

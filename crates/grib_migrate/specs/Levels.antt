@@ -7,7 +7,7 @@ use Rattle.grib1_sections.specs.Keys.{key_in}
 use Rattle.grib1_sections.specs.declared.key.Key1.TheVariants.{LevelType, Level}
 use Rattle.grib_migrate.specs.declared.level.Surface.{Surface}
 use Rattle.grib_migrate.specs.declared.level.Surfaces.{Surfaces}
-use Rattle.grib_migrate.specs.Numbers.{missing_1, missing_4}
+use Rattle.grib_bits.specs.Encoding.{missing_1, missing_4}
 
 -- of this kind, at scaled_value / 10 ^ scale_factor
 abbrev pub surface : ℕ → ℕ → ℕ → Surface

@@ -1,4 +1,3 @@
-pub mod Numbers
 pub mod Source
 pub mod Levels
 pub mod Times

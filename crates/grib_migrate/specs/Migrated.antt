@@ -1,12 +1,11 @@
 -- The message of edition 2 that has the values of a message of edition 1 (WMO-No. 306, Volume I.2, FM 92 GRIB).
 use Rattle.std.specs.Prelude.{ℕ, ◌+◌, Bool, cond, ◌&&◌, Option, List, [], ◌∷◌, ◌++◌, length, unwrap_or}
-use Rattle.grib_bits.specs.Encoding.{octets_of, section_of}
+use Rattle.grib_bits.specs.Encoding.{octets_of, section_of, all_octets}
 use Rattle.grib2_sections.specs.Head.{indicator, end_mark}
 use Rattle.grib_params.specs.Table.{Entries}
 use Rattle.grib_params.specs.declared.row.Target.{Target}
 use Rattle.grib1_sections.specs.Acceptance.{identification, grid, bitmap, data_section, points_of, values_of}
 use Rattle.grib1_sections.specs.Coordinates.{coordinate_list}
-use Rattle.grib_migrate.specs.Numbers.{all_octets}
 use Rattle.grib_migrate.specs.Source.{target_of, has_local, local_octets}
 use Rattle.grib_migrate.specs.Levels.{surfaces_of, no_surface, one_surface}
 use Rattle.grib_migrate.specs.Times.{unit_of}

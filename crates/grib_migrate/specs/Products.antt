@@ -6,13 +6,13 @@ use Rattle.std.specs.Option.{option_map_or}
 use Rattle.grib_params.specs.declared.row.Target.{Target}
 use Rattle.grib1_sections.specs.Keys.{key_in}
 use Rattle.grib1_sections.specs.declared.key.Key1.TheVariants.{Centre, SubCentre, Process, P1, P2, TimeRange, AverageMissing}
-use Rattle.grib_migrate.specs.declared.number.Number.{Number}
-use Rattle.grib_migrate.specs.declared.number.Number.TheVariants.{One, Two, Four}
+use Rattle.grib_bits.specs.declared.adding.Number.{Number}
+use Rattle.grib_bits.specs.declared.adding.Number.TheVariants.{One, Two, Four}
 use Rattle.grib_migrate.specs.declared.date.Moment.{Moment}
 use Rattle.grib_migrate.specs.declared.level.Surface.{Surface}
 use Rattle.grib_migrate.specs.declared.level.Surfaces.{Surfaces}
 use Rattle.grib_migrate.specs.declared.time.Unit.{Unit as UnitOfTime}
-use Rattle.grib_migrate.specs.Numbers.{all_octets, missing_1, missing_2}
+use Rattle.grib_bits.specs.Encoding.{all_octets, missing_1, missing_2}
 use Rattle.grib_migrate.specs.Times.{is_interval, statistic, process_of, forecast_time}
 use Rattle.grib_migrate.specs.Dates.{reference_time, end_of}
 use Rattle.grib_migrate.specs.References.{binary32_of}

@@ -2,14 +2,13 @@
 -- Sections 1, 3 and 4 of edition 1. The numbers are not unpacked.
 use Rattle.std.specs.Prelude.{ℕ, ◌+◌, ◌-◌, ◌*◌, ◌/◌, ◌%◌, ◌^◌, cond, Option, Some, None, List, [], ◌∷◌, ◌++◌, take, drop, ◌==◌}
 use Rattle.std.specs.Option.{option_map_or}
-use Rattle.grib_bits.specs.Bits.{digit}
+use Rattle.grib_bits.specs.Bits.{bit, digit}
 use Rattle.grib_bits.specs.Octets.{octets}
-use Rattle.grib1_sections.specs.Frame.{bit}
 use Rattle.grib1_sections.specs.Data.{data_flags, bit_width}
 use Rattle.grib1_sections.specs.Keys.{key_in}
 use Rattle.grib1_sections.specs.declared.key.Key1.TheVariants.{DecimalScale}
-use Rattle.grib_migrate.specs.declared.number.Number.{Number}
-use Rattle.grib_migrate.specs.declared.number.Number.TheVariants.{One, Two, Four}
+use Rattle.grib_bits.specs.declared.adding.Number.{Number}
+use Rattle.grib_bits.specs.declared.adding.Number.TheVariants.{One, Two, Four}
 use Rattle.grib_migrate.specs.References.{binary32_of}
 
 -- the reference value of a Section 4

@@ -1,21 +1,19 @@
 //! Section 3: the grid.
 
 ghost use Rattle.std.specs.Prelude.{◌≡◌, ◌+◌, ◌*◌, ◌≤◌, ◌<◌, ◌++◌, None, Some, length, MatchResult, OnOk};
-ghost use Rattle.grib1_sections.specs.Frame as frame;
 ghost use Rattle.grib1_sections.specs.Grid as grid1;
-ghost use Rattle.grib_migrate.specs.Numbers.{all_octets};
+ghost use Rattle.grib_bits.specs.Encoding.{all_octets};
 ghost use Rattle.grib_migrate.specs.Grids as grids;
 ghost use Rattle.grib_migrate.specs.Grids.{grid_loss};
 ghost use Rattle.grib_migrate.specs.Answered.{IsMigrateFault};
 ghost use Rattle.grib_migrate.specs.Held.{HoldsGrid};
 ghost use Rattle.grib_migrate.specs.GridParts.{IsGridPart, IsPolar};
 
-use crate::number::Number::{Four, One, Two};
-use crate::number::add_numbers;
 use crate::scaled::Scaled::{Angle, Distance, Longitude};
 use crate::scaled::scale;
 use crate::{Loss, MigrateFault};
-use grib_bits::{u8_at, u16_at};
+use grib_bits::Number::{Four, One, Two};
+use grib_bits::{add_numbers, has_bit, u8_at, u16_at};
 use std::alloc::{AllocError, Global};
 
 /// Ni where the rows differ in length.
@@ -24,7 +22,7 @@ const ROWS_DIFFER: u16 = 65535;
 /// An increment that is missing.
 const NO_INCREMENT: u16 = 65535;
 
-/// 60 degrees, where lengths are true on a polar stereographic grid, in 10^-6 degree.
+/// 60 degrees, in 10^-6 degree.
 const TRUE_LATITUDE: u32 = 60_000_000;
 
 /// Octet 6 and further of Section 3, for a grid of `points` points, or the first number that does not fit.
@@ -45,15 +43,6 @@ pub(crate) fn grid_octets(
     add_template(section2, &mut octets)?;
     octets.extend_from_slice(row_octets(section2))?;
     Ok(octets)
-}
-
-/// Whether bit n of an octet is set, bit 1 being the most significant.
-pub(crate) fn has_bit(octet: u8, n: u32) -> bool
-    requires low { 1 ≤ n }
-    requires high { n ≤ 8 }
-    ensures { result ≡ frame.bit n octet }
-{
-    octet >> (8 - n) & 1 == 1
 }
 
 /// Whether the rows differ in length.
@@ -78,7 +67,7 @@ fn row_octets(section2: &[u8]) -> &[u8]
 }
 
 /// The template of a type of grid.
-fn template_of(grid_type: u8) -> u16
+fn template_of(grid_type: u8) -> u32
     ensures { result ≡ grids.template_of grid_type }
 {
     match grid_type {
@@ -185,12 +174,12 @@ fn increment(section2: &[u8], first: usize) -> u32
     1000 * u32::from(number)
 }
 
-/// 60 degrees, in the hemisphere of the projection centre.
-fn true_latitude(section2: &[u8]) -> u32
-    requires { 32 ≤ length section2.now }
-    ensures { result ≡ grids.true_latitude section2.now }
+/// Where lengths are true on a polar stereographic grid with this projection centre: 60 degrees, in its hemisphere,
+/// in 10^-6 degree, with the sign in the first bit.
+pub fn true_latitude(centre: u8) -> u32
+    ensures { result ≡ grids.true_latitude centre }
 {
-    if has_bit(u8_at(section2, 27), 1) {
+    if has_bit(centre, 1) {
         (1 << 31) + TRUE_LATITUDE
     } else {
         TRUE_LATITUDE
@@ -260,10 +249,10 @@ fn add_mercator(section2: &[u8], out: &mut Vec<u8>) -> Result<(), MigrateFault>
 fn add_polar_stereographic(section2: &[u8], out: &mut Vec<u8>) -> Result<(), MigrateFault>
     requires { 32 ≤ length section2.now }
     ensures { IsGridPart result (grids.loss_among section2.now grids.polar_scaled) out.old.items
-        out.new.items (grids.polar section2.now (grids.true_latitude section2.now)) }
+        out.new.items (grids.polar section2.now (grids.true_latitude (grids.centre section2.now))) }
 {
     let polar = Polar::of(section2)?;
-    polar.add(section2, true_latitude(section2), out)?;
+    polar.add(section2, true_latitude(u8_at(section2, 27)), out)?;
     Ok(())
 }
 

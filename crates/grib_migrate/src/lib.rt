@@ -9,7 +9,6 @@ pub mod laws;
 mod level;
 mod loss;
 mod migrating;
-mod number;
 mod product;
 mod reference;
 mod scaled;
@@ -18,8 +17,8 @@ mod time;
 mod values;
 
 pub use grib_causes::Loss;
+pub use grid::true_latitude;
 pub use level::{Surface, Surfaces, surfaces_at};
 pub use loss::MigrateFault;
 pub use migrating::migrate;
-pub use number::Number;
 pub use time::Unit;

@@ -2,13 +2,16 @@
 
 use grib_causes::Loss;
 use std::alloc::AllocError;
+use thiserror::Error;
 
 /// Why a message is not migrated.
-#[derive(Clone, Copy, Debug, PartialEq, Eq)]
+#[derive(Clone, Copy, Debug, PartialEq, Eq, Error)]
 pub enum MigrateFault {
     /// The first loss.
+    #[error("edition 2 has no place for this: {0}")]
     Lost(Loss),
     /// There is no memory.
+    #[error("out of memory")]
     Memory,
 }
 

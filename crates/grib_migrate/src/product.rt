@@ -1,7 +1,7 @@
 //! Sections 1 and 4: the identification and the product.
 
 ghost use Rattle.std.specs.Prelude.{◌≡◌, ◌≤◌, ◌<◌, ◌++◌, None, true, length, MatchResult, OnOk, IfOk};
-ghost use Rattle.grib_migrate.specs.Numbers.{all_octets};
+ghost use Rattle.grib_bits.specs.Encoding.{all_octets};
 ghost use Rattle.grib_migrate.specs.Products as products;
 ghost use Rattle.grib_migrate.specs.Losses.{coordinate_loss};
 ghost use Rattle.grib1_sections.specs.Keys.{key_in};
@@ -13,12 +13,11 @@ ghost use Rattle.grib_migrate.specs.Answered.{IsMigrateFault};
 
 use crate::checking::Product;
 use crate::date::{Moment, reference_time};
-use crate::number::Number::{Four, One, Two};
-use crate::number::add_numbers;
 use crate::reference::binary32_of;
 use crate::time::{forecast_time, is_interval, process_of, statistic};
 use crate::{Loss, MigrateFault};
-use grib_bits::u8_at;
+use grib_bits::Number::{Four, One, Two};
+use grib_bits::{add_numbers, u8_at};
 use grib_params::Target;
 use std::alloc::{AllocError, Global};
 
@@ -38,12 +37,12 @@ pub(crate) fn identification_octets(
     let mut octets = Vec::new(alloc);
     add_numbers(
         &[
-            Two(u16::from(u8_at(section1, 5))),
-            Two(u16::from(u8_at(section1, 26))),
+            Two(u32::from(u8_at(section1, 5))),
+            Two(u32::from(u8_at(section1, 26))),
             One(target.master),
             One(target.local),
             One(significance),
-            Two(start.year),
+            Two(u32::from(start.year)),
             One(start.month),
             One(start.day),
             One(start.hour),
@@ -76,14 +75,14 @@ pub(crate) fn product_octets(
         (IsMigrateFault (coordinate_loss coordinates.now)) }
 {
     let mut octets = Vec::new(alloc);
-    add_instant(section1, product, coordinates.len() as u16, &mut octets)?;
+    add_instant(section1, product, coordinates.len() as u32, &mut octets)?;
     add_end(section1, product, &mut octets)?;
     add_coordinates(coordinates, &mut octets)?;
     Ok(octets)
 }
 
 /// The product template: 4.8 over an interval, else 4.0.
-fn template_of(section1: &[u8]) -> u16
+fn template_of(section1: &[u8]) -> u32
     requires { 28 ≤ length section1.now }
     ensures { result ≡ products.template_of section1.now }
 {
@@ -98,7 +97,7 @@ fn template_of(section1: &[u8]) -> u16
 fn add_instant(
     section1: &[u8],
     product: &Product,
-    count: u16,
+    count: u32,
     out: &mut Vec<u8>,
 ) -> Result<(), AllocError>
     requires { 28 ≤ length section1.now }
@@ -116,7 +115,7 @@ fn add_instant(
             One(process_of(section1)),
             One(u8::MAX),
             One(u8_at(section1, 6)),
-            Two(u16::MAX),
+            Two(u32::from(u16::MAX)),
             One(u8::MAX),
             One(product.unit.code),
             Four(forecast_time(section1)),
@@ -163,7 +162,7 @@ fn add_interval(
     let length = u8_at(section1, 20) - u8_at(section1, 19);
     add_numbers(
         &[
-            Two(end.year),
+            Two(u32::from(end.year)),
             One(end.month),
             One(end.day),
             One(end.hour),

@@ -3,19 +3,16 @@
 ghost use Rattle.std.specs.Prelude.{◌≡◌, ◌+◌, ◌*◌, ◌^◌, ◌≤◌, ◌<◌, ◌++◌, None, length, option_copied, MatchResult, OnOk};
 ghost use Rattle.grib1_sections.specs.Frame.{section_length};
 ghost use Rattle.grib1_sections.specs.Data.{bit_width};
-ghost use Rattle.grib_bits.specs.Encoding.{section_of};
-ghost use Rattle.grib_migrate.specs.Numbers.{all_octets};
+ghost use Rattle.grib_bits.specs.Encoding.{section_of, all_octets};
 ghost use Rattle.grib_migrate.specs.Values as spec;
 ghost use Rattle.grib_migrate.specs.Losses.{reference_loss};
 ghost use Rattle.grib_migrate.specs.Held.{HoldsBits};
 ghost use Rattle.grib_migrate.specs.Answered.{IsMigrateFault};
 
-use crate::grid::has_bit;
-use crate::number::Number::{Four, One, Two};
-use crate::number::{add_numbers, add_section, add_section_head};
 use crate::reference::binary32_of;
 use crate::{Loss, MigrateFault};
-use grib_bits::{u8_at, u16_at, u32_at};
+use grib_bits::Number::{Four, One, Two};
+use grib_bits::{add_numbers, add_section, add_section_head, has_bit, u8_at, u16_at, u32_at};
 use std::alloc::{AllocError, Global};
 
 /// Octet 6 and further of Section 5, with this number of present points, or the loss where the reference value has
@@ -42,8 +39,8 @@ pub(crate) fn packing_octets(
             Four(values),
             Two(0),
             Four(reference),
-            Two(u16_at(section4, 5)),
-            Two(u16_at(section1, 27)),
+            Two(u32::from(u16_at(section4, 5))),
+            Two(u32::from(u16_at(section1, 27))),
             One(u8_at(section4, 11)),
             One(kind),
         ],

@@ -3,9 +3,9 @@ use Rattle.std.proofs.Common.{◌≡◌, ℕ, ◌+◌, ◌-◌, ◌*◌, ◌/◌
 use Rattle.std.proofs.Math.Nat.{min-eq_left, eq-zero-or-pos}
 use Rattle.std.proofs.lemmas.Bool.{eqb-true}
 use Rattle.std.proofs.lemmas.List.{length-append, length-take, length-take-le, length-drop}
-use Rattle.grib_bits.specs.Bits.{digit}
+use Rattle.grib_bits.specs.Bits.{bit, digit}
 use Rattle.grib_bits.specs.Octets.{octets, StatesItself}
-use Rattle.grib_bits.specs.Encoding.{octets_of, section_of}
+use Rattle.grib_bits.specs.Encoding.{octets_of, section_of, all_octets, missing_1, missing_4}
 use Rattle.grib_bits.specs.Listed.{numbers_at}
 use Rattle.grib_bits.proofs.Encoding.{num_on-octets_of, StatesItself-section_of}
 use Rattle.grib_bits.proofs.OctetBits.{AreOctets}
@@ -17,12 +17,10 @@ use Rattle.grib2_grids.specs.Grid.{grid_templates, grid_rows, grid_points, grid_
 use Rattle.grib2_grids.specs.Grid as grid2
 use Rattle.grib1_sections.specs.Grid.{grid_types, grid_type, ni, nj, nv, list_place, lists_rows, row_count, lists_end, is_regular}
 use Rattle.grib1_sections.specs.Grid as grid1
-use Rattle.grib1_sections.specs.Frame.{bit}
 use Rattle.grib_migrate.specs.Held.{HoldsGrid}
-use Rattle.grib_migrate.specs.declared.number.Number.{Number}
-use Rattle.grib_migrate.specs.declared.number.Number.TheVariants.{One, Two, Four}
-use Rattle.grib_migrate.specs.Numbers.{all_octets, missing_1, missing_4}
-use Rattle.grib_migrate.specs.Grids.{template_of, flags, mercator, polar, lambert, lat_lon, angle, three, true_latitude, increment, row_octets, grid_octets}
+use Rattle.grib_bits.specs.declared.adding.Number.{Number}
+use Rattle.grib_bits.specs.declared.adding.Number.TheVariants.{One, Two, Four}
+use Rattle.grib_migrate.specs.Grids.{template_of, flags, mercator, polar, lambert, lat_lon, angle, three, centre, true_latitude, increment, row_octets, grid_octets}
 use Rattle.grib_migrate.proofs.Grids.{few_octets}
 use Rattle.grib_migrate_law.proofs.Lists.{numbers_moved}
 
@@ -227,7 +225,7 @@ abbrev numbers_for : List ℕ → ℕ → List Number
 numbers_for s t =
     cond (t == 1) (mercator s)
     (cond (t == 3) (polar s (angle (three s 29)) ++ lambert s)
-    (cond (t == 4) (lat_lon s (octets s 26 27)) (cond (t == 5) (polar s (true_latitude s)) (lat_lon s (increment s 26)))))
+    (cond (t == 4) (lat_lon s (octets s 26 27)) (cond (t == 5) (polar s (true_latitude (centre s))) (lat_lon s (increment s 26)))))
 
 abbrev Type5 : ℕ → Type 0
 Type5 t = (t ≡ 0) ⊎ ((t ≡ 1) ⊎ ((t ≡ 3) ⊎ ((t ≡ 4) ⊎ (t ≡ 5))))

@@ -5,9 +5,9 @@ use Rattle.std.specs.List.{concat}
 use Rattle.std.specs.Option.{option_map_or}
 use Rattle.std.proofs.lemmas.Bool.{ltb-false}
 use Rattle.std.proofs.lemmas.List.Sums.{count_by-le-length}
-use Rattle.grib_bits.specs.Bits.{digit}
+use Rattle.grib_bits.specs.Bits.{bit, digit}
 use Rattle.grib_bits.specs.Octets.{octets}
-use Rattle.grib_bits.specs.Encoding.{section_of}
+use Rattle.grib_bits.specs.Encoding.{section_of, all_octets}
 use Rattle.grib_bits.proofs.Encoding.{StatesItself-section_of}
 use Rattle.grib_bits.proofs.OctetBits.{AreOctets}
 use Rattle.grib_bits.proofs.OctetNumbers.{AreOctets-octet_list, octets-lt}
@@ -25,7 +25,7 @@ use Rattle.grib_packing.specs.declared.column.Column.{Column}
 use Rattle.grib_packing.specs.declared.column.Point.{Point}
 use Rattle.grib_params.specs.Table.{Entries}
 use Rattle.grib_params.specs.declared.row.Target.{Target}
-use Rattle.grib1_sections.specs.Frame.{bit, section_at}
+use Rattle.grib1_sections.specs.Frame.{section_at}
 use Rattle.grib1_sections.specs.Keys.{key_in}
 use Rattle.grib1_sections.specs.declared.key.Key1.TheVariants.{DecimalScale}
 use Rattle.grib1_sections.specs.Data.{data_rows, data_flags, bit_width}
@@ -45,7 +45,6 @@ use Rattle.grib_causes.specs.declared.loss.Loss.TheVariants as losses
 use Rattle.grib_migrate.specs.declared.level.Surfaces.{Surfaces}
 use Rattle.grib_migrate.specs.declared.time.Unit.{Unit as UnitOfTime}
 use Rattle.grib_migrate.specs.Held.{Holds}
-use Rattle.grib_migrate.specs.Numbers.{all_octets}
 use Rattle.grib_migrate.specs.Source.{target_of, has_local, local_octets}
 use Rattle.grib_migrate.specs.Levels.{surfaces_of}
 use Rattle.grib_migrate.specs.Times.{unit_of}

@@ -4,7 +4,7 @@ use Rattle.grib_bits.specs.Bits.{bits}
 use Rattle.grib_bits.specs.Binary32.{ieee_exponent}
 use Rattle.grib_bits.specs.Plain.{plain}
 use Rattle.grib_bits.specs.Octets.{StatesItself}
-use Rattle.grib_bits.specs.Encoding.{section_of}
+use Rattle.grib_bits.specs.Encoding.{section_of, all_octets}
 use Rattle.grib_bits.proofs.Encoding.{num_on-octets_of, StatesItself-section_of}
 use Rattle.grib_base.specs.Rows.{first_fault}
 use Rattle.grib_base.proofs.Passing.{none_from_passes}
@@ -16,8 +16,7 @@ use Rattle.grib_packing.specs.Simple.{simple_rows}
 use Rattle.grib_packing.specs.Entries.{packing_rows, packing_fault, data_fault, entries_of}
 use Rattle.grib_packing.proofs.Packings.{packing_fault-simple}
 use Rattle.grib1_sections.specs.Bitmap as bitmap1
-use Rattle.grib_migrate.specs.declared.number.Number.TheVariants.{One, Two, Four}
-use Rattle.grib_migrate.specs.Numbers.{all_octets}
+use Rattle.grib_bits.specs.declared.adding.Number.TheVariants.{One, Two, Four}
 use Rattle.grib_migrate.specs.Held.{HoldsBits}
 use Rattle.grib_migrate.specs.Values.{front_octets, bitmap_octets}
 use Rattle.grib_migrate.proofs.Fronts.{front-length}

@@ -1,7 +1,7 @@
 -- Sections 1 and 4 as they are written pass their rows.
 use Rattle.std.proofs.Common.{◌≡◌, ℕ, ◌+◌, ◌*◌, ◌<◌, ◌≤◌, Bool, true, false, cond, None, List, [], ◌∷◌, ◌++◌, length, nat_lt, refl, ap, ◌∙◌, arith, le-ltb}
 use Rattle.grib_bits.specs.Octets.{StatesItself}
-use Rattle.grib_bits.specs.Encoding.{section_of}
+use Rattle.grib_bits.specs.Encoding.{section_of, all_octets, missing_1, missing_2}
 use Rattle.grib_bits.proofs.Encoding.{num_on-octets_of, StatesItself-section_of}
 use Rattle.grib_base.specs.Rows.{first_fault}
 use Rattle.grib_base.proofs.Passing.{none_from_passes}
@@ -12,9 +12,8 @@ use Rattle.grib1_sections.specs.Keys.{key_in}
 use Rattle.grib1_sections.specs.declared.key.Key1.TheVariants.{Process, TimeRange}
 use Rattle.grib_migrate.specs.declared.level.Surfaces.{Surfaces}
 use Rattle.grib_migrate.specs.declared.time.Unit.{Unit as UnitOfTime}
-use Rattle.grib_migrate.specs.declared.number.Number.{Number}
-use Rattle.grib_migrate.specs.declared.number.Number.TheVariants.{One, Two, Four}
-use Rattle.grib_migrate.specs.Numbers.{all_octets, missing_1, missing_2}
+use Rattle.grib_bits.specs.declared.adding.Number.{Number}
+use Rattle.grib_bits.specs.declared.adding.Number.TheVariants.{One, Two, Four}
 use Rattle.grib_migrate.specs.Times.{is_interval, process_of, forecast_time}
 use Rattle.grib_migrate.specs.Products.{identification_numbers, interval_numbers, surface_numbers, coordinate_numbers, product_octets}
 

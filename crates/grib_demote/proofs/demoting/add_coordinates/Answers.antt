@@ -1,7 +1,7 @@
 use Rattle.std.proofs.Common.{ℕ, Option, List, [], ◌∷◌, ◌++◌, ap, ◌∙◌, arith}
 use Rattle.std.specs.Prelude.{unwrap_or}
-use Rattle.grib_demote.specs.declared.number.Number.TheVariants.{Four}
-use Rattle.grib_demote.specs.Numbers.{all_octets}
+use Rattle.grib_bits.specs.declared.adding.Number.TheVariants.{Four}
+use Rattle.grib_bits.specs.Encoding.{all_octets}
 use Rattle.grib_demote.proofs.Lists.{coordinate_written}
 use Rattle.grib_demote.proofs.demoting.add_coordinates.Goals as goal
 

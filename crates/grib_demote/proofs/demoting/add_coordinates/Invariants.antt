@@ -1,5 +1,5 @@
 use Rattle.std.proofs.Common.{◌≡◌, ◌++◌, take}
-use Rattle.grib_demote.specs.Numbers.{all_octets}
+use Rattle.grib_bits.specs.Encoding.{all_octets}
 use Rattle.grib_demote.specs.Products.{coordinate_numbers}
 use Rattle.grib_demote.proofs.demoting.add_coordinates.Given as goal
 

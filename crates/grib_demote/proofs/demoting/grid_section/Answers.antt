@@ -2,7 +2,7 @@ use Rattle.std.proofs.Common.{ℕ, Option, List, ◌++◌, length, ap, ◌∙◌
 use Rattle.std.specs.Prelude.{unwrap_or}
 use Rattle.grib_bits.specs.Listed.{numbers_octets}
 use Rattle.grib2_grids.specs.Grid.{grid_template, row_list}
-use Rattle.grib_demote.specs.Numbers.{all_octets}
+use Rattle.grib_bits.specs.Encoding.{all_octets}
 use Rattle.grib_demote.specs.Grids.{type_of, header, template_numbers}
 use Rattle.grib_demote.specs.Products.{coordinate_numbers}
 use Rattle.grib_demote.proofs.Joining.{none_carried, four_joined}

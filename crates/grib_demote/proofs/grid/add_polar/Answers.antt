@@ -1,10 +1,12 @@
-use Rattle.std.proofs.Common.{◌≡◌, List, ◌++◌, subst}
-use Rattle.std.specs.Prelude.{OnOk}
-use Rattle.grib_demote.specs.declared.number.Number.{Number}
-use Rattle.grib_demote.specs.Numbers.{all_octets}
+use Rattle.std.proofs.Common.{List, ◌++◌, ap, ◌∙◌}
+use Rattle.grib_bits.specs.declared.adding.Number.{Number}
+use Rattle.grib_bits.specs.Encoding.{all_octets}
+use Rattle.grib_bits.proofs.AllOctets.{added_behind}
+use Rattle.grib_demote.specs.Grids.{polar}
 use Rattle.grib_demote.proofs.grid.add_polar.Goals as goal
 
 pub returns : goal.returns
 returns c =
-    let Added : List Number → Type 0 = λ numbers. OnOk c.add_numbers.result (c.add_numbers.new.out.items ≡ c.args.out.now.items ++ all_octets numbers) in
-    subst Added c.polar_numbers.ensures c.add_numbers.ensures
+    let old = c.args.out.now.items in
+    added_behind old c.add_numbers.new.out.items c.add_numbers-2.new.out.items (polar c.args.section3.now) c.args.others.now c.add_numbers-2.result
+    (c.in_ok-add_numbers.ensures ∙ ap (λ (numbers : List Number). old ++ all_octets numbers) c.polar_numbers.ensures) c.add_numbers-2.ensures

@@ -1,6 +1,6 @@
 use Rattle.std.proofs.Common.{List, ◌++◌, ap, ◌∙◌}
-use Rattle.grib_demote.specs.declared.number.Number.{Number}
-use Rattle.grib_demote.specs.Numbers.{all_octets}
+use Rattle.grib_bits.specs.declared.adding.Number.{Number}
+use Rattle.grib_bits.specs.Encoding.{all_octets}
 use Rattle.grib_demote.specs.Products.{identification_numbers, local_octets}
 use Rattle.grib_demote.proofs.Joining.{two_joined}
 use Rattle.grib_demote.proofs.product.product_octets.Goals as goal

@@ -1,9 +1,10 @@
 use Rattle.std.proofs.Common.{ℕ, ◌++◌, ◌∙◌, ap}
-use Rattle.grib_migrate.specs.Numbers.{all_octets}
+use Rattle.grib_bits.specs.Encoding.{all_octets}
 use Rattle.grib_migrate.specs.Grids.{polar, lambert, polar_scaled, angle, three}
 use Rattle.grib_migrate.specs.declared.scaled.Scaled.TheVariants.{Angle, Longitude}
 use Rattle.std.proofs.Common.{[], ◌∷◌}
-use Rattle.grib_migrate.proofs.Grids.{fits_none, fits_before, octets_behind, octets_same, lambert_same}
+use Rattle.grib_bits.proofs.AllOctets.{octets_behind}
+use Rattle.grib_migrate.proofs.Grids.{fits_none, fits_before, octets_same, lambert_same}
 use Rattle.grib_migrate.proofs.grid.add_lambert.Goals as goal
 
 pub returns : goal.returns

@@ -1,8 +1,7 @@
 use Rattle.std.proofs.Common.{◌≡◌, ℕ, List, ◌++◌, None, ap, ◌∙◌, subst, length, ◌≤◌, ◌^◌, refl, arith}
-use Rattle.grib_bits.specs.Encoding.{section_of}
+use Rattle.grib_bits.specs.Encoding.{section_of, all_octets}
 use Rattle.grib_migrate.specs.Losses.{first_of, number_losses, coordinate_loss, reference_loss}
 use Rattle.grib_migrate.specs.Grids.{grid_loss, grid_octets}
-use Rattle.grib_migrate.specs.Numbers.{all_octets}
 use Rattle.grib_migrate.specs.Products.{identification_numbers, product_octets}
 use Rattle.grib_migrate.specs.Values.{packing_numbers}
 use Rattle.grib_migrate.specs.Migrated.{local_section}
