@@ -5,5 +5,3 @@ pub mod Readable
 pub mod Rebuilt
 pub mod ByTemplate
 pub mod Unique
-pub mod Variants
-pub mod Writable

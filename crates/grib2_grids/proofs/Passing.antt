@@ -2,7 +2,7 @@
 use Rattle.std.proofs.Common.{◌≡◌, ℕ, ◌<◌, ◌≤◌, Bool, true, false, not, ◌&&◌, ◌||◌, ◌⊎◌, eqb, nat_lt, refl, arith, inl, inr}
 use Rattle.std.proofs.lemmas.Bool.{cases_lt}
 use Rattle.std.proofs.lemmas.Bool.Decides.{nat_tests}
-use Rattle.grib_base.specs.Limits.{most_points}
+use Rattle.grib_base.specs.declared.limits.TheConstants.{MOST_POINTS}
 
 -- ---- a row on sections with a list alone
 
@@ -25,10 +25,10 @@ not_false false h = cc
 
 -- ---- the tests of each row, and back
 
-pub points_test : (n : ℕ) → (eqb n 0 || nat_lt most_points n) ≡ false → (1 ≤ n) × (n ≤ most_points)
+pub points_test : (n : ℕ) → (eqb n 0 || nat_lt MOST_POINTS n) ≡ false → (1 ≤ n) × (n ≤ MOST_POINTS)
 points_test n h = (grind (arith, nat_tests), grind (arith, nat_tests))
 
-pub test_points : (n : ℕ) → 1 ≤ n → n ≤ most_points → (eqb n 0 || nat_lt most_points n) ≡ false
+pub test_points : (n : ℕ) → 1 ≤ n → n ≤ MOST_POINTS → (eqb n 0 || nat_lt MOST_POINTS n) ≡ false
 test_points n some few = grind (arith, nat_tests)
 
 pub meaning_test : (size n : ℕ) → (not (eqb size 0) && not (eqb n 1) && not (eqb n 2)) ≡ false → 0 < size → (n ≡ 1) ⊎ (n ≡ 2)

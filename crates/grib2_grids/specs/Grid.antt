@@ -5,7 +5,7 @@ use Rattle.std.specs.List.{list_any}
 use Rattle.grib_bits.specs.Octets.{octets}
 use Rattle.grib_bits.specs.Listed.{numbers_at}
 use Rattle.grib_base.specs.declared.fault.Reason.TheVariants.{SectionLength, GridSource, GridTemplate, PointCount, ListShape}
-use Rattle.grib_base.specs.Limits.{most_points}
+use Rattle.grib_base.specs.declared.limits.TheConstants.{MOST_POINTS}
 use Rattle.grib_base.specs.Rows.{Row, row}
 use Rattle.grib2_sections.specs.Template.{Template, template, is_template, least_length}
 
@@ -65,7 +65,7 @@ grid_rows s =
     ∷ row (not (grid_source s == 0)) 6 GridSource (grid_source s)  -- S3.2
     ∷ row (not (is_template grid_templates t)) 13 GridTemplate t  -- S3.3
     ∷ row (nat_lt l (least_length grid_templates t)) 1 SectionLength l  -- S3.4
-    ∷ row (points == 0 || nat_lt most_points points) 7 PointCount points  -- S3.5
+    ∷ row (points == 0 || nat_lt MOST_POINTS points) 7 PointCount points  -- S3.5
     ∷ row (listed && not (meaning == 1) && not (meaning == 2)) 12 ListShape meaning  -- S3.6
     ∷ row (nat_lt 4 size || (listed && not (may_have_list t))) 11 ListShape size  -- S3.7
     ∷ row (listed && (nj s == 0 || nj s == 4294967295)) 35 ListShape (nj s)  -- S3.8

@@ -1,6 +1,6 @@
 -- Which values of Section 3 can be written: those that a section has which no row of the profile refuses.
 use Rattle.std.specs.Prelude.{◌≡◌, ◌*◌, ◌^◌, ◌<◌, ◌≤◌, ◌⊎◌, true, [], All, length, sum}
-use Rattle.grib_base.specs.Limits.{most_points}
+use Rattle.grib_base.specs.declared.limits.TheConstants.{MOST_POINTS}
 use Rattle.grib2_grids.specs.Grid.{may_have_list}
 use Rattle.grib2_grids.specs.Spelled.{template_of, common_of, written_length}
 use Rattle.grib2_grids.specs.declared.grid.GridSection.{GridSection}
@@ -24,7 +24,7 @@ pub record ListsNone (value : GridSection) : Type 0 where
 
 pub record IsWritable (value : GridSection) : Type 0 where
   pub some : 1 ≤ value.points
-  pub few : value.points ≤ most_points
+  pub few : value.points ≤ MOST_POINTS
   pub listed : 0 < value.list_octets → ListsRows value
   pub plain : value.list_octets ≡ 0 → ListsNone value
   pub short : written_length value < 2 ^ 32

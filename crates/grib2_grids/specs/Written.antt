@@ -1,9 +1,10 @@
 -- The octets of Section 3 as they are written, part after part.
 use Rattle.std.specs.Prelude.{◌≡◌, ℕ, List, ◌++◌}
 use Rattle.grib_bits.specs.Octets.{octets}
-use Rattle.grib_bits.specs.Encoding.{octets_of}
+use Rattle.grib_bits.specs.Encoding.{octets_of, AddsOctets}
 use Rattle.grib_bits.specs.Listed.{numbers_octets}
-use Rattle.grib2_grids.specs.Spelled.{lat_lon_common, mercator_common, polar_common, lambert_polar, gaussian_lat_lon, template_of, written_length}
+use Rattle.grib_bits.specs.Written.{Written}
+use Rattle.grib2_grids.specs.Spelled.{lat_lon_common, mercator_common, polar_common, lambert_polar, gaussian_lat_lon, template_of, written_length, SpelledTemplate}
 use Rattle.grib2_grids.specs.declared.templates.Common.{Common}
 use Rattle.grib2_grids.specs.declared.templates.LatLon.{LatLon}
 use Rattle.grib2_grids.specs.declared.templates.Rotation.{Rotation}
@@ -72,6 +73,12 @@ template_octets (grid.Mercator v) = mercator_octets v
 template_octets (grid.Polar v) = polar_octets v
 template_octets (grid.Lambert v) = lambert_octets v
 template_octets (grid.Gaussian v) = lat_lon_octets (gaussian_lat_lon v)
+
+-- what is added for a template, and that it has the numbers of the template wherever it stands behind octets 1-14
+pub record WritesTemplate (before after : Written) (value : Grid) : Type 0 where
+  pub octets : AddsOctets before after (template_octets value)
+  pub spelled : (l points list_octets list_meaning template : ℕ) (rest : List ℕ)
+      → SpelledTemplate value (header l points list_octets list_meaning template ++ template_octets value ++ rest)
 
 -- the section of a value: its template and its list, and no more
 abbrev pub section_of_grid : GridSection → List ℕ

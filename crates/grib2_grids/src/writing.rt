@@ -5,9 +5,9 @@ ghost use Rattle.grib_bits.specs.Encoding.{AddsOctets};
 ghost use Rattle.grib2_grids.specs.declared.templates.LatLon.{LatLon};
 ghost use Rattle.grib2_sections.specs.Template.{least_length};
 ghost use Rattle.grib2_grids.specs.Grid.{grid_templates};
-ghost use Rattle.grib2_grids.specs.Spelled.{IsSectionOf, written_length, template_of, SpelledTemplate, SpelledCommon, SpelledLatLon, SpelledRotation, SpelledMercator, SpelledPolar, SpelledLambert, gaussian_lat_lon};
+ghost use Rattle.grib2_grids.specs.Spelled.{IsSectionOf, written_length, template_of, SpelledCommon, SpelledLatLon, SpelledRotation, SpelledMercator, SpelledPolar, SpelledLambert, gaussian_lat_lon};
 ghost use Rattle.grib2_grids.specs.Writable.{IsWritable};
-ghost use Rattle.grib2_grids.specs.Written.{header, SpelledHeader, section_of_grid, template_octets, common_octets, lat_lon_octets, rotation_octets, mercator_octets, polar_octets, lambert_octets};
+ghost use Rattle.grib2_grids.specs.Written.{header, SpelledHeader, section_of_grid, template_octets, WritesTemplate, common_octets, lat_lon_octets, rotation_octets, mercator_octets, polar_octets, lambert_octets};
 
 use crate::templates::{Common, common_of, template};
 use crate::{Gaussian, Grid, GridSection, Lambert, LatLon, Mercator, Polar, Rotation};
@@ -223,10 +223,7 @@ fn write_gaussian(value: &Gaussian, out: &mut BitWriter)
 /// The template, from octet 15 on.
 fn write_template(value: &Grid, out: &mut BitWriter)
     requires { 8 * length (template_octets value.now) ≤ out.old.spare }
-    ensures octets { AddsOctets out.old out.new (template_octets value.now) }
-    ensures spelled { (l points list_octets list_meaning template : ℕ) (rest : List ℕ)
-        → SpelledTemplate value.now (header l points list_octets list_meaning template
-        ++ template_octets value.now ++ rest) }
+    ensures { WritesTemplate out.old out.new value.now }
 {
     match value {
         Grid::LatLon(lat_lon) => write_lat_lon(lat_lon, out),

@@ -4,4 +4,3 @@ pub mod Ranges
 pub mod Readable
 pub mod Rebuilt
 pub mod Unique
-pub mod Variants

@@ -1,9 +1,10 @@
 -- The octets of Section 4 as they are written, part after part.
 use Rattle.std.specs.Prelude.{◌≡◌, ℕ, ◌^◌, ◌<◌, List, [], ◌∷◌, ◌++◌, length}
 use Rattle.grib_bits.specs.Octets.{octets}
-use Rattle.grib_bits.specs.Encoding.{octets_of}
+use Rattle.grib_bits.specs.Encoding.{octets_of, AddsOctets}
 use Rattle.grib_bits.specs.Listed.{numbers_octets}
-use Rattle.grib2_products.specs.Spelled.{template_of, written_length}
+use Rattle.grib_bits.specs.Written.{Written}
+use Rattle.grib2_products.specs.Spelled.{template_of, written_length, SpelledTemplate}
 use Rattle.grib2_products.specs.declared.templates.Instant.{Instant}
 use Rattle.grib2_products.specs.declared.templates.Ensemble.{Ensemble}
 use Rattle.grib2_products.specs.declared.templates.Interval.{Interval}
@@ -66,6 +67,11 @@ template_octets (product.Instant v) = instant_octets v
 template_octets (product.Ensemble v e) = instant_octets v ++ ensemble_octets e
 template_octets (product.Interval v i) = instant_octets v ++ (end_octets i ++ specs_octets i.specs)
 template_octets (product.EnsembleInterval v e i) = instant_octets v ++ ensemble_octets e ++ (end_octets i ++ specs_octets i.specs)
+
+-- what is added for a template, and that it has the numbers of the template wherever it stands behind octets 1-9
+pub record WritesTemplate (before after : Written) (value : Product) : Type 0 where
+  pub octets : AddsOctets before after (template_octets value)
+  pub spelled : (l count template : ℕ) (rest : List ℕ) → SpelledTemplate value (header l count template ++ template_octets value ++ rest)
 
 -- the section of a value: its template, its time ranges and its coordinate values, and no more
 abbrev pub section_of_product : ProductSection → List ℕ

@@ -7,9 +7,9 @@ ghost use Rattle.grib2_sections.specs.Template.{least_length};
 ghost use Rattle.grib2_products.specs.declared.templates.Instant.{Instant};
 ghost use Rattle.grib2_products.specs.declared.templates.Ensemble.{Ensemble};
 ghost use Rattle.grib2_products.specs.Product.{product_templates};
-ghost use Rattle.grib2_products.specs.Spelled.{IsSectionOf, written_length, template_of, range_count, specs_at, SpelledInstant, SpelledEnsemble, SpelledInterval, SpelledTemplate};
+ghost use Rattle.grib2_products.specs.Spelled.{IsSectionOf, written_length, template_of, range_count, specs_at, SpelledInstant, SpelledEnsemble, SpelledInterval};
 ghost use Rattle.grib2_products.specs.Writable.{CountsRanges, IsWritable};
-ghost use Rattle.grib2_products.specs.Written.{header, SpelledHeader, section_of_product, template_octets, instant_octets, ensemble_octets, end_octets, SpecFits, spec_octets, specs_octets};
+ghost use Rattle.grib2_products.specs.Written.{header, SpelledHeader, section_of_product, template_octets, WritesTemplate, instant_octets, ensemble_octets, end_octets, SpecFits, spec_octets, specs_octets};
 
 use crate::{Ensemble, Instant, Interval, Product, ProductSection, Spec};
 use grib_bits::{BitWriter, write_list, write_u8, write_u16, write_u32};
@@ -77,9 +77,7 @@ fn write_header(length: u32, count: u16, template: u16, out: &mut BitWriter)
 fn write_template(value: &Product, out: &mut BitWriter)
     requires counted { CountsRanges value.now }
     requires room { 8 * length (template_octets value.now) ≤ out.old.spare }
-    ensures octets { AddsOctets out.old out.new (template_octets value.now) }
-    ensures spelled { (l count template : ℕ) (rest : List ℕ) → SpelledTemplate value.now
-        (header l count template ++ template_octets value.now ++ rest) }
+    ensures { WritesTemplate out.old out.new value.now }
 {
     match value {
         Product::Instant(instant) => write_instant(instant, out),

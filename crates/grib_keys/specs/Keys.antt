@@ -31,10 +31,12 @@ scanning_place layout =
     (cond (is_of (10 ∷ []) layout.template) (at 60 60 layout)
     (cond (is_of (20 ∷ 30 ∷ []) layout.template) (at 65 65 layout) None))
 
--- an angle of the first grid point, four octets from here in grids by latitude and longitude, else from there
+-- an angle of the first grid point, four octets from here in grids by latitude and longitude, from there in
+-- grids on a plane: templates 3.10, 3.20 and 3.30
 abbrev pub first_point : ℕ → ℕ → Layout → Option Octets
 first_point here there layout =
-    cond (is_by_angles layout.template) (at here (here + 3) layout) (at there (there + 3) layout)
+    cond (is_by_angles layout.template) (at here (here + 3) layout)
+    (cond (is_of (10 ∷ 20 ∷ 30 ∷ []) layout.template) (at there (there + 3) layout) None)
 
 -- a number of an ensemble: templates 4.1 and 4.11 alone have it
 abbrev pub ensemble_place : ℕ → ℕ → Layout → Option Octets

@@ -32,7 +32,7 @@ pub enum Place {
     /// The scanning mode of a grid (templates 3.0, 3.1 and 3.40; 3.10; 3.20 and 3.30).
     ScanningMode,
     /// An angle of the first grid point: four octets, from `by_angles` on in grids by latitude and longitude
-    /// (templates 3.0, 3.1 and 3.40), from `other` on in other grids.
+    /// (templates 3.0, 3.1 and 3.40), from `other` on in grids on a plane (templates 3.10, 3.20 and 3.30).
     FirstPoint { by_angles: u8, other: u8 },
     /// A number of an ensemble, at these octets (templates 4.1 and 4.11).
     Ensemble(Octets),
@@ -126,7 +126,8 @@ fn first_point(by_angles: u8, other: u8, layout: Layout) -> Option<Octets>
 {
     let first = match layout.template {
         0 | 1 | 40 => usize::from(by_angles),
-        _ => usize::from(other),
+        10 | 20 | 30 => usize::from(other),
+        _ => return None,
     };
     at(first, first + 3)
 }

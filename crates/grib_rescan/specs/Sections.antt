@@ -4,6 +4,7 @@ use Rattle.std.specs.Prelude.{◌≡◌, ℕ, ◌+◌, ◌-◌, ◌*◌, ◌%◌
 use Rattle.std.specs.Ordering.{int_eq}
 use Rattle.grib_bits.specs.Octets.{octets, octet_list, signed_octets}
 use Rattle.grib_bits.specs.Encoding.{octets_of}
+use Rattle.grib_base.specs.declared.limits.TheConstants.{MOST_POINTS}
 use Rattle.grib_rescan.specs.declared.points.Area.{Area}
 use Rattle.grib_rescan.specs.Scanning.{scanning_of}
 use Rattle.grib_rescan.specs.Points.{width, height}
@@ -13,7 +14,7 @@ pub record HasPoints (s : List ℕ) : Type 0 where
   pub long : 72 ≤ length s
   pub columns : 1 ≤ octets s 31 34
   pub rows : 1 ≤ octets s 35 38
-  pub few : octets s 31 34 * octets s 35 38 ≤ 33554432
+  pub few : octets s 31 34 * octets s 35 38 ≤ MOST_POINTS
 
 -- a Section 3 which, where it is one of template 3.0 without a list of rows, has its points
 pub record HasTemplate (s : List ℕ) : Type 0 where
@@ -27,7 +28,7 @@ pub record IsLatLon (s : List ℕ) : Type 0 where
   pub template : octets s 13 14 ≡ 0
   pub list : octets s 11 11 ≡ 0
   pub some : 1 ≤ octets s 7 10
-  pub few : octets s 7 10 ≤ 33554432
+  pub few : octets s 7 10 ≤ MOST_POINTS
   pub product : octets s 31 34 * octets s 35 38 ≡ octets s 7 10
 
 -- these octets in place of those from `first` on, counted from 1

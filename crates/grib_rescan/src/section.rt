@@ -8,6 +8,7 @@ ghost use Rattle.grib_rescan.specs.Sections.{HasPoints, with_octets, with_size, 
 
 use crate::points::Area;
 use crate::scanning::Scanning;
+use grib_base::MOST_POINTS;
 use grib_bits::{signed_of, u8_at, u32_at};
 use std::alloc::{AllocError, Global};
 
@@ -160,7 +161,7 @@ fn latitude(section: &[u8], j: u32) -> i64
 /// The latitude that lies this many steps south of the first.
 fn southward(first: i64, steps: u32, step: u32) -> i64
     requires first { nat_abs first < 2 ^ 31 }
-    requires few { steps ≤ 33554432 }
+    requires few { steps ≤ MOST_POINTS }
     ensures { result ≡ first -ℤ pos (steps * step) }
 {
     first - i64::from(steps) * i64::from(step)

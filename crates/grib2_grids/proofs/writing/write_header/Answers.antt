@@ -9,12 +9,4 @@ pub returns-clause-octets : goal.returns-clause-octets
 returns-clause-octets c =
     let v = c.args.value.now in
     let Added : ℕ → Type 0 = λ template. AddsOctets c.args.out.now c.write_u16.new.out (header c.args.length v.points v.list_octets v.list_meaning template) in
-    subst Added c.template_number.ensures
-    (AddsOctets-append (AddsOctets-append (AddsOctets-append (AddsOctets-append (AddsOctets-append (AddsOctets-append
-    c.write_u32.ensures.octets
-    c.write_u8.ensures.octets)
-    c.write_u8-2.ensures.octets)
-    c.write_u32-2.ensures.octets)
-    c.write_u8-3.ensures.octets)
-    c.write_u8-4.ensures.octets)
-    c.write_u16.ensures.octets)
+    subst Added c.template_number.ensures (search (AddsOctets-append, c) depth 10)

@@ -1,57 +1,35 @@
 -- The template is that of the arm.
-use Rattle.std.proofs.Common.{◌++◌}
+use Rattle.std.proofs.Common.{◌++◌, sym, subst}
 use Rattle.grib_bits.proofs.Encoding.{AddsOctets-append}
-use Rattle.grib2_grids.specs.Written.{rotation_octets}
-use Rattle.grib2_grids.proofs.Variants.{octets_of_variant, spelled_by_variant}
+use Rattle.grib2_grids.specs.Written.{WritesTemplate, rotation_octets}
 use Rattle.grib2_grids.proofs.writing.write_template.Goals as goal
 
-pub returns-in-LatLon-clause-octets : goal.returns-in-LatLon-clause-octets
-returns-in-LatLon-clause-octets c = octets_of_variant _ _ c.in-LatLon.is _ _ c.write_lat_lon.ensures.octets
+pub returns-in-LatLon : goal.returns-in-LatLon
+returns-in-LatLon c =
+    subst (WritesTemplate c.args.out.now c.write_lat_lon.new.out) (sym c.in-LatLon.is) (record { octets = c.write_lat_lon.ensures.octets; spelled = c.write_lat_lon.ensures.spelled })
 
-pub returns-in-LatLon-clause-spelled : goal.returns-in-LatLon-clause-spelled
-returns-in-LatLon-clause-spelled c = λ l points list_octets list_meaning template rest.
-    spelled_by_variant _ _ c.in-LatLon.is l points list_octets list_meaning template rest
-    (c.write_lat_lon.ensures.spelled l points list_octets list_meaning template rest)
+pub returns-in-Mercator : goal.returns-in-Mercator
+returns-in-Mercator c =
+    subst (WritesTemplate c.args.out.now c.write_mercator.new.out) (sym c.in-Mercator.is) (record { octets = c.write_mercator.ensures.octets; spelled = c.write_mercator.ensures.spelled })
 
-pub returns-in-Mercator-clause-octets : goal.returns-in-Mercator-clause-octets
-returns-in-Mercator-clause-octets c = octets_of_variant _ _ c.in-Mercator.is _ _ c.write_mercator.ensures.octets
+pub returns-in-Polar : goal.returns-in-Polar
+returns-in-Polar c =
+    subst (WritesTemplate c.args.out.now c.write_polar.new.out) (sym c.in-Polar.is) (record { octets = c.write_polar.ensures.octets; spelled = c.write_polar.ensures.spelled })
 
-pub returns-in-Mercator-clause-spelled : goal.returns-in-Mercator-clause-spelled
-returns-in-Mercator-clause-spelled c = λ l points list_octets list_meaning template rest.
-    spelled_by_variant _ _ c.in-Mercator.is l points list_octets list_meaning template rest
-    (c.write_mercator.ensures.spelled l points list_octets list_meaning template rest)
+pub returns-in-Lambert : goal.returns-in-Lambert
+returns-in-Lambert c =
+    subst (WritesTemplate c.args.out.now c.write_lambert.new.out) (sym c.in-Lambert.is) (record { octets = c.write_lambert.ensures.octets; spelled = c.write_lambert.ensures.spelled })
 
-pub returns-in-Polar-clause-octets : goal.returns-in-Polar-clause-octets
-returns-in-Polar-clause-octets c = octets_of_variant _ _ c.in-Polar.is _ _ c.write_polar.ensures.octets
+pub returns-in-Gaussian : goal.returns-in-Gaussian
+returns-in-Gaussian c =
+    subst (WritesTemplate c.args.out.now c.write_gaussian.new.out) (sym c.in-Gaussian.is) (record { octets = c.write_gaussian.ensures.octets; spelled = c.write_gaussian.ensures.spelled })
 
-pub returns-in-Polar-clause-spelled : goal.returns-in-Polar-clause-spelled
-returns-in-Polar-clause-spelled c = λ l points list_octets list_meaning template rest.
-    spelled_by_variant _ _ c.in-Polar.is l points list_octets list_meaning template rest
-    (c.write_polar.ensures.spelled l points list_octets list_meaning template rest)
-
-pub returns-in-Lambert-clause-octets : goal.returns-in-Lambert-clause-octets
-returns-in-Lambert-clause-octets c = octets_of_variant _ _ c.in-Lambert.is _ _ c.write_lambert.ensures.octets
-
-pub returns-in-Lambert-clause-spelled : goal.returns-in-Lambert-clause-spelled
-returns-in-Lambert-clause-spelled c = λ l points list_octets list_meaning template rest.
-    spelled_by_variant _ _ c.in-Lambert.is l points list_octets list_meaning template rest
-    (c.write_lambert.ensures.spelled l points list_octets list_meaning template rest)
-
-pub returns-in-Gaussian-clause-octets : goal.returns-in-Gaussian-clause-octets
-returns-in-Gaussian-clause-octets c = octets_of_variant _ _ c.in-Gaussian.is _ _ c.write_gaussian.ensures.octets
-
-pub returns-in-Gaussian-clause-spelled : goal.returns-in-Gaussian-clause-spelled
-returns-in-Gaussian-clause-spelled c = λ l points list_octets list_meaning template rest.
-    spelled_by_variant _ _ c.in-Gaussian.is l points list_octets list_meaning template rest
-    (c.write_gaussian.ensures.spelled l points list_octets list_meaning template rest)
-
-pub returns-in-Rotated-clause-octets : goal.returns-in-Rotated-clause-octets
-returns-in-Rotated-clause-octets c =
-    octets_of_variant _ _ c.in-Rotated.is _ _ (AddsOctets-append c.write_lat_lon-in-Rotated.ensures.octets c.write_rotation.ensures.octets)
-
-pub returns-in-Rotated-clause-spelled : goal.returns-in-Rotated-clause-spelled
-returns-in-Rotated-clause-spelled c = λ l points list_octets list_meaning template rest.
-    spelled_by_variant _ _ c.in-Rotated.is l points list_octets list_meaning template rest (
-      c.write_lat_lon-in-Rotated.ensures.spelled l points list_octets list_meaning template (rotation_octets c.in-Rotated.rotation ++ rest),
-      c.write_rotation.ensures.spelled l points list_octets list_meaning template c.in-Rotated.lat_lon rest,
-    )
+pub returns-in-Rotated : goal.returns-in-Rotated
+returns-in-Rotated c =
+    subst (WritesTemplate c.args.out.now c.write_rotation.new.out) (sym c.in-Rotated.is) (record {
+      octets = AddsOctets-append c.write_lat_lon-in-Rotated.ensures.octets c.write_rotation.ensures.octets;
+      spelled = λ l points list_octets list_meaning template rest. (
+        c.write_lat_lon-in-Rotated.ensures.spelled l points list_octets list_meaning template (rotation_octets c.in-Rotated.rotation ++ rest),
+        c.write_rotation.ensures.spelled l points list_octets list_meaning template c.in-Rotated.lat_lon rest,
+      );
+    })

@@ -3,9 +3,4 @@ use Rattle.grib_bits.proofs.Encoding.{AddsOctets-append}
 use Rattle.grib2_products.proofs.writing.write_header.Goals as goal
 
 pub returns-clause-octets : goal.returns-clause-octets
-returns-clause-octets c =
-    AddsOctets-append (AddsOctets-append (AddsOctets-append
-    c.write_u32.ensures.octets
-    c.write_u8.ensures.octets)
-    c.write_u16.ensures.octets)
-    c.write_u16-2.ensures.octets
+returns-clause-octets c = search (AddsOctets-append, c) depth 8

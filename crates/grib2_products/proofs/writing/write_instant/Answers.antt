@@ -22,21 +22,4 @@ returns-clause-octets c = AddsOctets-append (AddsOctets-append (AddsOctets-appen
     c.write_u32-3.ensures.octets
 
 pub returns-clause-spelled : goal.returns-clause-spelled
-returns-clause-spelled c = λ l count template rest.
-    record {
-      category = sym c.write_u8.ensures.number;
-      number = sym c.write_u8-2.ensures.number;
-      process = sym c.write_u8-3.ensures.number;
-      background = sym c.write_u8-4.ensures.number;
-      generator = sym c.write_u8-5.ensures.number;
-      cutoff_hours = sym c.write_u16.ensures.number;
-      cutoff_minutes = sym c.write_u8-6.ensures.number;
-      unit = sym c.write_u8-7.ensures.number;
-      time = sym c.write_u32.ensures.number;
-      surface1 = sym c.write_u8-8.ensures.number;
-      scale1 = sym c.write_u8-9.ensures.number;
-      value1 = sym c.write_u32-2.ensures.number;
-      surface2 = sym c.write_u8-10.ensures.number;
-      scale2 = sym c.write_u8-11.ensures.number;
-      value2 = sym c.write_u32-3.ensures.number;
-    }
+returns-clause-spelled c = λ l count template rest. search (c, sym)

@@ -11,16 +11,7 @@ pub returns-clause-octets : goal.returns-clause-octets
 returns-clause-octets c =
     let v = c.args.value.now in
     let Adds : List Spec → Type 0 = λ specs. AddsOctets c.args.out.now c.write_specs.new.out (end_octets v ++ specs_octets specs) in
-    subst Adds c.as_slice.ensures (AddsOctets-append (AddsOctets-append (AddsOctets-append (AddsOctets-append (AddsOctets-append (AddsOctets-append (AddsOctets-append (AddsOctets-append
-    c.write_u16.ensures.octets
-    c.write_u8.ensures.octets)
-    c.write_u8-2.ensures.octets)
-    c.write_u8-3.ensures.octets)
-    c.write_u8-4.ensures.octets)
-    c.write_u8-5.ensures.octets)
-    c.write_u8-6.ensures.octets)
-    c.write_u32.ensures.octets)
-    c.write_specs.ensures.octets)
+    subst Adds c.as_slice.ensures (search (AddsOctets-append, c) depth 12)
 
 pub returns-clause-at_35 : goal.returns-clause-at_35
 returns-clause-at_35 c = λ l count template v rest.
@@ -29,16 +20,7 @@ returns-clause-at_35 c = λ l count template v rest.
     let Again : List Spec → Type 0 = λ specs. specs ≡ specs_at (front ++ (specs_octets specs ++ rest)) (35 + 12) (length specs) in
     let again = subst Again c.as_slice.ensures (c.write_specs.ensures.again front rest (35 + 12) refl) in
     record {
-      end = record {
-        year = sym c.write_u16.ensures.number;
-        month = sym c.write_u8.ensures.number;
-        day = sym c.write_u8-2.ensures.number;
-        hour = sym c.write_u8-3.ensures.number;
-        minute = sym c.write_u8-4.ensures.number;
-        second = sym c.write_u8-5.ensures.number;
-        n = sym c.write_u8-6.ensures.number;
-        missing = sym c.write_u32.ensures.number;
-      };
+      end = search (c, sym);
       specs = again ∙ ap (specs_at (front ++ (specs_octets i.specs ++ rest)) (35 + 12)) c.requires.counted;
     }
 
@@ -49,15 +31,6 @@ returns-clause-at_38 c = λ l count template v e rest.
     let Again : List Spec → Type 0 = λ specs. specs ≡ specs_at (front ++ (specs_octets specs ++ rest)) (38 + 12) (length specs) in
     let again = subst Again c.as_slice.ensures (c.write_specs.ensures.again front rest (38 + 12) refl) in
     record {
-      end = record {
-        year = sym c.write_u16.ensures.number;
-        month = sym c.write_u8.ensures.number;
-        day = sym c.write_u8-2.ensures.number;
-        hour = sym c.write_u8-3.ensures.number;
-        minute = sym c.write_u8-4.ensures.number;
-        second = sym c.write_u8-5.ensures.number;
-        n = sym c.write_u8-6.ensures.number;
-        missing = sym c.write_u32.ensures.number;
-      };
+      end = search (c, sym);
       specs = again ∙ ap (specs_at (front ++ (specs_octets i.specs ++ rest)) (38 + 12)) c.requires.counted;
     }
