@@ -1,5 +1,5 @@
 -- What is packed in groups unpacks to the same column.
-use Rattle.std.proofs.Common.{◌≡◌, ℕ, ◌+◌, ◌*◌, ◌%◌, ◌≤◌, ◌==◌, ◌&&◌, Bool, true, false, not, cond, Option, Some, None, ℤ, pos, nat_abs, nat_lt, List, [], ◌∷◌, ◌++◌, length, drop, map, replicate, All, refl, sym, ap, ap₂, ◌∙◌, arith, subst, le-ltb, eq-eqb, ne_eqb, append-nil}
+use Rattle.std.proofs.Common.{inl, ◌≡◌, ℕ, ◌+◌, ◌*◌, ◌%◌, ◌≤◌, ◌==◌, ◌&&◌, Bool, true, false, not, cond, Option, Some, None, ℤ, pos, nat_abs, nat_lt, List, [], ◌∷◌, ◌++◌, length, drop, map, replicate, All, refl, sym, ap, ap₂, ◌∙◌, arith, subst, le-ltb, eq-eqb, ne_eqb, append-nil}
 use Rattle.std.specs.List.{list_any, filter_map}
 use Rattle.std.proofs.lemmas.List.{length-map}
 use Rattle.grib_bits.specs.Bits.{bits}

@@ -7,12 +7,13 @@ use Rattle.grib_packing.specs.Entries.{complex_entries}
 use Rattle.grib_base.proofs.Passing.{carried}
 use Rattle.grib_simple.proofs.Accepted.{same_column}
 use Rattle.grib_packing.specs.Kept.{ArePoints}
-use Rattle.grib_complex.proofs.Represented.{data_fault-complex, entries_of-complex}
+use Rattle.grib_packing.proofs.Packings.{data_fault-complex, entries_of-complex}
+use Rattle.grib_complex.proofs.Arriving.{complex_of}
 use Rattle.grib_complex.proofs.packing.unpack_complex.Goals as goal
 
 pub returns-in_err-points-2 : goal.returns-in_err-points-2
 returns-in_err-points-2 c = λ s5 spelled.
-    let fault = data_fault-complex c.args.complex.now s5 c.args.section7.now.octets.now spelled c.requires.accepted in
+    let fault = data_fault-complex s5 c.args.section7.now.octets.now (complex_of c.args.complex.now s5 spelled c.requires.accepted) in
     carried _ _ _ _ c.from_residual-in_err-points-2.ensures.1
     (subst (λ (f : Option Fault). IsReadFault (located c.args.section7.now.start f) c.in_err-points-2.field-0.0) (sym fault) (c.in_err-points-2.ensures s5 spelled))
 
@@ -24,8 +25,8 @@ returns c = λ s5 spelled.
     let entries = complex_entries s5 s7 in
     let are = taken.1.keeps mask [] (omega (arith, taken.2, c.requires.values, spelled.simple.values)) (subst (λ (m : List Bool). ArePoints m [] c.in_ok-points.points) c.in_ok-mask.ensures c.in_ok-points.ensures) in
     let points = c.of.ensures ∙ c.finish.ensures mask entries are
-    ∙ ap (points_with_mask mask) (sym (entries_of-complex c.args.complex.now s5 s7 spelled c.requires.accepted)) in
+    ∙ ap (points_with_mask mask) (sym (entries_of-complex s5 s7 (complex_of c.args.complex.now s5 spelled c.requires.accepted))) in
     let simple = spelled.simple in (
-      data_fault-complex c.args.complex.now s5 s7 spelled c.requires.accepted ∙ taken.0,
+      data_fault-complex s5 s7 (complex_of c.args.complex.now s5 spelled c.requires.accepted) ∙ taken.0,
       same_column s5 _ _ _ c.of.result _ simple.reference simple.e simple.d points,
     )
