@@ -1,0 +1,4 @@
+pub mod Walk
+pub mod PairSums
+pub mod Fewest
+pub mod Chosen

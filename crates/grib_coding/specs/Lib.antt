@@ -1,0 +1,5 @@
+pub mod Coding
+pub mod Items
+pub mod Reading
+pub mod Numbers
+pub mod Streams

@@ -1,0 +1,31 @@
+-- What coded bits tell of each number (CCSDS 121.0-B; WMO-No. 306, Volume I.2, FM 92 GRIB edition 2, data template
+-- 7.42).
+use Rattle.std.specs.Prelude.{◌≡◌, ℕ, ◌+◌, ◌*◌, ◌%◌, ◌≤◌, Bool, cond, ◌&&◌, ◌==◌, List, [], ◌∷◌, All}
+use Rattle.grib_mapped.specs.Mapped.{mapped}
+use Rattle.grib_coding.specs.declared.coding.Coding.{Coding}
+use Rattle.grib_coding.specs.Coding.{is_mapped, greatest}
+
+-- a number itself, the reference of its interval, or its code
+pub data Told : Type 0 where
+  Reference : ℕ → Told
+  Code : ℕ → Told
+
+-- whether the number at this place, from 0, is told by a reference
+abbrev pub is_reference : Coding → ℕ → Bool
+is_reference c place = is_mapped c && (place % (c.block * c.interval) == 0)
+
+-- what tells a number at a place, after the number `last`
+abbrev pub told : Coding → ℕ → ℕ → ℕ → Told
+told c place last number =
+    cond (is_reference c place) (Reference number)
+    (Code (cond (is_mapped c) (mapped (greatest c) last number) number))
+
+-- what tells numbers one after another
+abbrev pub told_after : Coding → ℕ → ℕ → List ℕ → List Told
+told_after c place last [] = []
+told_after c place last (number ∷ numbers) = told c place last number ∷ told_after c (place + 1) number numbers
+
+-- These are the numbers of `bits` bits that are told so.
+pub record AreTold (c : Coding) (entries : List Told) (numbers : List ℕ) : Type 0 where
+  pub within : All (λ number. number ≤ greatest c) numbers
+  pub entries_stand : told_after c 0 0 numbers ≡ entries
