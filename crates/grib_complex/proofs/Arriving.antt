@@ -1,5 +1,5 @@
 -- Lemmas on a Section 7 of which the first octets came.
-use Rattle.std.proofs.Common.{◌≡◌, ℕ, ◌+◌, ◌-◌, ◌*◌, ◌≤◌, ◌⊎◌, Bool, true, false, cond, ◌&&◌, eqb, ltb, Option, Some, None, List, ◌++◌, length, take, drop, replicate, pos, refl, sym, ap, ap₂, ◌∙◌, arith, append_assoc, subst, add-mul, le-ltb, inl, inr}
+use Rattle.std.proofs.Common.{◌≡◌, ℕ, ◌+◌, ◌-◌, ◌*◌, ◌≤◌, Bool, true, false, cond, ◌&&◌, eqb, ltb, Option, Some, None, List, ◌++◌, length, take, drop, replicate, pos, refl, sym, ap, ap₂, ◌∙◌, arith, append_assoc, subst, add-mul, le-ltb, inl, inr}
 use Rattle.std.proofs.Math.Nat.{mul-le-mul_right}
 use Rattle.std.proofs.lemmas.Bool.{cases_lt, cases_eq, cond-false, ne_eqb}
 use Rattle.std.proofs.lemmas.List.{drop-drop, drop-take, take-take, take-append-le, drop-append-le, length-drop}
@@ -12,7 +12,7 @@ use Rattle.grib_packing.specs.declared.layout.Layout.{Layout}
 use Rattle.grib_packing.specs.declared.group.Group.{Group}
 use Rattle.grib_packing.specs.declared.column.Point.TheVariants.{Scaled}
 use Rattle.grib_packing.specs.Complex.{layout_of, descriptor_octets}
-use Rattle.grib_packing.specs.Entries.{data_fault, entries_of, group_data_fault, group_entries, first_value_rows, complex_data_fault, complex_entries, range_rows}
+use Rattle.grib_packing.specs.Entries.{data_fault, entries_of, group_data_fault, group_entries, first_value_rows, range_rows}
 use Rattle.grib_packing.specs.Groups.{list_rows, group_rows, list_octets, references, widths, lengths, groups, groups_from, codes_from}
 use Rattle.grib_packing.specs.Packing.{packing_template, value_count}
 use Rattle.grib_packing.proofs.Packings.{IsComplexTemplate, data_fault-complex, entries_of-complex}

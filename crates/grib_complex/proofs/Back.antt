@@ -6,7 +6,7 @@ use Rattle.grib_bits.specs.Bits.{bits}
 use Rattle.grib_bits.specs.Octets.{octets}
 use Rattle.grib_base.specs.declared.code.Code.{Code}
 use Rattle.grib_base.specs.declared.fault.Fault.{Fault}
-use Rattle.grib_base.specs.Rows.{first_fault, first_place, or_then, choose}
+use Rattle.grib_base.specs.Rows.{first_fault, first_place, or_then}
 use Rattle.grib_bitmap.specs.Mask.{bitmap_rows, mask_of, present_count}
 use Rattle.grib_bitmap.proofs.Runs.{present_count-replicate}
 use Rattle.grib_packing.specs.declared.column.Column.{Column}

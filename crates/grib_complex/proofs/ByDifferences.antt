@@ -1,13 +1,12 @@
 -- What is packed by differences unpacks to the same column.
-use Rattle.std.proofs.Common.{◌≡◌, ◌⊎◌, ℕ, ◌+◌, ◌-◌, ◌*◌, ◌%◌, ◌^◌, ◌<◌, ◌≤◌, ◌==◌, ◌&&◌, ◌||◌, inl, inr, Bool, true, false, not, cond, Option, Some, None, ℤ, pos, nat_abs, nat_lt, List, [], ◌∷◌, ◌++◌, length, drop, map, replicate, refl, sym, ap, ap₂, ◌∙◌, arith, subst, le-ltb, append-nil}
+use Rattle.std.proofs.Common.{◌≡◌, ◌⊎◌, ℕ, ◌+◌, ◌-◌, ◌*◌, ◌%◌, ◌^◌, ◌<◌, ◌≤◌, ◌==◌, ◌&&◌, ◌||◌, inl, inr, Bool, true, false, not, cond, Some, None, ℤ, pos, nat_abs, nat_lt, List, [], ◌∷◌, ◌++◌, length, drop, map, replicate, refl, sym, ap, ap₂, ◌∙◌, arith, subst, le-ltb, append-nil}
 use Rattle.std.specs.List.{list_any, filter_map}
 use Rattle.std.proofs.lemmas.List.{length-append, length-drop, drop-drop}
 use Rattle.grib_bits.specs.Bits.{bits, bits_of}
 use Rattle.grib_bits.specs.Octets.{octets}
 use Rattle.grib_bits.proofs.OctetBits.{AreOctets, length-bits}
 use Rattle.grib_base.specs.declared.code.Code.{Code}
-use Rattle.grib_base.specs.declared.fault.Fault.{Fault}
-use Rattle.grib_base.specs.Rows.{first_fault, first_place, or_then, choose}
+use Rattle.grib_base.specs.Rows.{first_fault, first_place}
 use Rattle.grib_base.proofs.Places.{NoneOf, first_place-none}
 use Rattle.grib_bitmap.specs.Mask.{bitmap_rows, mask_of}
 use Rattle.grib_packing.specs.declared.column.Column.{Column}

@@ -1,5 +1,5 @@
 -- Lemmas on what Section 5 says of a field.
-use Rattle.std.proofs.Common.{◌≡◌, ◌≤◌, ℕ, List, arith}
+use Rattle.std.proofs.Common.{◌≤◌, ℕ, List, arith}
 use Rattle.grib_packing.specs.declared.representation.Simple.{Simple}
 use Rattle.grib_packing.specs.Packing.{packing_template}
 use Rattle.grib_packing.proofs.Packings.{most-simple, packing_passes}

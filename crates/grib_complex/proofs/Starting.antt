@@ -1,5 +1,5 @@
 -- Lemmas on a Section 7 of which no octet came.
-use Rattle.std.proofs.Common.{◌≡◌, ℕ, zero, suc, ◌+◌, ◌*◌, ◌^◌, ◌<◌, ◌≤◌, Bool, true, false, cond, eqb, Option, Some, None, List, [], ◌∷◌, length, drop, map, vec_capacity, replicate, pos, refl, sym, ap, ap₂, ◌∙◌, arith, subst, le-ltb}
+use Rattle.std.proofs.Common.{◌≡◌, ℕ, zero, suc, ◌+◌, ◌*◌, ◌^◌, ◌<◌, ◌≤◌, Bool, true, cond, eqb, Option, Some, None, List, [], ◌∷◌, length, drop, map, vec_capacity, replicate, pos, refl, sym, ap, ap₂, ◌∙◌, arith, subst, le-ltb}
 use Rattle.std.proofs.lemmas.Bool.{lt-ltb, eq-eqb}
 use Rattle.grib_bits.specs.Bits.{bits}
 use Rattle.grib_bits.specs.Octets.{octets}
@@ -9,7 +9,7 @@ use Rattle.grib_base.specs.declared.fault.Fault.{Fault}
 use Rattle.grib_base.specs.declared.fault.Reason.TheVariants.{DataTooShort}
 use Rattle.grib_base.specs.Rows.{first_fault, located, refusal, choose}
 use Rattle.grib_packing.specs.declared.column.Point.TheVariants.{Scaled}
-use Rattle.grib_packing.specs.Entries.{data_fault, entries_of, group_data_fault, group_entries, complex_data_fault, complex_entries}
+use Rattle.grib_packing.specs.Entries.{data_fault, entries_of, group_data_fault, group_entries}
 use Rattle.grib_packing.specs.Groups.{codes_from, list_octets, list_rows}
 use Rattle.grib_packing.specs.Packing.{packing_template, value_count, bit_width}
 use Rattle.grib_packing.specs.Simple.{plain_bits}

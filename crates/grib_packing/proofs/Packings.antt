@@ -1,5 +1,5 @@
 -- Lemmas on the list of the packings: what it says of a section by its template, and of a Section 5 that no row refuses.
-use Rattle.std.proofs.Common.{◌≡◌, ℕ, ◌≤◌, ◌⊎◌, inl, inr, Bool, true, false, ◌||◌, ◌==◌, cond, unwrap_or, Option, Some, None, List, [], length, refl, sym, ap, ◌∙◌, arith, subst, eqb-true}
+use Rattle.std.proofs.Common.{◌≡◌, ℕ, ◌≤◌, ◌⊎◌, inl, inr, Bool, true, false, ◌||◌, ◌==◌, cond, unwrap_or, Option, Some, None, List, length, refl, sym, ap, ◌∙◌, arith, subst, eqb-true}
 use Rattle.std.proofs.lemmas.Bool.{ltb-false, not-false}
 use Rattle.grib_bits.specs.Binary32.{ieee_exponent}
 use Rattle.grib_base.specs.declared.fault.Fault.{Fault}

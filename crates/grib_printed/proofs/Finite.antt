@@ -1,5 +1,5 @@
 -- The reference value of a field of an accepted message is finite.
-use Rattle.std.proofs.Common.{◌≡◌, ◌≢◌, ℕ, ◌<◌, List, ◌==◌, sym, ◌∙◌, subst, arith}
+use Rattle.std.proofs.Common.{◌≡◌, ◌≢◌, ℕ, ◌<◌, List, sym, ◌∙◌, subst, arith}
 use Rattle.std.proofs.lemmas.Bool.{false≢true, eq-eqb}
 use Rattle.grib_bits.specs.Binary32.{ieee_exponent}
 use Rattle.grib_packing.specs.declared.column.Column.{Column}

@@ -1,5 +1,5 @@
 -- The numbers of a field that is accepted are within the range of the columns that are packed.
-use Rattle.std.proofs.Common.{◌≡◌, ℕ, zero, suc, ◌+◌, ◌*◌, ◌^◌, ◌<◌, ◌≤◌, ◌⊎◌, Bool, true, false, cond, not, ◌&&◌, ◌||◌, ◌==◌, nat_lt, find, Option, Some, None, List, [], ◌∷◌, ◌++◌, length, drop, map, replicate, pos, inl, inr, refl, sym, ap, ap₂, ◌∙◌, arith, subst, le-ltb, ltb-false, pow_mono}
+use Rattle.std.proofs.Common.{◌≡◌, ℕ, zero, suc, ◌+◌, ◌*◌, ◌^◌, ◌<◌, ◌≤◌, ◌⊎◌, Bool, true, false, cond, not, ◌&&◌, ◌||◌, ◌==◌, nat_lt, Option, Some, None, List, [], ◌∷◌, ◌++◌, length, drop, map, replicate, pos, inl, inr, refl, sym, ap₂, ◌∙◌, arith, subst, le-ltb, ltb-false, pow_mono}
 use Rattle.std.specs.List.{list_any, filter_map, range_with_len}
 use Rattle.grib_bits.specs.Bits.{bits}
 use Rattle.grib_bits.specs.Plain.{plain, plain_at}

@@ -1,5 +1,5 @@
 -- Each key that a section has stands within the section, by the rows of the profile.
-use Rattle.std.proofs.Common.{◌≡◌, ◌≢◌, ℕ, cond, ◌+◌, ◌-◌, ◌*◌, ◌<◌, ◌≤◌, Bool, true, false, not, ◌||◌, ◌&&◌, ◌==◌, Option, Some, None, List, [], length, nat_lt, ◌⊎◌, inl, inr, refl, sym, ap, ◌∙◌, arith, subst, ltb-false, eqb-true, ltb-true, eq-eqb}
+use Rattle.std.proofs.Common.{◌≡◌, ◌≢◌, ℕ, cond, ◌+◌, ◌-◌, ◌*◌, ◌<◌, ◌≤◌, Bool, true, false, not, ◌||◌, ◌&&◌, ◌==◌, Option, Some, None, List, length, nat_lt, ◌⊎◌, inl, inr, refl, sym, ap, ◌∙◌, arith, subst, ltb-false, eqb-true, ltb-true, eq-eqb}
 use Rattle.std.specs.Option.{option_map_or}
 use Rattle.std.proofs.lemmas.Bool.{not-false, cases_eq, eqb-false}
 use Rattle.grib_base.specs.Rows.{first_fault}

@@ -1,4 +1,4 @@
-use Rattle.std.proofs.Common.{◌≡◌, ap, sym, ◌∙◌}
+use Rattle.std.proofs.Common.{ap, sym, ◌∙◌}
 use Rattle.grib_base.proofs.Passing.{carried, none-located}
 use Rattle.grib_base.specs.Rows.{first_fault, located}
 use Rattle.grib_packing.specs.Complex.{complex_rows}
