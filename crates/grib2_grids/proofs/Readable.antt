@@ -1,5 +1,5 @@
 -- What is known of a value that a section has which passes the rows.
-use Rattle.std.proofs.Common.{◌≡◌, ℕ, ◌-◌, ◌*◌, ◌^◌, ◌<◌, ◌≤◌, true, List, [], length, sum, All, sym, ap, ap₂, ◌∙◌, arith, subst, inl, inr, ltb-false, refl}
+use Rattle.std.proofs.Common.{◌≡◌, ℕ, ◌*◌, ◌^◌, ◌<◌, ◌≤◌, List, [], length, sum, All, sym, ap, ap₂, ◌∙◌, arith, subst, inl, inr, refl}
 use Rattle.std.proofs.lemmas.Bool.{cases_lt}
 use Rattle.std.proofs.lemmas.List.Elements.{All-from_get_or}
 use Rattle.std.specs.Prelude.{None}

@@ -1,8 +1,11 @@
 //! A message that was read.
 
-ghost use Rattle.std.specs.Prelude.{◌≡◌, ◌≢◌, ◌≤◌, ℕ, length, None, Some, MatchOption, MatchResult, IfOk, All};
+ghost use Rattle.std.specs.Prelude.{◌≡◌, ◌≢◌, ◌≤◌, ℕ, length, None, Some, MatchOption, MatchResult, IfOk, IsOk, All};
 ghost use Rattle.grib2_sections.specs.Frame.{placed_at};
-ghost use Rattle.grib2_grids.specs.Grid.{grid_points};
+ghost use Rattle.grib2_grids.specs.Grid.{grid_points, list_octets};
+ghost use Rattle.grib2_grids.specs.Spelled as grids;
+ghost use Rattle.grib2_products.specs.Product.{coordinate_count, time_ranges};
+ghost use Rattle.grib2_products.specs.Spelled as products;
 ghost use Rattle.grib_bitmap.specs.Mask.{present_count};
 ghost use Rattle.grib_packing.specs.Entries.{entries_of};
 ghost use Rattle.grib_packing.specs.Packing.{value_count};
@@ -17,9 +20,11 @@ use crate::columns::{column_at, mask_at, own_bitmap, take_values_at};
 use crate::new_grid::SameGrid;
 use crate::places::Places;
 use crate::{AssembleFault, NewGrid};
-use grib_base::Section;
+use grib_base::{MOST_OCTETS, MOST_POINTS, Section};
 use grib_bitmap::Mask;
 use grib_packing::{Column, Keeper, Packed};
+use grib2_grids::{GridSection, grid_of};
+use grib2_products::{ProductSection, product_of};
 use std::alloc::{AllocError, Global};
 use std::marker::Model;
 
@@ -100,6 +105,41 @@ impl<'a> Message<'a> {
         Some(places.section(self.octets, section))
     }
 
+    /// The grid of a field: what the Section 3 in force for it says. Fields count from 1.
+    ///
+    /// # Errors
+    ///
+    /// There is no memory for the list of rows, where there is one.
+    pub fn grid(&self, alloc: Global, field: u32) -> Result<GridSection, AllocError>
+        requires first { 1 ≤ field }
+        requires last { field ≤ field_count self.now }
+        ensures numbers { IfOk result (λ grid. grids.Spelled grid (part_octets self.now field 3)) }
+        ensures memory { list_octets (part_octets self.now field 3) ≡ 0 → IsOk result }
+    {
+        let Some(section) = self.part(field, 3) else {
+            unreachable!();
+        };
+        grid_of(alloc, section.octets)
+    }
+
+    /// The product of a field: what the Section 4 in force for it says. Fields count from 1.
+    ///
+    /// # Errors
+    ///
+    /// There is no memory for the time ranges or the coordinate values, where there are any.
+    pub fn product(&self, alloc: Global, field: u32) -> Result<ProductSection, AllocError>
+        requires first { 1 ≤ field }
+        requires last { field ≤ field_count self.now }
+        ensures numbers { IfOk result (λ product. products.Spelled product (part_octets self.now field 4)) }
+        ensures memory { time_ranges (part_octets self.now field 4) ≡ 0
+            → coordinate_count (part_octets self.now field 4) ≡ 0 → IsOk result }
+    {
+        let Some(section) = self.part(field, 4) else {
+            unreachable!();
+        };
+        product_of(alloc, section.octets)
+    }
+
     /// The Section 6 with the bits of a field, counted from 1: that in force for it, or, where that repeats
     /// an earlier bitmap (indicator 254 of code table 6.0), the last one before it with bits of its own.
     pub fn bitmap(&self, field: u32) -> Section<'a>
@@ -123,7 +163,7 @@ impl<'a> Message<'a> {
         requires last { field ≤ field_count self.now }
         ensures column { IfOk result (λ column. column ≡ column_of self.now field) }
         ensures some { IfOk result (λ column. 1 ≤ length column.points) }
-        ensures few { IfOk result (λ column. length column.points ≤ 33554432) }
+        ensures few { IfOk result (λ column. length column.points ≤ MOST_POINTS) }
         ensures long { IfOk result (λ column. length column.points ≡ grid_points (part_octets self.now field 3)) }
         ensures passes { FieldPasses self.now field }
     {
@@ -185,7 +225,7 @@ impl<'a> Message<'a> {
         requires short { All IsShort packed.now }
         ensures { MatchResult result
             (λ octets. (octets.items ≡ assembled self.now packed.now)
-            × (length (assembled self.now packed.now) ≤ 268435456))
+            × (length (assembled self.now packed.now) ≤ MOST_OCTETS))
             (IsAssembleFault (length (assembled self.now packed.now))) }
     {
         self.assemble_with(alloc, &SameGrid, packed)
@@ -210,11 +250,11 @@ impl<'a> Message<'a> {
         requires short { All IsShort packed.now }
         ensures { MatchResult result
             (λ octets. (octets.items ≡ assembled_with (G.becomes grid.now) self.now packed.now)
-            × (length (assembled_with (G.becomes grid.now) self.now packed.now) ≤ 268435456))
+            × (length (assembled_with (G.becomes grid.now) self.now packed.now) ≤ MOST_OCTETS))
             (IsAssembleFault (length (assembled_with (G.becomes grid.now) self.now packed.now))) }
     {
         let total = assembled_length(self.octets, packed);
-        if total > 268_435_456 {
+        if total > MOST_OCTETS {
             return Err(AssembleFault::TooLong(total));
         }
         Ok(put_together(alloc, self.octets, grid, packed, total)?)

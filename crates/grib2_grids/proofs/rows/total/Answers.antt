@@ -1,5 +1,5 @@
 -- The list that the section has as a whole is the list of rows.
-use Rattle.std.proofs.Common.{◌≡◌, ◌<◌, eqb, cond, ℕ, List, sum, ap, ◌∙◌, arith}
+use Rattle.std.proofs.Common.{◌≡◌, ◌<◌, eqb, cond, ℕ, sum, ap, ◌∙◌, arith}
 use Rattle.std.proofs.lemmas.List.FromFn.{sum_by-map-range_with_len_more}
 use Rattle.grib_bits.specs.Listed.{number_at}
 use Rattle.grib2_grids.specs.Grid.{list_start, list_octets, nj}

@@ -1,5 +1,5 @@
 -- The octets of the numbers, one after another.
-use Rattle.std.proofs.Common.{◌≡◌, ◌+◌, List, ◌++◌, ◌∙◌, length, refl, sym, ap, arith, subst}
+use Rattle.std.proofs.Common.{◌≡◌, ◌+◌, List, ◌++◌, ◌∙◌, length, refl, sym, ap, subst}
 use Rattle.grib_bits.specs.Encoding.{AddsOctets}
 use Rattle.grib2_products.specs.Spelled.{specs_at}
 use Rattle.grib2_products.specs.Written.{header, instant_octets, ensemble_octets, end_octets, specs_octets}

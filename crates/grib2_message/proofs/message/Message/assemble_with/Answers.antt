@@ -14,8 +14,8 @@ put_together-requires-clause-total g c =
     ∙ sym (assembled_as_long (g.G.NewGrid.becomes grid) m c.args.packed.now c.self.invariant.accepted
     (λ i low high. g.met.G.NewGrid.as_long grid (part_octets m i 3) (takes i low high)))
 
-pub returns-then-total-gt268435456 : goal.returns-then-total-gt268435456
-returns-then-total-gt268435456 g c =
+pub returns-then-total-gt-MOST_OCTETS : goal.returns-then-total-gt-MOST_OCTETS
+returns-then-total-gt-MOST_OCTETS g c =
     let m = c.self.inside.octets.now in
     let grid = c.args.grid.now in
     let takes =
@@ -25,7 +25,7 @@ returns-then-total-gt268435456 g c =
     ∙ sym (assembled_as_long (g.G.NewGrid.becomes grid) m c.args.packed.now c.self.invariant.accepted
     (λ i low high. g.met.G.NewGrid.as_long grid (part_octets m i 3) (takes i low high))) in (
       subst (λ (x : List ℕ). c.assembled_length-total.result ≡ length (assembled_with (g.G.NewGrid.becomes grid) x c.args.packed.now)) c.self.view_is total,
-      omega (arith, c.if-total-gt268435456.true),
+      omega (arith, c.if-total-gt-MOST_OCTETS.true),
     )
 
 pub returns : goal.returns
@@ -40,4 +40,4 @@ returns g c =
     (λ i low high. g.met.G.NewGrid.as_long grid (part_octets m i 3) (takes i low high))) in
     subst (λ (x : List ℕ). (c.in_ok-put_together.field-0.items ≡ assembled_with (g.G.NewGrid.becomes grid) x c.args.packed.now)
     × (length (assembled_with (g.G.NewGrid.becomes grid) x c.args.packed.now) ≤ 268435456)) c.self.view_is
-    (c.in_ok-put_together.ensures, omega (arith, total, c.if-total-gt268435456.false))
+    (c.in_ok-put_together.ensures, omega (arith, total, c.if-total-gt-MOST_OCTETS.false))
