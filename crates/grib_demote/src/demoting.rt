@@ -28,7 +28,7 @@ use crate::tested::grid_loss;
 use crate::values::{add_bitmap, data_octets, has_bitmap};
 use crate::word::ibm_of;
 use grib_base::List;
-use grib_bits::Number::Four;
+use grib_bits::Number::{Four, Two};
 use grib_bits::{add_numbers, add_section1, add_uint, u16_at, u32_at};
 use grib_causes::Demotion;
 use grib_packed::laws::one_packing_is_written;
@@ -176,7 +176,7 @@ fn add_rows(rows: &[u32], out: &mut Vec<u8>) -> Result<(), AllocError>
     ensures { OnOk result (out.new.items ≡ out.old.items ++ numbers_octets 2 rows.now) }
 {
     for row in rows {
-        add_uint(u64::from(*row), 2, out)?;
+        add_numbers(&[Two(*row)], out)?;
     }
     Ok(())
 }

@@ -1,31 +1,26 @@
 -- Lemmas on the numbers of a grid.
 use Rattle.std.proofs.Common.{◌≡◌, ℕ, ◌≤◌, ◌==◌, Bool, true, false, not, cond, Option, Some, None, find, option_map, List, [], ◌∷◌, ◌++◌, length, subst, refl, sym, ap, ap₂, ◌∙◌, arith, append_assoc, ne_eqb}
 use Rattle.std.proofs.lemmas.List.{length-append}
-use Rattle.std.specs.Prelude.{Result}
+use Rattle.std.specs.Prelude.{Result, Ok, Err, IsErr, IsErrAnd, MatchResult}
+use Rattle.std.specs.Result.{result_unwrap_or}
 use Rattle.grib1_sections.specs.Grid.{grid_type}
 use Rattle.grib_bits.specs.Octets.{octets}
 use Rattle.grib_causes.specs.declared.loss.Loss.{Loss}
 use Rattle.grib_causes.specs.declared.loss.Loss.TheVariants.{GridNumber}
 use Rattle.grib_migrate.specs.declared.loss.MigrateFault.{MigrateFault}
 use Rattle.grib_bits.specs.declared.adding.Number.TheVariants.{One, Four}
+use Rattle.grib_migrate.specs.declared.loss.MigrateFault.TheVariants.{Memory}
+use Rattle.grib_migrate.specs.Answered.{IsMigrateFault}
 use Rattle.grib_migrate.specs.GridParts.{IsGridPart}
 use Rattle.grib_bits.specs.declared.adding.Number.{Number}
 use Rattle.grib_migrate.specs.declared.scaled.Scaled.{Scaled}
+use Rattle.grib_migrate.specs.declared.scaled.Scaled.TheVariants.{Angle, Longitude}
 use Rattle.grib_bits.specs.Encoding.{all_octets}
-use Rattle.grib_migrate.specs.Grids.{fits, first_octet, loss_among, grid_loss, scaled_numbers, lat_lon_scaled, template_numbers, lat_lon, increment, mercator, polar, lambert, angle, longitude, distance, new_flags, scanning, three, centre, true_latitude, row_octets, header, common, grid_octets}
+use Rattle.grib_migrate.specs.Grids.{fits, first_octet, scaled, loss_among, lambert_own, grid_loss, lat_lon_scaled, mercator_scaled, polar_scaled, lambert_scaled, template_numbers, lat_lon, increment, mercator, polar, lambert, angle, longitude, distance, new_flags, scanning, three, centre, true_latitude, row_octets, header, common, grid_octets}
 use Rattle.grib_bits.proofs.AllOctets.{length-all_octets}
-
-abbrev pub AllFit : List ℕ → List Scaled → Type 0
-AllFit s [] = Unit {0}
-AllFit s (number ∷ numbers) = (fits s number ≡ true) × AllFit s numbers
 
 abbrev loss_or : Bool → Scaled → Option Scaled → Option Loss
 loss_or b number rest = option_map (λ n. GridNumber (first_octet n)) (cond (not b) (Some number) rest)
-
-pub fits_none : (s : List ℕ) (numbers : List Scaled) → AllFit s numbers → loss_among s numbers ≡ None
-fits_none s [] all = refl
-fits_none s (number ∷ numbers) all =
-    ap (λ b. loss_or b number (find (λ n. not (fits s n)) numbers)) all.0 ∙ fits_none s numbers all.1
 
 -- numbers that fit before others
 before_by : (s : List ℕ) (x : Scaled) (xs ys : List Scaled) (b : Bool) → fits s x ≡ b → loss_among s (x ∷ xs) ≡ None
@@ -44,7 +39,7 @@ fits_before s (x ∷ xs) ys e = before_by s x xs ys (fits s x) refl e (fits_befo
 -- ---- what is written and what is lost, by the type of grid
 
 abbrev scaled_by : Bool → Bool → Bool → List Scaled
-scaled_by one three five = cond one Rattle.grib_migrate.specs.Grids.mercator_scaled (cond three Rattle.grib_migrate.specs.Grids.lambert_scaled (cond five Rattle.grib_migrate.specs.Grids.polar_scaled lat_lon_scaled))
+scaled_by one three five = cond one mercator_scaled (cond three lambert_scaled (cond five polar_scaled lat_lon_scaled))
 
 abbrev numbers_by : List ℕ → Bool → Bool → Bool → Bool → List Number
 numbers_by s one three_is four five =
@@ -53,17 +48,17 @@ numbers_by s one three_is four five =
     (cond four (lat_lon s (octets s 26 27))
     (cond five (polar s (true_latitude (centre s))) (lat_lon s (increment s 26)))))
 
-pub record OfType (s : List ℕ) (numbers : List Number) : Type 0 where
+pub record OfType (s : List ℕ) (numbers : List Number) (scaled_are : List Scaled) : Type 0 where
   pub numbers_are : template_numbers s ≡ numbers
-  pub loss_is : grid_loss s ≡ loss_among s lat_lon_scaled
+  pub loss_is : grid_loss s ≡ loss_among s scaled_are
 
-pub of_type_4 : (s : List ℕ) → grid_type s ≡ 4 → OfType s (lat_lon s (octets s 26 27))
-of_type_4 s e = record {
+pub of_type_3 : (s : List ℕ) → grid_type s ≡ 3 → OfType s (polar s (angle (three s 29)) ++ lambert s) lambert_scaled
+of_type_3 s e = record {
   numbers_are = ap (λ t. numbers_by s (t == 1) (t == 3) (t == 4) (t == 5)) e;
   loss_is = ap (λ t. loss_among s (scaled_by (t == 1) (t == 3) (t == 5))) e;
 }
 
-pub of_other_type : (s : List ℕ) → (grid_type s ≡ 1 → ⊥) → (grid_type s ≡ 3 → ⊥) → (grid_type s ≡ 4 → ⊥) → (grid_type s ≡ 5 → ⊥) → OfType s (lat_lon s (increment s 26))
+pub of_other_type : (s : List ℕ) → (grid_type s ≡ 1 → ⊥) → (grid_type s ≡ 3 → ⊥) → (grid_type s ≡ 4 → ⊥) → (grid_type s ≡ 5 → ⊥) → OfType s (lat_lon s (increment s 26)) lat_lon_scaled
 of_other_type s n1 n3 n4 n5 =
     let t = grid_type s in
     let e1 = ne_eqb t 1 n1 in
@@ -80,20 +75,20 @@ pub part_same : (result : Result (Unit {0}) MigrateFault) (l l' : Option Loss) (
 part_same result l l' old new n n' e f part =
     subst (λ (x : Option Loss). IsGridPart result x old new n') e (subst (λ (x : List Number). IsGridPart result l old new x) f part)
 
--- ---- the templates by their numbers
+pub part_memory : (result : Result (Unit {0}) MigrateFault) (loss : Option Loss) (old new : List ℕ) (numbers : List Number) → IsErr result × IsErrAnd result (λ e. e ≡ Memory)
+    → IsGridPart result loss old new numbers
+part_memory (Ok done) loss old new numbers is = absurd is.1
+part_memory (Err fault) loss old new numbers is = subst (λ f. IsMigrateFault loss f) (sym is.1) tt
 
-pub mercator_same : (s : List ℕ) (la1 lo1 flags latin la2 lo2 mode di dj : ℕ) → la1 ≡ angle (three s 11) → lo1 ≡ longitude (three s 14) → flags ≡ new_flags s
-    → latin ≡ angle (three s 24) → la2 ≡ angle (three s 18) → lo2 ≡ longitude (three s 21) → mode ≡ scanning s → di ≡ distance (three s 29) → dj ≡ distance (three s 32)
-    → (Four la1 ∷ Four lo1 ∷ One flags ∷ Four latin ∷ Four la2 ∷ Four lo2 ∷ One mode ∷ Four 0 ∷ Four di ∷ Four dj ∷ []) ≡ mercator s
-mercator_same s la1 lo1 flags latin la2 lo2 mode di dj e1 e2 e3 e4 e5 e6 e7 e8 e9 = cc
+-- ---- Latin1 of a Lambert grid
 
-pub lambert_same : (s : List ℕ) (latin1 latin2 la lo : ℕ) → latin1 ≡ angle (three s 29) → latin2 ≡ angle (three s 32) → la ≡ angle (three s 35) → lo ≡ longitude (three s 38)
-    → (Four latin1 ∷ Four latin2 ∷ Four la ∷ Four lo ∷ []) ≡ lambert s
-lambert_same s latin1 latin2 la lo e1 e2 e3 e4 = cc
-
--- numbers that are the same
-pub octets_same : (old new : List ℕ) (xs ys : List Number) → new ≡ old ++ all_octets xs → xs ≡ ys → new ≡ old ++ all_octets ys
-octets_same old new xs ys e f = e ∙ ap (λ (zs : List Number). old ++ all_octets zs) f
+pub latin1_is : (s : List ℕ) (r : Result ℕ Loss) → MatchResult r (λ value. (fits s (Angle 29) ≡ true) × (value ≡ scaled s (Angle 29))) (λ loss. (fits s (Angle 29) ≡ false) × (loss ≡ GridNumber 29))
+    → loss_among s lambert_own ≡ None → result_unwrap_or r 0 ≡ angle (three s 29)
+latin1_is s (Ok value) is none = is.1
+latin1_is s (Err loss) is none =
+    let lost : Some (GridNumber 29) ≡ None =
+    sym (ap (λ b. loss_or b (Angle 29) (find (λ n. not (fits s n)) (Angle 32 ∷ Angle 35 ∷ Longitude 38 ∷ []))) is.0) ∙ none in
+    cc
 
 -- ---- the whole
 

@@ -77,10 +77,11 @@ mercator_scaled =
 abbrev pub polar_scaled : List Scaled
 polar_scaled = Angle 11 ∷ Longitude 14 ∷ Longitude 18 ∷ Distance 21 ∷ Distance 24 ∷ []
 
+abbrev pub lambert_own : List Scaled
+lambert_own = Angle 29 ∷ Angle 32 ∷ Angle 35 ∷ Longitude 38 ∷ []
+
 abbrev pub lambert_scaled : List Scaled
-lambert_scaled =
-    Angle 11 ∷ Longitude 14 ∷ Longitude 18 ∷ Distance 21 ∷ Distance 24
-    ∷ Angle 29 ∷ Angle 32 ∷ Angle 35 ∷ Longitude 38 ∷ []
+lambert_scaled = polar_scaled ++ lambert_own
 
 abbrev pub scaled_numbers : ℕ → List Scaled
 scaled_numbers t =

@@ -4,16 +4,16 @@ ghost use Rattle.std.specs.Prelude.{◌≡◌, ◌+◌, ◌*◌, ◌≤◌, ◌<
 ghost use Rattle.grib1_sections.specs.Grid as grid1;
 ghost use Rattle.grib_bits.specs.Encoding.{all_octets};
 ghost use Rattle.grib_migrate.specs.Grids as grids;
-ghost use Rattle.grib_migrate.specs.Grids.{grid_loss};
+ghost use Rattle.grib_migrate.specs.Grids.{grid_loss, loss_among};
 ghost use Rattle.grib_migrate.specs.Answered.{IsMigrateFault};
 ghost use Rattle.grib_migrate.specs.Held.{HoldsGrid};
-ghost use Rattle.grib_migrate.specs.GridParts.{IsGridPart, IsPolar};
+ghost use Rattle.grib_migrate.specs.GridParts.{AreNumbers, IsGridPart};
 
 use crate::scaled::Scaled::{Angle, Distance, Longitude};
 use crate::scaled::scale;
 use crate::{Loss, MigrateFault};
 use grib_bits::Number::{Four, One, Two};
-use grib_bits::{add_numbers, has_bit, u8_at, u16_at};
+use grib_bits::{Number, add_numbers, has_bit, u8_at, u16_at};
 use std::alloc::{AllocError, Global};
 
 /// Ni where the rows differ in length.
@@ -133,11 +133,17 @@ fn add_template(section2: &[u8], out: &mut Vec<u8>) -> Result<(), MigrateFault>
         (grids.template_numbers section2.now) }
 {
     match u8_at(section2, 6) {
-        1 => add_mercator(section2, out),
+        1 => Ok(add_numbers(&mercator_numbers(section2)?, out)?),
         3 => add_lambert(section2, out),
-        4 => add_lat_lon(section2, u32::from(u16_at(section2, 26)), out),
-        5 => add_polar_stereographic(section2, out),
-        _ => add_lat_lon(section2, increment(section2, 26), out),
+        4 => Ok(add_numbers(
+            &lat_lon_numbers(section2, u32::from(u16_at(section2, 26)))?,
+            out,
+        )?),
+        5 => Ok(add_numbers(
+            &polar_numbers(section2, true_latitude(u8_at(section2, 27)))?,
+            out,
+        )?),
+        _ => Ok(add_numbers(&lat_lon_numbers(section2, increment(section2, 26))?, out)?),
     }
 }
 
@@ -186,143 +192,90 @@ pub fn true_latitude(centre: u8) -> u32
     }
 }
 
-/// Adds octets 39 to 72 of template 3.0 or 3.40, with Dj or N.
-fn add_lat_lon(section2: &[u8], last: u32, out: &mut Vec<u8>) -> Result<(), MigrateFault>
+/// Octets 39 to 72 of template 3.0 or 3.40, with Dj or N, or the first number that does not fit.
+fn lat_lon_numbers(section2: &[u8], last: u32) -> Result<[Number; 10], Loss>
     requires { 32 ≤ length section2.now }
-    ensures { IsGridPart result (grids.loss_among section2.now grids.lat_lon_scaled) out.old.items
-        out.new.items (grids.lat_lon section2.now last) }
+    ensures { AreNumbers result (loss_among section2.now grids.lat_lon_scaled) (grids.lat_lon section2.now last) }
 {
-    let la1 = scale(section2, Angle(11))?;
-    let lo1 = scale(section2, Longitude(14))?;
-    let la2 = scale(section2, Angle(18))?;
-    let lo2 = scale(section2, Longitude(21))?;
-    add_numbers(
-        &[
-            Four(0),
-            Four(u32::MAX),
-            Four(la1),
-            Four(lo1),
-            One(new_flags(section2)),
-            Four(la2),
-            Four(lo2),
-            Four(increment(section2, 24)),
-            Four(last),
-            One(u8_at(section2, 28)),
-        ],
-        out,
-    )?;
-    Ok(())
+    Ok([
+        Four(0),
+        Four(u32::MAX),
+        Four(scale(section2, Angle(11))?),
+        Four(scale(section2, Longitude(14))?),
+        One(new_flags(section2)),
+        Four(scale(section2, Angle(18))?),
+        Four(scale(section2, Longitude(21))?),
+        Four(increment(section2, 24)),
+        Four(last),
+        One(u8_at(section2, 28)),
+    ])
 }
 
-/// Adds octets 39 to 72 of template 3.10.
-fn add_mercator(section2: &[u8], out: &mut Vec<u8>) -> Result<(), MigrateFault>
+/// Octets 39 to 72 of template 3.10.
+fn mercator_numbers(section2: &[u8]) -> Result<[Number; 10], Loss>
     requires { 34 ≤ length section2.now }
-    ensures { IsGridPart result (grids.loss_among section2.now grids.mercator_scaled) out.old.items
-        out.new.items (grids.mercator section2.now) }
+    ensures { AreNumbers result (loss_among section2.now grids.mercator_scaled) (grids.mercator section2.now) }
 {
     let la1 = scale(section2, Angle(11))?;
     let lo1 = scale(section2, Longitude(14))?;
     let la2 = scale(section2, Angle(18))?;
     let lo2 = scale(section2, Longitude(21))?;
     let latin = scale(section2, Angle(24))?;
-    let di = scale(section2, Distance(29))?;
-    let dj = scale(section2, Distance(32))?;
-    add_numbers(
-        &[
-            Four(la1),
-            Four(lo1),
-            One(new_flags(section2)),
-            Four(latin),
-            Four(la2),
-            Four(lo2),
-            One(u8_at(section2, 28)),
-            Four(0),
-            Four(di),
-            Four(dj),
-        ],
-        out,
-    )?;
-    Ok(())
+    Ok([
+        Four(la1),
+        Four(lo1),
+        One(new_flags(section2)),
+        Four(latin),
+        Four(la2),
+        Four(lo2),
+        One(u8_at(section2, 28)),
+        Four(0),
+        Four(scale(section2, Distance(29))?),
+        Four(scale(section2, Distance(32))?),
+    ])
 }
 
-/// Adds octets 39 to 65 of template 3.20.
-fn add_polar_stereographic(section2: &[u8], out: &mut Vec<u8>) -> Result<(), MigrateFault>
+/// Octets 39 to 65 of template 3.20 or 3.30, with the latitude at which Dx and Dy are true.
+fn polar_numbers(section2: &[u8], lad: u32) -> Result<[Number; 9], Loss>
     requires { 32 ≤ length section2.now }
-    ensures { IsGridPart result (grids.loss_among section2.now grids.polar_scaled) out.old.items
-        out.new.items (grids.polar section2.now (grids.true_latitude (grids.centre section2.now))) }
+    ensures { AreNumbers result (loss_among section2.now grids.polar_scaled) (grids.polar section2.now lad) }
 {
-    let polar = Polar::of(section2)?;
-    polar.add(section2, true_latitude(u8_at(section2, 27)), out)?;
-    Ok(())
+    Ok([
+        Four(scale(section2, Angle(11))?),
+        Four(scale(section2, Longitude(14))?),
+        One(new_flags(section2)),
+        Four(lad),
+        Four(scale(section2, Longitude(18))?),
+        Four(scale(section2, Distance(21))?),
+        Four(scale(section2, Distance(24))?),
+        One(u8_at(section2, 27)),
+        One(u8_at(section2, 28)),
+    ])
 }
 
-/// Adds octets 39 to 81 of template 3.30.
+/// Octets 66 to 81 of template 3.30.
+fn lambert_numbers(section2: &[u8]) -> Result<[Number; 4], Loss>
+    requires { 40 ≤ length section2.now }
+    ensures { AreNumbers result (loss_among section2.now grids.lambert_own) (grids.lambert section2.now) }
+{
+    Ok([
+        Four(scale(section2, Angle(29))?),
+        Four(scale(section2, Angle(32))?),
+        Four(scale(section2, Angle(35))?),
+        Four(scale(section2, Longitude(38))?),
+    ])
+}
+
+/// Adds octets 39 to 81 of template 3.30, where LaD is Latin1.
 fn add_lambert(section2: &[u8], out: &mut Vec<u8>) -> Result<(), MigrateFault>
     requires { 40 ≤ length section2.now }
-    ensures { IsGridPart result (grids.loss_among section2.now grids.lambert_scaled) out.old.items
+    ensures { IsGridPart result (loss_among section2.now grids.lambert_scaled) out.old.items
         out.new.items (grids.polar section2.now (grids.angle (grids.three section2.now 29))
         ++ grids.lambert section2.now) }
 {
-    let polar = Polar::of(section2)?;
-    let latin1 = scale(section2, Angle(29))?;
-    let latin2 = scale(section2, Angle(32))?;
-    let pole_la = scale(section2, Angle(35))?;
-    let pole_lo = scale(section2, Longitude(38))?;
-    polar.add(section2, latin1, out)?;
-    add_numbers(
-        &[Four(latin1), Four(latin2), Four(pole_la), Four(pole_lo)],
-        out,
-    )?;
-    Ok(())
-}
-
-/// The scaled numbers that polar stereographic and Lambert grids share.
-#[derive(Clone, Copy, Debug)]
-struct Polar {
-    la1: u32,
-    lo1: u32,
-    lov: u32,
-    dx: u32,
-    dy: u32,
-}
-
-impl Polar {
-    /// Those of this Section 2, or the first that does not fit.
-    fn of(section2: &[u8]) -> Result<Polar, Loss>
-        requires { 32 ≤ length section2.now }
-        ensures { MatchResult result
-            (λ polar. (grids.loss_among section2.now grids.polar_scaled ≡ None)
-            × IsPolar polar section2.now)
-            (λ loss. grids.loss_among section2.now grids.polar_scaled ≡ Some loss) }
-    {
-        Ok(Polar {
-            la1: scale(section2, Angle(11))?,
-            lo1: scale(section2, Longitude(14))?,
-            lov: scale(section2, Longitude(18))?,
-            dx: scale(section2, Distance(21))?,
-            dy: scale(section2, Distance(24))?,
-        })
-    }
-
-    /// Adds octets 39 to 65 of template 3.20 or 3.30, with the latitude at which Dx and Dy are true.
-    fn add(&self, section2: &[u8], lad: u32, out: &mut Vec<u8>) -> Result<(), AllocError>
-        requires long { 32 ≤ length section2.now }
-        requires polar { IsPolar self.now section2.now }
-        ensures { OnOk result (out.new.items ≡ out.old.items ++ all_octets (grids.polar section2.now lad)) }
-    {
-        add_numbers(
-            &[
-                Four(self.la1),
-                Four(self.lo1),
-                One(new_flags(section2)),
-                Four(lad),
-                Four(self.lov),
-                Four(self.dx),
-                Four(self.dy),
-                One(u8_at(section2, 27)),
-                One(u8_at(section2, 28)),
-            ],
-            out,
-        )
-    }
+    let latin1 = scale(section2, Angle(29)).unwrap_or(0);
+    let polar = polar_numbers(section2, latin1)?;
+    let lambert = lambert_numbers(section2)?;
+    add_numbers(&polar, out)?;
+    Ok(add_numbers(&lambert, out)?)
 }
