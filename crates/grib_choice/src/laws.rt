@@ -1,11 +1,13 @@
 //! Laws over the definitions.
 
-ghost use Rattle.std.specs.Prelude.{◌≡◌, ℕ, ◌+◌, ◌≤◌, List, [], ◌∷◌, replicate};
+ghost use Rattle.std.specs.Prelude.{◌≡◌, ℕ, ◌+◌, ◌<◌, ◌≤◌, true, false, List, [], ◌∷◌, replicate};
 ghost use Rattle.grib_coding.specs.declared.coding.Coding.{Coding};
 ghost use Rattle.grib_coding.specs.Streams.{coding};
 ghost use Rattle.grib_choice.specs.declared.choice.Choice.{Choice};
 ghost use Rattle.grib_choice.specs.declared.choice.Choice.TheVariants.{Plain, Second, Split};
 ghost use Rattle.grib_choice.specs.Choices.{bits_as, chosen, IsOption};
+ghost use Rattle.grib_coding.specs.Items.{Run, covered};
+ghost use Rattle.grib_choice.specs.Runs.{run_room, run_number};
 ghost use Rattle.grib_choice.specs.Splits.{split_bits};
 
 /// Worked blocks: what libaec chooses too, and the bits.
@@ -29,4 +31,12 @@ pub fn none_has_fewer_bits()
 pub fn bits_fall_and_then_rise()
     ensures { (kept k : ℕ) (codes : List ℕ)
         → split_bits kept codes (k + 1) + split_bits kept codes (k + 1) ≤ split_bits kept codes k + split_bits kept codes (k + 2) }
+{}
+
+/// A run by its number covers the blocks that it was numbered for; one of more than 4 that ends with its room covers
+/// all of that.
+pub fn runs_cover_their_blocks()
+    ensures numbered { (c : Coding) (place blocks : ℕ) → 1 ≤ blocks → covered c place (Run (run_number blocks false)) ≡ blocks }
+    ensures few { (c : Coding) (place blocks : ℕ) → 1 ≤ blocks → blocks ≤ 4 → covered c place (Run (run_number blocks true)) ≡ blocks }
+    ensures to_the_end { (c : Coding) (place blocks : ℕ) → 4 < blocks → covered c place (Run (run_number blocks true)) ≡ run_room c place }
 {}

@@ -8,11 +8,13 @@
 mod choice;
 mod choosing;
 pub mod laws;
+mod runs;
 mod splitting;
 mod sums;
 
 pub use choice::Choice;
 pub use choosing::choose;
+pub use runs::{is_zero_block, number_of_run, room_of_run};
 
 #[cfg(test)]
 mod tests;

@@ -1,6 +1,6 @@
 //! The choice once for each item, on blocks that libaec codes so too.
 
-use crate::{Choice, choose};
+use crate::{Choice, choose, is_zero_block, number_of_run, room_of_run};
 use grib_coding::Coding;
 
 /// 2 bits, short identifiers.

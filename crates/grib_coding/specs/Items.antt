@@ -14,7 +14,7 @@ pub data Item : Type 0 where
 
 -- so many zero bits and a one bit
 abbrev pub sequence : ℕ → List Bool
-sequence zeros = replicate zeros false ++ true ∷ []
+sequence number = replicate number false ++ true ∷ []
 
 -- the bits of numbers one after another
 abbrev pub all_bits : (ℕ → List Bool) → List ℕ → List Bool
@@ -23,7 +23,7 @@ all_bits bits (number ∷ numbers) = bits number ++ all_bits bits numbers
 
 -- The bits of an item behind those of its identifier; its reference, if it has one, is told as bits.
 abbrev pub item_bits : Coding → List Bool → Item → List Bool
-item_bits c reference (Run zeros) = bits_of (identifier_width c) 0 ++ (false ∷ (reference ++ sequence zeros))
+item_bits c reference (Run number) = bits_of (identifier_width c) 0 ++ (false ∷ (reference ++ sequence number))
 item_bits c reference (Second pairs) = bits_of (identifier_width c) 0 ++ (true ∷ (reference ++ all_bits sequence pairs))
 item_bits c reference (Split k high low) =
     bits_of (identifier_width c) (k + 1) ++ (reference ++ (all_bits sequence high ++ all_bits (bits_of k) low))
@@ -32,7 +32,7 @@ item_bits c reference (Plain codes) =
 
 -- How many numbers an item has, and which, where the first `skip` codes of its block stand in a reference.
 abbrev pub IsItem : Coding → ℕ → Item → Type 0
-IsItem c skip (Run zeros) = Unit {0}
+IsItem c skip (Run number) = Unit {0}
 IsItem c skip (Second pairs) = length pairs ≡ c.block / 2
 IsItem c skip (Split k high low) = (k + 3 ≤ 2 ^ identifier_width c) × (length high + skip ≡ c.block)
     × (length low + skip ≡ c.block) × All (λ number. number < 2 ^ k) low
@@ -40,8 +40,8 @@ IsItem c skip (Plain codes) = (length codes + skip ≡ c.block) × All (λ code.
 
 -- how many blocks an item covers whose first one has this place in its interval, from 0
 abbrev pub covered : Coding → ℕ → Item → ℕ
-covered c place (Run zeros) =
-    cond (zeros == 4) (min (c.interval - place) (64 - place % 64)) (cond (nat_lt zeros 4) (zeros + 1) zeros)
+covered c place (Run number) =
+    cond (number == 4) (min (c.interval - place) (64 - place % 64)) (cond (nat_lt number 4) (number + 1) number)
 covered c place (Second pairs) = 1
 covered c place (Split k high low) = 1
 covered c place (Plain codes) = 1
@@ -76,7 +76,7 @@ joined k (h ∷ high) (l ∷ low) = (h * 2 ^ k + l) ∷ joined k high low
 
 -- the codes of an item, but for the first `skip` ones of its first block
 abbrev pub item_codes : Coding → ℕ → ℕ → Item → List ℕ
-item_codes c place skip (Run zeros) = replicate (c.block * covered c place (Run zeros) - skip) 0
+item_codes c place skip (Run number) = replicate (c.block * covered c place (Run number) - skip) 0
 item_codes c place skip (Second pairs) = drop skip (codes_of_pairs pairs)
 item_codes c place skip (Split k high low) = joined k high low
 item_codes c place skip (Plain codes) = codes

@@ -27,7 +27,7 @@ front_number width bits = cond (nat_le width (length bits)) (Found (num (take wi
 abbrev pub front_sequence : List Bool → Front ℕ
 front_sequence [] = Ended
 front_sequence (true ∷ rest) = Found 0 rest
-front_sequence (false ∷ rest) = and_then (front_sequence rest) (λ zeros rest'. Found (suc zeros) rest')
+front_sequence (false ∷ rest) = and_then (front_sequence rest) (λ number rest'. Found (suc number) rest')
 
 -- so many of them
 abbrev pub front_list : (List Bool → Front ℕ) → ℕ → List Bool → Front (List ℕ)
@@ -54,7 +54,7 @@ skipped true = 1
 abbrev pub front_zero : Coding → Bool → ℕ → List Bool → Front Coded
 front_zero c with_reference zero bits =
     and_then (front_reference c with_reference bits) (λ reference rest.
-    and_then (front_sequence rest) (λ zeros rest'. Found (record { reference = reference; item = Run zeros }) rest'))
+    and_then (front_sequence rest) (λ number rest'. Found (record { reference = reference; item = Run number }) rest'))
 front_zero c with_reference (suc other) bits =
     and_then (front_reference c with_reference bits) (λ reference rest.
     and_then (front_list front_sequence (c.block / 2) rest) (λ pairs rest'. Found (record { reference = reference; item = Second pairs }) rest'))
@@ -98,7 +98,7 @@ entries_of c place coded = entries_with c place coded.reference coded.item
 
 -- a sequence of a second extension is at most 90
 abbrev pub is_too_long : Item → Bool
-is_too_long (Run zeros) = false
+is_too_long (Run number) = false
 is_too_long (Second pairs) = list_any (λ number. nat_lt 90 number) pairs
 is_too_long (Split k high low) = false
 is_too_long (Plain codes) = false
