@@ -1,5 +1,5 @@
 -- Lemmas on what Section 5 says of a field.
-use Rattle.std.proofs.Common.{◌≡◌, ◌≤◌, ℕ, Bool, List, length, sym, ap, ◌∙◌, arith, inl, inr}
+use Rattle.std.proofs.Common.{◌≡◌, ◌≤◌, ℕ, Bool, false, eqb, List, length, sym, ap, ◌∙◌, arith, inl, inr}
 use Rattle.grib_base.specs.Rows.{first_fault, located, choose}
 use Rattle.grib_packing.specs.declared.representation.Simple.{Simple}
 use Rattle.grib_packing.specs.Entries.{data_fault, complex_data_fault, entries_of, complex_entries}
@@ -9,9 +9,7 @@ use Rattle.grib_complex.specs.declared.representation.Complex.{Complex}
 use Rattle.grib_complex.specs.declared.field.Representation.TheVariants as field
 use Rattle.grib_complex.specs.Descriptors.{IsAccepted}
 use Rattle.grib_complex.specs.Field.{Represents}
-use Rattle.grib_complex.specs.Representation.{Spelled}
 use Rattle.grib_complex.proofs.Accepting.{accepted_from, packing_none, simple_bits, fault_complex}
-use Rattle.grib_complex.proofs.Arriving.{template_of}
 
 pub simple_width : (numbers : Simple) (s5 : List ℕ) → Represents (field.Simple numbers) s5 → numbers.bits ≤ 48
 simple_width numbers s5 read =
@@ -26,10 +24,9 @@ complex_accepted numbers s5 read =
 
 -- ---- what Section 7 gives in complex packing
 
-module _ (numbers : Complex) (s5 s7 : List ℕ) (spelled : Spelled numbers s5) (accepted : IsAccepted numbers) where
+module _ (s5 s7 : List ℕ) (grouped : eqb (packing_template s5) 0 ≡ false) where
   pub data_fault-complex : data_fault s5 s7 ≡ complex_data_fault s5 s7
-  data_fault-complex =
-      ap (λ (b : Bool). choose b (λ _. first_fault (simple_rows s5 (length s7))) (λ _. complex_data_fault s5 s7)) (template_of numbers s5 spelled accepted)
+  data_fault-complex = ap (λ (b : Bool). choose b (λ _. first_fault (simple_rows s5 (length s7))) (λ _. complex_data_fault s5 s7)) grouped
 
   pub entries_of-complex : entries_of s5 s7 ≡ complex_entries s5 s7
-  entries_of-complex = ap (λ (b : Bool). choose b (λ _. simple_entries s5 s7) (λ _. complex_entries s5 s7)) (template_of numbers s5 spelled accepted)
+  entries_of-complex = ap (λ (b : Bool). choose b (λ _. simple_entries s5 s7) (λ _. complex_entries s5 s7)) grouped

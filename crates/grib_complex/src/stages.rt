@@ -26,7 +26,6 @@ use crate::keeping::Keeper;
 use crate::noted::{Told, signed_fault};
 use crate::range::stays_by;
 use crate::representation::Complex;
-use crate::telling::Teller;
 use crate::values::Values;
 use grib_base::{Fault, Reason};
 use grib_groups::{
@@ -125,10 +124,7 @@ fn start_list<K: Keeper>(alloc: Global, bits: u8, count: u32, keeper: K) -> Stat
     if !keeper.keeps() {
         return State::Passes(keeper);
     }
-    let values = Values {
-        teller: Teller::start(None),
-        keeper,
-    };
+    let values = Values::start(None, keeper);
     State::Reads(Fed::list(alloc, bits, count, values).push(&[]))
 }
 
@@ -287,10 +283,7 @@ impl<K: Keeper + Drop> Between<K> {
         if !keeper.keeps() && is_steady(&told, &table, complex.simple.values) {
             return State::Passes(keeper);
         }
-        let values = Values {
-            teller: Teller::start(told.running()),
-            keeper,
-        };
+        let values = Values::start(told.running(), keeper);
         State::Reads(Fed::groups(complex.layout, table, values).push(numbers))
     }
 }
