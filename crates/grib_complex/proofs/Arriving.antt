@@ -1,10 +1,9 @@
 -- Lemmas on a Section 7 of which the first octets came.
-use Rattle.std.proofs.Common.{◌≡◌, ℕ, ◌+◌, ◌-◌, ◌*◌, ◌≤◌, Bool, true, false, cond, ◌&&◌, eqb, ltb, Option, Some, None, List, ◌++◌, length, take, drop, replicate, pos, refl, sym, ap, ap₂, ◌∙◌, arith, append_assoc, subst, add-mul, le-ltb, inl, inr}
-use Rattle.std.proofs.Math.Nat.{mul-le-mul_right}
-use Rattle.std.proofs.lemmas.Bool.{cases_lt, cases_eq, cond-false, ne_eqb}
-use Rattle.std.proofs.lemmas.List.{drop-drop, drop-take, take-take, take-append-le, drop-append-le, length-drop}
-use Rattle.grib_bits.specs.Bits.{bits, signed}
-use Rattle.grib_bits.specs.Octets.{octets, octet_list, num_on}
+use Rattle.std.proofs.Common.{◌≡◌, ℕ, ◌+◌, ◌-◌, ◌*◌, ◌≤◌, ◌⊎◌, Bool, true, false, cond, eqb, Option, Some, None, List, ◌++◌, length, drop, replicate, pos, refl, sym, ap, ap₂, ◌∙◌, arith, append_assoc, le-ltb, inl, inr}
+use Rattle.std.proofs.lemmas.Bool.{ne_eqb}
+use Rattle.std.proofs.lemmas.List.{drop-drop, drop-append-le, length-drop}
+use Rattle.grib_bits.specs.Bits.{bits}
+use Rattle.grib_bits.specs.Octets.{octets}
 use Rattle.grib_base.specs.declared.fault.Fault.{Fault}
 use Rattle.grib_base.specs.declared.fault.Reason.TheVariants.{FirstValueSign, DataTooShort}
 use Rattle.grib_base.specs.Rows.{first_fault, first_fault_at, located, refusal, choose}
@@ -16,90 +15,23 @@ use Rattle.grib_packing.specs.Entries.{data_fault, entries_of, group_data_fault,
 use Rattle.grib_packing.specs.Groups.{list_rows, group_rows, list_octets, references, widths, lengths, groups, groups_from, codes_from}
 use Rattle.grib_packing.specs.Packing.{packing_template, value_count}
 use Rattle.grib_packing.proofs.Packings.{IsComplexTemplate, data_fault-complex, entries_of-complex}
-use Rattle.grib_groups.specs.declared.lists.Lists.{Lists}
-use Rattle.grib_groups.specs.declared.table.Table.{Table}
-use Rattle.grib_groups.specs.Table.{IsWhole, IsNarrow}
-use Rattle.grib_groups.specs.Lists.{lists_fault, ListsAre}
-use Rattle.grib_base.specs.declared.fault.ReadFault.TheVariants.{Refused as UnpackRefused}
+use Rattle.grib_groups.specs.Lists.{lists_fault}
 use Rattle.grib_complex.proofs.Decided.{fault_of_signs}
 use Rattle.grib_complex.proofs.Outcome.{Numbers, numbers_with, rows_of_signs, lists_are, refused_groups, rest_is_range, codes_are, entries_are}
 use Rattle.grib_groups.proofs.Pieces.{references-front, widths-front, lengths-front}
 use Rattle.grib_complex.specs.declared.representation.Complex.{Complex}
-use Rattle.grib_complex.specs.Descriptors.{descriptor_at, is_signed_at, descriptors_by, telling_by, IsAccepted}
+use Rattle.grib_complex.specs.Descriptors.{is_signed_at, telling_by, IsAccepted}
 use Rattle.grib_complex.specs.Feeding.{Continues}
 use Rattle.grib_complex.specs.Representation.{Spelled}
-use Rattle.grib_complex.specs.Told.{Telling, Plainly, After, told}
-use Rattle.grib_packing.specs.Differences.{NoNumber}
+use Rattle.grib_complex.specs.Told.{told}
 
 -- ---- what continues
 
 pub continues_from : (octets piece : List ℕ) (l : ℕ) (s7 : List ℕ) → Continues (octets ++ piece) l s7 → Continues octets l s7
 continues_from octets piece l s7 c = record { long = c.long; known = c.known; rest = piece ++ c.rest; joined = c.joined ∙ append_assoc octets piece c.rest }
 
-pub front_of : (k : ℕ) (octets : List ℕ) (l : ℕ) (s7 : List ℕ) → k ≤ length octets → Continues octets l s7 → take k (drop 5 s7) ≡ take k octets
-front_of k octets l s7 within c = ap (take k) c.joined ∙ take-append-le k octets c.rest within
-
 pub rest_at : (k : ℕ) (octets : List ℕ) (l : ℕ) (s7 : List ℕ) → k ≤ length octets → (c : Continues octets l s7) → drop (5 + k) s7 ≡ drop k octets ++ c.rest
 rest_at k octets l s7 within c = sym (drop-drop k 5 s7) ∙ ap (drop k) c.joined ∙ drop-append-le k octets c.rest within
-
--- ---- octets of two sections that begin alike after their fifth octets
-
-module _ (s t : List ℕ) (k : ℕ) (same : take k (drop 5 s) ≡ take k (drop 5 t)) where
-  same_part : (a n : ℕ) → a + n ≤ k → take n (drop (5 + a) s) ≡ take n (drop (5 + a) t)
-  same_part a n within =
-      let parts : k ≡ a + (k - a) = omega arith in
-      let one = λ (xs : List ℕ). sym (take-take n (k - a) (drop a xs) (omega arith)) ∙ ap (take n) (sym (drop-take a (k - a) xs)) ∙ ap (λ (j : ℕ). take n (drop a (take j xs))) (sym parts) in
-      ap (take n) (sym (drop-drop a 5 s)) ∙ one (drop 5 s) ∙ ap (λ (xs : List ℕ). take n (drop a xs)) same ∙ sym (one (drop 5 t)) ∙ ap (take n) (drop-drop a 5 t)
-
-  pub same_list : (a n first last : ℕ) → a + n ≤ k → first ≡ 6 + a → last ≡ 5 + a + n → octet_list s first last ≡ octet_list t first last
-  same_list a n first last within is_first is_last =
-      let long : last + 1 - first ≡ n = omega arith in
-      let before : first - 1 ≡ 5 + a = omega arith in
-      ap₂ (λ (i j : ℕ). take i (drop j s)) long before ∙ same_part a n within ∙ sym (ap₂ (λ (i j : ℕ). take i (drop j t)) long before)
-
-module _ (s t : List ℕ) (order extra : ℕ) (same : take ((order + 1) * extra) (drop 5 s) ≡ take ((order + 1) * extra) (drop 5 t)) where
-  -- the end of a descriptor
-  ends : (j : ℕ) → j ≤ order → j * extra + extra ≤ (order + 1) * extra
-  ends j within =
-      let up : (j + 1) * extra ≤ (order + 1) * extra = mul-le-mul_right extra (omega arith) in
-      omega (arith, add-mul j 1 extra)
-
-  descriptor_same : (j : ℕ) → j ≤ order → octet_list s (6 + j * extra) (6 + (j + 1) * extra - 1) ≡ octet_list t (6 + j * extra) (6 + (j + 1) * extra - 1)
-  descriptor_same j within =
-      same_list s t ((order + 1) * extra) same (j * extra) extra (6 + j * extra) (6 + (j + 1) * extra - 1) (ends j within) (omega arith) (omega (arith, add-mul j 1 extra))
-
-  pub signed_same : (j : ℕ) → is_signed_at order extra s j ≡ is_signed_at order extra t j
-  signed_same j = elim (cases_lt j order) [
-    | inl below ↦ elim (cases_lt 0 extra) [
-      | inl some ↦
-          ap (λ (os : List ℕ). ltb j order && ltb 0 extra && ltb 127 (num_on 0 os))
-          (same_list s t ((order + 1) * extra) same (j * extra) 1 (6 + j * extra) (6 + j * extra) (omega (arith, ends j (omega arith))) (omega arith) (omega arith))
-      | inr none ↦
-          let no : ltb 0 extra ≡ false = le-ltb 0 extra none in
-          ap (λ (b : Bool). ltb j order && b && ltb 127 (octets s (6 + j * extra) (6 + j * extra))) no ∙ past (ltb j order) _ _
-          ∙ sym (ap (λ (b : Bool). ltb j order && b && ltb 127 (octets t (6 + j * extra) (6 + j * extra))) no)
-    ]
-    | inr beyond ↦
-        let no : ltb j order ≡ false = le-ltb j order beyond in
-        ap (λ (b : Bool). b && ltb 0 extra && ltb 127 (octets s (6 + j * extra) (6 + j * extra))) no
-        ∙ sym (ap (λ (b : Bool). b && ltb 0 extra && ltb 127 (octets t (6 + j * extra) (6 + j * extra))) no)
-  ] where
-    past : (a b c : Bool) → (a && false && b) ≡ (a && false && c)
-    past true b c = refl
-    past false b c = refl
-
-  pub telling_same : telling_by order extra s ≡ telling_by order extra t
-  telling_same =
-      let first : descriptor_at extra s 0 ≡ descriptor_at extra t 0 = ap (num_on 0) (descriptor_same 0 (omega arith)) in
-      let least = ap (λ (os : List ℕ). signed (bits os)) (descriptor_same order (omega arith)) in
-      let second : cond (eqb order 2) (pos (descriptor_at extra s 1)) (pos 0) ≡ cond (eqb order 2) (pos (descriptor_at extra t 1)) (pos 0) = elim (cases_eq order 2) [
-        | inl two ↦ ap (λ (n : ℕ). cond (eqb order 2) (pos n) (pos 0)) (ap (num_on 0) (descriptor_same 1 (omega arith)))
-        | inr other ↦
-            let no = ne_eqb order 2 other in
-            cond-false (eqb order 2) (pos (descriptor_at extra s 1)) (pos 0) no ∙ sym (cond-false (eqb order 2) (pos (descriptor_at extra t 1)) (pos 0) no)
-      ] in
-      let by : descriptors_by order extra s ≡ descriptors_by order extra t = λ i. record { order = order; first = pos (first i); second = second i; minimum = least i } in
-      ap (λ d. cond (eqb order 0) Plainly (After d NoNumber)) by
 
 -- ---- the branch of a field with groups
 
@@ -192,18 +124,11 @@ module _ (complex : Complex) (s5 : List ℕ) (spelled : Spelled complex s5) (acc
       at_start false false = refl
 
 module _ (complex : Complex) (s5 : List ℕ) (spelled : Spelled complex s5) (accepted : IsAccepted complex) (some : 1 ≤ complex.layout.groups) (start l : ℕ) (octets s7 : List ℕ) (c : Continues octets l s7)
-    (within : 5 + (complex.order + 1) * complex.extra + list_octets complex.layout ≤ l) (whole : (complex.order + 1) * complex.extra + list_octets complex.layout ≤ length octets)
-    (noted : List ℕ) (front : take ((complex.order + 1) * complex.extra) (drop 5 noted) ≡ take ((complex.order + 1) * complex.extra) octets) where
+    (within : 5 + (complex.order + 1) * complex.extra + list_octets complex.layout ≤ l) (whole : (complex.order + 1) * complex.extra + list_octets complex.layout ≤ length octets) where
   numbers : Numbers s5 complex.layout ((complex.order + 1) * complex.extra) complex.simple.values complex.order complex.extra complex.simple.template
   numbers = numbers_with complex s5 ((complex.order + 1) * complex.extra) spelled accepted refl
 
-  alike : take ((complex.order + 1) * complex.extra) (drop 5 noted) ≡ take ((complex.order + 1) * complex.extra) (drop 5 s7)
-  alike = front ∙ sym (front_of ((complex.order + 1) * complex.extra) octets l s7 (omega arith) c)
-
-  module _ (no_sign : ◌≡◌ {A = ℕ} (cond (is_signed_at complex.order complex.extra noted 0) 1 (cond (is_signed_at complex.order complex.extra noted 1) 2 0)) 0) where
-    signs_pass : ◌≡◌ {A = ℕ} (cond (is_signed_at complex.order complex.extra s7 0) 1 (cond (is_signed_at complex.order complex.extra s7 1) 2 0)) 0
-    signs_pass = sym (ap₂ (λ (a b : Bool). cond a 1 (cond b 2 0)) (signed_same noted s7 complex.order complex.extra alike 0) (signed_same noted s7 complex.order complex.extra alike 1)) ∙ no_sign
-
+  module _ (signs : (is_signed_at complex.order complex.extra s7 0 ≡ false) × (is_signed_at complex.order complex.extra s7 1 ≡ false)) where
     -- the lists are refused
     pub came_refused : (f : Fault)
         → lists_fault complex.layout start ((complex.order + 1) * complex.extra) l complex.simple.values (references complex.layout (drop ((complex.order + 1) * complex.extra) octets)) (widths complex.layout (drop ((complex.order + 1) * complex.extra) octets)) (lengths complex.layout (drop ((complex.order + 1) * complex.extra) octets)) ≡ Some f
@@ -211,8 +136,8 @@ module _ (complex : Complex) (s5 : List ℕ) (spelled : Spelled complex s5) (acc
     came_refused f is =
         let k = (complex.order + 1) * complex.extra in
         ap (located start) (fault_grouped complex s5 spelled accepted some s7)
-        ∙ refused_groups s5 s7 complex.layout k complex.simple.values complex.order complex.extra complex.simple.template numbers start l (sym c.long) (lists_pass complex.layout l k within) signs_pass
-        (UnpackRefused f) (rows_came complex.layout k complex.simple.values l octets s7 c whole start ∙ is)
+        ∙ refused_groups s5 s7 complex.layout k complex.simple.values complex.order complex.extra complex.simple.template numbers start l (sym c.long) (lists_pass complex.layout l k within) signs
+        f (rows_came complex.layout k complex.simple.values l octets s7 c whole start ∙ is)
 
     -- or only the row on the range is left
     pub came_whole :
@@ -221,31 +146,18 @@ module _ (complex : Complex) (s5 : List ℕ) (spelled : Spelled complex s5) (acc
     came_whole none =
         let k = (complex.order + 1) * complex.extra in
         fault_grouped complex s5 spelled accepted some s7
-        ∙ rest_is_range s5 s7 complex.layout k complex.simple.values complex.order complex.extra complex.simple.template numbers start l (sym c.long) (lists_pass complex.layout l k within) signs_pass
+        ∙ rest_is_range s5 s7 complex.layout k complex.simple.values complex.order complex.extra complex.simple.template numbers start l (sym c.long) (lists_pass complex.layout l k within) signs
         (rows_came complex.layout k complex.simple.values l octets s7 c whole start ∙ none)
 
   -- the entries that the codes tell
-  pub came_entries : told (telling_by complex.order complex.extra noted) (codes_from complex.layout (groups complex.layout (drop ((complex.order + 1) * complex.extra) octets)) (bits (drop ((complex.order + 1) * complex.extra + list_octets complex.layout) (drop 5 s7)))) ≡ entries_of s5 s7
+  pub came_entries : told (telling_by complex.order complex.extra s7) (codes_from complex.layout (groups complex.layout (drop ((complex.order + 1) * complex.extra) octets)) (bits (drop ((complex.order + 1) * complex.extra + list_octets complex.layout) (drop 5 s7)))) ≡ entries_of s5 s7
   came_entries =
       let k = (complex.order + 1) * complex.extra in
       let place : 5 + (k + list_octets complex.layout) ≡ 5 + k + list_octets complex.layout = omega arith in
       let at_numbers : drop (k + list_octets complex.layout) (drop 5 s7) ≡ drop (list_octets complex.layout) (drop (5 + k) s7) =
       drop-drop (k + list_octets complex.layout) 5 s7 ∙ ap (λ (n : ℕ). drop n s7) place ∙ sym (drop-drop (list_octets complex.layout) (5 + k) s7) in
-      ap₂ (λ (t : Telling) (xs : List ℕ). told t (codes_from complex.layout (groups complex.layout (drop k octets)) (bits xs))) (telling_same noted s7 complex.order complex.extra alike) at_numbers
+      ap (λ (xs : List ℕ). told (telling_by complex.order complex.extra s7) (codes_from complex.layout (groups complex.layout (drop k octets)) (bits xs))) at_numbers
       ∙ ap (λ (gs : List Group). told (telling_by complex.order complex.extra s7) (codes_from complex.layout gs (bits (drop (list_octets complex.layout) (drop (5 + k) s7))))) (sym (groups_came complex.layout k complex.simple.values l octets s7 c whole))
       ∙ ap (told (telling_by complex.order complex.extra s7)) (codes_are s5 s7 complex.layout k complex.simple.values complex.order complex.extra complex.simple.template numbers)
       ∙ entries_are s5 s7 complex.layout k complex.simple.values complex.order complex.extra complex.simple.template numbers
       ∙ sym (entries_grouped complex s5 spelled accepted some s7)
-
--- ---- the table of lists that were read
-
-module _ (layout : Layout) (values : ℕ) (lists : Lists) (table : Table) (rs ws ls : List ℕ) (are : ListsAre layout values lists rs ws ls)
-    (is_references : table.references ≡ lists.references.items) (is_widths : table.widths ≡ lists.widths.items) (is_lengths : table.lengths ≡ lists.lengths.items) where
-  pub table_whole : IsWhole table
-  table_whole = record {
-    references = omega (arith, ap length (ap (λ v. v.items) is_references), ap length (ap (λ v. v.items) is_lengths), are.reference_count, are.length_count, ap length are.references_are, are.lengths_are.long, table.references.ok.0, table.lengths.ok.0);
-    widths = omega (arith, ap length (ap (λ v. v.items) is_widths), ap length (ap (λ v. v.items) is_lengths), are.width_count, are.length_count, are.widths_are.long, are.lengths_are.long, table.widths.ok.0, table.lengths.ok.0);
-  }
-
-  pub table_narrow : IsNarrow table
-  table_narrow = subst (λ v. IsNarrow (record table { widths = v })) (sym is_widths) are.widths_are.narrow

@@ -12,12 +12,11 @@ use Rattle.grib_groups.specs.Taking.{number_of}
 use Rattle.grib_groups.proofs.Places.{place_nowhere, place_before}
 use Rattle.grib_complex.specs.declared.runs.Steadily.{Steadily}
 use Rattle.grib_complex.specs.declared.telling.Teller.{Teller}
-use Rattle.grib_complex.specs.declared.values.Plain.{Plain}
 use Rattle.grib_complex.specs.declared.values.Values.{Values}
-use Rattle.grib_complex.specs.Told.{Telling, Plainly, point_of, told, after}
-use Rattle.grib_complex.specs.Tells.{IsWithin, telling_of, Tells, PlainTook, SteadilyTook, ValuesTook}
-use Rattle.grib_complex.proofs.Told.{length-told}
-use Rattle.grib_complex.specs.Laws.{told-append, after-append, after-plainly, plain-none, plain-more}
+use Rattle.grib_complex.specs.Told.{Telling, Plainly, point_of, told, after, undoing}
+use Rattle.grib_complex.specs.Tells.{IsWithin, telling_of, Tells, SteadilyTook, ValuesTook}
+use Rattle.grib_complex.proofs.Told.{length-told, undoing-after, after-plainly}
+use Rattle.grib_complex.specs.Laws.{told-append, after-append}
 
 -- ---- the first place out of range
 
@@ -66,6 +65,7 @@ values_run kept before last codes telling is is_place same plain within after_th
     record {
       stays = λ some. same;
       plain = λ none. (plain none, same);
+      undoes = ap undoing after_them ∙ undoing-after telling codes ∙ sym (ap undoing is);
       tells = λ start seen room tells.
           tells_run start seen codes before.teller last.teller room tells is_place same
           (λ none. subst (λ (t : Telling). All IsWithin (told t codes)) (here start seen tells none) within)
@@ -77,21 +77,22 @@ values_run kept before last codes telling is is_place same plain within after_th
 
 -- ---- codes that are the scaled numbers themselves
 
-abbrev pub PlainWithin : {K : Type 0} → (K → List Point → K → Type 0) → Plain K → List Code → Plain K → Type 0
-PlainWithin kept before codes last = PlainTook kept before codes last × All IsWithin (told Plainly codes)
+abbrev pub PlainWithin : {K : Type 0} → (K → List Point → K → Type 0) → K → List Code → K → Type 0
+PlainWithin kept before codes last = kept before (told Plainly codes) last × All IsWithin (told Plainly codes)
 
 module _ {K : Type 0} (kept : K → List Point → K → Type 0) (none : (keeper : K) → kept keeper [] keeper)
     (more : (before between after : K) (points more_points : List Point) → kept before points between → kept between more_points after → kept before (points ++ more_points) after) where
-  pub plain_within-none : (taker : Plain K) → PlainWithin kept taker [] taker
-  plain_within-none taker = (plain-none kept none taker, All-nil IsWithin)
+  pub plain_within-none : (keeper : K) → PlainWithin kept keeper [] keeper
+  plain_within-none keeper = (none keeper, All-nil IsWithin)
 
-  pub plain_within-more : (before between last : Plain K) (codes more_codes : List Code) → PlainWithin kept before codes between → PlainWithin kept between more_codes last
+  pub plain_within-more : (before between last : K) (codes more_codes : List Code) → PlainWithin kept before codes between → PlainWithin kept between more_codes last
       → PlainWithin kept before (codes ++ more_codes) last
-  plain_within-more before between last codes more_codes first second = (
-    plain-more kept more before between last codes more_codes first.0 second.0,
-    All-same IsWithin _ _ (told-append Plainly codes more_codes ∙ ap (λ (t : Telling). told Plainly codes ++ told t more_codes) (after-plainly codes))
-        (All-append IsWithin (told Plainly codes) (told Plainly more_codes) first.1 second.1),
-  )
+  plain_within-more before between last codes more_codes first second =
+      let both : told Plainly (codes ++ more_codes) ≡ told Plainly codes ++ told Plainly more_codes =
+      told-append Plainly codes more_codes ∙ ap (λ (t : Telling). told Plainly codes ++ told t more_codes) (after-plainly codes) in (
+        subst (λ (ps : List Point). kept before ps last) (sym both) (more before between last _ _ first.0 second.0),
+        All-same IsWithin _ _ both (All-append IsWithin (told Plainly codes) (told Plainly more_codes) first.1 second.1),
+      )
 
   -- ---- codes of differences
 

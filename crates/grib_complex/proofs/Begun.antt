@@ -137,9 +137,8 @@ reading_more kept s5 keeper start l octets piece fed after feedable caught_up sa
       groups_are = λ s7 c. reads.groups_are s7 (continues_from octets piece l s7 c);
       table = λ s7 c. ap groups_in same_table ∙ reads.table s7 (continues_from octets piece l s7 c);
       telling_is = λ s7 c. reads.telling_is s7 (continues_from octets piece l s7 c);
-      undone_with = λ s7 c none.
-          undone kept s5 keeper l (octets ++ piece) reads.layout reads.groups reads.telling reads.first reads.before after so_far caught_up reads.fresh reads.keeper_is reads.few came none
-          ∙ ap undoing (reads.telling_is s7 (continues_from octets piece l s7 c));
+      undone_with = λ s7 c.
+          undone kept reads.layout reads.groups reads.telling reads.first (drop reads.before (octets ++ piece)) after so_far reads.fresh ∙ ap undoing (reads.telling_is s7 (continues_from octets piece l s7 c));
       points = λ s7 c.
           points_agree kept s5 keeper l (octets ++ piece) reads.layout reads.groups reads.telling reads.first reads.before after so_far caught_up reads.fresh reads.keeper_is reads.few came s7 c (entries s7 c)
           (reads.groups_are s7 (continues_from octets piece l s7 c)) reads.before_is;

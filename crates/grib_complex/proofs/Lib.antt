@@ -1,7 +1,6 @@
 pub mod Told
 pub mod Fields
 pub mod Decided
-pub mod Results
 pub mod Outcome
 pub mod Accepting
 pub mod Reach

@@ -7,7 +7,6 @@ use Rattle.grib_bits.specs.Bits.{bits}
 use Rattle.grib_bits.specs.Octets.{octets as octets_of}
 use Rattle.grib_bits.proofs.OctetBits.{bits-append}
 use Rattle.grib_base.specs.declared.code.Code.{Code}
-use Rattle.grib_base.specs.declared.code.Code.TheVariants.{Present, Primary, Secondary}
 use Rattle.grib_bitmap.specs.Mask.{present_count}
 use Rattle.grib_packing.specs.declared.column.Point.{Point}
 use Rattle.grib_packing.specs.declared.group.Group.{Group}
@@ -35,24 +34,17 @@ use Rattle.grib_packing.specs.Kept.{ArePoints, PointsKept}
 use Rattle.grib_complex.specs.Laws.{told-append}
 use Rattle.grib_complex.specs.Representation.{Spelled}
 use Rattle.grib_complex.specs.Tells.{PointsWent, Tells, ValuesTook, telling_of}
-use Rattle.grib_complex.specs.Told.{Telling, Plainly, After, after, telling_after, told, undoing}
+use Rattle.grib_complex.specs.Told.{Telling, Plainly, after, told, undoing}
 use Rattle.grib_complex.proofs.Arriving.{groups_came, has_groups, template_of}
 use Rattle.grib_complex.proofs.Outcome.{numbers_with}
 use Rattle.grib_complex.proofs.Told.{length-told}
 
--- ---- what codes are told with
-
-undoing-one : (telling : Telling) (code : Code) → undoing (telling_after telling code) ≡ undoing telling
-undoing-one Plainly (Present n) = refl
-undoing-one Plainly Primary = refl
-undoing-one Plainly Secondary = refl
-undoing-one (After d last) (Present n) = refl
-undoing-one (After d last) Primary = refl
-undoing-one (After d last) Secondary = refl
-
-undoing-after : (telling : Telling) (codes : List Code) → undoing (after telling codes) ≡ undoing telling
-undoing-after telling [] = refl
-undoing-after telling (code ∷ codes) = undoing-after (telling_after telling code) codes ∙ undoing-one telling code
+-- the first values and the minimum stay
+pub undone : {K : Type 0} (kept : K → List Point → K → Type 0) (layout : Layout) (groups : List Group) (telling : Telling) (first : Values K) (octets : List ℕ) (fed : Fed (Values K))
+    → WasFed (ValuesTook kept) layout groups first octets fed → Tells telling [] first.teller → undoing (telling_of fed.taker.teller.running) ≡ undoing telling
+undone kept layout groups telling first octets fed so_far fresh =
+    let passed = so_far.went.passed in
+    passed.undoes ∙ ap undoing (fresh.telling fresh.beyond)
 
 -- ---- the points of the numbers that came
 
@@ -63,9 +55,6 @@ module _ {K : Type 0} (kept : K → List Point → K → Type 0) (s5 : List ℕ)
 
   tells : Tells telling so_far.went.codes fed.taker.teller
   tells = so_far.went.passed.tells telling [] (omega (arith, room)) fresh
-
-  pub undone : fed.taker.teller.beyond ≡ 0 → undoing (telling_of fed.taker.teller.running) ≡ undoing telling
-  undone none = (let here = tells in ap undoing (here.telling none)) ∙ undoing-after telling so_far.went.codes
 
   points_told : PointsAgree kept keeper (told telling so_far.went.codes) fed.taker
   points_told =

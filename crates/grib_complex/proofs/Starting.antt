@@ -51,7 +51,7 @@ no_bits xs (suc count) =
     ∙ ap (map (λ n. Scaled (pos n))) (plain-add xs 0 1 count)
     ∙ ap (λ ps. Scaled (pos 0) ∷ ps) (no_bits xs count)
 
-plain_values : (w count : ℕ) → values (plain_groups w count) ≡ count
+pub plain_values : (w count : ℕ) → values (plain_groups w count) ≡ count
 plain_values w count = omega (arith, values-cons (record { reference = 0; width = w; count = count }) [])
 
 module _ {K : Type 0} (kept : K → List Point → K → Type 0) (s5 : List ℕ) (keeper : K) (start l w count : ℕ) (first : Values K) (fed : Fed (Values K)) (feedable : IsFeedable (2 ^ 49) fed)
@@ -89,8 +89,7 @@ module _ {K : Type 0} (kept : K → List Point → K → Type 0) (s5 : List ℕ)
     groups_are = λ s7 c. one_group s7;
     table = λ s7 c. none_listed ∙ no_table s5 one s7;
     telling_is = λ s7 c. told_plainly s5 one s7;
-    undone_with = λ s7 c none.
-        undone kept s5 keeper l [] no_marks (plain_groups w count) Plainly first 0 fed fresh_fed caught_up nothing keeper_is few_values (omega arith) none ∙ ap undoing (told_plainly s5 one s7);
+    undone_with = λ s7 c. undone kept no_marks (plain_groups w count) Plainly first [] fed fresh_fed nothing ∙ ap undoing (told_plainly s5 one s7);
     points = λ s7 c.
         points_agree kept s5 keeper l [] no_marks (plain_groups w count) Plainly first 0 fed fresh_fed caught_up nothing keeper_is few_values (omega arith) s7 c (plain_told s7) (one_group s7) (none_before s5 one);
   }

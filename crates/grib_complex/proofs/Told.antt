@@ -3,11 +3,12 @@ use Rattle.std.proofs.Common.{◌≡◌, suc, ◌+◌, ◌%◌, ◌<◌, ◌^◌
 use Rattle.std.proofs.lemmas.Bool.{cases_lt}
 use Rattle.std.proofs.lemmas.List.{length_push}
 use Rattle.grib_base.specs.declared.code.Code.{Code}
+use Rattle.grib_base.specs.declared.code.Code.TheVariants.{Present, Primary, Secondary}
 use Rattle.grib_base.specs.Rows.{first_place}
 use Rattle.grib_packing.specs.Entries.{is_out_of_range}
 use Rattle.grib_groups.proofs.Places.{place_there, place_nowhere, place_before}
 use Rattle.grib_complex.specs.declared.telling.Teller.{Teller}
-use Rattle.grib_complex.specs.Told.{Telling, point_of, telling_after, told, after}
+use Rattle.grib_complex.specs.Told.{Telling, Plainly, After, point_of, telling_after, told, after, undoing}
 use Rattle.grib_complex.specs.Tells.{telling_of, Tells}
 use Rattle.grib_complex.specs.Laws.{told-append, after-append}
 
@@ -48,3 +49,23 @@ module _ (start : Telling) (seen : List Code) (before last : Teller) (code : Cod
         beyond = noted ∙ long ∙ sym (place_there is_out_of_range points point (sym tells.beyond ∙ none) out) ∙ ap (first_place is_out_of_range) (sym more);
         telling = λ nowhere. absurd (omega arith);
       }
+
+-- what codes are undone with stays
+undoing-one : (telling : Telling) (code : Code) → undoing (telling_after telling code) ≡ undoing telling
+undoing-one Plainly (Present n) = refl
+undoing-one Plainly Primary = refl
+undoing-one Plainly Secondary = refl
+undoing-one (After d last) (Present n) = refl
+undoing-one (After d last) Primary = refl
+undoing-one (After d last) Secondary = refl
+
+pub undoing-after : (telling : Telling) (codes : List Code) → undoing (after telling codes) ≡ undoing telling
+undoing-after telling [] = refl
+undoing-after telling (code ∷ codes) = undoing-after (telling_after telling code) codes ∙ undoing-one telling code
+
+-- codes that are the scaled numbers themselves stay so
+pub after-plainly : (codes : List Code) → after Plainly codes ≡ Plainly
+after-plainly [] = refl
+after-plainly (Present n ∷ codes) = after-plainly codes
+after-plainly (Primary ∷ codes) = after-plainly codes
+after-plainly (Secondary ∷ codes) = after-plainly codes

@@ -7,10 +7,6 @@ use Rattle.grib_bits.specs.Octets.{octets, signed_octets}
 use Rattle.grib_base.specs.declared.fault.Fault.{Fault}
 use Rattle.grib_base.specs.declared.fault.Reason.TheVariants.{FirstValueSign}
 use Rattle.grib_base.specs.Rows.{refusal}
-use Rattle.grib_groups.specs.declared.table.Table.{Table}
-use Rattle.grib_groups.specs.Lists.{GroupsRead}
-use Rattle.grib_groups.specs.Table.{groups_in}
-use Rattle.grib_groups.specs.Taking.{values}
 use Rattle.grib_packing.specs.Differences.{Descriptors, NoNumber}
 use Rattle.grib_complex.specs.declared.noted.Told.{Told}
 use Rattle.grib_complex.specs.declared.representation.Complex.{Complex}
@@ -81,13 +77,3 @@ pub record IsAccepted (complex : Complex) : Type 0 where
   pub length_bits : complex.layout.length_bits ≤ 32
   pub extra : complex.extra ≤ 4
   pub order : ((complex.simple.template ≡ 2) × (complex.order ≡ 0)) ⊎ ((complex.simple.template ≡ 3) × ((complex.order ≡ 1) ⊎ (complex.order ≡ 2)))
-
--- A Section 7 whose groups were read, of a field with these numbers of Section 5: no first value has its top
--- bit set.
-pub record IsReadable (complex : Complex) (s7 : List ℕ) (table : Table) : Type 0 where
-  pub within : 5 + (complex.order + 1) * complex.extra ≤ length s7
-  pub first : is_signed_at complex.order complex.extra s7 0 ≡ false
-  pub second : is_signed_at complex.order complex.extra s7 1 ≡ false
-  pub read : GroupsRead complex.layout s7 ((complex.order + 1) * complex.extra) table
-  pub counted : values (groups_in table) ≡ complex.simple.values
-  pub few : complex.simple.values < 2 ^ 32

@@ -155,7 +155,7 @@ pub record ReadingAgrees {K : Type 0} (kept : K → List Point → K → Type 0)
   pub groups_are : (s7 : List ℕ) → Continues octets l s7 → groups ≡ number_groups s5 s7
   pub table : (s7 : List ℕ) → Continues octets l s7 → groups_in fed.table ≡ table_of s5 s7
   pub telling_is : (s7 : List ℕ) → Continues octets l s7 → telling ≡ first_telling s5 s7
-  pub undone_with : (s7 : List ℕ) → Continues octets l s7 → fed.taker.teller.beyond ≡ 0 → undoing (telling_of fed.taker.teller.running) ≡ undoing (first_telling s5 s7)
+  pub undone_with : (s7 : List ℕ) → Continues octets l s7 → undoing (telling_of fed.taker.teller.running) ≡ undoing (first_telling s5 s7)
   pub points : (s7 : List ℕ) → Continues octets l s7 → PointsAgree kept keeper (entries_so_far s5 s7 octets) fed.taker
 
 -- No row fails, whatever comes, and no points are kept.

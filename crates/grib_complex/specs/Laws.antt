@@ -3,12 +3,10 @@ use Rattle.std.proofs.Common.{◌≡◌, ◌<◌, List, [], ◌∷◌, ◌++◌,
 use Rattle.std.proofs.lemmas.Bool.{cases_lt}
 use Rattle.std.proofs.lemmas.List.{append-nil, length-append}
 use Rattle.grib_base.specs.declared.code.Code.{Code}
-use Rattle.grib_base.specs.declared.code.Code.TheVariants.{Present, Primary, Secondary}
 use Rattle.grib_packing.specs.declared.column.Point.{Point}
-use Rattle.grib_complex.specs.declared.values.Plain.{Plain}
 use Rattle.grib_complex.specs.declared.values.Values.{Values}
-use Rattle.grib_complex.specs.Told.{Telling, Plainly, point_of, telling_after, told, after}
-use Rattle.grib_complex.specs.Tells.{Tells, PlainTook, ValuesTook}
+use Rattle.grib_complex.specs.Told.{Telling, point_of, telling_after, told, after}
+use Rattle.grib_complex.specs.Tells.{Tells, ValuesTook}
 
 -- codes after codes
 pub told-append : (telling : Telling) (codes more : List Code) → told telling (codes ++ more) ≡ told telling codes ++ told (after telling codes) more
@@ -23,6 +21,7 @@ pub values-none : {K : Type 0} (kept : K → List Point → K → Type 0) → ((
 values-none kept none taker = record {
   stays = λ some. refl;
   plain = λ none. (none, refl);
+  undoes = refl;
   tells = λ start seen room tells. subst (λ (codes : List Code). Tells start codes taker.teller) (sym (append-nil seen)) tells;
   keeps = λ start seen room tells within. none taker.keeper;
   went = record { points = []; counted = refl; keeps = none taker.keeper };
@@ -41,6 +40,7 @@ values-more kept more before between last codes more_codes first second = record
       let one = first.plain none in
       let two = second.plain one.0 in
       (two.0, two.1 ∙ one.1);
+  undoes = second.undoes ∙ first.undoes;
   tells = λ start seen room tells.
       let one = first.tells start seen (omega (arith, length-append codes more_codes)) tells in
       let two = second.tells start (seen ++ codes) (omega (arith, length-append codes more_codes, length-append seen codes)) one in
@@ -64,22 +64,3 @@ values-more kept more before between last codes more_codes first second = record
     keeps = more before.keeper between.keeper last.keeper _ _ first.went.keeps second.went.keeps;
   };
 }
-
--- codes that are the scaled numbers themselves stay so
-pub after-plainly : (codes : List Code) → after Plainly codes ≡ Plainly
-after-plainly [] = refl
-after-plainly (Present n ∷ codes) = after-plainly codes
-after-plainly (Primary ∷ codes) = after-plainly codes
-after-plainly (Secondary ∷ codes) = after-plainly codes
-
-pub plain-none : {K : Type 0} (kept : K → List Point → K → Type 0) → ((keeper : K) → kept keeper [] keeper) → (taker : Plain K) → PlainTook kept taker [] taker
-plain-none kept none taker = none taker.keeper
-
-pub plain-more : {K : Type 0} (kept : K → List Point → K → Type 0)
-    → ((before between after : K) (points more_points : List Point) → kept before points between → kept between more_points after → kept before (points ++ more_points) after)
-    → (before between last : Plain K) (codes more_codes : List Code) → PlainTook kept before codes between → PlainTook kept between more_codes last
-    → PlainTook kept before (codes ++ more_codes) last
-plain-more kept more before between last codes more_codes first second =
-    let points : told Plainly codes ++ told Plainly more_codes ≡ told Plainly (codes ++ more_codes) =
-    ap (λ (t : Telling). told Plainly codes ++ told t more_codes) (sym (after-plainly codes)) ∙ sym (told-append Plainly codes more_codes) in
-    subst (λ (ps : List Point). kept before.keeper ps last.keeper) points (more before.keeper between.keeper last.keeper _ _ first second)

@@ -8,9 +8,8 @@ use Rattle.grib_spatial.specs.Running.{Run}
 use Rattle.grib_spatial.specs.Reach.{IsSteady}
 use Rattle.grib_complex.specs.declared.runs.Steadily.{Steadily}
 use Rattle.grib_complex.specs.declared.telling.Teller.{Teller}
-use Rattle.grib_complex.specs.declared.values.Plain.{Plain}
 use Rattle.grib_complex.specs.declared.values.Values.{Values}
-use Rattle.grib_complex.specs.Told.{Telling, Plainly, After, told, after}
+use Rattle.grib_complex.specs.Told.{Telling, Plainly, After, told, after, undoing}
 
 abbrev pub telling_of : Option Run → Telling
 telling_of None = Plainly
@@ -35,18 +34,15 @@ pub record PointsWent {K : Type 0} (kept : K → List Point → K → Type 0) (b
   pub keeps : kept before points after_them
 
 -- The points of these codes went to what keeps them, as long as none is out of range. It keeps as many points
--- where one is.
+-- where one is, and the first values and the minimum stay either way.
 pub record ValuesTook {K : Type 0} (kept : K → List Point → K → Type 0) (before : Values K) (codes : List Code) (after_them : Values K) : Type 0 where
   pub stays : 0 < before.teller.beyond → after_them.teller.beyond ≡ before.teller.beyond
   pub plain : before.teller.running ≡ None → (after_them.teller.running ≡ None) × (after_them.teller.beyond ≡ before.teller.beyond)
+  pub undoes : undoing (telling_of after_them.teller.running) ≡ undoing (telling_of before.teller.running)
   pub tells : (start : Telling) (seen : List Code) → length seen + length codes < 2 ^ 63 → Tells start seen before.teller → Tells start (seen ++ codes) after_them.teller
   pub keeps : (start : Telling) (seen : List Code) → length seen + length codes < 2 ^ 63 → Tells start seen before.teller → after_them.teller.beyond ≡ 0
       → kept before.keeper (told (after start seen) codes) after_them.keeper
   pub went : PointsWent kept before.keeper (length codes) after_them.keeper
-
--- The points of these codes, which are the scaled numbers themselves, went to what keeps them.
-abbrev pub PlainTook : {K : Type 0} → (K → List Point → K → Type 0) → Plain K → List Code → Plain K → Type 0
-PlainTook kept before codes after_them = kept before.keeper (told Plainly codes) after_them.keeper
 
 -- The number of this point, if any, is within plus and minus 2 ^ 60.
 abbrev pub IsWithin : Point → Type 0

@@ -12,6 +12,7 @@ ghost use Rattle.grib_complex.specs.Feeding.{HasRead, Agrees, IsFed, octets_left
 use crate::field::Representation;
 use crate::stages::{State, start_state};
 use crate::values::Values;
+use byteorder::{BigEndian, ByteOrder};
 use grib_base::{Fault, List, Reason, Section};
 use grib_bitmap::Mask;
 use grib_packing::{Column, Keeper, Points, Simple};
@@ -68,6 +69,29 @@ impl<K: Keeper + Drop> Feeding<K> {
             pushed: 0,
             state: Some(state),
         })
+    }
+
+    /// All octets of a Section 7 came, of a field of which Section 5 says this.
+    ///
+    /// # Errors
+    ///
+    /// There is no memory for the groups. What is to keep the points is dropped.
+    pub fn whole(
+        alloc: Global,
+        representation: &Representation,
+        keeper: K,
+        section7: &Section<'_>,
+    ) -> Result<Feeding<K>, AllocError>
+        requires read { (s5 : List ℕ) × Represents representation.now s5 }
+        ensures read { (s5 : List ℕ) → Represents representation.now s5
+            → IfOk result (HasRead K.kept s5 keeper section7.now.start (length_of section7.now.octets.now) (drop 5 section7.now.octets.now)) }
+        ensures fed { IfOk result (IsFed K.kept) }
+        ensures all { IfOk result (λ feeding. octets_left feeding ≡ 0) }
+    {
+        let length = length_of_section(section7);
+        let mut feeding = Feeding::start(alloc, representation, keeper, section7.start, length)?;
+        feeding.push(&section7.octets[5..]);
+        Ok(feeding)
     }
 
     /// How many octets are still to come.
@@ -147,9 +171,7 @@ impl Feeding<Points> {
         ensures agrees { IfOk result (Agrees section5.now.octets.now mask start length []) }
         ensures fed { IfOk result (IsFed PointsKept) }
     {
-        let Ok(representation) = Representation::read(section5, mask.len()) else {
-            unreachable!();
-        };
+        let representation = Representation::accepted(section5, mask.len());
         let points = Points::start(alloc, mask)?;
         let feeder = Feeding::start(alloc, &representation, points, start, length)?;
         Ok(feeder)
@@ -177,4 +199,11 @@ impl Feeding<Points> {
             points: List::of(points.finish()),
         })
     }
+}
+
+/// The length that a section states, which is its own.
+fn length_of_section(section: &Section<'_>) -> u32
+    ensures { result ≡ length_of section.now.octets.now }
+{
+    BigEndian::read_u32(section.octets)
 }

@@ -10,14 +10,12 @@ ghost use Rattle.grib_packing.specs.Representation.{Spelled};
 ghost use Rattle.grib_packing.specs.Unpacked.{IsUnpacked};
 ghost use Rattle.grib_complex.specs.Field.{Represents};
 
-use crate::packing::unpack_complex;
-use crate::plain_values::take_simple_values;
+use crate::feeding::Feeding;
 use crate::representation::{Complex, complex_of};
-use crate::unpacking::take_complex_values;
 use grib_base::{Fault, ReadFault, Section};
 use grib_bitmap::Mask;
-use grib_packing::{Column, Keeper, Nothing, Simple, read_simple};
-use grib_simple::{check_simple, unpack_simple};
+use grib_packing::{Column, Keeper, Nothing, Points, Simple, read_simple};
+use grib_simple::unpack_simple;
 use std::alloc::Global;
 
 /// What Section 5 says of a field, by its packing (WMO-No. 306, Volume I.2, FM 92 GRIB edition 2, code table
@@ -50,6 +48,17 @@ impl Representation {
         Ok(Representation::Complex(complex))
     }
 
+    /// What a Section 5 says that is accepted for a grid of this many points.
+    pub(crate) fn accepted(section5: &Section<'_>, points: u32) -> Representation
+        requires { packing_fault section5.now.octets.now points ≡ None }
+        ensures { Represents result section5.now.octets.now }
+    {
+        let Ok(representation) = Representation::read(section5, points) else {
+            unreachable!();
+        };
+        representation
+    }
+
     /// What all templates share.
     pub fn shared(&self) -> Simple
         ensures { (s5 : List ℕ) → Represents self.now s5 → Spelled result s5 }
@@ -77,12 +86,7 @@ impl Representation {
         ensures { (s5 : List ℕ) → Represents self.now s5
             → AreTried (located section7.now.start (data_fault s5 section7.now.octets.now)) result }
     {
-        match self {
-            Representation::Simple(simple) => check_simple(simple, section7)?,
-            Representation::Complex(complex) => {
-                take_complex_values(alloc, complex, section7, Nothing)?;
-            }
-        }
+        let _nothing = self.take_values(alloc, section7, Nothing)?;
         Ok(())
     }
 
@@ -105,12 +109,7 @@ impl Representation {
             × (length (entries_of s5 section7.now.octets.now) ≡ value_count s5))
             (IsReadFault (located section7.now.start (data_fault s5 section7.now.octets.now))) }
     {
-        match self {
-            Representation::Simple(simple) => take_simple_values(alloc, simple, section7, keeper),
-            Representation::Complex(complex) => {
-                take_complex_values(alloc, complex, section7, keeper)
-            }
-        }
+        Ok(Feeding::whole(alloc, self, keeper, section7)?.end()?)
     }
 
     /// The column of the field, from its mask, in which as many points are present as Section 7 has values,
@@ -129,9 +128,10 @@ impl Representation {
         ensures { (s5 : List ℕ) → Represents self.now s5
             → IsUnpacked s5 mask.now section7.now.start section7.now.octets.now result }
     {
-        match self {
-            Representation::Simple(simple) => unpack_simple(alloc, simple, mask, section7),
-            Representation::Complex(complex) => unpack_complex(alloc, complex, mask, section7),
+        if let Representation::Simple(simple) = self {
+            return unpack_simple(alloc, simple, mask, section7);
         }
+        let points = Points::start(alloc, mask.copy(alloc)?)?;
+        Ok(Feeding::whole(alloc, self, points, section7)?.finish()?)
     }
 }

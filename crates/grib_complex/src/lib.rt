@@ -4,7 +4,6 @@
 mod below;
 mod coding;
 mod constant;
-mod descriptors;
 mod difference_coding;
 mod differencing;
 mod feeding;

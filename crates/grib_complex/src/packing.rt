@@ -1,19 +1,14 @@
 //! Complex packing, with and without spatial differencing.
 
-ghost use Rattle.std.specs.Prelude.{◌≡◌, ◌⊎◌, ℕ, refl, cond, List as Octets};
-ghost use Rattle.grib_bitmap.specs.Mask.{present_count};
+ghost use Rattle.std.specs.Prelude.{◌≡◌, ◌⊎◌, refl, cond};
 ghost use Rattle.grib_packing.specs.Misfits.{ToComplex, ToSpatial};
-ghost use Rattle.grib_packing.specs.Unpacked.{IsUnpacked};
 ghost use Rattle.grib_packing.specs.Written.{order_known};
-ghost use Rattle.grib_complex.specs.Descriptors.{IsAccepted};
-ghost use Rattle.grib_complex.specs.Representation.{Spelled};
 
+use crate::field::Representation;
 use crate::packed::{pack_complex, pack_spatial};
-use crate::representation::{Complex, accepted_complex};
-use crate::unpacking::take_complex_values;
-use grib_base::{List, ReadFault, Section};
+use grib_base::{ReadFault, Section};
 use grib_bitmap::Mask;
-use grib_packing::{Column, PackFault, Packed, Packing, Points};
+use grib_packing::{Column, PackFault, Packed, Packing};
 use std::alloc::Global;
 
 /// Complex packing: the numbers of the present points stand in groups, each with a reference and a
@@ -33,8 +28,7 @@ impl Packing for ComplexPacking {
         mask: &Mask,
         section7: &Section<'_>,
     ) -> Result<Column, ReadFault> {
-        let complex = accepted_complex(section5, mask.len());
-        unpack_complex(alloc, &complex, mask, section7)
+        Representation::accepted(section5, mask.len()).unpack(alloc, mask, section7)
     }
 
     fn pack(&self, alloc: Global, column: &Column, kind: u8) -> Result<Packed, PackFault> {
@@ -84,8 +78,7 @@ impl Packing for SpatialPacking {
         mask: &Mask,
         section7: &Section<'_>,
     ) -> Result<Column, ReadFault> {
-        let complex = accepted_complex(section5, mask.len());
-        unpack_complex(alloc, &complex, mask, section7)
+        Representation::accepted(section5, mask.len()).unpack(alloc, mask, section7)
     }
 
     fn pack(&self, alloc: Global, column: &Column, kind: u8) -> Result<Packed, PackFault> {
@@ -95,31 +88,4 @@ impl Packing for SpatialPacking {
     ghost is_template = { λ _. refl };
 
     ghost is_target = { λ packing. order_known packing.second };
-}
-
-/// The column of a field of either template, from the numbers of its Section 5, its mask and its Section 7.
-///
-/// # Errors
-///
-/// Section 7 is refused by the first row of the profile that fails, or there is no memory.
-pub fn unpack_complex(
-    alloc: Global,
-    complex: &Complex,
-    mask: &Mask,
-    section7: &Section<'_>,
-) -> Result<Column, ReadFault>
-    requires accepted { IsAccepted complex.now }
-    requires values { present_count mask.now ≡ complex.now.simple.values }
-    ensures { (s5 : Octets ℕ) → Spelled complex.now s5
-        → IsUnpacked s5 mask.now section7.now.start section7.now.octets.now result }
-{
-    let mask = mask.copy(alloc)?;
-    let points = Points::start(alloc, mask)?;
-    let points = take_complex_values(alloc, complex, section7, points)?;
-    Ok(Column {
-        reference: complex.simple.reference,
-        e: complex.simple.e,
-        d: complex.simple.d,
-        points: List::of(points.finish()),
-    })
 }

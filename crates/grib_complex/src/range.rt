@@ -9,40 +9,15 @@ ghost use Rattle.grib_groups.specs.Taking.{values as values_of};
 ghost use Rattle.grib_groups.specs.Table.{groups_in, IsWhole, IsNarrow};
 ghost use Rattle.grib_packing.specs.Differences.{NoNumber};
 ghost use Rattle.grib_complex.specs.Told.{told as points_of, After};
-ghost use Rattle.grib_complex.specs.Descriptors.{descriptors_in, is_signed_at, telling_by};
+ghost use Rattle.grib_complex.specs.Descriptors.{descriptors_in};
 ghost use Rattle.grib_complex.specs.Range.{stretch as stretch_of, reach as reach_of};
 
-use crate::descriptors::{first_value, minimum, second_value};
 use crate::noted::Told;
 use grib_groups::{Group, Table};
 
-/// Whether the numbers of a field cannot leave plus and minus 2^60, whatever the codes of its groups are:
-/// a code moves the next difference by no more than its group says, and a difference moves the numbers that
-/// follow. No first value of this Section 7 has its top bit set.
-pub fn stays_within(section: &[u8], order: u8, extra: u8, table: &Table, values: u32) -> bool
-    requires order { (order ≡ 1) ⊎ (order ≡ 2) }
-    requires extra { extra ≤ 4 }
-    requires within { 5 + (order + 1) * extra ≤ length section.now }
-    requires first { is_signed_at order extra section.now 0 ≡ false }
-    requires second { is_signed_at order extra section.now 1 ≡ false }
-    requires short { length section.now < 2 ^ 32 }
-    requires whole { IsWhole table.now }
-    requires narrow { IsNarrow table.now }
-    requires values { values_of (groups_in table.now) ≤ values }
-    requires some { 1 ≤ values }
-    ensures { result ≡ true → (layout : layout_of_groups) (numbers : List Bool)
-        → first_place is_out_of_range (points_of (telling_by order extra section.now) (codes_from layout (groups_in table.now) numbers)) ≡ 0 }
-{
-    let told = Told {
-        order,
-        first: first_value(section, order, extra, 0),
-        second: second_value(section, order, extra),
-        minimum: minimum(section, order, extra),
-    };
-    stays_by(&told, table, values)
-}
-
-/// Whether the numbers cannot leave plus and minus 2^60 that are undone with this.
+/// Whether the numbers cannot leave plus and minus 2^60 that are undone with this, whatever the codes of the
+/// groups are: a code moves the next difference by no more than its group says, and a difference moves the
+/// numbers that follow.
 pub fn stays_by(told: &Told, table: &Table, values: u32) -> bool
     requires order { (told.now.order ≡ 1) ⊎ (told.now.order ≡ 2) }
     requires first { nat_abs told.now.first ≤ 2 ^ 31 }

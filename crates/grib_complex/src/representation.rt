@@ -4,10 +4,9 @@ ghost use Rattle.std.specs.Prelude.{◌≡◌, ◌⊎◌, ◌+◌, ◌*◌, ◌^
 ghost use Rattle.grib_bits.specs.Octets.{StatesItself};
 ghost use Rattle.grib_base.specs.Rows.{first_fault, first_fault_at};
 ghost use Rattle.grib_packing.specs.Complex.{complex_rows, layout_of};
-ghost use Rattle.grib_packing.specs.Entries.{packing_fault, packing_rows};
+ghost use Rattle.grib_packing.specs.Entries.{packing_rows};
 ghost use Rattle.grib_packing.specs.Packing.{packing_template};
 ghost use Rattle.grib_packing.specs.Representation as shared;
-ghost use Rattle.grib_complex.specs.Descriptors.{IsAccepted};
 ghost use Rattle.grib_complex.specs.Representation.{Spelled};
 
 use byteorder::{BigEndian, ByteOrder};
@@ -115,20 +114,6 @@ pub fn complex_of(simple: Simple, section: &Section<'_>) -> Result<Complex, Faul
         return Err(Fault::at(start + 48, Reason::ExtraOctets, u64::from(complex.extra)));
     }
     Ok(complex)
-}
-
-/// What a Section 5 says of complex packing that is accepted.
-pub fn accepted_complex(section: &Section<'_>, points: u32) -> Complex
-    requires accepted { packing_fault section.now.octets.now points ≡ None }
-    requires template { (packing_template section.now.octets.now ≡ 2) ⊎ (packing_template section.now.octets.now ≡ 3) }
-    ensures accepted { IsAccepted result }
-    ensures few { result.simple.values < 2 ^ 32 }
-    ensures spelled { Spelled result section.now.octets.now }
-{
-    let Ok(complex) = read_complex(section, points) else {
-        unreachable!();
-    };
-    complex
 }
 
 /// The numbers that stand in Section 5.

@@ -3,9 +3,8 @@
 ghost use Rattle.std.specs.Prelude.{◌≡◌, ◌+◌, ◌≤◌, ◌<◌, ◌^◌, ◌∷◌, [], length, All, Some};
 ghost use Rattle.grib_groups.specs.Taking.{number_of};
 ghost use Rattle.grib_complex.specs.Told.{Plainly, point_of, telling_after, told};
-ghost use Rattle.grib_complex.specs.Tells.{IsWithin, PlainTook, SteadilyTook, telling_of};
+ghost use Rattle.grib_complex.specs.Tells.{IsWithin, SteadilyTook, telling_of};
 
-use crate::values::Plain;
 use grib_base::Code;
 use grib_groups::CodeRun;
 use grib_packing::{Keeper, Point};
@@ -18,25 +17,20 @@ pub(crate) struct Steadily<K> {
     pub keeper: K,
 }
 
-/// Takes the codes of a run, which are the scaled numbers themselves.
+/// Hands on the points of the codes of a run, which are the scaled numbers themselves.
 #[inline(always)]
-pub(crate) fn keep_plainly<R: CodeRun + Drop, K: Keeper>(
-    mut run: R,
-    mut taker: Plain<K>,
-) -> Plain<K>
+pub(crate) fn keep_plainly<R: CodeRun + Drop, K: Keeper>(mut run: R, mut keeper: K) -> K
     requires stands { R.stands run }
     requires limit { R.limit run ≤ 2 ^ 49 }
-    requires room { length (R.codes run) ≤ K.room taker.keeper }
-    ensures took { PlainTook K.kept taker (R.codes run) result }
+    requires room { length (R.codes run) ≤ K.room keeper }
+    ensures kept { K.kept keeper (told Plainly (R.codes run)) result }
     ensures within { All IsWithin (told Plainly (R.codes run)) }
 {
     for _index in 0..run.count() {
         let point = plain_point(run.next());
-        taker = Plain {
-            keeper: taker.keeper.keep_within(point),
-        };
+        keeper = keeper.keep_within(point);
     }
-    taker
+    keeper
 }
 
 /// Takes the codes of a run, which are those of differences.

@@ -25,7 +25,6 @@ use crate::field::Representation;
 use crate::noted::{Told, signed_fault};
 use crate::range::stays_by;
 use crate::representation::Complex;
-use crate::telling::Teller;
 use crate::values::Values;
 use grib_base::{Fault, Reason};
 use grib_groups::{
@@ -124,10 +123,7 @@ fn start_list<K: Keeper>(alloc: Global, bits: u8, count: u32, keeper: K) -> Stat
     if !keeper.keeps() {
         return State::Passes(keeper);
     }
-    let values = Values {
-        teller: Teller::start(None),
-        keeper,
-    };
+    let values = Values::start(None, keeper);
     State::Reads(Fed::list(alloc, bits, count, values).push(&[]))
 }
 
@@ -286,10 +282,7 @@ impl<K: Keeper + Drop> Between<K> {
         if !keeper.keeps() && is_steady(&told, &table, complex.simple.values) {
             return State::Passes(keeper);
         }
-        let values = Values {
-            teller: Teller::start(told.running()),
-            keeper,
-        };
+        let values = Values::start(told.running(), keeper);
         State::Reads(Fed::groups(complex.layout, table, values).push(numbers))
     }
 }

@@ -3,7 +3,7 @@
 ghost use Rattle.std.specs.Prelude.{◌≡◌, ℕ, ◌+◌, ◌%◌, ◌<◌, ◌≤◌, ◌^◌, true, List, [], ◌∷◌, ◌++◌, length, None};
 ghost use Rattle.grib_base.specs.declared.code.Code.{Code as code_of_value};
 ghost use Rattle.grib_groups.specs.Taking.{number_of};
-ghost use Rattle.grib_complex.specs.Told.{Telling, point_of, after};
+ghost use Rattle.grib_complex.specs.Told.{Telling, point_of, after, undoing};
 ghost use Rattle.grib_complex.specs.Tells.{StayWithin, Tells, telling_of};
 
 use grib_base::Code;
@@ -82,6 +82,7 @@ impl Teller {
         requires { number_of code < 2 ^ 49 }
         ensures stays { 0 < self.old.beyond → self.new.beyond ≡ self.old.beyond }
         ensures plain { self.old.running ≡ None → (self.new.running ≡ None) × (self.new.beyond ≡ self.old.beyond) }
+        ensures undoes { undoing (telling_of self.new.running) ≡ undoing (telling_of self.old.running) }
         ensures tells { (start : Telling) (seen : List code_of_value) → length seen + 1 < 2 ^ 63 → Tells start seen self.old → Tells start (seen ++ code ∷ []) self.new }
         ensures point { (start : Telling) (seen : List code_of_value) → length seen + 1 < 2 ^ 63 → Tells start seen self.old → self.new.beyond ≡ 0 → result ≡ point_of (after start seen) code }
     {

@@ -1,20 +1,35 @@
 //! The values of a field, as their codes come.
 
-ghost use Rattle.std.specs.Prelude.{◌≤◌, ◌^◌};
-ghost use Rattle.grib_complex.specs.Tells.{StayWithin, PlainTook, ValuesTook};
-ghost use Rattle.grib_complex.specs.Laws.{plain-none, plain-more, values-none, values-more};
+ghost use Rattle.std.specs.Prelude.{◌≡◌, ◌≤◌, ◌^◌, []};
+ghost use Rattle.grib_complex.specs.Tells.{StayWithin, Tells, ValuesTook, telling_of};
+ghost use Rattle.grib_complex.specs.Laws.{values-none, values-more};
 
-use crate::runs::{Steadily, keep_plainly, keep_steadily, plain_point};
+use crate::runs::{Steadily, keep_plainly, keep_steadily};
 use crate::telling::Teller;
 use grib_base::Code;
 use grib_groups::{CodeRun, RunTaker, Taker};
-use grib_packing::{Keeper, Point};
+use grib_packing::Keeper;
+use grib_spatial::Running;
 
 /// Tells the point of each code, and hands it on.
 #[derive(Debug, Drop)]
 pub(crate) struct Values<K> {
     pub teller: Teller,
     pub keeper: K,
+}
+
+impl<K> Values<K> {
+    /// No code came yet.
+    pub fn start(running: Option<Running>, keeper: K) -> Values<K>
+        ensures running { result.teller.running ≡ running }
+        ensures nothing { Tells (telling_of running) [] result.teller }
+        ensures keeper { result.keeper ≡ keeper }
+    {
+        Values {
+            teller: Teller::start(running),
+            keeper,
+        }
+    }
 }
 
 impl<K: Keeper> Taker for Values<K> {
@@ -55,7 +70,7 @@ impl<K: Keeper> RunTaker for Values<K> {
         let count = run.count();
         match teller.take_running() {
             None => {
-                let Plain { keeper } = keep_plainly(run, Plain { keeper });
+                let keeper = keep_plainly(run, keeper);
                 Values {
                     teller: teller.passed(count, None),
                     keeper,
@@ -70,46 +85,5 @@ impl<K: Keeper> RunTaker for Values<K> {
                 }
             }
         }
-    }
-}
-
-/// Hands the point of each code on, where a code is the scaled number itself.
-#[derive(Debug, Drop)]
-pub(crate) struct Plain<K> {
-    pub keeper: K,
-}
-
-impl<K: Keeper> Taker for Plain<K> {
-    ghost limit = { 2 ^ 49 };
-
-    ghost took = { PlainTook K.kept };
-
-    #[inline(always)]
-    fn take(self, code: Code) -> Plain<K> {
-        Plain {
-            keeper: self.keeper.keep(plain_point(code)),
-        }
-    }
-
-    ghost none = { plain-none K.kept K.none };
-
-    ghost more = { plain-more K.kept K.more };
-
-    ghost fewer = { λ _ _ _ _ _. tt };
-
-    ghost room_after = { λ _ _ _ _ _ _. tt };
-}
-
-impl<K: Keeper> RunTaker for Plain<K> {
-    ghost ready = { λ taker count _. count ≤ K.room taker.keeper };
-
-    #[inline(always)]
-    fn is_ready(&self, count: u32, _limit: u64) -> bool {
-        count <= self.keeper.room()
-    }
-
-    #[inline(always)]
-    fn take_run<R: CodeRun + Drop>(self, run: R) -> Plain<K> {
-        keep_plainly(run, self)
     }
 }

@@ -1,5 +1,5 @@
 -- Lemmas on the refusals of lists of groups.
-use Rattle.std.proofs.Common.{◌≡◌, ℕ, ◌+◌, ◌*◌, ◌<◌, ◌≤◌, Bool, true, false, cond, not, ltb, eqb, Option, Some, None, List, sum, refl, sym, ap, ap₂, ◌∙◌, arith, inl, inr}
+use Rattle.std.proofs.Common.{◌≡◌, ℕ, ◌+◌, ◌*◌, ◌<◌, ◌≤◌, Bool, true, false, cond, not, ltb, eqb, Option, Some, None, List, length, sum, refl, sym, ap, ap₂, ◌∙◌, arith, subst, inl, inr}
 use Rattle.std.specs.Option.{option_map}
 use Rattle.std.proofs.lemmas.Bool.{lt-ltb, le-ltb, eq-eqb, ne_eqb, ltb-false, eqb-true, not-false, cases_lt}
 use Rattle.grib_base.specs.declared.fault.Fault.{Fault}
@@ -9,8 +9,10 @@ use Rattle.grib_packing.specs.declared.layout.Layout.{Layout}
 use Rattle.grib_packing.specs.Groups.{reference_octets, list_octets, packed_bits, groups_from, first_past}
 use Rattle.grib_groups.specs.declared.lists.Lists.{Lists}
 use Rattle.grib_groups.specs.declared.table.Table.{Table}
-use Rattle.grib_groups.specs.Table.{groups_in}
+use Rattle.grib_groups.specs.Table.{groups_in, IsNarrow, IsWhole}
 use Rattle.grib_groups.specs.Lists.{IsNoted, ListsAre, lists_fault}
+use Rattle.grib_groups.specs.Taking.{values as values_of}
+use Rattle.grib_groups.proofs.Listed.{values-groups_from}
 
 -- the refusal of three rows
 abbrev fault_by : ℕ → Bool → Bool → Bool → Fault → Fault → Fault → Option Fault
@@ -97,3 +99,29 @@ groups_are layout skip l values lists table references widths lengths are fit is
     let not_wide = no_place lists.widths.too_wide (λ place is. noted_some lists.widths.too_wide place _ is are.widths_are.place fit.narrow) in
     ap₂ (λ (rs ws : List ℕ). groups_from rs ws table.lengths.items) (ap (λ v. v.items) is_references ∙ are.references_are) (ap (λ v. v.items) is_widths ∙ are.widths_are.items not_wide)
     ∙ ap (groups_from references widths) (ap (λ v. v.items) is_lengths ∙ are.lengths_are.items not_past)
+
+-- ---- the table of lists that were read
+
+-- what is known of it where no row fails
+pub record TableRead (layout : Layout) (skip l values : ℕ) (references widths lengths : List ℕ) (table : Table) : Type 0 where
+  pub whole : IsWhole table
+  pub narrow : IsNarrow table
+  pub are : groups_in table ≡ groups_from references widths lengths
+  pub counted : values_of (groups_from references widths lengths) ≡ values
+  pub enough : 8 * (5 + skip + list_octets layout) + packed_bits (groups_from references widths lengths) ≤ 8 * l
+
+pub table_read : (layout : Layout) (start skip l values : ℕ) (lists : Lists) (table : Table) (references widths lengths : List ℕ) → ListsAre layout values lists references widths lengths
+    → lists_fault layout start skip l values references widths lengths ≡ None → table.references ≡ lists.references.items → table.widths ≡ lists.widths.items → table.lengths ≡ lists.lengths.items
+    → TableRead layout skip l values references widths lengths table
+table_read layout start skip l values lists table references widths lengths are none is_references is_widths is_lengths =
+    let fit = fit_from layout start skip l values references widths lengths none in
+    record {
+      whole = record {
+        references = omega (arith, ap length (ap (λ v. v.items) is_references), ap length (ap (λ v. v.items) is_lengths), are.reference_count, are.length_count, ap length are.references_are, are.lengths_are.long, table.references.ok.0, table.lengths.ok.0);
+        widths = omega (arith, ap length (ap (λ v. v.items) is_widths), ap length (ap (λ v. v.items) is_lengths), are.width_count, are.length_count, are.widths_are.long, are.lengths_are.long, table.widths.ok.0, table.lengths.ok.0);
+      };
+      narrow = subst (λ v. IsNarrow (record table { widths = v })) (sym is_widths) are.widths_are.narrow;
+      are = groups_are layout skip l values lists table references widths lengths are fit is_references is_widths is_lengths;
+      counted = values-groups_from references widths lengths (are.reference_count ∙ sym are.length_count) (are.width_count ∙ sym are.length_count) ∙ fit.right;
+      enough = fit.enough;
+    }

@@ -13,7 +13,6 @@ use Rattle.grib_groups.specs.declared.lists.Widths.{Widths}
 use Rattle.grib_groups.specs.declared.lists.Lengths.{Lengths}
 use Rattle.grib_groups.specs.declared.lists.Lists.{Lists}
 use Rattle.grib_groups.specs.declared.table.Table.{Table}
-use Rattle.grib_groups.specs.Table.{groups_in, IsWhole, IsNarrow}
 use Rattle.grib_groups.specs.Taking.{number_of}
 
 -- There are groups, and no number in their lists has more than 32 bits.
@@ -157,12 +156,3 @@ abbrev pub CodesTook : Codes → List Code → Codes → Type 0
 CodesTook before codes after =
     length before.items.items + length codes ≤ vec_capacity before.items
     → Grown before.items.items (vec_capacity before.items) (map (λ code. code) codes) after.items.items (vec_capacity after.items)
-
--- The table of the groups of a Section 7 that has all bits of their packed numbers and `skip` octets of
--- extra descriptors.
-pub record GroupsRead (layout : Layout) (s7 : List ℕ) (skip : ℕ) (table : Table) : Type 0 where
-  pub whole : IsWhole table
-  pub narrow : IsNarrow table
-  pub are : groups_in table ≡ groups layout (drop (5 + skip) s7)
-  pub enough : 8 * (5 + skip + list_octets layout) + packed_bits (groups layout (drop (5 + skip) s7)) ≤ 8 * length s7
-  pub short : length s7 < 2 ^ 32

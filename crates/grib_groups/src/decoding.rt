@@ -1,16 +1,14 @@
 //! The codes of a whole Section 7.
 
-ghost use Rattle.std.specs.Prelude.{◌≡◌, ℕ, ◌+◌, ◌*◌, ◌^◌, ◌≤◌, ◌<◌, length, drop, None, MatchResult, vec_len};
+ghost use Rattle.std.specs.Prelude.{◌≡◌, ◌+◌, ◌^◌, length, drop, None, MatchResult};
 ghost use Rattle.grib_base.specs.Rows.{first_fault_at};
 ghost use Rattle.grib_packing.specs.Groups.{grouped, group_rows};
-ghost use Rattle.grib_groups.specs.Taking.{values};
-ghost use Rattle.grib_groups.specs.Table.{groups_in};
-ghost use Rattle.grib_groups.specs.Lists.{CodesRoom, CodesTook, GroupsRead, HasLists};
+ghost use Rattle.grib_groups.specs.Lists.{CodesRoom, CodesTook, HasLists};
 ghost use Rattle.grib_base.specs.Faults.{IsReadFault};
 ghost use Rattle.grib_groups.specs.Laws.{codes-none, codes-more, codes-fewer, codes-room};
 
 use crate::lists::{Lists, octets_of_lists};
-use crate::{Fed, Layout, RunTaker, Table, Taker};
+use crate::{Fed, Layout, RunTaker, Taker};
 use byteorder::{BigEndian, ByteOrder};
 use grib_base::{Code, ReadFault, Section, push_within};
 use std::alloc::Global;
@@ -71,89 +69,16 @@ pub fn decode_groups(
         × (codes.items ≡ grouped layout.now (drop (5 + skip) section7.now.octets.now)))
         (IsReadFault expected) }
 {
-    let items = Vec::with_capacity(alloc, count as usize)?;
-    let codes = take_groups(alloc, layout, section7, skip, count, Codes { items })?;
-    Ok(codes.items)
-}
-
-/// Hands the codes of all values of a Section 7 with groups on, in their order.
-///
-/// # Errors
-///
-/// As [`decode_groups`]; what has taken the codes is dropped.
-pub fn take_groups<T: RunTaker + Drop>(
-    alloc: Global,
-    layout: &Layout,
-    section7: &Section<'_>,
-    skip: u32,
-    count: u32,
-    taker: T,
-) -> Result<T, ReadFault>
-    requires lists { HasLists layout.now skip (length section7.now.octets.now) }
-    requires limit { 2 ^ 33 ≤ T.Taker.limit }
-    requires room { T.Taker.room taker count }
-    ensures { let expected = first_fault_at section7.now.start (group_rows layout.now section7.now.octets.now skip count) in MatchResult result
-        (λ after. (expected ≡ None)
-        × T.Taker.took taker (grouped layout.now (drop (5 + skip) section7.now.octets.now)) after
-        × (length (grouped layout.now (drop (5 + skip) section7.now.octets.now)) ≡ count))
-        (IsReadFault expected) }
-{
-    let table = read_groups(alloc, layout, section7, skip, count)?;
-    Ok(take_codes(layout, section7, skip, table, taker))
-}
-
-/// Hands the codes of all values of a Section 7 on, of which the groups were read.
-pub fn take_codes<T: RunTaker>(
-    layout: &Layout,
-    section7: &Section<'_>,
-    skip: u32,
-    table: Table,
-    taker: T,
-) -> T
-    requires references { layout.now.reference_bits ≤ 32 }
-    requires skip { skip ≤ 12 }
-    requires read { GroupsRead layout.now section7.now.octets.now skip table }
-    requires limit { 2 ^ 33 ≤ T.Taker.limit }
-    requires room { T.Taker.room taker (values (groups_in table)) }
-    ensures took { T.Taker.took taker (grouped layout.now (drop (5 + skip) section7.now.octets.now)) result }
-    ensures count { length (grouped layout.now (drop (5 + skip) section7.now.octets.now)) ≡ values (groups_in table) }
-{
-    let before = u64::from(5 + skip) + octets_of_lists(layout);
-    let numbers = &section7.octets[before as usize..];
-    Fed::groups(*layout, table, taker).push(numbers).finish()
-}
-
-/// The groups of a Section 7, which has all bits of their packed numbers.
-///
-/// # Errors
-///
-/// As [`decode_groups`].
-pub fn read_groups(
-    alloc: Global,
-    layout: &Layout,
-    section7: &Section<'_>,
-    skip: u32,
-    count: u32,
-) -> Result<Table, ReadFault>
-    requires lists { HasLists layout.now skip (length section7.now.octets.now) }
-    ensures { let expected = first_fault_at section7.now.start (group_rows layout.now section7.now.octets.now skip count) in MatchResult result
-        (λ table. (expected ≡ None)
-        × GroupsRead layout.now section7.now.octets.now skip table
-        × (values (groups_in table) ≡ count))
-        (IsReadFault expected) }
-{
-    let length = length_of(section7);
+    let length = BigEndian::read_u32(section7.octets);
     let octets = &section7.octets[5 + skip as usize..];
     let lists = Lists::read(alloc, layout, octets, count)?;
     if let Some(fault) = lists.fault(layout, skip, length, section7.start) {
         return Err(ReadFault::Refused(fault));
     }
-    Ok(lists.into_table())
-}
-
-/// The length that a section states, which is its own.
-fn length_of(section: &Section<'_>) -> u32
-    ensures { result ≡ length section.now.octets.now }
-{
-    BigEndian::read_u32(section.octets)
+    let codes = Codes {
+        items: Vec::with_capacity(alloc, count as usize)?,
+    };
+    let numbers = &octets[octets_of_lists(layout) as usize..];
+    let fed = Fed::groups(*layout, lists.into_table(), codes).push(numbers);
+    Ok(fed.finish().items)
 }

@@ -16,7 +16,7 @@ mod table;
 mod taker;
 
 pub use code_run::CodeRun;
-pub use decoding::{decode_groups, read_groups, take_codes, take_groups};
+pub use decoding::decode_groups;
 pub use encoding::{encode_groups, encode_measured_groups, encode_same};
 pub use feeding::{Fed, part_of, rest_of};
 pub use grib_packing::{Group, Layout};

@@ -8,12 +8,13 @@ ghost use Rattle.grib_groups.specs.Taking.{code_by};
 
 use crate::code_run::{SameRun, WordRun};
 use crate::coding::Coding;
-use crate::{Group, Layout, RunTaker, Taker, take_each};
+use crate::taker::take_all;
+use crate::{Group, Layout, RunTaker, Taker};
 use grib_bits::get_bits;
 
 /// Takes `count` numbers of a group, which stand after the first `at` bits of `octets`.
 #[inline(always)]
-pub(crate) fn take_numbers<T: Taker>(
+pub(crate) fn take_numbers<T: RunTaker>(
     layout: &Layout,
     group: Group,
     octets: &[u8],
@@ -23,11 +24,11 @@ pub(crate) fn take_numbers<T: Taker>(
 ) -> T
     requires width { group.width ≤ 48 }
     requires bits { layout.now.reference_bits ≤ 48 }
-    requires limit { group.reference + 2 ^ group.width ≤ T.limit }
-    requires room { T.room taker count }
+    requires limit { group.reference + 2 ^ group.width ≤ T.Taker.limit }
+    requires room { T.Taker.room taker count }
     requires short { length octets.now < 2 ^ 32 }
     requires within { at + count * group.width ≤ 8 * length octets.now }
-    ensures { T.took taker (map (code_of layout.now group) (plain (drop at (bits_in octets.now)) group.width count)) result }
+    ensures { T.Taker.took taker (map (code_of layout.now group) (plain (drop at (bits_in octets.now)) group.width count)) result }
 {
     let width = u32::from(group.width);
     let coding = Coding::of(layout, group);
@@ -108,14 +109,14 @@ fn words_at_once<T: RunTaker>(
 
 /// Takes `count` numbers of no bits.
 #[inline(always)]
-fn take_same<T: Taker>(coding: Coding, count: u32, taker: T) -> T
-    requires limit { coding.reference + 1 ≤ T.limit }
-    requires room { T.room taker count }
+fn take_same<T: RunTaker>(coding: Coding, count: u32, taker: T) -> T
+    requires limit { coding.reference + 1 ≤ T.Taker.limit }
+    requires room { T.Taker.room taker count }
     requires reference { coding.reference < 2 ^ 32 }
-    ensures { (xs : _) → T.took taker (map (code_by coding) (plain xs 0 count)) result }
+    ensures { (xs : _) → T.Taker.took taker (map (code_by coding) (plain xs 0 count)) result }
 {
     let run = SameRun::new(coding.code(0), coding.limit(0), count);
-    take_each(run, taker)
+    take_all(run, taker)
 }
 
 /// How many of `count` numbers begin where eight octets are left.
@@ -140,7 +141,7 @@ fn count_in_words(length: u64, at: u64, width: u32, count: u32) -> u32
 
 /// Takes `count` numbers from words of eight octets.
 #[inline(always)]
-fn take_from_words<T: Taker>(
+fn take_from_words<T: RunTaker>(
     coding: Coding,
     octets: &[u8],
     at: u64,
@@ -150,15 +151,15 @@ fn take_from_words<T: Taker>(
 ) -> T
     requires some { 1 ≤ width }
     requires width { width ≤ 48 }
-    requires limit { coding.reference + 2 ^ width ≤ T.limit }
-    requires room { T.room taker count }
+    requires limit { coding.reference + 2 ^ width ≤ T.Taker.limit }
+    requires room { T.Taker.room taker count }
     requires reference { coding.reference < 2 ^ 32 }
     requires short { length octets.now < 2 ^ 32 }
     requires within { 0 < count → at + count * width + 64 ≤ 8 * length octets.now + width }
-    ensures { T.took taker (map (code_by coding) (plain (drop at (bits_in octets.now)) width count)) result }
+    ensures { T.Taker.took taker (map (code_by coding) (plain (drop at (bits_in octets.now)) width count)) result }
 {
     let run = WordRun::new(coding, octets, at, width, count);
-    take_each(run, taker)
+    take_all(run, taker)
 }
 
 /// Takes the last `count` numbers of some octets, a few.

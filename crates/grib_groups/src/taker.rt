@@ -59,6 +59,20 @@ pub trait RunTaker: Taker + Sized {
     }
 }
 
+/// Takes the codes of a run, at once where it is ready for them.
+#[inline(always)]
+pub fn take_all<R: CodeRun + Drop, T: RunTaker>(run: R, taker: T) -> T
+    requires stands { R.stands run }
+    requires limit { R.limit run ≤ T.Taker.limit }
+    requires room { T.Taker.room taker (length (R.codes run)) }
+    ensures { T.Taker.took taker (R.codes run) result }
+{
+    if taker.is_ready(run.count(), run.limit()) {
+        return taker.take_run(run);
+    }
+    take_each(run, taker)
+}
+
 /// Takes the codes of a run, one after another.
 #[inline(always)]
 pub fn take_each<R: CodeRun + Drop, T: Taker>(mut run: R, mut taker: T) -> T

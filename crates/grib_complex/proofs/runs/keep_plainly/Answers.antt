@@ -14,12 +14,12 @@ loop-index-preserved g c = record {
       let kept = g.K.Keeper.kept in
       let code = c.next.result in
       let small : number_of code < 2 ^ 49 = omega (arith, c.next.ensures.below, c.loop-index.invariant.limit, c.requires.limit) in
-      passed_next (PlainWithin kept) c.args.taker (plain_within-more kept g.met.K.Keeper.none g.met.K.Keeper.more) c.loop-index.invariant.so_far c.next.ensures.codes (
-        subst (λ (point : Point). kept c.loop-index.taker.keeper (point ∷ []) c.keep_within.result) c.plain_point-point.ensures c.keep_within.ensures.kept,
+      passed_next (PlainWithin kept) c.args.keeper (plain_within-more kept g.met.K.Keeper.none g.met.K.Keeper.more) c.loop-index.invariant.so_far c.next.ensures.codes (
+        subst (λ (point : Point). kept c.loop-index.keeper (point ∷ []) c.keep_within-keeper.result) c.plain_point-point.ensures c.keep_within-keeper.ensures.kept,
         All-cons IsWithin (point_of Plainly code) [] (plain_within code small) (All-nil IsWithin),
       );
   left = omega (arith, c.loop-index.invariant.left, ap length c.next.ensures.codes);
   stands = c.next.ensures.stands;
   limit = c.next.ensures.limit ∙ c.loop-index.invariant.limit;
-  room = omega (arith, c.loop-index.invariant.room, ap length c.next.ensures.codes, c.keep_within.ensures.room);
+  room = omega (arith, c.loop-index.invariant.room, ap length c.next.ensures.codes, c.keep_within-keeper.ensures.room);
 }

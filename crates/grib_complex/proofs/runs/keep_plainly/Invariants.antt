@@ -5,9 +5,9 @@ use Rattle.grib_complex.proofs.runs.keep_plainly.Given as goal
 
 abbrev pub invariant-loop-index : goal.invariant-loop-index
 invariant-loop-index g l = record {
-  so_far : Passed (PlainWithin g.K.Keeper.kept l.fn.taker) (g.R.CodeRun.codes l.fn.run) (g.R.CodeRun.codes l.run) l.taker;
+  so_far : Passed (PlainWithin g.K.Keeper.kept l.fn.keeper) (g.R.CodeRun.codes l.fn.run) (g.R.CodeRun.codes l.run) l.keeper;
   left : length (g.R.CodeRun.codes l.run) + l._index ≡ l._index-end;
   stands : g.R.CodeRun.stands l.run;
   limit : g.R.CodeRun.limit l.run ≡ g.R.CodeRun.limit l.fn.run;
-  room : length (g.R.CodeRun.codes l.run) ≤ g.K.Keeper.room l.taker.keeper;
+  room : length (g.R.CodeRun.codes l.run) ≤ g.K.Keeper.room l.keeper;
 }

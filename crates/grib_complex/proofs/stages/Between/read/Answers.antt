@@ -1,4 +1,4 @@
-use Rattle.std.proofs.Common.{◌≡◌, ℕ, ◌+◌, ◌*◌, ◌^◌, ◌<◌, ◌≤◌, Bool, cond, Some, List, length, drop, eqb, [], sym, ap, ap₂, ◌∙◌, arith, subst, inl, inr}
+use Rattle.std.proofs.Common.{◌≡◌, ℕ, ◌+◌, ◌*◌, ◌^◌, ◌<◌, ◌≤◌, Option, Some, None, List, length, drop, eqb, [], sym, ap, ap₂, ◌∙◌, arith, subst, inl, inr}
 use Rattle.std.proofs.lemmas.Bool.{cases_eq, cond-false, cond-true, eq-eqb, ne_eqb}
 use Rattle.std.proofs.lemmas.List.{length-drop}
 use Rattle.grib_bits.specs.Bits.{bits}
@@ -10,32 +10,56 @@ use Rattle.grib_packing.specs.Differences.{NoNumber}
 use Rattle.grib_packing.specs.Entries.{entries_of, group_entries, is_out_of_range}
 use Rattle.grib_packing.specs.Groups.{references, widths, lengths, groups, list_octets, codes_from}
 use Rattle.grib_packing.specs.Packing.{value_count}
-use Rattle.grib_groups.specs.Lists.{lists_fault}
+use Rattle.grib_groups.specs.Lists.{ListsAre, lists_fault}
+use Rattle.grib_groups.specs.declared.lists.Lists.{Lists}
+use Rattle.grib_groups.specs.declared.table.Table.{Table}
+use Rattle.grib_base.specs.declared.fault.Fault.{Fault}
 use Rattle.grib_groups.specs.Table.{groups_in}
 use Rattle.grib_groups.specs.Taking.{values}
-use Rattle.grib_groups.specs.Feeding.{WasFed}
-use Rattle.grib_groups.proofs.Faults.{fit_from, groups_are}
-use Rattle.grib_groups.proofs.Listed.{values-groups_from}
+use Rattle.grib_groups.specs.Feeding.{ListsFed, WasFed}
+use Rattle.grib_groups.proofs.Faults.{TableRead, table_read}
 use Rattle.grib_complex.specs.declared.stages.Between.{Between}
-use Rattle.grib_complex.specs.declared.values.Values.{Values}
 use Rattle.grib_complex.specs.Feeding.{Continues, ListingAgrees}
 use Rattle.grib_complex.specs.Told.{Telling, Plainly, After, told, undoing}
 use Rattle.grib_complex.specs.Tells.{Tells, ValuesTook}
-use Rattle.grib_complex.specs.Descriptors.{descriptors_in, is_signed_at, telling_by, telling_told}
-use Rattle.grib_complex.proofs.Arriving.{front_of, came_refused, came_whole, came_entries, entries_grouped, table_whole, table_narrow}
+use Rattle.grib_complex.specs.Descriptors.{descriptors_in, telling_by, telling_told}
+use Rattle.grib_complex.proofs.Arriving.{came_refused, came_whole, came_entries, entries_grouped}
 use Rattle.grib_complex.proofs.Begun.{told_count}
 use Rattle.grib_complex.proofs.SoFar.{lists_before, numbers_came, points_agree, table_came, told_by, undone}
 use Rattle.grib_complex.proofs.Outcome.{no_run, plain_range, within_range, beyond_range}
 use Rattle.grib_complex.proofs.stages.Between.read.Goals as goal
 
-long_lists : {K : Type 0} (s5 : List ℕ) (keeper : K) (l : ℕ) (octets : List ℕ) (b : Between K) (agrees : ListingAgrees s5 keeper l octets octets b)
-    → (b.complex.order + 1) * b.complex.extra + list_octets b.complex.layout ≤ length octets → list_octets b.complex.layout ≤ length (drop ((b.complex.order + 1) * b.complex.extra) octets)
-long_lists s5 keeper l octets b agrees whole = omega (arith, whole, length-drop ((b.complex.order + 1) * b.complex.extra) octets)
+module _ {K : Type 0} (s5 : List ℕ) (keeper : K) (start l : ℕ) (octets : List ℕ) (b : Between K) (agrees : ListingAgrees s5 keeper l octets octets b)
+    (whole : (b.complex.order + 1) * b.complex.extra + list_octets b.complex.layout ≤ length octets) where
+  long_lists : list_octets b.complex.layout ≤ length (drop ((b.complex.order + 1) * b.complex.extra) octets)
+  long_lists = omega (arith, whole, length-drop ((b.complex.order + 1) * b.complex.extra) octets)
 
--- no first value has its top bit set
-clear : {K : Type 0} (s5 : List ℕ) (keeper : K) (l : ℕ) (octets : List ℕ) (b : Between K) (agrees : ListingAgrees s5 keeper l octets octets b) (s7 : List ℕ) → Continues octets l s7
-    → ◌≡◌ {A = ℕ} (cond (is_signed_at b.complex.order b.complex.extra s7 0) 1 (cond (is_signed_at b.complex.order b.complex.extra s7 1) 2 0)) 0
-clear s5 keeper l octets b agrees s7 c = let unsigned = agrees.unsigned s7 c in ap₂ (λ (p q : Bool). cond p 1 (cond q 2 0)) unsigned.0 unsigned.1
+  module _ (lists : Lists) (finished : (values : ℕ) (os : List ℕ) → ListsFed b.complex.layout values os b.lists → list_octets b.complex.layout ≤ length os
+      → ListsAre b.complex.layout values lists (references b.complex.layout os) (widths b.complex.layout os) (lengths b.complex.layout os)) where
+    lists_told : let os = drop ((b.complex.order + 1) * b.complex.extra) octets in
+        ListsAre b.complex.layout b.complex.simple.values lists (references b.complex.layout os) (widths b.complex.layout os) (lengths b.complex.layout os)
+    lists_told = finished b.complex.simple.values (drop ((b.complex.order + 1) * b.complex.extra) octets) agrees.lists long_lists
+
+    module _ (skip : ℕ) (fault : Option Fault) (is_skip : skip ≡ (b.complex.order + 1) * b.complex.extra)
+        (is_fault : (values : ℕ) (rs ws ls : List ℕ) → values < 2 ^ 32 → ListsAre b.complex.layout values lists rs ws ls → fault ≡ lists_fault b.complex.layout start skip l values rs ws ls) where
+      -- the refusal is that of the lists
+      fault_told : let k = (b.complex.order + 1) * b.complex.extra in
+          fault ≡ lists_fault b.complex.layout start k l b.complex.simple.values (references b.complex.layout (drop k octets)) (widths b.complex.layout (drop k octets)) (lengths b.complex.layout (drop k octets))
+      fault_told =
+          let os = drop ((b.complex.order + 1) * b.complex.extra) octets in
+          let rs = references b.complex.layout os in
+          let ws = widths b.complex.layout os in
+          let ls = lengths b.complex.layout os in
+          is_fault b.complex.simple.values rs ws ls agrees.few lists_told ∙ ap (λ (n : ℕ). lists_fault b.complex.layout start n l b.complex.simple.values rs ws ls) is_skip
+
+      -- and the table is theirs
+      table_told : (table : Table) → fault ≡ None → table.references ≡ lists.references.items → table.widths ≡ lists.widths.items → table.lengths ≡ lists.lengths.items
+          → let k = (b.complex.order + 1) * b.complex.extra in
+          TableRead b.complex.layout k l b.complex.simple.values (references b.complex.layout (drop k octets)) (widths b.complex.layout (drop k octets)) (lengths b.complex.layout (drop k octets)) table
+      table_told table none is_references is_widths is_lengths =
+          let k = (b.complex.order + 1) * b.complex.extra in
+          let os = drop k octets in
+          table_read b.complex.layout start k l b.complex.simple.values lists table (references b.complex.layout os) (widths b.complex.layout os) (lengths b.complex.layout os) lists_told (sym fault_told ∙ none) is_references is_widths is_lengths
 
 pub finish-lists-requires-clause-whole : goal.finish-lists-requires-clause-whole
 finish-lists-requires-clause-whole g c =
@@ -45,7 +69,7 @@ finish-lists-requires-clause-whole g c =
       total = b.complex.simple.values;
       octets = drop ((b.complex.order + 1) * b.complex.extra) begun.octets;
       fed = begun.agrees.lists;
-      enough = long_lists begun.s5 begun.keeper c.args.length begun.octets b begun.agrees begun.whole;
+      enough = long_lists begun.s5 begun.keeper c.args.start c.args.length begun.octets b begun.agrees begun.whole;
     }
 
 pub fault-requires-clause-read : goal.fault-requires-clause-read
@@ -59,79 +83,52 @@ fault-requires-clause-read g c =
       references = references b.complex.layout os;
       widths = widths b.complex.layout os;
       lengths = lengths b.complex.layout os;
-      are = c.finish-lists.ensures b.complex.simple.values os begun.agrees.lists (long_lists begun.s5 begun.keeper c.args.length begun.octets b begun.agrees begun.whole);
+      are = lists_told begun.s5 begun.keeper c.args.start c.args.length begun.octets b begun.agrees begun.whole c.finish-lists.result c.finish-lists.ensures;
     }
 
 pub returns-in-Some : goal.returns-in-Some
 returns-in-Some g c = λ s5 keeper octets agrees is_numbers whole. (
   λ s7 continues.
       let b = c.args.self in
-      let layout = b.complex.layout in
-      let k = (b.complex.order + 1) * b.complex.extra in
-      let count = b.complex.simple.values in
-      let os = drop k octets in
-      let rs = references layout os in
-      let ws = widths layout os in
-      let ls = lengths layout os in
-      let are = c.finish-lists.ensures count os agrees.lists (long_lists s5 keeper c.args.length octets b agrees whole) in
-      let is = ap (λ (n : ℕ). lists_fault layout c.args.start n c.args.length count rs ws ls) (sym c.skip.ensures) ∙ sym (c.fault.ensures count rs ws ls agrees.few are) ∙ c.in-Some.is in
-      came_refused b.complex s5 agrees.spelled agrees.accepted agrees.groups c.args.start c.args.length octets s7 continues agrees.within whole s7 (front_of k octets c.args.length s7 agrees.came continues)
-      (clear s5 keeper c.args.length octets b agrees s7 continues) c.in-Some.fault is,
+      let is = sym (fault_told s5 keeper c.args.start c.args.length octets b agrees whole c.finish-lists.result c.finish-lists.ensures c.skip.result c.fault.result c.skip.ensures c.fault.ensures) ∙ c.in-Some.is in
+      came_refused b.complex s5 agrees.spelled agrees.accepted agrees.groups c.args.start c.args.length octets s7 continues agrees.within whole (agrees.unsigned s7 continues) c.in-Some.fault is,
   agrees.keeper_is,
 )
 
 pub is_steady-requires-clause-whole : goal.is_steady-requires-clause-whole
 is_steady-requires-clause-whole g c =
     let begun = c.requires.begun in
-    let b = c.args.self in
-    let os = drop ((b.complex.order + 1) * b.complex.extra) begun.octets in
-    table_whole b.complex.layout b.complex.simple.values c.finish-lists.result c.into_table-table.result (references b.complex.layout os) (widths b.complex.layout os) (lengths b.complex.layout os)
-    (c.finish-lists.ensures b.complex.simple.values os begun.agrees.lists (long_lists begun.s5 begun.keeper c.args.length begun.octets b begun.agrees begun.whole))
-    c.into_table-table.ensures.references c.into_table-table.ensures.widths c.into_table-table.ensures.lengths
+    let read = table_told begun.s5 begun.keeper c.args.start c.args.length begun.octets c.args.self begun.agrees begun.whole c.finish-lists.result c.finish-lists.ensures c.skip.result c.fault.result c.skip.ensures c.fault.ensures
+    c.into_table-table.result c.in_default.is c.into_table-table.ensures.references c.into_table-table.ensures.widths c.into_table-table.ensures.lengths in
+    read.whole
 
 pub is_steady-requires-clause-narrow : goal.is_steady-requires-clause-narrow
 is_steady-requires-clause-narrow g c =
     let begun = c.requires.begun in
-    let b = c.args.self in
-    let os = drop ((b.complex.order + 1) * b.complex.extra) begun.octets in
-    table_narrow b.complex.layout b.complex.simple.values c.finish-lists.result c.into_table-table.result (references b.complex.layout os) (widths b.complex.layout os) (lengths b.complex.layout os)
-    (c.finish-lists.ensures b.complex.simple.values os begun.agrees.lists (long_lists begun.s5 begun.keeper c.args.length begun.octets b begun.agrees begun.whole))
-    c.into_table-table.ensures.references c.into_table-table.ensures.widths c.into_table-table.ensures.lengths
+    let read = table_told begun.s5 begun.keeper c.args.start c.args.length begun.octets c.args.self begun.agrees begun.whole c.finish-lists.result c.finish-lists.ensures c.skip.result c.fault.result c.skip.ensures c.fault.ensures
+    c.into_table-table.result c.in_default.is c.into_table-table.ensures.references c.into_table-table.ensures.widths c.into_table-table.ensures.lengths in
+    read.narrow
 
 pub groups-requires-clause-whole : goal.groups-requires-clause-whole
 groups-requires-clause-whole g c =
     let begun = c.requires.begun in
-    let b = c.args.self in
-    let os = drop ((b.complex.order + 1) * b.complex.extra) begun.octets in
-    table_whole b.complex.layout b.complex.simple.values c.finish-lists.result c.into_table-table.result (references b.complex.layout os) (widths b.complex.layout os) (lengths b.complex.layout os)
-    (c.finish-lists.ensures b.complex.simple.values os begun.agrees.lists (long_lists begun.s5 begun.keeper c.args.length begun.octets b begun.agrees begun.whole))
-    c.into_table-table.ensures.references c.into_table-table.ensures.widths c.into_table-table.ensures.lengths
+    let read = table_told begun.s5 begun.keeper c.args.start c.args.length begun.octets c.args.self begun.agrees begun.whole c.finish-lists.result c.finish-lists.ensures c.skip.result c.fault.result c.skip.ensures c.fault.ensures
+    c.into_table-table.result c.in_default.is c.into_table-table.ensures.references c.into_table-table.ensures.widths c.into_table-table.ensures.lengths in
+    read.whole
 
 pub groups-requires-clause-narrow : goal.groups-requires-clause-narrow
 groups-requires-clause-narrow g c =
     let begun = c.requires.begun in
-    let b = c.args.self in
-    let os = drop ((b.complex.order + 1) * b.complex.extra) begun.octets in
-    table_narrow b.complex.layout b.complex.simple.values c.finish-lists.result c.into_table-table.result (references b.complex.layout os) (widths b.complex.layout os) (lengths b.complex.layout os)
-    (c.finish-lists.ensures b.complex.simple.values os begun.agrees.lists (long_lists begun.s5 begun.keeper c.args.length begun.octets b begun.agrees begun.whole))
-    c.into_table-table.ensures.references c.into_table-table.ensures.widths c.into_table-table.ensures.lengths
+    let read = table_told begun.s5 begun.keeper c.args.start c.args.length begun.octets c.args.self begun.agrees begun.whole c.finish-lists.result c.finish-lists.ensures c.skip.result c.fault.result c.skip.ensures c.fault.ensures
+    c.into_table-table.result c.in_default.is c.into_table-table.ensures.references c.into_table-table.ensures.widths c.into_table-table.ensures.lengths in
+    read.narrow
 
 pub is_steady-requires-clause-values : goal.is_steady-requires-clause-values
 is_steady-requires-clause-values g c =
     let begun = c.requires.begun in
-    let b = c.args.self in
-    let layout = b.complex.layout in
-    let k = (b.complex.order + 1) * b.complex.extra in
-    let count = b.complex.simple.values in
-    let os = drop k begun.octets in
-    let rs = references layout os in
-    let ws = widths layout os in
-    let ls = lengths layout os in
-    let are = c.finish-lists.ensures count os begun.agrees.lists (long_lists begun.s5 begun.keeper c.args.length begun.octets b begun.agrees begun.whole) in
-    let none = ap (λ (n : ℕ). lists_fault layout c.args.start n c.args.length count rs ws ls) (sym c.skip.ensures) ∙ sym (c.fault.ensures count rs ws ls begun.agrees.few are) ∙ c.in_default.is in
-    let fit = fit_from layout c.args.start k c.args.length count rs ws ls none in
-    ap values (groups_are layout k c.args.length count c.finish-lists.result c.into_table-table.result rs ws ls are fit c.into_table-table.ensures.references c.into_table-table.ensures.widths c.into_table-table.ensures.lengths)
-    ∙ values-groups_from rs ws ls (are.reference_count ∙ sym are.length_count) (are.width_count ∙ sym are.length_count) ∙ fit.right
+    let read = table_told begun.s5 begun.keeper c.args.start c.args.length begun.octets c.args.self begun.agrees begun.whole c.finish-lists.result c.finish-lists.ensures c.skip.result c.fault.result c.skip.ensures c.fault.ensures
+    c.into_table-table.result c.in_default.is c.into_table-table.ensures.references c.into_table-table.ensures.widths c.into_table-table.ensures.lengths in
+    ap values read.are ∙ read.counted
 
 pub is_steady-requires-clause-order : goal.is_steady-requires-clause-order
 is_steady-requires-clause-order g c =
@@ -151,22 +148,16 @@ returns-then-is_steady g c = λ s5 keeper octets agrees is_numbers whole.
     let l = c.args.length in
     let start = c.args.start in
     let os = drop k octets in
-    let rs = references layout os in
-    let ws = widths layout os in
-    let ls = lengths layout os in
-    let lists = c.finish-lists.result in
-    let table = c.into_table-table.result in
-    let are = c.finish-lists.ensures count os agrees.lists (long_lists s5 keeper l octets b agrees whole) in
-    let none = ap (λ (n : ℕ). lists_fault layout start n l count rs ws ls) (sym c.skip.ensures) ∙ sym (c.fault.ensures count rs ws ls agrees.few are) ∙ c.in_default.is in
-    let fit = fit_from layout start k l count rs ws ls none in
-    let same = groups_are layout k l count lists table rs ws ls are fit c.into_table-table.ensures.references c.into_table-table.ensures.widths c.into_table-table.ensures.lengths in
-    let total : values (groups layout os) ≡ count = values-groups_from rs ws ls (are.reference_count ∙ sym are.length_count) (are.width_count ∙ sym are.length_count) ∙ fit.right in
+    let read = table_told s5 keeper start l octets b agrees whole c.finish-lists.result c.finish-lists.ensures c.skip.result c.fault.result c.skip.ensures c.fault.ensures
+    c.into_table-table.result c.in_default.is c.into_table-table.ensures.references c.into_table-table.ensures.widths c.into_table-table.ensures.lengths in
+    let none = sym (fault_told s5 keeper start l octets b agrees whole c.finish-lists.result c.finish-lists.ensures c.skip.result c.fault.result c.skip.ensures c.fault.ensures) ∙ c.in_default.is in
+    let same = read.are in
     let numbers = λ (s7 : List ℕ). bits (drop (k + list_octets layout) (drop 5 s7)) in
     let entries = λ (s7 : List ℕ) (continues : Continues octets l s7).
-    came_entries complex s5 agrees.spelled agrees.accepted agrees.groups start l octets s7 continues agrees.within whole s7 (front_of k octets l s7 agrees.came continues) in
+    came_entries complex s5 agrees.spelled agrees.accepted agrees.groups start l octets s7 continues agrees.within whole in
     record {
       passes = λ s7 continues.
-          came_whole complex s5 agrees.spelled agrees.accepted agrees.groups start l octets s7 continues agrees.within whole s7 (front_of k octets l s7 agrees.came continues) (clear s5 keeper l octets b agrees s7 continues) none
+          came_whole complex s5 agrees.spelled agrees.accepted agrees.groups start l octets s7 continues agrees.within whole (agrees.unsigned s7 continues) none
           ∙ elim (c.is_steady.ensures c.if-is_steady.true) [
             | inl plain ↦ plain_range complex s5 s7 agrees.spelled agrees.accepted (sym agrees.order ∙ plain)
             | inr within ↦ elim (cases_eq b.told.order 0) [
@@ -180,7 +171,7 @@ returns-then-is_steady g c = λ s5 keeper octets agrees is_numbers whole.
                   within_range s5 s7 (sym (ap (first_place is_out_of_range) told_all) ∙ within layout (numbers s7))
             ]
           ];
-      counted = λ s7 continues. told_count layout (groups layout os) (telling_by complex.order complex.extra s7) (numbers s7) (entries_of s5 s7) (value_count s5) (entries s7 continues) (total ∙ agrees.spelled.simple.values);
+      counted = λ s7 continues. told_count layout (groups layout os) (telling_by complex.order complex.extra s7) (numbers s7) (entries_of s5 s7) (value_count s5) (entries s7 continues) (read.counted ∙ agrees.spelled.simple.values);
       keeps = subst (λ (n : _). (points : List Point) → g.K.Keeper.kept n points b.keeper) agrees.keeper_is (c.keeps.ensures c.if-not-keeps.true);
     }
 
@@ -194,27 +185,23 @@ returns g c = λ s5 keeper octets agrees is_numbers whole.
     let l = c.args.length in
     let start = c.args.start in
     let os = drop k octets in
-    let rs = references layout os in
-    let ws = widths layout os in
-    let ls = lengths layout os in
-    let lists = c.finish-lists.result in
     let table = c.into_table-table.result in
-    let first : Values _ = record { teller = c.start.result; keeper = b.keeper } in
-    let are = c.finish-lists.ensures count os agrees.lists (long_lists s5 keeper l octets b agrees whole) in
-    let none = ap (λ (n : ℕ). lists_fault layout start n l count rs ws ls) (sym c.skip.ensures) ∙ sym (c.fault.ensures count rs ws ls agrees.few are) ∙ c.in_default.is in
-    let fit = fit_from layout start k l count rs ws ls none in
-    let same = groups_are layout k l count lists table rs ws ls are fit c.into_table-table.ensures.references c.into_table-table.ensures.widths c.into_table-table.ensures.lengths in
-    let total : values (groups layout os) ≡ count = values-groups_from rs ws ls (are.reference_count ∙ sym are.length_count) (are.width_count ∙ sym are.length_count) ∙ fit.right in
+    let first = c.start-values.result in
+    let keeper_is = c.start-values.ensures.keeper ∙ agrees.keeper_is in
+    let read = table_told s5 keeper start l octets b agrees whole c.finish-lists.result c.finish-lists.ensures c.skip.result c.fault.result c.skip.ensures c.fault.ensures
+    c.into_table-table.result c.in_default.is c.into_table-table.ensures.references c.into_table-table.ensures.widths c.into_table-table.ensures.lengths in
+    let none = sym (fault_told s5 keeper start l octets b agrees whole c.finish-lists.result c.finish-lists.ensures c.skip.result c.fault.result c.skip.ensures c.fault.ensures) ∙ c.in_default.is in
+    let same = read.are in
     let took = ValuesTook g.K.Keeper.kept in
     let pushed = c.push.ensures.fed layout (groups_in table) first [] c.groups.ensures.fed in
     let by_groups = subst (λ (gs : List Group). WasFed took layout gs first c.args.numbers.now c.push.result) same pushed in
     let so_far = subst (λ (xs : List ℕ). WasFed took layout (groups layout os) first xs c.push.result) is_numbers by_groups in
-    let fresh = subst (λ (t : Telling). Tells t [] c.start.result) c.running.ensures c.start.ensures.nothing in
-    let few : values (groups layout os) < 2 ^ 32 = omega (arith, total, agrees.few) in
+    let fresh = subst (λ (t : Telling). Tells t [] first.teller) c.running.ensures c.start-values.ensures.nothing in
+    let few : values (groups layout os) < 2 ^ 32 = omega (arith, read.counted, agrees.few) in
     let before_is = lists_before complex s5 agrees.spelled agrees.accepted agrees.groups in
     let entries = λ (s7 : List ℕ) (continues : Continues octets l s7).
     ap (λ (t : Telling). told t (codes_from layout (groups layout os) (bits (drop (k + list_octets layout) (drop 5 s7))))) (agrees.told_is s7 continues)
-    ∙ came_entries complex s5 agrees.spelled agrees.accepted agrees.groups start l octets s7 continues agrees.within whole s7 (front_of k octets l s7 agrees.came continues) in
+    ∙ came_entries complex s5 agrees.spelled agrees.accepted agrees.groups start l octets s7 continues agrees.within whole in
     let telling_is = λ (s7 : List ℕ) (continues : Continues octets l s7). agrees.told_is s7 continues ∙ told_by complex s5 agrees.spelled agrees.accepted agrees.groups s7 in
     let groups_are = λ (s7 : List ℕ) (continues : Continues octets l s7). numbers_came complex s5 agrees.spelled agrees.accepted agrees.groups l octets s7 continues whole in
     record {
@@ -227,21 +214,21 @@ returns g c = λ s5 keeper octets agrees is_numbers whole.
       feedable = c.push.ensures.feedable;
       so_far = so_far;
       fresh = fresh;
-      keeper_is = agrees.keeper_is;
+      keeper_is = keeper_is;
       few = few;
-      counted = total ∙ agrees.spelled.simple.values;
-      enough = omega (arith, fit.enough);
+      counted = read.counted ∙ agrees.spelled.simple.values;
+      enough = omega (arith, read.enough);
       entries = entries;
       within = λ s7 continues nowhere.
-          came_whole complex s5 agrees.spelled agrees.accepted agrees.groups start l octets s7 continues agrees.within whole s7 (front_of k octets l s7 agrees.came continues) (clear s5 keeper l octets b agrees s7 continues) none
+          came_whole complex s5 agrees.spelled agrees.accepted agrees.groups start l octets s7 continues agrees.within whole (agrees.unsigned s7 continues) none
           ∙ within_range s5 s7 (sym (ap (first_place is_out_of_range) (entries_grouped complex s5 agrees.spelled agrees.accepted agrees.groups s7)) ∙ nowhere);
       beyond = λ s7 continues somewhere not_plain.
           let all = entries_grouped complex s5 agrees.spelled agrees.accepted agrees.groups s7 in
           let here : first_place is_out_of_range (entries_of s5 s7) ≡ first_place is_out_of_range (group_entries s5 s7) = ap (first_place is_out_of_range) all in
           let origin : start + 0 ≡ start = omega arith in
-          ap (located start) (came_whole complex s5 agrees.spelled agrees.accepted agrees.groups start l octets s7 continues agrees.within whole s7 (front_of k octets l s7 agrees.came continues) (clear s5 keeper l octets b agrees s7 continues) none
+          ap (located start) (came_whole complex s5 agrees.spelled agrees.accepted agrees.groups start l octets s7 continues agrees.within whole (agrees.unsigned s7 continues) none
           ∙ beyond_range s5 s7 (elim agrees.accepted.order [
-            | inl two ↦ absurd (not_plain (c.start.ensures.running ∙ no_run c.running.result (c.running.ensures ∙ cond-true (eqb b.told.order 0) Plainly _ (eq-eqb b.told.order 0 (agrees.order ∙ two.1)))))
+            | inl two ↦ absurd (not_plain (c.start-values.ensures.running ∙ no_run c.running.result (c.running.ensures ∙ cond-true (eqb b.told.order 0) Plainly _ (eq-eqb b.told.order 0 (agrees.order ∙ two.1)))))
             | inr three ↦ sym agrees.spelled.simple.template ∙ three.0
           ]) (omega (arith, here, somewhere)))
           ∙ ap₂ (λ (o d : ℕ). Some (refusal o ScaledRange d)) origin (sym here);
@@ -251,10 +238,8 @@ returns g c = λ s5 keeper octets agrees is_numbers whole.
       table = λ s7 continues.
           ap groups_in (c.push.ensures.table ∙ c.groups.ensures.table) ∙ same ∙ table_came complex s5 agrees.spelled agrees.accepted agrees.groups l octets s7 continues whole;
       telling_is = telling_is;
-      undone_with = λ s7 continues nowhere.
-          undone g.K.Keeper.kept s5 keeper l octets layout (groups layout os) (telling_told b.told) first (k + list_octets layout) c.push.result so_far c.push.ensures.caught_up fresh agrees.keeper_is few whole nowhere
-          ∙ ap undoing (telling_is s7 continues);
+      undone_with = λ s7 continues. undone g.K.Keeper.kept layout (groups layout os) (telling_told b.told) first (drop (k + list_octets layout) octets) c.push.result so_far fresh ∙ ap undoing (telling_is s7 continues);
       points = λ s7 continues.
-          points_agree g.K.Keeper.kept s5 keeper l octets layout (groups layout os) (telling_told b.told) first (k + list_octets layout) c.push.result so_far c.push.ensures.caught_up fresh agrees.keeper_is few whole
+          points_agree g.K.Keeper.kept s5 keeper l octets layout (groups layout os) (telling_told b.told) first (k + list_octets layout) c.push.result so_far c.push.ensures.caught_up fresh keeper_is few whole
           s7 continues (entries s7 continues) (groups_are s7 continues) before_is;
     }
