@@ -1,10 +1,12 @@
 //! Complex packing, with and without spatial differencing.
 
-ghost use Rattle.std.specs.Prelude.{◌≡◌, ◌⊎◌, ℕ, refl, cond, List as Octets};
+ghost use Rattle.std.specs.Prelude.{◌≡◌, ◌⊎◌, ℕ, refl, cond, None, List as Octets};
 ghost use Rattle.grib_bitmap.specs.Mask.{present_count};
-ghost use Rattle.grib_packing.specs.Misfits.{ToComplex, ToSpatial};
+ghost use Rattle.grib_packing.specs.declared.column.Column as column_packing;
+ghost use Rattle.grib_packing.specs.Misfits.{Target, ToComplex, ToSpatial};
 ghost use Rattle.grib_packing.specs.Unpacked.{IsUnpacked};
-ghost use Rattle.grib_packing.specs.Written.{order_known};
+ghost use Rattle.grib_packing.specs.Written.{IsPacked, order_known};
+ghost use Rattle.grib_complex.specs.Below.{IsPackedBelow};
 ghost use Rattle.grib_complex.specs.Descriptors.{IsAccepted};
 ghost use Rattle.grib_complex.specs.Representation.{Spelled};
 
@@ -12,7 +14,7 @@ use crate::keeping::Points;
 use crate::packed::{pack_complex, pack_spatial};
 use crate::representation::{Complex, accepted_complex};
 use crate::unpacking::take_complex_values;
-use grib_base::{List, ReadFault, Section};
+use grib_base::{ReadFault, Section};
 use grib_bitmap::Mask;
 use grib_packing::{Column, PackFault, Packed, Packing};
 use std::alloc::Global;
@@ -39,7 +41,7 @@ impl Packing for ComplexPacking {
     }
 
     fn pack(&self, alloc: Global, column: &Column, kind: u8) -> Result<Packed, PackFault> {
-        pack_complex(alloc, column, kind)
+        without_bound(pack_complex(alloc, column, kind, None))
     }
 
     ghost is_template = { λ _. refl };
@@ -90,12 +92,25 @@ impl Packing for SpatialPacking {
     }
 
     fn pack(&self, alloc: Global, column: &Column, kind: u8) -> Result<Packed, PackFault> {
-        pack_spatial(alloc, column, kind, self.order())
+        without_bound(pack_spatial(alloc, column, kind, self.order(), None))
     }
 
     ghost is_template = { λ _. refl };
 
     ghost is_target = { λ packing. order_known packing.second };
+}
+
+/// What is packed where there is no bound.
+fn without_bound(found: Result<Option<Packed>, PackFault>) -> Result<Packed, PackFault>
+    requires { (target : Target) × (column : column_packing.Column) × (kind : ℕ) × IsPackedBelow target column kind None found }
+    ensures { (target : Target) (column : column_packing.Column) (kind : ℕ) → IsPackedBelow target column kind None found
+        → IsPacked target column kind result }
+{
+    match found {
+        Ok(Some(packed)) => Ok(packed),
+        Ok(None) => unreachable!(),
+        Err(fault) => Err(fault),
+    }
 }
 
 /// The column of a field of either template, from the numbers of its Section 5, its mask and its Section 7.
@@ -117,10 +132,5 @@ pub fn unpack_complex(
     let mask = mask.copy(alloc)?;
     let points = Points::start(alloc, mask)?;
     let points = take_complex_values(alloc, complex, section7, points)?;
-    Ok(Column {
-        reference: complex.simple.reference,
-        e: complex.simple.e,
-        d: complex.simple.d,
-        points: List::of(points.finish()),
-    })
+    Ok(complex.simple.column(points.finish()))
 }

@@ -24,6 +24,7 @@ use Rattle.grib_packing.specs.Groups.{code_of, codes_from, marked, groups_from, 
 use Rattle.grib2_sections.specs.Template.{Template, is_template, least_length}
 use Rattle.grib_packing.specs.Packing.{packing_template, packing_templates, packing_rows, bit_width, most_bits, reference_word, value_count}
 use Rattle.grib_packing.specs.Simple.{simple_entries, simple_rows}
+use Rattle.grib_simple.proofs.Fitting.{parts_false}
 use Rattle.grib_simple.proofs.Seen.{first_place-any}
 use Rattle.grib2_message.proofs.Passed.{passes_from_none}
 
@@ -39,10 +40,6 @@ none_with_mask (true ∷ mask) (entry ∷ entries) none = (none.0, none_with_mas
 pub any_of_none : {A : Type 0} (test : A → Bool) (xs : List A) → NoneOf test xs → list_any test xs ≡ false
 any_of_none test [] none = refl
 any_of_none test (x ∷ xs) none = ap₂ (λ (a b : Bool). a || b) none.0 (any_of_none test xs none.1)
-
-parts_false : (a b : Bool) → (a || b) ≡ false → (a ≡ false) × (b ≡ false)
-parts_false true b e = absurd (cc)
-parts_false false b e = (refl, e)
 
 none_of_any : {A : Type 0} (test : A → Bool) (xs : List A) → list_any test xs ≡ false → NoneOf test xs
 none_of_any test [] e = tt

@@ -23,9 +23,9 @@ returns c = λ s5 spelled.
     let taken = c.in_ok-points-2.ensures s5 spelled in
     let entries = complex_entries s5 s7 in
     let are = taken.1.keeps mask [] (omega (arith, taken.2, c.requires.values, spelled.simple.values)) (subst (λ (m : List Bool). ArePoints m [] c.in_ok-points.points) c.in_ok-mask.ensures c.in_ok-points.ensures) in
-    let points = c.of.ensures ∙ c.finish.ensures mask entries are
+    let points = c.finish.ensures mask entries are
     ∙ ap (points_with_mask mask) (sym (entries_of-complex c.args.complex.now s5 s7 spelled c.requires.accepted)) in
     let simple = spelled.simple in (
       data_fault-complex c.args.complex.now s5 s7 spelled c.requires.accepted ∙ taken.0,
-      same_column s5 _ _ _ c.of.result _ simple.reference simple.e simple.d points,
+      c.column.ensures ∙ same_column s5 _ _ _ c.finish.result.items _ simple.reference simple.e simple.d points,
     )
