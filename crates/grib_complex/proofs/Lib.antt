@@ -25,3 +25,5 @@ pub mod Described
 pub mod Represented
 pub mod AtLeast
 pub mod DifferencesTold
+pub mod AsWords
+pub mod Placed

@@ -74,18 +74,3 @@ pub is_complex : (column : Column) (kind k : ℕ) (codes : List Code) (s5 s6 s7 
 is_complex column kind k codes s5 s6 s7 is_codes is_k long h =
     let g = subst₂ (λ (j : ℕ) (cs : List Code). GroupedBy column kind 2 j cs [] s5 s6 s7) is_k is_codes h in
     record { lengths = g.lengths; as_long = long; numbers = g.numbers; layout = g.layout; chosen = g.chosen; bitmap = g.bitmap; values = g.values }
-
--- the numbers of Section 5 are those of each column with this R, E and D
-pub same_numbers : (s5 : List ℕ) (head column : Column) (values template b kind : ℕ) → column.reference ≡ head.reference → column.e ≡ head.e → column.d ≡ head.d
-    → HasNumbers s5 head values template b kind → HasNumbers s5 column values template b kind
-same_numbers s5 head column values template b kind same_reference same_e same_d numbers = record {
-  itself = numbers.itself;
-  are_octets = numbers.are_octets;
-  values_stand = numbers.values_stand;
-  template_stands = numbers.template_stands;
-  reference_stands = numbers.reference_stands ∙ sym same_reference;
-  binary_scale_stands = numbers.binary_scale_stands ∙ sym same_e;
-  decimal_scale_stands = numbers.decimal_scale_stands ∙ sym same_d;
-  bit_width_stands = numbers.bit_width_stands;
-  kind_stands = numbers.kind_stands;
-}

@@ -23,7 +23,7 @@ below_of k (Present n) told = omega arith
 below_of k Primary told = tt
 below_of k Secondary told = tt
 
-either_way : (a b : Bool) → b ≡ true → (a || b) ≡ true
+pub either_way : (a b : Bool) → b ≡ true → (a || b) ≡ true
 either_way true b is = refl
 either_way false b is = is
 

@@ -10,3 +10,4 @@ pub mod FieldCodes
 pub mod Constant
 pub mod Field
 pub mod Below
+pub mod KeptWords

@@ -1,23 +1,30 @@
 //! Fields that are packed in groups from the words of their codes.
 
-ghost use Rattle.std.specs.Prelude.{◌≡◌, ◌≤◌, true, All, EachIndex, IfOk, length, slice_index};
+ghost use Rattle.std.specs.Prelude.{◌≡◌, ◌<◌, ◌≤◌, false, true, max, EachIndex, IfOk, IfSome, List, Ok, length, slice_index};
+ghost use Rattle.grib_bitmap.specs.Mask.{present_count};
 ghost use Rattle.grib_codes.specs.Words.{codes_of};
 ghost use Rattle.grib_packing.specs.declared.column.Column as column_packing;
-ghost use Rattle.grib_packing.specs.Packed.{IsComplex};
-ghost use Rattle.grib_packing.specs.Span.{IsTold};
-ghost use Rattle.grib_complex.specs.FieldCodes.{codes_in, HasCodes};
+ghost use Rattle.grib_packing.specs.declared.column.Point as point_packing;
+ghost use Rattle.grib_packing.specs.Column.{points_with_mask};
+ghost use Rattle.grib_packing.specs.Misfits.{ToComplex};
+ghost use Rattle.grib_packing.specs.Written.{IsPacked};
+ghost use Rattle.grib_complex.specs.FieldCodes.{codes_in};
+ghost use Rattle.grib_complex.specs.KeptWords.{AreWords, TellPoints};
 
 use crate::grouping::FieldCodes;
+use crate::masked::masked_words;
 use crate::packed::pack_plainly;
+use crate::point_words::PointWords;
+use crate::told_codes::ToldCodes;
 use crate::words::Words;
-use grib_base::List;
+use grib_bitmap::Mask;
 use grib_codes::Codes;
-use grib_packing::{Column, Packed, Simple};
+use grib_packing::{Packed, Simple};
 use std::alloc::{AllocError, Global};
 
-/// Sections 5, 6 and 7 of a field whose points have the codes that these words stand for, in the groups of 1 to
-/// 64 points that take the fewest bits. R, E, D and the type of the original values (code table 5.1) are those of
-/// a Section 5. The missing value management (code table 5.5) is how many codes are reserved.
+/// Sections 5, 6 and 7 of a field in the groups of 1 to 64 points that take the fewest bits, from the words of the points
+/// that its mask has; none where a number is outside 0 to 4,294,967,293. R, E, D and the type of the original values
+/// (code table 5.1) are those of a Section 5.
 ///
 /// # Errors
 ///
@@ -25,26 +32,62 @@ use std::alloc::{AllocError, Global};
 pub fn pack_words(
     alloc: Global,
     simple: &Simple,
-    words: Vec<u32>,
-    management: u8,
-) -> Result<Packed, AllocError>
-    requires some { 1 ≤ length words.items }
-    requires most { length words.items ≤ 33554432 }
-    requires few { management ≤ 2 }
-    requires told { All (IsTold management) (codes_of management words.items) }
-    ensures { IfOk result (λ packed. (column : column_packing.Column)
+    kept: PointWords,
+    mask: &Mask,
+) -> Result<Option<Packed>, AllocError>
+    requires some { 1 ≤ length mask.now }
+    requires most { length mask.now ≤ 33554432 }
+    requires present { present_count mask.now ≡ length kept.words.items }
+    requires words { (entries : List point_packing.Point) × AreWords entries kept }
+    ensures { IfOk result (λ found. IfSome found (λ packed. (column : column_packing.Column) (entries : List point_packing.Point)
         → column.reference ≡ simple.now.reference → column.e ≡ simple.now.e → column.d ≡ simple.now.d
-        → HasCodes column management (codes_of management words.items)
-        → IsComplex column simple.now.kind packed.section5 packed.section6 packed.section7) }
+        → AreWords entries kept → column.points ≡ points_with_mask mask.now entries
+        → IsPacked ToComplex column simple.now.kind (Ok packed))) }
 {
-    let column = Column {
-        reference: simple.reference,
-        e: simple.e,
-        d: simple.d,
-        points: List::of(Vec::new(alloc)),
-    };
-    let codes = field_codes(words, management);
-    pack_plainly(alloc, &column, simple.kind, &codes, management)
+    if kept.is_outside {
+        return Ok(None);
+    }
+    let told = masked_codes(alloc, kept, mask)?;
+    let column = simple.column(Vec::new(alloc));
+    let packed = pack_plainly(alloc, &column, simple.kind, &told.codes, told.management)?;
+    Ok(Some(packed))
+}
+
+/// The codes of the points of a mask, from the words of those that it has.
+///
+/// # Errors
+///
+/// There is no memory.
+fn masked_codes(alloc: Global, kept: PointWords, mask: &Mask) -> Result<ToldCodes, AllocError>
+    requires inside { kept.is_outside ≡ false }
+    requires some { 1 ≤ length mask.now }
+    requires most { length mask.now ≤ 33554432 }
+    requires present { present_count mask.now ≡ length kept.words.items }
+    requires words { (entries : List point_packing.Point) × AreWords entries kept }
+    ensures { IfOk result (λ told. (entries : List point_packing.Point) → AreWords entries kept
+        → TellPoints (points_with_mask mask.now entries) told.management (codes_in told.codes)) }
+{
+    let management = reserved(kept.management, kept.words.len(), mask.len() as usize);
+    let words = masked_words(alloc, mask, kept.words)?;
+    Ok(ToldCodes {
+        codes: field_codes(words, management),
+        management,
+    })
+}
+
+/// How many codes are reserved where so many of all points are present, which reserve this many: one at least where a
+/// point is left out.
+fn reserved(management: u8, present: usize, all: usize) -> u8
+    requires { management ≤ 2 }
+    ensures few { result ≤ 2 }
+    ensures part { present < all → result ≡ max management 1 }
+    ensures whole { all ≤ present → result ≡ management }
+{
+    if present < all {
+        management.max(1)
+    } else {
+        management
+    }
 }
 
 /// The codes that these words stand for.

@@ -8,8 +8,10 @@ ghost use Rattle.grib_spatial.specs.Undoing.{read_with};
 ghost use Rattle.grib_packing.specs.Span.{IsTold};
 ghost use Rattle.grib_complex.specs.Constant.{DifferencesOf};
 ghost use Rattle.grib_complex.specs.FieldCodes.{codes_in, HasCodes};
-ghost use Rattle.grib_packing.specs.Written.{IsPacked, MayBePacked};
+ghost use Rattle.grib_complex.specs.Below.{IsPackedBelow};
+ghost use Rattle.grib_packing.specs.Written.{MayBePacked};
 
+use crate::below::are_too_many;
 use crate::differencing::{descriptor_octets, write_descriptors};
 use crate::grouping::{FieldCodes, grouping_of, octets_of_groups};
 use crate::told_codes::plainly_told;
@@ -20,20 +22,35 @@ use crate::writing::{
 use grib_packing::{Column, PackFault, Packed, no_bitmap, room_for, write_head};
 use std::alloc::{AllocError, Global};
 
+/// The octets of Sections 5 and 6 of template 5.2, and of Section 7 before its groups.
+const BESIDE_GROUPS: u32 = 47 + 6 + 5;
+
+/// The octets of Sections 5 and 6 of template 5.3, and of Section 7 before its extra descriptors.
+const BESIDE_DIFFERENCES: u32 = 49 + 6 + 5;
+
 /// Sections 5, 6 and 7 of a column: its scaled numbers and missing points in the groups of 1 to 64
-/// points that take the fewest bits. `kind` is the type of the original values (code table 5.1).
+/// points that take the fewest bits; none where a quick look shows that they have `below` octets or more. `kind`
+/// is the type of the original values (code table 5.1).
 ///
 /// # Errors
 ///
 /// A scaled number is negative, or it and the reserved codes take more than 32 bits; or there is no
 /// memory.
-pub fn pack_complex(alloc: Global, column: &Column, kind: u8) -> Result<Packed, PackFault>
+pub fn pack_complex(
+    alloc: Global,
+    column: &Column,
+    kind: u8,
+    below: Option<u64>,
+) -> Result<Option<Packed>, PackFault>
     requires { MayBePacked column.now }
-    ensures { IsPacked ToComplex column.now kind result }
+    ensures { IsPackedBelow ToComplex column.now kind below result }
 {
     let told = plainly_told(alloc, column.points.as_slice())?;
+    if are_too_many(&told.codes, told.management, BESIDE_GROUPS, below) {
+        return Ok(None);
+    }
     let packed = pack_plainly(alloc, column, kind, &told.codes, told.management)?;
-    Ok(packed)
+    Ok(Some(packed))
 }
 
 /// The sections of a column whose points have these codes. Of the column only R, E and D are looked at.
@@ -79,8 +96,8 @@ pub fn pack_plainly(
 }
 
 /// Sections 5, 6 and 7 of a column: how far the differences of its scaled numbers are above the least
-/// one, and its missing points, in the groups of 1 to 64 points that take the fewest bits. `kind` is the
-/// type of the original values (code table 5.1).
+/// one, and its missing points, in the groups of 1 to 64 points that take the fewest bits; none where a quick look
+/// shows that they have `below` octets or more. `kind` is the type of the original values (code table 5.1).
 ///
 /// # Errors
 ///
@@ -90,14 +107,20 @@ pub fn pack_spatial(
     column: &Column,
     kind: u8,
     order: u8,
-) -> Result<Packed, PackFault>
+    below: Option<u64>,
+) -> Result<Option<Packed>, PackFault>
     requires order { (order ≡ 1) ⊎ (order ≡ 2) }
     requires column { MayBePacked column.now }
-    ensures { IsPacked (ToSpatial order) column.now kind result }
+    ensures { IsPackedBelow (ToSpatial order) column.now kind below result }
 {
     let told = told_by_differences(alloc, column.points.as_slice(), order)?;
+    let size = descriptor_octets(&told.differences);
+    let beside = BESIDE_DIFFERENCES + (u32::from(order) + 1) * u32::from(size);
+    if are_too_many(&told.codes, told.management, beside, below) {
+        return Ok(None);
+    }
     let packed = pack_spatially(alloc, column, kind, &told, order)?;
-    Ok(packed)
+    Ok(Some(packed))
 }
 
 /// The sections of a column of which this is told.

@@ -1,8 +1,10 @@
 //! Complex packing, with and without spatial differencing.
 
-ghost use Rattle.std.specs.Prelude.{◌≡◌, ◌⊎◌, refl, cond};
-ghost use Rattle.grib_packing.specs.Misfits.{ToComplex, ToSpatial};
-ghost use Rattle.grib_packing.specs.Written.{order_known};
+ghost use Rattle.std.specs.Prelude.{◌≡◌, ◌⊎◌, ℕ, refl, cond, None};
+ghost use Rattle.grib_packing.specs.declared.column.Column as column_packing;
+ghost use Rattle.grib_packing.specs.Misfits.{Target, ToComplex, ToSpatial};
+ghost use Rattle.grib_packing.specs.Written.{IsPacked, order_known};
+ghost use Rattle.grib_complex.specs.Below.{IsPackedBelow};
 
 use crate::field::Representation;
 use crate::packed::{pack_complex, pack_spatial};
@@ -32,7 +34,7 @@ impl Packing for ComplexPacking {
     }
 
     fn pack(&self, alloc: Global, column: &Column, kind: u8) -> Result<Packed, PackFault> {
-        pack_complex(alloc, column, kind)
+        without_bound(pack_complex(alloc, column, kind, None))
     }
 
     ghost is_template = { λ _. refl };
@@ -82,10 +84,23 @@ impl Packing for SpatialPacking {
     }
 
     fn pack(&self, alloc: Global, column: &Column, kind: u8) -> Result<Packed, PackFault> {
-        pack_spatial(alloc, column, kind, self.order())
+        without_bound(pack_spatial(alloc, column, kind, self.order(), None))
     }
 
     ghost is_template = { λ _. refl };
 
     ghost is_target = { λ packing. order_known packing.second };
+}
+
+/// What is packed where there is no bound.
+fn without_bound(found: Result<Option<Packed>, PackFault>) -> Result<Packed, PackFault>
+    requires { (target : Target) × (column : column_packing.Column) × (kind : ℕ) × IsPackedBelow target column kind None found }
+    ensures { (target : Target) (column : column_packing.Column) (kind : ℕ) → IsPackedBelow target column kind None found
+        → IsPacked target column kind result }
+{
+    match found {
+        Ok(Some(packed)) => Ok(packed),
+        Ok(None) => unreachable!(),
+        Err(fault) => Err(fault),
+    }
 }

@@ -1,6 +1,6 @@
 //! Writing a message in the fewest octets.
 
-ghost use Rattle.std.specs.Prelude.{◌≡◌, ◌+◌, ◌≤◌, min, All, IfOk};
+ghost use Rattle.std.specs.Prelude.{◌≡◌, ◌+◌, ◌≤◌, min, All, IfOk, Some};
 ghost use Rattle.grib_packing.specs.Written.{IsTarget, MayBePacked};
 ghost use Rattle.grib2_message.specs.Assembled.{IsShort};
 ghost use Rattle.grib2_message.specs.Fields.{field_count};
@@ -14,7 +14,7 @@ ghost use Rattle.grib_least.specs.Least.{form_of, least, size_of};
 
 use grib_base::List;
 use grib_bits::u8_at;
-use grib_complex::{pack_complex_below, pack_spatial_below};
+use grib_complex::{pack_complex, pack_spatial};
 use grib_packed::laws::{a_packing_is_written, one_packing_is_written};
 use grib_packing::{Column, PackFault, Packed, Packing};
 use grib_repack::RepackTarget;
@@ -154,15 +154,15 @@ fn pack_below(
 ) -> Result<Option<Packed>, PackFault>
     requires target { IsTarget (target_of target) }
     requires column { MayBePacked column.now }
-    ensures { IsPackedBelow (target_of target) column.now kind most result }
+    ensures { IsPackedBelow (target_of target) column.now kind (Some most) result }
 {
     match target {
         RepackTarget::Simple => match SimplePacking.pack(alloc, column, kind) {
             Ok(form) => Ok(Some(form)),
             Err(fault) => Err(fault),
         },
-        RepackTarget::Complex => pack_complex_below(alloc, column, kind, most),
-        RepackTarget::Spatial(order) => pack_spatial_below(alloc, column, kind, order, most),
+        RepackTarget::Complex => pack_complex(alloc, column, kind, Some(most)),
+        RepackTarget::Spatial(order) => pack_spatial(alloc, column, kind, order, Some(most)),
     }
 }
 

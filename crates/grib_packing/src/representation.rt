@@ -9,8 +9,9 @@ ghost use Rattle.grib_packing.specs.Entries.{packing_rows, is_packing, packing_o
 ghost use Rattle.grib_packing.specs.Packing.{template_reason};
 ghost use Rattle.grib_packing.specs.Representation.{Spelled};
 
+use crate::{Column, Point};
 use byteorder::{BigEndian, ByteOrder};
-use grib_base::{Fault, Reason, Section};
+use grib_base::{Fault, List, Reason, Section};
 
 /// What Section 5 says in each template of the profile (WMO-No. 306, Volume I.2, FM 92 GRIB edition 2, data
 /// representation templates 5.0, 5.2 and 5.3).
@@ -30,6 +31,20 @@ pub struct Simple {
     pub bits: u8,
     /// The type of the original values (code table 5.1): octet 21.
     pub kind: u8,
+}
+
+impl Simple {
+    /// A column of these points, with the R, E and D that give them values.
+    pub fn column(&self, points: Vec<Point>) -> Column
+        ensures { result ≡ record { reference = self.now.reference; e = self.now.e; d = self.now.d; points = points.items } }
+    {
+        Column {
+            reference: self.reference,
+            e: self.e,
+            d: self.d,
+            points: List::of(points),
+        }
+    }
 }
 
 /// Reads of Section 5 what all templates share, where the grid has this many points. A refusal is that of

@@ -6,7 +6,4 @@ pub mod Columns
 pub mod Packing
 pub mod Kept
 pub mod Back
-mod Standing
-mod Simply
-mod AsWords
-mod Placed
+pub mod Simply

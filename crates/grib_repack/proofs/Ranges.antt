@@ -20,6 +20,7 @@ use Rattle.grib_packing.specs.Entries.{data_fault, complex_data_fault, complex_e
 use Rattle.grib_packing.specs.Groups.{code_of, codes_from, marked, groups_from, groups, references, widths, lengths, list_octets, list_rows}
 use Rattle.grib_packing.specs.Packing.{packing_template, bit_width, value_count}
 use Rattle.grib_packing.proofs.Packings.{IsComplexTemplate, PackingPasses, most-simple, most-complex, data_fault-complex, entries_of-simple, entries_of-complex}
+use Rattle.grib_simple.proofs.Fitting.{parts_false}
 use Rattle.grib_simple.proofs.Seen.{first_place-any}
 use Rattle.grib2_message.proofs.Passed.{passes_from_none}
 
@@ -35,10 +36,6 @@ none_with_mask (true ∷ mask) (entry ∷ entries) none = (none.0, none_with_mas
 pub any_of_none : {A : Type 0} (test : A → Bool) (xs : List A) → NoneOf test xs → list_any test xs ≡ false
 any_of_none test [] none = refl
 any_of_none test (x ∷ xs) none = ap₂ (λ (a b : Bool). a || b) none.0 (any_of_none test xs none.1)
-
-parts_false : (a b : Bool) → (a || b) ≡ false → (a ≡ false) × (b ≡ false)
-parts_false true b e = absurd (cc)
-parts_false false b e = (refl, e)
 
 none_of_any : {A : Type 0} (test : A → Bool) (xs : List A) → list_any test xs ≡ false → NoneOf test xs
 none_of_any test [] e = tt

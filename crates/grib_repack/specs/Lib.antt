@@ -1,4 +1,2 @@
 pub mod Repacked
 pub mod Faults
-pub mod Plain
-pub mod Words

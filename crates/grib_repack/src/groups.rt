@@ -1,29 +1,20 @@
 //! Complex packing of fields by the words of their codes.
 
-ghost use Rattle.std.specs.Prelude.{◌≡◌, ◌≤◌, length, IfOk, MatchOption};
+ghost use Rattle.std.specs.Prelude.{◌≡◌, ◌≤◌, length, IfOk};
 ghost use Rattle.grib_packing.specs.Misfits.{ToComplex};
 ghost use Rattle.grib_packing.specs.Written.{IsPacked};
 ghost use Rattle.grib_packing.specs.Entries.{entries_of};
 ghost use Rattle.grib_packing.specs.Packing.{value_count};
 ghost use Rattle.grib_packing.specs.Representation.{Spelled};
+ghost use Rattle.grib_complex.specs.KeptWords.{AreWords};
 ghost use Rattle.grib2_message.specs.Fields.{field_count, part_octets, column_of};
 ghost use Rattle.grib_repack.specs.Repacked.{kind_of};
-ghost use Rattle.grib_repack.specs.Words.{AreWords, TellsField};
 
 use crate::column::pack_column;
-use crate::masked::masked_words;
-use crate::words::PointWords;
-use grib_complex::{ComplexPacking, pack_words};
+use grib_complex::{ComplexPacking, PointWords, pack_words};
 use grib_packing::{PackFault, Packed, Simple, numbers_of};
 use grib2_message::Message;
 use std::alloc::{AllocError, Global};
-
-/// The words of the codes of a field's points, and the missing value management.
-#[derive(Debug, Drop)]
-struct FieldWords {
-    words: Vec<u32>,
-    management: u8,
-}
 
 /// Sections 5, 6 and 7 of one field, counted from 1, in the groups of 1 to 64 points that take the fewest bits. No
 /// column is made, but where a number may have no code.
@@ -45,40 +36,12 @@ pub(crate) fn pack_in_groups(
         unreachable!();
     };
     let simple = numbers_of(section5.octets);
-    let Some(told) = field_words(alloc, message, field, &simple)? else {
-        return pack_column(alloc, message, field, &ComplexPacking);
-    };
-    Ok(pack_words(alloc, &simple, told.words, told.management)?)
-}
-
-/// The words of a field's points, with the numbers of its Section 5; none where a number is outside 0 to 4,294,967,293.
-///
-/// # Errors
-///
-/// There is no memory.
-fn field_words(
-    alloc: Global,
-    message: &Message<'_>,
-    field: u32,
-    simple: &Simple,
-) -> Result<Option<FieldWords>, AllocError>
-    requires first { 1 ≤ field }
-    requires last { field ≤ field_count message.now }
-    requires spelled { Spelled simple.now (part_octets message.now field 5) }
-    ensures { IfOk result (λ told. MatchOption told (Unit {0}) (TellsField (column_of message.now field))) }
-{
-    let kept = value_words(alloc, message, field, simple)?;
-    if kept.is_outside {
-        return Ok(None);
-    }
+    let kept = value_words(alloc, message, field, &simple)?;
     let mask = message.mask(alloc, field)?;
-    let management = if simple.values < mask.len() {
-        kept.management.max(1)
-    } else {
-        kept.management
-    };
-    let words = masked_words(alloc, &mask, kept.words)?;
-    Ok(Some(FieldWords { words, management }))
+    match pack_words(alloc, &simple, kept, &mask)? {
+        Some(packed) => Ok(packed),
+        None => pack_column(alloc, message, field, &ComplexPacking),
+    }
 }
 
 /// The words of a field's values, with the numbers of its Section 5. Numbers of 1 to 31 bits in simple packing are read where

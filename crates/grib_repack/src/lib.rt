@@ -5,12 +5,9 @@ mod column;
 mod fault;
 mod groups;
 pub mod laws;
-mod masked;
-mod numbers;
 mod plain;
 mod repacking;
 mod target;
-mod words;
 
 pub use fault::RepackFault;
 pub use plain::pack_simply;

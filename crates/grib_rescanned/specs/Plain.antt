@@ -14,7 +14,7 @@ takes_numbers (Crop area) s = true
 
 -- its column
 abbrev pub plain_column : PlainField → Column
-plain_column field = record { reference = field.reference; e = field.e; d = field.d; points = number_points field.numbers }
+plain_column field = record { reference = field.simple.reference; e = field.simple.e; d = field.simple.d; points = number_points field.numbers }
 
 -- the numbers can be read, and there are as many as grid points
 pub record PlainStands (points : ℕ) (field : PlainField) : Type 0 where

@@ -109,7 +109,7 @@ impl GridEdit {
             }
             GridEdit::Crop(area) => crop_points(alloc, &field.numbers, ni, nj, area)?,
         };
-        Ok(field.with_points(points))
+        Ok(field.simple.column(points))
     }
 }
 

@@ -1,12 +1,11 @@
 //! Fields whose points are packed numbers, one for each grid point.
 
-ghost use Rattle.std.specs.Prelude.{◌≡◌, ◌≤◌, true, IfOk, IfSome};
+ghost use Rattle.std.specs.Prelude.{◌≡◌, ◌≤◌, IfOk, IfSome};
 ghost use Rattle.grib2_grids.specs.Grid.{grid_points};
 ghost use Rattle.grib2_message.specs.Fields.{field_count, part_octets, column_of};
 ghost use Rattle.grib_rescanned.specs.Plain.{plain_column, PlainStands};
 
-use grib_base::List;
-use grib_packing::{Column, Point, numbers_of};
+use grib_packing::{Simple, numbers_of};
 use grib_rescan::Numbers;
 use grib2_message::Message;
 use std::alloc::{AllocError, Global};
@@ -14,24 +13,8 @@ use std::alloc::{AllocError, Global};
 /// A field in simple packing none of whose points is missing: no column is made of it.
 #[derive(Clone, Copy, Debug)]
 pub(crate) struct PlainField<'a> {
-    pub reference: u32,
-    pub e: u16,
-    pub d: u16,
+    pub simple: Simple,
     pub numbers: Numbers<'a>,
-}
-
-impl PlainField<'_> {
-    /// A column of these points, with the numbers of the field that give them values.
-    pub fn with_points(&self, points: Vec<Point>) -> Column
-        ensures { result ≡ record { reference = self.now.reference; e = self.now.e; d = self.now.d; points = points.items } }
-    {
-        Column {
-            reference: self.reference,
-            e: self.e,
-            d: self.d,
-            points: List::of(points),
-        }
-    }
 }
 
 /// A field as such a one, if it is. Fields count from 1.
@@ -63,9 +46,7 @@ pub(crate) fn plain_field<'a>(
         return Ok(None);
     }
     Ok(Some(PlainField {
-        reference: simple.reference,
-        e: simple.e,
-        d: simple.d,
+        simple,
         numbers: Numbers {
             octets: &section7.octets[5..],
             bits: u32::from(simple.bits),

@@ -58,7 +58,7 @@ greatest_below m (n ∷ ns) some each =
     let rest = greatest_below m ns some (All-tail (λ n. n < m) n ns each) in
     omega arith
 
-at_most : (m : ℕ) (ns : List ℕ) → greatest ns ≤ m → All (λ n. n ≤ m) ns
+pub at_most : (m : ℕ) (ns : List ℕ) → greatest ns ≤ m → All (λ n. n ≤ m) ns
 at_most m [] most = All-nil (λ n. n ≤ m)
 at_most m (n ∷ ns) most = All-cons (λ n. n ≤ m) n ns (omega arith) (at_most m ns (omega arith))
 

@@ -9,3 +9,4 @@ mod Bitmaps
 pub mod Back
 mod Same
 mod Times
+pub mod InPlace

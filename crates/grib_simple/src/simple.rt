@@ -15,7 +15,7 @@ ghost use Rattle.grib_packing.specs.Unpacked.{IsUnpacked};
 
 use crate::numbers::{masked_points, unpack_points};
 use crate::packed::pack_simply;
-use grib_base::{Fault, List, ReadFault, Reason, Section};
+use grib_base::{Fault, ReadFault, Reason, Section};
 use grib_bitmap::Mask;
 use grib_packing::{Column, PackFault, Packed, Packing, Point, Simple, numbers_of};
 use std::alloc::{AllocError, Global};
@@ -68,12 +68,7 @@ pub fn unpack_simple(
     check_simple(simple, section7)?;
     let octets = &section7.octets[5..];
     let points = present_points(alloc, octets, u32::from(simple.bits), simple.values, mask)?;
-    Ok(Column {
-        reference: simple.reference,
-        e: simple.e,
-        d: simple.d,
-        points: List::of(points),
-    })
+    Ok(simple.column(points))
 }
 
 /// Tries the row of a Section 7 in simple packing, from the numbers of its Section 5.

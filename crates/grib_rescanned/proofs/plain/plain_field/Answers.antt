@@ -11,7 +11,8 @@ use Rattle.grib2_message.specs.Fields.{part_octets}
 use Rattle.grib_packing.proofs.Packings.{most-simple, packing_passes}
 use Rattle.grib_simple.proofs.Accepted.{same_column}
 use Rattle.grib_rescan.proofs.Added.{scaled}
-use Rattle.grib_rescanned.proofs.Numbered.{has_numbers, are_points}
+use Rattle.grib_repack.proofs.Simply.{has_numbers}
+use Rattle.grib_rescanned.proofs.Numbered.{are_points}
 use Rattle.grib_rescanned.proofs.plain.plain_field.Goals as goal
 
 pub numbers_of-simple-requires : goal.numbers_of-simple-requires

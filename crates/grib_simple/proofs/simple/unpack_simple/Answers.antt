@@ -30,6 +30,6 @@ returns c = λ s5 simple template.
     ap (λ (xs : List ℕ). map f (plain (bits xs) c.from.result c.args.simple.now.values)) (take_rest s7 5)
     ∙ ap₂ (λ (w n : ℕ). map f (plain part w n)) width simple.values in (
       c.in_ok-check_simple.ensures.row s5 simple template,
-      same_column s5 _ _ _ c.of.result _ simple.reference simple.e simple.d
-          (c.of.ensures ∙ c.in_ok-points.ensures ∙ ap (points_with_mask mask) (numbers ∙ sym (entries_of-simple s5 s7 template))),
+      c.column.ensures ∙ same_column s5 _ _ _ c.in_ok-points.points.items _ simple.reference simple.e simple.d
+          (c.in_ok-points.ensures ∙ ap (points_with_mask mask) (numbers ∙ sym (entries_of-simple s5 s7 template))),
     )
