@@ -52,13 +52,15 @@ scanning_shape n false true c = refl
 scanning_shape n false false true = refl
 scanning_shape n false false false = refl
 
-la1_shape : (n : ℕ) (a : Bool) → shape n La1 (cond a (at 47 50 any) (at 39 42 any)) ≡ true
-la1_shape n true = refl
-la1_shape n false = refl
+la1_shape : (n : ℕ) (a b : Bool) → shape n La1 (cond a (at 47 50 any) (cond b (at 39 42 any) None)) ≡ true
+la1_shape n true b = refl
+la1_shape n false true = refl
+la1_shape n false false = refl
 
-lo1_shape : (n : ℕ) (a : Bool) → shape n Lo1 (cond a (at 51 54 any) (at 43 46 any)) ≡ true
-lo1_shape n true = refl
-lo1_shape n false = refl
+lo1_shape : (n : ℕ) (a b : Bool) → shape n Lo1 (cond a (at 51 54 any) (cond b (at 43 46 any) None)) ≡ true
+lo1_shape n true b = refl
+lo1_shape n false true = refl
+lo1_shape n false false = refl
 
 -- the octet with the number of time ranges, by whether the template is 4.8 and whether it is 4.11
 abbrev count_by : Bool → Bool → ℕ
@@ -89,8 +91,8 @@ module _ (key : Key) (first last : ℕ) (in_8 : shape 42 key (at first last any)
 
 pub shaped : (l : Layout) (key : Key) → shape (count_octet l.template) key ((row_of key).place l) ≡ true
 shaped l Scanning = scanning_shape (count_octet l.template) (is_by_angles l.template) (is_of (10 ∷ []) l.template) (is_of (20 ∷ 30 ∷ []) l.template)
-shaped l La1 = la1_shape (count_octet l.template) (is_by_angles l.template)
-shaped l Lo1 = lo1_shape (count_octet l.template) (is_by_angles l.template)
+shaped l La1 = la1_shape (count_octet l.template) (is_by_angles l.template) (is_of (10 ∷ 20 ∷ 30 ∷ []) l.template)
+shaped l Lo1 = lo1_shape (count_octet l.template) (is_by_angles l.template) (is_of (10 ∷ 20 ∷ 30 ∷ []) l.template)
 shaped l EnsembleType = ensemble_shape EnsembleType (at 35 35 any) refl refl refl (l.template == 8) (l.template == 11) (is_of (1 ∷ 11 ∷ []) l.template)
 shaped l EnsembleNumber = ensemble_shape EnsembleNumber (at 36 36 any) refl refl refl (l.template == 8) (l.template == 11) (is_of (1 ∷ 11 ∷ []) l.template)
 shaped l EnsembleMembers = ensemble_shape EnsembleMembers (at 37 37 any) refl refl refl (l.template == 8) (l.template == 11) (is_of (1 ∷ 11 ∷ []) l.template)

@@ -73,13 +73,15 @@ scanning_lane false true c = refl
 scanning_lane false false true = refl
 scanning_lane false false false = refl
 
-la1_lane : (a e : Bool) → lies_within (lane a e La1) (cond a (span 47 50) (span 39 42)) ≡ true
-la1_lane true e = refl
-la1_lane false e = refl
+la1_lane : (a b e : Bool) → lies_within (lane a e La1) (cond a (span 47 50) (cond b (span 39 42) None)) ≡ true
+la1_lane true b e = refl
+la1_lane false true e = refl
+la1_lane false false e = refl
 
-lo1_lane : (a e : Bool) → lies_within (lane a e Lo1) (cond a (span 51 54) (span 43 46)) ≡ true
-lo1_lane true e = refl
-lo1_lane false e = refl
+lo1_lane : (a b e : Bool) → lies_within (lane a e Lo1) (cond a (span 51 54) (cond b (span 43 46) None)) ≡ true
+lo1_lane true b e = refl
+lo1_lane false true e = refl
+lo1_lane false false e = refl
 
 -- template 4.8 has no ensemble
 ensemble_lane : (o : Option Octets) → lies_within o o ≡ true → (t : ℕ) (e : Bool) → (t == 8) ≡ e → lies_within (cond e None o) (cond (is_of (1 ∷ 11 ∷ []) t) o None) ≡ true
@@ -104,8 +106,8 @@ lane_by l key = lane (is_by_angles l.template) (l.template == 8) key
 
 in_lane : (l : Layout) (key : Key) → lies_within (lane_by l key) ((row_of key).place l) ≡ true
 in_lane l Scanning = scanning_lane (is_by_angles l.template) (is_of (10 ∷ []) l.template) (is_of (20 ∷ 30 ∷ []) l.template)
-in_lane l La1 = la1_lane (is_by_angles l.template) (l.template == 8)
-in_lane l Lo1 = lo1_lane (is_by_angles l.template) (l.template == 8)
+in_lane l La1 = la1_lane (is_by_angles l.template) (is_of (10 ∷ 20 ∷ 30 ∷ []) l.template) (l.template == 8)
+in_lane l Lo1 = lo1_lane (is_by_angles l.template) (is_of (10 ∷ 20 ∷ 30 ∷ []) l.template) (l.template == 8)
 in_lane l EnsembleType = ensemble_lane (span 35 35) refl l.template (l.template == 8) refl
 in_lane l EnsembleNumber = ensemble_lane (span 36 36) refl l.template (l.template == 8) refl
 in_lane l EnsembleMembers = ensemble_lane (span 37 37) refl l.template (l.template == 8) refl

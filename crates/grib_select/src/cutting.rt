@@ -6,6 +6,7 @@ ghost use Rattle.grib2_message.specs.Message.{IsMessage};
 ghost use Rattle.grib_select.specs.Single as definitions;
 ghost use Rattle.grib_select.specs.Single.{first_parts, single_of};
 
+use grib_base::MOST_OCTETS;
 use grib2_message::Message;
 use std::alloc::{AllocError, Global};
 
@@ -58,7 +59,7 @@ fn field_part<'a>(message: &Message<'a>, field: u32, number: u8) -> &'a [u8]
     requires low { 1 ≤ number }
     requires high { number ≤ 7 }
     ensures octets { result.now ≡ definitions.field_part message.now field number }
-    ensures short { length result.now ≤ 268435456 }
+    ensures short { length result.now ≤ MOST_OCTETS }
 {
     if number == BITMAP {
         return message.bitmap(field).octets;

@@ -148,7 +148,15 @@ fn rows_of_a_grid_add_up(rt: HostRuntime) -> Result<(), Fail> {
         FOUR_VALUES,
     ];
     let octets = message_of(rt.alloc(), 187, &sections)?;
-    assert!(rt; read(rt.alloc(), octets.as_slice()).is_ok());
+    let Ok(message) = read(rt.alloc(), octets.as_slice()) else {
+        return Err(Fail::from("refused"));
+    };
+    assert_eq!(rt; message.fields(), 1);
+    let grid = message.grid(rt.alloc(), 1)?;
+    assert_eq!(rt; grid.points, 4);
+    assert_eq!(rt; grid.rows.as_slice(), [1, 3].as_slice());
+    let product = message.product(rt.alloc(), 1)?;
+    assert_eq!(rt; product.coordinates.as_slice().len(), 0);
     sections[2] = b"\0\x02".as_slice();
     let octets = message_of(rt.alloc(), 187, &sections)?;
     let expected = Fault {
