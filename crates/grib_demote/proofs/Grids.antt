@@ -1,5 +1,5 @@
 -- Which numbers a grid has, by its template.
-use Rattle.std.proofs.Common.{◌≡◌, ℕ, ◌==◌, Bool, cond, Option, List, ◌++◌, ap, ◌∙◌, ne_eqb}
+use Rattle.std.proofs.Common.{◌≡◌, ℕ, ◌==◌, cond, List, ◌++◌, ap, ◌∙◌, ne_eqb}
 use Rattle.grib_bits.specs.Octets.{octets}
 use Rattle.grib2_grids.specs.Grid.{grid_template}
 use Rattle.grib_demote.specs.declared.tested.Tested.{Tested}

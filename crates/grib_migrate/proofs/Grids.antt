@@ -8,7 +8,6 @@ use Rattle.grib_bits.specs.Octets.{octets}
 use Rattle.grib_causes.specs.declared.loss.Loss.{Loss}
 use Rattle.grib_causes.specs.declared.loss.Loss.TheVariants.{GridNumber}
 use Rattle.grib_migrate.specs.declared.loss.MigrateFault.{MigrateFault}
-use Rattle.grib_bits.specs.declared.adding.Number.TheVariants.{One, Four}
 use Rattle.grib_migrate.specs.declared.loss.MigrateFault.TheVariants.{Memory}
 use Rattle.grib_migrate.specs.Answered.{IsMigrateFault}
 use Rattle.grib_migrate.specs.GridParts.{IsGridPart}
@@ -16,7 +15,7 @@ use Rattle.grib_bits.specs.declared.adding.Number.{Number}
 use Rattle.grib_migrate.specs.declared.scaled.Scaled.{Scaled}
 use Rattle.grib_migrate.specs.declared.scaled.Scaled.TheVariants.{Angle, Longitude}
 use Rattle.grib_bits.specs.Encoding.{all_octets}
-use Rattle.grib_migrate.specs.Grids.{fits, first_octet, scaled, loss_among, lambert_own, grid_loss, lat_lon_scaled, mercator_scaled, polar_scaled, lambert_scaled, template_numbers, lat_lon, increment, mercator, polar, lambert, angle, longitude, distance, new_flags, scanning, three, centre, true_latitude, row_octets, header, common, grid_octets}
+use Rattle.grib_migrate.specs.Grids.{fits, first_octet, scaled, loss_among, lambert_own, grid_loss, lat_lon_scaled, mercator_scaled, polar_scaled, lambert_scaled, template_numbers, lat_lon, increment, mercator, polar, lambert, angle, three, centre, true_latitude, row_octets, header, common, grid_octets}
 use Rattle.grib_bits.proofs.AllOctets.{length-all_octets}
 
 abbrev loss_or : Bool → Scaled → Option Scaled → Option Loss

@@ -4,7 +4,6 @@ use Rattle.std.proofs.lemmas.List.{length-append, length-map, take_more}
 use Rattle.grib_params.specs.declared.row.Target.{Target}
 use Rattle.grib1_sections.specs.Keys.{key_in}
 use Rattle.grib1_sections.specs.declared.key.Key1.TheVariants.{P1, P2, TimeRange, AverageMissing}
-use Rattle.grib_bits.specs.declared.adding.Number.{Number}
 use Rattle.grib_bits.specs.declared.adding.Number.TheVariants.{One, Two, Four}
 use Rattle.grib_migrate.specs.declared.date.Moment.{Moment}
 use Rattle.grib_migrate.specs.declared.level.Surfaces.{Surfaces}
@@ -12,7 +11,7 @@ use Rattle.grib_migrate.specs.declared.time.Unit.{Unit as UnitOfTime}
 use Rattle.grib_bits.specs.Encoding.{all_octets}
 use Rattle.grib_migrate.specs.Times.{is_interval, statistic}
 use Rattle.grib_migrate.specs.Dates.{end_of}
-use Rattle.grib_migrate.specs.Products.{moment_numbers, interval_numbers, end_numbers, instant_numbers, coordinate_numbers, product_octets}
+use Rattle.grib_migrate.specs.Products.{interval_numbers, end_numbers, instant_numbers, coordinate_numbers, product_octets}
 use Rattle.grib_causes.specs.declared.loss.Loss.TheVariants.{Coordinate}
 use Rattle.grib_migrate.specs.Losses.{coordinate_loss, coordinate_loss_from}
 use Rattle.grib_migrate.specs.References.{binary32_of}
