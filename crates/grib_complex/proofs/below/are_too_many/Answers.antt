@@ -1,4 +1,4 @@
-use Rattle.std.proofs.Common.{◌≡◌, ℕ, ◌+◌, ◌*◌, ◌≤◌, List, length, Option, IsSomeAnd, sym, subst}
+use Rattle.std.proofs.Common.{ℕ, ◌+◌, ◌*◌, ◌≤◌, List, length, Option, IsSomeAnd, sym, subst}
 use Rattle.grib_packing.specs.Groupings.{IsGrouping}
 use Rattle.grib_packing.specs.Packed.{group_parts}
 use Rattle.grib_complex.specs.FieldCodes.{codes_in}

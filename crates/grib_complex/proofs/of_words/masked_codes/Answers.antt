@@ -1,4 +1,4 @@
-use Rattle.std.proofs.Common.{ℕ, List, length, sym, arith, subst}
+use Rattle.std.proofs.Common.{List, sym, arith, subst}
 use Rattle.grib_base.specs.declared.code.Code.{Code}
 use Rattle.grib_packing.specs.Column.{points_with_mask}
 use Rattle.grib_complex.specs.KeptWords.{TellPoints}
