@@ -1,13 +1,12 @@
 -- Octets that begin like a message of edition 2 and are fewer than those of Section 0.
-use Rattle.std.proofs.Common.{◌≡◌, ◌≢◌, ℕ, ◌+◌, ◌-◌, ◌<◌, ◌≤◌, Bool, true, false, not, cond, ◌&&◌, ◌||◌, Option, Some, None, List, [], ◌++◌, length, take, drop, slice_get, nat_lt, ◌==◌, inl, inr, refl, sym, ap, ap₂, ◌∙◌, arith, subst, lt-ltb, le-ltb, eq-eqb, ne_eqb, take_at, take-take, length-append, length-take-le}
+use Rattle.std.proofs.Common.{◌≡◌, ◌≢◌, ℕ, ◌+◌, ◌≤◌, Bool, true, false, not, cond, ◌&&◌, ◌||◌, Option, Some, None, List, [], ◌++◌, length, take, slice_get, nat_lt, ◌==◌, inl, inr, refl, sym, ap, ap₂, ◌∙◌, arith, subst, lt-ltb, le-ltb, eq-eqb, ne_eqb, take_at, take-take, length-append}
 use Rattle.std.proofs.lemmas.Bool.{cases_lt}
 use Rattle.std.proofs.lemmas.List.{take_all}
 use Rattle.std.proofs.lemmas.Option.{slice_get_within}
-use Rattle.grib_bits.specs.Octets.{octets as number_at}
 use Rattle.grib_base.specs.declared.fault.Fault.{Fault}
 use Rattle.grib_base.specs.declared.fault.Reason.TheVariants.{Truncated, Edition, TotalLength}
 use Rattle.grib_base.specs.Rows.{first_fault, refusal}
-use Rattle.grib2_sections.specs.Verdict.{Verdict, Accepted, Refused}
+use Rattle.grib2_sections.specs.Verdict.{Refused}
 use Rattle.grib2_sections.specs.Head.{indicator, edition, discipline, head_rows, head_of, total_length, total_length_1}
 use Rattle.grib2_sections.specs.declared.indicator.Head.{Head}
 use Rattle.grib2_sections.specs.Frame.{Position}

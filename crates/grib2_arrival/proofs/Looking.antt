@@ -1,7 +1,7 @@
 -- What the octets that were gathered tell of what stands there.
-use Rattle.std.proofs.Common.{◌≡◌, ◌≢◌, ℕ, ◌+◌, ◌-◌, ◌<◌, ◌≤◌, Bool, true, false, IsTrue, Option, Some, None, List, ◌++◌, length, nat_lt, ◌==◌, inl, inr, refl, sym, ap, ◌∙◌, arith, eqb-true, ltb-false, length-append}
+use Rattle.std.proofs.Common.{◌≡◌, ◌≢◌, ℕ, ◌+◌, ◌-◌, ◌<◌, ◌≤◌, true, false, IsTrue, Option, Some, None, List, ◌++◌, length, nat_lt, ◌==◌, inl, inr, refl, sym, ap, ◌∙◌, arith, eqb-true, ltb-false, length-append}
 use Rattle.std.proofs.lemmas.Bool.{cases_lt, eqb-false}
-use Rattle.grib_bits.specs.Octets.{octets as number_at, StatesItself}
+use Rattle.grib_bits.specs.Octets.{octets as number_at}
 use Rattle.grib_base.specs.declared.fault.Fault.{Fault}
 use Rattle.grib_base.specs.declared.fault.Reason.TheVariants.{Truncated}
 use Rattle.grib2_sections.specs.Frame.{Placed, Fails, Next, end_rows, end_fault, opening_fault, mark_fault, ends_at, may_follow}
@@ -12,7 +12,7 @@ use Rattle.grib2_message.proofs.Whole.{octets_before}
 use Rattle.grib2_arrival.specs.declared.kept.Kept.{Kept}
 use Rattle.grib2_arrival.specs.declared.look.Look.TheVariants.{More, Ends, Section, Values}
 use Rattle.grib2_arrival.specs.Standing.{Stands}
-use Rattle.grib2_arrival.specs.Heard.{mark, cut_off, pending, step_of, IsUnfinished, IsOne, IsValues, Looks}
+use Rattle.grib2_arrival.specs.Heard.{mark, cut_off, pending, step_of, IsUnfinished, IsOne, Looks}
 use Rattle.grib2_arrival.proofs.Pending.{pending_long, pending_four, pending_fifth, pending_whole}
 use Rattle.grib2_arrival.proofs.Reasons.{end_other, opening_other, other_reason}
 

@@ -1,26 +1,24 @@
 -- What is known of some octets, when other octets follow them, and after one more section.
-use Rattle.std.proofs.Common.{◌≡◌, ◌≢◌, ℕ, suc, ◌+◌, ◌-◌, ◌*◌, ◌<◌, ◌≤◌, IsTrue, Option, Some, None, List, [], ◌∷◌, ◌++◌, length, take, drop, slice_get, get_or, inl, inr, refl, sym, ap, ◌∙◌, arith, subst, append-nil, append_assoc, length-append}
+use Rattle.std.proofs.Common.{◌≡◌, ◌≢◌, ℕ, ◌+◌, ◌≤◌, IsTrue, Some, None, List, [], ◌∷◌, ◌++◌, length, slice_get, get_or, inl, inr, refl, sym, ap, ◌∙◌, arith, subst, append-nil, append_assoc, length-append}
 use Rattle.std.proofs.lemmas.Bool.{cases_lt}
 use Rattle.std.proofs.lemmas.Option.{slice_get_within, get_or_from_slice_get, slice_get-get_or}
 use Rattle.std.proofs.Math.ListN.{get_or-append}
 use Rattle.std.proofs.Math.Seq.{get_or-append_seam}
-use Rattle.std.specs.List.{count_by}
 use Rattle.grib_bits.specs.Octets.{octets as number_at, StatesItself}
 use Rattle.grib_base.specs.declared.fault.Fault.{Fault}
-use Rattle.grib_base.specs.declared.fault.ReadFault.{ReadFault}
-use Rattle.grib_base.specs.declared.fault.ReadFault.TheVariants.{Refused as ReadRefused, Memory as ReadMemory}
+use Rattle.grib_base.specs.declared.fault.ReadFault.TheVariants.{Refused as ReadRefused}
 use Rattle.grib_base.specs.declared.fault.Reason.TheVariants.{Truncated}
-use Rattle.grib2_sections.specs.Verdict.{Verdict, Accepted, Refused}
-use Rattle.grib2_sections.specs.Head.{edition, discipline, total_length}
-use Rattle.grib2_sections.specs.Frame.{Placed, placed_at, Position, position_after, section_number, may_follow, Step, End, Fails, Next, step, step_from}
-use Rattle.grib2_message.specs.View.{is_numbered, last_number, section_in_force, octets_in_force, earlier_mask, section_count}
-use Rattle.grib2_message.specs.Acceptance.{section_fault, verdict_from, verdict_2}
-use Rattle.grib2_message.specs.Fields.{sections_from, sections_up_to_field, field_sections, field_count}
+use Rattle.grib2_sections.specs.Verdict.{Accepted, Refused}
+use Rattle.grib2_sections.specs.Head.{discipline}
+use Rattle.grib2_sections.specs.Frame.{Placed, placed_at, Position, position_after, section_number, may_follow, End, Fails, Next}
+use Rattle.grib2_message.specs.View.{last_number, section_count}
+use Rattle.grib2_message.specs.Acceptance.{section_fault, verdict_2}
+use Rattle.grib2_message.specs.Fields.{field_sections, field_count}
 use Rattle.grib2_message.specs.Kept.{HasInForce, Comes}
 use Rattle.grib2_message.specs.Summary.{summary_in_force, summary_of}
 use Rattle.grib2_message.specs.declared.summary.FieldSummary.{FieldSummary}
 use Rattle.grib2_message.proofs.Whole.{octets_before}
-use Rattle.grib2_message.proofs.Stays.{step_kept, front_of_more, refused_stays}
+use Rattle.grib2_message.proofs.Stays.{step_kept, front_of_more}
 use Rattle.grib2_message.proofs.Ways.{OnWay, GoesOn, way_comes, way_next, way_fails, way_refused, way_end}
 use Rattle.grib2_message.proofs.Described.{line_other}
 use Rattle.grib2_message.proofs.Sound.{count_same, count_other}

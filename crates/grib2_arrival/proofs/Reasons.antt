@@ -1,7 +1,6 @@
 -- No row on the length, the number or the contents of a section, or on an end mark, says that the octets end too early.
 use Rattle.std.proofs.Common.{◌≡◌, ◌≢◌, ℕ, zero, suc, Bool, true, false, cond, Option, Some, None, List, [], ◌∷◌, length, get_or, ◌==◌, ◌+◌, ap, ◌∙◌}
 use Rattle.grib_base.specs.declared.fault.Fault.{Fault}
-use Rattle.grib_base.specs.declared.fault.Reason.{Reason}
 use Rattle.grib_base.specs.declared.fault.Reason.TheVariants.{Truncated, Jpeg2000, PngPacked, Ccsds, PackingTemplate}
 use Rattle.grib_base.specs.Rows.{Row, first_fault, located, or_then, choose}
 use Rattle.grib2_sections.specs.Frame.{Placed, Position, section_number, end_rows, end_fault, opening_rows, opening_fault}

@@ -1,13 +1,12 @@
 -- What is known of an arriving message, state by state.
-use Rattle.std.proofs.Common.{◌≡◌, ◌≢◌, ℕ, ◌+◌, ◌-◌, ◌<◌, ◌≤◌, Option, Some, None, IsSome, List, [], ◌∷◌, ◌++◌, length, take, drop, slice_get, refl, sym, ap, ◌∙◌, arith, subst, length-append, length-drop}
+use Rattle.std.proofs.Common.{◌≡◌, ◌≢◌, ℕ, ◌+◌, ◌≤◌, Some, None, List, [], ◌∷◌, ◌++◌, length, drop, slice_get, refl, sym, ap, ◌∙◌, arith, length-drop}
 use Rattle.std.proofs.lemmas.List.{drop-append-le}
-use Rattle.grib_bits.specs.Octets.{octets as number_at, StatesItself}
-use Rattle.grib_base.specs.declared.fault.Fault.{Fault}
+use Rattle.grib_bits.specs.Octets.{StatesItself}
 use Rattle.grib_base.specs.declared.fault.ReadFault.{ReadFault}
 use Rattle.grib_base.specs.declared.fault.ReadFault.TheVariants.{Refused as ReadRefused, Memory as ReadMemory}
 use Rattle.grib_base.specs.Faults.{IsReadFault}
 use Rattle.grib2_sections.specs.Head.{discipline}
-use Rattle.grib2_sections.specs.Frame.{Placed, placed_at, position_after, Step, Fails, Next}
+use Rattle.grib2_sections.specs.Frame.{Placed, placed_at, position_after, Next}
 use Rattle.grib2_sections.proofs.Frames.{mark_cut, step_refused}
 use Rattle.grib_packing.specs.Entries.{data_fault}
 use Rattle.grib_base.specs.Rows.{located}
@@ -15,17 +14,14 @@ use Rattle.grib2_message.specs.View.{last_number, octets_in_force}
 use Rattle.grib2_message.specs.Acceptance.{section_fault}
 use Rattle.grib2_message.specs.Kept.{HasInForce}
 use Rattle.grib2_message.specs.Summary.{summary_in_force}
-use Rattle.grib2_message.specs.declared.summary.FieldSummary.{FieldSummary}
 use Rattle.grib2_message.proofs.After.{fault_by_number}
 use Rattle.grib2_message.proofs.Described.{line_other}
 use Rattle.grib2_message.proofs.Order.{one_below, follows_tells}
 use Rattle.grib2_arrival.specs.declared.kept.Kept.{Kept}
-use Rattle.grib2_arrival.specs.declared.data.Data.{Data}
 use Rattle.grib2_arrival.specs.Standing.{Stands}
-use Rattle.grib2_arrival.specs.Fed.{DataAgrees}
-use Rattle.grib2_arrival.specs.Heard.{mark, cut_off, pending, step_of, IsUnfinished, IsOne, IsValues, Stops, GathersHeard, FeedsHeard}
+use Rattle.grib2_arrival.specs.Heard.{cut_off, pending, step_of, IsValues, Stops, GathersHeard}
 use Rattle.grib2_arrival.proofs.Pending.{pending_long, pending_more, pending_none, none_left}
-use Rattle.grib2_arrival.proofs.Onward.{stands_longer, stands_next, Follows, count_kept, count_more, summaries_more, contents_refused}
+use Rattle.grib2_arrival.proofs.Onward.{stands_longer, stands_next, count_kept, count_more, summaries_more, contents_refused}
 use Rattle.grib2_arrival.proofs.Reasons.{section_other, other_reason}
 use Rattle.grib2_arrival.proofs.Verdicts.{values_longer}
 

@@ -4,13 +4,11 @@ use Rattle.std.proofs.lemmas.List.{take_all}
 use Rattle.std.proofs.lemmas.Option.{slice_get-get_or}
 use Rattle.std.proofs.Math.Seq.{take-add}
 use Rattle.grib_bits.specs.Octets.{octets as number_at, StatesItself}
-use Rattle.grib_base.specs.declared.fault.Fault.{Fault}
 use Rattle.grib_base.specs.declared.fault.ReadFault.{ReadFault}
 use Rattle.grib_base.specs.declared.fault.ReadFault.TheVariants.{Refused as ReadRefused, Memory as ReadMemory}
-use Rattle.grib_base.specs.declared.fault.Reason.TheVariants.{Truncated}
-use Rattle.grib2_sections.specs.Verdict.{Verdict, Accepted, Refused}
+use Rattle.grib2_sections.specs.Verdict.{Accepted, Refused}
 use Rattle.grib2_sections.specs.Head.{edition}
-use Rattle.grib2_sections.specs.Frame.{Placed, Step, End, Fails, Next, end_fault, opening_fault, mark_fault, ends_at, section_at}
+use Rattle.grib2_sections.specs.Frame.{Fails, Next, end_fault, opening_fault, mark_fault, ends_at, section_at}
 use Rattle.grib2_sections.proofs.Frames.{mark_there, frame_short, frame_passes, step_frame, step_next, states_itself}
 use Rattle.grib2_message.specs.Acceptance.{verdict_2}
 use Rattle.grib2_message.specs.Fields.{field_count}
@@ -22,10 +20,9 @@ use Rattle.grib2_message.proofs.Parts.{section_is}
 use Rattle.grib2_arrival.specs.declared.kept.Kept.{Kept}
 use Rattle.grib2_arrival.specs.declared.state.State.{State}
 use Rattle.grib2_arrival.specs.declared.state.State.TheVariants.{Begins, Gathers, Feeds, Ended}
-use Rattle.grib2_arrival.specs.Standing.{Stands}
 use Rattle.grib2_arrival.specs.Heard.{mark, cut_off, pending, step_of, Stops, IsValues, IsOpen, IsListening, IsUndecided, StateHeard, EndedHeard}
 use Rattle.grib2_arrival.proofs.Pending.{pending_long}
-use Rattle.grib2_arrival.proofs.Onward.{sixteen, cut_refused, end_accepted, end_counted}
+use Rattle.grib2_arrival.proofs.Onward.{cut_refused, end_accepted, end_counted}
 use Rattle.grib2_arrival.proofs.Beginnings.{begins_cut}
 
 -- ---- a Section 7

@@ -1,5 +1,5 @@
 -- What is known of an arriving message by the octets that were heard.
-use Rattle.std.specs.Prelude.{◌≡◌, ◌≢◌, ℕ, ◌+◌, ◌-◌, ◌≤◌, ◌<◌, IsTrue, Option, Some, None, List, [], ◌++◌, length, take, drop, min}
+use Rattle.std.specs.Prelude.{◌≡◌, ◌≢◌, ℕ, ◌+◌, ◌-◌, ◌≤◌, ◌<◌, IsTrue, Option, Some, None, List, [], ◌++◌, length, take, drop}
 use Rattle.grib_bits.specs.Octets.{octets as number_at, StatesItself}
 use Rattle.grib_base.specs.declared.fault.Fault.{Fault}
 use Rattle.grib_base.specs.declared.fault.ReadFault.{ReadFault}
@@ -9,7 +9,7 @@ use Rattle.grib_base.specs.Rows.{refusal}
 use Rattle.grib2_sections.specs.Verdict as verdicts
 use Rattle.grib2_sections.specs.Head.{indicator, edition}
 use Rattle.grib2_sections.specs.Frame.{Placed, Step, End, Fails, Next, step, end_fault, opening_fault, may_follow}
-use Rattle.grib2_message.specs.View.{last_number, octets_in_force}
+use Rattle.grib2_message.specs.View.{octets_in_force}
 use Rattle.grib2_message.specs.Acceptance.{verdict_2}
 use Rattle.grib2_arrival.specs.declared.kept.Kept.{Kept}
 use Rattle.grib2_arrival.specs.declared.data.Data.{Data}

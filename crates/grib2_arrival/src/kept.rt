@@ -68,7 +68,8 @@ pub(crate) fn after_section(
     let mut kept = kept;
     kept.force.go_past(alloc, section)?;
     kept.line = kept.line.with_section(section);
-    kept.frame.go_past(section.octets.len() as u64, section.number);
+    kept.frame
+        .go_past(section.octets.len() as u64, section.number);
     Ok(kept)
 }
 

@@ -1,5 +1,5 @@
 -- What the code knows of the sections before the next one.
-use Rattle.std.proofs.Common.{◌≡◌, ℕ, ◌+◌, ◌≤◌, Bool, Option, Some, None, Result, Ok, Err, MatchResult, List, [], ◌∷◌, length, get_or, sym, ap, ◌∙◌, arith, subst}
+use Rattle.std.proofs.Common.{◌≡◌, ℕ, ◌+◌, ◌≤◌, Option, Some, None, Result, Ok, Err, MatchResult, List, [], ◌∷◌, length, get_or, sym, ap, ◌∙◌, arith, subst}
 use Rattle.grib_base.specs.declared.fault.Fault.{Fault}
 use Rattle.grib_bitmap.specs.Mask.{own_mask, present_count}
 use Rattle.grib2_sections.specs.Frame.{Placed}

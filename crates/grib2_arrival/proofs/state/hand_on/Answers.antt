@@ -1,8 +1,8 @@
-use Rattle.std.proofs.Common.{◌≡◌, ℕ, ◌+◌, ◌≤◌, List, [], ◌++◌, drop, take, length, sym, ap, ◌∙◌, subst, arith, length-take-le}
+use Rattle.std.proofs.Common.{ℕ, ◌≤◌, List, [], ◌++◌, drop, take, length, subst, arith, length-take-le}
 use Rattle.std.proofs.lemmas.Result.{err_from_is_err_and}
 use Rattle.grib2_message.specs.View.{octets_in_force}
 use Rattle.grib2_arrival.specs.Fed.{DataAgrees}
-use Rattle.grib2_arrival.specs.Heard.{pending, FeedsHeard}
+use Rattle.grib2_arrival.specs.Heard.{pending}
 use Rattle.grib2_arrival.proofs.Onward.{stands_longer}
 use Rattle.grib2_arrival.proofs.States.{values_more, values_stand, values_long}
 use Rattle.grib2_arrival.proofs.Verdicts.{stops_piece}

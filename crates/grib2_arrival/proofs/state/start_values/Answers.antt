@@ -1,4 +1,4 @@
-use Rattle.std.proofs.Common.{◌≡◌, ℕ, List, [], drop, sym, ap, ◌∙◌, subst, arith}
+use Rattle.std.proofs.Common.{◌≡◌, ℕ, List, [], drop, sym, ap, ◌∙◌, subst}
 use Rattle.grib2_message.specs.View.{octets_in_force}
 use Rattle.grib2_arrival.specs.Fed.{DataAgrees}
 use Rattle.grib2_arrival.specs.Heard.{pending}

@@ -1,10 +1,7 @@
-use Rattle.std.proofs.Common.{◌≡◌, ℕ, ◌+◌, List, IsTrue, length, refl, sym, ap, ◌∙◌, subst, arith}
+use Rattle.std.proofs.Common.{ℕ, List, length, sym, ap, ◌∙◌, subst, arith}
 use Rattle.std.proofs.lemmas.Result.{err_from_is_err_and}
-use Rattle.grib_bits.specs.Octets.{octets as number_at}
-use Rattle.grib2_sections.specs.Frame.{placed_at, Next, may_follow}
-use Rattle.grib2_message.specs.View.{last_number}
+use Rattle.grib2_sections.specs.Frame.{Next}
 use Rattle.grib2_arrival.specs.Heard.{GathersHeard}
-use Rattle.grib2_arrival.proofs.Onward.{follows_here}
 use Rattle.grib2_arrival.proofs.States.{fresh, after_whole}
 use Rattle.grib2_arrival.proofs.state.take_section.Goals as goal
 

@@ -1,6 +1,5 @@
-use Rattle.std.proofs.Common.{◌≡◌, ℕ, ◌≤◌, ◌==◌, Bool, true, false, None, sym, ap, ◌∙◌, subst, arith, length}
+use Rattle.std.proofs.Common.{ℕ, ◌==◌, sym, ap, ◌∙◌, subst, arith}
 use Rattle.std.proofs.lemmas.Result.{err_from_is_err_and}
-use Rattle.grib_bits.specs.Octets.{octets as number_at}
 use Rattle.grib2_sections.specs.Frame.{end_fault, opening_fault, may_follow}
 use Rattle.grib2_arrival.specs.declared.look.Look.TheVariants.{Values}
 use Rattle.grib2_arrival.specs.Heard.{mark, Looks}

@@ -1,4 +1,4 @@
-use Rattle.std.proofs.Common.{ℕ, drop, arith, [], length-append}
+use Rattle.std.proofs.Common.{drop, arith, []}
 use Rattle.grib2_message.specs.View.{octets_in_force}
 use Rattle.grib2_arrival.specs.Heard.{pending}
 use Rattle.grib2_arrival.proofs.States.{values_came}

@@ -1,4 +1,4 @@
-use Rattle.std.proofs.Common.{◌≡◌, ℕ, length, refl, sym, ap₂, ◌∙◌, arith, ltb-false}
+use Rattle.std.proofs.Common.{ℕ, length, refl, sym, ap₂, ◌∙◌, arith, ltb-false}
 use Rattle.std.proofs.lemmas.Result.{err_from_is_err_and}
 use Rattle.grib_base.specs.Rows.{first_fault, first_fault_at}
 use Rattle.grib_bitmap.specs.Mask.{bitmap_rows}

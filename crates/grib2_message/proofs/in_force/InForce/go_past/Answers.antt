@@ -1,8 +1,8 @@
-use Rattle.std.proofs.Common.{◌≡◌, ◌+◌, ℕ, refl, sym, ap, ◌∙◌, subst, arith}
+use Rattle.std.proofs.Common.{◌≡◌, ◌+◌, ℕ, sym, ap, ◌∙◌, subst, arith}
 use Rattle.std.proofs.lemmas.Result.{err_from_is_err_and}
 use Rattle.grib_base.specs.Rows.{first_fault_at, located}
 use Rattle.grib2_products.specs.Product.{product_rows}
-use Rattle.grib_packing.specs.Entries.{packing_fault, data_fault}
+use Rattle.grib_packing.specs.Entries.{packing_fault}
 use Rattle.grib2_sections.specs.Frame.{placed_at, may_follow}
 use Rattle.grib2_message.specs.View.{last_number, octets_in_force}
 use Rattle.grib2_message.proofs.After.{fault_by_number, number_in_range, number_below, force_other, force_grid, force_read, force_bitmap}

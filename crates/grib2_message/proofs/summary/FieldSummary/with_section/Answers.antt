@@ -1,4 +1,4 @@
-use Rattle.std.proofs.Common.{◌≡◌, ℕ, sym, ap, ◌∙◌, arith}
+use Rattle.std.proofs.Common.{sym, ◌∙◌, arith}
 use Rattle.grib2_sections.specs.Frame.{placed_at}
 use Rattle.grib2_message.proofs.After.{fault_by_number}
 use Rattle.grib2_message.proofs.Described.{line_first, line_third, line_fourth, line_fifth, line_other}
