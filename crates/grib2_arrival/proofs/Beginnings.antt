@@ -1,25 +1,24 @@
 -- Octets that begin like a message of edition 2 and are fewer than those of Section 0.
-use Rattle.std.proofs.Common.{◌≡◌, ◌≢◌, ℕ, ◌+◌, ◌-◌, ◌<◌, ◌≤◌, Bool, true, false, not, cond, ◌&&◌, ◌||◌, Option, Some, None, List, [], ◌++◌, length, take, drop, slice_get, nat_lt, ◌==◌, inl, inr, refl, sym, ap, ap₂, ◌∙◌, arith, subst, lt-ltb, le-ltb, eq-eqb, ne_eqb, take_at, take-take, length-append, length-take-le}
+use Rattle.std.proofs.Common.{◌≡◌, ◌≢◌, ℕ, ◌+◌, ◌≤◌, Bool, true, false, not, cond, ◌&&◌, ◌||◌, Option, Some, None, List, [], ◌++◌, length, take, slice_get, nat_lt, ◌==◌, inl, inr, refl, sym, ap, ap₂, ◌∙◌, arith, subst, lt-ltb, le-ltb, eq-eqb, ne_eqb, take_at, take-take, length-append}
 use Rattle.std.proofs.lemmas.Bool.{cases_lt}
 use Rattle.std.proofs.lemmas.List.{take_all}
 use Rattle.std.proofs.lemmas.Option.{slice_get_within}
-use Rattle.grib_bits.specs.Octets.{octets as number_at}
 use Rattle.grib_base.specs.declared.fault.Fault.{Fault}
 use Rattle.grib_base.specs.declared.fault.Reason.TheVariants.{Truncated, Edition, TotalLength}
 use Rattle.grib_base.specs.Rows.{first_fault, refusal}
-use Rattle.grib2_sections.specs.Verdict.{Verdict, Accepted, Refused}
+use Rattle.grib2_sections.specs.Verdict.{Refused}
 use Rattle.grib2_sections.specs.Head.{indicator, edition, discipline, head_rows, head_of, total_length, total_length_1}
 use Rattle.grib2_sections.specs.declared.indicator.Head.{Head}
+use Rattle.grib2_sections.specs.Frame.{Position}
+use Rattle.grib2_message.specs.Summary.{summary_in_force}
 use Rattle.grib2_message.specs.Acceptance.{verdict_2, verdict_from, unless_refused}
 use Rattle.grib2_message.proofs.Whole.{octets_before, head_passes}
-use Rattle.grib2_message.proofs.Sound.{sound_none}
 use Rattle.grib2_message.proofs.Stays.{Kept as HeadKept, head_kept, front_of_more}
 use Rattle.grib2_message.proofs.Ways.{way_start}
-use Rattle.grib2_message.specs.View.{section_in_force, earlier_mask}
-use Rattle.grib2_message.specs.Kept.{KeepsRepresentation, TellsBitmap}
+use Rattle.grib2_message.specs.Kept.{HasInForce}
 use Rattle.grib2_message.proofs.Passed.{passes_from_none}
 use Rattle.grib2_arrival.specs.declared.kept.Kept.{Kept}
-use Rattle.grib2_arrival.specs.Standing.{summary_in_force, Stands}
+use Rattle.grib2_arrival.specs.Standing.{Stands}
 use Rattle.grib2_arrival.specs.Walked.{Walked}
 use Rattle.grib2_arrival.proofs.Onward.{from_way}
 use Rattle.grib2_arrival.specs.declared.head.Beginning.{Beginning}
@@ -128,14 +127,16 @@ walked_head u long two none = record {
       let m = u ++ more in
       let second : edition m ≡ 2 = octets_before u more 8 8 (omega arith) (omega arith) (omega arith) ∙ two in
       from_way m (length m) [] _ (way_start m (total_length m) second (head_stays u more two none) refl);
-  sound = sound_none;
 }
 
 -- what is kept then
-pub stands_first : (u : List ℕ) (kept : Kept) → length u ≡ 16 → edition u ≡ 2 → first_fault (head_rows u) ≡ None → kept.total ≡ total_length u → kept.place ≡ 17 → kept.last ≡ 0
-    → kept.line ≡ summary_in_force (discipline u) [] → kept.representation ≡ None → kept.bitmap ≡ None → kept.summaries.items ≡ [] → Stands u [] kept
-stands_first u kept long two none total place last line representation bitmap summaries =
+pub stands_first : (u : List ℕ) (kept : Kept) → length u ≡ 16 → edition u ≡ 2 → first_fault (head_rows u) ≡ None → kept.frame ≡ record { total = total_length u; place = 17; last = 0 }
+    → HasInForce [] kept.force → kept.line ≡ summary_in_force (discipline u) [] → kept.summaries.items ≡ [] → Stands u [] kept
+stands_first u kept long two none frame force line summaries =
     let p = head_passes u (λ one. absurd (omega arith)) (passes_from_none (head_rows u) none) in
+    let total = ap (λ (at : Position). at.total) frame in
+    let place = ap (λ (at : Position). at.place) frame in
+    let last = ap (λ (at : Position). at.last) frame in
     record {
       walked = subst (λ (q : ℕ). Walked u [] q) (sym place) (walked_head u long two none);
       second = two;
@@ -145,8 +146,7 @@ stands_first u kept long two none total place last line representation bitmap su
       last = last;
       numbered = omega (arith, last);
       line = line;
-      representation = subst (λ o. KeepsRepresentation o (section_in_force 5 [])) (sym representation) tt;
-      bitmap = subst (λ o. TellsBitmap o (earlier_mask [])) (sym bitmap) tt;
+      force = force;
       count = ap length summaries;
       summaries = λ more i summary got.
           let within = slice_get_within [] i summary (ap (λ xs. slice_get xs i) (sym summaries) ∙ got) in

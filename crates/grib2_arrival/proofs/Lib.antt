@@ -3,7 +3,5 @@ pub mod Looking
 pub mod Onward
 pub mod Pending
 pub mod Reasons
-pub mod Rows
-pub mod Sections
 pub mod States
 pub mod Verdicts

@@ -1,34 +1,31 @@
 -- What is known of some octets, when other octets follow them, and after one more section.
-use Rattle.std.proofs.Common.{◌≡◌, ◌≢◌, ℕ, suc, ◌+◌, ◌-◌, ◌*◌, ◌<◌, ◌≤◌, IsTrue, Option, Some, None, List, [], ◌∷◌, ◌++◌, length, take, drop, slice_get, get_or, inl, inr, refl, sym, ap, ◌∙◌, arith, subst, append-nil, append_assoc, length-append}
+use Rattle.std.proofs.Common.{◌≡◌, ◌≢◌, ℕ, ◌+◌, ◌≤◌, IsTrue, Some, None, List, [], ◌∷◌, ◌++◌, length, slice_get, get_or, inl, inr, refl, sym, ap, ◌∙◌, arith, subst, append-nil, append_assoc, length-append}
 use Rattle.std.proofs.lemmas.Bool.{cases_lt}
 use Rattle.std.proofs.lemmas.Option.{slice_get_within, get_or_from_slice_get, slice_get-get_or}
 use Rattle.std.proofs.Math.ListN.{get_or-append}
 use Rattle.std.proofs.Math.Seq.{get_or-append_seam}
-use Rattle.std.specs.List.{count_by}
 use Rattle.grib_bits.specs.Octets.{octets as number_at, StatesItself}
 use Rattle.grib_base.specs.declared.fault.Fault.{Fault}
-use Rattle.grib_base.specs.declared.fault.ReadFault.{ReadFault}
-use Rattle.grib_base.specs.declared.fault.ReadFault.TheVariants.{Refused as ReadRefused, Memory as ReadMemory}
+use Rattle.grib_base.specs.declared.fault.ReadFault.TheVariants.{Refused as ReadRefused}
 use Rattle.grib_base.specs.declared.fault.Reason.TheVariants.{Truncated}
-use Rattle.grib2_sections.specs.Verdict.{Verdict, Accepted, Refused}
-use Rattle.grib2_sections.specs.Head.{edition, discipline, total_length}
-use Rattle.grib2_sections.specs.Frame.{Placed, placed_at, Position, position_after, section_number, may_follow, Step, End, Fails, Next, step, step_from}
-use Rattle.grib2_message.specs.View.{is_numbered, last_number, section_in_force, octets_in_force, earlier_mask, section_count}
-use Rattle.grib2_message.specs.Acceptance.{section_fault, verdict_from, verdict_2}
-use Rattle.grib2_message.specs.Fields.{sections_from, sections_up_to_field, field_sections, field_count}
-use Rattle.grib2_message.specs.Kept.{AreSound, KeepsRepresentation, TellsBitmap, Comes}
-use Rattle.grib2_message.specs.Summary.{identification_of, summary_by, summary_of}
+use Rattle.grib2_sections.specs.Verdict.{Accepted, Refused}
+use Rattle.grib2_sections.specs.Head.{discipline}
+use Rattle.grib2_sections.specs.Frame.{Placed, placed_at, Position, position_after, section_number, may_follow, End, Fails, Next}
+use Rattle.grib2_message.specs.View.{last_number, section_count}
+use Rattle.grib2_message.specs.Acceptance.{section_fault, verdict_2}
+use Rattle.grib2_message.specs.Fields.{field_sections, field_count}
+use Rattle.grib2_message.specs.Kept.{HasInForce, Comes}
+use Rattle.grib2_message.specs.Summary.{summary_in_force, summary_of}
 use Rattle.grib2_message.specs.declared.summary.FieldSummary.{FieldSummary}
 use Rattle.grib2_message.proofs.Whole.{octets_before}
-use Rattle.grib2_message.proofs.Stays.{step_kept, front_of_more, refused_stays}
+use Rattle.grib2_message.proofs.Stays.{step_kept, front_of_more}
 use Rattle.grib2_message.proofs.Ways.{OnWay, GoesOn, way_comes, way_next, way_fails, way_refused, way_end}
-use Rattle.grib2_message.proofs.InForce.{octets_same, octets_other}
-use Rattle.grib2_message.proofs.Sound.{sound_after, count_same, count_other}
-use Rattle.grib2_message.proofs.After.{comes_follows}
+use Rattle.grib2_message.proofs.Described.{line_other}
+use Rattle.grib2_message.proofs.Sound.{count_same, count_other}
 use Rattle.grib2_message.proofs.Order.{follows_tells, in_range}
 use Rattle.grib2_arrival.specs.declared.kept.Kept.{Kept}
 use Rattle.grib2_arrival.specs.Walked.{turns_left, GoesOnFrom, Walked}
-use Rattle.grib2_arrival.specs.Standing.{summary_in_force, Stands}
+use Rattle.grib2_arrival.specs.Standing.{Stands}
 use Rattle.grib2_arrival.specs.Heard.{cut_off, step_of, Stops}
 
 -- ---- octets follow
@@ -38,7 +35,6 @@ walked_longer u more before q w = record {
   low = w.low;
   within = omega (arith, w.within, length-append u more);
   goes_on = λ later. subst (λ (m : List ℕ). GoesOnFrom m before q) (sym (append_assoc u more later)) (w.goes_on (more ++ later));
-  sound = w.sound;
 }
 
 module _ (u : List ℕ) (before : List Placed) (kept : Kept) (h : Stands u before kept) where
@@ -50,7 +46,7 @@ module _ (u : List ℕ) (before : List Placed) (kept : Kept) (h : Stands u befor
 
   pub stands_longer : (more : List ℕ) → Stands (u ++ more) before kept
   stands_longer more = record {
-    walked = walked_longer u more before kept.place h.walked;
+    walked = walked_longer u more before kept.frame.place h.walked;
     second = same_front more 8 8 (omega arith) (omega arith) (omega arith) ∙ h.second;
     total = h.total ∙ sym (same_front more 9 16 (omega arith) (omega arith) (omega arith));
     most = h.most;
@@ -58,17 +54,13 @@ module _ (u : List ℕ) (before : List Placed) (kept : Kept) (h : Stands u befor
     last = h.last;
     numbered = h.numbered;
     line = h.line ∙ ap (λ (d : ℕ). summary_in_force d before) (sym (same_front more 7 7 (omega arith) (omega arith) (omega arith)));
-    representation = h.representation;
-    bitmap = h.bitmap;
+    force = h.force;
     count = h.count;
     summaries = λ later i summary e.
         h.summaries (more ++ later) i summary e ∙ ap (λ (m : List ℕ). summary_of m (i + 1)) (sym (append_assoc u more later));
   }
 
 -- ---- where the walk stands
-
-abbrev pub position_of : Kept → Position
-position_of kept = record { total = kept.total; place = kept.place; last = kept.last }
 
 -- by what is known on the way
 pub from_way : (m : List ℕ) (turns : ℕ) (before : List Placed) (at : Position) → OnWay m turns before at → GoesOnFrom m before at.place
@@ -77,17 +69,8 @@ from_way m turns before at w =
     let v : OnWay m (turns_left m before) before at = subst (λ (t : ℕ). OnWay m t before at) is w in
     record { verdict = v.verdict; fields = v.fields; count = v.count }
 
--- a section that ends a field changes nothing of what describes it
-pub line_kept : (d : ℕ) (s : Placed) (before : List Placed) → section_number s.octets ≡ 7 → summary_in_force d (s ∷ before) ≡ summary_in_force d before
-line_kept d s before seven =
-    let one = octets_other s before 1 (λ same. absurd (omega arith)) in
-    let three = octets_other s before 3 (λ same. absurd (omega arith)) in
-    let four = octets_other s before 4 (λ same. absurd (omega arith)) in
-    let five = octets_other s before 5 (λ same. absurd (omega arith)) in
-    λ i. summary_by d (identification_of (one i)) (three i) (four i) (five i)
-
 module _ (u : List ℕ) (before : List Placed) (kept : Kept) (h : Stands u before kept) where
-  pub on_way : (more : List ℕ) → OnWay (u ++ more) (turns_left (u ++ more) before) before (position_of kept)
+  pub on_way : (more : List ℕ) → OnWay (u ++ more) (turns_left (u ++ more) before) before kept.frame
   on_way more =
       let g = h.walked.goes_on more in
       let long = length-append u more in
@@ -104,13 +87,13 @@ module _ (u : List ℕ) (before : List Placed) (kept : Kept) (h : Stands u befor
         count = g.count;
       }
 
-  pub on_way_here : OnWay u (turns_left u before) before (position_of kept)
-  on_way_here = subst (λ (m : List ℕ). OnWay m (turns_left m before) before (position_of kept)) (append-nil u) (on_way [])
+  pub on_way_here : OnWay u (turns_left u before) before kept.frame
+  on_way_here = subst (λ (m : List ℕ). OnWay m (turns_left m before) before kept.frame) (append-nil u) (on_way [])
 
   -- a section that stands whole stays
   pub next_stays : (more s : List ℕ) → step_of u kept ≡ Next s → step_of (u ++ more) kept ≡ Next s
   next_stays more s e =
-      elim (step_kept u (u ++ more) kept.total kept.last kept.place (front_of_more u more) (omega (arith, h.walked.low))) [
+      elim (step_kept u (u ++ more) kept.frame.total kept.frame.last kept.frame.place (front_of_more u more) (omega (arith, h.walked.low))) [
         | inl cut ↦ (let bad : ⊥ = rw e at cut in absurd bad)
         | inr same ↦ same ∙ e
       ]
@@ -118,90 +101,95 @@ module _ (u : List ℕ) (before : List Placed) (kept : Kept) (h : Stands u befor
   -- ---- what is said
 
   pub fails_stops : (fault : Fault) → step_of u kept ≡ Fails fault → fault.reason ≢ Truncated → Stops u (ReadRefused fault)
-  fails_stops fault e whole = (way_fails u (turns_left u before) before (position_of kept) fault on_way_here e, whole)
+  fails_stops fault e whole = (way_fails u (turns_left u before) before kept.frame fault on_way_here e, whole)
 
-  pub contents_refused : (s : List ℕ) (fault : Fault) → step_of u kept ≡ Next s → section_fault before (placed_at kept.place s) ≡ Some fault
+  pub contents_refused : (s : List ℕ) (fault : Fault) → step_of u kept ≡ Next s → section_fault before (placed_at kept.frame.place s) ≡ Some fault
       → verdict_2 u ≡ Refused fault
-  contents_refused s fault e refused = way_refused u (turns_left u before) before (position_of kept) s fault on_way_here e refused
+  contents_refused s fault e refused = way_refused u (turns_left u before) before kept.frame s fault on_way_here e refused
 
   pub cut_refused : step_of u kept ≡ Fails (cut_off u) → verdict_2 u ≡ Refused (cut_off u)
-  cut_refused e = way_fails u (turns_left u before) before (position_of kept) (cut_off u) on_way_here e
+  cut_refused e = way_fails u (turns_left u before) before kept.frame (cut_off u) on_way_here e
 
-  pub end_accepted : step_of u kept ≡ End → verdict_2 u ≡ Accepted kept.total
-  end_accepted e = (way_end u (turns_left u before) before (position_of kept) on_way_here e).accepted
+  pub end_accepted : step_of u kept ≡ End → verdict_2 u ≡ Accepted kept.frame.total
+  end_accepted e = (way_end u (turns_left u before) before kept.frame on_way_here e).accepted
 
   pub end_counted : step_of u kept ≡ End → field_count u ≡ section_count 7 before
-  end_counted e = (way_end u (turns_left u before) before (position_of kept) on_way_here e).count
+  end_counted e = (way_end u (turns_left u before) before kept.frame on_way_here e).count
 
   pub follows_here : (s : List ℕ) (number : ℕ) → step_of u kept ≡ Next s → StatesItself number s → IsTrue (may_follow (last_number before) number)
-  follows_here s number e itself = (way_comes u before (position_of kept) s e (turns_left u before) number on_way_here itself).follows
+  follows_here s number e itself = (way_comes u before kept.frame s e (turns_left u before) number on_way_here itself).follows
 
   -- ---- after one more section
 
-  module _ (s : List ℕ) (number : ℕ) (e : step_of u kept ≡ Next s) (itself : StatesItself number s) (none : section_fault before (placed_at kept.place s) ≡ None) where
-    pub goes_on : (more : List ℕ) → GoesOn (u ++ more) before (position_of kept) (turns_left (u ++ more) before) s
-    goes_on more = way_next (turns_left (u ++ more) before) (u ++ more) before (position_of kept) s (on_way more) (next_stays more s e) none
+  module _ (s : List ℕ) (number : ℕ) (e : step_of u kept ≡ Next s) (itself : StatesItself number s) (none : section_fault before (placed_at kept.frame.place s) ≡ None) where
+    pub goes_on : (more : List ℕ) → GoesOn (u ++ more) before kept.frame (turns_left (u ++ more) before) s
+    goes_on more = way_next (turns_left (u ++ more) before) (u ++ more) before kept.frame s (on_way more) (next_stays more s e) none
 
-    pub comes : Comes u before number kept.place s
-    comes = way_comes u before (position_of kept) s e (turns_left u before) number on_way_here itself
+    pub comes : Comes u before number kept.frame.place s
+    comes = way_comes u before kept.frame s e (turns_left u before) number on_way_here itself
 
-    walked_next : Walked u (placed_at kept.place s ∷ before) (kept.place + length s)
+    pub next_room : (kept.frame.place + length s + 3 ≤ kept.frame.total) × (number ≤ 7)
+    next_room = (
+      (goes_on []).way.within,
+      (in_range (last_number before) number (follows_tells (last_number before) number comes.follows)).1,
+    )
+
+    walked_next : Walked u (placed_at kept.frame.place s ∷ before) (kept.frame.place + length s)
     walked_next =
         let first = (goes_on []).way in
         record {
           low = first.room;
           within = omega (arith, first.there, length-append u []);
-          goes_on = λ more. from_way (u ++ more) (goes_on more).turns_left (placed_at kept.place s ∷ before) (position_after (position_of kept) s) (goes_on more).way;
-          sound = sound_after (placed_at kept.place s) before h.walked.sound (comes_follows u before number kept.place s comes) none;
+          goes_on = λ more. from_way (u ++ more) (goes_on more).turns_left (placed_at kept.frame.place s ∷ before) (position_after kept.frame s) (goes_on more).way;
         }
 
     -- what has to be known of what is kept after it
     pub record Follows (after : Kept) : Type 0 where
-      pub total_is : after.total ≡ kept.total
-      pub place_is : after.place ≡ kept.place + length s
-      pub last_is : after.last ≡ number
-      pub line_is : after.line ≡ summary_in_force (discipline u) (placed_at kept.place s ∷ before)
-      pub representation_is : KeepsRepresentation after.representation (section_in_force 5 (placed_at kept.place s ∷ before))
-      pub bitmap_is : TellsBitmap after.bitmap (earlier_mask (placed_at kept.place s ∷ before))
-      pub count_is : length after.summaries.items ≡ section_count 7 (placed_at kept.place s ∷ before)
+      pub frame_is : after.frame ≡ position_after kept.frame s
+      pub line_is : after.line ≡ summary_in_force (discipline u) (placed_at kept.frame.place s ∷ before)
+      pub force_is : HasInForce (placed_at kept.frame.place s ∷ before) after.force
+      pub count_is : length after.summaries.items ≡ section_count 7 (placed_at kept.frame.place s ∷ before)
       pub summaries_are : (more : List ℕ) (i : ℕ) (summary : FieldSummary) → slice_get after.summaries.items i ≡ Some summary → summary ≡ summary_of (u ++ more) (i + 1)
 
-    pub stands_next : (after : Kept) → Follows after → Stands u (placed_at kept.place s ∷ before) after
-    stands_next after f = record {
-      walked = subst (λ (q : ℕ). Walked u (placed_at kept.place s ∷ before) q) (sym f.place_is) walked_next;
-      second = h.second;
-      total = f.total_is ∙ h.total;
-      most = omega (arith, f.total_is, h.most);
-      room = omega (arith, f.total_is, f.place_is, (goes_on []).way.within);
-      last = f.last_is ∙ sym itself.number_stands;
-      numbered = (let r = in_range (last_number before) number (follows_tells (last_number before) number comes.follows) in omega (arith, f.last_is, r));
-      line = f.line_is;
-      representation = f.representation_is;
-      bitmap = f.bitmap_is;
-      count = f.count_is;
-      summaries = f.summaries_are;
-    }
+    pub stands_next : (after : Kept) → Follows after → Stands u (placed_at kept.frame.place s ∷ before) after
+    stands_next after f =
+        let total_is = ap (λ (p : Position). p.total) f.frame_is in
+        let place_is = ap (λ (p : Position). p.place) f.frame_is in
+        let last_is = ap (λ (p : Position). p.last) f.frame_is in
+        record {
+          walked = subst (λ (q : ℕ). Walked u (placed_at kept.frame.place s ∷ before) q) (sym place_is) walked_next;
+          second = h.second;
+          total = total_is ∙ h.total;
+          most = omega (arith, total_is, h.most);
+          room = omega (arith, total_is, place_is, next_room.0);
+          last = last_is;
+          numbered = omega (arith, last_is, itself.number_stands, next_room.1);
+          line = f.line_is;
+          force = f.force_is;
+          count = f.count_is;
+          summaries = f.summaries_are;
+        }
 
     -- the summaries, where no field ends
-    pub count_kept : number ≢ 7 → length kept.summaries.items ≡ section_count 7 (placed_at kept.place s ∷ before)
-    count_kept other = h.count ∙ sym (count_other (placed_at kept.place s) before 7 (λ same. other (sym itself.number_stands ∙ same)))
+    pub count_kept : number ≢ 7 → length kept.summaries.items ≡ section_count 7 (placed_at kept.frame.place s ∷ before)
+    count_kept other = h.count ∙ sym (count_other (placed_at kept.frame.place s) before 7 (λ same. other (sym itself.number_stands ∙ same)))
 
     -- and where one does
     pub count_more : number ≡ 7 → (summaries : List FieldSummary) → summaries ≡ kept.summaries.items ++ kept.line ∷ []
-        → length summaries ≡ section_count 7 (placed_at kept.place s ∷ before)
+        → length summaries ≡ section_count 7 (placed_at kept.frame.place s ∷ before)
     count_more seven summaries is =
-        let more = count_same (placed_at kept.place s) before 7 (itself.number_stands ∙ seven) in
+        let more = count_same (placed_at kept.frame.place s) before 7 (itself.number_stands ∙ seven) in
         let long = ap length is ∙ length-append kept.summaries.items (kept.line ∷ []) in
         omega (arith, h.count)
 
     line_is_of : number ≡ 7 → (more : List ℕ) (i : ℕ) → i ≡ length kept.summaries.items → kept.line ≡ summary_of (u ++ more) (i + 1)
     line_is_of seven more i is =
         let here : section_number s ≡ 7 = itself.number_stands ∙ seven in
-        let ends : field_sections (u ++ more) (i + 1) ≡ placed_at kept.place s ∷ before =
+        let ends : field_sections (u ++ more) (i + 1) ≡ placed_at kept.frame.place s ∷ before =
         ap (λ (k : ℕ). field_sections (u ++ more) (k + 1)) (is ∙ h.count) ∙ (goes_on more).ends_field here in
         h.line
-        ∙ sym (line_kept (discipline u) (placed_at kept.place s) before here)
-        ∙ ap (λ (d : ℕ). summary_in_force d (placed_at kept.place s ∷ before)) (sym (same_front u before kept h more 7 7 (omega arith) (omega arith) (omega arith)))
+        ∙ line_other before (placed_at kept.frame.place s) 7 here (discipline u) (summary_in_force (discipline u) before) refl (λ x. absurd (omega arith)) (λ x. absurd (omega arith)) (λ x. absurd (omega arith)) (λ x. absurd (omega arith))
+        ∙ ap (λ (d : ℕ). summary_in_force d (placed_at kept.frame.place s ∷ before)) (sym (same_front u before kept h more 7 7 (omega arith) (omega arith) (omega arith)))
         ∙ ap (λ (b : List Placed). summary_in_force (discipline (u ++ more)) b) (sym ends)
 
     pub summaries_more : number ≡ 7 → (summaries : List FieldSummary) → summaries ≡ kept.summaries.items ++ kept.line ∷ []

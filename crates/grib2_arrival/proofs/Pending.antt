@@ -1,12 +1,10 @@
 -- The octets of the section that comes, and of the message.
-use Rattle.std.proofs.Common.{◌≡◌, ℕ, ◌+◌, ◌-◌, ◌<◌, ◌≤◌, List, [], ◌∷◌, ◌++◌, length, take, drop, refl, sym, ap, ◌∙◌, arith, subst, length-append, length-drop, length-take-le, drop-drop}
+use Rattle.std.proofs.Common.{◌≡◌, ℕ, ◌+◌, ◌-◌, ◌≤◌, List, [], ◌∷◌, ◌++◌, length, take, drop, refl, sym, ap, ◌∙◌, arith, length-drop}
 use Rattle.std.proofs.Math.Seq.{take-length}
 use Rattle.std.proofs.lemmas.List.{drop-append-le}
-use Rattle.grib_bits.specs.Octets.{octets as number_at, num_on, StatesItself}
+use Rattle.grib_bits.specs.Octets.{octets as number_at, num_on}
 use Rattle.grib2_sections.specs.Frame.{section_at}
 use Rattle.grib2_message.proofs.Parts.{four_at, fifth_at, section_is}
-use Rattle.grib2_arrival.specs.declared.kept.Kept.{Kept}
-use Rattle.grib2_arrival.specs.Heard.{pending}
 
 module _ (u : List ℕ) (q : ℕ) (low : 1 ≤ q) (within : q ≤ length u + 1) (gathered : List ℕ) (is : gathered ≡ drop (q - 1) u) where
   pub pending_long : length gathered + q ≡ length u + 1

@@ -1,9 +1,9 @@
--- No row on the contents of a section says that the octets end too early.
+-- No row on the length, the number or the contents of a section, or on an end mark, says that the octets end too early.
 use Rattle.std.proofs.Common.{◌≡◌, ◌≢◌, ℕ, zero, suc, Bool, true, false, cond, Option, Some, None, List, [], ◌∷◌, length, get_or, ◌==◌, ◌+◌, ap, ◌∙◌}
 use Rattle.grib_base.specs.declared.fault.Fault.{Fault}
 use Rattle.grib_base.specs.declared.fault.Reason.TheVariants.{Truncated, Jpeg2000, PngPacked, Ccsds, PackingTemplate}
 use Rattle.grib_base.specs.Rows.{Row, first_fault, located, or_then, choose}
-use Rattle.grib2_sections.specs.Frame.{Placed, section_number}
+use Rattle.grib2_sections.specs.Frame.{Placed, Position, section_number, end_rows, end_fault, opening_rows, opening_fault}
 use Rattle.grib2_sections.specs.Identification.{identification_rows}
 use Rattle.grib2_grids.specs.Grid.{grid_rows}
 use Rattle.grib2_products.specs.Product.{product_rows}
@@ -54,6 +54,12 @@ template_by false false false = λ e. cc
 
 template_other : (t : ℕ) → template_reason t ≢ Truncated
 template_other t = template_by (t == 40) (t == 41) (t == 42)
+
+pub end_other : (at : Position) (mark : ℕ) → IsOther (end_fault at mark)
+end_other at mark = rows_other (end_rows at.total at.last at.place mark) (λ e. cc, (λ e. cc, (λ e. cc, tt)))
+
+pub opening_other : (at : Position) (l number : ℕ) → IsOther (opening_fault at l number)
+opening_other at l number = rows_other (opening_rows at.total at.last at.place l number []) (λ e. cc, (λ e. cc, tt))
 
 identification_other : (s : List ℕ) → AllOther (identification_rows s)
 identification_other s = (λ e. cc, tt)

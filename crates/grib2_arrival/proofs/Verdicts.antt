@@ -1,17 +1,15 @@
 -- What is said of the octets that were heard.
-use Rattle.std.proofs.Common.{◌≡◌, ◌≢◌, ℕ, ◌+◌, ◌-◌, ◌<◌, ◌≤◌, Bool, true, false, IsTrue, Option, Some, None, List, [], ◌++◌, length, take, drop, refl, sym, ap, ◌∙◌, arith, subst, get_or, append-nil, append_assoc, take-append-drop, length-append, length-drop}
+use Rattle.std.proofs.Common.{◌≡◌, ◌≢◌, ℕ, ◌+◌, ◌-◌, ◌<◌, ◌≤◌, Bool, true, false, IsTrue, Option, Some, None, List, [], ◌++◌, length, take, drop, ne_eqb, refl, sym, ap, ◌∙◌, arith, subst, get_or, append-nil, append_assoc, take-append-drop, length-append, length-drop}
 use Rattle.std.proofs.lemmas.List.{take_all}
 use Rattle.std.proofs.lemmas.Option.{slice_get-get_or}
 use Rattle.std.proofs.Math.Seq.{take-add}
 use Rattle.grib_bits.specs.Octets.{octets as number_at, StatesItself}
-use Rattle.grib_base.specs.declared.fault.Fault.{Fault}
 use Rattle.grib_base.specs.declared.fault.ReadFault.{ReadFault}
 use Rattle.grib_base.specs.declared.fault.ReadFault.TheVariants.{Refused as ReadRefused, Memory as ReadMemory}
-use Rattle.grib_base.specs.declared.fault.Reason.TheVariants.{Truncated}
-use Rattle.grib2_sections.specs.Verdict.{Verdict, Accepted, Refused}
+use Rattle.grib2_sections.specs.Verdict.{Accepted, Refused}
 use Rattle.grib2_sections.specs.Head.{edition}
-use Rattle.grib2_sections.specs.Frame.{Placed, Step, End, Fails, Next, step, may_follow, section_at}
-use Rattle.grib2_sections.proofs.Frames.{states_itself}
+use Rattle.grib2_sections.specs.Frame.{Fails, Next, end_fault, opening_fault, mark_fault, ends_at, section_at}
+use Rattle.grib2_sections.proofs.Frames.{mark_there, frame_short, frame_passes, step_frame, step_next, states_itself}
 use Rattle.grib2_message.specs.Acceptance.{verdict_2}
 use Rattle.grib2_message.specs.Fields.{field_count}
 use Rattle.grib2_message.specs.Summary.{summary_of}
@@ -22,51 +20,47 @@ use Rattle.grib2_message.proofs.Parts.{section_is}
 use Rattle.grib2_arrival.specs.declared.kept.Kept.{Kept}
 use Rattle.grib2_arrival.specs.declared.state.State.{State}
 use Rattle.grib2_arrival.specs.declared.state.State.TheVariants.{Begins, Gathers, Feeds, Ended}
-use Rattle.grib2_arrival.specs.Standing.{Stands}
 use Rattle.grib2_arrival.specs.Heard.{mark, cut_off, pending, step_of, Stops, IsValues, IsOpen, IsListening, IsUndecided, StateHeard, EndedHeard}
-use Rattle.grib2_arrival.proofs.Rows.{cut_in_section, next_here}
-use Rattle.grib2_arrival.proofs.Pending.{pending_long, pending_whole}
-use Rattle.grib2_arrival.proofs.Onward.{sixteen, cut_refused, end_accepted, end_counted}
+use Rattle.grib2_arrival.proofs.Pending.{pending_long}
+use Rattle.grib2_arrival.proofs.Onward.{cut_refused, end_accepted, end_counted}
 use Rattle.grib2_arrival.proofs.Beginnings.{begins_cut}
 
 -- ---- a Section 7
 
-module _ (u : List ℕ) (kept : Kept) (l : ℕ) (low : 17 ≤ kept.place) (v : IsValues u kept l) where
-  stated : number_at u kept.place (kept.place + 3) ≡ l
-  stated = v.length_is
+module _ (u : List ℕ) (kept : Kept) (l : ℕ) (low : 17 ≤ kept.frame.place) (v : IsValues u kept l) where
+  marked : mark_fault u kept.frame ≡ None
+  marked = mark_there u kept.frame (omega (arith, v.there)) ∙ ap (end_fault kept.frame) v.length_is ∙ v.ends
 
-  no_mark : number_at u kept.place (kept.place + 3) ≢ mark
-  no_mark = λ e. v.goes (sym v.length_is ∙ e)
+  goes : ends_at u kept.frame.place ≡ false
+  goes = ne_eqb (number_at u kept.frame.place (kept.frame.place + 3)) mark (λ e. v.goes (sym v.length_is ∙ e))
 
-  later : kept.place + 3 ≢ kept.total
-  later = λ e. absurd (omega (arith, e, v.room, v.least, low))
-
-  follows : IsTrue (may_follow kept.last (number_at u (kept.place + 4) (kept.place + 4)))
-  follows = ap (may_follow kept.last) v.number_is ∙ v.follows
+  opened : opening_fault kept.frame (number_at u kept.frame.place (kept.frame.place + 3)) (number_at u (kept.frame.place + 4) (kept.frame.place + 4)) ≡ None
+  opened = (λ i. opening_fault kept.frame (v.length_is i) (v.number_is i)) ∙ v.opens
 
   pub values_cut : length (pending u kept) < l → step_of u kept ≡ Fails (cut_off u)
   values_cut wants =
-      cut_in_section u kept.total kept.last kept.place (omega (arith, v.there)) no_mark later v.there
-      (omega (arith, stated, v.least)) (omega (arith, stated, v.room)) follows (omega (arith, stated, wants, low, v.there, length-drop (kept.place - 1) u))
+      step_frame u kept.frame marked goes (cut_off u)
+      (frame_short u kept.frame v.there opened (omega (arith, v.length_is, wants, low, v.there, length-drop (kept.frame.place - 1) u)))
 
   pub values_whole : length (pending u kept) ≡ l → (step_of u kept ≡ Next (pending u kept)) × StatesItself 7 (pending u kept)
   values_whole whole =
-      let q = kept.place in
+      let q = kept.frame.place in
       let s = pending u kept in
       let long = pending_long u q (omega (arith, low)) (omega (arith, v.there)) s refl in
       let there : q - 1 + l ≤ length u = omega (arith, long, whole, low) in
-      let is : section_at u q ≡ s = section_is u q l (omega (arith, low)) stated ∙ take_all l s (omega (arith, whole)) in (
-        next_here u kept.total kept.last q (omega (arith, v.there)) no_mark later v.there
-            (omega (arith, stated, v.least)) (omega (arith, stated, v.room)) follows (omega (arith, stated, there)) ∙ ap Next is,
-        subst (λ (xs : List ℕ). StatesItself 7 xs) (take_all l s (omega (arith, whole))) (states_itself u q l 7 (omega (arith, low)) stated v.number_is v.least there),
+      let is : section_at u q ≡ s = section_is u q l (omega (arith, low)) v.length_is ∙ take_all l s (omega (arith, whole)) in (
+        step_next u kept.frame marked goes (frame_passes u kept.frame v.there opened (omega (arith, v.length_is, there))) ∙ ap Next is,
+        subst (λ (xs : List ℕ). StatesItself 7 xs) (take_all l s (omega (arith, whole))) (states_itself u q l 7 (omega (arith, low)) v.length_is v.number_is v.least there),
       )
 
   pub values_longer : (more : List ℕ) → IsValues (u ++ more) kept l
   values_longer more = record {
     there = omega (arith, v.there, length-append u more);
-    length_is = octets_before u more kept.place (kept.place + 3) (omega (arith, low)) (omega arith) (omega (arith, v.there)) ∙ v.length_is;
-    number_is = octets_before u more (kept.place + 4) (kept.place + 4) (omega arith) (omega arith) v.there ∙ v.number_is;
+    length_is = octets_before u more kept.frame.place (kept.frame.place + 3) (omega (arith, low)) (omega arith) (omega (arith, v.there)) ∙ v.length_is;
+    number_is = octets_before u more (kept.frame.place + 4) (kept.frame.place + 4) (omega arith) (omega arith) v.there ∙ v.number_is;
+    ends = v.ends;
     goes = v.goes;
+    opens = v.opens;
     least = v.least;
     room = v.room;
     follows = v.follows;
@@ -78,7 +72,7 @@ pub open_verdict : (state : State) (u : List ℕ) → IsOpen state → StateHear
 open_verdict (Begins beginning) u listens h = begins_cut u h.few h.begins
 open_verdict (Gathers kept gathered) u listens h = cut_refused u h.before kept h.stands h.cut
 open_verdict (Feeds kept gathered l feed) u listens h =
-    let low : 17 ≤ kept.place = omega (arith, h.0.stands.walked.low) in
+    let low : 17 ≤ kept.frame.place = omega (arith, h.0.stands.walked.low) in
     cut_refused u h.0.before kept h.0.stands (values_cut u kept l low h.0.values h.0.wants)
 open_verdict (Ended kept) u listens h = absurd listens
 
@@ -164,7 +158,7 @@ ended_fields kept u h = h.stands.count ∙ sym (end_counted u h.before kept h.st
 
 pub ended_few : (kept : Kept) (u : List ℕ) → EndedHeard kept u → length kept.summaries.items ≤ 4096
 ended_few kept u h =
-    let sound = h.stands.walked.sound in
+    let sound = h.stands.force.sound in
     omega (arith, h.stands.count, sound.counted, sound.few)
 
 -- a summary by its place

@@ -1,5 +1,5 @@
 -- What is known of an arriving message by the octets that were heard.
-use Rattle.std.specs.Prelude.{◌≡◌, ◌≢◌, ℕ, ◌+◌, ◌-◌, ◌≤◌, ◌<◌, IsTrue, Option, Some, None, List, [], ◌++◌, length, take, drop, min}
+use Rattle.std.specs.Prelude.{◌≡◌, ◌≢◌, ℕ, ◌+◌, ◌-◌, ◌≤◌, ◌<◌, IsTrue, Option, Some, None, List, [], ◌++◌, length, take, drop}
 use Rattle.grib_bits.specs.Octets.{octets as number_at, StatesItself}
 use Rattle.grib_base.specs.declared.fault.Fault.{Fault}
 use Rattle.grib_base.specs.declared.fault.ReadFault.{ReadFault}
@@ -8,8 +8,8 @@ use Rattle.grib_base.specs.declared.fault.Reason.TheVariants.{Truncated}
 use Rattle.grib_base.specs.Rows.{refusal}
 use Rattle.grib2_sections.specs.Verdict as verdicts
 use Rattle.grib2_sections.specs.Head.{indicator, edition}
-use Rattle.grib2_sections.specs.Frame.{Placed, Step, End, Fails, Next, step, may_follow}
-use Rattle.grib2_message.specs.View.{last_number, octets_in_force}
+use Rattle.grib2_sections.specs.Frame.{Placed, Step, End, Fails, Next, step, end_fault, opening_fault, may_follow}
+use Rattle.grib2_message.specs.View.{octets_in_force}
 use Rattle.grib2_message.specs.Acceptance.{verdict_2}
 use Rattle.grib2_arrival.specs.declared.kept.Kept.{Kept}
 use Rattle.grib2_arrival.specs.declared.data.Data.{Data}
@@ -38,11 +38,11 @@ Stops octets Memory = Unit {0}
 
 -- what stands where the next section or the end mark is to come
 abbrev pub step_of : List ℕ → Kept → Step
-step_of octets kept = step octets kept.total kept.last kept.place
+step_of octets kept = step octets kept.frame.total kept.frame.last kept.frame.place
 
 -- the octets from there on
 abbrev pub pending : List ℕ → Kept → List ℕ
-pending octets kept = drop (kept.place - 1) octets
+pending octets kept = drop (kept.frame.place - 1) octets
 
 -- the octets `7777` as a number
 abbrev pub mark : ℕ
@@ -74,24 +74,26 @@ pub record GathersHeard (kept : Kept) (gathered : List ℕ) (octets : List ℕ) 
   pub gathered_are : gathered ≡ pending octets kept
   pub cut : step_of octets kept ≡ Fails (cut_off octets)
   pub unfinished : IsUnfinished gathered
-  pub near : length octets ≤ kept.total
+  pub near : length octets ≤ kept.frame.total
 
 -- A Section 7 of this length has begun, of which five octets and more came.
 pub record IsValues (octets : List ℕ) (kept : Kept) (l : ℕ) : Type 0 where
-  pub there : kept.place + 4 ≤ length octets
-  pub length_is : number_at octets kept.place (kept.place + 3) ≡ l
-  pub number_is : number_at octets (kept.place + 4) (kept.place + 4) ≡ 7
+  pub there : kept.frame.place + 4 ≤ length octets
+  pub length_is : number_at octets kept.frame.place (kept.frame.place + 3) ≡ l
+  pub number_is : number_at octets (kept.frame.place + 4) (kept.frame.place + 4) ≡ 7
+  pub ends : end_fault kept.frame l ≡ None
   pub goes : l ≢ mark
+  pub opens : opening_fault kept.frame l 7 ≡ None
   pub least : 5 ≤ l
-  pub room : kept.place - 1 + l + 4 ≤ kept.total
-  pub follows : IsTrue (may_follow kept.last 7)
+  pub room : kept.frame.place - 1 + l + 4 ≤ kept.frame.total
+  pub follows : IsTrue (may_follow kept.frame.last 7)
 
 -- It is not whole: its octets from the sixth on were read.
 pub record FeedsHeard (kept : Kept) (l : ℕ) (feed : Data) (octets : List ℕ) : Type 0 where
   pub before : List Placed
   pub stands : Stands octets before kept
   pub values : IsValues octets kept l
-  pub agrees : DataAgrees (octets_in_force 5 before) kept.place l (drop 5 (pending octets kept)) feed
+  pub agrees : DataAgrees (octets_in_force 5 before) kept.frame.place l (drop 5 (pending octets kept)) feed
   pub wants : length (pending octets kept) < l
 
 -- The end mark came.
@@ -99,7 +101,7 @@ pub record EndedHeard (kept : Kept) (octets : List ℕ) : Type 0 where
   pub before : List Placed
   pub stands : Stands octets before kept
   pub ends : step_of octets kept ≡ End
-  pub whole : length octets ≡ kept.total
+  pub whole : length octets ≡ kept.frame.total
 
 abbrev pub StateHeard : Option State → List ℕ → Type 0
 StateHeard None octets = ⊥
@@ -136,7 +138,7 @@ IsUndecided (verdicts.Refused fault) = fault.reason ≡ Truncated
 
 -- what a look at what was gathered tells
 abbrev pub Looks : List ℕ → Kept → List ℕ → Look → Type 0
-Looks octets kept gathered More = (step_of octets kept ≡ Fails (cut_off octets)) × IsUnfinished gathered × (length octets ≤ kept.total)
-Looks octets kept gathered Ends = (step_of octets kept ≡ End) × (length octets ≡ kept.total)
+Looks octets kept gathered More = (step_of octets kept ≡ Fails (cut_off octets)) × IsUnfinished gathered × (length octets ≤ kept.frame.total)
+Looks octets kept gathered Ends = (step_of octets kept ≡ End) × (length octets ≡ kept.frame.total)
 Looks octets kept gathered Section = (step_of octets kept ≡ Next gathered) × StatesItself (number_at gathered 5 5) gathered × (number_at gathered 5 5 ≢ 7) × (number_at gathered 5 5 ≤ 7)
 Looks octets kept gathered (Values l) = IsValues octets kept l × (length gathered ≡ 5)

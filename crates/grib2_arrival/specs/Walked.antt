@@ -5,7 +5,6 @@ use Rattle.grib2_sections.specs.Frame.{Placed}
 use Rattle.grib2_message.specs.View.{is_numbered, section_count}
 use Rattle.grib2_message.specs.Acceptance.{verdict_2, verdict_from}
 use Rattle.grib2_message.specs.Fields.{sections_from, sections_up_to_field, field_sections, field_count}
-use Rattle.grib2_message.specs.Kept.{AreSound}
 
 -- how many sections are looked for after these
 abbrev pub turns_left : List ℕ → List Placed → ℕ
@@ -23,4 +22,3 @@ pub record Walked (octets : List ℕ) (before : List Placed) (q : ℕ) : Type 0 
   pub low : 17 + 5 * length before ≤ q
   pub within : q ≤ length octets + 1
   pub goes_on : (more : List ℕ) → GoesOnFrom (octets ++ more) before q
-  pub sound : AreSound before

@@ -1,35 +1,28 @@
 //! What is kept of the sections that are whole.
 
-ghost use Rattle.std.specs.Prelude.{◌≡◌, ℕ, ◌+◌, ◌-◌, ◌≤◌, ◌++◌, List, [], ◌∷◌, None, length as length_of};
-ghost use Rattle.grib_bits.specs.Octets.{octets as number_at, StatesItself};
+ghost use Rattle.std.specs.Prelude.{◌≡◌, ◌≢◌, ℕ, ◌+◌, ◌≤◌, List, [], ◌∷◌, None, Err, length as length_of, MatchResult, IfOk, OnErr};
+ghost use Rattle.grib_bits.specs.Octets.{StatesItself};
 ghost use Rattle.grib2_sections.specs.Frame.{Placed, Next, placed_at};
-ghost use Rattle.grib2_message.specs.View.{section_in_force, octets_in_force};
 ghost use Rattle.grib2_message.specs.Acceptance.{section_fault};
-ghost use Rattle.grib2_message.specs.Kept.{KeepsRepresentation};
-ghost use Rattle.grib2_arrival.specs.Standing.{Stands, summary_in_force};
-ghost use Rattle.grib2_arrival.specs.Heard.{step_of};
+ghost use Rattle.grib2_message.specs.Kept.{HasInForce};
+ghost use Rattle.grib2_message.specs.Summary.{summary_in_force};
+ghost use Rattle.grib2_arrival.specs.Standing.{Stands};
+ghost use Rattle.grib2_arrival.specs.Heard.{step_of, Stops};
 
-use grib_base::Section;
-use grib_complex::Representation;
-use grib2_message::{Bitmap, FieldSummary};
-use grib2_sections::Identification;
+use grib_base::{ReadFault, Section};
+use grib2_message::{FieldSummary, InForce};
+use grib2_sections::Frame;
 use std::alloc::Global;
 
 /// What is kept of Section 0 and of the sections that are whole.
 #[derive(Debug, Drop)]
 pub(crate) struct Kept {
-    /// The total length by Section 0.
-    pub total: u64,
-    /// The octet at which the next section or the end mark begins.
-    pub place: u64,
-    /// The number of the last section, 0 for Section 0.
-    pub last: u8,
+    /// Where the next section or the end mark begins.
+    pub frame: Frame,
+    /// What the sections have in force.
+    pub force: InForce,
     /// What describes a field by the sections in force.
     pub line: FieldSummary,
-    /// What the last Section 5 says.
-    pub representation: Option<Representation>,
-    /// The last Section 6 with bits of its own.
-    pub bitmap: Option<Bitmap>,
     /// What describes the fields that have ended.
     pub summaries: Vec<FieldSummary>,
 }
@@ -37,60 +30,64 @@ pub(crate) struct Kept {
 impl Kept {
     /// Behind Section 0, which states this total length and this discipline.
     pub fn new(alloc: Global, total: u64, discipline: u8) -> Kept
-        ensures total { result.total ≡ total }
-        ensures place { result.place ≡ 17 }
-        ensures last { result.last ≡ 0 }
+        requires shortest { 20 ≤ total }
+        requires longest { total ≤ 268435456 }
+        ensures frame { result.frame ≡ record { total = total; place = 17; last = 0 } }
+        ensures force { HasInForce [] result.force }
         ensures line { result.line ≡ summary_in_force discipline [] }
-        ensures representation { result.representation ≡ None }
-        ensures bitmap { result.bitmap ≡ None }
         ensures summaries { result.summaries.items ≡ [] }
     {
         Kept {
-            total,
-            place: 17,
-            last: 0,
-            line: nothing_of(discipline),
-            representation: None,
-            bitmap: None,
+            frame: Frame::new(total),
+            force: InForce::new(),
+            line: FieldSummary::new(discipline),
             summaries: Vec::new(alloc),
         }
     }
 }
 
-/// What describes a field of this discipline before Section 1.
-fn nothing_of(discipline: u8) -> FieldSummary
-    ensures { result ≡ summary_in_force discipline [] }
+/// What is kept after the next section, which is no Section 7.
+///
+/// # Errors
+///
+/// The first row of its contents that fails, or there is no memory.
+pub(crate) fn after_section(
+    alloc: Global,
+    kept: Kept,
+    section: &Section<'_>,
+) -> Result<Kept, ReadFault>
+    requires stands { (octets : List ℕ) × (before : List Placed) × Stands octets before kept
+        × (step_of octets kept ≡ Next section.now.octets.now) × (section.now.start ≡ kept.frame.place) }
+    requires not_7 { section.now.number ≢ 7 }
+    ensures { (octets : List ℕ) (before : List Placed) → Stands octets before kept
+        → step_of octets kept ≡ Next section.now.octets.now → MatchResult result
+        (λ after. Stands octets (placed_at kept.frame.place section.now.octets.now ∷ before) after
+        × (after.frame.place ≡ kept.frame.place + length_of section.now.octets.now))
+        (Stops octets) }
 {
-    let identification = Identification {
-        centre: 0,
-        sub_centre: 0,
-        master: 0,
-        local: 0,
-        significance: 0,
-        year: 0,
-        month: 0,
-        day: 0,
-        hour: 0,
-        minute: 0,
-        second: 0,
-        status: 0,
-        data_type: 0,
+    let mut kept = kept;
+    kept.force.go_past(alloc, section)?;
+    kept.line = kept.line.with_section(section);
+    kept.frame
+        .go_past(section.octets.len() as u64, section.number);
+    Ok(kept)
+}
+
+/// What is kept after a Section 7 of this length, which no row refused: its field ends.
+pub(crate) fn after_values(kept: Kept, length: u32) -> Result<Kept, ReadFault>
+    requires stands { (octets : List ℕ) × (before : List Placed) × Stands octets before kept
+        × (kept.frame.place + length + 3 ≤ kept.frame.total) }
+    ensures stands { IfOk result (λ after. (octets : List ℕ) (before : List Placed) (s7 : List ℕ) → Stands octets before kept
+        → step_of octets kept ≡ Next s7 → length_of s7 ≡ length → StatesItself 7 s7
+        → section_fault before (placed_at kept.frame.place s7) ≡ None
+        → Stands octets (placed_at kept.frame.place s7 ∷ before) after × (after.frame.place ≡ kept.frame.place + length)) }
+    ensures memory { OnErr result (result ≡ Err ReadFault.Memory) }
+{
+    let mut kept = kept;
+    let Ok(()) = kept.summaries.push(kept.line) else {
+        return Err(ReadFault::Memory);
     };
-    FieldSummary {
-        identification,
-        discipline,
-        grid: 0,
-        points: 0,
-        product: 0,
-        category: 0,
-        number: 0,
-        unit: 0,
-        time: 0,
-        surface: 0,
-        scale: 0,
-        value: 0,
-        packing: 0,
-        bits: 0,
-        values: 0,
-    }
+    kept.force.end_field();
+    kept.frame.go_past(u64::from(length), 7);
+    Ok(kept)
 }

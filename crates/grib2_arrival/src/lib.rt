@@ -2,7 +2,6 @@
 #![tactic(auto)]
 
 mod arrival;
-mod contents;
 mod data;
 mod head;
 mod kept;

@@ -11,10 +11,9 @@ ghost use Rattle.grib2_arrival.specs.Standing.{Stands};
 ghost use Rattle.grib2_arrival.specs.Fed.{DataAgrees};
 ghost use Rattle.grib2_arrival.specs.Heard.{pending, step_of, BeginsLikeTwo, FeedsHeard, GathersHeard, IsOne, IsOpen, IsValues, StateHeard, Stops};
 
-use crate::contents::after_section;
 use crate::data::Data;
 use crate::head::Beginning;
-use crate::kept::Kept;
+use crate::kept::{Kept, after_section, after_values};
 use crate::look::{Look, wanted};
 use grib_base::{ReadFault, Section};
 use grib_bits::u8_at;
@@ -77,11 +76,11 @@ impl State {
     {
         match self {
             State::Begins(beginning) => beginning.count as u64,
-            State::Gathers(kept, gathered) => kept.place - 1 + gathered.len() as u64,
+            State::Gathers(kept, gathered) => kept.frame.place() - 1 + gathered.len() as u64,
             State::Feeds(kept, _, length, feed) => {
-                kept.place - 1 + u64::from(*length) - u64::from(feed.left())
+                kept.frame.place() - 1 + u64::from(*length) - u64::from(feed.left())
             }
-            State::Ended(kept) => kept.total,
+            State::Ended(kept) => kept.frame.total(),
         }
     }
 }
@@ -136,7 +135,7 @@ fn take_section(alloc: Global, kept: Kept, gathered: Vec<u8>) -> Result<State, R
     let octets = gathered.as_slice();
     let section = Section {
         number: u8_at(octets, 5),
-        start: kept.place,
+        start: kept.frame.place(),
         octets,
     };
     let kept = after_section(alloc, kept, &section)?;
@@ -159,10 +158,8 @@ fn start_values(
         → gathered.items ≡ pending octets kept → length_of gathered.items ≡ 5 → IsValues octets kept length
         → MatchResult result (λ state. StateHeard (Some state) octets) (Stops octets) }
 {
-    let Some(representation) = kept.representation else {
-        unreachable!();
-    };
-    let feed = Data::start(alloc, &representation, kept.place, length)?;
+    let representation = kept.force.representation();
+    let feed = Data::start(alloc, representation, kept.frame.place(), length)?;
     let mut gathered = gathered;
     gathered.clear();
     go_on(kept, gathered, length, feed)
@@ -194,10 +191,10 @@ fn go_on(kept: Kept, gathered: Vec<u8>, length: u32, feed: Data) -> Result<State
     requires empty { gathered.items ≡ [] }
     requires stands { (octets : List ℕ) × (before : List Placed) × Stands octets before kept
         × IsValues octets kept length
-        × DataAgrees (octets_in_force 5 before) kept.place length (drop 5 (pending octets kept)) feed }
+        × DataAgrees (octets_in_force 5 before) kept.frame.place length (drop 5 (pending octets kept)) feed }
     ensures { (octets : List ℕ) (before : List Placed) → Stands octets before kept
         → IsValues octets kept length
-        → DataAgrees (octets_in_force 5 before) kept.place length (drop 5 (pending octets kept)) feed
+        → DataAgrees (octets_in_force 5 before) kept.frame.place length (drop 5 (pending octets kept)) feed
         → MatchResult result (λ state. StateHeard (Some state) octets) (Stops octets) }
 {
     if feed.left() > 0 {
@@ -206,25 +203,4 @@ fn go_on(kept: Kept, gathered: Vec<u8>, length: u32, feed: Data) -> Result<State
     feed.finish()?;
     let kept = after_values(kept, length)?;
     Ok(State::Gathers(kept, gathered))
-}
-
-/// What is kept after a Section 7 of this length, which no row refused: its field ends.
-fn after_values(kept: Kept, length: u32) -> Result<Kept, ReadFault>
-    requires near { kept.place + length < 2 ^ 64 }
-    ensures stands { IfOk result (λ after. (octets : List ℕ) (before : List Placed) (s7 : List ℕ) → Stands octets before kept
-        → step_of octets kept ≡ Next s7 → length_of s7 ≡ length → StatesItself 7 s7
-        → section_fault before (placed_at kept.place s7) ≡ None
-        → Stands octets (placed_at kept.place s7 ∷ before) after × (after.place ≡ kept.place + length)) }
-    ensures memory { OnErr result (result ≡ Err ReadFault.Memory) }
-{
-    let mut summaries = kept.summaries;
-    let Ok(()) = summaries.push(kept.line) else {
-        return Err(ReadFault::Memory);
-    };
-    Ok(Kept {
-        place: kept.place + u64::from(length),
-        last: 7,
-        summaries,
-        ..kept
-    })
 }

@@ -8,7 +8,7 @@ use Rattle.grib2_message.specs.View.{is_numbered, last_number, octets_in_force, 
 use Rattle.grib2_message.specs.Acceptance.{section_fault}
 use Rattle.grib2_message.specs.Fields.{sections_up_to_field}
 use Rattle.grib2_message.specs.Grammar.{IsSection}
-use Rattle.grib2_message.proofs.InForce.{octets_same, octets_other}
+use Rattle.grib2_message.proofs.Latest.{octets_same, octets_other}
 
 -- each two that stand at the same place of the lists fit
 abbrev pub Along : (Placed → Placed → Type 0) → List Placed → List Placed → Type 0

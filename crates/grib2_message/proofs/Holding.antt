@@ -17,7 +17,7 @@ use Rattle.grib2_message.specs.Fields.{sections_from, sections_of, sections_up_t
 use Rattle.grib2_message.specs.Grammar.{AreSections}
 use Rattle.grib2_message.specs.Kept.{AreSound}
 use Rattle.grib2_message.specs.Message.{IsMessage, FieldPasses}
-use Rattle.grib2_message.proofs.InForce.{octets_same, octets_other}
+use Rattle.grib2_message.proofs.Latest.{octets_same, octets_other}
 use Rattle.grib2_message.proofs.Masks.{long_alone}
 use Rattle.grib2_message.proofs.Order.{follows_tells}
 use Rattle.grib2_message.proofs.Parted.{message_parted}

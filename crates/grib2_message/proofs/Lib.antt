@@ -3,9 +3,10 @@ pub mod Ahead
 pub mod Along
 pub mod Bitmaps
 pub mod Checked
+pub mod Described
 pub mod Fronts
 pub mod Holding
-pub mod InForce
+pub mod Latest
 pub mod Joined
 pub mod Lengths
 pub mod Masks

@@ -10,11 +10,12 @@ use Rattle.grib_bitmap.specs.Mask.{bitmap_indicator, bitmap_rows, mask_of, own_m
 use Rattle.grib_packing.specs.declared.column.Point.{Point}
 use Rattle.grib_packing.specs.Column.{points_with_mask}
 use Rattle.grib_packing.specs.Packing.{value_count}
-use Rattle.grib2_sections.specs.Frame.{Placed, section_at}
-use Rattle.grib2_message.specs.View.{octets_in_force, points_in_force, earlier_mask, mask_in_force}
-use Rattle.grib2_message.specs.Kept.{IsBitmap, KeepsBitmap, IsField}
-use Rattle.grib2_message.specs.declared.places.Bitmap.{Bitmap}
+use Rattle.grib2_sections.specs.Frame.{Placed, section_at, section_number}
+use Rattle.grib2_message.specs.View.{octets_in_force, points_in_force, earlier_bitmap, bitmap_mask, earlier_mask, mask_in_force}
+use Rattle.grib2_message.specs.Kept.{StandsAt, IsBitmap, KeepsBitmap, IsField}
+use Rattle.grib2_message.specs.declared.in_force.Bitmap.{Bitmap}
 use Rattle.grib2_message.specs.declared.places.Places.{Places}
+use Rattle.grib2_message.proofs.Latest.{earlier_stands}
 use Rattle.grib2_message.proofs.Passed.{passes_from_none}
 use Rattle.grib2_message.proofs.Walk.{second_fails}
 use Rattle.grib2_message.proofs.Bitmaps.{mask_alone, rows_alone, mask_from_own}
@@ -56,10 +57,10 @@ present_of s points values earlier none =
 
 module _ (m : List ℕ) (before : List Placed) (places : Places) (h : IsField m before places) where
   rows : first_fault (bitmap_rows (octets_in_force 6 before) (points_in_force before) (value_count (octets_in_force 5 before)) (earlier_mask before)) ≡ None
-  rows = h.stand.sound.bitmap (omega (arith, h.ends))
+  rows = h.stand.force.sound.bitmap (omega (arith, h.ends))
 
   mask : mask_in_force before ≡ mask_of (octets_in_force 6 before) (points_in_force before) (earlier_mask before)
-  mask = h.stand.sound.mask (omega (arith, h.ends))
+  mask = h.stand.force.sound.mask (omega (arith, h.ends))
 
   present : present_count (mask_in_force before) ≡ value_count (octets_in_force 5 before)
   present = ap present_count mask ∙ present_of (octets_in_force 6 before) (points_in_force before) (value_count (octets_in_force 5 before)) (earlier_mask before) rows
@@ -88,25 +89,39 @@ module _ (m : List ℕ) (before : List Placed) (places : Places) (h : IsField m 
       let on : is_none (earlier_mask before) ≡ true = ap is_none none in
       absurd (cc)
 
-  pub bitmap_there : bitmap_indicator (octets_in_force 6 before) ≡ 254 → places.bitmap ≡ None → ⊥
+  pub bitmap_there : bitmap_indicator (octets_in_force 6 before) ≡ 254 → places.force.bitmap ≡ None → ⊥
   bitmap_there repeats none =
-      earlier_there repeats (none_kept (earlier_mask before) (subst (λ (b : Option Bitmap). KeepsBitmap m b (earlier_mask before)) none h.stand.bitmap))
+      earlier_there repeats (none_kept (earlier_bitmap before) (subst (λ (b : Option Bitmap). KeepsBitmap b (earlier_bitmap before)) none h.stand.force.bitmap))
     where
-      none_kept : (e : Option (List Bool)) → KeepsBitmap m None e → e ≡ None
-      none_kept None k = refl
-      none_kept (Some x) k = absurd k
+      none_kept : (earlier : List Placed) → KeepsBitmap None earlier → bitmap_mask earlier ≡ None
+      none_kept [] k = refl
+      none_kept (s ∷ rest) k = absurd k
 
-  -- the mask that is kept
+  -- the section with its bits
   pub record Repeated (bitmap : Bitmap) : Type 0 where
-    pub kept : List Bool
-    pub is : earlier_mask before ≡ Some kept
-    pub bits : IsBitmap m bitmap kept
+    pub section : Placed
+    pub others : List Placed
+    pub is : earlier_bitmap before ≡ section ∷ others
+    pub kept : IsBitmap bitmap section others
+    pub stands : StandsAt m bitmap.start 6
+    pub octets_are : section_at m bitmap.start ≡ section.octets
 
-  pub repeated : (bitmap : Bitmap) → places.bitmap ≡ Some bitmap → Repeated bitmap
-  repeated bitmap some = go (earlier_mask before) refl (subst (λ (b : Option Bitmap). KeepsBitmap m b (earlier_mask before)) some h.stand.bitmap) where
-    go : (e : Option (List Bool)) → earlier_mask before ≡ e → KeepsBitmap m (Some bitmap) e → Repeated bitmap
-    go None is k = absurd k
-    go (Some kept) is k = record { kept = kept; is = is; bits = k }
+  pub repeated : (bitmap : Bitmap) → places.force.bitmap ≡ Some bitmap → Repeated bitmap
+  repeated bitmap some =
+      go (earlier_bitmap before) refl (subst (λ (b : Option Bitmap). KeepsBitmap b (earlier_bitmap before)) some h.stand.force.bitmap)
+    where
+      go : (earlier : List Placed) → earlier_bitmap before ≡ earlier → KeepsBitmap (Some bitmap) earlier → Repeated bitmap
+      go [] is k = absurd k
+      go (s ∷ rest) is k =
+          let stands = earlier_stands m before s rest h.stand.placed is in
+          record {
+            section = s;
+            others = rest;
+            is = is;
+            kept = k;
+            stands = subst (λ (n : ℕ). StandsAt m bitmap.start n) k.numbered (subst (λ (x : ℕ). StandsAt m x (section_number s.octets)) (sym k.start) stands.0);
+            octets_are = ap (section_at m) k.start ∙ sym stands.1;
+          }
 
   pub mask_repeated : (bitmap : Bitmap) (found : List Bool) → bitmap_indicator (octets_in_force 6 before) ≡ 254 → Repeated bitmap
       → found ≡ mask_of (section_at m bitmap.start) bitmap.points None → IsFieldMask before found
@@ -116,12 +131,15 @@ module _ (m : List ℕ) (before : List Placed) (places : Places) (h : IsField m 
       let p = passes_from_none (bitmap_rows s points (value_count (octets_in_force 5 before)) (earlier_mask before)) rows in
       let force : mask_in_force before ≡ unwrap_or (earlier_mask before) [] =
       mask ∙ ap (λ (i : ℕ). cond (i == 255) (replicate points true) (cond (i == 254) (unwrap_or (earlier_mask before) []) (own_mask s points))) repeats in
-      let same : mask_in_force before ≡ r.kept = force ∙ ap (λ (e : Option (List Bool)). unwrap_or e []) r.is in
+      let same : mask_in_force before ≡ own_mask r.section.octets (points_in_force r.others) = force ∙ ap (λ (xs : List Placed). unwrap_or (bitmap_mask xs) []) r.is in
       let size : length (unwrap_or (earlier_mask before) []) ≡ points =
       eqb-true _ points (not-false (length (unwrap_or (earlier_mask before) []) == points)
       (second_fails (bitmap_indicator s == 254) (not (length (unwrap_or (earlier_mask before) []) == points)) p.1.1.1.1.0 (eq-eqb _ 254 repeats))) in
       is_field_mask found
-      (is ∙ mask_from_own (section_at m bitmap.start) bitmap.points r.bits.own None ∙ sym r.bits.bits ∙ sym same)
+      (is
+      ∙ mask_from_own (section_at m bitmap.start) bitmap.points (ap bitmap_indicator r.octets_are ∙ r.kept.own) None
+      ∙ (λ i. own_mask (r.octets_are i) (r.kept.points i))
+      ∙ sym same)
       (ap length force ∙ size)
 
 -- the number of points of a grid that is accepted

@@ -22,7 +22,7 @@ use Rattle.grib2_message.specs.Assembled.{in_place_with, replaced_with, IsGrid, 
 use Rattle.grib2_message.specs.Kept.{AreSound}
 use Rattle.grib2_message.proofs.Along.{Along, MayReplace, replaces, last_along, count_along, octets_along}
 use Rattle.grib2_message.proofs.Bitmaps.{mask_alone}
-use Rattle.grib2_message.proofs.InForce.{octets_same, octets_other}
+use Rattle.grib2_message.proofs.Latest.{octets_same, octets_other}
 use Rattle.grib2_message.proofs.Order.{Follows, next, skips, again, follows_tells, in_range, one_below}
 use Rattle.grib2_message.proofs.Passed.{passes_from_none}
 use Rattle.grib2_message.proofs.Placing.{placed_from}

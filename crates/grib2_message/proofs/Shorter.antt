@@ -1,13 +1,11 @@
 -- What is kept of a message that octets follow is kept of the message alone.
-use Rattle.std.proofs.Common.{◌≡◌, ◌≢◌, ℕ, ◌+◌, ◌-◌, ◌<◌, ◌≤◌, Bool, Option, Some, None, List, [], ◌∷◌, ◌++◌, length, take, drop, All, get_or, sym, ap, ◌∙◌, arith, subst, take-take, length-take-le, take-append-drop, length-append, inl, inr}
+use Rattle.std.proofs.Common.{◌≡◌, ◌≢◌, ℕ, ◌+◌, ◌-◌, ◌<◌, ◌≤◌, Some, List, [], ◌∷◌, ◌++◌, length, take, drop, All, get_or, sym, ap, ◌∙◌, arith, subst, take-take, length-take-le, take-append-drop, length-append, inl, inr}
 use Rattle.std.specs.List.{count_by}
 use Rattle.std.proofs.lemmas.Bool.{cases_lt}
 use Rattle.std.proofs.lemmas.Option.{slice_get_within, get_or_from_slice_get, slice_get-get_or}
 use Rattle.std.proofs.Math.ListN.{get_or-append}
 use Rattle.std.proofs.Math.Seq.{get_or-append_seam}
 use Rattle.grib_bits.specs.Octets.{octets}
-use Rattle.grib_base.specs.Rows.{first_fault}
-use Rattle.grib_bitmap.specs.Mask.{bitmap_indicator, bitmap_rows, own_mask}
 use Rattle.grib2_sections.specs.Verdict.{Accepted}
 use Rattle.grib2_sections.specs.Head.{indicator, edition, total_length}
 use Rattle.grib2_sections.specs.Frame.{Placed, section_at}
@@ -15,8 +13,7 @@ use Rattle.grib2_message.specs.View.{is_numbered}
 use Rattle.grib2_message.specs.Acceptance.{verdict_2}
 use Rattle.grib2_message.specs.Fields.{sections_of, field_count, field_sections, sections_up_to_field}
 use Rattle.grib2_message.specs.Message.{FieldPasses}
-use Rattle.grib2_message.specs.Kept.{StandsAt, ArePlaced, IsBitmap, KeepsBitmap, IsEarlier, HasPlaces, IsField, KeepsFields, Keeps}
-use Rattle.grib2_message.specs.declared.places.Bitmap.{Bitmap}
+use Rattle.grib2_message.specs.Kept.{StandsAt, ArePlaced, HasPlaces, IsField, KeepsFields, Keeps}
 use Rattle.grib2_message.specs.declared.places.Places.{Places}
 use Rattle.grib2_message.proofs.Fronts.{accepted_states, accepted_least, accepted_alone}
 use Rattle.grib2_message.proofs.Stays.{IsFront, front_of, same_octets, same_section}
@@ -68,37 +65,12 @@ module _ (u m : List ℕ) (total : ℕ) (front : IsFront u m) (long : length u �
   placed_alone (s ∷ before) h =
       (stands_alone s.start _ h.0, h.1 ∙ section_alone s.start _ h.0, placed_alone before h.2)
 
-  bitmap_alone : (bitmap : Bitmap) (mask : List Bool) → IsBitmap m bitmap mask → IsBitmap u bitmap mask
-  bitmap_alone bitmap mask h =
-      let same = section_alone bitmap.start 6 h.stands in
-      record {
-        stands = stands_alone bitmap.start 6 h.stands;
-        own = ap bitmap_indicator (sym same) ∙ h.own;
-        rows = ap (λ (x : List ℕ). first_fault (bitmap_rows x bitmap.points bitmap.present None)) (sym same) ∙ h.rows;
-        bits = h.bits ∙ ap (λ (x : List ℕ). own_mask x bitmap.points) same;
-      }
-
-  keeps_alone : (bitmap : Option Bitmap) (mask : Option (List Bool)) → KeepsBitmap m bitmap mask → KeepsBitmap u bitmap mask
-  keeps_alone None None h = tt
-  keeps_alone None (Some mask) h = absurd h
-  keeps_alone (Some bitmap) None h = absurd h
-  keeps_alone (Some bitmap) (Some mask) h = bitmap_alone bitmap mask h
-
-  -- and is the earlier bitmap
-  earlier_alone : (bitmap : Option Bitmap) (mask : Option (List Bool)) (before : List Placed) → KeepsBitmap m bitmap mask → IsEarlier m bitmap before → IsEarlier u bitmap before
-  earlier_alone None mask before h e = tt
-  earlier_alone (Some bitmap) None before h e = absurd h
-  earlier_alone (Some bitmap) (Some mask) before h e = (e.0, sym (section_alone bitmap.start 6 h.stands) ∙ e.1)
-
   places_alone : (before : List Placed) (places : Places) → HasPlaces m before places → HasPlaces u before places
   places_alone before places h = record {
     eight = h.eight;
     starts = h.starts;
     placed = placed_alone before h.placed;
-    representation = h.representation;
-    bitmap = keeps_alone places.bitmap _ h.bitmap;
-    earlier = earlier_alone places.bitmap _ before h.bitmap h.earlier;
-    sound = h.sound;
+    force = h.force;
   }
 
   field_alone : (before : List Placed) (places : Places) → IsField m before places → IsField u before places
@@ -145,7 +117,7 @@ field_kept m fields h i low high places is =
 -- its sections pass
 pub field_passes : (m : List ℕ) (i : ℕ) (places : Places) → IsField m (field_sections m i) places → FieldPasses m i
 field_passes m i places h =
-    let sound = h.stand.sound in
+    let sound = h.stand.force.sound in
     record {
       identification = sound.identification (omega (arith, h.ends));
       grid = sound.grid (omega (arith, h.ends));

@@ -15,7 +15,7 @@ use Rattle.grib2_message.specs.View.{is_numbered, last_number, section_in_force,
 use Rattle.grib2_message.specs.Acceptance.{no_rows, section_fault, contents_faults}
 use Rattle.grib2_message.specs.Kept.{AreSound, begun}
 use Rattle.grib2_message.proofs.Passed.{passes_from_none, none_from_passes}
-use Rattle.grib2_message.proofs.InForce.{in_force_same, in_force_other, octets_same, octets_other}
+use Rattle.grib2_message.proofs.Latest.{in_force_same, in_force_other, octets_same, octets_other}
 use Rattle.grib2_message.proofs.Order.{Follows, next, skips, again, in_range, one_below, begun_none}
 use Rattle.grib2_message.proofs.Bitmaps.{mask_alone, rows_alone}
 

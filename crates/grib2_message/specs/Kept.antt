@@ -11,15 +11,16 @@ use Rattle.grib2_sections.specs.Frame.{Placed, section_at, section_number, may_f
 use Rattle.grib2_sections.specs.Identification.{identification_rows}
 use Rattle.grib2_grids.specs.Grid.{grid_rows}
 use Rattle.grib2_products.specs.Product.{product_rows}
-use Rattle.grib_bitmap.specs.Mask.{bitmap_indicator, bitmap_rows, mask_of, own_mask, present_count}
+use Rattle.grib_bitmap.specs.Mask.{bitmap_indicator, bitmap_rows, mask_of, present_count}
 use Rattle.grib_packing.specs.Packing.{value_count}
 use Rattle.grib_packing.specs.Entries.{packing_fault, data_fault}
 use Rattle.grib_complex.specs.Field.{Represents}
 use Rattle.grib_complex.specs.declared.field.Representation.{Representation}
-use Rattle.grib2_message.specs.View.{last_number, section_in_force, octets_in_force, points_in_force, earlier_bitmap, first_octets, first_start, earlier_mask, mask_in_force, section_count}
+use Rattle.grib2_message.specs.View.{last_number, section_in_force, octets_in_force, points_in_force, earlier_bitmap, earlier_mask, mask_in_force, section_count}
 use Rattle.grib2_message.specs.Fields.{field_sections, field_count}
 use Rattle.grib2_message.specs.Message.{IsMessage}
-use Rattle.grib2_message.specs.declared.places.Bitmap.{Bitmap}
+use Rattle.grib2_message.specs.declared.in_force.Bitmap.{Bitmap}
+use Rattle.grib2_message.specs.declared.in_force.InForce.{InForce}
 use Rattle.grib2_message.specs.declared.places.Places.{Places}
 
 -- a section with this number stands whole at octet `start`, before the end mark
@@ -42,18 +43,20 @@ ArePlaced message (s ∷ before) =
 abbrev pub start_in_force : ℕ → List Placed → ℕ
 start_in_force number before = option_map_or (λ s. s.start) (section_in_force number before) 0
 
--- the last Section 6 with bits of its own, which no row refused, and its mask
-pub record IsBitmap (message : List ℕ) (bitmap : Bitmap) (mask : List Bool) : Type 0 where
-  pub stands : StandsAt message bitmap.start 6
-  pub own : bitmap_indicator (section_at message bitmap.start) ≡ 0
-  pub rows : first_fault (bitmap_rows (section_at message bitmap.start) bitmap.points bitmap.present None) ≡ None
-  pub bits : mask ≡ own_mask (section_at message bitmap.start) bitmap.points
+-- what is known of a Section 6 with bits of its own, which no row refused, by the sections before it
+pub record IsBitmap (bitmap : Bitmap) (s : Placed) (before : List Placed) : Type 0 where
+  pub start : bitmap.start ≡ s.start
+  pub points : bitmap.points ≡ points_in_force before
+  pub numbered : section_number s.octets ≡ 6
+  pub own : bitmap_indicator s.octets ≡ 0
+  pub rows : first_fault (bitmap_rows s.octets bitmap.points bitmap.present None) ≡ None
 
-abbrev pub KeepsBitmap : List ℕ → Option Bitmap → Option (List Bool) → Type 0
-KeepsBitmap message None None = Unit {0}
-KeepsBitmap message None (Some mask) = ⊥
-KeepsBitmap message (Some bitmap) None = ⊥
-KeepsBitmap message (Some bitmap) (Some mask) = IsBitmap message bitmap mask
+-- it is kept of the first of these sections, where there is one
+abbrev pub KeepsBitmap : Option Bitmap → List Placed → Type 0
+KeepsBitmap None [] = Unit {0}
+KeepsBitmap None (s ∷ before) = ⊥
+KeepsBitmap (Some bitmap) [] = ⊥
+KeepsBitmap (Some bitmap) (s ∷ before) = IsBitmap bitmap s before
 
 -- what the Section 5 in force says is kept, where there is one
 abbrev pub KeepsRepresentation : Option Representation → Option Placed → Type 0
@@ -61,12 +64,6 @@ KeepsRepresentation None None = Unit {0}
 KeepsRepresentation None (Some s) = ⊥
 KeepsRepresentation (Some representation) None = ⊥
 KeepsRepresentation (Some representation) (Some s) = Represents representation s.octets
-
--- it is the earlier bitmap, where one is kept
-abbrev pub IsEarlier : List ℕ → Option Bitmap → List Placed → Type 0
-IsEarlier message None before = Unit {0}
-IsEarlier message (Some bitmap) before =
-    (bitmap.start ≡ first_start (earlier_bitmap before)) × (section_at message bitmap.start ≡ first_octets (earlier_bitmap before))
 
 -- what the row on bitmaps asks of an earlier one
 abbrev pub TellsBitmap : Option Bitmap → Option (List Bool) → Type 0
@@ -104,15 +101,20 @@ earlier_fault points earlier =
     ∷ row (not (earlier_length == points)) 6 BitmapSize earlier_length
     ∷ [])
 
--- where the sections in force after these begin
+-- what these sections have in force, of which no row refused one
+pub record HasInForce (before : List Placed) (force : InForce) : Type 0 where
+  pub points : force.points ≡ points_in_force before
+  pub representation : KeepsRepresentation force.representation (section_in_force 5 before)
+  pub bitmap : KeepsBitmap force.bitmap (earlier_bitmap before)
+  pub fields : force.fields ≡ section_count 7 before
+  pub sound : AreSound before
+
+-- and where the sections in force begin
 pub record HasPlaces (message : List ℕ) (before : List Placed) (places : Places) : Type 0 where
   pub eight : length places.starts ≡ 8
   pub starts : (k : ℕ) → k < 8 → get_or places.starts k 0 ≡ start_in_force k before
   pub placed : ArePlaced message before
-  pub representation : KeepsRepresentation places.representation (section_in_force 5 before)
-  pub bitmap : KeepsBitmap message places.bitmap (earlier_mask before)
-  pub earlier : IsEarlier message places.bitmap before
-  pub sound : AreSound before
+  pub force : HasInForce before places.force
 
 -- a section that stands after these, as the frame gives it
 pub record Comes (message : List ℕ) (before : List Placed) (number start : ℕ) (s : List ℕ) : Type 0 where

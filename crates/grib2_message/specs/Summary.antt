@@ -2,12 +2,14 @@
 -- Volume I.2, FM 92 GRIB edition 2, Sections 0, 1, 3, 4 and 5).
 use Rattle.std.specs.Prelude.{ℕ, List}
 use Rattle.grib_bits.specs.Octets.{octets}
+use Rattle.grib2_sections.specs.Frame.{Placed}
 use Rattle.grib2_sections.specs.Head.{discipline}
 use Rattle.grib2_sections.specs.declared.identification.Identification.{Identification}
 use Rattle.grib2_grids.specs.Grid.{grid_points, grid_template}
 use Rattle.grib2_products.specs.Product.{product_template}
 use Rattle.grib_packing.specs.Packing.{packing_template, bit_width, value_count}
 use Rattle.grib2_message.specs.declared.summary.FieldSummary.{FieldSummary}
+use Rattle.grib2_message.specs.View.{octets_in_force}
 use Rattle.grib2_message.specs.Fields.{part_octets}
 
 -- what Section 1 states
@@ -47,6 +49,11 @@ summary_by discipline identification s3 s4 s5 = record {
   bits = bit_width s5;
   values = value_count s5;
 }
+
+-- by the discipline and the sections in force, as far as they came
+abbrev pub summary_in_force : ℕ → List Placed → FieldSummary
+summary_in_force discipline before =
+    summary_by discipline (identification_of (octets_in_force 1 before)) (octets_in_force 3 before) (octets_in_force 4 before) (octets_in_force 5 before)
 
 -- of field i, by the sections in force for it
 abbrev pub summary_of : List ℕ → ℕ → FieldSummary

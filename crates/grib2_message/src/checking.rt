@@ -10,7 +10,7 @@ ghost use Rattle.grib_base.specs.declared.fault.Reason.TheVariants.{ValueCount};
 ghost use Rattle.grib2_message.specs.Kept.{TellsBitmap, earlier_fault};
 ghost use Rattle.grib_base.specs.Faults.{AreTried, IsReadFault};
 
-use crate::places::Bitmap;
+use crate::in_force::Bitmap;
 use grib_base::{Fault, ReadFault, Reason, Section};
 use grib_bitmap::read_mask;
 use grib2_sections::read_identification;

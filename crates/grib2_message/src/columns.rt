@@ -33,10 +33,8 @@ pub(crate) fn column_at(alloc: Global, octets: &[u8], places: &Places) -> Result
     ensures long { (before : List Placed) → IsField octets.now before places.now → IfOk result
         (λ column. length column.points ≡ points_in_force before) }
 {
-    let Some(representation) = places.representation else {
-        unreachable!();
-    };
     let mask = mask_at(alloc, octets, places)?;
+    let representation = places.force.representation();
     match representation.unpack(alloc, &mask, &places.section(octets, 7)) {
         Ok(column) => Ok(column),
         Err(ReadFault::Memory) => Err(AllocError),
@@ -57,9 +55,7 @@ pub(crate) fn take_values_at<K: Keeper + Drop>(
         × (length (entries_of (octets_in_force 5 before) (octets_in_force 7 before))
         ≡ value_count (octets_in_force 5 before))) }
 {
-    let Some(representation) = places.representation else {
-        unreachable!();
-    };
+    let representation = places.force.representation();
     match representation.take_values(alloc, &places.section(octets, 7), keeper) {
         Ok(after) => Ok(after),
         Err(ReadFault::Memory) => Err(AllocError),
@@ -76,10 +72,10 @@ pub(crate) fn mask_at(alloc: Global, octets: &[u8], places: &Places) -> Result<M
 {
     let section = places.section(octets, 6);
     if u8_at(section.octets, 6) != REPEATS {
-        let points = places.points(octets);
-        return accepted_mask(alloc, &section, points, places.values(octets));
+        let values = places.force.representation().values();
+        return accepted_mask(alloc, &section, places.force.points, values);
     }
-    let Some(bitmap) = places.bitmap else {
+    let Some(bitmap) = places.force.bitmap else {
         unreachable!();
     };
     let earlier = section_from(octets, bitmap.start, 6);
@@ -99,7 +95,7 @@ pub(crate) fn own_bitmap<'a>(octets: &'a [u8], places: &Places) -> Section<'a>
     if u8_at(section.octets, 6) != REPEATS {
         return section;
     }
-    let Some(bitmap) = places.bitmap else {
+    let Some(bitmap) = places.force.bitmap else {
         unreachable!();
     };
     section_from(octets, bitmap.start, 6)

@@ -1,35 +1,23 @@
 //! Where the sections in force stand in a message.
 
-ghost use Rattle.std.specs.Prelude.{◌≡◌, ◌≤◌, ◌<◌, List, ℕ, get_or, []};
-ghost use Rattle.grib_packing.specs.Packing.{value_count};
-ghost use Rattle.grib2_sections.specs.Frame.{Placed, section_at};
-ghost use Rattle.grib2_message.specs.View.{last_number, octets_in_force, points_in_force};
-ghost use Rattle.grib2_message.specs.Kept.{StandsAt, HasPlaces};
+ghost use Rattle.std.specs.Prelude.{◌≡◌, ◌<◌, ◌∷◌, List, ℕ, get_or, [], None, MatchResult};
+ghost use Rattle.grib_base.specs.Faults.{IsReadFault};
+ghost use Rattle.grib2_sections.specs.Frame.{Placed, placed_at, section_at};
+ghost use Rattle.grib2_message.specs.View.{octets_in_force};
+ghost use Rattle.grib2_message.specs.Acceptance.{section_fault};
+ghost use Rattle.grib2_message.specs.Kept.{Comes, HasPlaces, StandsAt};
 
-use grib_base::Section;
+use crate::InForce;
+use grib_base::{ReadFault, Section};
 use grib_bits::u32_at;
-use grib_complex::Representation;
+use std::alloc::Global;
 
-/// The last Section 6 with bits of its own.
-#[derive(Clone, Copy, Debug)]
-pub struct Bitmap {
-    /// The octet of the message at which the section begins.
-    pub start: u32,
-    /// The number of grid points in force there.
-    pub points: u32,
-    /// How many of them are present.
-    pub present: u32,
-}
-
-/// Where the sections in force at a place of a message begin (WMO-No. 306, Volume I.2, FM 92 GRIB
-/// edition 2: what a group of sections does not repeat stays in force).
+/// What the sections so far of a message have in force, and where they begin.
 #[derive(Clone, Copy, Debug)]
 pub(crate) struct Places {
     /// By the number of the section, the octet at which the last one with this number begins, or 0.
     pub starts: [u32; 8],
-    /// What the last Section 5 says.
-    pub representation: Option<Representation>,
-    pub bitmap: Option<Bitmap>,
+    pub force: InForce,
 }
 
 impl Places {
@@ -39,9 +27,28 @@ impl Places {
     {
         Places {
             starts: [0; 8],
-            representation: None,
-            bitmap: None,
+            force: InForce::new(),
         }
+    }
+
+    /// Goes past the next section, where no row refuses its contents.
+    ///
+    /// # Errors
+    ///
+    /// The first row of its contents that fails, or there is no memory.
+    pub fn go_past(&mut self, alloc: Global, section: &Section<'_>) -> Result<(), ReadFault>
+        requires comes { (message : List ℕ) × (before : List Placed) × HasPlaces message before self.old
+            × Comes message before section.now.number section.now.start section.now.octets.now }
+        ensures { (message : List ℕ) (before : List Placed) → HasPlaces message before self.old
+            → Comes message before section.now.number section.now.start section.now.octets.now
+            → MatchResult result
+            (λ _. (section_fault before (placed_at section.now.start section.now.octets.now) ≡ None)
+            × HasPlaces message (placed_at section.now.start section.now.octets.now ∷ before) self.new)
+            (IsReadFault (section_fault before (placed_at section.now.start section.now.octets.now))) }
+    {
+        self.force.go_past(alloc, section)?;
+        self.starts[section.number as usize] = section.start as u32;
+        Ok(())
     }
 
     /// The section with this number that is in force.
@@ -54,26 +61,6 @@ impl Places {
         ensures number { result.number ≡ number }
     {
         section_from(octets, self.starts[number as usize], number)
-    }
-
-    /// The number of grid points in force.
-    pub fn points(&self, octets: &[u8]) -> u32
-        requires { (before : List Placed) × HasPlaces octets.now before self.now
-            × (3 ≤ last_number before) }
-        ensures { (before : List Placed) → HasPlaces octets.now before self.now
-            → 3 ≤ last_number before → result ≡ points_in_force before }
-    {
-        u32_at(self.section(octets, 3).octets, 7)
-    }
-
-    /// The number of values by the Section 5 in force.
-    pub fn values(&self, octets: &[u8]) -> u32
-        requires { (before : List Placed) × HasPlaces octets.now before self.now
-            × (5 ≤ last_number before) }
-        ensures { (before : List Placed) → HasPlaces octets.now before self.now
-            → 5 ≤ last_number before → result ≡ value_count (octets_in_force 5 before) }
-    {
-        u32_at(self.section(octets, 5).octets, 6)
     }
 }
 

@@ -11,7 +11,6 @@ ghost use Rattle.grib2_message.specs.Message.{IsMessage};
 ghost use Rattle.grib2_sections.specs.Refused.{IsVerdict};
 
 use crate::Message;
-use crate::passing::{check, go_past};
 use crate::places::Places;
 use grib_base::ReadFault;
 use grib2_sections::{Frame, read_head};
@@ -51,8 +50,7 @@ fn read_fields(alloc: Global, octets: &[u8], total: u64) -> Result<Vec<Places>, 
     let mut places = Places::new();
     let mut frame = Frame::new(total);
     while let Some(section) = frame.next(octets)? {
-        let representation = check(alloc, octets, &places, fields.len(), &section)?;
-        places = go_past(octets, &places, &section, representation);
+        places.go_past(alloc, &section)?;
         if section.number == 7 {
             let Ok(()) = fields.push(places) else {
                 return Err(ReadFault::Memory);

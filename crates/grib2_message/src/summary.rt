@@ -1,10 +1,17 @@
 //! What describes a field: the numbers that its line of a list has.
 
-ghost use Rattle.std.specs.Prelude.{◌≡◌, ◌≢◌, ◌≤◌, length};
-ghost use Rattle.grib2_message.specs.Summary as definitions;
+ghost use Rattle.std.specs.Prelude.{◌≡◌, ◌≢◌, ◌≤◌, ℕ, List, [], ◌∷◌, None, length};
+ghost use Rattle.grib_base.specs.Rows.{first_fault_at};
+ghost use Rattle.grib_bits.specs.Octets.{octets as number_at};
+ghost use Rattle.grib_packing.specs.Packing.{packing_template, bit_width, value_count};
+ghost use Rattle.grib2_grids.specs.Grid.{grid_points, grid_template};
+ghost use Rattle.grib2_products.specs.Product.{product_template};
+ghost use Rattle.grib2_sections.specs.Frame.{Placed, placed_at};
+ghost use Rattle.grib2_sections.specs.Identification.{identification_rows};
+ghost use Rattle.grib2_message.specs.Acceptance.{section_fault};
 ghost use Rattle.grib2_message.specs.Fields.{field_count, part_octets};
 ghost use Rattle.grib2_message.specs.Message.{FieldPasses};
-ghost use Rattle.grib2_message.specs.Summary.{identification_of, summary_of};
+ghost use Rattle.grib2_message.specs.Summary.{identification_of, summary_in_force, summary_of};
 
 use crate::Message;
 use grib_base::Section;
@@ -49,68 +56,139 @@ pub struct FieldSummary {
     pub values: u32,
 }
 
+impl FieldSummary {
+    /// What describes a field of this discipline before Section 1: no number is there but that.
+    pub fn new(discipline: u8) -> FieldSummary
+        ensures { result ≡ summary_in_force discipline [] }
+    {
+        let identification = Identification {
+            centre: 0,
+            sub_centre: 0,
+            master: 0,
+            local: 0,
+            significance: 0,
+            year: 0,
+            month: 0,
+            day: 0,
+            hour: 0,
+            minute: 0,
+            second: 0,
+            status: 0,
+            data_type: 0,
+        };
+        FieldSummary {
+            identification,
+            discipline,
+            grid: 0,
+            points: 0,
+            product: 0,
+            category: 0,
+            number: 0,
+            unit: 0,
+            time: 0,
+            surface: 0,
+            scale: 0,
+            value: 0,
+            packing: 0,
+            bits: 0,
+            values: 0,
+        }
+    }
+
+    /// What describes a field after the next section, which no row refused.
+    pub fn with_section(self, section: &Section<'_>) -> FieldSummary
+        requires accepted { (before : List Placed) × (section_fault before
+            (placed_at section.now.start section.now.octets.now) ≡ None) }
+        ensures { (discipline : ℕ) (before : List Placed) → self ≡ summary_in_force discipline before
+            → result ≡ summary_in_force discipline (placed_at section.now.start section.now.octets.now ∷ before) }
+    {
+        match section.number {
+            1 => self.with_identification(section),
+            3 => self.with_grid(section.octets),
+            4 => self.with_product(section.octets),
+            5 => self.with_representation(section.octets),
+            _ => self,
+        }
+    }
+
+    /// With the numbers of this Section 1.
+    fn with_identification(self, section: &Section<'_>) -> FieldSummary
+        requires accepted { first_fault_at section.now.start (identification_rows section.now.octets.now) ≡ None }
+        ensures { result ≡ record self { identification = identification_of section.now.octets.now } }
+    {
+        match read_identification(section) {
+            Ok(identification) => FieldSummary {
+                identification,
+                ..self
+            },
+            Err(_) => unreachable!(),
+        }
+    }
+
+    /// With the numbers of this Section 3.
+    fn with_grid(self, octets: &[u8]) -> FieldSummary
+        requires { 14 ≤ length octets.now }
+        ensures { result ≡ record self { grid = grid_template octets.now; points = grid_points octets.now } }
+    {
+        FieldSummary {
+            grid: u16_at(octets, 13),
+            points: u32_at(octets, 7),
+            ..self
+        }
+    }
+
+    /// With the numbers of this Section 4.
+    fn with_product(self, octets: &[u8]) -> FieldSummary
+        requires { 28 ≤ length octets.now }
+        ensures { result ≡ record self {
+          product = product_template octets.now;
+          category = number_at octets.now 10 10;
+          number = number_at octets.now 11 11;
+          unit = number_at octets.now 18 18;
+          time = number_at octets.now 19 22;
+          surface = number_at octets.now 23 23;
+          scale = number_at octets.now 24 24;
+          value = number_at octets.now 25 28;
+        } }
+    {
+        FieldSummary {
+            product: u16_at(octets, 8),
+            category: u8_at(octets, 10),
+            number: u8_at(octets, 11),
+            unit: u8_at(octets, 18),
+            time: u32_at(octets, 19),
+            surface: u8_at(octets, 23),
+            scale: u8_at(octets, 24),
+            value: u32_at(octets, 25),
+            ..self
+        }
+    }
+
+    /// With the numbers of this Section 5.
+    fn with_representation(self, octets: &[u8]) -> FieldSummary
+        requires { 20 ≤ length octets.now }
+        ensures { result ≡ record self { packing = packing_template octets.now; bits = bit_width octets.now; values = value_count octets.now } }
+    {
+        FieldSummary {
+            packing: u16_at(octets, 10),
+            bits: u8_at(octets, 20),
+            values: u32_at(octets, 6),
+            ..self
+        }
+    }
+}
+
 /// What describes a field, counted from 1.
 pub fn field_summary(message: &Message<'_>, field: u32) -> FieldSummary
     requires first { 1 ≤ field }
     requires last { field ≤ field_count message.now }
     ensures { result ≡ summary_of message.now field }
 {
-    let identification = identification_in(message, field);
-    let grid = part_in(message, field, 3);
-    let product = part_in(message, field, 4);
-    let representation = part_in(message, field, 5);
-    summary_by(
-        u8_at(message.octets(), 7),
-        identification,
-        grid.octets,
-        product.octets,
-        representation.octets,
-    )
-}
-
-/// What describes a field of this discipline, by its identification and Sections 3, 4 and 5.
-fn summary_by(
-    discipline: u8,
-    identification: Identification,
-    grid: &[u8],
-    product: &[u8],
-    representation: &[u8],
-) -> FieldSummary
-    requires grid { 14 ≤ length grid.now }
-    requires product { 28 ≤ length product.now }
-    requires representation { 20 ≤ length representation.now }
-    ensures { result ≡ definitions.summary_by discipline identification grid.now product.now
-        representation.now }
-{
-    FieldSummary {
-        identification,
-        discipline,
-        grid: u16_at(grid, 13),
-        points: u32_at(grid, 7),
-        product: u16_at(product, 8),
-        category: u8_at(product, 10),
-        number: u8_at(product, 11),
-        unit: u8_at(product, 18),
-        time: u32_at(product, 19),
-        surface: u8_at(product, 23),
-        scale: u8_at(product, 24),
-        value: u32_at(product, 25),
-        packing: u16_at(representation, 10),
-        bits: u8_at(representation, 20),
-        values: u32_at(representation, 6),
-    }
-}
-
-/// What Section 1 says of a field.
-fn identification_in(message: &Message<'_>, field: u32) -> Identification
-    requires first { 1 ≤ field }
-    requires last { field ≤ field_count message.now }
-    ensures { result ≡ identification_of (part_octets message.now field 1) }
-{
-    match read_identification(&part_in(message, field, 1)) {
-        Ok(identification) => identification,
-        Err(_) => unreachable!(),
-    }
+    FieldSummary::new(u8_at(message.octets(), 7))
+        .with_identification(&part_in(message, field, 1))
+        .with_grid(part_in(message, field, 3).octets)
+        .with_product(part_in(message, field, 4).octets)
+        .with_representation(part_in(message, field, 5).octets)
 }
 
 /// A section in force for a field that each field has.

@@ -14,7 +14,7 @@ use Rattle.grib2_message.specs.View.{is_numbered, octets_in_force}
 use Rattle.grib2_message.specs.Grammar.{Grammar2}
 use Rattle.grib2_message.specs.Fields.{sections_of, field_count, field_sections, sections_up_to_field, part_octets, field_bitmap, column_of}
 use Rattle.grib2_message.specs.Assembled.{assembled, replaced, in_place_with, as_it_is, IsGrid, PartsPass, MayBeAssembled}
-use Rattle.grib2_message.proofs.InForce.{own_alone}
+use Rattle.grib2_message.proofs.Latest.{own_alone}
 use Rattle.grib2_message.proofs.Parted.{message_parted, message_least, joined_grammar}
 use Rattle.grib2_message.proofs.Placing.{placed_from}
 use Rattle.grib2_message.proofs.PutTogether.{assembled_long, head_of, each_grid_of}

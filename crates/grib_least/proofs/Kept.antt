@@ -22,7 +22,7 @@ use Rattle.grib2_message.specs.Fields.{field_count, field_sections, part_octets,
 use Rattle.grib2_message.specs.Message.{IsMessage, FieldPasses}
 use Rattle.grib2_message.specs.Assembled.{assembled, PartsPass, MayBeAssembled}
 use Rattle.grib2_message.proofs.Bitmaps.{rows_alone}
-use Rattle.grib2_message.proofs.InForce.{own_alone, own_repeated}
+use Rattle.grib2_message.proofs.Latest.{own_alone, own_repeated}
 use Rattle.grib2_message.proofs.Parted.{message_most}
 use Rattle.grib2_message.proofs.Passed.{passes_from_none}
 use Rattle.grib_select.proofs.Accepted.{field_up_to}

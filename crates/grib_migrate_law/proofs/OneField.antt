@@ -11,7 +11,7 @@ use Rattle.grib2_products.specs.Product.{product_rows}
 use Rattle.grib2_message.specs.Grammar.{IsSection, AreSections}
 use Rattle.grib2_message.specs.View.{is_numbered, last_number, octets_in_force, points_in_force, earlier_mask, mask_in_force, section_count}
 use Rattle.grib2_message.specs.Fields.{sections_up_to_field}
-use Rattle.grib2_message.proofs.InForce.{octets_same, octets_other}
+use Rattle.grib2_message.proofs.Latest.{octets_same, octets_other}
 use Rattle.grib2_message.proofs.Placing.{placed_from}
 use Rattle.grib2_message.proofs.Sound.{fault_of, mask_here, mask_kept, points_kept, count_other}
 

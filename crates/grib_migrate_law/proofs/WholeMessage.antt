@@ -15,7 +15,7 @@ use Rattle.grib2_message.specs.Grammar.{IsSection, AreSections, Grammar2}
 use Rattle.grib2_message.specs.Message.{IsMessage}
 use Rattle.grib2_message.specs.View.{is_numbered, octets_in_force, mask_in_force, earlier_mask, section_count}
 use Rattle.grib2_message.specs.Fields.{field_count, sections_up_to_field, field_sections, part_octets, column_of}
-use Rattle.grib2_message.proofs.InForce.{octets_same, octets_other}
+use Rattle.grib2_message.proofs.Latest.{octets_same, octets_other}
 use Rattle.grib2_message.proofs.Placing.{placed_from}
 use Rattle.grib2_message.proofs.Sound.{fault_of, count_other}
 use Rattle.grib2_message.proofs.Whole.{grammar_accepted, sections_alone}

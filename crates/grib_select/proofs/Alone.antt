@@ -14,7 +14,7 @@ use Rattle.grib2_message.specs.Grammar.{Grammar2, IsSection, AreSections}
 use Rattle.grib2_message.specs.Fields.{field_count, field_sections, sections_up_to_field, part_octets, column_of}
 use Rattle.grib2_message.specs.Message.{IsMessage}
 use Rattle.grib2_message.proofs.Placing.{placed_from}
-use Rattle.grib2_message.proofs.InForce.{octets_same, octets_other, own_alone, own_repeated}
+use Rattle.grib2_message.proofs.Latest.{octets_same, octets_other, own_alone, own_repeated}
 use Rattle.grib2_message.proofs.Sound.{bitmap_own, bitmap_kept, bitmap_not_own, count_other}
 use Rattle.grib2_message.proofs.Whole.{sections_alone}
 use Rattle.grib_select.specs.Single.{field_part, first_parts, single_of}

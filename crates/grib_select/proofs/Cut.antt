@@ -16,7 +16,7 @@ use Rattle.grib2_message.specs.Grammar.{IsSection, AreSections}
 use Rattle.grib2_message.specs.Fields.{sections_up_to_field}
 use Rattle.grib2_message.proofs.Passed.{passes_from_none}
 use Rattle.grib2_message.proofs.Walk.{second_fails}
-use Rattle.grib2_message.proofs.InForce.{octets_same, octets_other, own_alone, own_repeated}
+use Rattle.grib2_message.proofs.Latest.{octets_same, octets_other, own_alone, own_repeated}
 use Rattle.grib2_message.proofs.Bitmaps.{mask_alone, rows_alone, mask_from_own, own_tells}
 use Rattle.grib2_message.proofs.Sound.{none_located, fault_of, earlier_kept, earlier_not_own, bitmap_own, bitmap_kept, bitmap_not_own, mask_here, mask_kept, points_kept, count_other}
 use Rattle.grib2_message.proofs.Placing.{placed_from}

@@ -1,6 +1,6 @@
-use Rattle.std.proofs.Common.{◌≡◌, ℕ, ◌+◌, ◌≤◌, List, ◌++◌, take, length, sym, ap, ◌∙◌, subst, arith, length-take-le}
+use Rattle.std.proofs.Common.{ℕ, ◌≤◌, List, ◌++◌, take, length, sym, ◌∙◌, subst, arith, length-take-le}
 use Rattle.std.proofs.lemmas.Result.{err_from_is_err_and}
-use Rattle.grib2_arrival.specs.Heard.{IsUnfinished, IsOne}
+use Rattle.grib2_arrival.specs.Heard.{IsOne}
 use Rattle.grib2_arrival.proofs.States.{gathered_more, gathered_stands}
 use Rattle.grib2_arrival.proofs.Verdicts.{stops_piece}
 use Rattle.grib2_arrival.proofs.state.gather.Goals as goal

@@ -1,8 +1,8 @@
-use Rattle.std.proofs.Common.{◌≡◌, ℕ, ◌+◌, ◌≤◌, List, [], ◌++◌, drop, take, length, sym, ap, ◌∙◌, subst, arith, length-take-le}
+use Rattle.std.proofs.Common.{ℕ, ◌≤◌, List, [], ◌++◌, drop, take, length, subst, arith, length-take-le}
 use Rattle.std.proofs.lemmas.Result.{err_from_is_err_and}
 use Rattle.grib2_message.specs.View.{octets_in_force}
 use Rattle.grib2_arrival.specs.Fed.{DataAgrees}
-use Rattle.grib2_arrival.specs.Heard.{pending, FeedsHeard}
+use Rattle.grib2_arrival.specs.Heard.{pending}
 use Rattle.grib2_arrival.proofs.Onward.{stands_longer}
 use Rattle.grib2_arrival.proofs.States.{values_more, values_stand, values_long}
 use Rattle.grib2_arrival.proofs.Verdicts.{stops_piece}
@@ -13,12 +13,12 @@ push-feed-requires c =
     let u = c.requires.heard.0 in
     let fh = c.requires.heard.1 in
     let kept = c.args.kept in
-    let left = c.left.ensures (octets_in_force 5 fh.before) kept.place c.args.length (drop 5 (pending u kept)) fh.agrees in
+    let left = c.left.ensures (octets_in_force 5 fh.before) kept.frame.place c.args.length (drop 5 (pending u kept)) fh.agrees in
     let within : c.min-taken.result ≤ length c.args.piece.now = omega (arith, c.min-taken.ensures) in
     let long = length-take-le c.min-taken.result c.args.piece.now within in
     record {
       s5 = octets_in_force 5 fh.before;
-      start = kept.place;
+      start = kept.frame.place;
       l = c.args.length;
       octets = drop 5 (pending u kept);
       agrees = fh.agrees;
@@ -36,8 +36,8 @@ go_on-requires-clause-stands c =
       fh.before,
       stands_longer u fh.before kept fh.stands part,
       values_stand u part kept c.args.length fh.before fh.stands fh.values,
-      subst (λ (xs : List ℕ). DataAgrees s5 kept.place c.args.length xs c.push-feed.result) (values_more u part kept c.args.length fh.before fh.stands fh.values)
-          (c.push-feed.ensures s5 kept.place c.args.length (drop 5 (pending u kept)) fh.agrees),
+      subst (λ (xs : List ℕ). DataAgrees s5 kept.frame.place c.args.length xs c.push-feed.result) (values_more u part kept c.args.length fh.before fh.stands fh.values)
+          (c.push-feed.ensures s5 kept.frame.place c.args.length (drop 5 (pending u kept)) fh.agrees),
     )
 
 pub returns-in_err-state : goal.returns-in_err-state
@@ -47,8 +47,8 @@ returns-in_err-state c = λ u fh.
     let s5 = octets_in_force 5 fh.before in
     let stands = stands_longer u fh.before kept fh.stands part in
     let stops = c.in_err-state.ensures (u ++ part) fh.before stands (values_stand u part kept c.args.length fh.before fh.stands fh.values)
-    (subst (λ (xs : List ℕ). DataAgrees s5 kept.place c.args.length xs c.push-feed.result) (values_more u part kept c.args.length fh.before fh.stands fh.values)
-    (c.push-feed.ensures s5 kept.place c.args.length (drop 5 (pending u kept)) fh.agrees)) in
+    (subst (λ (xs : List ℕ). DataAgrees s5 kept.frame.place c.args.length xs c.push-feed.result) (values_more u part kept c.args.length fh.before fh.stands fh.values)
+    (c.push-feed.ensures s5 kept.frame.place c.args.length (drop 5 (pending u kept)) fh.agrees)) in
     let p = err_from_is_err_and c.from_residual.result c.from_residual.ensures.1 in
     rw (p.1, p.2) (stops_piece u c.args.piece.now c.min-taken.result _ stands.second stops)
 
@@ -57,12 +57,12 @@ returns c = λ u fh.
     let kept = c.args.kept in
     let part = take c.min-taken.result c.args.piece.now in
     let s5 = octets_in_force 5 fh.before in
-    let left = c.left.ensures s5 kept.place c.args.length (drop 5 (pending u kept)) fh.agrees in
+    let left = c.left.ensures s5 kept.frame.place c.args.length (drop 5 (pending u kept)) fh.agrees in
     let long = values_long u [] kept c.args.length fh.before fh.stands fh.values in
     let wants = fh.wants in (
       omega (arith, left, long, wants, c.min-taken.ensures, c.requires.some),
       omega (arith, c.min-taken.ensures),
       c.in_ok-state.ensures (u ++ part) fh.before (stands_longer u fh.before kept fh.stands part) (values_stand u part kept c.args.length fh.before fh.stands fh.values)
-          (subst (λ (xs : List ℕ). DataAgrees s5 kept.place c.args.length xs c.push-feed.result) (values_more u part kept c.args.length fh.before fh.stands fh.values)
-          (c.push-feed.ensures s5 kept.place c.args.length (drop 5 (pending u kept)) fh.agrees)),
+          (subst (λ (xs : List ℕ). DataAgrees s5 kept.frame.place c.args.length xs c.push-feed.result) (values_more u part kept c.args.length fh.before fh.stands fh.values)
+          (c.push-feed.ensures s5 kept.frame.place c.args.length (drop 5 (pending u kept)) fh.agrees)),
     )

@@ -1,31 +1,25 @@
-use Rattle.std.proofs.Common.{◌≡◌, ℕ, ◌+◌, List, IsTrue, length, refl, sym, ap, ◌∙◌, subst, arith}
+use Rattle.std.proofs.Common.{ℕ, List, length, sym, ap, ◌∙◌, subst, arith}
 use Rattle.std.proofs.lemmas.Result.{err_from_is_err_and}
-use Rattle.grib_bits.specs.Octets.{octets as number_at}
-use Rattle.grib2_sections.specs.Frame.{placed_at, Next, may_follow}
-use Rattle.grib2_message.specs.View.{last_number}
+use Rattle.grib2_sections.specs.Frame.{Next}
 use Rattle.grib2_arrival.specs.Heard.{GathersHeard}
-use Rattle.grib2_arrival.proofs.Onward.{follows_here}
 use Rattle.grib2_arrival.proofs.States.{fresh, after_whole}
 use Rattle.grib2_arrival.proofs.state.take_section.Goals as goal
 
 pub after_section-requires-clause-stands : goal.after_section-requires-clause-stands
 after_section-requires-clause-stands c =
     let r = c.requires.stands in
-    let v = c.as_slice-octets.ensures.value in
-    let g = c.args.gathered.items in
-    let number : c.u8_at.result ≡ number_at g 5 5 = c.u8_at.ensures ∙ ap (λ (xs : List ℕ). number_at xs 5 5) v in
-    (r.0, r.1, r.2, subst (λ (n : ℕ). IsTrue (may_follow (last_number r.1) n)) (sym number) (follows_here r.0 r.1 c.args.kept r.2 g (number_at g 5 5) r.4 c.requires.itself))
+    (r.0, r.1, r.2, r.4 ∙ ap Next (sym c.as_slice-octets.ensures.value), c.place.ensures)
 
 pub returns-in_err-kept : goal.returns-in_err-kept
 returns-in_err-kept c = λ u before h is e.
     let v = c.as_slice-octets.ensures.value in
     let p = err_from_is_err_and c.from_residual.result c.from_residual.ensures.1 in
-    rw (p.1, p.2) (c.in_err-kept.ensures u before h (e ∙ ap Next (sym v)) refl)
+    rw (p.1, p.2) (c.in_err-kept.ensures u before h (e ∙ ap Next (sym v)))
 
 pub returns : goal.returns
 returns c = λ u before h is e.
     let v = c.as_slice-octets.ensures.value in
-    let after = c.in_ok-kept.ensures u before h (e ∙ ap Next (sym v)) refl in
+    let after = c.in_ok-kept.ensures u before h (e ∙ ap Next (sym v)) in
     let at = after_whole u before c.args.kept c.args.gathered.items h is in
     let none = fresh u _ c.in_ok-kept.kept after.0 (omega (arith, after.1, ap length v, at)) in
     subst (λ (xs : List ℕ). GathersHeard c.in_ok-kept.kept xs u) (sym c.clear.ensures.items) none

@@ -21,14 +21,16 @@ pub section-section-requires-clause-stands : goal.section-section-requires-claus
 section-section-requires-clause-stands c =
     stands_below c.args.octets.now c.requires.0 c.args.places.now 6 c.requires.1.stand (omega arith) (omega arith) (omega (arith, c.requires.1.ends))
 
+pub representation-requires : goal.representation-requires
+representation-requires c = (c.requires.0, c.requires.1.stand.force, omega (arith, c.requires.1.ends))
+
 pub returns-then-u8_at : goal.returns-then-u8_at
 returns-then-u8_at c = λ before h.
     let section = c.section-section.ensures.octets before h.stand in
-    let points = c.points-points.ensures before h.stand (omega (arith, h.ends)) in
     let indicator : bitmap_indicator (octets_in_force 6 before) ≡ c.u8_at.result = ap bitmap_indicator (sym section) ∙ sym c.u8_at.ensures in
-    told before c.accepted_mask.result (mask_of c.section-section.result.octets.now c.points-points.result None)
+    told before c.accepted_mask.result (mask_of c.section-section.result.octets.now c.args.places.now.force.points None)
     (λ found is. mask_without c.args.octets.now before c.args.places.now h found (omega (arith, indicator, c.u8_at.type_inv)) (λ e. c.if-u8_at.true (sym indicator ∙ e))
-    (is ∙ (λ i. mask_of (section i) (points i) None)))
+    (is ∙ (λ i. mask_of (section i) (h.stand.force.points i) None)))
     c.accepted_mask.ensures
 
 pub unreachable-requires : goal.unreachable-requires
@@ -39,13 +41,13 @@ unreachable-requires c =
 
 pub section_from-earlier-requires : goal.section_from-earlier-requires
 section_from-earlier-requires c =
-    (repeated c.args.octets.now c.requires.0 c.args.places.now c.requires.1 c.in-Some.bitmap c.in-Some.is).bits.stands
+    (repeated c.args.octets.now c.requires.0 c.args.places.now c.requires.1 c.in-Some.bitmap c.in-Some.is).stands
 
 pub accepted_mask-requires-2 : goal.accepted_mask-requires-2
 accepted_mask-requires-2 c =
     let bitmap = c.in-Some.bitmap in
     let r = repeated c.args.octets.now c.requires.0 c.args.places.now c.requires.1 bitmap c.in-Some.is in
-    record { accepted = ap (λ (x : List ℕ). first_fault (bitmap_rows x bitmap.points bitmap.present None)) c.section_from-earlier.ensures.octets ∙ r.bits.rows }
+    record { accepted = ap (λ (x : List ℕ). first_fault (bitmap_rows x bitmap.points bitmap.present None)) (c.section_from-earlier.ensures.octets ∙ r.octets_are) ∙ r.kept.rows }
 
 pub returns : goal.returns
 returns c = λ before h.

@@ -1,10 +1,8 @@
-use Rattle.std.proofs.Common.{◌≡◌, sym, ap, ◌∙◌, arith, subst, Option}
+use Rattle.std.proofs.Common.{◌≡◌, sym, ap, ◌∙◌, arith}
 use Rattle.grib_bitmap.specs.Mask.{bitmap_indicator}
-use Rattle.grib2_message.specs.View.{octets_in_force}
-use Rattle.grib2_message.specs.Kept.{IsEarlier}
-use Rattle.grib2_message.specs.declared.places.Bitmap.{Bitmap}
+use Rattle.grib2_message.specs.View.{octets_in_force, first_octets, first_start}
 use Rattle.grib2_message.proofs.Checked.{stands_below}
-use Rattle.grib2_message.proofs.InForce.{own_alone, own_repeated, start_alone, start_repeated}
+use Rattle.grib2_message.proofs.Latest.{own_alone, own_repeated, start_alone, start_repeated}
 use Rattle.grib2_message.proofs.Masks.{bitmap_there, repeated}
 use Rattle.grib2_message.proofs.columns.own_bitmap.Goals as goal
 
@@ -32,20 +30,18 @@ unreachable-requires c =
 
 pub section_from-requires : goal.section_from-requires
 section_from-requires c =
-    (repeated c.args.octets.now c.requires.0 c.args.places.now c.requires.1 c.in-Some.bitmap c.in-Some.is).bits.stands
+    (repeated c.args.octets.now c.requires.0 c.args.places.now c.requires.1 c.in-Some.bitmap c.in-Some.is).stands
 
 pub returns-clause-octets : goal.returns-clause-octets
 returns-clause-octets c = λ before h.
     let section = c.section-section.ensures.octets before h.stand in
     let indicator : bitmap_indicator (octets_in_force 6 before) ≡ 254 = ap bitmap_indicator (sym section) ∙ sym c.u8_at.ensures ∙ c.if-u8_at.false in
-    c.section_from.ensures.octets
-    ∙ (subst (λ (b : Option Bitmap). IsEarlier c.args.octets.now b before) c.in-Some.is h.stand.earlier).1
-    ∙ sym (own_repeated before indicator)
+    let r = repeated c.args.octets.now before c.args.places.now h c.in-Some.bitmap c.in-Some.is in
+    c.section_from.ensures.octets ∙ r.octets_are ∙ sym (ap first_octets r.is) ∙ sym (own_repeated before indicator)
 
 pub returns-clause-start : goal.returns-clause-start
 returns-clause-start c = λ before h.
     let section = c.section-section.ensures.octets before h.stand in
     let indicator : bitmap_indicator (octets_in_force 6 before) ≡ 254 = ap bitmap_indicator (sym section) ∙ sym c.u8_at.ensures ∙ c.if-u8_at.false in
-    c.section_from.ensures.start
-    ∙ (subst (λ (b : Option Bitmap). IsEarlier c.args.octets.now b before) c.in-Some.is h.stand.earlier).0
-    ∙ sym (start_repeated before indicator)
+    let r = repeated c.args.octets.now before c.args.places.now h c.in-Some.bitmap c.in-Some.is in
+    c.section_from.ensures.start ∙ r.kept.start ∙ sym (ap first_start r.is) ∙ sym (start_repeated before indicator)

@@ -1,15 +1,13 @@
 use Rattle.std.proofs.Common.{◌≡◌, ℕ, List, None, length, ap, ◌∙◌, arith, subst}
 use Rattle.grib_base.specs.Rows.{located}
-use Rattle.grib_packing.specs.declared.column.Point.{Point}
 use Rattle.grib_packing.specs.Entries.{data_fault, entries_of}
 use Rattle.grib_packing.specs.Packing.{value_count}
 use Rattle.grib2_message.specs.View.{octets_in_force}
 use Rattle.grib2_message.proofs.Checked.{stands_below}
-use Rattle.grib2_message.proofs.InForce.{represents, is_read}
 use Rattle.grib2_message.proofs.columns.take_values_at.Goals as goal
 
-pub unreachable-requires : goal.unreachable-requires
-unreachable-requires g c = is_read c.args.octets.now c.requires.0 c.args.places.now c.requires.1.stand (omega (arith, c.requires.1.ends)) c.in_default.is
+pub representation-representation-requires : goal.representation-representation-requires
+representation-representation-requires g c = (c.requires.0, c.requires.1.stand.force, omega (arith, c.requires.1.ends))
 
 pub section-requires-clause-stands : goal.section-requires-clause-stands
 section-requires-clause-stands g c =
@@ -19,23 +17,23 @@ pub take_values-requires : goal.take_values-requires
 take_values-requires g c =
     let before = c.requires.0 in
     let h = c.requires.1 in
-    (octets_in_force 5 before, represents c.args.octets.now before c.args.places.now c.in-Some.representation h.stand c.in-Some.is)
+    (octets_in_force 5 before, c.representation-representation.ensures before h.stand.force)
 
 pub returns-in-Ok : goal.returns-in-Ok
 returns-in-Ok g c = λ before h.
     let s5 = octets_in_force 5 before in
-    let read = represents c.args.octets.now before c.args.places.now c.in-Some.representation h.stand c.in-Some.is in
+    let read = c.representation-representation.ensures before h.stand.force in
     let seven = c.section.ensures.octets before h.stand in
     let taken = c.in-Ok.ensures s5 read in
     subst (λ (s7 : List ℕ). g.K.Keeper.kept c.args.keeper (entries_of s5 s7) c.in-Ok.after × (length (entries_of s5 s7) ≡ value_count s5)) seven (taken.1, taken.2)
 
-pub unreachable-requires-in-Err-Refused : goal.unreachable-requires-in-Err-Refused
-unreachable-requires-in-Err-Refused g c =
+pub unreachable-requires : goal.unreachable-requires
+unreachable-requires g c =
     let before = c.requires.0 in
     let h = c.requires.1 in
-    let read = represents c.args.octets.now before c.args.places.now c.in-Some.representation h.stand c.in-Some.is in
+    let read = c.representation-representation.ensures before h.stand.force in
     let refused = rw c.in-Err-Refused.field-0-is at (c.in-Err-Refused.ensures (octets_in_force 5 before) read) in
     let none : data_fault (octets_in_force 5 before) c.section.result.octets.now ≡ None =
-    ap (data_fault (octets_in_force 5 before)) (c.section.ensures.octets before h.stand) ∙ h.stand.sound.values (omega (arith, h.ends)) in
+    ap (data_fault (octets_in_force 5 before)) (c.section.ensures.octets before h.stand) ∙ h.stand.force.sound.values (omega (arith, h.ends)) in
     let located_none = ap (located c.section.result.start) none in
     absurd (cc)

@@ -33,34 +33,25 @@ loop-fields-init c =
       each = λ i places e. absurd (none_in_empty i places (ap (λ xs. slice_get xs i) (sym c.new-fields.ensures.items) ∙ e));
     }
 
-pub check-requires : goal.check-requires
-check-requires c =
+pub go_past-requires : goal.go_past-requires
+go_past-requires c =
     let m = c.args.octets.now in
     let i = c.loop-fields.invariant in
     let section = c.in-Some.section in
     let told = rw c.in-Some.is at c.in_ok-section.ensures in
     let comes = way_comes_at m i.turns i.before c.loop-fields.frame section.number section.start section.octets.now i.way told.0 told.1 section.itself in
-    record { comes = (i.before, i.places_stand, comes, omega (arith, c.len.ensures, i.count, c.loop-fields.fields.ok.0)) }
+    record { comes = (m, i.before, i.places_stand, comes) }
 
-pub returns-in_err-representation : goal.returns-in_err-representation
-returns-in_err-representation c =
+pub returns-in_err-go_past : goal.returns-in_err-go_past
+returns-in_err-go_past c =
     let m = c.args.octets.now in
     let i = c.loop-fields.invariant in
     let section = c.in-Some.section in
     let told = rw c.in-Some.is at c.in_ok-section.ensures in
     let comes = way_comes_at m i.turns i.before c.loop-fields.frame section.number section.start section.octets.now i.way told.0 told.1 section.itself in
-    let p = err_from_is_err_and c.from_residual-in_err-representation.result c.from_residual-in_err-representation.ensures.1 in
-    let refused = c.in_err-representation.ensures i.before i.places_stand comes (omega (arith, c.len.ensures, i.count, c.loop-fields.fields.ok.0)) in
+    let p = err_from_is_err_and c.from_residual-in_err-go_past.result c.from_residual-in_err-go_past.ensures.1 in
+    let refused = c.in_err-go_past.ensures m i.before i.places_stand comes in
     rw (p.1, p.2) (way_read_fault m i.turns i.before c.loop-fields.frame section.start section.octets.now _ i.way told.0 told.1 refused)
-
-pub go_past-places-requires : goal.go_past-places-requires
-go_past-places-requires c =
-    let m = c.args.octets.now in
-    let i = c.loop-fields.invariant in
-    let section = c.in-Some.section in
-    let told = rw c.in-Some.is at c.in_ok-section.ensures in
-    let comes = way_comes_at m i.turns i.before c.loop-fields.frame section.number section.start section.octets.now i.way told.0 told.1 section.itself in
-    record { comes = (i.before, i.places_stand, comes, (c.in_ok-representation.ensures i.before i.places_stand comes (omega (arith, c.len.ensures, i.count, c.loop-fields.fields.ok.0))).0) }
 
 pub loop-fields-preserved-in-Ok-1 : goal.loop-fields-preserved-in-Ok-1
 loop-fields-preserved-in-Ok-1 c =
@@ -70,25 +61,24 @@ loop-fields-preserved-in-Ok-1 c =
     let s = section.octets.now in
     let told = rw c.in-Some.is at c.in_ok-section.ensures in
     let comes = way_comes_at m i.turns i.before c.loop-fields.frame section.number section.start s i.way told.0 told.1 section.itself in
-    let checked = c.in_ok-representation.ensures i.before i.places_stand comes (omega (arith, c.len.ensures, i.count, c.loop-fields.fields.ok.0)) in
-    let on = way_next_at m i.turns i.before c.loop-fields.frame c.next.new.self section.start s i.way told.0 told.1 told.2 checked.0 in
-    let stand = c.go_past-places.ensures i.before i.places_stand comes checked.0 checked.1 in
+    let past = c.in_ok-go_past.ensures m i.before i.places_stand comes in
+    let on = way_next_at m i.turns i.before c.loop-fields.frame c.next.new.self section.start s i.way told.0 told.1 told.2 past.0 in
     let seven : section_number s ≡ 7 = section.itself.number_stands ∙ c.if-section-eq7.true in
     let more = placed_at section.start s ∷ i.before in
     let field = field_sections m (length c.loop-fields.fields.items + 1) in
     let ends : field ≡ more = ap (λ (n : ℕ). field_sections m (n + 1)) i.count ∙ on.ends_field seven in
-    let kept : IsField m field c.go_past-places.result =
-    subst (λ x. IsField m x c.go_past-places.result) (sym ends) (record { stand = stand; ends = seven }) in
+    let kept : IsField m field c.go_past.new.self =
+    subst (λ x. IsField m x c.go_past.new.self) (sym ends) (record { stand = past.1; ends = seven }) in
     let items = c.in-Ok.ensures.items in
     let long : length c.push.new.self.items ≡ length c.loop-fields.fields.items + 1 =
-    ap length items ∙ length-append c.loop-fields.fields.items (c.go_past-places.result ∷ []) in
+    ap length items ∙ length-append c.loop-fields.fields.items (c.go_past.new.self ∷ []) in
     record {
       turns = on.turns_left;
       before = more;
       way = on.way;
-      places_stand = stand;
+      places_stand = past.1;
       count = long ∙ ap (λ (n : ℕ). n + 1) i.count ∙ add_comm (section_count 7 i.before) 1 ∙ sym (count_same (placed_at section.start s) i.before 7 seven);
-      each = subst (λ xs. KeepsFields m xs) (sym items) (keeps_push m c.loop-fields.fields.items c.go_past-places.result i.each kept);
+      each = subst (λ xs. KeepsFields m xs) (sym items) (keeps_push m c.loop-fields.fields.items c.go_past.new.self i.each kept);
     }
 
 pub loop-fields-preserved : goal.loop-fields-preserved
@@ -99,13 +89,13 @@ loop-fields-preserved c =
     let s = section.octets.now in
     let told = rw c.in-Some.is at c.in_ok-section.ensures in
     let comes = way_comes_at m i.turns i.before c.loop-fields.frame section.number section.start s i.way told.0 told.1 section.itself in
-    let checked = c.in_ok-representation.ensures i.before i.places_stand comes (omega (arith, c.len.ensures, i.count, c.loop-fields.fields.ok.0)) in
-    let on = way_next_at m i.turns i.before c.loop-fields.frame c.next.new.self section.start s i.way told.0 told.1 told.2 checked.0 in
+    let past = c.in_ok-go_past.ensures m i.before i.places_stand comes in
+    let on = way_next_at m i.turns i.before c.loop-fields.frame c.next.new.self section.start s i.way told.0 told.1 told.2 past.0 in
     record {
       turns = on.turns_left;
       before = placed_at section.start s ∷ i.before;
       way = on.way;
-      places_stand = c.go_past-places.ensures i.before i.places_stand comes checked.0 checked.1;
+      places_stand = past.1;
       count = i.count ∙ sym (count_other (placed_at section.start s) i.before 7 (λ seven. c.if-section-eq7.false (sym section.itself.number_stands ∙ seven)));
       each = i.each;
     }
@@ -118,7 +108,7 @@ returns c =
     let end = way_end m i.turns i.before c.loop-fields.frame i.way told.0 in
     let total : c.loop-fields.frame.total ≡ c.args.total = sym i.way.states ∙ sym c.requires.total in
     let accepted = end.accepted ∙ ap Accepted total in
-    let sound = i.places_stand.sound in
+    let sound = i.places_stand.force.sound in
     let few : length c.loop-fields.fields.items ≤ 4096 = omega (arith, i.count, sound.counted, sound.few) in (
       accepted,
       keeps_message m c.args.total c.loop-fields.fields.items

@@ -1,25 +1,34 @@
-use Rattle.std.proofs.Common.{◌≡◌, length, ap, ◌∙◌, arith}
+use Rattle.std.proofs.Common.{◌≡◌, List, ℕ, length, refl, ap, ◌∙◌, arith}
+use Rattle.grib_base.specs.Rows.{first_fault_at, located}
 use Rattle.grib2_grids.specs.Grid.{grid_points}
+use Rattle.grib2_sections.specs.Identification.{identification_rows}
 use Rattle.grib2_message.specs.Fields.{part_octets}
 use Rattle.grib2_message.specs.Summary.{summary_of}
 use Rattle.grib2_message.proofs.Lengths.{product_least, packing_least}
 use Rattle.grib2_message.proofs.summary.field_summary.Goals as goal
 
-pub summary_by-requires-clause-product : goal.summary_by-requires-clause-product
-summary_by-requires-clause-product c =
-    let least = product_least (part_octets c.args.message.now c.args.field 4) c.part_in-product.ensures.passes.product in
-    let long = ap length c.part_in-product.ensures.octets in
+pub with_identification-requires : goal.with_identification-requires
+with_identification-requires c =
+    let start = c.part_in.result.start in
+    record {
+      accepted = ap (λ (s : List ℕ). first_fault_at start (identification_rows s)) c.part_in.ensures.octets
+          ∙ ap (located start) c.part_in.ensures.passes.identification;
+    }
+
+pub with_product-requires : goal.with_product-requires
+with_product-requires c =
+    let least = product_least (part_octets c.args.message.now c.args.field 4) c.part_in-3.ensures.passes.product in
+    let long = ap length c.part_in-3.ensures.octets in
     omega (arith, least, long)
 
-pub summary_by-requires-clause-representation : goal.summary_by-requires-clause-representation
-summary_by-requires-clause-representation c =
-    let least = packing_least (part_octets c.args.message.now c.args.field 5) (grid_points (part_octets c.args.message.now c.args.field 3)) c.part_in-representation.ensures.passes.packing in
-    let long = ap length c.part_in-representation.ensures.octets in
+pub with_representation-requires : goal.with_representation-requires
+with_representation-requires c =
+    let least = packing_least (part_octets c.args.message.now c.args.field 5) (grid_points (part_octets c.args.message.now c.args.field 3)) c.part_in-4.ensures.passes.packing in
+    let long = ap length c.part_in-4.ensures.octets in
     omega (arith, least, long)
 
 pub returns : goal.returns
 returns c =
-    let is : c.summary_by.result ≡ summary_of c.args.message.now c.args.field =
-    c.summary_by.ensures
-    ∙ rw (c.u8_at.ensures, c.octets.ensures.octets, c.identification_in-identification.ensures, c.part_in-grid.ensures.octets, c.part_in-product.ensures.octets, c.part_in-representation.ensures.octets) in
+    let is : c.with_representation.result ≡ summary_of c.args.message.now c.args.field =
+    rw (c.with_representation.ensures, c.with_product.ensures, c.with_grid.ensures, c.with_identification.ensures, c.new.ensures, c.u8_at.ensures, c.octets.ensures.octets, c.part_in.ensures.octets, c.part_in-2.ensures.octets, c.part_in-3.ensures.octets, c.part_in-4.ensures.octets) refl in
     is

@@ -2,7 +2,7 @@ use Rattle.std.proofs.Common.{◌≡◌, ℕ, ◌≤◌, Some, None, is_some, Li
 use Rattle.grib2_sections.specs.Frame.{placed_at}
 use Rattle.grib2_message.specs.Fields.{field_sections, field_count, part, part_octets}
 use Rattle.grib2_message.specs.Message.{FieldPasses}
-use Rattle.grib2_message.proofs.InForce.{none_in_force, kept_in_force, in_force_stands, in_force_placed}
+use Rattle.grib2_message.proofs.Latest.{none_in_force, kept_in_force, in_force_stands, in_force_placed}
 use Rattle.grib2_message.proofs.Shorter.{field_kept, field_passes}
 use Rattle.grib2_message.proofs.message.Message.part.Goals as goal
 
@@ -20,7 +20,7 @@ returns-then-places-section-eq0-clause-present c = λ other same.
     let last = subst (λ (x : List ℕ). c.args.field ≤ field_count x) (sym c.self.view_is) c.requires.last in
     let field = field_kept m c.self.inside.fields.items c.self.invariant c.args.field c.requires.first last _ c.index-places.ensures in
     let none = none_in_force m (field_sections m c.args.field) c.index-places.result.now c.args.section field.stand (omega (arith, c.requires.high)) c.if-places-section-eq0.true in
-    let some = field.stand.sound.present c.args.section c.requires.low (omega (arith, field.ends, c.requires.high)) other in
+    let some = field.stand.force.sound.present c.args.section c.requires.low (omega (arith, field.ends, c.requires.high)) other in
     let clash = sym (ap is_some none) ∙ some in
     absurd (cc)
 

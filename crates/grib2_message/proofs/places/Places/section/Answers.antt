@@ -1,5 +1,5 @@
 use Rattle.std.proofs.Common.{◌∙◌}
-use Rattle.grib2_message.proofs.InForce.{in_force_octets}
+use Rattle.grib2_message.proofs.Latest.{in_force_octets}
 use Rattle.grib2_message.proofs.places.Places.section.Goals as goal
 
 pub returns-clause-octets : goal.returns-clause-octets

@@ -1,5 +1,5 @@
 -- Which sections are in force, and where they begin.
-use Rattle.std.proofs.Common.{◌≡◌, ◌≢◌, ℕ, ◌+◌, ◌-◌, ◌<◌, ◌≤◌, Bool, true, false, cond, ◌⊎◌, Option, Some, None, IsSome, List, [], ◌∷◌, get_or, eqb, inl, inr, refl, sym, ap, ◌∙◌, arith, subst, eq-eqb, ne_eqb, eqb-true, take, drop}
+use Rattle.std.proofs.Common.{◌≡◌, ◌≢◌, ℕ, ◌+◌, ◌-◌, ◌<◌, ◌≤◌, Bool, true, false, cond, ◌&&◌, ◌⊎◌, Option, Some, None, IsSome, List, [], ◌∷◌, get_or, eqb, inl, inr, refl, sym, ap, ◌∙◌, arith, subst, eq-eqb, ne_eqb, eqb-true, take, drop}
 use Rattle.std.specs.Option.{option_map_or}
 use Rattle.grib_bits.specs.Octets.{octets, StatesItself}
 use Rattle.grib2_sections.specs.Frame.{Placed, placed_at, section_at, section_number}
@@ -9,7 +9,8 @@ use Rattle.grib_bitmap.specs.Mask.{bitmap_indicator}
 use Rattle.grib_complex.specs.Field.{Represents}
 use Rattle.grib_complex.specs.declared.field.Representation.{Representation}
 use Rattle.grib2_message.specs.View.{last_number, section_in_force, octets_in_force, earlier_bitmap, first_octets, first_start, own_bitmap, own_bitmap_start}
-use Rattle.grib2_message.specs.Kept.{StandsAt, ArePlaced, start_in_force, KeepsRepresentation, HasPlaces}
+use Rattle.grib2_message.specs.Kept.{StandsAt, ArePlaced, start_in_force, KeepsRepresentation, HasInForce, HasPlaces}
+use Rattle.grib2_message.specs.declared.in_force.InForce.{InForce}
 use Rattle.grib2_message.specs.declared.places.Places.{Places}
 
 -- a section that stands at its place states its own length and number
@@ -96,18 +97,36 @@ read_of None p representation kept is = cc
 read_of (Some x) None representation kept is = absurd kept
 read_of (Some x) (Some s) representation kept is = (let e : x ≡ representation = cc in subst (λ (y : Representation). Represents y s.octets) e kept)
 
-pub represents : (m : List ℕ) (before : List Placed) (places : Places) (representation : Representation) → HasPlaces m before places
-    → places.representation ≡ Some representation → Represents representation (octets_in_force 5 before)
-represents m before places representation h is = read_of places.representation (section_in_force 5 before) representation h.representation is
+pub represents : (before : List Placed) (force : InForce) (representation : Representation) → HasInForce before force
+    → force.representation ≡ Some representation → Represents representation (octets_in_force 5 before)
+represents before force representation h is = read_of force.representation (section_in_force 5 before) representation h.representation is
 
 none_read : (o : Option Representation) (p : Option Placed) → KeepsRepresentation o p → IsSome p → o ≡ None → ⊥
 none_read None None kept some is = cc
 none_read None (Some s) kept some is = kept
 none_read (Some x) p kept some is = cc
 
-pub is_read : (m : List ℕ) (before : List Placed) (places : Places) → HasPlaces m before places → 5 ≤ last_number before → places.representation ≡ None → ⊥
-is_read m before places h within is =
-    none_read places.representation (section_in_force 5 before) h.representation (h.sound.present 5 (omega arith) within (λ e. absurd (omega arith))) is
+pub is_read : (before : List Placed) (force : InForce) → HasInForce before force → 5 ≤ last_number before → force.representation ≡ None → ⊥
+is_read before force h within is =
+    none_read force.representation (section_in_force 5 before) h.representation (h.sound.present 5 (omega arith) within (λ e. absurd (omega arith))) is
+
+-- ---- the last Section 6 with bits of its own
+
+-- a section that stands where it is said to
+abbrev Stands : List ℕ → Placed → Type 0
+Stands m s = StandsAt m s.start (section_number s.octets) × (s.octets ≡ section_at m s.start)
+
+first_stands : (m : List ℕ) (b : Bool) (t s : Placed) (before earlier rest : List Placed) → Stands m t → (earlier ≡ s ∷ rest → Stands m s)
+    → choose b (λ _. t ∷ before) (λ _. earlier) ≡ s ∷ rest → Stands m s
+first_stands m true t s before earlier rest here behind e = (let same : t ≡ s = cc in subst (λ (x : Placed). Stands m x) same here)
+first_stands m false t s before earlier rest here behind e = behind e
+
+pub earlier_stands : (m : List ℕ) (before : List Placed) (s : Placed) (rest : List Placed) → ArePlaced m before → earlier_bitmap before ≡ s ∷ rest
+    → StandsAt m s.start (section_number s.octets) × (s.octets ≡ section_at m s.start)
+earlier_stands m [] s rest placed e = cc
+earlier_stands m (t ∷ before) s rest placed e =
+    first_stands m (eqb (section_number t.octets) 6 && eqb (bitmap_indicator t.octets) 0) t s before (earlier_bitmap before) rest (placed.0, placed.1)
+    (earlier_stands m before s rest placed.2) e
 
 -- ---- after one more section
 

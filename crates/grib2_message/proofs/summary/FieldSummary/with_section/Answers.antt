@@ -1,0 +1,37 @@
+use Rattle.std.proofs.Common.{sym, ◌∙◌, arith}
+use Rattle.grib2_sections.specs.Frame.{placed_at}
+use Rattle.grib2_message.proofs.After.{fault_by_number}
+use Rattle.grib2_message.proofs.Described.{line_first, line_third, line_fourth, line_fifth, line_other}
+use Rattle.grib2_message.proofs.summary.FieldSummary.with_section.Goals as goal
+
+pub with_identification-requires : goal.with_identification-requires
+with_identification-requires c =
+    let section = c.args.section.now in
+    let r = c.requires.accepted in
+    record { accepted = sym (fault_by_number r.0 (placed_at section.start section.octets.now) section.number section.itself.number_stands 1 c.in-1.is) ∙ r.1 }
+
+pub returns-in-1 : goal.returns-in-1
+returns-in-1 c = λ d before is.
+    let section = c.args.section.now in
+    line_first before (placed_at section.start section.octets.now) section.number section.itself.number_stands d c.args.self is c.in-1.is _ c.with_identification.ensures
+
+pub returns-in-3 : goal.returns-in-3
+returns-in-3 c = λ d before is.
+    let section = c.args.section.now in
+    line_third before (placed_at section.start section.octets.now) section.number section.itself.number_stands d c.args.self is c.in-3.is _ c.with_grid.ensures
+
+pub returns-in-4 : goal.returns-in-4
+returns-in-4 c = λ d before is.
+    let section = c.args.section.now in
+    line_fourth before (placed_at section.start section.octets.now) section.number section.itself.number_stands d c.args.self is c.in-4.is _ c.with_product.ensures
+
+pub returns-in-5 : goal.returns-in-5
+returns-in-5 c = λ d before is.
+    let section = c.args.section.now in
+    line_fifth before (placed_at section.start section.octets.now) section.number section.itself.number_stands d c.args.self is c.in-5.is _ c.with_representation.ensures
+
+pub returns-in_default : goal.returns-in_default
+returns-in_default c = λ d before is.
+    let section = c.args.section.now in
+    line_other before (placed_at section.start section.octets.now) section.number section.itself.number_stands d c.args.self is
+    (λ x. absurd (omega arith)) (λ x. absurd (omega arith)) (λ x. absurd (omega arith)) (λ x. absurd (omega arith))
