@@ -8,7 +8,10 @@ use Rattle.grib_packing.specs.Misfits.{Target, Misfit, first_misfit}
 use Rattle.grib_packing.specs.Packed.{Packed as HasPacked}
 use Rattle.grib_packing.specs.declared.written.Packed.{Packed}
 use Rattle.grib_packing.specs.declared.written.PackFault.{PackFault}
-use Rattle.grib_packing.specs.Written.{IsPackFault}
+use Rattle.std.specs.Prelude.{Result, IsErrAnd}
+use Rattle.grib_base.proofs.Passing.{carried}
+use Rattle.grib_packing.specs.declared.written.PackFault.TheVariants.{Memory}
+use Rattle.grib_packing.specs.Written.{IsPackFault, IsPacked}
 use Rattle.grib_packed.specs.Written.{packed}
 use Rattle.grib2_message.specs.Fields.{column_of}
 use Rattle.grib2_message.specs.Assembled.{IsShort}
@@ -55,3 +58,10 @@ module _ (target : Target) (message : List ℕ) (i : ℕ) (column : Column) (is 
       → ((expected : Option Misfit) → IsPackFault expected fault → IsRepackFault (option_map (in_field i) expected) result) → IsRepackFault (field_misfit target message i) result
   field_fault fault result h told =
       subst (λ (o : Option RepackMisfit). IsRepackFault o result) misfit_is (told (first_misfit target column.points) h)
+
+-- where there is no memory, nothing is said of the column
+pub out_of_memory : (target : Target) (column : Column) (kind : ℕ) (result : Result Packed PackFault) → IsErrAnd result (λ fault. fault ≡ Memory) → IsPacked target column kind result
+out_of_memory target column kind result is =
+    let Fits : Packed → Type 0 = (λ p. (first_misfit target column.points ≡ None) × HasPacked target column kind p.section5 p.section6 p.section7) in
+    let Fault : PackFault → Type 0 = IsPackFault (first_misfit target column.points) in
+    carried Fits Fault result Memory is tt

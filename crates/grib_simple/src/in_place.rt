@@ -49,7 +49,13 @@ pub fn pack_numbers(
     let section6 = mask_section(alloc, mask, simple.values)?;
     let section7 = numbers_section(alloc, octets, bits, simple.values, width)?;
     Ok(Packed {
-        section5: representation_section(&column, simple.values, width as u8, simple.kind, section5),
+        section5: representation_section(
+            &column,
+            simple.values,
+            width as u8,
+            simple.kind,
+            section5,
+        ),
         section6,
         section7,
     })
@@ -57,11 +63,7 @@ pub fn pack_numbers(
 
 /// Section 6 of the points of a mask that has this many: its bits, or that no point is missing (WMO-No. 306,
 /// Volume I.2, FM 92 GRIB edition 2, code table 6.0).
-fn mask_section(
-    alloc: Global,
-    mask: &Mask,
-    present: u32,
-) -> Result<List<u8>, AllocError>
+fn mask_section(alloc: Global, mask: &Mask, present: u32) -> Result<List<u8>, AllocError>
     requires few { length mask.now ≤ 33554432 }
     requires present { present_count mask.now ≡ present }
     ensures { IfOk result (λ section. (points : List column_point.Point)

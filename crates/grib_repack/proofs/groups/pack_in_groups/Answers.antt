@@ -14,6 +14,8 @@ use Rattle.grib_complex.specs.KeptWords.{AreWords, word_for}
 use Rattle.grib_complex.specs.declared.point_words.PointWords.{PointWords}
 use Rattle.grib2_message.specs.Fields.{part_octets, column_of}
 use Rattle.grib2_message.proofs.Masks.{points_bounds}
+use Rattle.grib_repack.specs.Repacked.{kind_of}
+use Rattle.grib_repack.proofs.Packing.{out_of_memory}
 use Rattle.grib_packing.proofs.Packings.{packing_passes}
 use Rattle.grib_repack.proofs.groups.pack_in_groups.Goals as goal
 
@@ -47,14 +49,20 @@ pack_words-requires-clause-words c =
     let i = c.args.field in
     (entries_of (part_octets m i 5) (part_octets m i 7), c.in_ok-kept.ensures.words)
 
+pub returns-in_err-mask : goal.returns-in_err-mask
+returns-in_err-mask c = out_of_memory ToComplex (column_of c.args.message.now c.args.field) (kind_of c.args.message.now c.args.field) c.from_residual-in_err-mask.result c.from_residual-in_err-mask.ensures.1
+
+pub returns-in_err-packed : goal.returns-in_err-packed
+returns-in_err-packed c = out_of_memory ToComplex (column_of c.args.message.now c.args.field) (kind_of c.args.message.now c.args.field) c.from_residual-in_err-packed.result c.from_residual-in_err-packed.ensures.1
+
 -- the sections of each column with these entries behind this mask
 abbrev IsOf : Simple → List Bool → PointWords → Packed → Type 0
 IsOf simple mask kept packed =
     (column : Column) (entries : List Point) → column.reference ≡ simple.reference → column.e ≡ simple.e → column.d ≡ simple.d
     → AreWords entries kept → column.points ≡ points_with_mask mask entries → IsPacked ToComplex column simple.kind (Ok packed)
 
-pub returns-in-Some : goal.returns-in-Some
-returns-in-Some c =
+pub returns-in-Some-2 : goal.returns-in-Some-2
+returns-in-Some-2 c =
     let m = c.args.message.now in
     let i = c.args.field in
     let simple = c.numbers_of-simple.result in
@@ -62,6 +70,6 @@ returns-in-Some c =
     let spelled = subst (Spelled simple) c.in-Some.ensures.part.1 c.numbers_of-simple.ensures in
     let points = ap (λ (mask : List Bool). points_with_mask mask entries) (sym c.in_ok-mask.ensures.mask) in
     let is : IsOf simple c.in_ok-mask.mask c.in_ok-kept.kept c.in-Some-2.packed =
-    subst (λ (found : Option Packed). IfSome found (IsOf simple c.in_ok-mask.mask c.in_ok-kept.kept)) c.in-Some-2.is c.in_ok-pack_words.ensures in
+    subst (λ (found : Option Packed). IfSome found (IsOf simple c.in_ok-mask.mask c.in_ok-kept.kept)) c.in-Some-2.is c.in_ok-packed.ensures in
     subst (λ (kind : ℕ). IsPacked ToComplex (column_of m i) kind (Ok c.in-Some-2.packed)) spelled.kind
     (is (column_of m i) entries (sym spelled.reference) (sym spelled.e) (sym spelled.d) c.in_ok-kept.ensures.words points)

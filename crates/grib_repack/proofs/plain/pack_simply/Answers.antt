@@ -9,6 +9,8 @@ use Rattle.grib_packing.proofs.Packings.{entries_of-simple, packing_passes}
 use Rattle.grib_simple.proofs.InPlace.{plain_point}
 use Rattle.grib2_message.specs.Fields.{part_octets, field_mask, column_of}
 use Rattle.grib2_message.proofs.Masks.{points_bounds}
+use Rattle.grib_repack.specs.Repacked.{kind_of}
+use Rattle.grib_repack.proofs.Packing.{out_of_memory}
 use Rattle.grib_repack.proofs.Simply.{narrow_bits, numbers_in, numbers_read, room_read}
 use Rattle.grib_repack.proofs.plain.pack_simply.Goals as goal
 
@@ -42,6 +44,12 @@ pub pack_numbers-requires-clause-present : goal.pack_numbers-requires-clause-pre
 pack_numbers-requires-clause-present c =
     let spelled = subst (Spelled c.numbers_of-simple.result) c.in-Some-Some.ensures.part.1 c.numbers_of-simple.ensures in
     c.in_ok-mask.ensures.values ∙ sym spelled.values
+
+pub returns-in_err-mask : goal.returns-in_err-mask
+returns-in_err-mask c = out_of_memory ToSimple (column_of c.args.message.now c.args.field) (kind_of c.args.message.now c.args.field) c.from_residual.result c.from_residual.ensures.1
+
+pub returns-in_err-packed : goal.returns-in_err-packed
+returns-in_err-packed c = out_of_memory ToSimple (column_of c.args.message.now c.args.field) (kind_of c.args.message.now c.args.field) c.from_residual-in_err-packed.result c.from_residual-in_err-packed.ensures.1
 
 pub returns : goal.returns
 returns c =
