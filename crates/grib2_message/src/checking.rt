@@ -29,7 +29,7 @@ pub fn check_identification(section: &Section<'_>) -> Result<(), ReadFault>
 }
 
 /// Tries the rows of Section 3.
-pub fn check_grid(alloc: Global, section: &Section<'_>) -> Result<(), ReadFault>
+pub fn check_grid(section: &Section<'_>) -> Result<(), ReadFault>
     ensures { AreTried (first_fault_at section.now.start
         (grid_rows section.now.octets.now)) result }
 {
@@ -37,7 +37,7 @@ pub fn check_grid(alloc: Global, section: &Section<'_>) -> Result<(), ReadFault>
 }
 
 /// Tries the rows of a Section 4 that stands after this number of fields.
-pub fn check_product(alloc: Global, fields: usize, section: &Section<'_>) -> Result<(), ReadFault>
+pub fn check_product(fields: usize, section: &Section<'_>) -> Result<(), ReadFault>
     ensures { AreTried (first_fault_at section.now.start
         (product_rows section.now.octets.now (fields + 1))) result }
 {

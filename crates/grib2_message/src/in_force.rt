@@ -85,11 +85,11 @@ impl InForce {
         match section.number {
             1 => check_identification(section),
             3 => {
-                check_grid(alloc, section)?;
+                check_grid(section)?;
                 self.points = u32_at(section.octets, 7);
                 Ok(())
             }
-            4 => check_product(alloc, self.fields, section),
+            4 => check_product(self.fields, section),
             5 => {
                 self.representation = Some(Representation::read(section, self.points)?);
                 Ok(())
