@@ -65,15 +65,21 @@ files() {
 755 install.sh share/grib/install.sh
 644 README.md share/doc/grib/README.md
 644 docs/GUIDE.md share/doc/grib/docs/GUIDE.md
+644 docs/GLOSSARY.md share/doc/grib/docs/GLOSSARY.md
 644 docs/PROFILE.md share/doc/grib/docs/PROFILE.md
+644 docs/WORKED.md share/doc/grib/docs/WORKED.md
 644 docs/GUARANTEES.md share/doc/grib/docs/GUARANTEES.md
 644 docs/MEASURING.md share/doc/grib/docs/MEASURING.md
+644 docs/HISTORY.md share/doc/grib/docs/HISTORY.md
 644 docs/ARCHITECTURE.md share/doc/grib/docs/ARCHITECTURE.md
 644 docs/DEFINITIONS.md share/doc/grib/docs/DEFINITIONS.md
 644 docs/DECISIONS.md share/doc/grib/docs/DECISIONS.md
+644 CONTRIBUTING.md share/doc/grib/CONTRIBUTING.md
+644 CHANGELOG.md share/doc/grib/CHANGELOG.md
 644 params/README.md share/doc/grib/params/README.md
 644 params/names.txt share/doc/grib/params/names.txt
 644 examples/four-points.grib2 share/doc/grib/examples/four-points.grib2
+644 examples/south-north.grib2 share/doc/grib/examples/south-north.grib2
 644 examples/two-fields.grib2 share/doc/grib/examples/two-fields.grib2
 FILES
 }

@@ -3,7 +3,7 @@
 
     bench/hostile.py PROGRAM FILE.. [runs=10000] [seed=1] [jobs=1] [case=N] [keep=FOLDER]
 
-A case takes a few messages of the files, of docs/PROFILE.md and of `make`, damages them (cuts, flips, splices,
+A case takes a few messages of the files, of docs/WORKED.md and of `make`, damages them (cuts, flips, splices,
 repeats, other lengths and counts, sizes that are claimed), and gives them to `check` and to one command: from a file,
 and in one more way: through a pipe in random pieces, to a reader that goes away, to a full device, to a closed
 output, with notes that cannot be written, with a directory as input or none, with 3 to 60 MB of address space. The
@@ -182,8 +182,8 @@ def messages_of(data):
 
 
 def worked_messages():
-    """The messages of chapter 11 of docs/PROFILE.md, which stand there in hexadecimal."""
-    with open(f"{top}/docs/PROFILE.md", encoding="utf-8") as page:
+    """The messages of docs/WORKED.md, which stand there in hexadecimal."""
+    with open(f"{top}/docs/WORKED.md", encoding="utf-8") as page:
         blocks = re.findall(r"^```\n(47524942[0-9A-F\s]*)```", page.read(), re.M)
     return [bytes.fromhex("".join(block.split())) for block in blocks]
 

@@ -3,7 +3,7 @@
 
     bench/pieces.py PROGRAM FILE.. [runs=1000] [seed=1] [jobs=1]
 
-Inputs are messages of the files, of docs/PROFILE.md and of `make`, many of them damaged as bench/hostile.py damages
+Inputs are messages of the files, of docs/WORKED.md and of `make`, many of them damaged as bench/hostile.py damages
 them. Each is cut at random places, and its pieces are written into a pipe, one as soon as the one before was taken. So
 the program reads just these pieces, down to single octets. One input in twenty is of messages of more than 65,536 octets,
 which `check` and `list` judge as they come. Output, note and status have to be those of the file. `runs`

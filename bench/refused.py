@@ -3,7 +3,7 @@
 
     bench/refused.py PROGRAM [most=400]
 
-Every command runs on the worked messages of docs/PROFILE.md, and on messages of some thousand points, once with all
+Every command runs on the messages of docs/WORKED.md, and on messages of some thousand points, once with all
 memory, to see how many calls for memory there are, and then once for each of them, with that one refused (`most` of
 them, spread evenly, where there are more; bench/refused.c is loaded in front of the C library). A run that is refused
 memory has to answer what the whole run answers, or to end with status 8 and the note `memory`, the note being empty
