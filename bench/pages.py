@@ -1,14 +1,15 @@
 #!/usr/bin/env python3
-"""Compares the words of docs/grib.1 and of the completion with those of a program, the man page with `man`, and the
-links of the pages with what is there, here and where install.sh puts them.
+"""Compares the arguments of docs/grib.1 and of the completion with those of a program, the pages with one another, the
+man page with `man`, and the links of the pages with what is there, here and where install.sh puts them.
 
     bench/pages.py PROGRAM
 
-Each command, name and key of the page has a reading in the program and stands in the completion, and the completion
-has no others; so have the words on what a run goes past, each with the commands that take it. `help` of the program
-has a line on each command, and no others, and the page has the version. A key that the page has for `set` can be set,
-and one that it has for `filter` alone cannot. The statuses of the page are those of chapter 9 of docs/PROFILE.md, with
-11, 70 and 127. A shell completes names of files, odd ones too. Each link of a page leads to a page, here and in what install.sh
+Each command, name and key of the page is valid in the program and stands in the completion, and the completion
+has no others; so have `refused=` and `kept=`, each with the commands that take it. `help` of the program has a line
+on each command, and no others, and the page has the version. The keys of the page, of GUIDE and of PROFILE are the
+same, with what can be set and may be missing, and each page that says how many keys there are has their number. The
+reasons, causes and losses of PROFILE stand in GUIDE and in the man page. The statuses of README, of GUIDE and of the
+man page are those of chapter 9 of docs/PROFILE.md, with 11, 70 and 127. A shell completes names of files, odd ones too. Each link of a page leads to a page, here and in what install.sh
 puts under PREFIX, and so does each path that the man page has. What does not hold is printed, and the end is status 1."""
 import os
 import pty
@@ -20,7 +21,7 @@ import tempfile
 import time
 
 top = os.path.dirname(os.path.dirname(os.path.abspath(__file__)))
-# For each command words that have a reading.
+# For each command arguments that are valid.
 WORDS = {
     "check": [], "list": [], "stats": [], "dump": ["decimals=2"], "filter": ["centre=98"], "set": ["centre=98"],
     "split": ["out=/nonexistent/part"], "repack": ["to=3", "order=1"], "rescan": [], "crop": ["i0=0", "i1=0", "j0=0", "j1=0"],
@@ -28,9 +29,11 @@ WORDS = {
     "demote": ["params=/nonexistent/table", "local=keep", "earth=any"], "keys": [], "help": [], "version": [],
     "make": ["seed=1", "ni=1", "nj=1", "to=3", "order=2"],
 }
-# The words on what a run goes past, of the commands that have them.
+# `refused=` and `kept=`, of the commands that have them.
 PAST = {command: ["refused=pass", "kept=copy"] for command in ("filter", "set", "split", "repack", "rescan", "crop", "migrate", "demote")}
 PAST.update({command: ["refused=pass"] for command in ("check", "list", "keys", "stats")}, dump=["refused=pass", "kept=pass"])
+# The pages that say how many keys there are.
+COUNTING = ["README.md", "docs/GUIDE.md", "docs/PROFILE.md", "docs/GLOSSARY.md", "docs/GUARANTEES.md", "docs/DEFINITIONS.md"]
 NOT_PAST = {"check": "kept=pass", "list": "refused=skip", "dump": "kept=copy", "make": "refused=pass", "help": "refused=pass"}
 failed = []
 
@@ -138,9 +141,39 @@ def plain(text):
     return re.sub(r"^\.(B|I|BR|IR|RI) ", "", re.sub(r"\\f[BIR]", "", text), flags=re.M)
 
 
-def listed(text):
-    """The keys of a list, without what stands in parentheses behind them."""
-    return re.findall(r"(\w+)(?=[,.]| and )", re.sub(r"\s+\([^)]*\)", "", text))
+def read(name):
+    with open(f"{top}/{name}", encoding="utf-8") as file:
+        return file.read()
+
+
+def check_keys(page, profile):
+    """The keys of the pages, each with whether it can be set, and how many the pages say that they are."""
+    table = re.search(r"^## 6\. Keys\n(.*?)^## 7", profile, re.M | re.S).group(1)
+    wanted = {key: (can == "yes", "m" in kind) for key, kind, can in re.findall(r"^\| (\w+) \| \d \|.*\| ([usm ]+) \| (yes|no) \|$", table, re.M)}
+    here = {key: ("f" not in marks, "m" in marks) for key, marks in re.findall(r"^(\w+)\t\d\t[^\t]*\t([fms ]*)\t", section(page, "KEYS"), re.M)}
+    hold(here == wanted, f"keys of the man page: {sorted(set(here.items()) ^ set(wanted.items()))}")
+    guide = {key: (can == "yes", missing == "yes") for key, can, missing in re.findall(r"^\| `(\w+)` \|.*\| (yes|no) \| ?(yes|) ?\|$", read("docs/GUIDE.md"), re.M)}
+    hold(guide == wanted, f"keys of GUIDE: {sorted(set(guide.items()) ^ set(wanted.items()))}")
+    can_set = sum(can for can, _ in wanted.values())
+    for name in COUNTING:
+        counts = {int(count) for count in re.findall(r"\b(\d+) keys\b", read(name))}
+        hold(counts == {len(wanted)}, f"numbers of keys of {name}: {sorted(counts)}")
+        counts = {int(count) for count in re.findall(r"\b(\d+) can be set", read(name))}
+        hold(counts <= {can_set}, f"numbers of keys that can be set of {name}: {sorted(counts)}")
+    return {key: can for key, (can, _) in wanted.items()}
+
+
+def check_names(page, profile):
+    """The reasons, causes and losses of PROFILE stand in GUIDE and in the man page."""
+    names = re.findall(r"^\| \d+ \| (\w+) \|", re.search(r"^### The reasons\n(.*?)^###", profile, re.M | re.S).group(1), re.M)
+    hold(len(names) == 37, f"{len(names)} reasons")
+    for losses in re.findall(r"^\| loss \| if \|\n\|.*\n((?:\|.*\n)+)", profile, re.M):
+        names += [name for line in losses.splitlines() for name in re.findall(r"(\w+)(?:\(\w+\))?(?:, |$)", line.split("|")[1].strip())]
+    causes = re.search(r"^\| cause of Kept \|.*\n\|.*\n((?:\|.*\n)+)", profile, re.M).group(1)
+    names += [line.split("`")[-2].split()[0] for line in causes.splitlines() if "`Loss" not in line and "`Demotion" not in line]
+    for where, text in (("GUIDE", read("docs/GUIDE.md")), ("the man page", section(page, "DIAGNOSTICS"))):
+        said = set(re.findall(r"\w+", text))
+        hold(set(names) <= said, f"not in {where}: {sorted(set(names) - said)}")
 
 
 def main():
@@ -157,7 +190,7 @@ def main():
     hold(set(completed("grib ")) == set(commands), "commands of the completion")
     helped = re.findall(r"^grib (\w+) ", printed(program, "help"), re.M)
     hold(sorted(helped) == sorted(commands), f"commands of help: {helped}")
-    hold(f'"{printed(program, "version").strip()}"' in page.splitlines()[0], "version of the page")
+    hold(f'"{printed(program, "version").strip()}"' in re.search(r"^\.TH.*", page, re.M).group(), "version of the page")
     for word in ("help", "version"):
         hold(printed(program, f"--{word}") == printed(program, word), f"--{word}")
     for command in commands:
@@ -167,18 +200,14 @@ def main():
         if command not in ("filter", "set"):
             names = {word.split("=")[0] + "=" for word in words + past}
             hold(set(completed(f"grib {command} ")) == names, f"names of {command} in the completion")
-            shown = plain(section(page, "COMMANDS") + section(page, "GOING PAST REFUSALS"))
+            shown = plain(section(page, "COMMANDS") + section(page, "GOING ON AFTER REFUSALS"))
             hold(all(name in shown for name in names), f"names of {command} in the page")
 
     for command, word in NOT_PAST.items():
         hold(not has_reading(program, command, *WORDS[command], word), f"read by the program: {command} {word}")
 
-    both, alone = plain(section(page, "KEYS")).split("alone:")
-    keys = {key: True for key in listed(both[both.index("discipline"):])}
-    keys.update({key: False for key in listed(alone)})
-    table = re.search(r"^## 6\. Keys\n(.*?)^## 7", profile, re.M | re.S).group(1)
-    wanted = {key: can == "yes" for key, can in re.findall(r"^\| (\w+) \| \d \|.*\| (yes|no) \|$", table, re.M)}
-    hold(keys == wanted, f"keys of the page: {sorted(set(keys.items()) ^ set(wanted.items()))}")
+    wanted = check_keys(page, profile)
+    check_names(page, profile)
     past = {word.split("=")[0] + "=" for word in PAST["filter"]}
     hold(set(completed("grib filter ")) == {key + "=" for key in wanted} | past, "keys of filter in the completion")
     hold(set(completed("grib set ")) == {key + "=" for key, can in wanted.items() if can} | past, "keys of set in the completion")
@@ -188,7 +217,10 @@ def main():
 
     statuses = {int(number) for number in re.findall(r"^\.B (\d+)$", section(page, "EXIT STATUS"), re.M)}
     rows = {int(number) for number in re.findall(r"^\| \w+(?:\(i\))? \| (\d+) \|", re.search(r"^### Outcomes and statuses\n(.*?)^###", profile, re.M | re.S).group(1), re.M)}
-    hold(statuses == rows - {10} | {11, 70, 127}, f"statuses of the page: {sorted(statuses)}, of PROFILE: {sorted(rows)}")
+    hold(statuses == rows - {10} | {11, 70, 127}, f"statuses of the man page: {sorted(statuses)}, of PROFILE: {sorted(rows)}")
+    for name in ("README.md", "docs/GUIDE.md"):
+        here = {int(number) for number in re.findall(r"^\| (\d+) \| [^|]*\|(?:[^|]*\|)?$", read(name).split("| status | means |")[1].split("\n\n")[0], re.M)}
+        hold(here == statuses, f"statuses of {name}: {sorted(here)}")
     check_links(page)
     had = typed([line for line, _ in TYPED])
     for (line, words), got in zip(TYPED, had + ["nothing"] * len(TYPED)):
