@@ -7,9 +7,9 @@
 #     ./install.sh remove [PREFIX]     also as PREFIX/share/grib/install.sh remove, where this folder is gone
 #     ./install.sh --help
 #
-# A folder DESTDIR stands before PREFIX in what is written, as for packages. What was put where stands in
-# PREFIX/share/grib/installed: `remove` takes that away, as far as it is still what was put there, and the folders that
-# are empty then. The status is 1 where something failed, 2 for words without a reading.
+# A folder DESTDIR stands before PREFIX in what is written, as for packages. PREFIX/share/grib/installed lists what was
+# put where: `remove` takes that away, as far as it is still what was put there, and the folders that are empty then. The
+# status is 1 if something failed, 2 if the arguments are wrong.
 #
 # shellcheck disable=SC2015 # what stands behind || is meant for either
 # shellcheck disable=SC2016 # a line for ~/.profile
@@ -23,7 +23,7 @@ fail() {
 }
 
 usage() {
-  printf 'install.sh: %s\n' "$*" "'install.sh --help' has the words" >&2
+  printf 'install.sh: %s\n' "$*" "'install.sh --help' lists the arguments" >&2
   exit 2
 }
 
@@ -40,7 +40,7 @@ remove)
   shift
   ;;
 esac
-[[ $# -le 1 ]] || usage "there is a word too many"
+[[ $# -le 1 ]] || usage "there is an argument too many"
 # What was installed knows where it is.
 here=${HOME:+$HOME/.local}
 [[ $top != */share/grib || -e $top/dist/common.sh ]] || here=${top%/share/grib}
