@@ -19,10 +19,10 @@ need() { # COMMAND [WHERE IT IS FROM]
   command -v "$1" >/dev/null || fail "$1 is not in PATH${2:+ ($2)}"
 }
 
-# The program that does our work over and over, a word for each kind of work.
+# The program that does our work over and over, an argument for each kind of work.
 bench=$top/crates/grib_bench/out/grib_bench
 
-# Builds it, by a run on these words.
+# Builds it, by a run with these arguments.
 build_ours() { # WORD..
   need rt
   (cd "$top/crates/grib_bench" && rt run -- "$@") >"$work/build.log" 2>&1 || {

@@ -2,7 +2,7 @@
 """Demotes the edition 2 messages of files, and goes from edition 1 to 2 and back with those of edition 1:
 demote.py PROGRAM FILE..
 
-Wants grib_get_data of ecCodes (Debian: libeccodes-tools). Each message is handed to PROGRAM by itself. Its parameter
+Needs grib_get_data of ecCodes (Debian: libeccodes-tools). Each message is handed to PROGRAM by itself. Its parameter
 table is params/standard.csv and, for each parameter of the files that has no row there, a row of some number that no
 other has, so that a message is only kept for another loss; octets for local use are kept, and any earth is taken.
 

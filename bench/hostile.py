@@ -10,7 +10,7 @@ output, with notes that cannot be written, with a directory as input or none, wi
 cases hang on `seed` and their number alone; `case=N` runs one of them. `runs` is how often the program is started,
 `jobs` how many processes share the work; an interrupt ends it after the case at hand, with the sums so far. Each
 finding is a line, and its input is kept in the folder `keep` (hostile-findings), as small as cutting makes it.
-Commands that the program does not have yet are left out. Wants Python 3.8 and Linux."""
+Commands that the program does not have yet are left out. Needs Python 3.8 and Linux."""
 import collections
 import fractions
 import multiprocessing

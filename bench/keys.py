@@ -1,7 +1,7 @@
 #!/usr/bin/env python3
 """Cuts files of edition 2 into fields and picks fields from them, and compares: keys.py PROGRAM FILE..
 
-Wants grib_filter of ecCodes (Debian: libeccodes-tools). Of each file the messages that PROGRAM accepts are taken,
+Needs grib_filter of ecCodes (Debian: libeccodes-tools). Of each file the messages that PROGRAM accepts are taken,
 one after another. What `split` makes of them, joined again, has to give ecCodes the same values, field by field;
 so has what `filter` gives for each key of the first field with its value there, of the fields that have that value
 by the reading of this script; and what `set` gives for a centre. What `keys` prints has to be what this script reads,

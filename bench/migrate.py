@@ -2,7 +2,7 @@
 """Migrates the edition 1 messages of files, and compares what ecCodes reads before and after:
 migrate.py PROGRAM FILE..
 
-Wants grib_get and grib_get_data of ecCodes (Debian: libeccodes-tools). Each message is handed to PROGRAM by itself.
+Needs grib_get and grib_get_data of ecCodes (Debian: libeccodes-tools). Each message is handed to PROGRAM by itself.
 Its parameter table is params/standard.csv and, for each parameter of the files that has no row there, a row of some
 parameter, so that a message is only kept for another loss; octets for local use are kept. Of what is written ecCodes
 has to read the same value, or missing mark, at each point, and the same date, time, level and step. PROGRAM has to

@@ -10,11 +10,14 @@ on each command, and no others, and the page has the version. The keys of the pa
 same, with what can be set and may be missing, and each page that says how many keys there are has their number. The
 reasons, causes and losses of PROFILE stand in GUIDE and in the man page. The statuses of README, of GUIDE and of the
 man page are those of chapter 9 of docs/PROFILE.md, with 11, 70 and 127. A shell completes names of files, odd ones too. Each link of a page leads to a page, here and in what install.sh
-puts under PREFIX, and so does each path that the man page has. What does not hold is printed, and the end is status 1."""
+puts under PREFIX, and so does each path that the man page has. What does not hold is printed, and the end is status 1.
+Without `man`, or without terminals, what needs them is left out, and said."""
+import glob
 import os
 import pty
 import re
 import select
+import shutil
 import subprocess
 import sys
 import tempfile
@@ -114,7 +117,7 @@ def check_links(page):
     places = {place for _, place in files} | set(re.findall(r"^put \d{3} .* (\S+)$", script.replace("  put", "put"), re.M))
     places |= set(re.findall(r"^installed=(\S+)$", script, re.M))
     places |= set(re.search(r"<<LINKS\n(.*?)^LINKS", script, re.M | re.S).group(1).split()[1::2])
-    pages = subprocess.run(["git", "-C", top, "ls-files", "*.md"], capture_output=True, text=True).stdout.split()
+    pages = [os.path.relpath(name, top) for folder in ("", "*/") for name in glob.glob(f"{top}/{folder}*.md")]
     hold(pages and files, "pages")
     for name in pages:
         with open(f"{top}/{name}", encoding="utf-8") as file:
@@ -222,14 +225,23 @@ def main():
         here = {int(number) for number in re.findall(r"^\| (\d+) \| [^|]*\|(?:[^|]*\|)?$", read(name).split("| status | means |")[1].split("\n\n")[0], re.M)}
         hold(here == statuses, f"statuses of {name}: {sorted(here)}")
     check_links(page)
-    had = typed([line for line, _ in TYPED])
-    for (line, words), got in zip(TYPED, had + ["nothing"] * len(TYPED)):
-        hold(got == words, f"completed {line!r}: {got!r}")
-    said = subprocess.run(["man", "--warnings", "-l", f"{top}/docs/grib.1"], env={**os.environ, "MANWIDTH": "100"}, capture_output=True, text=True)
-    hold(said.returncode == 0 and said.stderr == "", f"man: {said.stderr}")
+    left_out = []
+    try:
+        for end in pty.openpty():
+            os.close(end)
+        had = typed([line for line, _ in TYPED])
+        for (line, words), got in zip(TYPED, had + ["nothing"] * len(TYPED)):
+            hold(got == words, f"completed {line!r}: {got!r}")
+    except OSError:
+        left_out.append("terminals")
+    if shutil.which("man"):
+        said = subprocess.run(["man", "--warnings", "-l", f"{top}/docs/grib.1"], env={**os.environ, "MANWIDTH": "80"}, capture_output=True, text=True)
+        hold(said.returncode == 0 and said.stderr == "", f"man: {said.stderr}")
+    else:
+        left_out.append("man")
     for what in failed:
         print(what)
-    print(f"{len(commands)} commands, {len(wanted)} keys, {len(statuses)} statuses, {len(failed)} differences")
+    print(f"{len(commands)} commands, {len(wanted)} keys, {len(statuses)} statuses, {len(failed)} differences" + (f", left out: {', '.join(left_out)}" if left_out else ""))
     sys.exit(bool(failed))
 
 

@@ -6,7 +6,7 @@ compared.
     bench/params.py [all] [PROGRAM]     with `all` each difference is printed and not only counted
 
 With a program, `migrate` of these messages is to give the numbers of each record, its versions of the tables among them.
-Wants ecCodes (Debian: libeccodes-tools). params/README.md explains each kind of difference. Records with `*` stand for
+Needs ecCodes (Debian: libeccodes-tools). params/README.md explains each kind of difference. Records with `*` stand for
 centre 7, which has no parameters of its own below 128 in ecCodes."""
 import collections
 import os

@@ -5,7 +5,7 @@
 
 Of each file `check refused=pass` tells where a message begins that is accepted, and the notes where one is refused;
 `grib_get -p offset` of ecCodes tells where it finds one. A place that only one of the two has is printed. The last lines
-are sums, with the reasons of the refusals. Wants Python 3.8 and libeccodes-tools."""
+are sums, with the reasons of the refusals. Needs Python 3.8 and libeccodes-tools."""
 import collections
 import re
 import subprocess

@@ -7,7 +7,7 @@ Inputs are messages of the files, of docs/WORKED.md and of `make`, many of them 
 them. Each is cut at random places, and its pieces are written into a pipe, one as soon as the one before was taken. So
 the program reads just these pieces, down to single octets. One input in twenty is of messages of more than 65,536 octets,
 which `check` and `list` judge as they come. Output, note and status have to be those of the file. `runs`
-counts the inputs that come in pieces. Each difference is a line. Wants Python 3.8 and Linux."""
+counts the inputs that come in pieces. Each difference is a line. Needs Python 3.8 and Linux."""
 import fcntl
 import multiprocessing
 import os

@@ -8,7 +8,7 @@ memory, to see how many calls for memory there are, and then once for each of th
 them, spread evenly, where there are more; bench/refused.c is loaded in front of the C library). A run that is refused
 memory has to answer what the whole run answers, or to end with status 8 and the note `memory`, the note being empty
 where not even the words were there; what it wrote has to be a front of the answer, and what `split` put on the shelf a
-front of each file. Prints the number of runs and what differs. Wants gcc and Linux."""
+front of each file. Prints the number of runs and what differs. Needs gcc and Linux."""
 import os
 import shutil
 import subprocess

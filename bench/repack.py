@@ -1,7 +1,7 @@
 #!/usr/bin/env python3
 """Packs files of edition 2 to each template and back, and compares: repack.py PROGRAM FILE..
 
-Wants grib_filter and grib_set of ecCodes (Debian: libeccodes-tools). Each message is handed over by itself.
+Needs grib_filter and grib_set of ecCodes (Debian: libeccodes-tools). Each message is handed over by itself.
 What PROGRAM writes by `repack` to each target that can hold it has to print the same points and reference values
 by `dump` as the message, before and after it is packed back to the template that it came from; and ecCodes has to
 read the same values from it. With `to=least` no message may have more octets than it had, and written again it has

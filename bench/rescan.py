@@ -1,7 +1,7 @@
 #!/usr/bin/env python3
 """Compares `grib rescan` and `grib crop` with a reader of grids in Python and with CDO: rescan.py PROGRAM FILE..
 
-Wants cdo (Debian: cdo). Each message of edition 2 is handed over by itself. After `rescan` each field has to print by
+Needs cdo (Debian: cdo). Each message of edition 2 is handed over by itself. After `rescan` each field has to print by
 `dump` at each index pair the point that it had there, and a second `rescan` has to change nothing. Of a grid that is
 then cut to a box, `crop` has to print the points of the box, and `cdo selindexbox` has to give the same numbers: its
 values are computed back by the reference value and the scale factors. Where a message is kept, its cause has to be
