@@ -9,8 +9,8 @@ has no others; so have `refused=` and `kept=`, each with the commands that take 
 on each command, and no others, and the page has the version. The keys of the page, of GUIDE and of PROFILE are the
 same, with what can be set and may be missing, and each page that says how many keys there are has their number. The
 reasons, causes and losses of PROFILE stand in GUIDE and in the man page. The statuses of README, of GUIDE and of the
-man page are those of chapter 9 of docs/PROFILE.md, with 11, 70 and 127. A shell completes names of files, odd ones too. Each link of a page leads to a page, here and in what install.sh
-puts under PREFIX, and so does each path that the man page has. What does not hold is printed, and the end is status 1.
+man page are those of chapter 9 of docs/PROFILE.md, with 11, 70 and 127. A shell completes names of files, odd ones too. Each link of a page leads to a page and heading, here and in what
+install.sh puts under PREFIX, and so does each path that the man page has. What does not hold is printed, and the end is status 1.
 Without `man`, or without terminals, what needs them is left out, and said."""
 import glob
 import os
@@ -109,6 +109,12 @@ def typed(lines):
         return had
 
 
+def headings(name):
+    """The anchors of a page: its headings in small letters, with hyphens for blanks."""
+    text = re.sub(r"^```.*?^```$", "", read(name), flags=re.M | re.S)
+    return {re.sub(r"[^\w -]", "", line.lower()).strip().replace(" ", "-") for line in re.findall(r"^#+ (.*)$", text, re.M)}
+
+
 def check_links(page):
     """The links of the pages, as they lie here and as install.sh puts them, and the places that the man page names."""
     with open(f"{top}/install.sh", encoding="ascii") as file:
@@ -124,6 +130,9 @@ def check_links(page):
             links = [link for link in re.findall(r"\]\(([^)#]+)[^)]*\)", file.read()) if "://" not in link]
         for link in links:
             hold(os.path.exists(os.path.join(top, os.path.dirname(name), link)), f"link of {name}: {link}")
+        for link, anchor in re.findall(r"\]\(([^)#:]*)#([^)]*)\)", read(name)):
+            there = os.path.normpath(os.path.join(os.path.dirname(name), link)) if link else name
+            hold(os.path.exists(f"{top}/{there}") and anchor in headings(there), f"heading that {name} leads to: {link}#{anchor}")
         for place in (place for source, place in files if source == name):
             for link in links:
                 hold(os.path.normpath(os.path.join(os.path.dirname(place), link)) in places, f"link of {place}, installed: {link}")
