@@ -4,14 +4,15 @@ man page with `man`, and the links of the pages with what is there, here and whe
 
     bench/pages.py PROGRAM
 
-Each command, name and key of the page is valid in the program and stands in the completion, and the completion
-has no others; so have `refused=` and `kept=`, each with the commands that take it. `help` of the program has a line
-on each command, and no others, and the page has the version. The keys of the page, of GUIDE and of PROFILE are the
-same, with what can be set and may be missing, and each page that says how many keys there are has their number. The
-reasons, causes and losses of PROFILE stand in GUIDE and in the man page. The statuses of README, of GUIDE and of the
-man page are those of chapter 9 of docs/PROFILE.md, with 11, 70 and 127. A shell completes names of files, odd ones too. Each link of a page leads to a page and heading, here and in what
-install.sh puts under PREFIX, and so does each path that the man page has. What does not hold is printed, and the end is status 1.
-Without `man`, or without terminals, what needs them is left out, and said."""
+Each command, name and key of the page is valid in the program and stands in the completion, and the completion has no
+others; so have `refused=` and `kept=`, each with the commands that take it. `help` of the program has a line on each
+command, and no others, and the page has the version. The keys of the page, of GUIDE and of PROFILE are the same, with
+what can be set and may be missing, and each page that says how many keys there are has their number. The reasons,
+causes and losses of PROFILE stand in GUIDE and in the man page. The statuses of README, of GUIDE and of the man page
+are those of chapter 9 of docs/PROFILE.md, with 11, 70 and 127. A shell completes names of files, odd ones too. Each
+link of a page leads to a page and heading, here and in what install.sh puts under PREFIX, and so does each path that
+the man page has. What does not hold is printed, and the end is status 1. Without `man`, or without terminals, what
+needs them is left out, and said."""
 import glob
 import os
 import pty
