@@ -1,8 +1,8 @@
 use Rattle.std.proofs.Common.{◌≡◌, ℕ, List, [], ◌∷◌, ◌++◌, codes, ap, ◌∙◌, append_assoc}
 use Rattle.std.specs.Fmt.{decimal}
 use Rattle.grib_keys.specs.Keys.{keys}
-use Rattle.grib_key_lines.specs.Lines.{words_text}
-use Rattle.grib_key_lines.proofs.second.keys_line.Goals as goal
+use Rattle.grib_text.specs.KeyLines.{words_text}
+use Rattle.grib_text.proofs.second.keys_line.Goals as goal
 
 regroup : (m d i e w n : List ℕ) → ((m ++ (d ++ (i ++ e))) ++ w) ++ n ≡ m ++ d ++ i ++ e ++ w ++ n
 regroup m d i e w n = simp append_assoc

@@ -4,8 +4,8 @@ use Rattle.grib_bits.specs.Bits.{bits_of, signed}
 use Rattle.grib1_sections.specs.Keys.{key1_of}
 use Rattle.grib1_sections.specs.declared.key.Key1.{Key1}
 use Rattle.grib1_sections.specs.declared.key.Key1.TheVariants.{Version, DecimalScale}
-use Rattle.grib_key_lines.specs.Names1.{number1_of}
-use Rattle.grib_key_lines.proofs.first.number_of.Goals as goal
+use Rattle.grib_text.specs.Names1.{number1_of}
+use Rattle.grib_text.proofs.first.number_of.Goals as goal
 
 with_sign : (m : List ℕ) (key : Key1) → key ≡ DecimalScale → signed (bits_of 16 (key1_of m key)) ≡ number1_of m key
 with_sign m key is = subst (λ (k : Key1). signed (bits_of 16 (key1_of m k)) ≡ number1_of m k) (sym is) refl

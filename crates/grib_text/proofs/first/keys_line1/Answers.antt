@@ -1,8 +1,8 @@
 use Rattle.std.proofs.Common.{◌≡◌, ℕ, List, [], ◌∷◌, ◌++◌, codes, ap, ◌∙◌, append_assoc}
 use Rattle.std.specs.Fmt.{decimal}
-use Rattle.grib_key_lines.specs.Names1.{keys1}
-use Rattle.grib_key_lines.specs.Lines.{numbers_text}
-use Rattle.grib_key_lines.proofs.first.keys_line1.Goals as goal
+use Rattle.grib_text.specs.Names1.{keys1}
+use Rattle.grib_text.specs.KeyLines.{numbers_text}
+use Rattle.grib_text.proofs.first.keys_line1.Goals as goal
 
 regroup : (m e w n : List ℕ) → ((m ++ e) ++ w) ++ n ≡ m ++ e ++ w ++ n
 regroup m e w n = simp append_assoc

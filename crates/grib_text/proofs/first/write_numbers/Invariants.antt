@@ -1,8 +1,8 @@
 use Rattle.std.proofs.Common.{◌≡◌, ◌++◌, drop}
 use Rattle.std.specs.Prelude.{string_bytes}
-use Rattle.grib_key_lines.specs.Names1.{keys1}
-use Rattle.grib_key_lines.specs.Lines.{numbers_text}
-use Rattle.grib_key_lines.proofs.first.write_numbers.Given as goal
+use Rattle.grib_text.specs.Names1.{keys1}
+use Rattle.grib_text.specs.KeyLines.{numbers_text}
+use Rattle.grib_text.proofs.first.write_numbers.Given as goal
 
 -- what was written, and the numbers that are left, make the whole
 abbrev pub invariant-loop-key : goal.invariant-loop-key

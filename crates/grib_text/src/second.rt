@@ -3,7 +3,7 @@
 ghost use Rattle.std.specs.Prelude.{◌≡◌, ◌≤◌, ◌++◌, string_bytes, IfOk, OnOk};
 ghost use Rattle.grib2_message.specs.Fields.{field_count};
 ghost use Rattle.grib_keys.specs.Keys.{keys};
-ghost use Rattle.grib_key_lines.specs.Lines as lines;
+ghost use Rattle.grib_text.specs.KeyLines as lines;
 
 use grib_keys::{Condition, Key, Value};
 use grib_select::key_value;

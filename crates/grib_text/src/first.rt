@@ -1,8 +1,8 @@
 //! The line of a message of edition 1.
 
 ghost use Rattle.std.specs.Prelude.{◌≡◌, ◌++◌, string_bytes, IfOk, OnOk};
-ghost use Rattle.grib_key_lines.specs.Lines as lines;
-ghost use Rattle.grib_key_lines.specs.Names1 as names;
+ghost use Rattle.grib_text.specs.KeyLines as lines;
+ghost use Rattle.grib_text.specs.Names1 as names;
 
 use grib_bits::signed_of;
 use grib1_sections::{Key1, Message1};
