@@ -1,9 +1,9 @@
 use Rattle.std.proofs.Common.{◌∙◌, arith}
 use Rattle.grib_packing.specs.Span.{IsSpan}
 use Rattle.grib_packing.proofs.Spans.{small_run}
-use Rattle.grib_codes.specs.Words.{codes_of}
-use Rattle.grib_codes.proofs.Ends.{span_between_ends}
-use Rattle.grib_codes.proofs.codes.span_of_words.Goals as goal
+use Rattle.grib_packing.specs.Words.{codes_of}
+use Rattle.grib_packing.proofs.Ends.{span_between_ends}
+use Rattle.grib_packing.proofs.codes.span_of_words.Goals as goal
 
 pub returns-clause-span : goal.returns-clause-span
 returns-clause-span c =

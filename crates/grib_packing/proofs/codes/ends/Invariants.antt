@@ -1,6 +1,6 @@
 use Rattle.std.proofs.Common.{◌≡◌, ◌∷◌, take}
 use Rattle.grib_packing.specs.Groupings.{greatest, smallest}
-use Rattle.grib_codes.proofs.codes.ends.Given as goal
+use Rattle.grib_packing.proofs.codes.ends.Given as goal
 
 abbrev pub invariant-loop-word : goal.invariant-loop-word
 invariant-loop-word l = record {

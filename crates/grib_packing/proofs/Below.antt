@@ -4,7 +4,7 @@ use Rattle.std.proofs.lemmas.Bool.{ltb-true}
 use Rattle.std.proofs.lemmas.List.Elements.{All-nil, All-cons}
 use Rattle.grib_base.specs.declared.code.Code.TheVariants.{Present, Primary, Secondary}
 use Rattle.grib_packing.specs.Span.{IsBelow}
-use Rattle.grib_codes.specs.Words.{code_of, codes_of}
+use Rattle.grib_packing.specs.Words.{code_of, codes_of}
 
 below_by : (k w : ℕ) (b c : Bool) → (b ≡ true → w + k < 2 ^ 32) → IsBelow k (cond b (Present w) (cond c Primary Secondary))
 below_by k w true c small = small refl

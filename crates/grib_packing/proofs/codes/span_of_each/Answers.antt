@@ -3,8 +3,8 @@ use Rattle.std.proofs.lemmas.List.{take_all, map_more}
 use Rattle.grib_base.specs.declared.code.Code.{Code}
 use Rattle.grib_packing.specs.Span.{IsSpan}
 use Rattle.grib_packing.proofs.Spans.{small_run, span-behind}
-use Rattle.grib_codes.specs.Words.{code_of, codes_of}
-use Rattle.grib_codes.proofs.codes.span_of_each.Goals as goal
+use Rattle.grib_packing.specs.Words.{code_of, codes_of}
+use Rattle.grib_packing.proofs.codes.span_of_each.Goals as goal
 
 pub loop-word-preserved : goal.loop-word-preserved
 loop-word-preserved c =

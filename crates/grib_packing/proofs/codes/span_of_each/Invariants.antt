@@ -1,7 +1,7 @@
 use Rattle.std.proofs.Common.{◌≤◌, take}
 use Rattle.grib_packing.specs.Span.{IsSpan}
-use Rattle.grib_codes.specs.Words.{codes_of}
-use Rattle.grib_codes.proofs.codes.span_of_each.Given as goal
+use Rattle.grib_packing.specs.Words.{codes_of}
+use Rattle.grib_packing.proofs.codes.span_of_each.Given as goal
 
 abbrev pub invariant-loop-word : goal.invariant-loop-word
 invariant-loop-word l = record {

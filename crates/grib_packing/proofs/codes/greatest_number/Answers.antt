@@ -1,9 +1,9 @@
 use Rattle.std.proofs.Common.{take, get_or, ap, arith}
 use Rattle.std.proofs.lemmas.List.{take_more}
 use Rattle.grib_packing.specs.Groupings.{greatest, present_codes}
-use Rattle.grib_codes.specs.Words.{codes_of}
-use Rattle.grib_codes.proofs.Marked.{greatest_number_behind}
-use Rattle.grib_codes.proofs.codes.greatest_number.Goals as goal
+use Rattle.grib_packing.specs.Words.{codes_of}
+use Rattle.grib_packing.proofs.Marked.{greatest_number_behind}
+use Rattle.grib_packing.proofs.codes.greatest_number.Goals as goal
 
 pub loop-word-preserved : goal.loop-word-preserved
 loop-word-preserved c =

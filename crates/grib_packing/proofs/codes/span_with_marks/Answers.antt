@@ -1,10 +1,10 @@
 use Rattle.std.proofs.Common.{◌≡◌, [], ◌∙◌, subst, arith}
 use Rattle.grib_packing.specs.Span.{IsSpan}
 use Rattle.grib_packing.proofs.Spans.{small_run}
-use Rattle.grib_codes.specs.Words.{codes_of}
-use Rattle.grib_codes.proofs.Marked.{span_of_marks, span_around_mark}
-use Rattle.grib_codes.proofs.codes.span_with_marks.Goals as goal
-use Rattle.grib_codes.proofs.codes.span_with_marks.Goals.{After-with, After-span_around}
+use Rattle.grib_packing.specs.Words.{codes_of}
+use Rattle.grib_packing.proofs.Marked.{span_of_marks, span_around_mark}
+use Rattle.grib_packing.proofs.codes.span_with_marks.Goals as goal
+use Rattle.grib_packing.proofs.codes.span_with_marks.Goals.{After-with, After-span_around}
 
 marks : (c : After-with) → IsSpan c.with.result (codes_of c.args.reserved c.args.words.now)
 marks c =

@@ -1,8 +1,8 @@
 use Rattle.std.proofs.Common.{◌∷◌, take, get_or, ap, arith}
 use Rattle.std.proofs.lemmas.List.{take_more}
 use Rattle.grib_packing.specs.Groupings.{greatest, smallest}
-use Rattle.grib_codes.proofs.Ends.{greatest-behind, smallest-behind}
-use Rattle.grib_codes.proofs.codes.ends.Goals as goal
+use Rattle.grib_packing.proofs.Ends.{greatest-behind, smallest-behind}
+use Rattle.grib_packing.proofs.codes.ends.Goals as goal
 
 pub loop-word-preserved : goal.loop-word-preserved
 loop-word-preserved c =

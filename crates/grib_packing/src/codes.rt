@@ -2,13 +2,13 @@
 
 ghost use Rattle.std.specs.Prelude.{◌≡◌, ◌≢◌, ℕ, ◌+◌, ◌≤◌, ◌<◌, ◌^◌, ◌∷◌, [], length, take, drop, get_or, max, min, true, false, All};
 ghost use Rattle.grib_base.specs.declared.code.Code as code_io;
-ghost use Rattle.grib_codes.specs.Words.{code_of, codes_of};
+ghost use Rattle.grib_packing.specs.Words.{code_of, codes_of};
 ghost use Rattle.grib_base.specs.declared.code.Code.TheVariants.{Primary};
 ghost use Rattle.grib_packing.specs.Groupings.{greatest, smallest, present_codes, is_present};
 ghost use Rattle.grib_packing.specs.Span.{IsBelow, IsOrdered, IsSmallWith, IsSpan, IsTold};
 
 use grib_base::Code;
-use grib_packing::Span;
+use crate::Span;
 use std::marker::Model;
 
 /// Codes in 32 bits each, of which up to two are reserved for missing points: all bits set for primary missing,
@@ -23,7 +23,7 @@ pub struct Codes<'a> {
 impl<'a> Model for Codes<'a> {
     ghost use Rattle.std.specs.Prelude.{List, ◌≤◌};
     ghost use Rattle.grib_base.specs.declared.code.Code.{Code};
-    ghost use Rattle.grib_codes.specs.Words.{codes_of};
+    ghost use Rattle.grib_packing.specs.Words.{codes_of};
 
     ghost Value = { List Code };
 

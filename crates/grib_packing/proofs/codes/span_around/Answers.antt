@@ -1,6 +1,6 @@
 use Rattle.std.proofs.Common.{[], ◌∷◌}
 use Rattle.grib_base.specs.declared.code.Code.TheVariants.{Present, Primary}
-use Rattle.grib_codes.proofs.codes.span_around.Goals as goal
+use Rattle.grib_packing.proofs.codes.span_around.Goals as goal
 
 pub returns-clause-span : goal.returns-clause-span
 returns-clause-span c =

@@ -8,7 +8,7 @@ use Rattle.grib_packing.specs.declared.span.Span.{Span}
 use Rattle.grib_packing.specs.Groupings.{greatest, smallest, present_codes, is_present, is_primary, is_secondary}
 use Rattle.grib_packing.specs.Span.{IsSpan}
 use Rattle.grib_packing.proofs.Spans.{smallest-more, smallest_at_most}
-use Rattle.grib_codes.specs.Words.{code_of, codes_of}
+use Rattle.grib_packing.specs.Words.{code_of, codes_of}
 
 -- ---- one word more
 

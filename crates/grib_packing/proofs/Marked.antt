@@ -11,7 +11,7 @@ use Rattle.grib_packing.specs.Entries.{present_code}
 use Rattle.grib_packing.specs.Groupings.{greatest, smallest, present_codes, is_present, is_primary, is_secondary}
 use Rattle.grib_packing.specs.Span.{IsSpan}
 use Rattle.grib_packing.proofs.Spans.{smallest-more, smallest_at_most, none_present}
-use Rattle.grib_codes.specs.Words.{code_of, codes_of}
+use Rattle.grib_packing.specs.Words.{code_of, codes_of}
 
 greatest_join : (xs ys : List ℕ) → greatest (xs ++ ys) ≡ max (greatest xs) (greatest ys)
 greatest_join [] ys = omega arith
