@@ -50,6 +50,11 @@ FAULTS = {5: "read fault", 6: "", 7: "shelf fault", 8: "memory", 9: "input too l
 Run = collections.namedtuple("Run", "status output note octets seconds")
 
 
+def said_by_run(note, status):
+    """A note without the line of a device that failed."""
+    return re.sub(rb"^grib: [^\n]+: [^\n]+\n\Z", b"", note, flags=re.M) if status in (5, 6, 7) else note
+
+
 class Wrong(Exception):
     """What a run did that no run may do."""
 
@@ -108,7 +113,7 @@ class Runner:
         with open(names["output"], "rb") as file:
             output = file.read() if seen is None else seen
         with open(names["note"], "rb") as file:
-            note = file.read()
+            note = said_by_run(file.read(), os.WEXITSTATUS(status))
         # A process that was forked counts the memory that this one has as its own, until it has more.
         own = resource.getrusage(resource.RUSAGE_SELF).ru_maxrss
         return Run(os.WEXITSTATUS(status), output, note, 1024 * used.ru_maxrss if used.ru_maxrss > own else 0, seconds)

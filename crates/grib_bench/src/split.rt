@@ -9,7 +9,7 @@ ghost use Rattle.grib_packing.specs.Span.{IsBelow};
 use crate::random::Random;
 use anyhow::{Context, Result, ensure};
 use grib_base::Code;
-use grib_codes::{Codes, word_of};
+use grib_packing::{Codes, word_of};
 use grib_split::{Costs, least_choices};
 use std::alloc::{AllocError, Global};
 use std::env::Args;

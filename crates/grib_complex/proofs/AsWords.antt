@@ -5,7 +5,7 @@ use Rattle.std.proofs.lemmas.List.Elements.{All-head, All-tail}
 use Rattle.grib_base.specs.declared.code.Code.{Code}
 use Rattle.grib_base.specs.declared.code.Code.TheVariants.{Present, Primary, Secondary}
 use Rattle.grib_base.specs.Rows.{first_place}
-use Rattle.grib_codes.specs.Words.{code_of, codes_of}
+use Rattle.grib_packing.specs.Words.{code_of, codes_of}
 use Rattle.grib_bitmap.specs.Mask.{present_count}
 use Rattle.grib_bitmap.proofs.Runs.{present_count-cons, all_present}
 use Rattle.grib_packing.specs.Span.{IsTold}

@@ -4,7 +4,7 @@ use Rattle.std.specs.List.{list_any}
 use Rattle.std.proofs.lemmas.List.{map-append}
 use Rattle.grib_base.specs.declared.code.Code.{Code}
 use Rattle.grib_base.specs.declared.code.Code.TheVariants.{Present, Primary, Secondary}
-use Rattle.grib_codes.specs.Words.{code_of, codes_of}
+use Rattle.grib_packing.specs.Words.{code_of, codes_of}
 use Rattle.grib_packing.specs.declared.column.Point.{Point}
 use Rattle.grib_packing.specs.declared.column.Point.TheVariants.{Scaled, Missing, Missing2}
 use Rattle.grib_packing.specs.Misfits.{ToComplex, greatest_code, is_missing, is_missing2, is_scaled_outside, management_of, scaled_numbers}

@@ -7,7 +7,7 @@ ghost use Rattle.grib_packing.specs.Written.{IsPackFault};
 
 use crate::words::Words;
 use grib_base::Code;
-use grib_codes::word_of;
+use grib_packing::word_of;
 use grib_packing::{PackFault, Point};
 use std::alloc::Global;
 

@@ -10,7 +10,7 @@ ghost use Rattle.grib_complex.specs.FieldCodes.{codes_in};
 
 use crate::words::Words;
 use grib_base::Code;
-use grib_codes::Codes;
+use grib_packing::Codes;
 use grib_groups::{Layout, Measure, later_measures, measures_of, next_measure};
 use grib_packing::{Span, bit_length};
 use grib_split::{Costs, chosen_lengths, fewest_lengths};

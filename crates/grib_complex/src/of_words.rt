@@ -2,7 +2,7 @@
 
 ghost use Rattle.std.specs.Prelude.{◌≡◌, ◌<◌, ◌≤◌, false, true, max, EachIndex, IfOk, IfSome, List, Ok, length, slice_index};
 ghost use Rattle.grib_bitmap.specs.Mask.{present_count};
-ghost use Rattle.grib_codes.specs.Words.{codes_of};
+ghost use Rattle.grib_packing.specs.Words.{codes_of};
 ghost use Rattle.grib_packing.specs.declared.column.Column as column_packing;
 ghost use Rattle.grib_packing.specs.declared.column.Point as point_packing;
 ghost use Rattle.grib_packing.specs.Column.{points_with_mask};
@@ -18,7 +18,7 @@ use crate::point_words::PointWords;
 use crate::told_codes::ToldCodes;
 use crate::words::Words;
 use grib_bitmap::Mask;
-use grib_codes::Codes;
+use grib_packing::Codes;
 use grib_packing::{Packed, Simple};
 use std::alloc::{AllocError, Global};
 

@@ -1,9 +1,9 @@
 //! The codes of the points of a field, 32 bits for each.
 
 ghost use Rattle.std.specs.Prelude.{◌≡◌, ◌≤◌, length};
-ghost use Rattle.grib_codes.specs.Words.{codes_of};
+ghost use Rattle.grib_packing.specs.Words.{codes_of};
 
-use grib_codes::Codes;
+use grib_packing::Codes;
 use std::marker::Model;
 
 /// The codes of the points of a field, one after another: a word of 4 octets for each, of which up to two are
@@ -17,7 +17,7 @@ pub struct Words {
 impl Model for Words {
     ghost use Rattle.std.specs.Prelude.{List, ◌≤◌};
     ghost use Rattle.grib_base.specs.declared.code.Code.{Code};
-    ghost use Rattle.grib_codes.specs.Words.{codes_of};
+    ghost use Rattle.grib_packing.specs.Words.{codes_of};
 
     ghost Value = { List Code };
 

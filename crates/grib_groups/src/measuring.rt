@@ -5,7 +5,7 @@ ghost use Rattle.grib_packing.specs.Groupings.{IsGrouping, runs};
 ghost use Rattle.grib_packing.specs.Span.{IsBelow};
 ghost use Rattle.grib_groups.specs.Encoding.{AreMeasures, IsMeasure};
 
-use grib_codes::Codes;
+use grib_packing::Codes;
 use std::alloc::{AllocError, Global};
 
 /// What the codes of a group come to.

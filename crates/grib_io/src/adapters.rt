@@ -7,7 +7,7 @@ ghost use Rattle.grib_io.specs.Outside.{CountsFailure, CountsStop, CountsStops, 
 ghost use Rattle.grib_io.specs.Memory.{next_count};
 
 use crate::outside::{Failed, Sink, Source, Stop};
-use std::io::{Read, Write};
+use std::io::{self, Read, Write};
 use std::marker::Model;
 
 /// A reader of std as a source. Each error of the reader is a fault, an interruption too.
@@ -15,6 +15,8 @@ use std::marker::Model;
 pub struct ReadSource<R> {
     reader: R,
     faults: u64,
+    /// The first error of the reader.
+    error: Option<io::Error>,
 }
 
 impl<R> Model for ReadSource<R> {
@@ -30,7 +32,16 @@ impl<R: Read> ReadSource<R> {
     pub fn new(reader: R) -> ReadSource<R>
         ensures { result ≡ record { reader = reader; faults = 0 } }
     {
-        ReadSource { reader, faults: 0 }
+        ReadSource {
+            reader,
+            faults: 0,
+            error: None,
+        }
+    }
+
+    /// The first error of the reader, for its text.
+    pub fn error(&self) -> Option<io::Error> {
+        self.error
     }
 }
 
@@ -49,8 +60,9 @@ impl<R: Read> Source for ReadSource<R> {
     {
         match self.reader.read(into) {
             Ok(count) => Ok(count),
-            Err(_) => {
+            Err(error) => {
                 self.faults = self.faults.saturating_add(1);
+                self.error = self.error.or(Some(error));
                 Err(Failed)
             }
         }
@@ -64,6 +76,8 @@ pub struct WriteSink<W> {
     writer: W,
     faults: u64,
     settled: bool,
+    /// The first error of the writer.
+    error: Option<io::Error>,
 }
 
 impl<W> Model for WriteSink<W> {
@@ -83,7 +97,13 @@ impl<W: Write> WriteSink<W> {
             writer,
             faults: 0,
             settled: true,
+            error: None,
         }
+    }
+
+    /// The first error of the writer, for its text.
+    pub fn error(&self) -> Option<io::Error> {
+        self.error
     }
 
     /// Counts a fault.
@@ -94,6 +114,16 @@ impl<W: Write> WriteSink<W> {
     {
         self.faults = self.faults.saturating_add(1);
         Stop::Failed
+    }
+
+    /// Counts an error of the writer.
+    fn fail_by(&mut self, error: io::Error) -> Stop
+        ensures answer { result ≡ Stop.Failed }
+        ensures sink { self.new ≡ record self.old { faults = next_count self.old.faults } }
+        ensures counted { CountsStop result self.old.faults self.new.faults }
+    {
+        self.error = self.error.or(Some(error));
+        self.fail()
     }
 }
 
@@ -123,7 +153,7 @@ impl<W: Write> Sink for WriteSink<W> {
                 self.settled = self.settled && count == 0;
                 Ok(count)
             }
-            Err(_) => Err(self.fail()),
+            Err(error) => Err(self.fail_by(error)),
         }
     }
 
@@ -141,7 +171,7 @@ impl<W: Write> Sink for WriteSink<W> {
                 self.settled = true;
                 Ok(())
             }
-            Err(_) => Err(self.fail()),
+            Err(error) => Err(self.fail_by(error)),
         }
     }
 }

@@ -12,6 +12,7 @@ ghost use Rattle.grib_io.specs.Memory.{next_count, next_count_after};
 use crate::folder::{Folder, OpenedFile};
 use crate::outside::{Shelf, ShelfStop, Stop};
 use crate::system_folder::SystemFolder;
+use std::alloc::Global;
 use std::fs::OpenOptions;
 use std::io::{self, ErrorKind};
 use std::marker::Model;
@@ -24,6 +25,17 @@ use std::rt::Files;
 pub struct FileShelf<D> {
     folder: D,
     faults: u64,
+    /// Where names of files that fail are kept.
+    names: Option<Global>,
+    failure: Option<Failure>,
+}
+
+/// What failed first.
+#[derive(Debug, Drop)]
+struct Failure {
+    error: io::Error,
+    /// The name of the file, where names are kept and there is memory for it.
+    name: Option<String>,
 }
 
 impl<D> Model for FileShelf<D> {
@@ -48,31 +60,71 @@ impl<D: Folder> FileShelf<D> {
     pub fn over(folder: D) -> FileShelf<D>
         ensures { result ≡ record { folder = folder; faults = 0 } }
     {
-        FileShelf { folder, faults: 0 }
+        FileShelf {
+            folder,
+            faults: 0,
+            names: None,
+            failure: None,
+        }
     }
 
-    /// Counts a fault.
-    fn fail(&mut self) -> Stop
+    /// The shelf, which keeps the name of the file that fails first.
+    pub fn with_names(self, alloc: Global) -> FileShelf<D>
+        ensures { result ≡ self }
+    {
+        FileShelf {
+            names: Some(alloc),
+            ..self
+        }
+    }
+
+    /// The error that was the first fault, for its text.
+    pub fn error(&self) -> Option<io::Error> {
+        Some(self.failure.as_ref()?.error)
+    }
+
+    /// The name of the file that failed first, where names are kept.
+    pub fn failed_name(&self) -> Option<&str> {
+        Some(self.failure.as_ref()?.name.as_ref()?.as_str())
+    }
+
+    /// Keeps what failed first.
+    fn keep_failure(&mut self, name: &str, error: io::Error)
+        ensures { self.new ≡ self.old }
+    {
+        if self.failure.is_some() {
+            return;
+        }
+        let name = match self.names {
+            Some(alloc) => String::from_str(alloc, name).ok(),
+            None => None,
+        };
+        self.failure = Some(Failure { error, name });
+    }
+
+    /// Counts a fault of the file of this name.
+    fn fail(&mut self, name: &str, error: io::Error) -> Stop
         ensures answer { result ≡ Stop.Failed }
         ensures shelf { self.new ≡ record self.old { faults = next_count self.old.faults } }
         ensures counted { CountsStop result self.old.faults self.new.faults }
     {
+        self.keep_failure(name, error);
         self.faults = self.faults.saturating_add(1);
         Stop::Failed
     }
 
     /// Counts the fault of a read.
-    fn fail_to_read(&mut self) -> ShelfStop
+    fn fail_to_read(&mut self, name: &str, error: io::Error) -> ShelfStop
         ensures answer { result ≡ ShelfStop.Failed }
         ensures shelf { self.new ≡ record self.old { faults = next_count self.old.faults } }
         ensures counted { CountsShelfStop result self.old.faults self.new.faults }
     {
-        self.fail();
+        self.fail(name, error);
         ShelfStop::Failed
     }
 
     /// Why a file could not be opened to be read: its name is absent exactly where it is not found.
-    fn unopened(&mut self, error: io::Error) -> ShelfStop
+    fn unopened(&mut self, name: &str, error: io::Error) -> ShelfStop
         ensures absent { result ≡ ShelfStop.Absent ↔ error_kind error ≡ NotFound }
         ensures shelf { self.new ≡ record self.old { faults = next_count_after result self.old.faults } }
         ensures counted { CountsShelfStop result self.old.faults self.new.faults }
@@ -80,7 +132,7 @@ impl<D: Folder> FileShelf<D> {
         if error.kind() == ErrorKind::NotFound {
             return ShelfStop::Absent;
         }
-        self.fail_to_read()
+        self.fail_to_read(name, error)
     }
 }
 
@@ -99,11 +151,11 @@ impl<D: Folder> Shelf for FileShelf<D> {
     {
         let mut file = match self.folder.open(OpenOptions::new().read(true), name) {
             Ok(file) => file,
-            Err(error) => return Err(self.unopened(error)),
+            Err(error) => return Err(self.unopened(name, error)),
         };
         match file.read_at(offset, into) {
             Ok(count) => Ok(count),
-            Err(_) => Err(self.fail_to_read()),
+            Err(error) => Err(self.fail_to_read(name, error)),
         }
     }
 
@@ -121,7 +173,7 @@ impl<D: Folder> Shelf for FileShelf<D> {
         );
         match opened {
             Ok(_) => Ok(()),
-            Err(_) => Err(self.fail()),
+            Err(error) => Err(self.fail(name, error)),
         }
     }
 
@@ -137,14 +189,15 @@ impl<D: Folder> Shelf for FileShelf<D> {
         let opened = self
             .folder
             .open(OpenOptions::new().append(true).create(true), name);
-        let Ok(mut file) = opened else {
-            return Err(self.fail());
+        let mut file = match opened {
+            Ok(file) => file,
+            Err(error) => return Err(self.fail(name, error)),
         };
         let written = write_piece(&mut file, piece);
         self.folder.close(name, file);
         match written {
             Ok(()) => Ok(()),
-            Err(_) => Err(self.fail()),
+            Err(error) => Err(self.fail(name, error)),
         }
     }
 }

@@ -5,6 +5,9 @@ ghost use Rattle.std.specs.Prelude.{◌≡◌, ◌≢◌};
 ghost use Rattle.std.specs.IoError.{error_kind};
 ghost use Rattle.std.specs.declared.io.ErrorKind.TheVariants.{OutOfMemory};
 
+mod failures;
+
+use crate::failures::tell_failure;
 use grib_cli::run;
 use grib_engine::Outcome;
 use grib_io::{FileShelf, ReadSource, WriteSink};
@@ -29,7 +32,7 @@ fn main(rt: HostRuntime) -> ExitCode {
     };
     let mut output = WriteSink::new(&mut buffered);
     let mut notes = WriteSink::new(rt.stderr());
-    let mut shelf = FileShelf::new(&rt);
+    let mut shelf = FileShelf::new(&rt).with_names(rt.alloc());
     let outcome = run(
         rt.alloc(),
         words.as_slice(),
@@ -38,6 +41,9 @@ fn main(rt: HostRuntime) -> ExitCode {
         &mut notes,
         &mut shelf,
     );
+    tell_failure(&rt, "input", input.error());
+    tell_failure(&rt, "output", output.error());
+    tell_failure(&rt, shelf.failed_name().unwrap_or("file"), shelf.error());
     // Where the output failed, what still waits is let go: a drop of the buffer would try it once more.
     let (_stdout, _waiting) = buffered.into_parts();
     ExitCode::from(outcome.status())

@@ -6,3 +6,6 @@ pub mod Fields
 pub mod Sections
 pub mod Packings
 pub mod Masks
+pub mod Below
+pub mod Ends
+pub mod Marked

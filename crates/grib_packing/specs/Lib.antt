@@ -17,3 +17,4 @@ pub mod Laws
 pub mod Kept
 pub use Rattle.grib_bitmap.specs.Mask
 pub use Rattle.grib_base.specs.Faults
+pub mod Words

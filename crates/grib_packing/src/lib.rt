@@ -2,6 +2,7 @@
 //! definitions of what packed data mean, what each packing offers, and what all templates share of Section 5.
 #![tactic(auto)]
 
+mod codes;
 mod column;
 mod group;
 mod keeping;
@@ -12,6 +13,7 @@ mod span;
 mod writing;
 mod written;
 
+pub use codes::{Codes, is_number, word_of};
 pub use column::{Column, Point};
 pub use group::Group;
 pub use keeping::{Keeper, Nothing, Points};

@@ -4,3 +4,6 @@ pub mod Keying
 pub mod Dumping
 pub mod Valuing
 pub mod Summing
+pub mod Kept
+pub mod Laws
+pub mod Placed

@@ -4,7 +4,7 @@ use crate::points::append_text;
 use crate::printing::Printer;
 use grib_answers::write_whole;
 use grib_io::{Sink, Stop};
-use grib_key_lines::{keys_line, keys_line1};
+use grib_text::{keys_line, keys_line1};
 use grib1_sections::Message1;
 use grib2_message::Message;
 use std::alloc::Global;
@@ -14,7 +14,7 @@ use std::alloc::Global;
 pub struct Keying;
 
 impl Printer for Keying {
-    ghost use Rattle.grib_key_lines.specs.Lines.{keys_line, keys_line1};
+    ghost use Rattle.grib_text.specs.KeyLines.{keys_line, keys_line1};
 
     ghost first_text = { λ keying. keys_line1 };
 

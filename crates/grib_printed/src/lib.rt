@@ -4,11 +4,16 @@
 mod checking;
 mod dumping;
 mod fields;
+mod keeping;
 mod keying;
 mod listing;
+mod message;
+mod message1;
+mod placing;
 mod points;
 mod printing;
 mod references;
+mod scaling;
 mod summing;
 mod valuing;
 
@@ -16,6 +21,9 @@ pub use checking::Checking;
 pub use dumping::Dumping;
 pub use keying::Keying;
 pub use listing::Listing;
+pub use message1::message_sums1;
+pub use message::field_sums;
 pub use printing::{Printer, Printing};
+pub use scaling::{Scaling, field_scaling, message_scaling1};
 pub use summing::Summing;
 pub use valuing::Valuing;

@@ -12,7 +12,7 @@ use grib_answers::write_whole;
 use grib_decimal::Summary;
 use grib_dyadic::Dyadic;
 use grib_io::{Sink, Stop};
-use grib_sums::{Scaling, field_scaling, field_sums, message_scaling1, message_sums1};
+use crate::{Scaling, field_scaling, field_sums, message_scaling1, message_sums1};
 use grib_text::{reference_line, stats_line};
 use grib1_sections::Message1;
 use grib2_message::Message;

@@ -15,7 +15,7 @@ use grib_dyadic::Dyadic;
 use grib_io::{Sink, Stop};
 use grib_packing::Column;
 use grib_stream::{Cause, Place};
-use grib_sums::{field_scaling, message_scaling1};
+use crate::{field_scaling, message_scaling1};
 use grib_text::{list_line, list_line1, reference_line};
 use grib1_sections::Message1;
 use grib2_message::Message;

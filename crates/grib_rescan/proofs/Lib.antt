@@ -10,3 +10,10 @@ mod Octets
 pub mod Kept
 pub mod Accepted
 pub mod Uncaused
+mod Grids
+mod FieldPoints
+mod Fields
+mod Packs
+mod Numbered
+mod Edits
+mod KeptOfMessages

@@ -7,7 +7,7 @@ ghost use Rattle.grib_split.specs.Bound.{NoneTakesFewer};
 ghost use Rattle.grib_split.specs.Costs.{CanSplit, header_of};
 
 use crate::choosing::Costs;
-use grib_codes::{Codes, is_number};
+use grib_packing::{Codes, is_number};
 use grib_packing::Span;
 
 /// How many codes are looked at by themselves.

@@ -4,7 +4,7 @@ ghost use Rattle.std.specs.Prelude.{◌≡◌, ◌<◌, ◌≤◌, vec_len, IfOk
 ghost use Rattle.grib_packing.specs.Span.{IsBelow};
 
 use grib_base::Code;
-use grib_codes::{Codes, word_of};
+use grib_packing::{Codes, word_of};
 use grib_split::{Costs, chosen_lengths, fewest_lengths};
 use std::alloc::{AllocError, Global};
 use std::test::Fail;

@@ -4,3 +4,5 @@ pub mod Notes
 pub mod Lines1
 pub mod Stats
 pub mod Values
+pub mod KeyLines
+pub mod Names1

@@ -1,6 +1,6 @@
 use Rattle.std.proofs.Common.{◌≡◌, ◌-◌, ◌+◌, ℕ, arith, subst, ◌∙◌, ◌≤◌, Some, None}
 use Rattle.grib_packing.specs.Misfits.{OutOfRange, is_scaled_outside, misfit_at, greatest_code, management_of}
-use Rattle.grib_codes.specs.Words.{codes_of}
+use Rattle.grib_packing.specs.Words.{codes_of}
 use Rattle.grib_complex.proofs.CodeByCode.{code_more, inside_more, outside_here, codes_whole, none_outside, management-few}
 use Rattle.grib_complex.proofs.Worded.{below_of, told_here, word_more}
 use Rattle.grib_complex.proofs.coding.plain_codes.Goals as goal

@@ -1,6 +1,6 @@
 use Rattle.std.proofs.Common.{◌≡◌, ◌++◌, drop}
 use Rattle.grib_base.specs.Rows.{first_place}
-use Rattle.grib_codes.specs.Words.{codes_of}
+use Rattle.grib_packing.specs.Words.{codes_of}
 use Rattle.grib_packing.specs.Misfits.{ToComplex, is_scaled_outside}
 use Rattle.grib_packing.specs.Packed.{target_codes}
 use Rattle.grib_simple.specs.Survey.{place_after}

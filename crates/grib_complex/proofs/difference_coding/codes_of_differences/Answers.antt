@@ -2,7 +2,7 @@ use Rattle.std.proofs.Common.{◌≡◌, ℕ, ◌-◌, ◌<◌, ◌≤◌, nat_a
 use Rattle.std.proofs.lemmas.Int.{ints}
 use Rattle.std.specs.List.{list_any}
 use Rattle.grib_base.specs.declared.code.Code.TheVariants.{Primary, Secondary}
-use Rattle.grib_codes.specs.Words.{codes_of}
+use Rattle.grib_packing.specs.Words.{codes_of}
 use Rattle.grib_packing.specs.declared.column.Point.TheVariants.{Missing, Missing2}
 use Rattle.grib_packing.specs.Differences.{difference_codes}
 use Rattle.grib_packing.specs.Misfits.{greatest_code, is_missing, is_missing2, scaled_numbers}

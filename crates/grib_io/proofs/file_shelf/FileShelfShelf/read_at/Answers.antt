@@ -1,4 +1,4 @@
-use Rattle.std.proofs.Common.{◌≡◌, true, ap, ◌∙◌, subst}
+use Rattle.std.proofs.Common.{◌≡◌, true, ap, sym, ◌∙◌, subst}
 use Rattle.std.specs.Fs.{with_read}
 use Rattle.grib_io.specs.Shelves.{Stays}
 use Rattle.grib_io.proofs.Folders.{read_stays}
@@ -20,8 +20,8 @@ returns-in-Ok-read_at-clause-kept g c =
 
 pub returns-clause-kept : goal.returns-clause-kept
 returns-clause-kept g c =
-    let before : c.self.inside.folder ≡ c.args.self.now.folder = cc in
-    let after : c.open.new.self ≡ c.fail_to_read.new.self.folder = cc in
+    let before : c.self.inside.folder ≡ c.args.self.now.folder = ap (λ shelf. shelf.folder) c.self.view_is in
+    let after : c.open.new.self ≡ c.fail_to_read.new.self.folder = sym (ap (λ shelf. shelf.folder) c.fail_to_read.ensures.shelf) in
     subst (λ folder. Stays (g.D.Folder.held c.args.self.now.folder) (g.D.Folder.held folder)) after
     (subst (λ folder. Stays (g.D.Folder.held folder) (g.D.Folder.held c.open.new.self)) before
     (read_stays _ _ (c.read.ensures.value ∙ ap (λ how. with_read how true) c.new.ensures) _ _ _ _ c.open.ensures))
