@@ -18,14 +18,6 @@ list_of_front m n first last low order within =
     ap (λ k. take (last + 1 - first) (drop (first - 1) (take k m))) split
     ∙ (ap (take (last + 1 - first)) (drop-take (first - 1) (n - (first - 1)) m) ∙ take-take (last + 1 - first) (n - (first - 1)) (drop (first - 1) m) fits)
 
--- a front of n octets, and the whole
-pub agree_whole : (m : List ℕ) (n : ℕ) → n ≤ length m → Agree n (take n m) m
-agree_whole m n within = record {
-  long_u = omega (arith, length-take-le n m within);
-  long_w = within;
-  lists = λ first last low order inside. sym (list_of_front m n first last low order inside);
-}
-
 pub agree_front : (m : List ℕ) (n : ℕ) → n ≤ length m → Agree n m (take n m)
 agree_front m n within = record {
   long_u = within;
@@ -41,14 +33,6 @@ agree_more u more = record {
   lists = λ first last low order within.
       sym (list_of_front (u ++ more) (length u) first last low order within)
       ∙ ap (λ xs. octet_list xs first last) (take_at u more (length u) refl);
-}
-
--- fewer agree too
-pub agree_fewer : (n k : ℕ) (u w : List ℕ) → Agree n u w → k ≤ n → Agree k u w
-agree_fewer n k u w h fewer = record {
-  long_u = omega (arith, h.long_u);
-  long_w = omega (arith, h.long_w);
-  lists = λ first last low order within. h.lists first last low order (omega arith);
 }
 
 pub same_octets : (n : ℕ) (u w : List ℕ) (first last : ℕ) → Agree n u w → 1 ≤ first → first ≤ last → last ≤ n → octets w first last ≡ octets u first last

@@ -76,13 +76,6 @@ passed_on P (Err e) verdict found read h says is =
 
 -- ---- the first refusal of a message
 
-module _ (m : List ℕ) (head : first_fault (head_rows m) ≡ None) where
-  pub refused_first : (fault : Fault) → section_fault m 9 28 identification_rows ≡ Some fault → verdict_1 m ≡ verdicts.Refused fault
-  refused_first fault e =
-      some_refused (message_fault m) (total_length_1 m) fault
-      (some_later (first_fault (head_rows m)) (from_first m) fault head
-      (some_first (section_fault m 9 28 identification_rows) (from_grid m) fault e))
-
 module _ (m : List ℕ) (head : first_fault (head_rows m) ≡ None) (first : section_fault m 9 28 identification_rows ≡ None) where
   pub refused_grid : (fault : Fault) → section_fault m (grid_start m) 6 grid_rows ≡ Some fault → verdict_1 m ≡ verdicts.Refused fault
   refused_grid fault e =

@@ -20,6 +20,7 @@ use Rattle.grib1_sections.specs.Acceptance.{message_fault, verdict_1, has_bitmap
 use Rattle.grib1_sections.specs.Grammar.{Sections, IsSection, IsBitmap, joined_sections, Grammar1}
 use Rattle.grib1_sections.specs.Message.{IsMessage1, SectionsPass}
 use Rattle.grib_base.proofs.Passing.{passes_from_none}
+use Rattle.grib_base.specs.declared.limits.TheConstants.{MOST_POINTS}
 use Rattle.grib1_sections.proofs.Rows.{none_accepted}
 use Rattle.grib1_sections.proofs.Places.{grid_start-is, bitmap_start-is, data_start-flagged, data_start-plain, end_start-is, bitmap-flagged, bitmap-plain}
 use Rattle.grib1_sections.proofs.Parts.{Whole, Parts, parts_inside, none_from_parts}
@@ -105,12 +106,12 @@ some_from zero e = cc
 some_from (suc n) e = omega arith
 
 -- the number of points passes its row
-pub points_within : (m : List ℕ) → IsMessage1 m → (1 ≤ points_of m) × (points_of m ≤ 33554432)
+pub points_within : (m : List ℕ) → IsMessage1 m → (1 ≤ points_of m) × (points_of m ≤ MOST_POINTS)
 points_within m h =
     let s = (message_sections_pass m h).grid_stands in
     let p = passes_from_none (grid_rows (grid m)) s.rows_hold in
-    let both = or_parts (points_of m == 0) (nat_lt 33554432 (points_of m)) p.1.1.1.1.1.1.0 in
-    (some_from (points_of m) both.0, ltb-false 33554432 (points_of m) both.1)
+    let both = or_parts (points_of m == 0) (nat_lt MOST_POINTS (points_of m)) p.1.1.1.1.1.1.0 in
+    (some_from (points_of m) both.0, ltb-false MOST_POINTS (points_of m) both.1)
 
 -- ---- what is accepted is in the grammar
 

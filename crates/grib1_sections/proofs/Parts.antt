@@ -13,6 +13,7 @@ use Rattle.grib1_sections.specs.Bitmap.{bitmap_rows}
 use Rattle.grib1_sections.specs.Data.{data_rows}
 use Rattle.grib1_sections.specs.Acceptance.{or_else, section_fault, bitmap_fault, sections_fault, message_fault, has_bitmap, grid_start, bitmap_start, data_start, end_start, points_of, values_of}
 use Rattle.grib_base.proofs.Passing.{passes_from_none, none_from_passes, second_fails, none-located, located-none}
+use Rattle.grib_base.specs.declared.limits.TheConstants.{MOST_OCTETS}
 use Rattle.grib1_sections.proofs.Rows.{or_none, none_or}
 use Rattle.grib1_sections.proofs.Agreeing.{Inside}
 use Rattle.grib1_sections.proofs.Places.{BitmapInside, grid_start-is, bitmap_start-is, data_start-flagged, data_start-plain, end_start-is}
@@ -116,7 +117,7 @@ head_none m first long least =
         (
           and_left (edition m == 2) (nat_lt (length m) 16) not_second,
           (
-            and_left (edition m == 2) (nat_lt (total_length m) 20 || nat_lt 268435456 (total_length m)) not_second,
+            and_left (edition m == 2) (nat_lt (total_length m) 20 || nat_lt MOST_OCTETS (total_length m)) not_second,
             (and_right (edition m == 1) (nat_lt (total_length_1 m) 12) (le-ltb (total_length_1 m) 12 least), tt),
           ),
         ),

@@ -14,6 +14,7 @@ use Rattle.grib1_sections.specs.Bitmap.{bitmap_rows}
 use Rattle.grib1_sections.specs.Data.{data_rows}
 use Rattle.grib1_sections.specs.Acceptance.{or_else, section_fault, bitmap_fault, sections_fault, message_fault, verdict_1, has_bitmap, grid_start, bitmap_start, data_start, end_start, points_of, values_of}
 use Rattle.grib_base.proofs.Passing.{passes_from_none}
+use Rattle.grib_base.specs.declared.limits.TheConstants.{MOST_OCTETS}
 use Rattle.grib1_sections.proofs.Rows.{or_none, accepted_none, none_accepted, refused_some, some_refused}
 use Rattle.grib1_sections.proofs.Agreeing.{Agree, Inside, agree_more, same_octets, same_section}
 use Rattle.grib1_sections.proofs.Places.{GridInside, BitmapInside, same_flag, same_grid_start, same_bitmap_start, same_points, same_data_start, same_values, same_end_start, grid_start-is, bitmap_start-is, data_start-flagged, data_start-plain, end_start-is}
@@ -197,8 +198,8 @@ head_kept n u w size h first =
       kept_row (not (edition u == 1) && not (edition u == 2)) (not (edition w == 1) && not (edition w == 2)) _ _ _ _
           (ap (λ k. not (k == 1) && not (k == 2)) e) (ap (λ k. refusal 8 Edition k) e) (λ pass_2.
           passed_row (edition u == 2 && nat_lt (length u) 16) (edition w == 2 && nat_lt (length w) 16) _ _ _ _ (is_off (edition u) _ first) (is_off (edition w) _ first_w)
-          (passed_row (edition u == 2 && (nat_lt (total_length u) 20 || nat_lt 268435456 (total_length u)))
-          (edition w == 2 && (nat_lt (total_length w) 20 || nat_lt 268435456 (total_length w))) _ _ _ _ (is_off (edition u) _ first) (is_off (edition w) _ first_w)
+          (passed_row (edition u == 2 && (nat_lt (total_length u) 20 || nat_lt MOST_OCTETS (total_length u)))
+          (edition w == 2 && (nat_lt (total_length w) 20 || nat_lt MOST_OCTETS (total_length w))) _ _ _ _ (is_off (edition u) _ first) (is_off (edition w) _ first_w)
           (inr (ap (λ k. first_fault (row (k == 1 && nat_lt (total_length_1 w) 12) 5 TotalLength (total_length_1 w) ∷ [])) e
           ∙ ap (λ k. first_fault (row (edition u == 1 && nat_lt k 12) 5 TotalLength k ∷ [])) t)))),
     ))

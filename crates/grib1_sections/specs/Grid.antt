@@ -5,7 +5,7 @@ use Rattle.std.specs.List.{list_any}
 use Rattle.grib_bits.specs.Octets.{octets}
 use Rattle.grib_bits.specs.Listed.{numbers_at}
 use Rattle.grib_base.specs.declared.fault.Reason.TheVariants.{SectionLength, GridType, PointCount, ListShape}
-use Rattle.grib_base.specs.Limits.{most_points}
+use Rattle.grib_base.specs.declared.limits.TheConstants.{MOST_POINTS}
 use Rattle.grib_base.specs.Rows.{Row, row}
 use Rattle.grib2_sections.specs.Template.{Template, template, is_template, least_length}
 
@@ -72,5 +72,5 @@ grid_rows s =
     ∷ row (lists_rows s && is_regular t) 7 ListShape 65535  -- B2.4
     ∷ row (lists_rows s && (place == 255)) 5 ListShape 255  -- B2.5
     ∷ row (has_list s && (not (nat_lt least place) || nat_lt l (lists_end s))) 5 ListShape place  -- B2.6
-    ∷ row (points == 0 || nat_lt most_points points) 7 PointCount points  -- B2.7
+    ∷ row (points == 0 || nat_lt MOST_POINTS points) 7 PointCount points  -- B2.7
     ∷ []

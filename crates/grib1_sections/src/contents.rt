@@ -1,7 +1,6 @@
 //! What a message tells: its column, the numbers of Section 1 and the lists of Section 2.
 
 ghost use Rattle.std.specs.Prelude.{◌≡◌, ◌≢◌, ◌<◌, ◌≤◌, ◌^◌, length, Some, IfOk};
-ghost use Rattle.grib_base.specs.Limits.{most_points};
 ghost use Rattle.grib1_sections.specs.Acceptance.{grid, data_section};
 ghost use Rattle.grib1_sections.specs.Grid.{grid_type, row_list};
 ghost use Rattle.grib1_sections.specs.Data.{bit_width};
@@ -14,6 +13,7 @@ use crate::column::read_column;
 use crate::key::{Key1, number_of};
 use crate::lists::{read_coordinates, read_rows};
 use crate::message::Message1;
+use grib_base::MOST_POINTS;
 use grib_bits::u8_at;
 use grib_packing::Column;
 use std::alloc::{AllocError, Global};
@@ -28,7 +28,7 @@ impl<'a> Message1<'a> {
     pub fn column1(&self, alloc: Global) -> Result<Column, AllocError>
         ensures column { IfOk result (λ column. column ≡ column1_of self.now) }
         ensures some { IfOk result (λ column. 1 ≤ length column.points) }
-        ensures few { IfOk result (λ column. length column.points ≤ most_points) }
+        ensures few { IfOk result (λ column. length column.points ≤ MOST_POINTS) }
     {
         read_column(
             alloc,
@@ -78,7 +78,8 @@ impl<'a> Message1<'a> {
     ///
     /// There is no memory for the words.
     pub fn coordinates1(&self, alloc: Global) -> Result<Vec<u32>, AllocError>
-        ensures { IfOk result (λ words. words.items ≡ coordinate_list (grid self.now)) }
+        ensures words { IfOk result (λ words. words.items ≡ coordinate_list (grid self.now)) }
+        ensures few { IfOk result (λ words. length words.items ≤ 255) }
     {
         read_coordinates(alloc, present_section(self, 2))
     }

@@ -17,7 +17,8 @@ const ROWS_DIFFER: u16 = 65535;
 /// The words of the vertical coordinates of this Section 2.
 pub(crate) fn read_coordinates(alloc: Global, section2: &[u8]) -> Result<Vec<u32>, AllocError>
     requires { HoldsLists section2.now }
-    ensures { IfOk result (λ words. words.items ≡ coordinate_list section2.now) }
+    ensures words { IfOk result (λ words. words.items ≡ coordinate_list section2.now) }
+    ensures few { IfOk result (λ words. length words.items ≤ 255) }
 {
     let count = usize::from(coordinate_count(section2));
     if count == 0 {

@@ -1,11 +1,11 @@
 //! A message that was read.
 
 ghost use Rattle.std.specs.Prelude.{◌≡◌, ◌≤◌, length, None, Some, MatchOption, option_copied};
-ghost use Rattle.grib_base.specs.Limits.{most_points};
 ghost use Rattle.grib1_sections.specs.Acceptance.{points_of, values_of};
 ghost use Rattle.grib1_sections.specs.Message.{IsMessage1, SectionsPass, section_of};
 ghost use Rattle.grib1_sections.specs.Known.{HasSections};
 
+use grib_base::MOST_POINTS;
 use std::marker::Model;
 
 /// A message of edition 1 that is accepted (WMO-No. 306, Volume I.2, FM 92 GRIB edition 1, in the profile
@@ -81,7 +81,7 @@ impl<'a> Message1<'a> {
     pub fn points(&self) -> u32
         ensures points { result ≡ points_of self.now }
         ensures some { 1 ≤ result }
-        ensures few { result ≤ most_points }
+        ensures few { result ≤ MOST_POINTS }
     {
         self.points
     }

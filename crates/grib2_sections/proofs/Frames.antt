@@ -105,12 +105,6 @@ module _ (m : List ℕ) (at : Position) where
 
 -- ---- the section
 
--- the octets of the section
-pub section_is : (m : List ℕ) (q l : ℕ) → 1 ≤ q → octets m q (q + 3) ≡ l → take l (drop (q - 1) m) ≡ section_at m q
-section_is m q l low states =
-    let e : l ≡ (q - 1 + octets m q (q + 3)) + 1 - q = omega arith in
-    ap (λ k. take k (drop (q - 1) m)) e
-
 -- it has the length and the number that stand at its place
 pub states_itself : (m : List ℕ) (q l number : ℕ) → 1 ≤ q → octets m q (q + 3) ≡ l → octets m (q + 4) (q + 4) ≡ number
     → 5 ≤ l → q - 1 + l ≤ length m → StatesItself number (take l (drop (q - 1) m))

@@ -5,6 +5,7 @@ use Rattle.std.specs.Prelude.{ℕ, ◌+◌, not, cond, ◌&&◌, ◌||◌, List,
 use Rattle.grib_bits.specs.Octets.{octets}
 use Rattle.grib_base.specs.declared.fault.Reason.TheVariants.{Truncated, Edition, TotalLength}
 use Rattle.grib_base.specs.Rows.{Row, row}
+use Rattle.grib_base.specs.declared.limits.TheConstants.{MOST_OCTETS}
 use Rattle.grib2_sections.specs.declared.indicator.Head.{Head}
 
 -- the octets `GRIB` and `7777`
@@ -37,7 +38,7 @@ head_rows message =
     row (nat_lt k 8) (k + 1) Truncated k  -- H1
     ∷ row (not (e == 1) && not (e == 2)) 8 Edition e  -- H2
     ∷ row (e == 2 && nat_lt k 16) (k + 1) Truncated k  -- H3
-    ∷ row (e == 2 && (nat_lt total 20 || nat_lt 268435456 total)) 9 TotalLength total  -- H4
+    ∷ row (e == 2 && (nat_lt total 20 || nat_lt MOST_OCTETS total)) 9 TotalLength total  -- H4
     ∷ row (e == 1 && nat_lt total_1 12) 5 TotalLength total_1  -- H5
     ∷ []
 

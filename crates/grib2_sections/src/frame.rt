@@ -5,7 +5,7 @@ ghost use Rattle.grib_bits.specs.Octets.{StatesItself};
 ghost use Rattle.grib2_sections.specs.Frame.{End, Fails, Next, step_from, position_after, mark_fault, frame_fault, end_fault, opening_fault, ends_at, section_at, may_follow as is_successor};
 
 use crate::refusing::truncated;
-use grib_base::{Fault, Reason, Section};
+use grib_base::{Fault, MOST_OCTETS, Reason, Section};
 use grib_bits::{u8_at, u32_at};
 use std::marker::Model;
 
@@ -22,13 +22,14 @@ pub struct Frame {
 // Four octets are always left.
 impl Model for Frame {
     ghost use Rattle.std.specs.Prelude.{◌+◌, ◌≤◌};
+    ghost use Rattle.grib_base.specs.declared.limits.TheConstants.{MOST_OCTETS};
     ghost use Rattle.grib2_sections.specs.Frame.{Position};
 
     ghost Value = { Position };
 
     ghost view = { λ frame. record { total = frame.total; place = frame.place; last = frame.last } };
 
-    ghost invariant = { λ frame. (frame.total ≤ 268435456) × (17 ≤ frame.place)
+    ghost invariant = { λ frame. (frame.total ≤ MOST_OCTETS) × (17 ≤ frame.place)
         × (frame.place + 3 ≤ frame.total) × (frame.last ≤ 7) };
 }
 
@@ -39,7 +40,7 @@ impl Frame {
     /// The walk that has passed Section 0 of a message of `total` octets.
     pub fn new(total: u64) -> Frame
         requires shortest { 20 ≤ total }
-        requires longest { total ≤ 268435456 }
+        requires longest { total ≤ MOST_OCTETS }
         ensures { result ≡ record { total = total; place = 17; last = 0 } }
     {
         Frame {

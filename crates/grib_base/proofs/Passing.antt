@@ -72,10 +72,6 @@ module _ (start : ℕ) (first second third : List Row) (passed : first_fault fir
   second_failed f h =
       ap (located start) (first_passed first (second ++ third) passed) ∙ first_failed start second third f h
 
-  pub third_decides : first_fault second ≡ None → first_fault_at start (first ++ (second ++ third)) ≡ first_fault_at start third
-  third_decides second_passed =
-      ap (located start) (first_passed first (second ++ third) passed ∙ first_passed second third second_passed)
-
 -- ---- what `?` carries on
 
 -- an error

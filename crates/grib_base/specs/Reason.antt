@@ -1,5 +1,7 @@
--- The numbers and the names of the reasons for which a message is refused.
-use Rattle.std.specs.Prelude.{ℕ, List, codes}
+-- The numbers and the names of the reasons for which a message is refused, and the text of a refusal.
+use Rattle.std.specs.Prelude.{ℕ, List, ◌++◌, codes}
+use Rattle.std.specs.Fmt.{decimal}
+use Rattle.grib_base.specs.declared.fault.Fault.{Fault}
 use Rattle.grib_base.specs.declared.fault.Reason.{Reason}
 use Rattle.grib_base.specs.declared.fault.Reason.TheVariants.{Truncated, Edition, TotalLength, SectionLength, SectionOrder, GridSource, GridTemplate, PointCount, ListShape, ProductTemplate, PackingTemplate, Jpeg2000, PngPacked, Ccsds, ReferenceNotFinite, BitmapIndicator, NoEarlierBitmap, BitmapSize, ValueCount, MissingManagement, GroupCount, GroupWidth, GroupShape, DifferenceOrder, ExtraOctets, FirstValueSign, DataTooShort, ScaledRange, EndMark, LengthDisagrees, BitWidth, FieldCount, NoGridSection, GridType, SecondOrder, Harmonics, ExtraFlags}
 
@@ -80,3 +82,7 @@ name_of GridType = codes "GridType"
 name_of SecondOrder = codes "SecondOrder"
 name_of Harmonics = codes "Harmonics"
 name_of ExtraFlags = codes "ExtraFlags"
+
+-- the octet that decides a refusal, the reason and its detail
+abbrev pub fault_text : Fault → List ℕ
+fault_text fault = codes "octet " ++ decimal fault.octet ++ codes " " ++ name_of fault.reason ++ codes " " ++ decimal fault.detail

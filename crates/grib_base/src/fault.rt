@@ -1,12 +1,13 @@
 //! Why a message is refused, and where.
 
 ghost use Rattle.std.specs.Prelude.{◌≡◌, Some};
-ghost use Rattle.grib_base.specs.Reason.{number_of, name_of};
+ghost use Rattle.grib_base.specs.Reason.{number_of, name_of, fault_text};
 ghost use Rattle.grib_base.specs.Rows.{refusal};
 ghost use Rattle.grib_base.specs.declared.fault.ReadFault.TheVariants.{Refused, Memory};
 
 use std::alloc::AllocError;
 use std::fmt;
+use thiserror::Error;
 
 /// Why a message is refused. The profile of the format names for each reason where it comes.
 #[derive(Clone, Copy, Debug, PartialEq, Eq)]
@@ -134,6 +135,19 @@ impl Fault {
     }
 }
 
+impl fmt::Display for Fault {
+    ghost output = { λ fault. Some (fault_text fault) };
+
+    fn fmt<W: fmt::Write>(&self, f: &mut fmt::Formatter<W>) -> fmt::Result {
+        let octet = self.octet;
+        let reason = self.reason;
+        let detail = self.detail;
+        write!(f, "octet {octet} {reason} {detail}")
+    }
+}
+
+impl std::error::Error for Fault {}
+
 /// The refusal of a message of an input. Messages count from 1.
 #[derive(Clone, Copy, Debug, PartialEq, Eq)]
 pub struct Refusal {
@@ -142,11 +156,13 @@ pub struct Refusal {
 }
 
 /// Why something was not read: it is refused, or there is no memory for what was read.
-#[derive(Clone, Copy, Debug, PartialEq, Eq)]
+#[derive(Clone, Copy, Debug, PartialEq, Eq, Error)]
 pub enum ReadFault {
     /// A row of the profile fails.
+    #[error("{0}")]
     Refused(Fault),
     /// There is no memory.
+    #[error("out of memory")]
     Memory,
 }
 

@@ -3,6 +3,7 @@
 ghost use Rattle.std.specs.Prelude.{◌≡◌, ◌^◌, ◌≤◌};
 ghost use Rattle.grib_bits.specs.Octets.{StatesItself};
 ghost use Rattle.grib_base.specs.Rows as rows;
+ghost use Rattle.grib_base.specs.declared.limits.TheConstants.{MOST_OCTETS};
 
 use crate::fault::{Fault, Reason};
 
@@ -19,7 +20,7 @@ pub struct Section<'a> {
     pub octets: &'a [u8],
     pub ghost itself: { StatesItself number octets.now },
     pub ghost low: { 1 ≤ start },
-    pub ghost high: { start ≤ 268435456 },
+    pub ghost high: { start ≤ MOST_OCTETS },
 }
 
 impl Section<'_> {

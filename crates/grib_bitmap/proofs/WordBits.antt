@@ -137,10 +137,6 @@ present_count-word word h = present_count-word_at 64 word refl h
 
 -- ---- complements and leading zeros
 
-digit-not : (b : Bool) → digit (not b) + digit b ≡ 1
-digit-not true = refl
-digit-not false = refl
-
 num-not : (xs : List Bool) → num (map not xs) + num xs + 1 ≡ 2 ^ length xs
 num-not [] = refl
 num-not (x ∷ xs) =

@@ -73,10 +73,6 @@ pub some_known : (o : Option ℕ) (n : ℕ) → 0 < n → SomeIff o (n < 2 ^ 126
 some_known None n some is = tt
 some_known (Some k) n some is = rw is.1 some
 
-pub small_known : (o : Option ℕ) (n : ℕ) → SomeIff o (n < 2 ^ 126) n → IfSome o (λ k. k < 2 ^ 126)
-small_known None n is = tt
-small_known (Some k) n is = rw is.1 is.0
-
 pub power_some : (a b : ℕ) → 0 < 2 ^ a * 10 ^ b
 power_some a b = mul-pos (pow_pos a) (one-le-pow b 10 (omega arith))
 

@@ -9,6 +9,7 @@ use Rattle.std.proofs.lemmas.Int.{ints, fold-int_min_bounds, fold-int_min_reache
 use Rattle.std.proofs.lemmas.List.{length-take}
 use Rattle.std.proofs.lemmas.List.Elements.{All-cons, All-contains}
 use Rattle.std.proofs.lemmas.List.Sums.{count_by_more_yes, count_by_more_no, count_by-le-length, sum_by-cons}
+use Rattle.grib_base.specs.declared.limits.TheConstants.{MOST_POINTS}
 use Rattle.grib_packing.specs.declared.column.Point.{Point}
 use Rattle.grib_packing.specs.declared.column.Point.TheVariants.{Scaled, Missing, Missing2}
 use Rattle.grib_packing.specs.Misfits.{is_missing, is_missing2, scaled_numbers}
@@ -137,7 +138,7 @@ counted (Missing ∷ points) =
 counted (Missing2 ∷ points) =
     omega (arith, counted points, count_first is_present Missing2 points, count_first is_missing Missing2 points, count_first is_missing2 Missing2 points)
 
-pub all_summed : (points : List Point) (s : Tally) (present : ℕ) (extremes : Option Extremes) → length points ≤ 33554432
+pub all_summed : (points : List Point) (s : Tally) (present : ℕ) (extremes : Option Extremes) → length points ≤ MOST_POINTS
     → present ≡ ((s.count + (2 ^ 32 - s.missing)) % 2 ^ 32 + (2 ^ 32 - s.missing2)) % 2 ^ 32 → AreExtremesSoFar points (length points) extremes → IsTally points (length points) s
     → SumUp points (record { present = present; missing = s.missing; missing2 = s.missing2; extremes = extremes })
 all_summed points s present extremes few is are tally =
@@ -176,7 +177,7 @@ no_number points n q here other x e = other x (sym here ∙ e)
 few : (test : Point → Bool) (points : List Point) (n : ℕ) → count_by test (take n points) ≤ n
 few test points n = omega (arith, count_by-le-length test (take n points), length-take n points)
 
-pub one_missing : (points : List Point) (n : ℕ) (s : Tally) (count missing : ℕ) → length points ≤ 33554432 → n < length points → get_or points n Missing ≡ Missing → count ≡ n + 1
+pub one_missing : (points : List Point) (n : ℕ) (s : Tally) (count missing : ℕ) → length points ≤ MOST_POINTS → n < length points → get_or points n Missing ≡ Missing → count ≡ n + 1
     → missing ≡ (s.missing + 1) % 2 ^ 32 → IsTally points n s
     → IsTally points (n + 1) (record { count = count; missing = missing; missing2 = s.missing2; least = s.least; greatest = s.greatest })
 one_missing points n s count missing short within here is is_missing' old =
@@ -190,7 +191,7 @@ one_missing points n s count missing short within here is is_missing' old =
       greatest_is = number_past _ _ points n s.greatest.number s.greatest.place none old.greatest_is;
     }
 
-pub one_missing2 : (points : List Point) (n : ℕ) (s : Tally) (count missing2 : ℕ) → length points ≤ 33554432 → n < length points → get_or points n Missing ≡ Missing2 → count ≡ n + 1
+pub one_missing2 : (points : List Point) (n : ℕ) (s : Tally) (count missing2 : ℕ) → length points ≤ MOST_POINTS → n < length points → get_or points n Missing ≡ Missing2 → count ≡ n + 1
     → missing2 ≡ (s.missing2 + 1) % 2 ^ 32 → IsTally points n s
     → IsTally points (n + 1) (record { count = count; missing = s.missing; missing2 = missing2; least = s.least; greatest = s.greatest })
 one_missing2 points n s count missing2 short within here is is_missing2' old =

@@ -7,12 +7,13 @@ ghost use Rattle.grib_decimal.specs.Bounds.{HasNoNumber, AreExtremes, AreExtreme
 
 use crate::extreme::Extremes;
 use crate::summing::summary;
+use grib_base::MOST_POINTS;
 use grib_packing::Column;
 
 /// The least and the greatest scaled number of the field, and so of its values, which rise with the scaled numbers.
 /// There are none where each point is missing. It takes no memory.
 pub fn extremes(column: &Column) -> Option<Extremes>
-    requires { length column.now.points ≤ 33554432 }
+    requires { length column.now.points ≤ MOST_POINTS }
     ensures none { IfNone result (HasNoNumber column.now.points (length column.now.points)) }
     ensures some { IfSome result (λ m. AreExtremes column.now.points (length column.now.points) m) }
     ensures values { IfSome result (λ m. BoundAllValues column.now.points m) }

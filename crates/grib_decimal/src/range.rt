@@ -8,6 +8,7 @@ ghost use Rattle.grib_decimal.specs.Range as definitions;
 
 use crate::bounds::extremes;
 use crate::scale::DecimalScale;
+use grib_base::MOST_POINTS;
 use grib_packing::{Column, Point};
 
 /// The greatest magnitude of a scaled number of an accepted field.
@@ -26,7 +27,7 @@ impl DecimalScale {
     /// The place, from 1, of the first point of the field whose value is too large for a text. The least and the
     /// greatest scaled number tell whether there is one. It takes no memory.
     pub fn first_too_large(&self, column: &Column) -> Option<u32>
-        requires few { length column.now.points ≤ 33554432 }
+        requires few { length column.now.points ≤ MOST_POINTS }
         ensures { result ≡ definitions.first_too_large self.now column.now.points }
     {
         let bounds = extremes(column)?;
@@ -39,7 +40,7 @@ impl DecimalScale {
 
     /// The place, from 1, of the first of some points whose value is too large for a text.
     fn first_among(&self, points: &[Point]) -> Option<u32>
-        requires few { length points.now ≤ 33554432 }
+        requires few { length points.now ≤ MOST_POINTS }
         ensures { result ≡ definitions.first_too_large self.now points.now }
     {
         for index in 0..points.len() {

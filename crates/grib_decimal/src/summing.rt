@@ -6,11 +6,12 @@ ghost use Rattle.grib_decimal.specs.Summary.{summary_of};
 
 use crate::extreme::Summary;
 use crate::tally::Tally;
+use grib_base::MOST_POINTS;
 use grib_packing::Column;
 
 /// What is summed up of the points of a field. It takes no memory.
 pub fn summary(column: &Column) -> Summary
-    requires { length column.now.points ≤ 33554432 }
+    requires { length column.now.points ≤ MOST_POINTS }
     ensures summary { result ≡ summary_of column.now.points }
     ensures extremes { AreExtremesSoFar column.now.points (length column.now.points) result.extremes }
 {

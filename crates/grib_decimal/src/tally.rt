@@ -7,6 +7,7 @@ ghost use Rattle.grib_decimal.specs.Summary.{IsTally, SumUp};
 
 use crate::bounds::{Greatest, Least, extremes_between};
 use crate::extreme::Summary;
+use grib_base::MOST_POINTS;
 use grib_packing::Point;
 
 /// What is summed up of points that come one after another, as the entries of a field that is unpacked.
@@ -37,7 +38,7 @@ impl Tally {
     /// The tally with the next point.
     #[inline(always)]
     pub fn with(self, point: Point) -> Tally
-        ensures { (points : List point_packing) (n : ℕ) → length points ≤ 33554432 → n < length points
+        ensures { (points : List point_packing) (n : ℕ) → length points ≤ MOST_POINTS → n < length points
             → get_or points n Missing ≡ point → IsTally points n self → IsTally points (n + 1) result }
     {
         let count = self.count.wrapping_add(1);
@@ -63,7 +64,7 @@ impl Tally {
 
     /// The summary, once all points came.
     pub fn summary(self) -> Summary
-        ensures { (points : List point_packing) → length points ≤ 33554432 → IsTally points (length points) self
+        ensures { (points : List point_packing) → length points ≤ MOST_POINTS → IsTally points (length points) self
             → SumUp points result }
     {
         Summary {

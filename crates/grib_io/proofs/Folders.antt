@@ -1,5 +1,5 @@
 -- A shelf of the files of a folder.
-use Rattle.std.proofs.Common.{◌≡◌, ℕ, ◌+◌, ◌-◌, ◌≤◌, true, List, [], length, take, drop, Option, None, Some, Result, Ok, Err, OnErr, unwrap_or, refl, sym, ap, ◌∙◌, subst, arith, ⊎_elim, length-drop, take-append-drop}
+use Rattle.std.proofs.Common.{◌≡◌, ℕ, ◌+◌, ◌-◌, ◌≤◌, true, List, [], length, take, drop, Option, None, Some, Result, Ok, Err, OnErr, refl, sym, ap, ◌∙◌, subst, arith, ⊎_elim, length-drop, take-append-drop}
 use Rattle.std.proofs.lemmas.Bool.{cases_Bool, false≢true}
 use Rattle.std.proofs.lemmas.List.{take_all}
 use Rattle.std.proofs.lemmas.Slice.Eq.{bytes_eq-Decides}
@@ -27,14 +27,6 @@ adding = with_create (with_append new_options true) true
 read_opened : (held : Option (List ℕ)) → opened reading held ≡ held
 read_opened None = refl
 read_opened (Some octets) = refl
-
-made_opened : (held : Option (List ℕ)) → opened making held ≡ Some []
-made_opened None = refl
-made_opened (Some octets) = refl
-
-added_opened : (held : Option (List ℕ)) → opened adding held ≡ Some (unwrap_or held [])
-added_opened None = refl
-added_opened (Some octets) = refl
 
 -- ---- reading
 

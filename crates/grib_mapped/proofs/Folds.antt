@@ -59,6 +59,3 @@ by_parity most before number code b near even odd = elim (parity code) [
       (omega arith, ap (mapped most before) is ∙ mapped-even most before code b near e)
   | inr o ↦ (omega (arith, odd o), mapped-odd most before number code b near o (odd o))
 ]
-
-pub half_reaches : (most before code : ℕ) → before ≤ most → half code ≤ reach most before → (half code ≤ before) × (before + half code ≤ most)
-half_reaches most before code b near = (omega arith, omega arith)

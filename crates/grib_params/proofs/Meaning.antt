@@ -12,6 +12,7 @@ use Rattle.std.specs.BTreeMap.{insert_entry}
 use Rattle.grib_params.specs.declared.row.Target.{Target}
 use Rattle.grib_params.specs.Fields.{Fields, Key, records_of, row_in, rows_of}
 use Rattle.grib_params.specs.Table.{Entries, Good, key_cmp, table_verdict, target_at, TooLarge, unless_there, verdict_from, with_row}
+use Rattle.grib_params.specs.declared.table.TheConstants.{MOST_OCTETS}
 
 key_total : IsTotalOrder key_cmp
 key_total = then_total (then_total (on_total (λ (k : Key). k.0) (options_total nat_cmp_total)) (on_total (λ (k : Key). k.1) nat_cmp_total)) (on_total (λ (k : Key). k.2) nat_cmp_total)
@@ -85,7 +86,7 @@ from_records count table made (fields ∷ rest) q e = by (row_in fields) e (λ (
 
 -- the table that a text makes has under each key what its rows have
 pub of_text : (text : List ℕ) (table : Entries) (q : Key) → table_verdict text ≡ Good table → target_at table q ≡ target_at (rows_of text) q
-of_text text table q e = by (nat_lt 1048576 (length text)) e
+of_text text table q e = by (nat_lt MOST_OCTETS (length text)) e
   where
     by : (b : Bool) → (if b then TooLarge else verdict_from 0 [] (records_of text)) ≡ Good table → target_at table q ≡ target_at (rows_of text) q
     by true e = cc e

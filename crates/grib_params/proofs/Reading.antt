@@ -13,6 +13,7 @@ use Rattle.std.specs.BTreeMap.{insert_entry}
 use Rattle.grib_params.specs.declared.row.Target.{Target}
 use Rattle.grib_params.specs.Fields.{Fields, Key, records_of, row_in}
 use Rattle.grib_params.specs.Table.{Duplicate, Entries, Good, Row, key_cmp, target_at, table_verdict, verdict_from, with_row}
+use Rattle.grib_params.specs.declared.table.TheConstants.{MOST_OCTETS}
 
 -- where an octet ends a record, the end of the text would end none
 abbrev pub Ends : State × Action → Type 0
@@ -100,7 +101,7 @@ pub record Standing {R : Type 0} (rem : R → Option (List ℕ)) (reader : Reade
   pub source : source_of rem reader ≡ Some left_over
   pub between : ends_at_end reader.state ≡ false
   pub enough : length left_over < turns
-  pub counted : number + length left_over ≤ 1048576
+  pub counted : number + length left_over ≤ MOST_OCTETS
   pub verdict : verdict_from 0 [] (records_of text) ≡ verdict_from number table (records_from default_config turns reader.state left_over)
 
 stripped : (text : List ℕ) → length (strip_bom text) ≤ length text
@@ -115,7 +116,7 @@ stripped (a ∷ b ∷ c ∷ rest) = by ((a == 239) && (b == 187) && (c == 191))
     by false = omega arith
 
 -- a reader at the start of a text
-pub begins : {R : Type 0} (rem : R → Option (List ℕ)) (reader : Reader R) (text : List ℕ) → length text ≤ 1048576
+pub begins : {R : Type 0} (rem : R → Option (List ℕ)) (reader : Reader R) (text : List ℕ) → length text ≤ MOST_OCTETS
     → reader.config ≡ default_config → source_of rem reader ≡ Some (strip_bom text) → reader.state ≡ st.StartRecord → Standing rem reader text 0 []
 begins rem reader text small config source start = record {
   left_over = strip_bom text;
@@ -136,7 +137,7 @@ pub record Stepped {R : Type 0} (rem : R → Option (List ℕ)) (reader : Reader
   pub source : source_of rem reader ≡ Some left_over
   pub between : ends_at_end reader.state ≡ false
   pub enough : length left_over < turns
-  pub counted : number + 1 + length left_over ≤ 1048576
+  pub counted : number + 1 + length left_over ≤ MOST_OCTETS
   pub verdict : verdict_from 0 [] (records_of text)
       ≡ with_row (row_in fields) (number + 1) table (λ more. verdict_from (number + 1) more (records_from default_config turns reader.state left_over))
 
@@ -201,5 +202,5 @@ ends rem a b text number table at read =
     at.verdict ∙ rw (none_left at.turns a.state at.left_over none) refl
 
 -- the verdict on a text that is not too large is that on its records
-pub not_too_large : (text : List ℕ) → length text ≤ 1048576 → table_verdict text ≡ verdict_from 0 [] (records_of text)
-not_too_large text small = rw (le-ltb 1048576 (length text) small) refl
+pub not_too_large : (text : List ℕ) → length text ≤ MOST_OCTETS → table_verdict text ≡ verdict_from 0 [] (records_of text)
+not_too_large text small = rw (le-ltb MOST_OCTETS (length text) small) refl

@@ -9,6 +9,7 @@ use Rattle.grib_params.specs.declared.row.Target.{Target}
 use Rattle.grib_params.specs.declared.fault.TableFault.{TableFault}
 use Rattle.grib_params.specs.declared.fault.TableFault.TheVariants as faults
 use Rattle.grib_params.specs.Fields.{Fields, Key, records_of, row_in}
+use Rattle.grib_params.specs.declared.table.TheConstants.{MOST_OCTETS}
 
 -- the order of keys: every centre stands before each centre, then version, then parameter
 abbrev pub key_cmp : Key → Key → Ordering
@@ -53,7 +54,7 @@ verdict_from count table (fields ∷ rest) =
 
 -- the verdict on the text of a table
 abbrev pub table_verdict : List ℕ → Verdict
-table_verdict text = if nat_lt 1048576 (length text) then TooLarge else verdict_from 0 [] (records_of text)
+table_verdict text = if nat_lt MOST_OCTETS (length text) then TooLarge else verdict_from 0 [] (records_of text)
 
 -- a fault is the one of the verdict; that there is no memory says nothing of it
 abbrev pub IsFault : Verdict → TableFault → Type 0

@@ -11,4 +11,4 @@ mod table;
 
 pub use fault::TableFault;
 pub use row::Target;
-pub use table::Table;
+pub use table::{MOST_OCTETS, Table};

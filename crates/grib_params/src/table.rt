@@ -13,7 +13,7 @@ use std::collections::BTreeMap;
 use std::marker::Model;
 
 /// The most octets of a text.
-const MOST_OCTETS: usize = 1_048_576;
+pub const MOST_OCTETS: usize = 1_048_576;
 
 /// Which parameters of edition 2 stand for those of edition 1. A contract sees the targets with their
 /// keys.

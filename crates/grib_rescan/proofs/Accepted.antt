@@ -4,6 +4,7 @@ use Rattle.std.proofs.lemmas.Bool.{le-ltb}
 use Rattle.std.proofs.Math.Nat.{mul-le-mul, mul_comm, one-le-mul}
 use Rattle.grib_bits.specs.Octets.{octets, octet_list, num_on}
 use Rattle.grib_base.specs.Rows.{first_fault}
+use Rattle.grib_base.specs.declared.limits.TheConstants.{MOST_POINTS}
 use Rattle.grib2_grids.specs.Grid.{grid_rows}
 use Rattle.grib_rescan.specs.declared.points.Area.{Area}
 use Rattle.grib_rescan.specs.Scanning.{scanning_of}
@@ -16,7 +17,7 @@ accepted s is =
     let long : ltb (length s) 14 ≡ false = le-ltb (length s) 14 (omega (arith, is.long)) in
     let whole : ltb (length s) 72 ≡ false = le-ltb (length s) 72 is.long in
     let some : eqb (octets s 7 10) 0 ≡ false = ne_eqb (octets s 7 10) 0 (λ none. omega (arith, none, is.some)) in
-    let few : ltb 33554432 (octets s 7 10) ≡ false = le-ltb 33554432 (octets s 7 10) is.few in
+    let few : ltb MOST_POINTS (octets s 7 10) ≡ false = le-ltb MOST_POINTS (octets s 7 10) is.few in
     let product : eqb (octets s 31 34 * octets s 35 38) (octets s 7 10) ≡ true = eq-eqb _ _ is.product in
     rw (is.source, is.template, is.list, long, whole, some, few, product) refl
 
@@ -44,7 +45,7 @@ rescanned s is =
 pub record HasSize (area : Area) (s : List ℕ) : Type 0 where
   pub width_some : 1 ≤ width area
   pub height_some : 1 ≤ height area
-  pub few : height area * width area ≤ 33554432
+  pub few : height area * width area ≤ MOST_POINTS
   pub some : 1 ≤ height area * width area
   pub width_few : width area < 4294967296
   pub height_few : height area < 4294967296
@@ -54,7 +55,7 @@ has_size area s is box =
     let w : 1 ≤ width area = omega (arith, box.columns) in
     let h : 1 ≤ height area = omega (arith, box.rows) in
     let all : height area * width area ≤ octets s 35 38 * octets s 31 34 = mul-le-mul (omega (arith, box.last_row)) (omega (arith, box.last_column)) in
-    let few : height area * width area ≤ 33554432 = omega (arith, all, is.product, is.few, mul_comm (octets s 31 34) (octets s 35 38)) in
+    let few : height area * width area ≤ MOST_POINTS = omega (arith, all, is.product, is.few, mul_comm (octets s 31 34) (octets s 35 38)) in
     let w_few : 1 * width area ≤ height area * width area = mul-le-mul h (omega arith) in
     let h_few : height area * 1 ≤ height area * width area = mul-le-mul (omega arith) w in
     record {

@@ -8,13 +8,16 @@ ghost use Rattle.grib_spatial.specs.Order.{IsOrder};
 use crate::differences::Differences;
 use crate::running::Running;
 use std::alloc::Global;
+use thiserror::Error;
 
 /// Why differences were not undone.
-#[derive(Clone, Copy, Debug, PartialEq, Eq)]
+#[derive(Clone, Copy, Debug, PartialEq, Eq, Error)]
 pub enum UndoFault {
     /// A number is outside plus and minus 2^60: the place, from 1, of the first that is.
+    #[error("number {0} is out of range")]
     ScaledRange(u32),
     /// There is no memory.
+    #[error("out of memory")]
     Memory,
 }
 

@@ -7,11 +7,11 @@ ghost use Rattle.grib_table.specs.Tabled.{ReadsTable, CountsTable};
 
 use crate::stop::TableStop;
 use grib_io::Shelf;
-use grib_params::Table;
+use grib_params::{MOST_OCTETS, Table};
 use std::alloc::Global;
 
 /// One octet more than a table may have.
-const MOST: usize = 1_048_577;
+const MOST: usize = MOST_OCTETS + 1;
 
 /// Reads the table that stands on the shelf under this name, as far as one octet more than a table may have.
 /// The shelf keeps what it holds.
@@ -31,7 +31,7 @@ pub fn read_table<H: Shelf>(alloc: Global, name: &str, shelf: &mut H) -> Result<
 /// Reads the first octets under this name, no more than `MOST`.
 fn read_text<H: Shelf>(alloc: Global, name: &str, shelf: &mut H) -> Result<Vec<u8>, TableStop>
     ensures read { MatchResult result
-        (λ text. Tells (H.contents shelf.old) name.now (IsTaken 1048577 text.items))
+        (λ text. Tells (H.contents shelf.old) name.now (IsTaken MOST text.items))
         (NoneRead (H.contents shelf.old) name.now) }
     ensures kept { Stays (H.contents shelf.old) (H.contents shelf.new) }
     ensures counted { CountsTable result (H.faults shelf.old) (H.faults shelf.new) }

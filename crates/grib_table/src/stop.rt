@@ -8,15 +8,19 @@ use grib_causes::TableRefusal;
 use grib_io::ShelfStop;
 use grib_params::TableFault;
 use std::alloc::AllocError;
+use thiserror::Error;
 
 /// Why no table is read.
-#[derive(Clone, Copy, Debug, PartialEq, Eq)]
+#[derive(Clone, Copy, Debug, PartialEq, Eq, Error)]
 pub enum TableStop {
     /// The name is absent, or what stands under it is no table.
+    #[error("{0}")]
     Refused(TableRefusal),
     /// The shelf failed.
+    #[error("shelf fault")]
     ShelfFault,
     /// There is no memory.
+    #[error("out of memory")]
     Memory,
 }
 

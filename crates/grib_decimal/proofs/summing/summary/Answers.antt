@@ -1,11 +1,12 @@
 use Rattle.std.proofs.Common.{◌≡◌, ◌≤◌, List, length, ap, subst, arith, pos}
 use Rattle.std.proofs.lemmas.List.{get_or_default}
+use Rattle.grib_base.specs.declared.limits.TheConstants.{MOST_POINTS}
 use Rattle.grib_packing.specs.declared.column.Point.{Point}
 use Rattle.grib_packing.specs.declared.column.Point.TheVariants.{Scaled, Missing}
 use Rattle.grib_decimal.specs.Summary.{IsTally, SumUp}
 use Rattle.grib_decimal.proofs.summing.summary.Goals as goal
 
-few_in : (points items : List Point) → items ≡ points → length points ≤ 33554432 → length items ≤ 33554432
+few_in : (points items : List Point) → items ≡ points → length points ≤ MOST_POINTS → length items ≤ MOST_POINTS
 few_in points items is few = omega (arith, ap length is, few)
 
 summed : (c : goal.After-summary) → SumUp c.args.column.now.points c.summary.result
