@@ -14,10 +14,10 @@ mod written;
 
 pub use column::{Column, Point};
 pub use group::Group;
-pub use keeping::{Keeper, Nothing, Points};
+pub use keeping::{Keeper, Nothing, Points, push_in_room};
 pub use layout::Layout;
 pub use packing::Packing;
 pub use representation::{Simple, numbers_of, read_simple};
 pub use span::{Span, bit_length};
-pub use writing::{no_bitmap, octets_written, room_for, write_head, write_numbers};
+pub use writing::{are_octets, no_bitmap, octets_written, room_for, write_head, write_numbers};
 pub use written::{PackFault, Packed};
