@@ -195,13 +195,13 @@ fn push_missing(points: &mut Vec<Point>, count: u32)
     }
 }
 
-/// Adds a point where there is memory for it, as there is for each point of the mask.
+/// Adds an item where there is memory for it, as there is for each that is kept.
 #[inline(always)]
-fn push_in_room(points: &mut Vec<Point>, point: Point)
-    ensures items { vec_len points.old < vec_capacity points.old → points.new.items ≡ points.old.items ++ point ∷ [] }
-    ensures capacity { vec_capacity points.old ≤ vec_capacity points.new }
+pub fn push_in_room<T: Drop>(items: &mut Vec<T>, item: T)
+    ensures items { vec_len items.old < vec_capacity items.old → items.new.items ≡ items.old.items ++ item ∷ [] }
+    ensures capacity { vec_capacity items.old ≤ vec_capacity items.new }
 {
-    if points.len() < points.capacity() {
-        push_within(points, point);
+    if items.len() < items.capacity() {
+        push_within(items, item);
     }
 }

@@ -38,7 +38,7 @@ pub fn octets_written(out: BitWriter) -> List<u8>
 
 /// Octets are numbers below 256.
 #[inline]
-fn are_octets(octets: &[u8])
+pub fn are_octets(octets: &[u8])
     ensures { All (λ octet. octet < 256) octets.now }
 {}
 

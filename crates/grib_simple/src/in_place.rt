@@ -17,7 +17,9 @@ use crate::writing::representation_section;
 use grib_base::List;
 use grib_bitmap::{Mask, write_mask};
 use grib_bits::{BitWriter, get_bits, number_in_word, write_u8};
-use grib_packing::{Packed, Simple, bit_length, no_bitmap, octets_written, room_for, write_head};
+use grib_packing::{
+    Packed, Simple, are_octets, bit_length, no_bitmap, octets_written, room_for, write_head,
+};
 use std::alloc::{AllocError, Global};
 
 /// Sections 5, 6 and 7 of a field in simple packing, packed simply from its numbers where they stand. Its Section 5
@@ -154,12 +156,6 @@ fn first_bits(octets: &[u8], at: u64, count: u32) -> u8
     let first = get_bits(octets, at, count);
     (first as u8) << (8 - count)
 }
-
-/// Octets are numbers below 256.
-#[inline]
-fn are_octets(octets: &[u8])
-    ensures { All (λ octet. octet < 256) octets.now }
-{}
 
 /// Section 7 with these numbers in fewer bits each.
 fn narrowed_numbers(
