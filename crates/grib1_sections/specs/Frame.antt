@@ -1,6 +1,6 @@
 -- The frame of the sections after Section 0 (WMO-No. 306, Volume I.2, FM 92 GRIB edition 1): octets 1-3
 -- of a section are its length, and `7777` ends the message.
-use Rattle.std.specs.Prelude.{ℕ, ◌+◌, ◌-◌, ◌/◌, ◌%◌, ◌^◌, Bool, not, ◌||◌, List, [], ◌∷◌, length, nat_lt, ◌==◌}
+use Rattle.std.specs.Prelude.{ℕ, ◌+◌, ◌-◌, not, ◌||◌, List, [], ◌∷◌, length, nat_lt}
 use Rattle.grib_bits.specs.Octets.{octets, octet_list}
 use Rattle.grib_base.specs.declared.fault.Reason.TheVariants.{Truncated, SectionLength, EndMark, LengthDisagrees}
 use Rattle.grib_base.specs.Rows.{Row, row}

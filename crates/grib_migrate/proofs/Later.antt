@@ -252,13 +252,6 @@ module _ {E : Type 0} (at : DateTime) (m : Moment) (seconds : ℕ) (shift : ℤ)
       let far = end_after at m seconds parts whole c (λ range. none (subst (λ z. IsCivilNanos (civil_nanos at +ℤ z)) (sym shift_is) range)) in
       sym (ap (λ b. cond b (within_9999 (later m seconds)) None) c ∙ ap (λ b. cond b None (Some (later m seconds))) (lt-ltb 9999 (later m seconds).year far))
 
-pub not_civil : (m : Moment) (seconds : ℕ) → (IsCivil m → ⊥) → None ≡ later_in m seconds
-not_civil m seconds none = by (is_civil m) refl
-  where
-    by : (b : Bool) → is_civil m ≡ b → None ≡ later_in m seconds
-    by true e = absurd (none (civil_parts m e))
-    by false e = sym (ap (λ b. cond b (within_9999 (later m seconds)) None) e)
-
 -- ---- the parts that the calendar takes
 
 module _ (m : Moment) (y mo d h mi s : ℤ) (ey : y ≡ pos m.year) (emo : mo ≡ pos m.month) (ed : d ≡ pos m.day) (eh : h ≡ pos m.hour) (emi : mi ≡ pos m.minute) (es : s ≡ pos m.second) where

@@ -1,5 +1,5 @@
 -- Lemmas on the numbers of a product.
-use Rattle.std.proofs.Common.{◌≡◌, ℕ, ◌+◌, ◌-◌, ◌<◌, ◌≤◌, Bool, true, false, cond, Some, None, List, [], ◌∷◌, ◌++◌, length, take, drop, get_or, refl, sym, ap, ◌∙◌, arith, append_assoc, append-nil}
+use Rattle.std.proofs.Common.{◌≡◌, ℕ, ◌+◌, ◌-◌, ◌<◌, ◌≤◌, Bool, true, false, cond, Some, None, List, [], ◌∷◌, ◌++◌, length, take, drop, get_or, sym, ap, ◌∙◌, arith, append_assoc}
 use Rattle.std.proofs.lemmas.List.{length-append, length-map, take_more}
 use Rattle.grib_params.specs.declared.row.Target.{Target}
 use Rattle.grib1_sections.specs.Keys.{key_in}
@@ -38,20 +38,8 @@ pub record IsAtPlace (words : List ℕ) (k : ℕ) (old new : List ℕ) : Type 0 
   pub loss : coordinate_loss words ≡ coordinate_loss_from (k + 1) (drop k words)
   pub written : new ≡ old ++ all_octets (coordinate_numbers (take k words))
 
-pub place_0 : (words old : List ℕ) → IsAtPlace words 0 old old
-place_0 words old = record { loss = refl; written = sym (append-nil old) }
-
-loss_here : (i word : ℕ) (rest : List ℕ) → binary32_of word ≡ None → coordinate_loss_from i (word ∷ rest) ≡ Some (Coordinate i)
-loss_here i word rest e = ap (λ o. cond (is_none o) (Some (Coordinate i)) (coordinate_loss_from (i + 1) rest)) e
-
 loss_later : (i word new : ℕ) (rest : List ℕ) → binary32_of word ≡ Some new → coordinate_loss_from i (word ∷ rest) ≡ coordinate_loss_from (i + 1) rest
 loss_later i word new rest e = ap (λ o. cond (is_none o) (Some (Coordinate i)) (coordinate_loss_from (i + 1) rest)) e
-
-pub place_lost : (words : List ℕ) (k word : ℕ) (old new : List ℕ) → IsAtPlace words k old new → k < length words → word ≡ get_or words k 0 → binary32_of word ≡ None
-    → coordinate_loss words ≡ Some (Coordinate (k + 1))
-place_lost words k word old new at within is none =
-    at.loss ∙ ap (λ xs. coordinate_loss_from (k + 1) xs) (drop-cons words k 0 within)
-    ∙ loss_here (k + 1) (get_or words k 0) (drop (suc k) words) (ap binary32_of (sym is) ∙ none)
 
 pub place_next : (words : List ℕ) (k word found : ℕ) (old before now : List ℕ) → IsAtPlace words k old before → k < length words → word ≡ get_or words k 0
     → binary32_of word ≡ Some found → now ≡ before ++ all_octets (Four found ∷ []) → IsAtPlace words (k + 1) old now

@@ -13,6 +13,7 @@ use Rattle.grib1_sections.specs.Bitmap.{bitmap_rows}
 use Rattle.grib1_sections.specs.Data.{data_rows, bit_width}
 use Rattle.grib1_sections.specs.Grid.{grid_types, grid_type, grid_rows, list_place, lists_end, row_count, nj, nv}
 use Rattle.grib_base.proofs.Passing.{passes_from_none}
+use Rattle.grib_base.specs.declared.limits.TheConstants.{MOST_POINTS}
 use Rattle.grib1_sections.proofs.Listed.{holds_lists}
 use Rattle.grib_migrate.specs.Held.{Holds, HoldsGrid, HoldsBits}
 
@@ -68,7 +69,7 @@ numbers_hold s values is =
     ltb-false (8 * length s) (values * bit_width s + 88) p.1.1.1.1.0
 
 pub all_hold : (s1 s2 : List ℕ) (s3 : Option (List ℕ)) (s4 : List ℕ) (points values : ℕ) → IsSection 28 identification_rows s1 → IsSection 6 grid_rows s2 → IsBitmap points s3
-    → IsSection 11 (data_rows values) s4 → points ≤ 33554432 → Holds s1 s2 s3 s4 points values
+    → IsSection 11 (data_rows values) s4 → points ≤ MOST_POINTS → Holds s1 s2 s3 s4 points values
 all_hold s1 s2 s3 s4 points values one two three four few = record {
   identification = one.long;
   stands = one.length_stands;

@@ -1,5 +1,6 @@
 -- What the sections of an accepted message hold, for private functions.
 use Rattle.std.specs.Prelude.{◌≡◌, ℕ, ◌+◌, ◌*◌, ◌≤◌, true, Option, Some, None, List, length}
+use Rattle.grib_base.specs.declared.limits.TheConstants.{MOST_POINTS}
 use Rattle.grib2_sections.specs.Template.{is_template, least_length}
 use Rattle.grib1_sections.specs.Grid.{grid_types, grid_type, lists_rows, lists_end, list_place}
 use Rattle.grib1_sections.specs.Frame.{section_length}
@@ -27,4 +28,4 @@ pub record Holds (s1 s2 : List ℕ) (s3 : Option (List ℕ)) (s4 : List ℕ) (po
   pub head : 11 ≤ length s4
   pub numbers : values * bit_width s4 + 88 ≤ 8 * length s4
   pub stands_4 : section_length s4 ≡ length s4
-  pub few : points ≤ 33554432
+  pub few : points ≤ MOST_POINTS

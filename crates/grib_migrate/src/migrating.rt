@@ -20,6 +20,7 @@ use crate::grid::grid_octets;
 use crate::product::{identification_octets, product_octets};
 use crate::source::Source;
 use crate::values::{add_bitmap, add_data, data_bits, packing_octets};
+use grib_base::MOST_POINTS;
 use grib_bits::{add_section, u8_at};
 use grib_params::Table;
 use grib1_sections::Message1;
@@ -62,6 +63,7 @@ fn front_sections(
     requires holds { Holds source.now.identification.now source.now.grid.now
         (option_copied source.now.bitmap) source.now.numbers.now source.now.points source.now.values }
     requires coordinates { coordinates.now ≡ coordinate_list source.now.grid.now }
+    requires few { length coordinates.now ≤ 255 }
     requires end { product.now.end ≡ end_in source.now.identification.now product.now.unit.seconds }
     requires ordered { is_interval (key_in source.now.identification.now TimeRange) ≡ true
         → key_in source.now.identification.now P1 ≤ key_in source.now.identification.now P2 }
@@ -76,7 +78,6 @@ fn front_sections(
     let section1 = source.identification;
     let identification = identification_octets(alloc, section1, &product.target)?;
     let grid = grid_octets(alloc, source.grid, source.points)?;
-    few_coordinates(source.grid);
     few_octets(section1);
     let product = product_octets(alloc, section1, product, coordinates)?;
     let packing = packing_octets(alloc, section1, source.numbers, source.values)?;
@@ -87,14 +88,6 @@ fn front_sections(
     add_section(4, product.as_slice(), &mut front)?;
     add_section(5, packing.as_slice(), &mut front)?;
     Ok(front)
-}
-
-/// There are 255 vertical coordinates at most, since one octet counts them.
-fn few_coordinates(section2: &[u8])
-    requires { 32 ≤ length section2.now }
-    ensures { length (coordinate_list section2.now) ≤ 255 }
-{
-    let _count = u8_at(section2, 4);
 }
 
 /// Section 1 has fewer than 2^24 octets, since three octets count them.
@@ -145,7 +138,7 @@ fn whole_message(
 
 /// The number of octets of Section 6.
 fn bitmap_length(source: &Source<'_>) -> usize
-    requires few { source.now.points ≤ 33554432 }
+    requires few { source.now.points ≤ MOST_POINTS }
     requires bits { HoldsBits (option_copied source.now.bitmap) source.now.points }
     ensures length { result ≡ length (bitmap_section (option_copied source.now.bitmap) source.now.points) }
     ensures few { result ≤ 4194310 }

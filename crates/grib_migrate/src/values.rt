@@ -11,6 +11,7 @@ ghost use Rattle.grib_migrate.specs.Answered.{IsMigrateFault};
 
 use crate::reference::binary32_of;
 use crate::{Loss, MigrateFault};
+use grib_base::MOST_POINTS;
 use grib_bits::Number::{Four, One, Two};
 use grib_bits::{add_numbers, add_section, add_section_head, has_bit, u8_at, u16_at, u32_at};
 use std::alloc::{AllocError, Global};
@@ -72,7 +73,7 @@ pub(crate) fn add_bitmap(
     out: &mut Vec<u8>,
 ) -> Result<(), AllocError>
     requires bits { HoldsBits (option_copied section3) points }
-    requires few { points ≤ 33554432 }
+    requires few { points ≤ MOST_POINTS }
     ensures { OnOk result (out.new.items
         ≡ out.old.items ++ section_of 6 (spec.bitmap_octets (option_copied section3.entry) points)) }
 {

@@ -200,9 +200,6 @@ turns_after plan more totals place octets (Err outcome) a b c still (begun, ends
 
 -- ---- octets for which nothing can be done yet
 
-pub awaits_few : (plan : Plan) (more : Bool) (totals : PassTotals) (place : ℕ) (octets : List ℕ) → length octets < 4 → Awaits plan more totals place octets 4
-awaits_few plan more totals place octets few = record { unknown = inl few; fewer = few; quiet = λ later less. inl less }
-
 quiet_next : (plan : Plan) (totals : PassTotals) (place : ℕ) (octets : List ℕ) (t passes : Bool) (fault : Fault)
     → is_gone (step_next plan totals place octets (cond t Unknown (cond passes (next_passed fault None) (Refuses fault)))) ≡ false
 quiet_next plan totals place octets true passes fault = refl

@@ -7,7 +7,7 @@ use Rattle.std.specs.Io.KnownBytes.{IsAtEnd}
 use Rattle.std.proofs.KnownBytes.{Consumes-whole}
 use Rattle.grib_io.specs.Outside.{Counted}
 use Rattle.grib_stream.specs.declared.outcome.Outcome.{Outcome}
-use Rattle.grib_stream.specs.declared.outcome.Outcome.TheVariants.{ReadFault, WriteFault, ShelfFault, Memory, InputTooLong}
+use Rattle.grib_stream.specs.declared.outcome.Outcome.TheVariants.{ReadFault, WriteFault, ShelfFault, InputTooLong}
 use Rattle.grib_stream.specs.declared.gathering.Rest.{Rest}
 use Rattle.grib_stream.specs.declared.gathering.Rest.TheVariants.{Open, Full, Ended}
 use Rattle.grib_stream.specs.Stream.{begins}
@@ -171,28 +171,6 @@ pub record Broke (outcome : Outcome) (count count_now : ℕ) : Type 0 where
 
 of_input : (outcome other : Outcome) → outcome ≡ other → OfInput other → OfInput outcome
 of_input outcome other is of = subst OfInput (sym is) of
-
-probe_broke : {b c : Option (List ℕ)} (result : Result Rest Outcome) (outcome : Outcome) (count count_now : ℕ) → Probes result b c count count_now → result ≡ Err outcome
-    → Broke outcome count count_now
-probe_broke result outcome count count_now probes failed = record {
-  of = ⊎_elim (λ (e : outcome ≡ InputTooLong). of_input outcome InputTooLong e record { not_write = λ e. cc; not_shelf = λ e. cc; before_end = refl })
-      (λ (e : outcome ≡ ReadFault). of_input outcome ReadFault e record { not_write = λ e. cc; not_shelf = λ e. cc; before_end = refl })
-      (probe_one_of result outcome failed probes.one_of);
-  counted = λ e. probes.counted (failed ∙ ap Err e);
-  calm = λ other. probes.calm (λ e. other (let same : outcome ≡ ReadFault = cc in same));
-}
-
-pub advance_broke : (b c : Option (List ℕ)) (window window_now : List ℕ) (left left_now : ℕ) (rest : Rest) (result : Result Rest Outcome) (outcome : Outcome) (wanted count count_now : ℕ)
-    → Advances rest result b c window window_now left left_now wanted count count_now → result ≡ Err outcome → Broke outcome count count_now
-advance_broke b c window window_now left left_now Open result outcome wanted count count_now advances failed = record {
-  of = ⊎_elim (λ (e : outcome ≡ ReadFault). of_input outcome ReadFault e record { not_write = λ e. cc; not_shelf = λ e. cc; before_end = refl })
-      (λ (e : outcome ≡ Memory). of_input outcome Memory e record { not_write = λ e. cc; not_shelf = λ e. cc; before_end = refl })
-      (err_of result outcome _ failed advances.one_of);
-  counted = λ e. advances.counted (failed ∙ ap Err e);
-  calm = λ other. advances.calm (λ e. other (let same : outcome ≡ ReadFault = cc in same));
-}
-advance_broke b c window window_now left left_now Full result outcome wanted count count_now advances failed = probe_broke result outcome count count_now advances.probes failed
-advance_broke b c window window_now left left_now Ended result outcome wanted count count_now advances failed = probe_broke result outcome count count_now advances.probes failed
 
 -- reading went on, or the input is found to be at its end
 pub record Advanced (plan : Plan) (limit left_now : ℕ) (a c : Option (List ℕ)) (before now : Outside) (totals : PassTotals) (place : ℕ) (window_now : List ℕ) (rest_now : Rest) (measure : ℕ) (count count_now : ℕ) : Type 0 where

@@ -9,6 +9,7 @@ use Rattle.grib_bits.specs.Octets.{num_on, octets}
 use Rattle.grib_base.specs.declared.fault.Fault.{Fault}
 use Rattle.grib_base.specs.declared.fault.Reason.TheVariants.{Truncated, Edition, TotalLength}
 use Rattle.grib_base.specs.Rows.{refusal, first_fault}
+use Rattle.grib_base.specs.declared.limits.TheConstants.{MOST_OCTETS}
 use Rattle.grib2_sections.specs.declared.indicator.Head.{Head}
 use Rattle.grib2_sections.specs.Head.{end_mark, edition, total_length, total_length_1, discipline, head_rows, head_of}
 use Rattle.grib_stream.specs.Stream.{begins}
@@ -34,7 +35,7 @@ later_by other two short wrong wrong_1 e k total total_1 =
 
 abbrev later_rows : ℕ → ℕ → ℕ → ℕ → Option Fault
 later_rows e k total total_1 =
-    later_by (not (e == 1) && not (e == 2)) (e == 2) (nat_lt k 16) (nat_lt total 20 || nat_lt 268435456 total) (e == 1 && nat_lt total_1 12) e k total total_1
+    later_by (not (e == 1) && not (e == 2)) (e == 2) (nat_lt k 16) (nat_lt total 20 || nat_lt MOST_OCTETS total) (e == 1 && nat_lt total_1 12) e k total total_1
 
 -- a fault that is not for the end of the octets, or none
 abbrev IsFixed : Option Fault → Type 0
@@ -88,7 +89,7 @@ rows_stay xs more fixed =
     (λ two there.
     let sixteen : 16 ≤ k = ltb-false k 16 there in
     let t : total_length (xs ++ more) ≡ total_length xs = total_stays xs more sixteen in
-    (le-ltb k_now 16 (omega arith), (ap (λ n. nat_lt n 20 || nat_lt 268435456 n) t, t))) later_fixed in (
+    (le-ltb k_now 16 (omega arith), (ap (λ n. nat_lt n 20 || nat_lt MOST_OCTETS n) t, t))) later_fixed in (
       long,
       first_now
           ∙ (ap (λ n. later_rows n k_now (total_length (xs ++ more)) (total_length_1 (xs ++ more))) e

@@ -3,6 +3,7 @@ use Rattle.std.proofs.Common.{◌≡◌, ◌≢◌, ℕ, ◌+◌, ◌*◌, ◌�
 use lib.Seq.{drop-append-le}
 use Rattle.std.proofs.lemmas.Bool.{false≢true}
 use Rattle.grib_base.specs.declared.fault.Fault.{Fault}
+use Rattle.grib_base.specs.declared.limits.TheConstants.{MOST_OCTETS}
 use Rattle.grib_causes.specs.declared.cause.Kept.{Kept}
 use Rattle.grib_stream.specs.declared.outcome.Outcome.{Outcome}
 use Rattle.grib_stream.specs.declared.place.Place.{Place}
@@ -60,12 +61,6 @@ so_far_read plan taken done totals place pending piece so = record {
   size = omega (arith, so.size, length-append taken piece, length-append pending piece);
   fits = so.fits;
 }
-
--- the input is at its end
-pub so_far_ended : (plan : Plan) (taken : List ℕ) (done : Deeds) (totals : PassTotals) (place : ℕ) (pending : List ℕ) → SoFar plan true taken done totals place pending
-    → SoFar plan false taken done totals place pending
-so_far_ended plan taken done totals place pending so =
-    record { whole = λ more later follows. so.whole more later (follows_open more later); size = so.size; fits = so.fits }
 
 -- octets that begin no item were passed over
 pub so_far_passed : (plan : Plan) (ahead : Bool) (taken : List ℕ) (done : Deeds) (totals : PassTotals) (place n : ℕ) (pending : List ℕ) → Unmarked n pending
@@ -133,7 +128,7 @@ counted_given task lawful texts instead totals at octets total (Gives acts writt
     let least : 4 ≤ total = lawful.least octets total so in
     let there : total ≤ length octets = lawful.there octets total so in
     let few : task.fields (take total octets) ≤ total = lawful.few_fields octets total so in
-    let little : 20 * written ≤ 268435456 * total = lawful.few_written at octets total acts written begun so given in
+    let little : 20 * written ≤ MOST_OCTETS * total = lawful.few_written at octets total acts written begun so given in
     let same : total ≡ n = cc in
     let now : record { counted = record { messages = totals.counted.messages + 1; fields = totals.counted.fields + task.fields (take total octets); skipped = totals.counted.skipped; written = totals.counted.written + written }; refused = totals.refused; kept = totals.kept } ≡ totals_now = cc in
     subst (λ m. Counted m octets totals totals_now) same

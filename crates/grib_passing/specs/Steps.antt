@@ -2,6 +2,7 @@
 use Rattle.std.specs.Prelude.{◌≡◌, ℕ, ◌+◌, ◌<◌, ◌≤◌, ◌*◌, ◌⊎◌, Bool, true, false, List, ◌++◌, length, take, None, Ok, Err}
 use Rattle.std.specs.declared.result.Result.{Result}
 use Rattle.grib_base.specs.Rows.{first_fault}
+use Rattle.grib_base.specs.declared.limits.TheConstants.{MOST_OCTETS}
 use Rattle.grib2_sections.specs.Head.{head_rows, head_of}
 use Rattle.grib_stream.specs.declared.outcome.Outcome.{Outcome}
 use Rattle.grib_stream.specs.declared.outcome.Outcome.TheVariants as outcomes
@@ -95,6 +96,6 @@ pub record Fits (totals : PassTotals) (place : ℕ) : Type 0 where
   pub messages : totals.counted.messages ≤ place
   pub fields : totals.counted.fields ≤ place
   pub skipped : totals.counted.skipped ≤ place
-  pub written : 20 * totals.counted.written ≤ 268435456 * place
+  pub written : 20 * totals.counted.written ≤ MOST_OCTETS * place
   pub refused : totals.refused ≤ place
   pub kept : totals.kept ≤ place

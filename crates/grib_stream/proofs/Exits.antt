@@ -15,7 +15,7 @@ use Rattle.grib_stream.specs.Outcomes.{KeepsOrCuts, is_broken, is_cut_short, is_
 use Rattle.grib_stream.specs.Reading.{Takes}
 use Rattle.grib_stream.specs.Task.{Task}
 use Rattle.grib_stream.specs.Answer.{Answer, silent, done, after, answer_of, answer_within, at_limit}
-use Rattle.grib_stream.specs.Run.{Gives, Runs, IsOver, Notes}
+use Rattle.grib_stream.specs.Run.{Gives, Runs, IsOver}
 use Rattle.grib_stream.proofs.Worlds.{did_then, did_still, front_whole, front_more, front_after, front_still}
 use Rattle.grib_stream.proofs.Nexts.{not_true}
 
@@ -349,10 +349,3 @@ pub over_undone : {task : Task} {limit : ℕ} {totals : Totals} {a b : Option (L
     → is_cut_short outcome ≡ true → IsOver task limit totals a b before mid → DidFront mid now (task.ending totals).acts → Runs task limit outcome a b before now
 over_undone {task} {limit} {totals} {a} {b} {before} {mid} now outcome cut over ending =
     runs_undone task limit totals outcome a b before mid now over.taken over.acts cut over.consumed over.end over.short over.did ending over.whole
-
--- what is noted at the end of the input
-pub over_notes : {task : Task} {limit : ℕ} {totals : Totals} {a b : Option (List ℕ)} {before mid : World} → IsOver task limit totals a b before mid
-    → Notes task limit totals a
-over_notes {task} {limit} {totals} {a} {b} {before} {mid} over =
-    Consumes-whole a b over.taken (λ input. (answer_within limit task input).note ≡ (task.ending totals).note) over.consumed.consumed over.end
-    (ap (λ x. x.note) (within_short task limit over.taken over.short ∙ over.whole))

@@ -13,9 +13,9 @@ use Rattle.grib_stream.specs.Stream.{Judgement, Message, Faulty}
 use Rattle.grib_stream.specs.Outcomes.{is_truncated}
 use Rattle.grib_stream.specs.Task.{Task, IsLawful}
 use Rattle.grib_stream.specs.Reading.{Gathers}
-use Rattle.grib_stream.specs.Hearing.{Listens, is_closed, CanHear, HearsFront, Cuts, Heeds, IsWhole, IsRefused, IsCutOff, IsNoMessage}
+use Rattle.grib_stream.specs.Hearing.{Listens, is_closed, HearsFront, Cuts, Heeds, IsWhole, IsRefused, IsCutOff, IsNoMessage}
 use Rattle.grib_stream.proofs.Nexts.{not_true}
-use Rattle.grib_stream.proofs.Windows.{gathers_none, takes_more}
+use Rattle.grib_stream.proofs.Windows.{takes_more}
 
 -- a refusal for another reason than the end of the octets stays
 closed_stays_by : (task : Task) → IsLawful task → (octets more : List ℕ) (j : Judgement) → task.judge octets ≡ j → is_closed j ≡ true → task.judge (octets ++ more) ≡ j
@@ -44,25 +44,6 @@ pub record Listening (task : Task) (own_hears : List ℕ → Bool) (Heard : List
   pub short : length pending ≤ 65536
   pub long : 8 ≤ length (octets ++ pending)
   pub known : own_hears (take 8 (octets ++ pending)) ≡ true
-
-pub listening_start : (task : Task) → IsLawful task → (own_hears : List ℕ → Bool) (Heard : List ℕ → Type 0) (a : Option (List ℕ)) (first : List ℕ) (left : ℕ)
-    → Heard [] → 8 ≤ length first → length first ≤ 65536 → own_hears (take 8 first) ≡ true → Listening task own_hears Heard a a first first left left
-listening_start task lawful own_hears Heard a first left heard long short known = record {
-  octets = [];
-  heard = heard;
-  gathers = gathers_none a first left;
-  unfinished = λ e. let least : 4 ≤ 0 = lawful.least [] 0 e in omega (arith, least);
-  unrefused = λ k low closed. absurd (omega (arith, low));
-  short = short;
-  long = long;
-  known = known;
-}
-
-pub can_hear : {task : Task} {own_hears hears : List ℕ → Bool} {judge : List ℕ → Judgement} {Heard : List ℕ → Type 0} {a b : Option (List ℕ)} {first pending : List ℕ} {left left_now : ℕ}
-    (piece : List ℕ) → Alike task judge own_hears hears → Listening task own_hears Heard a b first pending left left_now → piece ≡ pending → CanHear judge hears Heard piece
-can_hear {task} {own_hears} {hears} {judge} {Heard} {a} {b} {first} {pending} {left} {left_now} piece alike so is =
-    let same = alike.fronts so.octets pending so.known in
-    (so.octets, so.heard, (λ e. so.unfinished (same.1 ∙ e)), subst (λ xs. hears (take 8 (so.octets ++ xs)) ≡ true) (sym is) same.0)
 
 -- the octets are refused with this piece
 pub refused_with : {task : Task} {own_hears hears : List ℕ → Bool} {judge : List ℕ → Judgement} {Heard : List ℕ → Type 0} {a b : Option (List ℕ)} {first pending : List ℕ} {left left_now : ℕ}

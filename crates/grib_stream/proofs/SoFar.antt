@@ -1,5 +1,6 @@
 -- What was answered so far, whatever follows.
 use Rattle.std.proofs.Common.{◌≡◌, ℕ, ◌+◌, ◌*◌, ◌≤◌, true, List, [], ◌++◌, length, drop, refl, sym, ap, ◌∙◌, subst, arith, append_assoc, length-append, length-drop}
+use Rattle.grib_base.specs.declared.limits.TheConstants.{MOST_OCTETS}
 use lib.Seq.{drop-append-le}
 use Rattle.grib_stream.specs.declared.place.Totals.{Totals}
 use Rattle.grib_stream.specs.Stream.{begins}
@@ -18,7 +19,7 @@ pub record SoFar (task : Task) (taken : List ℕ) (acts : List Act) (totals : To
   pub messages : totals.messages ≤ place
   pub fields : totals.fields ≤ place
   pub skipped : totals.skipped ≤ place
-  pub written : 20 * totals.written ≤ 268435456 * place
+  pub written : 20 * totals.written ≤ MOST_OCTETS * place
 
 pub nothing_so_far : (task : Task) → SoFar task [] [] (totals_of 0 0 0 0) 0 []
 nothing_so_far task = record { whole = λ more. refl; size = refl; messages = omega arith; fields = omega arith; skipped = omega arith; written = omega arith }
@@ -75,7 +76,7 @@ so_far_message task lawful taken acts done totals place total fields written pen
     let message = message_next task _ pending total fields written done is in
     let within : total ≤ length pending = lawful.there pending total message.accepted in
     let least : 4 ≤ total = lawful.least pending total message.accepted in
-    let little : 20 * written ≤ 268435456 * total = lawful.few_written _ pending total done written begun message.accepted message.given in
+    let little : 20 * written ≤ MOST_OCTETS * total = lawful.few_written _ pending total done written begun message.accepted message.given in
     let few : fields ≤ total = subst (λ n. n ≤ total) message.counted (lawful.few_fields pending total message.accepted) in
     record {
       whole = λ more.

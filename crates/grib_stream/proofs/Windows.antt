@@ -77,22 +77,3 @@ gathers_more a b c old mid new left left_mid count most before now few = record 
   size = omega (arith, length-append before.piece now.piece, before.size, now.size, now.few);
   taken = takes_more a b c before.piece now.piece before.taken now.taken;
 }
-
--- a read that gave nothing, or failed
-pub gathers_still : (a b c : Option (List ℕ)) (old mid new : List ℕ) (left left_mid : ℕ) → Gathers a b old mid left left_mid → new ≡ mid → Keeps b c
-    → Gathers a c old new left left_mid
-gathers_still a b c old mid new left left_mid before same kept = record {
-  piece = before.piece;
-  grown = same ∙ before.grown;
-  size = before.size;
-  taken = takes_kept a b c before.piece before.taken kept;
-}
-
-pub gathers_ended : (a b c : Option (List ℕ)) (old mid new : List ℕ) (left left_mid count most : ℕ) → Gathers a b old mid left left_mid → Reads b c mid new count most
-    → count ≡ 0 → Gathers a c old new left left_mid
-gathers_ended a b c old mid new left left_mid count most before now none = record {
-  piece = before.piece ++ now.piece;
-  grown = now.grown ∙ (ap (λ xs. xs ++ now.piece) before.grown ∙ append_assoc old before.piece now.piece);
-  size = omega (arith, length-append before.piece now.piece, before.size, now.size, none);
-  taken = takes_more a b c before.piece now.piece before.taken now.taken;
-}

@@ -1,6 +1,7 @@
 -- What is to be done with the messages of an input, as far as a run over them has to know it.
 use Rattle.std.specs.Prelude.{◌≡◌, ℕ, ◌*◌, ◌≤◌, true, false, List, [], ◌++◌, length, take}
 use Rattle.grib_base.specs.declared.fault.Fault.{Fault}
+use Rattle.grib_base.specs.declared.limits.TheConstants.{MOST_OCTETS}
 use Rattle.grib_stream.specs.declared.outcome.Outcome.{Outcome}
 use Rattle.grib_stream.specs.declared.place.Place.{Place}
 use Rattle.grib_stream.specs.declared.place.Totals.{Totals}
@@ -45,7 +46,7 @@ pub record IsLawful (task : Task) : Type 0 where
   pub alone : (octets : List ℕ) (total : ℕ) → task.judge octets ≡ Message total → task.judge (take total octets) ≡ Message total
   pub few_fields : (octets : List ℕ) (total : ℕ) → task.judge octets ≡ Message total → task.fields (take total octets) ≤ total
   pub few_written : (place : Place) (octets : List ℕ) (total : ℕ) (acts : List Act) (written : ℕ) → begins octets ≡ true → task.judge octets ≡ Message total
-      → task.result place (take total octets) ≡ Gives acts written → 20 * written ≤ 268435456 * total
+      → task.result place (take total octets) ≡ Gives acts written → 20 * written ≤ MOST_OCTETS * total
   pub ends_at_message : (place : Place) (message : List ℕ) (outcome : Outcome) → task.result place message ≡ Ends outcome → is_of_message outcome ≡ true
 
 -- what comes next of the octets from a `GRIB` on: a message of this length with this many fields, for which
