@@ -1,5 +1,6 @@
 use Rattle.std.proofs.Common.{◌≡◌, ◌+◌, ◌*◌, ◌<◌, ◌≤◌, ℕ, Bool, true, false, cond, IsTrue, Option, Some, None, [], length, pow_mono, subst, refl, sym, ap, ◌∙◌, arith, inl, inr}
-use Rattle.std.proofs.lemmas.Bool.{cases_lt, lt-ltb}
+use Rattle.std.proofs.lemmas.Bool.{cases_lt, eq-eqb, lt-ltb}
+use Rattle.grib_bits.specs.Octets.{octets}
 use Rattle.grib_base.specs.declared.fault.Reason.TheVariants.{DataTooShort}
 use Rattle.grib_base.specs.declared.fault.Fault.{Fault}
 use Rattle.grib_base.specs.Rows.{refusal, first_fault}
@@ -7,11 +8,10 @@ use Rattle.grib_packing.specs.Groups.{list_octets, list_rows}
 use Rattle.grib_complex.specs.declared.representation.Complex.{Complex}
 use Rattle.grib_groups.specs.Feeding.{WasFed, no_marks, plain_groups}
 use Rattle.grib_groups.specs.Lists.{ReferencesTook}
-use Rattle.grib_complex.proofs.Arriving.{lists_pass, complex_of, template_of}
+use Rattle.grib_complex.proofs.Arriving.{lists_pass, complex_of}
 use Rattle.grib_complex.proofs.Described.{few_orders}
-use Rattle.grib_complex.proofs.SoFar.{one_group_of_none, one_list_of_none}
-use Rattle.grib_complex.proofs.Starting.{zero_entries, zero_passes, begins, lists_refused, no_groups}
-use Rattle.grib_complex.proofs.stages.start_grouped.Goals as goal
+use Rattle.grib_complex.proofs.Starting.{begins, lists_refused}
+use Rattle.grib_complex.proofs.stages.ComplexReading.start.Goals as goal
 
 apart : {P : Type 0} → false ≡ true → P
 apart wrong = absurd (cc)
@@ -32,14 +32,8 @@ fits_within complex l skip fits is_skip holds pass = elim (cases_lt l (5 + skip 
 pub returns-then-complex-eq0 : goal.returns-then-complex-eq0
 returns-then-complex-eq0 g c = λ s5 spelled.
     let complex = c.args.complex in
-    let n = complex.simple.values in
     let none = sym (ap (λ l. l.groups) spelled.layout) ∙ c.if-complex-eq0.true in
-    let is_complex = complex_of complex s5 spelled c.requires.accepted in
-    let grouped = template_of complex s5 spelled c.requires.accepted in
-    let nothing : n * 0 ≡ 0 = omega arith in
-    c.start_list.ensures s5 c.args.start c.args.length spelled.simple.values (omega (arith, nothing, c.requires.least))
-    (zero_entries s5 is_complex none n spelled.simple.values) (λ s7 long. zero_passes s5 is_complex none s7)
-    (one_list_of_none s5 grouped (no_groups s5 is_complex none)) (one_group_of_none s5 grouped (no_groups s5 is_complex none) n spelled.simple.values)
+    c.start_zeros.ensures s5 c.args.start c.args.length (complex_of complex s5 spelled c.requires.accepted) (eq-eqb (octets s5 32 35) 0 none) spelled.simple.values c.requires.least
 
 pub returns-then-not-lists_fit : goal.returns-then-not-lists_fit
 returns-then-not-lists_fit g c = λ s5 spelled. (
