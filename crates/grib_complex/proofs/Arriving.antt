@@ -1,5 +1,5 @@
 -- Lemmas on a Section 7 of which the first octets came.
-use Rattle.std.proofs.Common.{◌≡◌, ℕ, ◌+◌, ◌-◌, ◌*◌, ◌≤◌, ◌⊎◌, Bool, true, false, cond, eqb, Option, Some, None, List, ◌++◌, length, drop, replicate, pos, refl, sym, ap, ap₂, ◌∙◌, arith, append_assoc, le-ltb, inl, inr}
+use Rattle.std.proofs.Common.{◌≡◌, ℕ, ◌+◌, ◌-◌, ◌*◌, ◌≤◌, Bool, true, false, cond, eqb, Option, Some, None, List, ◌++◌, length, drop, replicate, pos, refl, sym, ap, ap₂, ◌∙◌, arith, append_assoc, le-ltb, inl, inr}
 use Rattle.std.proofs.lemmas.Bool.{ne_eqb}
 use Rattle.std.proofs.lemmas.List.{drop-drop, drop-append-le, length-drop}
 use Rattle.grib_bits.specs.Bits.{bits}
@@ -35,18 +35,11 @@ rest_at k octets l s7 within c = sym (drop-drop k 5 s7) ∙ ap (drop k) c.joined
 
 -- ---- the branch of a field with groups
 
-pub is_grouped : (template : ℕ) → IsComplexTemplate template → eqb template 0 ≡ false
-is_grouped template (inl two) = ne_eqb template 0 (λ none. absurd (omega arith))
-is_grouped template (inr three) = ne_eqb template 0 (λ none. absurd (omega arith))
-
 pub complex_of : (complex : Complex) (s5 : List ℕ) → Spelled complex s5 → IsAccepted complex → IsComplexTemplate (packing_template s5)
 complex_of complex s5 spelled accepted = elim accepted.order [
   | inl two ↦ inl (sym spelled.simple.template ∙ two.0)
   | inr three ↦ inr (sym spelled.simple.template ∙ three.0)
 ]
-
-pub template_of : (complex : Complex) (s5 : List ℕ) → Spelled complex s5 → IsAccepted complex → eqb (packing_template s5) 0 ≡ false
-template_of complex s5 spelled accepted = is_grouped (packing_template s5) (complex_of complex s5 spelled accepted)
 
 module _ (complex : Complex) (s5 : List ℕ) (spelled : Spelled complex s5) (accepted : IsAccepted complex) (some : 1 ≤ complex.layout.groups) (s7 : List ℕ) where
   pub has_groups : eqb (octets s5 32 35) 0 ≡ false

@@ -1,22 +1,20 @@
 -- Lemmas on the points of codes that come at once.
-use Rattle.std.proofs.Common.{◌≡◌, ◌+◌, ◌%◌, ◌<◌, ◌^◌, List, [], ◌∷◌, ◌++◌, All, Some, None, length, refl, sym, ap, ◌∙◌, arith, append_assoc, subst, inl, inr, le-ltb}
+use Rattle.std.proofs.Common.{◌≡◌, ◌+◌, ◌%◌, ◌<◌, ◌^◌, List, [], ◌∷◌, ◌++◌, All, length, refl, sym, ap, ◌∙◌, arith, append_assoc, subst, inl, inr}
 use Rattle.std.proofs.lemmas.Bool.{cases_lt}
 use Rattle.std.proofs.lemmas.List.{length-append, append-nil}
 use Rattle.std.proofs.lemmas.List.Elements.{All-nil, All-head, All-tail, All-append, All-same}
 use Rattle.grib_base.specs.declared.code.Code.{Code}
-use Rattle.grib_base.specs.declared.code.Code.TheVariants.{Present, Primary, Secondary}
 use Rattle.grib_base.specs.Rows.{first_place}
 use Rattle.grib_packing.specs.declared.column.Point.{Point}
 use Rattle.grib_packing.specs.Entries.{is_out_of_range}
-use Rattle.grib_groups.specs.Taking.{number_of}
 use Rattle.grib_groups.proofs.Places.{place_nowhere, place_before}
 use Rattle.grib_complex.specs.declared.runs.Steadily.{Steadily}
 use Rattle.grib_complex.specs.declared.telling.Teller.{Teller}
 use Rattle.grib_complex.specs.declared.values.Values.{Values}
-use Rattle.grib_complex.specs.Told.{Telling, Plainly, point_of, told, after, undoing}
+use Rattle.grib_complex.specs.Told.{Telling, Plainly, told, after, undoing}
 use Rattle.grib_complex.specs.Tells.{IsWithin, telling_of, Tells, SteadilyTook, ValuesTook}
-use Rattle.grib_complex.proofs.Told.{length-told, undoing-after, after-plainly}
-use Rattle.grib_complex.specs.Laws.{told-append, after-append}
+use Rattle.grib_complex.proofs.Told.{length-told, undoing-after}
+use Rattle.grib_complex.specs.Laws.{told-append, told-plainly-append, after-append}
 
 -- ---- the first place out of range
 
@@ -56,15 +54,13 @@ tells_run start seen codes before last room tells is_place same within telling =
 
 pub values_run : {K : Type 0} (kept : K → List Point → K → Type 0) (before last : Values K) (codes : List Code) (telling : Telling) → telling_of before.teller.running ≡ telling
     → last.teller.place ≡ (before.teller.place + length codes) % 2 ^ 64 → last.teller.beyond ≡ before.teller.beyond
-    → (before.teller.running ≡ None → last.teller.running ≡ None)
     → All IsWithin (told telling codes) → telling_of last.teller.running ≡ after telling codes → kept before.keeper (told telling codes) last.keeper
     → ValuesTook kept before codes last
-values_run kept before last codes telling is is_place same plain within after_them keeps =
+values_run kept before last codes telling is is_place same within after_them keeps =
     let here = λ (start : Telling) (seen : List Code) (tells : Tells start seen before.teller) (none : before.teller.beyond ≡ 0).
     let e : telling ≡ after start seen = sym is ∙ tells.telling none in e in
     record {
       stays = λ some. same;
-      plain = λ none. (plain none, same);
       undoes = ap undoing after_them ∙ undoing-after telling codes ∙ sym (ap undoing is);
       tells = λ start seen room tells.
           tells_run start seen codes before.teller last.teller room tells is_place same
@@ -77,22 +73,15 @@ values_run kept before last codes telling is is_place same plain within after_th
 
 -- ---- codes that are the scaled numbers themselves
 
-abbrev pub PlainWithin : {K : Type 0} → (K → List Point → K → Type 0) → K → List Code → K → Type 0
-PlainWithin kept before codes last = kept before (told Plainly codes) last × All IsWithin (told Plainly codes)
+abbrev pub PlainKept : {K : Type 0} → (K → List Point → K → Type 0) → K → List Code → K → Type 0
+PlainKept kept before codes last = kept before (told Plainly codes) last
 
 module _ {K : Type 0} (kept : K → List Point → K → Type 0) (none : (keeper : K) → kept keeper [] keeper)
     (more : (before between after : K) (points more_points : List Point) → kept before points between → kept between more_points after → kept before (points ++ more_points) after) where
-  pub plain_within-none : (keeper : K) → PlainWithin kept keeper [] keeper
-  plain_within-none keeper = (none keeper, All-nil IsWithin)
-
-  pub plain_within-more : (before between last : K) (codes more_codes : List Code) → PlainWithin kept before codes between → PlainWithin kept between more_codes last
-      → PlainWithin kept before (codes ++ more_codes) last
-  plain_within-more before between last codes more_codes first second =
-      let both : told Plainly (codes ++ more_codes) ≡ told Plainly codes ++ told Plainly more_codes =
-      told-append Plainly codes more_codes ∙ ap (λ (t : Telling). told Plainly codes ++ told t more_codes) (after-plainly codes) in (
-        subst (λ (ps : List Point). kept before ps last) (sym both) (more before between last _ _ first.0 second.0),
-        All-same IsWithin _ _ both (All-append IsWithin (told Plainly codes) (told Plainly more_codes) first.1 second.1),
-      )
+  pub plain_kept-more : (before between last : K) (codes more_codes : List Code) → PlainKept kept before codes between → PlainKept kept between more_codes last
+      → PlainKept kept before (codes ++ more_codes) last
+  plain_kept-more before between last codes more_codes first second =
+      subst (λ (ps : List Point). kept before ps last) (sym (told-plainly-append codes more_codes)) (more before between last _ _ first second)
 
   -- ---- codes of differences
 
@@ -102,16 +91,11 @@ module _ {K : Type 0} (kept : K → List Point → K → Type 0) (none : (keeper
   pub steadily-more : (before between last : Steadily K) (codes more_codes : List Code) → SteadilyTook kept before codes between → SteadilyTook kept between more_codes last
       → SteadilyTook kept before (codes ++ more_codes) last
   steadily-more before between last codes more_codes first second =
-      let t = telling_of (Some before.steady.run) in
-      let both : told t (codes ++ more_codes) ≡ told t codes ++ told (telling_of (Some between.steady.run)) more_codes =
+      let t = telling_of before.steady.run in
+      let both : told t (codes ++ more_codes) ≡ told t codes ++ told (telling_of between.steady.run) more_codes =
       told-append t codes more_codes ∙ ap (λ (u : Telling). told t codes ++ told u more_codes) (sym first.telling) in
       record {
         within = All-same IsWithin _ _ both (All-append IsWithin _ _ first.within second.within);
         telling = second.telling ∙ ap (λ (u : Telling). after u more_codes) first.telling ∙ sym (after-append t codes more_codes);
         keeps = subst (λ (ps : List Point). kept before.keeper ps last.keeper) (sym both) (more before.keeper between.keeper last.keeper _ _ first.keeps second.keeps);
       }
-
-pub plain_within : (code : Code) → number_of code < 2 ^ 49 → IsWithin (point_of Plainly code)
-plain_within (Present n) small = le-ltb (2 ^ 60) n (omega arith)
-plain_within Primary small = refl
-plain_within Secondary small = refl

@@ -1,5 +1,5 @@
 -- Lemmas on what is known of a Section 7 as more octets come.
-use Rattle.std.proofs.Common.{◌≡◌, ℕ, ◌+◌, ◌-◌, ◌*◌, ◌^◌, ◌<◌, ◌≤◌, min, Bool, Option, Some, None, List, [], ◌∷◌, ◌++◌, length, map, take, drop, vec_capacity, refl, sym, ap, ◌∙◌, append_assoc, add-mul, arith, mul_comm, subst, take-append-drop, inl, inr}
+use Rattle.std.proofs.Common.{◌≡◌, ℕ, ◌+◌, ◌-◌, ◌*◌, ◌^◌, ◌<◌, ◌≤◌, min, Bool, Some, None, List, [], ◌∷◌, ◌++◌, length, map, take, drop, vec_capacity, refl, sym, ap, ◌∙◌, append_assoc, add-mul, arith, mul_comm, subst, take-append-drop, inl, inr}
 use Rattle.std.proofs.Math.Nat.{mul-le-mul_right}
 use Rattle.std.proofs.lemmas.Bool.{cases_lt}
 use Rattle.std.proofs.lemmas.List.{length-append, length-drop, drop-append-le, drop_all, take_all, append-nil, get_or_append_left, get_or-append_right, length-map, map-append}
@@ -22,9 +22,10 @@ use Rattle.grib_bits.proofs.OctetBits.{bits-append, length-bits}
 use Rattle.grib_base.specs.declared.code.Code.TheVariants.{Present}
 use Rattle.grib_complex.specs.Descriptors.{numbers_at}
 use Rattle.grib_complex.specs.declared.stages.Between.{Between}
-use Rattle.grib_complex.specs.declared.stages.State.{State}
-use Rattle.grib_complex.specs.declared.stages.State.TheVariants.{Begins, Lists, Reads, Passes, Refused}
+use Rattle.grib_complex.specs.declared.stages.ComplexReading.{ComplexReading}
+use Rattle.grib_complex.specs.declared.stages.ComplexReading.TheVariants.{Begins, Lists, ReadsPlainly, Reads, Passes, Refused}
 use Rattle.grib_complex.specs.declared.representation.Complex.{Complex}
+use Rattle.grib_complex.specs.declared.values.PlainValues.{PlainValues}
 use Rattle.grib_complex.specs.declared.values.Values.{Values}
 use Rattle.grib_complex.specs.Descriptors.{IsAccepted}
 use Rattle.grib_bits.specs.Bits.{bits}
@@ -34,16 +35,15 @@ use Rattle.grib_packing.specs.declared.column.Point.{Point}
 use Rattle.grib_packing.specs.Entries.{data_fault, entries_of, is_out_of_range}
 use Rattle.grib_groups.specs.Taking.{values}
 use Rattle.grib_groups.proofs.Taken.{length-codes_from}
-use Rattle.grib_complex.specs.declared.feeding.Feeding.{Feeding}
-use Rattle.grib_complex.specs.Feeding.{AreOctets, Continues, ListingAgrees, HasRead, PassingAgrees, ReadingAgrees, StateAgrees, IsFaultOf, octets_left, pending_in}
+use Rattle.grib_complex.specs.Feeding.{AreOctets, Continues, ListingAgrees, PassingAgrees, PlainAgrees, ReadingAgrees, ReadingPlainly, StateAgrees, IsFaultOf, pending_in}
 use Rattle.grib_complex.proofs.Told.{length-told}
-use Rattle.grib_complex.specs.Tells.{ValuesTook}
-use Rattle.grib_complex.specs.Told.{Telling, told, undoing}
+use Rattle.grib_complex.specs.Tells.{PlainTook, ValuesTook}
+use Rattle.grib_complex.specs.Told.{Telling, Plainly, told, undoing}
 use Rattle.grib_packing.specs.declared.group.Group.{Group}
 use Rattle.grib_packing.specs.declared.layout.Layout.{Layout}
 use Rattle.grib_packing.specs.Packing.{value_count}
 use Rattle.grib_complex.proofs.Arriving.{continues_from}
-use Rattle.grib_complex.proofs.SoFar.{points_agree, undone}
+use Rattle.grib_complex.proofs.SoFar.{plain_so_far, points_agree, undone}
 
 -- there are at most 12 octets of descriptors
 pub few_descriptors : (complex : Complex) → IsAccepted complex → (complex.order + 1) * complex.extra ≤ 12
@@ -106,6 +106,42 @@ pub first_numbers : (octets piece rest : List ℕ) (whole : ℕ) → length octe
 first_numbers octets piece rest whole below is = sym (is ∙ ap (λ (us : List ℕ). us ++ rest) (drop_all whole octets below))
 
 -- more packed numbers came
+pub plain_more : {K : Type 0} (kept : K → List Point → K → Type 0) (keeper : K) (l : ℕ) (octets piece : List ℕ) (layout : Layout) (groups : List Group) (before : ℕ) (fed after : Fed (PlainValues K)) → IsFeedable (2 ^ 49) after
+    → IsCaughtUp after
+    → ((layout : _) (groups : _) (first : PlainValues K) (os : List ℕ) → WasFed (PlainTook kept) layout groups first os fed → WasFed (PlainTook kept) layout groups first (os ++ piece) after)
+    → PlainAgrees kept keeper l octets layout groups before fed → PlainAgrees kept keeper l (octets ++ piece) layout groups before after
+plain_more kept keeper l octets piece layout groups before fed after feedable caught_up more reads = record {
+  came = omega (arith, reads.came, length-append octets piece);
+  enough = reads.enough;
+  feedable = feedable;
+  so_far = subst (λ (os : List ℕ). WasFed (PlainTook kept) layout groups (record { keeper = keeper }) os after) (sym (drop-append-le before octets piece reads.came))
+      (more layout groups (record { keeper = keeper }) (drop before octets) reads.so_far);
+  caught_up = caught_up;
+}
+
+pub reading_plainly_more : {K : Type 0} (kept : K → List Point → K → Type 0) (s5 : List ℕ) (keeper : K) (l : ℕ) (octets piece : List ℕ) (fed after : Fed (PlainValues K)) → IsFeedable (2 ^ 49) after
+    → IsCaughtUp after → after.table ≡ fed.table
+    → ((layout : _) (groups : _) (first : PlainValues K) (os : List ℕ) → WasFed (PlainTook kept) layout groups first os fed → WasFed (PlainTook kept) layout groups first (os ++ piece) after)
+    → ReadingPlainly kept s5 keeper l octets fed → ReadingPlainly kept s5 keeper l (octets ++ piece) after
+reading_plainly_more kept s5 keeper l octets piece fed after feedable caught_up same_table more reading =
+    let reads = plain_more kept keeper l octets piece reading.layout reading.groups reading.before fed after feedable caught_up more reading.reads in
+    record {
+      layout = reading.layout;
+      groups = reading.groups;
+      before = reading.before;
+      reads = reads;
+      counted = reading.counted;
+      entries = λ s7 c. reading.entries s7 (continues_from octets piece l s7 c);
+      passes = λ s7 c. reading.passes s7 (continues_from octets piece l s7 c);
+      before_is = reading.before_is;
+      groups_are = λ s7 c. reading.groups_are s7 (continues_from octets piece l s7 c);
+      table = λ s7 c. ap groups_in same_table ∙ reading.table s7 (continues_from octets piece l s7 c);
+      telling_is = λ s7 c. reading.telling_is s7 (continues_from octets piece l s7 c);
+      points = λ s7 c.
+          let earlier = continues_from octets piece l s7 c in
+          plain_so_far kept s5 keeper l (octets ++ piece) reading.layout reading.groups reading.before after reads s7 c (reading.entries s7 earlier) (reading.groups_are s7 earlier) reading.before_is;
+    }
+
 pub reading_more : {K : Type 0} (kept : K → List Point → K → Type 0) (s5 : List ℕ) (keeper : K) (start l : ℕ) (octets piece : List ℕ) (fed after : Fed (Values K)) → IsFeedable (2 ^ 49) after
     → IsCaughtUp after → after.table ≡ fed.table
     → ((layout : _) (groups : _) (first : Values K) (os : List ℕ) → WasFed (ValuesTook kept) layout groups first os fed → WasFed (ValuesTook kept) layout groups first (os ++ piece) after)
@@ -164,7 +200,7 @@ both_octets xs ys first second = λ i. elim (cases_lt i (length xs)) [
 ]
 
 -- the end of what stands behind the first octets
-end_behind : (n : ℕ) (xs : List ℕ) (last : List Bool) → IsEnd last (bits (drop n xs)) → IsEnd last (bits xs)
+pub end_behind : (n : ℕ) (xs : List ℕ) (last : List Bool) → IsEnd last (bits (drop n xs)) → IsEnd last (bits xs)
 end_behind n xs last end = record {
   before = bits (take n xs) ++ end.before;
   joined = append_assoc (bits (take n xs)) end.before last ∙ ap (λ (bs : List Bool). bits (take n xs) ++ bs) end.joined
@@ -179,7 +215,7 @@ end_of_part : (from size : ℕ) (xs : List ℕ) (last : List Bool) → length xs
 end_of_part from size xs last short end = end_behind from xs last (subst (λ (os : List ℕ). IsEnd last (bits os)) (part_all from size xs short) end)
 
 -- at most the bits of one number are pending
-few_pending : {S : Type 0} (limit : ℕ) (fed : Fed S) → IsFeedable limit fed → length (pending_of fed) ≤ 64
+pub few_pending : {S : Type 0} (limit : ℕ) (fed : Fed S) → IsFeedable limit fed → length (pending_of fed) ≤ 64
 few_pending limit fed feedable = elim (cases_lt 0 (length fed.numbers.pending)) [
   | inl some ↦ let short = feedable.ready.pending some in omega (arith, short.short, feedable.ready.readable.width)
   | inr none ↦ omega arith
@@ -198,14 +234,14 @@ end_listed layout start octets (AtWidths references widths lengths) below listin
 end_listed layout start octets (AtLengths references widths lengths) below listing =
     end_of_part (reference_octets layout + width_octets layout) (length_octets layout) octets (pending_of lengths) (omega (arith, below)) listing.reads.went.taken.ends
 
-pub record Pends {K : Type 0} (octets : List ℕ) (state : State K) : Type 0 where
-  pub few : length (pending_in (Some state)) ≤ 64
-  pub last : IsEnd (pending_in (Some state)) (bits octets)
+pub record Pends {K : Type 0} (octets : List ℕ) (state : ComplexReading K) : Type 0 where
+  pub few : length (pending_in state) ≤ 64
+  pub last : IsEnd (pending_in state) (bits octets)
 
-none_pending : (octets : List ℕ) → let none : List Bool = [] in IsEnd none (bits octets)
+pub none_pending : (octets : List ℕ) → let none : List Bool = [] in IsEnd none (bits octets)
 none_pending octets = record { before = bits octets; joined = append-nil (bits octets) }
 
-pub state_pends : {K : Type 0} (kept : K → List Point → K → Type 0) (s5 : List ℕ) (keeper : K) (start l : ℕ) (octets : List ℕ) (state : State K) → StateAgrees kept s5 keeper start l octets (Some state) → Pends octets state
+pub state_pends : {K : Type 0} (kept : K → List Point → K → Type 0) (s5 : List ℕ) (keeper : K) (start l : ℕ) (octets : List ℕ) (state : ComplexReading K) → StateAgrees kept s5 keeper start l octets state → Pends octets state
 state_pends kept s5 keeper start l octets (Begins b) agrees =
     let a = agrees.0 in
     let k = (b.complex.order + 1) * b.complex.extra in
@@ -217,6 +253,9 @@ state_pends kept s5 keeper start l octets (Lists b) agrees =
       few = few_listed b.complex.layout b.lists a.feedable.list;
       last = end_behind k octets (list_pending b.lists) (end_listed b.complex.layout a.lists.start (drop k octets) b.lists (omega (arith, agrees.1, length-drop k octets)) a.lists.listing);
     }
+state_pends kept s5 keeper start l octets (ReadsPlainly fed) agrees =
+    let reads = agrees.reads in
+    record { few = few_pending (2 ^ 49) fed reads.feedable; last = end_behind agrees.before octets (pending_of fed) reads.so_far.went.taken.ends }
 state_pends kept s5 keeper start l octets (Reads fed) agrees =
     record { few = few_pending (2 ^ 49) fed agrees.feedable; last = end_behind agrees.before octets (pending_of fed) agrees.so_far.went.taken.ends }
 state_pends kept s5 keeper start l octets (Passes after) agrees = record { few = omega arith; last = none_pending octets }
@@ -307,35 +346,7 @@ module _ (first : References) (fed : Fed References) (order extra l : ℕ) (all 
         joined = ap (λ (us : List ℕ). us ++ map number_of left) items ∙ sym (map-append number_of went.codes left) ∙ ap (map number_of) (sym whole) ∙ numbers_present (numbers_at order extra xs);
       }
 
--- ---- a feeder
-
-pub push_read : {K : Type 0} (kept : K → List Point → K → Type 0) (feeding : Feeding K) (state after : State K) (piece : List ℕ) (pushed : ℕ) → feeding.state ≡ Some state → pushed ≡ feeding.pushed + length piece → length piece ≤ octets_left feeding
-    → AreOctets piece
-    → ((s5 : List ℕ) (keeper : K) (octets : List ℕ) → length octets ≡ feeding.pushed → AreOctets octets → StateAgrees kept s5 keeper feeding.start feeding.length octets (Some state)
-    → StateAgrees kept s5 keeper feeding.start feeding.length (octets ++ piece) (Some after))
-    → (s5 : List ℕ) (keeper : K) (start l : ℕ) (octets : List ℕ) → HasRead kept s5 keeper start l octets feeding
-    → HasRead kept s5 keeper start l (octets ++ piece) (record feeding { pushed = pushed; state = Some after })
-push_read {K} kept feeding state after piece pushed is_state is_pushed room octets_known step s5 keeper start l octets read =
-    let before = subst (λ (o : Option (State K)). StateAgrees kept s5 keeper start l octets o) is_state read.state in
-    let at_start = subst (λ (n : ℕ). StateAgrees kept s5 keeper n l octets (Some state)) (sym read.start_is) before in
-    let at_length = subst (λ (n : ℕ). StateAgrees kept s5 keeper feeding.start n octets (Some state)) (sym read.length_is) at_start in
-    let next = step s5 keeper octets (sym read.pushed) read.known at_length in
-    let back = subst (λ (n : ℕ). StateAgrees kept s5 keeper n feeding.length (octets ++ piece) (Some after)) read.start_is next in
-    let now = subst (λ (n : ℕ). StateAgrees kept s5 keeper start n (octets ++ piece) (Some after)) read.length_is back in
-    let pends = state_pends kept s5 keeper start l (octets ++ piece) after now in
-    record {
-      spelled = read.spelled;
-      start_is = read.start_is;
-      low = read.low;
-      high = read.high;
-      length_is = read.length_is;
-      pushed = omega (arith, is_pushed, read.pushed, length-append octets piece);
-      within = omega (arith, room, read.pushed, read.within, read.length_is, length-append octets piece);
-      known = both_octets octets piece read.known octets_known;
-      few = pends.few;
-      last = pends.last;
-      state = now;
-    }
+-- ---- a whole section
 
 -- a section is what continues its own octets
 pub continues_itself : (s7 : List ℕ) → AreOctets (drop 5 s7) → Continues (drop 5 s7) (length s7) s7
@@ -370,10 +381,7 @@ module _ {K : Type 0} (kept : K → List Point → K → Type 0) (s5 : List ℕ)
       record {
         none = λ nowhere. reads.within s7 c (sym place ∙ nowhere);
         some = λ somewhere.
-            reads.beyond s7 c (omega (arith, place, somewhere)) (λ plain.
-            let stays = took.plain plain in
-            let zero_before : reads.first.teller.beyond ≡ 0 = reads.fresh.beyond in
-            absurd (omega (arith, stays.1, zero_before, somewhere)))
+            reads.beyond s7 c (omega (arith, place, somewhere))
             ∙ ap (λ (n : ℕ). Some (refusal start ScaledRange n)) (sym place);
         keeps = λ nowhere.
             let keeps = took.keeps reads.telling [] (omega arith) reads.fresh nowhere in
@@ -381,3 +389,10 @@ module _ {K : Type 0} (kept : K → List Point → K → Type 0) (s5 : List ℕ)
             subst (λ (k : K). kept k (entries_of s5 s7) after.keeper) reads.keeper_is told_all;
         counted = told_count reads.layout reads.groups reads.telling numbers (entries_of s5 s7) (value_count s5) entries reads.counted;
       }
+
+-- all packed numbers came, and they are the scaled numbers themselves
+module _ {K : Type 0} (kept : K → List Point → K → Type 0) (keeper : K) (s7 : List ℕ) (layout : Layout) (groups : List Group) (before : ℕ) (fed : Fed (PlainValues K)) (after : PlainValues K)
+    (reads : PlainAgrees kept keeper (length s7) (drop 5 s7) layout groups before fed)
+    (whole : packed_bits groups ≤ 8 * length (drop before (drop 5 s7)) → PlainTook kept (record { keeper = keeper }) (codes_from layout groups (bits (drop before (drop 5 s7)))) after) where
+  pub read_plainly : kept keeper (told Plainly (codes_from layout groups (bits (drop before (drop 5 s7))))) after.keeper
+  read_plainly = whole (omega (arith, reads.enough, length-drop before (drop 5 s7), length-drop 5 s7))

@@ -22,7 +22,6 @@ pub mod AllTheSame
 pub mod AtOnce
 pub mod NotedNumbers
 pub mod Described
-pub mod Represented
 pub mod AtLeast
 pub mod DifferencesTold
 pub mod AsWords

@@ -1,5 +1,5 @@
 -- Lemmas on what becomes of the codes of a Section 7.
-use Rattle.std.proofs.Common.{◌≡◌, ℕ, ◌+◌, ◌*◌, ◌<◌, ◌^◌, ◌⊎◌, Bool, true, false, cond, ◌&&◌, eqb, ltb, Option, Some, None, List, length, drop, refl, sym, ap, ap₂, ◌∙◌, arith, inl, inr}
+use Rattle.std.proofs.Common.{◌≡◌, ℕ, ◌+◌, ◌*◌, ◌<◌, ◌⊎◌, Bool, true, false, cond, ◌&&◌, eqb, ltb, Some, None, List, length, drop, refl, sym, ap, ap₂, ◌∙◌, arith, inl, inr}
 use Rattle.std.proofs.lemmas.Bool.{eq-eqb, lt-ltb}
 use Rattle.grib_base.specs.declared.fault.Reason.TheVariants.{FirstValueSign, ScaledRange}
 use Rattle.grib_base.specs.Rows.{first_fault, first_fault_at, first_place, located, refusal}
@@ -8,9 +8,7 @@ use Rattle.grib_packing.specs.Complex.{layout_of, difference_order, extra_octets
 use Rattle.grib_packing.specs.Entries.{codes_of, group_entries, first_value_rows, range_rows, group_data_fault, is_out_of_range}
 use Rattle.grib_packing.specs.Groups.{grouped, list_rows, group_rows}
 use Rattle.grib_packing.specs.Packing.{packing_template, value_count}
-use Rattle.grib_spatial.specs.Running.{Run}
-use Rattle.grib_complex.specs.Told.{Plainly, told}
-use Rattle.grib_complex.specs.Tells.{telling_of}
+use Rattle.grib_complex.specs.Told.{told}
 use Rattle.grib_complex.specs.Descriptors.{is_signed_at, telling_by, IsAccepted}
 use Rattle.grib_complex.specs.declared.representation.Complex.{Complex}
 use Rattle.grib_complex.specs.Representation.{Spelled}
@@ -54,10 +52,6 @@ module _ (s5 s7 : List ℕ) (layout : Layout) (skip count order extra template :
     | inl two ↦ entries-plain s5 s7 order extra same.is_order same.is_extra (sym same.is_template ∙ two.0) two.1
     | inr three ↦ entries-differences s5 s7 order extra same.is_order same.is_extra (sym same.is_template ∙ three.0) three.1
   ]
-
-pub no_run : (running : Option Run) → telling_of running ≡ Plainly → running ≡ None
-no_run None plain = refl
-no_run (Some run) plain = absurd (cc)
 
 -- ---- row S7.7
 

@@ -1,10 +1,9 @@
 -- Lemmas on the numbers of a Section 7 that came so far.
-use Rattle.std.proofs.Common.{◌≡◌, ℕ, ◌+◌, ◌-◌, ◌*◌, ◌<◌, ◌≤◌, ◌^◌, Bool, true, false, cond, ◌||◌, eqb, Option, Some, None, List, [], ◌∷◌, ◌++◌, length, take, drop, refl, sym, ap, ap₂, ◌∙◌, arith, subst}
+use Rattle.std.proofs.Common.{◌≡◌, ℕ, ◌+◌, ◌-◌, ◌*◌, ◌<◌, ◌≤◌, ◌^◌, Bool, true, false, List, [], ◌++◌, length, take, drop, refl, sym, ap, ap₂, ◌∙◌, arith, subst}
 use Rattle.std.proofs.lemmas.Bool.{cond-false, cond-true}
 use Rattle.std.proofs.lemmas.List.{drop-append-le, length-drop, length-take}
 use Rattle.std.proofs.Math.Seq.{take-append_seam}
 use Rattle.grib_bits.specs.Bits.{bits}
-use Rattle.grib_bits.specs.Octets.{octets as octets_of}
 use Rattle.grib_bits.proofs.OctetBits.{bits-append}
 use Rattle.grib_base.specs.declared.code.Code.{Code}
 use Rattle.grib_bitmap.specs.Mask.{present_count}
@@ -14,7 +13,7 @@ use Rattle.grib_packing.specs.declared.layout.Layout.{Layout}
 use Rattle.grib_packing.specs.Complex.{layout_of, descriptor_octets, difference_order, extra_octets}
 use Rattle.grib_packing.specs.Entries.{entries_of, has_no_groups}
 use Rattle.grib_packing.specs.Groups.{codes_from, groups as groups_told, list_octets}
-use Rattle.grib_packing.specs.Packing.{bit_width, packing_template, value_count}
+use Rattle.grib_packing.specs.Packing.{value_count}
 use Rattle.grib_groups.specs.declared.feeding.Fed.{Fed}
 use Rattle.grib_groups.specs.Feeding.{IsCaughtUp, WasFed, plain_groups}
 use Rattle.grib_groups.specs.Going.{left_of}
@@ -22,20 +21,20 @@ use Rattle.grib_groups.specs.Table.{groups_in}
 use Rattle.grib_groups.specs.Taking.{values, values_within}
 use Rattle.grib_groups.proofs.Pieces.{fed_within}
 use Rattle.grib_groups.proofs.Taken.{length-codes_from}
-use Rattle.grib_complex.specs.declared.feeding.Feeding.{Feeding}
 use Rattle.grib_packing.specs.declared.keeping.Points.{Points}
 use Rattle.grib_complex.specs.declared.representation.Complex.{Complex}
-use Rattle.grib_complex.specs.declared.stages.State.{State}
-use Rattle.grib_complex.specs.declared.stages.State.TheVariants.{Begins, Lists, Reads, Passes, Refused}
+use Rattle.grib_complex.specs.declared.stages.ComplexReading.{ComplexReading}
+use Rattle.grib_complex.specs.declared.stages.ComplexReading.TheVariants.{Begins, Lists, ReadsPlainly, Reads, Passes, Refused}
+use Rattle.grib_complex.specs.declared.values.PlainValues.{PlainValues}
 use Rattle.grib_complex.specs.declared.values.Values.{Values}
 use Rattle.grib_complex.specs.Descriptors.{IsAccepted, telling_by}
-use Rattle.grib_complex.specs.Feeding.{Agrees, ColumnAgrees, Continues, HasRead, KeepsMask, PassingAgrees, PointsAgree, ReadingAgrees, StateAgrees, entries_so_far, first_telling, is_one_list, number_groups, numbers_in, octets_before, table_of}
+use Rattle.grib_complex.specs.Feeding.{ColumnAgrees, Continues, PassingAgrees, PlainAgrees, PointsAgree, ReadingAgrees, ReadingPlainly, StateAgrees, entries_so_far, first_telling, keeper_in, number_groups, numbers_in, octets_before, table_of}
 use Rattle.grib_packing.specs.Kept.{ArePoints, PointsKept}
 use Rattle.grib_complex.specs.Laws.{told-append}
 use Rattle.grib_complex.specs.Representation.{Spelled}
-use Rattle.grib_complex.specs.Tells.{PointsWent, Tells, ValuesTook, telling_of}
+use Rattle.grib_complex.specs.Tells.{PlainTook, PointsWent, Tells, ValuesTook, telling_of}
 use Rattle.grib_complex.specs.Told.{Telling, Plainly, after, told, undoing}
-use Rattle.grib_complex.proofs.Arriving.{groups_came, has_groups, template_of}
+use Rattle.grib_complex.proofs.Arriving.{groups_came, has_groups}
 use Rattle.grib_complex.proofs.Outcome.{numbers_with}
 use Rattle.grib_complex.proofs.Told.{length-told}
 
@@ -48,6 +47,43 @@ undone kept layout groups telling first octets fed so_far fresh =
 
 -- ---- the points of the numbers that came
 
+-- they are the first of those that all codes tell
+module _ {S : Type 0} (took : S → List Code → S → Type 0) (l : ℕ) (octets : List ℕ) (layout : Layout) (groups : List Group) (telling : Telling) (first : S) (before : ℕ) (fed : Fed S)
+    (so_far : WasFed took layout groups first (drop before octets) fed) (caught_up : IsCaughtUp fed) (came : before ≤ length octets) (s7 : List ℕ) (c : Continues octets l s7) where
+  first_told : take (values_within groups (8 * (length octets - before))) (told telling (codes_from layout groups (bits (drop before (drop 5 s7))))) ≡ told telling so_far.went.codes
+  first_told =
+      let codes = so_far.went.codes in
+      let points = told telling codes in
+      let later = codes_from layout (left_of fed.numbers (groups_in fed.table)) (fed.numbers.pending ++ bits c.rest) in
+      let behind : drop before (drop 5 s7) ≡ drop before octets ++ c.rest = ap (drop before) c.joined ∙ drop-append-le before octets c.rest came in
+      let all : codes_from layout groups (bits (drop before (drop 5 s7))) ≡ codes ++ later =
+      ap (λ (os : List ℕ). codes_from layout groups (bits os)) behind
+      ∙ ap (codes_from layout groups) (bits-append (drop before octets) c.rest)
+      ∙ so_far.went.taken.agree (bits c.rest) in
+      let parts : told telling (codes_from layout groups (bits (drop before (drop 5 s7)))) ≡ points ++ told (after telling codes) later = ap (told telling) all ∙ told-append telling codes later in
+      let count : values_within groups (8 * (length octets - before)) ≡ length points =
+      ap (λ (n : ℕ). values_within groups (8 * n)) (sym (length-drop before octets))
+      ∙ sym (fed_within took layout groups first (drop before octets) fed so_far caught_up)
+      ∙ sym (length-told telling codes) in
+      ap₂ take count parts ∙ take-append_seam points (told (after telling codes) later)
+
+-- where the codes are the scaled numbers themselves
+module _ {K : Type 0} (kept : K → List Point → K → Type 0) (keeper : K) (l : ℕ) (octets : List ℕ) (layout : Layout) (groups : List Group) (before : ℕ) (fed : Fed (PlainValues K))
+    (reads : PlainAgrees kept keeper l octets layout groups before fed) (s7 : List ℕ) (c : Continues octets l s7) where
+  pub plain_points : kept keeper (take (values_within groups (8 * (length octets - before))) (told Plainly (codes_from layout groups (bits (drop before (drop 5 s7)))))) fed.taker.keeper
+  plain_points =
+      subst (λ (ps : List Point). kept keeper ps fed.taker.keeper)
+      (sym (first_told (PlainTook kept) l octets layout groups Plainly (record { keeper = keeper }) before fed reads.so_far reads.caught_up reads.came s7 c)) reads.so_far.went.passed
+
+module _ {K : Type 0} (kept : K → List Point → K → Type 0) (s5 : List ℕ) (keeper : K) (l : ℕ) (octets : List ℕ) (layout : Layout) (groups : List Group) (before : ℕ) (fed : Fed (PlainValues K))
+    (reads : PlainAgrees kept keeper l octets layout groups before fed) (s7 : List ℕ) (c : Continues octets l s7) (entries : told Plainly (codes_from layout groups (bits (drop before (drop 5 s7)))) ≡ entries_of s5 s7) where
+  pub plain_so_far : groups ≡ number_groups s5 s7 → before ≡ octets_before s5 → kept keeper (entries_so_far s5 s7 octets) fed.taker.keeper
+  plain_so_far groups_are before_is =
+      subst (λ (ps : List Point). kept keeper ps fed.taker.keeper)
+      (ap (take (values_within groups (8 * (length octets - before)))) entries ∙ ap₂ (λ (gs : List Group) (n : ℕ). take (values_within gs (8 * (length octets - n))) (entries_of s5 s7)) groups_are before_is)
+      (plain_points kept keeper l octets layout groups before fed reads s7 c)
+
+-- where they are those of differences
 module _ {K : Type 0} (kept : K → List Point → K → Type 0) (s5 : List ℕ) (keeper : K) (l : ℕ) (octets : List ℕ) (layout : Layout) (groups : List Group) (telling : Telling) (first : Values K) (before : ℕ) (fed : Fed (Values K))
     (so_far : WasFed (ValuesTook kept) layout groups first (drop before octets) fed) (caught_up : IsCaughtUp fed) (fresh : Tells telling [] first.teller) (keeper_is : first.keeper ≡ keeper) (few : values groups < 2 ^ 32) (came : before ≤ length octets) where
   room : length so_far.went.codes < 2 ^ 63
@@ -71,79 +107,45 @@ module _ {K : Type 0} (kept : K → List Point → K → Type 0) (s5 : List ℕ)
         keeps = λ none. subst (λ (k : K). kept k points fed.taker.keeper) keeper_is (so_far.went.passed.keeps telling [] (omega (arith, room)) fresh none);
       }
 
-  module _ (s7 : List ℕ) (c : Continues octets l s7) (entries : told telling (codes_from layout groups (bits (drop before (drop 5 s7)))) ≡ entries_of s5 s7) where
-    -- they are the first entries
-    first_entries : take (values_within groups (8 * (length octets - before))) (entries_of s5 s7) ≡ told telling so_far.went.codes
-    first_entries =
-        let codes = so_far.went.codes in
-        let points = told telling codes in
-        let later = codes_from layout (left_of fed.numbers (groups_in fed.table)) (fed.numbers.pending ++ bits c.rest) in
-        let behind : drop before (drop 5 s7) ≡ drop before octets ++ c.rest = ap (drop before) c.joined ∙ drop-append-le before octets c.rest came in
-        let all : codes_from layout groups (bits (drop before (drop 5 s7))) ≡ codes ++ later =
-        ap (λ (os : List ℕ). codes_from layout groups (bits os)) behind
-        ∙ ap (codes_from layout groups) (bits-append (drop before octets) c.rest)
-        ∙ so_far.went.taken.agree (bits c.rest) in
-        let parts : entries_of s5 s7 ≡ points ++ told (after telling codes) later = sym entries ∙ ap (told telling) all ∙ told-append telling codes later in
-        let count : values_within groups (8 * (length octets - before)) ≡ length points =
-        ap (λ (n : ℕ). values_within groups (8 * n)) (sym (length-drop before octets))
-        ∙ sym (fed_within (ValuesTook kept) layout groups first (drop before octets) fed so_far caught_up)
-        ∙ sym (length-told telling codes) in
-        ap₂ take count parts ∙ take-append_seam points (told (after telling codes) later)
-
-    pub points_agree : groups ≡ number_groups s5 s7 → before ≡ octets_before s5 → PointsAgree kept keeper (entries_so_far s5 s7 octets) fed.taker
-    points_agree groups_are before_is =
-        subst (λ (ps : List Point). PointsAgree kept keeper ps fed.taker)
-        (sym first_entries ∙ ap₂ (λ (gs : List Group) (n : ℕ). take (values_within gs (8 * (length octets - n))) (entries_of s5 s7)) groups_are before_is) points_told
+  pub points_agree : (s7 : List ℕ) → Continues octets l s7 → told telling (codes_from layout groups (bits (drop before (drop 5 s7)))) ≡ entries_of s5 s7 → groups ≡ number_groups s5 s7 → before ≡ octets_before s5
+      → PointsAgree kept keeper (entries_so_far s5 s7 octets) fed.taker
+  points_agree s7 c entries groups_are before_is =
+      subst (λ (ps : List Point). PointsAgree kept keeper ps fed.taker)
+      (sym (first_told (ValuesTook kept) l octets layout groups telling first before fed so_far caught_up came s7 c)
+      ∙ ap (take (values_within groups (8 * (length octets - before)))) entries
+      ∙ ap₂ (λ (gs : List Group) (n : ℕ). take (values_within gs (8 * (length octets - n))) (entries_of s5 s7)) groups_are before_is) points_told
 
 -- ---- what a section holds
 
--- where all numbers are one list
-module _ (s5 : List ℕ) (one : is_one_list s5 ≡ true) where
+-- where Section 5 has no groups
+module _ (s5 : List ℕ) (none : has_no_groups s5 ≡ true) where
   pub no_table : (s7 : List ℕ) → [] ≡ table_of s5 s7
-  no_table s7 = sym (cond-true (is_one_list s5) [] (groups_told (layout_of s5) (drop (5 + descriptor_octets s5) s7)) one)
+  no_table s7 = sym (cond-true (has_no_groups s5) [] (groups_told (layout_of s5) (drop (5 + descriptor_octets s5) s7)) none)
 
   pub none_before : 0 ≡ octets_before s5
-  none_before = sym (cond-true (is_one_list s5) 0 (descriptor_octets s5 + list_octets (layout_of s5)) one)
+  none_before = sym (cond-true (has_no_groups s5) 0 (descriptor_octets s5 + list_octets (layout_of s5)) none)
 
   pub told_plainly : (s7 : List ℕ) → Plainly ≡ first_telling s5 s7
-  told_plainly s7 = sym (cond-true (is_one_list s5) Plainly (telling_by (difference_order s5) (extra_octets s5) s7) one)
+  told_plainly s7 = sym (cond-true (has_no_groups s5) Plainly (telling_by (difference_order s5) (extra_octets s5) s7) none)
 
--- in simple packing
-module _ (s5 : List ℕ) (simple : eqb (packing_template s5) 0 ≡ true) where
-  pub one_list : is_one_list s5 ≡ true
-  one_list = ap (λ (b : Bool). b || has_no_groups s5) simple
-
-  pub one_group : (w count : ℕ) → w ≡ bit_width s5 → count ≡ value_count s5 → (s7 : List ℕ) → plain_groups w count ≡ number_groups s5 s7
-  one_group w count is_w is_count s7 =
-      ap₂ plain_groups is_w is_count
-      ∙ sym (cond-true (eqb (packing_template s5) 0) (plain_groups (bit_width s5) (value_count s5)) (cond (has_no_groups s5) (plain_groups 0 (value_count s5)) (table_of s5 s7)) simple)
-
--- where Section 5 has no groups
-module _ (s5 : List ℕ) (grouped : eqb (packing_template s5) 0 ≡ false) (none : eqb (octets_of s5 32 35) 0 ≡ true) where
-  pub one_list_of_none : is_one_list s5 ≡ true
-  one_list_of_none = ap₂ (λ (a b : Bool). a || b) grouped none
-
-  pub one_group_of_none : (count : ℕ) → count ≡ value_count s5 → (s7 : List ℕ) → plain_groups 0 count ≡ number_groups s5 s7
-  one_group_of_none count is_count s7 =
-      ap (plain_groups 0) is_count
-      ∙ sym (cond-false (eqb (packing_template s5) 0) (plain_groups (bit_width s5) (value_count s5)) (cond (has_no_groups s5) (plain_groups 0 (value_count s5)) (table_of s5 s7)) grouped
-      ∙ cond-true (has_no_groups s5) (plain_groups 0 (value_count s5)) (table_of s5 s7) none)
+  pub one_group : (count : ℕ) → count ≡ value_count s5 → (s7 : List ℕ) → plain_groups 0 count ≡ number_groups s5 s7
+  one_group count is_count s7 = ap (plain_groups 0) is_count ∙ sym (cond-true (has_no_groups s5) (plain_groups 0 (value_count s5)) (table_of s5 s7) none)
 
 -- where it has some
 module _ (complex : Complex) (s5 : List ℕ) (spelled : Spelled complex s5) (accepted : IsAccepted complex) (some : 1 ≤ complex.layout.groups) where
-  many_lists : is_one_list s5 ≡ false
-  many_lists = ap₂ (λ (a b : Bool). a || b) (template_of complex s5 spelled accepted) (has_groups complex s5 spelled accepted some [])
+  many_lists : has_no_groups s5 ≡ false
+  many_lists = has_groups complex s5 spelled accepted some []
 
   pub lists_before : (complex.order + 1) * complex.extra + list_octets complex.layout ≡ octets_before s5
   lists_before =
       let same = numbers_with complex s5 ((complex.order + 1) * complex.extra) spelled accepted refl in
       ap₂ (λ (k : ℕ) (layout : Layout). k + list_octets layout) same.is_skip same.is_layout
-      ∙ sym (cond-false (is_one_list s5) 0 (descriptor_octets s5 + list_octets (layout_of s5)) many_lists)
+      ∙ sym (cond-false (has_no_groups s5) 0 (descriptor_octets s5 + list_octets (layout_of s5)) many_lists)
 
   pub told_by : (s7 : List ℕ) → telling_by complex.order complex.extra s7 ≡ first_telling s5 s7
   told_by s7 =
       ap₂ (λ (order extra : ℕ). telling_by order extra s7) spelled.order spelled.extra
-      ∙ sym (cond-false (is_one_list s5) Plainly (telling_by (difference_order s5) (extra_octets s5) s7) many_lists)
+      ∙ sym (cond-false (has_no_groups s5) Plainly (telling_by (difference_order s5) (extra_octets s5) s7) many_lists)
 
   module _ (l : ℕ) (octets s7 : List ℕ) (c : Continues octets l s7) (whole : (complex.order + 1) * complex.extra + list_octets complex.layout ≤ length octets) where
     pub table_came : groups_told complex.layout (drop ((complex.order + 1) * complex.extra) octets) ≡ table_of s5 s7
@@ -152,13 +154,12 @@ module _ (complex : Complex) (s5 : List ℕ) (spelled : Spelled complex s5) (acc
         let same = numbers_with complex s5 k spelled accepted refl in
         sym (groups_came complex.layout k complex.simple.values l octets s7 c whole)
         ∙ ap₂ (λ (layout : Layout) (n : ℕ). groups_told layout (drop (5 + n) s7)) same.is_layout same.is_skip
-        ∙ sym (cond-false (is_one_list s5) [] (groups_told (layout_of s5) (drop (5 + descriptor_octets s5) s7)) many_lists)
+        ∙ sym (cond-false (has_no_groups s5) [] (groups_told (layout_of s5) (drop (5 + descriptor_octets s5) s7)) many_lists)
 
     pub numbers_came : groups_told complex.layout (drop ((complex.order + 1) * complex.extra) octets) ≡ number_groups s5 s7
     numbers_came =
         table_came
-        ∙ sym (cond-false (eqb (packing_template s5) 0) (plain_groups (bit_width s5) (value_count s5)) (cond (has_no_groups s5) (plain_groups 0 (value_count s5)) (table_of s5 s7)) (template_of complex s5 spelled accepted)
-        ∙ cond-false (has_no_groups s5) (plain_groups 0 (value_count s5)) (table_of s5 s7) (has_groups complex s5 spelled accepted some []))
+        ∙ sym (cond-false (has_no_groups s5) (plain_groups 0 (value_count s5)) (table_of s5 s7) many_lists)
 
 -- ---- the column of a feeder
 
@@ -181,34 +182,37 @@ module _ (s5 : List ℕ) (mask : List Bool) (start l : ℕ) (octets : List ℕ) 
       let added = agree.keeps none in
       added.keeps mask [] (omega (arith, counted, all, length-take (numbers_in s5 s7 octets) (entries_of s5 s7))) empty
 
+  plain_mask : (fed : Fed (PlainValues Points)) → ReadingPlainly PointsKept s5 first l octets fed → fed.taker.keeper.mask.value ≡ mask
+  plain_mask fed reading =
+      let went = reading.reads.so_far.went in
+      let are = went.passed.keeps mask [] (omega (arith, length-told Plainly went.codes, went.taken.counted, reading.counted, counted)) empty in
+      are.mask_stays
+
+  plain_column : (fed : Fed (PlainValues Points)) → ReadingPlainly PointsKept s5 first l octets fed → (s7 : List ℕ) → Continues octets l s7 → ArePoints mask (entries_so_far s5 s7 octets) fed.taker.keeper
+  plain_column fed reading s7 c =
+      let numbers = bits (drop reading.before (drop 5 s7)) in
+      let all : length (entries_of s5 s7) ≡ value_count s5 =
+      sym (ap length (reading.entries s7 c)) ∙ length-told Plainly (codes_from reading.layout reading.groups numbers) ∙ length-codes_from reading.layout reading.groups numbers ∙ reading.counted in
+      let added = reading.points s7 c in
+      added.keeps mask [] (omega (arith, counted, all, length-take (numbers_in s5 s7 octets) (entries_of s5 s7))) empty
+
   passes_column : (after_them : Points) → PassingAgrees PointsKept s5 first l octets after_them → ArePoints mask [] after_them
   passes_column after_them passing =
       let added = passing.keeps [] in
       added.keeps mask [] (omega arith) empty
 
-  state_mask : (state : Option (State Points)) → StateAgrees PointsKept s5 first start l octets state → KeepsMask mask state
-  state_mask None agrees = agrees
-  state_mask (Some (Begins beginning)) agrees = let same = agrees.0.keeper_is in ap (λ (p : Points). p.mask.value) same ∙ empty.mask_stays
-  state_mask (Some (Lists between)) agrees = let same = agrees.0.keeper_is in ap (λ (p : Points). p.mask.value) same ∙ empty.mask_stays
-  state_mask (Some (Reads fed)) agrees = reads_mask fed agrees
-  state_mask (Some (Passes after_them)) agrees = let are = passes_column after_them agrees in are.mask_stays
-  state_mask (Some (Refused fault after_them)) agrees = ap (λ (p : Points). p.mask.value) agrees.1 ∙ empty.mask_stays
+  pub state_mask : (state : ComplexReading Points) → StateAgrees PointsKept s5 first start l octets state → (keeper_in state).mask.value ≡ mask
+  state_mask (Begins beginning) agrees = let same = agrees.0.keeper_is in ap (λ (p : Points). p.mask.value) same ∙ empty.mask_stays
+  state_mask (Lists between) agrees = let same = agrees.0.keeper_is in ap (λ (p : Points). p.mask.value) same ∙ empty.mask_stays
+  state_mask (ReadsPlainly fed) agrees = plain_mask fed agrees
+  state_mask (Reads fed) agrees = reads_mask fed agrees
+  state_mask (Passes after_them) agrees = let are = passes_column after_them agrees in are.mask_stays
+  state_mask (Refused fault after_them) agrees = ap (λ (p : Points). p.mask.value) agrees.1 ∙ empty.mask_stays
 
-  state_column : (state : Option (State Points)) → StateAgrees PointsKept s5 first start l octets state → ColumnAgrees s5 mask l octets state
-  state_column None agrees = agrees
-  state_column (Some (Begins beginning)) agrees = subst (λ (p : Points). ArePoints mask [] p) (sym agrees.0.keeper_is) empty
-  state_column (Some (Lists between)) agrees = subst (λ (p : Points). ArePoints mask [] p) (sym agrees.0.keeper_is) empty
-  state_column (Some (Reads fed)) agrees = reads_column fed agrees
-  state_column (Some (Passes after_them)) agrees = passes_column after_them agrees
-  state_column (Some (Refused fault after_them)) agrees = subst (λ (p : Points). ArePoints mask [] p) (sym agrees.1) empty
-
-  -- what was read agrees
-  pub column_agrees : (feeder : Feeding Points) → HasRead PointsKept s5 first start l octets feeder → Agrees s5 mask start l octets feeder
-  column_agrees feeder read = record {
-    first = first;
-    empty = empty;
-    counted = counted;
-    read = read;
-    mask_stays = state_mask feeder.state read.state;
-    column = state_column feeder.state read.state;
-  }
+  pub state_column : (state : ComplexReading Points) → StateAgrees PointsKept s5 first start l octets state → ColumnAgrees s5 mask l octets state
+  state_column (Begins beginning) agrees = subst (λ (p : Points). ArePoints mask [] p) (sym agrees.0.keeper_is) empty
+  state_column (Lists between) agrees = subst (λ (p : Points). ArePoints mask [] p) (sym agrees.0.keeper_is) empty
+  state_column (ReadsPlainly fed) agrees = plain_column fed agrees
+  state_column (Reads fed) agrees = reads_column fed agrees
+  state_column (Passes after_them) agrees = passes_column after_them agrees
+  state_column (Refused fault after_them) agrees = subst (λ (p : Points). ArePoints mask [] p) (sym agrees.1) empty

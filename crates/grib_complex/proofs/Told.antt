@@ -62,10 +62,3 @@ undoing-one (After d last) Secondary = refl
 pub undoing-after : (telling : Telling) (codes : List Code) → undoing (after telling codes) ≡ undoing telling
 undoing-after telling [] = refl
 undoing-after telling (code ∷ codes) = undoing-after (telling_after telling code) codes ∙ undoing-one telling code
-
--- codes that are the scaled numbers themselves stay so
-pub after-plainly : (codes : List Code) → after Plainly codes ≡ Plainly
-after-plainly [] = refl
-after-plainly (Present n ∷ codes) = after-plainly codes
-after-plainly (Primary ∷ codes) = after-plainly codes
-after-plainly (Secondary ∷ codes) = after-plainly codes

@@ -1,6 +1,6 @@
 -- The extra descriptors of spatial differencing, by their order and octets (WMO-No. 306, Volume I.2, FM 92
 -- GRIB edition 2, data template 7.3).
-use Rattle.std.specs.Prelude.{◌≡◌, ℕ, ◌+◌, ◌-◌, ◌*◌, ◌/◌, ◌^◌, ◌<◌, ◌≤◌, ◌⊎◌, Bool, false, cond, ◌&&◌, ◌==◌, nat_lt, Option, Some, None, List, get_or, length, pos, nat_abs}
+use Rattle.std.specs.Prelude.{◌≡◌, ℕ, ◌+◌, ◌-◌, ◌*◌, ◌/◌, ◌^◌, ◌≤◌, ◌⊎◌, Bool, cond, ◌&&◌, ◌==◌, nat_lt, Option, Some, None, List, get_or, length, pos, nat_abs}
 use Rattle.grib_bits.specs.Bits.{bits, bits_of, signed}
 use Rattle.grib_bits.specs.Plain.{plain}
 use Rattle.grib_bits.specs.Octets.{octets, signed_octets}

@@ -1,7 +1,6 @@
 -- A Section 7 that comes in pieces: what is known of it by the octets that came after its fifth.
-use Rattle.std.specs.Prelude.{◌≡◌, ℕ, ◌+◌, ◌-◌, ◌*◌, ◌^◌, ◌<◌, ◌≤◌, Bool, false, cond, ◌||◌, ◌==◌, Option, None, Some, List, [], ◌++◌, get_or, length, take, drop, nat_abs, vec_capacity}
+use Rattle.std.specs.Prelude.{◌≡◌, ℕ, ◌+◌, ◌-◌, ◌*◌, ◌^◌, ◌<◌, ◌≤◌, Bool, false, cond, None, Some, List, [], ◌++◌, get_or, length, take, drop, nat_abs, vec_capacity}
 use Rattle.grib_bits.specs.Bits.{bits}
-use Rattle.grib_bitmap.specs.Mask.{present_count}
 use Rattle.grib_base.specs.declared.fault.Fault.{Fault}
 use Rattle.grib_base.specs.declared.fault.Reason.TheVariants.{ScaledRange}
 use Rattle.grib_base.specs.Rows.{first_place, located, refusal}
@@ -10,26 +9,25 @@ use Rattle.grib_packing.specs.declared.layout.Layout.{Layout}
 use Rattle.grib_packing.specs.Complex.{layout_of, descriptor_octets, difference_order, extra_octets}
 use Rattle.grib_packing.specs.Entries.{data_fault, entries_of, has_no_groups, is_out_of_range}
 use Rattle.grib_packing.specs.Groups.{codes_from, groups, list_octets, packed_bits}
-use Rattle.grib_packing.specs.Packing.{bit_width, packing_template, value_count}
-use Rattle.grib_packing.specs.Representation as simple
+use Rattle.grib_packing.specs.Packing.{value_count}
 use Rattle.grib_packing.specs.declared.column.Point.{Point}
 use Rattle.grib_groups.specs.declared.feeding.Fed.{Fed}
 use Rattle.grib_groups.specs.declared.lists.References.{References}
 use Rattle.grib_groups.specs.Feeding.{AreFeedable, HasRoom, IsCaughtUp, IsFeedable, IsList, ListsFed, WasFed, list_pending, no_marks, part, pending_of, plain_groups}
 use Rattle.grib_groups.specs.Lists.{AreEmpty, ReferencesRoom, ReferencesTook}
 use Rattle.grib_groups.specs.Table.{groups_in}
-use Rattle.grib_groups.specs.Taking.{IsEnd, values, values_within}
+use Rattle.grib_groups.specs.Taking.{values, values_within}
 use Rattle.grib_complex.specs.declared.stages.Beginning.{Beginning}
 use Rattle.grib_complex.specs.declared.stages.Between.{Between}
-use Rattle.grib_complex.specs.declared.feeding.Feeding.{Feeding}
-use Rattle.grib_complex.specs.declared.stages.State.{State}
-use Rattle.grib_complex.specs.declared.stages.State.TheVariants.{Begins, Lists, Reads, Passes, Refused}
+use Rattle.grib_complex.specs.declared.stages.ComplexReading.{ComplexReading}
+use Rattle.grib_complex.specs.declared.stages.ComplexReading.TheVariants.{Begins, Lists, ReadsPlainly, Reads, Passes, Refused}
 use Rattle.grib_packing.specs.declared.keeping.Points.{Points}
+use Rattle.grib_complex.specs.declared.values.PlainValues.{PlainValues}
 use Rattle.grib_complex.specs.declared.values.Values.{Values}
 use Rattle.grib_complex.specs.Descriptors.{IsAccepted, is_signed_at, telling_by, telling_told}
-use Rattle.grib_packing.specs.Kept.{ArePoints, PointsKept}
+use Rattle.grib_packing.specs.Kept.{ArePoints}
 use Rattle.grib_complex.specs.Representation.{Spelled}
-use Rattle.grib_complex.specs.Tells.{Tells, PointsWent, ValuesTook, telling_of}
+use Rattle.grib_complex.specs.Tells.{PlainTook, PointsWent, Tells, ValuesTook, telling_of}
 use Rattle.grib_complex.specs.Told.{Telling, Plainly, told, undoing}
 
 abbrev pub AreOctets : List ℕ → Type 0
@@ -52,27 +50,21 @@ AreClear order extra l octets = (j : ℕ) → j < order → (j + 1) * extra ≤ 
 
 -- ---- what a section holds
 
--- whether the numbers of all values are one list: in simple packing, and where there are no groups
-abbrev pub is_one_list : List ℕ → Bool
-is_one_list s5 = packing_template s5 == 0 || has_no_groups s5
-
 -- the group table: the references, widths and lengths that the three lists tell
 abbrev pub table_of : List ℕ → List ℕ → List Group
-table_of s5 s7 = cond (is_one_list s5) [] (groups (layout_of s5) (drop (5 + descriptor_octets s5) s7))
+table_of s5 s7 = cond (has_no_groups s5) [] (groups (layout_of s5) (drop (5 + descriptor_octets s5) s7))
 
 -- the groups of the packed numbers; where Section 5 has no groups, each value is a number of no bits
 abbrev pub number_groups : List ℕ → List ℕ → List Group
-number_groups s5 s7 =
-    cond (packing_template s5 == 0) (plain_groups (bit_width s5) (value_count s5))
-    (cond (has_no_groups s5) (plain_groups 0 (value_count s5)) (table_of s5 s7))
+number_groups s5 s7 = cond (has_no_groups s5) (plain_groups 0 (value_count s5)) (table_of s5 s7)
 
 -- the octets between the fifth and the first packed number
 abbrev pub octets_before : List ℕ → ℕ
-octets_before s5 = cond (is_one_list s5) 0 (descriptor_octets s5 + list_octets (layout_of s5))
+octets_before s5 = cond (has_no_groups s5) 0 (descriptor_octets s5 + list_octets (layout_of s5))
 
 -- what the first code is told with: the first values and the minimum that stand in the section, if any
 abbrev pub first_telling : List ℕ → List ℕ → Telling
-first_telling s5 s7 = cond (is_one_list s5) Plainly (telling_by (difference_order s5) (extra_octets s5) s7)
+first_telling s5 s7 = cond (has_no_groups s5) Plainly (telling_by (difference_order s5) (extra_octets s5) s7)
 
 -- how many packed numbers end in these octets, which come after the fifth
 abbrev pub numbers_in : List ℕ → List ℕ → List ℕ → ℕ
@@ -128,7 +120,31 @@ pub record PointsAgree {K : Type 0} (kept : K → List Point → K → Type 0) (
   pub went : PointsWent kept keeper (length points) after_them.keeper
   pub keeps : after_them.teller.beyond ≡ 0 → kept keeper points after_them.keeper
 
--- The packed numbers of some groups stand after the first `before` octets: those that came went to what keeps
+-- The packed numbers of these groups, which are the scaled numbers themselves, stand after the first `before` octets:
+-- the points of those that came are kept, and no further number ends in these octets.
+pub record PlainAgrees {K : Type 0} (kept : K → List Point → K → Type 0) (keeper : K) (l : ℕ) (octets : List ℕ) (layout : Layout) (groups : List Group) (before : ℕ) (fed : Fed (PlainValues K)) : Type 0 where
+  pub came : before ≤ length octets
+  pub enough : 8 * (5 + before) + packed_bits groups ≤ 8 * l
+  pub feedable : IsFeedable (2 ^ 49) fed
+  pub so_far : WasFed (PlainTook kept) layout groups (record { keeper = keeper }) (drop before octets) fed
+  pub caught_up : IsCaughtUp fed
+
+-- They are those of a field in complex packing. No row fails, whatever comes.
+pub record ReadingPlainly {K : Type 0} (kept : K → List Point → K → Type 0) (s5 : List ℕ) (keeper : K) (l : ℕ) (octets : List ℕ) (fed : Fed (PlainValues K)) : Type 0 where
+  pub layout : Layout
+  pub groups : List Group
+  pub before : ℕ
+  pub reads : PlainAgrees kept keeper l octets layout groups before fed
+  pub counted : values groups ≡ value_count s5
+  pub entries : (s7 : List ℕ) → Continues octets l s7 → told Plainly (codes_from layout groups (bits (drop before (drop 5 s7)))) ≡ entries_of s5 s7
+  pub passes : (s7 : List ℕ) → Continues octets l s7 → data_fault s5 s7 ≡ None
+  pub before_is : before ≡ octets_before s5
+  pub groups_are : (s7 : List ℕ) → Continues octets l s7 → groups ≡ number_groups s5 s7
+  pub table : (s7 : List ℕ) → Continues octets l s7 → groups_in fed.table ≡ table_of s5 s7
+  pub telling_is : (s7 : List ℕ) → Continues octets l s7 → Plainly ≡ first_telling s5 s7
+  pub points : (s7 : List ℕ) → Continues octets l s7 → kept keeper (entries_so_far s5 s7 octets) fed.taker.keeper
+
+-- The packed numbers of some groups, which are those of differences, stand after the first `before` octets: those that came went to what keeps
 -- the points, and no further number ends in these octets. The groups, their table, what the codes are told with and
 -- the points are those of each such section. No row but that on the range of the numbers fails, and each such
 -- section has the entries that the codes of these groups tell.
@@ -148,8 +164,7 @@ pub record ReadingAgrees {K : Type 0} (kept : K → List Point → K → Type 0)
   pub enough : 8 * (5 + before) + packed_bits groups ≤ 8 * l
   pub entries : (s7 : List ℕ) → Continues octets l s7 → told telling (codes_from layout groups (bits (drop before (drop 5 s7)))) ≡ entries_of s5 s7
   pub within : (s7 : List ℕ) → Continues octets l s7 → first_place is_out_of_range (entries_of s5 s7) ≡ 0 → data_fault s5 s7 ≡ None
-  pub beyond : (s7 : List ℕ) → Continues octets l s7 → 0 < first_place is_out_of_range (entries_of s5 s7) → (first.teller.running ≡ None → ⊥)
-      → located start (data_fault s5 s7) ≡ Some (refusal start ScaledRange (first_place is_out_of_range (entries_of s5 s7)))
+  pub beyond : (s7 : List ℕ) → Continues octets l s7 → 0 < first_place is_out_of_range (entries_of s5 s7) → located start (data_fault s5 s7) ≡ Some (refusal start ScaledRange (first_place is_out_of_range (entries_of s5 s7)))
   pub caught_up : IsCaughtUp fed
   pub before_is : before ≡ octets_before s5
   pub groups_are : (s7 : List ℕ) → Continues octets l s7 → groups ≡ number_groups s5 s7
@@ -164,16 +179,16 @@ pub record PassingAgrees {K : Type 0} (kept : K → List Point → K → Type 0)
   pub counted : (s7 : List ℕ) → Continues octets l s7 → length (entries_of s5 s7) ≡ value_count s5
   pub keeps : (points : List Point) → kept keeper points after
 
-abbrev pub StateAgrees : {K : Type 0} → (K → List Point → K → Type 0) → List ℕ → K → ℕ → ℕ → List ℕ → Option (State K) → Type 0
-StateAgrees kept s5 keeper start l octets None = ⊥
-StateAgrees kept s5 keeper start l octets (Some (Begins beginning)) = BeginningAgrees s5 keeper l octets beginning × (length octets < (beginning.complex.order + 1) * beginning.complex.extra) × AreClear beginning.complex.order beginning.complex.extra l octets
-StateAgrees kept s5 keeper start l octets (Some (Lists between)) = ListingAgrees s5 keeper l octets octets between × (length octets < (between.complex.order + 1) * between.complex.extra + list_octets between.complex.layout)
-StateAgrees kept s5 keeper start l octets (Some (Reads fed)) = ReadingAgrees kept s5 keeper start l octets fed
-StateAgrees kept s5 keeper start l octets (Some (Passes after)) = PassingAgrees kept s5 keeper l octets after
-StateAgrees kept s5 keeper start l octets (Some (Refused fault after)) = IsFaultOf s5 start l octets fault × (after ≡ keeper)
+abbrev pub StateAgrees : {K : Type 0} → (K → List Point → K → Type 0) → List ℕ → K → ℕ → ℕ → List ℕ → ComplexReading K → Type 0
+StateAgrees kept s5 keeper start l octets (Begins beginning) = BeginningAgrees s5 keeper l octets beginning × (length octets < (beginning.complex.order + 1) * beginning.complex.extra) × AreClear beginning.complex.order beginning.complex.extra l octets
+StateAgrees kept s5 keeper start l octets (Lists between) = ListingAgrees s5 keeper l octets octets between × (length octets < (between.complex.order + 1) * between.complex.extra + list_octets between.complex.layout)
+StateAgrees kept s5 keeper start l octets (ReadsPlainly fed) = ReadingPlainly kept s5 keeper l octets fed
+StateAgrees kept s5 keeper start l octets (Reads fed) = ReadingAgrees kept s5 keeper start l octets fed
+StateAgrees kept s5 keeper start l octets (Passes after) = PassingAgrees kept s5 keeper l octets after
+StateAgrees kept s5 keeper start l octets (Refused fault after) = IsFaultOf s5 start l octets fault × (after ≡ keeper)
 
 -- The state of some octets, this many of them.
-pub record IsFedState {K : Type 0} (kept : K → List Point → K → Type 0) (start l count : ℕ) (state : State K) : Type 0 where
+pub record IsFedState {K : Type 0} (kept : K → List Point → K → Type 0) (start l count : ℕ) (state : ComplexReading K) : Type 0 where
   pub s5 : List ℕ
   pub keeper : K
   pub octets : List ℕ
@@ -181,7 +196,18 @@ pub record IsFedState {K : Type 0} (kept : K → List Point → K → Type 0) (s
   pub low : 1 ≤ start
   pub high : start ≤ 268435456
   pub long : length octets ≡ count
-  pub agrees : StateAgrees kept s5 keeper start l octets (Some state)
+  pub agrees : StateAgrees kept s5 keeper start l octets state
+
+-- All octets came of a Section 7.
+pub record IsWholeState {K : Type 0} (kept : K → List Point → K → Type 0) (start : ℕ) (state : ComplexReading K) : Type 0 where
+  pub s5 : List ℕ
+  pub keeper : K
+  pub l : ℕ
+  pub octets : List ℕ
+  pub low : 1 ≤ start
+  pub high : start ≤ 268435456
+  pub whole : 5 + length octets ≡ l
+  pub agrees : StateAgrees kept s5 keeper start l octets state
 
 -- Some octets came before, this many, and not all of the extra descriptors.
 pub record CanBegin {K : Type 0} (l count : ℕ) (beginning : Beginning K) : Type 0 where
@@ -209,73 +235,26 @@ pub record IsWholeListing {K : Type 0} (l : ℕ) (between : Between K) : Type 0 
   pub whole : (between.complex.order + 1) * between.complex.extra + list_octets between.complex.layout ≤ length octets
 
 -- the bits that came and are not decoded
-abbrev pub pending_in : {K : Type 0} → Option (State K) → List Bool
-pending_in (Some (Begins beginning)) = pending_of beginning.descriptors
-pending_in (Some (Lists between)) = list_pending between.lists
-pending_in (Some (Reads fed)) = pending_of fed
+abbrev pub pending_in : {K : Type 0} → ComplexReading K → List Bool
+pending_in (Begins beginning) = pending_of beginning.descriptors
+pending_in (Lists between) = list_pending between.lists
+pending_in (ReadsPlainly fed) = pending_of fed
+pending_in (Reads fed) = pending_of fed
 pending_in _ = []
 
-abbrev pub pending : {K : Type 0} → Feeding K → List Bool
-pending feeding = pending_in feeding.state
-
--- With this Section 5, and with what keeps the points at first, of a Section 7 of l octets that begins at octet
--- `start` of the message these octets were read after the fifth.
-pub record HasRead {K : Type 0} (kept : K → List Point → K → Type 0) (s5 : List ℕ) (keeper : K) (start l : ℕ) (octets : List ℕ) (feeding : Feeding K) : Type 0 where
-  pub spelled : simple.Spelled feeding.simple s5
-  pub start_is : feeding.start ≡ start
-  pub low : 1 ≤ start
-  pub high : start ≤ 268435456
-  pub length_is : feeding.length ≡ l
-  pub pushed : feeding.pushed ≡ length octets
-  pub within : 5 + length octets ≤ l
-  pub known : AreOctets octets
-  pub few : length (pending feeding) ≤ 64
-  pub last : IsEnd (pending feeding) (bits octets)
-  pub state : StateAgrees kept s5 keeper start l octets feeding.state
-
--- how many octets are still to come
-abbrev pub octets_left : {K : Type 0} → Feeding K → ℕ
-octets_left feeding = feeding.length - (5 + feeding.pushed)
-
--- It has read some octets.
-pub record IsFed {K : Type 0} (kept : K → List Point → K → Type 0) (feeding : Feeding K) : Type 0 where
-  pub s5 : List ℕ
-  pub keeper : K
-  pub start : ℕ
-  pub l : ℕ
-  pub octets : List ℕ
-  pub read : HasRead kept s5 keeper start l octets feeding
-
 -- what keeps the points
-abbrev pub keeper_in : {K : Type 0} → State K → K
+abbrev pub keeper_in : {K : Type 0} → ComplexReading K → K
 keeper_in (Begins beginning) = beginning.keeper
 keeper_in (Lists between) = between.keeper
+keeper_in (ReadsPlainly fed) = fed.taker.keeper
 keeper_in (Reads fed) = fed.taker.keeper
 keeper_in (Passes keeper) = keeper
 keeper_in (Refused fault keeper) = keeper
 
--- The mask is there in every state.
-abbrev pub KeepsMask : List Bool → Option (State Points) → Type 0
-KeepsMask mask None = ⊥
-KeepsMask mask (Some state) = (keeper_in state).mask.value ≡ mask
-
 -- The points of the numbers that came stand in the column, as long as none is out of range. They are those of each
 -- section that continues these octets.
-abbrev pub ColumnAgrees : List ℕ → List Bool → ℕ → List ℕ → Option (State Points) → Type 0
-ColumnAgrees s5 mask l octets None = ⊥
-ColumnAgrees s5 mask l octets (Some (Begins beginning)) = ArePoints mask [] beginning.keeper
-ColumnAgrees s5 mask l octets (Some (Lists between)) = ArePoints mask [] between.keeper
-ColumnAgrees s5 mask l octets (Some (Reads fed)) =
+abbrev pub ColumnAgrees : List ℕ → List Bool → ℕ → List ℕ → ComplexReading Points → Type 0
+ColumnAgrees s5 mask l octets (ReadsPlainly fed) = (s7 : List ℕ) → Continues octets l s7 → ArePoints mask (entries_so_far s5 s7 octets) fed.taker.keeper
+ColumnAgrees s5 mask l octets (Reads fed) =
     (s7 : List ℕ) → Continues octets l s7 → fed.taker.teller.beyond ≡ 0 → ArePoints mask (entries_so_far s5 s7 octets) fed.taker.keeper
-ColumnAgrees s5 mask l octets (Some (Passes keeper)) = ArePoints mask [] keeper
-ColumnAgrees s5 mask l octets (Some (Refused fault keeper)) = ArePoints mask [] keeper
-
--- With this Section 5 and this mask, and a Section 7 of l octets that begins at octet `start` of the message,
--- of which these came after the fifth.
-pub record Agrees (s5 : List ℕ) (mask : List Bool) (start l : ℕ) (octets : List ℕ) (feeder : Feeding Points) : Type 0 where
-  pub first : Points
-  pub empty : ArePoints mask [] first
-  pub counted : present_count mask ≡ value_count s5
-  pub read : HasRead PointsKept s5 first start l octets feeder
-  pub mask_stays : KeepsMask mask feeder.state
-  pub column : ColumnAgrees s5 mask l octets feeder.state
+ColumnAgrees s5 mask l octets state = ArePoints mask [] (keeper_in state)

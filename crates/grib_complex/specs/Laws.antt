@@ -3,10 +3,12 @@ use Rattle.std.proofs.Common.{◌≡◌, ◌<◌, List, [], ◌∷◌, ◌++◌,
 use Rattle.std.proofs.lemmas.Bool.{cases_lt}
 use Rattle.std.proofs.lemmas.List.{append-nil, length-append}
 use Rattle.grib_base.specs.declared.code.Code.{Code}
+use Rattle.grib_base.specs.declared.code.Code.TheVariants.{Present, Primary, Secondary}
 use Rattle.grib_packing.specs.declared.column.Point.{Point}
+use Rattle.grib_complex.specs.declared.values.PlainValues.{PlainValues}
 use Rattle.grib_complex.specs.declared.values.Values.{Values}
-use Rattle.grib_complex.specs.Told.{Telling, point_of, telling_after, told, after}
-use Rattle.grib_complex.specs.Tells.{Tells, ValuesTook}
+use Rattle.grib_complex.specs.Told.{Telling, Plainly, point_of, telling_after, told, after}
+use Rattle.grib_complex.specs.Tells.{PlainTook, Tells, ValuesTook}
 
 -- codes after codes
 pub told-append : (telling : Telling) (codes more : List Code) → told telling (codes ++ more) ≡ told telling codes ++ told (after telling codes) more
@@ -17,10 +19,29 @@ pub after-append : (telling : Telling) (codes more : List Code) → after tellin
 after-append telling [] more = refl
 after-append telling (code ∷ codes) more = after-append (telling_after telling code) codes more
 
+-- codes that are the scaled numbers themselves stay so
+pub after-plainly : (codes : List Code) → after Plainly codes ≡ Plainly
+after-plainly [] = refl
+after-plainly (Present n ∷ codes) = after-plainly codes
+after-plainly (Primary ∷ codes) = after-plainly codes
+after-plainly (Secondary ∷ codes) = after-plainly codes
+
+pub told-plainly-append : (codes more : List Code) → told Plainly (codes ++ more) ≡ told Plainly codes ++ told Plainly more
+told-plainly-append codes more = told-append Plainly codes more ∙ ap (λ (t : Telling). told Plainly codes ++ told t more) (after-plainly codes)
+
+pub plain-none : {K : Type 0} (kept : K → List Point → K → Type 0) → ((keeper : K) → kept keeper [] keeper) → (taker : PlainValues K) → PlainTook kept taker [] taker
+plain-none kept none taker = none taker.keeper
+
+pub plain-more : {K : Type 0} (kept : K → List Point → K → Type 0)
+    → ((before between after : K) (points more_points : List Point) → kept before points between → kept between more_points after → kept before (points ++ more_points) after)
+    → (before between last : PlainValues K) (codes more_codes : List Code) → PlainTook kept before codes between → PlainTook kept between more_codes last
+    → PlainTook kept before (codes ++ more_codes) last
+plain-more kept more before between last codes more_codes first second =
+    subst (λ (ps : List Point). kept before.keeper ps last.keeper) (sym (told-plainly-append codes more_codes)) (more before.keeper between.keeper last.keeper _ _ first second)
+
 pub values-none : {K : Type 0} (kept : K → List Point → K → Type 0) → ((keeper : K) → kept keeper [] keeper) → (taker : Values K) → ValuesTook kept taker [] taker
 values-none kept none taker = record {
   stays = λ some. refl;
-  plain = λ none. (none, refl);
   undoes = refl;
   tells = λ start seen room tells. subst (λ (codes : List Code). Tells start codes taker.teller) (sym (append-nil seen)) tells;
   keeps = λ start seen room tells within. none taker.keeper;
@@ -36,10 +57,6 @@ values-more kept more before between last codes more_codes first second = record
       let same = first.stays some in
       let some_between : 0 < between.teller.beyond = omega arith in
       second.stays some_between ∙ same;
-  plain = λ none.
-      let one = first.plain none in
-      let two = second.plain one.0 in
-      (two.0, two.1 ∙ one.1);
   undoes = second.undoes ∙ first.undoes;
   tells = λ start seen room tells.
       let one = first.tells start seen (omega (arith, length-append codes more_codes)) tells in

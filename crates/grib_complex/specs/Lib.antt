@@ -8,6 +8,5 @@ pub mod Feeding
 pub mod Written
 pub mod FieldCodes
 pub mod Constant
-pub mod Field
 pub mod Below
 pub mod KeptWords

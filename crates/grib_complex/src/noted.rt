@@ -41,18 +41,15 @@ impl Told {
         }
     }
 
-    /// What undoes the differences, if there are any.
-    pub fn running(&self) -> Option<Running>
-        requires order { self.now.order ≤ 2 }
+    /// What undoes the differences, where there are any.
+    pub fn running(&self) -> Running
+        requires order { (self.now.order ≡ 1) ⊎ (self.now.order ≡ 2) }
         requires first { nat_abs self.now.first ≤ 2 ^ 31 }
         requires second { nat_abs self.now.second ≤ 2 ^ 31 }
         requires minimum { nat_abs self.now.minimum ≤ 2 ^ 31 }
         ensures { telling_of result ≡ telling_told self.now }
     {
-        if self.order == 0 {
-            return None;
-        }
-        Some(Running::new(self.order, self.first, self.second, self.minimum))
+        Running::new(self.order, self.first, self.second, self.minimum)
     }
 }
 

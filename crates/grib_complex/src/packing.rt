@@ -6,8 +6,8 @@ ghost use Rattle.grib_packing.specs.Misfits.{Target, ToComplex, ToSpatial};
 ghost use Rattle.grib_packing.specs.Written.{IsPacked, order_known};
 ghost use Rattle.grib_complex.specs.Below.{IsPackedBelow};
 
-use crate::field::Representation;
 use crate::packed::{pack_complex, pack_spatial};
+use crate::unpacking::unpack_complex;
 use grib_base::{ReadFault, Section};
 use grib_bitmap::Mask;
 use grib_packing::{Column, PackFault, Packed, Packing};
@@ -30,7 +30,7 @@ impl Packing for ComplexPacking {
         mask: &Mask,
         section7: &Section<'_>,
     ) -> Result<Column, ReadFault> {
-        Representation::accepted(section5, mask.len()).unpack(alloc, mask, section7)
+        unpack_complex(alloc, section5, mask, section7)
     }
 
     fn pack(&self, alloc: Global, column: &Column, kind: u8) -> Result<Packed, PackFault> {
@@ -80,7 +80,7 @@ impl Packing for SpatialPacking {
         mask: &Mask,
         section7: &Section<'_>,
     ) -> Result<Column, ReadFault> {
-        Representation::accepted(section5, mask.len()).unpack(alloc, mask, section7)
+        unpack_complex(alloc, section5, mask, section7)
     }
 
     fn pack(&self, alloc: Global, column: &Column, kind: u8) -> Result<Packed, PackFault> {

@@ -5,7 +5,7 @@ ghost use Rattle.grib_bits.specs.Bits.{bits as bits_in};
 ghost use Rattle.grib_bits.specs.Plain.{plain};
 ghost use Rattle.grib_packing.specs.declared.column.Point.TheVariants.{Scaled};
 
-use crate::values::Values;
+use crate::values::PlainValues;
 use grib_groups::Fed;
 use grib_packing::Keeper;
 use std::alloc::Global;
@@ -18,7 +18,7 @@ pub fn take_numbers<K: Keeper>(alloc: Global, octets: &[u8], bits: u8, count: u3
     requires short { length octets.now < 2 ^ 32 }
     ensures { K.kept keeper (map (λ x. Scaled (pos x)) (plain (bits_in octets.now) bits count)) result }
 {
-    let values = Values::start(None, keeper);
+    let values = PlainValues { keeper };
     Fed::list(alloc, bits, count, values)
         .push(octets)
         .finish()

@@ -4,9 +4,10 @@ ghost use Rattle.std.specs.Prelude.{◌≡◌, ◌⊎◌, ◌+◌, ◌*◌, ◌^
 ghost use Rattle.grib_bits.specs.Octets.{StatesItself};
 ghost use Rattle.grib_base.specs.Rows.{first_fault, first_fault_at};
 ghost use Rattle.grib_packing.specs.Complex.{complex_rows, layout_of};
-ghost use Rattle.grib_packing.specs.Entries.{packing_rows};
+ghost use Rattle.grib_packing.specs.Entries.{packing_fault, packing_rows};
 ghost use Rattle.grib_packing.specs.Packing.{packing_template};
 ghost use Rattle.grib_packing.specs.Representation as shared;
+ghost use Rattle.grib_complex.specs.Descriptors.{IsAccepted};
 ghost use Rattle.grib_complex.specs.Representation.{Spelled};
 
 use byteorder::{BigEndian, ByteOrder};
@@ -59,6 +60,19 @@ pub fn read_complex(section: &Section<'_>, points: u32) -> Result<Complex, Fault
 {
     let simple = read_simple(section, points)?;
     complex_of(simple, section)
+}
+
+/// What a Section 5 says of complex packing that is accepted.
+pub(crate) fn accepted_complex(section: &Section<'_>, points: u32) -> Complex
+    requires accepted { packing_fault section.now.octets.now points ≡ None }
+    requires template { (packing_template section.now.octets.now ≡ 2) ⊎ (packing_template section.now.octets.now ≡ 3) }
+    ensures accepted { IsAccepted result }
+    ensures spelled { Spelled result section.now.octets.now }
+{
+    let Ok(complex) = read_complex(section, points) else {
+        unreachable!();
+    };
+    complex
 }
 
 /// Reads what Section 5 says of complex packing beside what all templates share, by the rows of the profile

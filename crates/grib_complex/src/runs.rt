@@ -1,6 +1,6 @@
 //! Codes that follow one another in a group, for whose points there is room.
 
-ghost use Rattle.std.specs.Prelude.{◌≡◌, ◌+◌, ◌≤◌, ◌<◌, ◌^◌, ◌∷◌, [], length, All, Some};
+ghost use Rattle.std.specs.Prelude.{◌≡◌, ◌+◌, ◌≤◌, ◌<◌, ◌^◌, ◌∷◌, [], length};
 ghost use Rattle.grib_groups.specs.Taking.{number_of};
 ghost use Rattle.grib_complex.specs.Told.{Plainly, point_of, telling_after, told};
 ghost use Rattle.grib_complex.specs.Tells.{IsWithin, SteadilyTook, telling_of};
@@ -24,7 +24,6 @@ pub(crate) fn keep_plainly<R: CodeRun + Drop, K: Keeper>(mut run: R, mut keeper:
     requires limit { R.limit run ≤ 2 ^ 49 }
     requires room { length (R.codes run) ≤ K.room keeper }
     ensures kept { K.kept keeper (told Plainly (R.codes run)) result }
-    ensures within { All IsWithin (told Plainly (R.codes run)) }
 {
     for _index in 0..run.count() {
         let point = plain_point(run.next());
@@ -91,9 +90,9 @@ pub(crate) fn plain_point(code: Code) -> Point
 fn steady_point(steady: &mut Steady, code: Code) -> Point
     requires some { 1 ≤ steady.old.left }
     requires code { number_of code < steady.old.limit }
-    ensures point { result ≡ point_of (telling_of (Some steady.old.run)) code }
+    ensures point { result ≡ point_of (telling_of steady.old.run) code }
     ensures within { IsWithin result }
-    ensures after { telling_of (Some steady.new.run) ≡ telling_after (telling_of (Some steady.old.run)) code }
+    ensures after { telling_of steady.new.run ≡ telling_after (telling_of steady.old.run) code }
     ensures left { steady.old.left ≤ steady.new.left + 1 }
     ensures limit { steady.new.limit ≡ steady.old.limit }
 {

@@ -1,48 +1,42 @@
 //! How far a Section 7 was read that comes in pieces.
 
 ghost use Rattle.std.specs.Prelude.{◌≡◌, ◌⊎◌, ℕ, ◌+◌, ◌-◌, ◌*◌, ◌^◌, ◌<◌, ◌≤◌, Some, None, List, Bool, true, map, pos, [], ◌++◌, length as length_of, drop, nat_abs, vec_capacity, cond, IfOk, MatchResult, All};
-ghost use Rattle.grib_bits.specs.Bits.{bits as bits_in};
-ghost use Rattle.grib_bits.specs.Plain.{plain};
-ghost use Rattle.grib_base.specs.Rows.{first_place, refusal};
+ghost use Rattle.grib_base.specs.Rows.{first_place, located, refusal};
 ghost use Rattle.grib_base.specs.declared.fault.Reason.TheVariants.{FirstValueSign};
-ghost use Rattle.grib_packing.specs.declared.column.Point.TheVariants.{Scaled};
 ghost use Rattle.grib_packing.specs.declared.layout.Layout.{Layout as layout_of_groups};
 ghost use Rattle.grib_packing.specs.Differences.{NoNumber};
-ghost use Rattle.grib_packing.specs.Entries.{data_fault, entries_of, is_out_of_range};
+ghost use Rattle.grib_packing.specs.Entries.{data_fault, entries_of, has_no_groups, is_out_of_range};
 ghost use Rattle.grib_packing.specs.Groups.{codes_from, list_octets};
 ghost use Rattle.grib_packing.specs.Packing.{packing_template, value_count};
-ghost use Rattle.grib_packing.specs.Representation as shared;
-ghost use Rattle.grib_groups.specs.Feeding.{plain_groups};
 ghost use Rattle.grib_groups.specs.Table.{groups_in, IsNarrow, IsWhole};
 ghost use Rattle.grib_groups.specs.Taking.{values as values_in};
 ghost use Rattle.grib_complex.specs.Representation.{Spelled};
 ghost use Rattle.grib_complex.specs.Descriptors.{IsAccepted, descriptors_in, is_signed_number};
-ghost use Rattle.grib_complex.specs.Field.{Represents};
 ghost use Rattle.grib_complex.specs.Told.{After, told as points_of};
-ghost use Rattle.grib_complex.specs.Feeding.{AreOctets, BeginningAgrees, CanBegin, CanList, IsFedState, IsWholeListing, ListingAgrees, StateAgrees, is_one_list, number_groups};
+ghost use Rattle.grib_complex.specs.Feeding.{AreOctets, BeginningAgrees, CanBegin, CanList, IsFedState, IsWholeListing, IsWholeState, ListingAgrees, StateAgrees};
 
-use crate::field::Representation;
 use crate::noted::{Told, signed_fault};
 use crate::range::stays_by;
 use crate::representation::Complex;
-use crate::values::Values;
+use crate::values::{PlainValues, Values};
 use grib_base::{Fault, Reason};
 use grib_groups::{
     Fed, FedLists, Lists, References, Table, lists_fit, octets_of_lists, part_of, rest_of,
 };
-use grib_packing::{Keeper, Simple};
-use grib_simple::is_too_short;
+use grib_packing::Keeper;
 use std::alloc::{AllocError, Global};
 
-/// How far a Section 7 was read. At most one list of numbers is read at a time, so that the bits of one number at
-/// most are kept.
+/// How far a Section 7 was read that comes in pieces (WMO-No. 306, Volume I.2, FM 92 GRIB edition 2, data templates
+/// 7.2 and 7.3). At most one list of numbers is read at a time, so that the bits of one number at most are kept.
 #[derive(Debug, Drop)]
-pub(crate) enum State<K> {
+pub enum ComplexReading<K> {
     /// Octets of the extra descriptors are still to come.
     Begins(Beginning<K>),
     /// The extra descriptors are whole, and octets of the lists are still to come.
     Lists(Between<K>),
-    /// Packed numbers come.
+    /// Packed numbers come, which are the scaled numbers themselves.
+    ReadsPlainly(Fed<PlainValues<K>>),
+    /// Packed numbers come, which are those of differences.
     Reads(Fed<Values<K>>),
     /// No row of the profile fails, whatever comes, and no points are kept.
     Passes(K),
@@ -52,7 +46,7 @@ pub(crate) enum State<K> {
 
 /// The extra descriptors, as far as they came, and what is to take the lists and the points.
 #[derive(Debug, Drop)]
-pub(crate) struct Beginning<K> {
+pub struct Beginning<K> {
     complex: Complex,
     descriptors: Fed<References>,
     lists: Lists,
@@ -61,137 +55,140 @@ pub(crate) struct Beginning<K> {
 
 /// What the extra descriptors told, the lists, as far as they came, and what is to keep the points.
 #[derive(Debug, Drop)]
-pub(crate) struct Between<K> {
+pub struct Between<K> {
     complex: Complex,
     told: Told,
     lists: FedLists,
     keeper: K,
 }
 
-/// Before the first octet of a Section 7.
-pub(crate) fn start_state<K: Keeper + Drop>(
-    alloc: Global,
-    representation: &Representation,
-    keeper: K,
-    start: u64,
-    length: u32,
-) -> Result<State<K>, AllocError>
-    requires read { (s5 : List ℕ) × Represents representation.now s5 }
-    requires low { 1 ≤ start }
-    requires high { start ≤ 268435456 }
-    requires least { 5 ≤ length }
-    ensures { (s5 : List ℕ) → Represents representation.now s5
-        → IfOk result (λ state. StateAgrees K.kept s5 keeper start length [] (Some state)) }
-{
-    match representation {
-        Representation::Simple(simple) => Ok(start_plain(alloc, *simple, keeper, start, length)),
-        Representation::Complex(complex) => start_grouped(alloc, *complex, keeper, start, length),
-    }
-}
-
-/// Before the first octet of simple packing: the numbers of all values are one group.
-fn start_plain<K: Keeper>(
-    alloc: Global,
-    simple: Simple,
-    keeper: K,
-    start: u64,
-    length: u32,
-) -> State<K>
-    requires low { 1 ≤ start }
-    requires high { start ≤ 268435456 }
-    requires least { 5 ≤ length }
-    requires width { simple.bits ≤ 48 }
-    ensures { (s5 : List ℕ) → shared.Spelled simple s5 → packing_template s5 ≡ 0 → StateAgrees K.kept s5 keeper start length [] (Some result) }
-{
-    if is_too_short(&simple, u64::from(length)) {
-        let fault = Fault::at(start, Reason::DataTooShort, u64::from(length));
-        return State::Refused(fault, keeper);
-    }
-    start_list(alloc, simple.bits, simple.values, keeper)
-}
-
-/// Before the first octet of `count` numbers of `bits` bits, the scaled numbers themselves. Numbers of no bits are
-/// handed on at once. No row fails.
-fn start_list<K: Keeper>(alloc: Global, bits: u8, count: u32, keeper: K) -> State<K>
-    requires width { bits ≤ 48 }
-    ensures { (s5 : List ℕ) (start l : ℕ) → count ≡ value_count s5 → 40 + count * bits ≤ 8 * l
-        → ((s7 : List ℕ) → map (λ n. Scaled (pos n)) (plain (bits_in (drop 5 s7)) bits count) ≡ entries_of s5 s7)
-        → ((s7 : List ℕ) → length_of s7 ≡ l → data_fault s5 s7 ≡ None)
-        → is_one_list s5 ≡ true → ((s7 : List ℕ) → plain_groups bits count ≡ number_groups s5 s7)
-        → StateAgrees K.kept s5 keeper start l [] (Some result) }
+/// Before the first octet where there are no groups: each of `count` values is a number of no bits, which is handed on
+/// at once. No row fails.
+fn start_zeros<K: Keeper>(alloc: Global, count: u32, keeper: K) -> ComplexReading<K>
+    ensures { (s5 : List ℕ) (start l : ℕ) → (packing_template s5 ≡ 2) ⊎ (packing_template s5 ≡ 3) → has_no_groups s5 ≡ true → count ≡ value_count s5 → 5 ≤ l
+        → StateAgrees K.kept s5 keeper start l [] result }
 {
     if !keeper.keeps() {
-        return State::Passes(keeper);
+        return ComplexReading::Passes(keeper);
     }
-    let values = Values::start(None, keeper);
-    State::Reads(Fed::list(alloc, bits, count, values).push(&[]))
+    let values = PlainValues { keeper };
+    ComplexReading::ReadsPlainly(Fed::list(alloc, 0, count, values).push(&[]))
 }
 
-/// Before the first octet of complex packing. Where there are no groups, each value is a number of no bits.
-fn start_grouped<K: Keeper + Drop>(
-    alloc: Global,
-    complex: Complex,
-    keeper: K,
-    start: u64,
-    length: u32,
-) -> Result<State<K>, AllocError>
-    requires accepted { IsAccepted complex }
-    requires spelled { (s5 : List ℕ) × Spelled complex s5 }
-    requires low { 1 ≤ start }
-    requires high { start ≤ 268435456 }
-    requires least { 5 ≤ length }
-    ensures { (s5 : List ℕ) → Spelled complex s5
-        → IfOk result (λ state. StateAgrees K.kept s5 keeper start length [] (Some state)) }
-{
-    let count = complex.simple.values;
-    if complex.layout.groups == 0 {
-        return Ok(start_list(alloc, 0, count, keeper));
+impl<K: Keeper + Drop> ComplexReading<K> {
+    /// No octet came yet of a Section 7 of `length` octets that begins at octet `start` of the message, of a field of
+    /// which Section 5 says this.
+    ///
+    /// # Errors
+    ///
+    /// There is no memory for the groups. What is to keep the points is dropped.
+    pub fn start(
+        alloc: Global,
+        complex: Complex,
+        keeper: K,
+        start: u64,
+        length: u32,
+    ) -> Result<ComplexReading<K>, AllocError>
+        requires accepted { IsAccepted complex }
+        requires spelled { (s5 : List ℕ) × Spelled complex s5 }
+        requires low { 1 ≤ start }
+        requires high { start ≤ 268435456 }
+        requires least { 5 ≤ length }
+        ensures { (s5 : List ℕ) → Spelled complex s5
+            → IfOk result (StateAgrees K.kept s5 keeper start length []) }
+    {
+        let count = complex.simple.values;
+        if complex.layout.groups == 0 {
+            return Ok(start_zeros(alloc, count, keeper));
+        }
+        if !lists_fit(&complex.layout, length, complex.skip()) {
+            let fault = Fault::at(start, Reason::DataTooShort, u64::from(length));
+            return Ok(ComplexReading::Refused(fault, keeper));
+        }
+        let numbers = References {
+            items: Vec::with_capacity(alloc, 3)?,
+        };
+        let width = 8 * complex.extra;
+        let beginning = Beginning {
+            complex,
+            descriptors: Fed::list(alloc, width, u32::from(complex.order) + 1, numbers),
+            lists: Lists::start(alloc, &complex.layout, count)?,
+            keeper,
+        };
+        Ok(beginning.push(alloc, &[], 0, start, length))
     }
-    if !lists_fit(&complex.layout, length, complex.skip()) {
-        let fault = Fault::at(start, Reason::DataTooShort, u64::from(length));
-        return Ok(State::Refused(fault, keeper));
-    }
-    let numbers = References {
-        items: Vec::with_capacity(alloc, 3)?,
-    };
-    let width = 8 * complex.extra;
-    let beginning = Beginning {
-        complex,
-        descriptors: Fed::list(alloc, width, u32::from(complex.order) + 1, numbers),
-        lists: Lists::start(alloc, &complex.layout, count)?,
-        keeper,
-    };
-    Ok(beginning.push(alloc, &[], 0, start, length))
-}
 
-impl<K: Keeper + Drop> State<K> {
     /// Reads the next octets, where this many came before.
-    pub fn push(self, alloc: Global, piece: &[u8], before: u32, start: u64, length: u32) -> State<K>
+    pub fn push(
+        self,
+        alloc: Global,
+        piece: &[u8],
+        before: u32,
+        start: u64,
+        length: u32,
+    ) -> ComplexReading<K>
         requires fed { IsFedState K.kept start length before self }
         requires within { 5 + before + length_of piece.now ≤ length }
-        ensures { (s5 : List ℕ) (keeper : _) (octets : List ℕ) → length_of octets ≡ before → AreOctets octets → StateAgrees K.kept s5 keeper start length octets (Some self)
-            → StateAgrees K.kept s5 keeper start length (octets ++ piece.now) (Some result) }
+        ensures { (s5 : List ℕ) (keeper : _) (octets : List ℕ) → length_of octets ≡ before → AreOctets octets → StateAgrees K.kept s5 keeper start length octets self
+            → StateAgrees K.kept s5 keeper start length (octets ++ piece.now) result }
     {
         match self {
-            State::Begins(beginning) => beginning.push(alloc, piece, before, start, length),
-            State::Lists(between) => between.push(alloc, piece, before, start, length),
-            State::Reads(fed) => State::Reads(fed.push(piece)),
-            State::Passes(keeper) => State::Passes(keeper),
-            State::Refused(fault, keeper) => State::Refused(fault, keeper),
+            ComplexReading::Begins(beginning) => beginning.push(
+                alloc, piece, before, start, length,
+            ),
+            ComplexReading::Lists(between) => between.push(alloc, piece, before, start, length),
+            ComplexReading::ReadsPlainly(fed) => ComplexReading::ReadsPlainly(fed.push(piece)),
+            ComplexReading::Reads(fed) => ComplexReading::Reads(fed.push(piece)),
+            ComplexReading::Passes(keeper) => ComplexReading::Passes(keeper),
+            ComplexReading::Refused(fault, keeper) => ComplexReading::Refused(fault, keeper),
         }
+    }
+
+    /// What has kept the points, once all octets came of a Section 7 that begins at octet `start` of the message.
+    ///
+    /// # Errors
+    ///
+    /// Section 7 is refused by the first row of the profile that fails.
+    pub fn end(self, start: u64) -> Result<K, Fault>
+        requires { IsWholeState K.kept start self }
+        ensures { (s5 : List ℕ) (keeper : _) (s7 : List ℕ) → AreOctets (drop 5 s7) → StateAgrees K.kept s5 keeper start (length_of s7) (drop 5 s7) self
+            → MatchResult result
+            (λ after. (data_fault s5 s7 ≡ None) × K.kept keeper (entries_of s5 s7) after × (length_of (entries_of s5 s7) ≡ value_count s5))
+            (λ fault. located start (data_fault s5 s7) ≡ Some fault) }
+    {
+        let fed = match self {
+            ComplexReading::Begins(_) | ComplexReading::Lists(_) => unreachable!(),
+            ComplexReading::Refused(fault, _keeper) => return Err(fault),
+            ComplexReading::Passes(keeper) => return Ok(keeper),
+            ComplexReading::ReadsPlainly(fed) => return Ok(fed.finish().keeper),
+            ComplexReading::Reads(fed) => fed,
+        };
+        let Values { teller, keeper } = fed.finish();
+        let beyond = teller.beyond();
+        if beyond > 0 {
+            return Err(Fault::at(start, Reason::ScaledRange, beyond));
+        }
+        Ok(keeper)
     }
 }
 
 impl<K: Keeper + Drop> Beginning<K> {
     /// Reads the next octets, where this many came before, and goes on to the lists where the descriptors are
     /// whole. A first value is tried as soon as it is.
-    fn push(self, alloc: Global, piece: &[u8], before: u32, start: u64, length: u32) -> State<K>
+    fn push(
+        self,
+        alloc: Global,
+        piece: &[u8],
+        before: u32,
+        start: u64,
+        length: u32,
+    ) -> ComplexReading<K>
         requires low { 1 ≤ start }
         requires high { start ≤ 268435456 }
         requires begun { CanBegin length before self }
         requires within { 5 + before + length_of piece.now ≤ length }
         ensures { (s5 : List ℕ) (keeper : _) (octets : List ℕ) → length_of octets ≡ before → AreOctets octets → BeginningAgrees s5 keeper length octets self
-            → StateAgrees K.kept s5 keeper start length (octets ++ piece.now) (Some result) }
+            → StateAgrees K.kept s5 keeper start length (octets ++ piece.now) result }
     {
         let Beginning {
             complex,
@@ -203,10 +200,10 @@ impl<K: Keeper + Drop> Beginning<K> {
         let part = part_of(piece, u64::from(before), 0, u64::from(skip));
         let descriptors = descriptors.push(part);
         if let Some(fault) = signed_fault(&descriptors.taker().items, &complex, start) {
-            return State::Refused(fault, keeper);
+            return ComplexReading::Refused(fault, keeper);
         }
         if before + (piece.len() as u32) < skip {
-            return State::Begins(Beginning {
+            return ComplexReading::Begins(Beginning {
                 complex,
                 descriptors,
                 lists,
@@ -226,14 +223,21 @@ impl<K: Keeper + Drop> Beginning<K> {
 impl<K: Keeper + Drop> Between<K> {
     /// Reads the next octets, where this many came before, and goes on to the packed numbers where the lists
     /// are whole.
-    fn push(self, alloc: Global, piece: &[u8], before: u32, start: u64, length: u32) -> State<K>
+    fn push(
+        self,
+        alloc: Global,
+        piece: &[u8],
+        before: u32,
+        start: u64,
+        length: u32,
+    ) -> ComplexReading<K>
         requires low { 1 ≤ start }
         requires high { start ≤ 268435456 }
         requires begun { CanList length before piece.now self }
         requires within { 5 + before + length_of piece.now ≤ length }
         ensures { (s5 : List ℕ) (keeper : _) (octets : List ℕ) → length_of octets ≡ before → length_of octets ≤ (self.complex.order + 1) * self.complex.extra + list_octets self.complex.layout
             → ListingAgrees s5 keeper length octets (octets ++ piece.now) self
-            → StateAgrees K.kept s5 keeper start length (octets ++ piece.now) (Some result) }
+            → StateAgrees K.kept s5 keeper start length (octets ++ piece.now) result }
     {
         let Between {
             complex,
@@ -252,13 +256,13 @@ impl<K: Keeper + Drop> Between<K> {
         };
         let whole = skip + octets_of_lists(&complex.layout);
         if before + (piece.len() as u64) < whole {
-            return State::Lists(between);
+            return ComplexReading::Lists(between);
         }
         between.read(rest_of(piece, before, whole), start, length)
     }
 
     /// Goes on to the packed numbers, of which these octets came.
-    fn read(self, numbers: &[u8], start: u64, length: u32) -> State<K>
+    fn read(self, numbers: &[u8], start: u64, length: u32) -> ComplexReading<K>
         requires low { 1 ≤ start }
         requires high { start ≤ 268435456 }
         requires begun { IsWholeListing length self }
@@ -266,7 +270,7 @@ impl<K: Keeper + Drop> Between<K> {
         ensures { (s5 : List ℕ) (keeper : _) (octets : List ℕ) → ListingAgrees s5 keeper length octets octets self
             → numbers.now ≡ drop ((self.complex.order + 1) * self.complex.extra + list_octets self.complex.layout) octets
             → (self.complex.order + 1) * self.complex.extra + list_octets self.complex.layout ≤ length_of octets
-            → StateAgrees K.kept s5 keeper start length octets (Some result) }
+            → StateAgrees K.kept s5 keeper start length octets result }
     {
         let Between {
             complex,
@@ -276,14 +280,20 @@ impl<K: Keeper + Drop> Between<K> {
         } = self;
         let lists = lists.finish(&complex.layout);
         if let Some(fault) = lists.fault(&complex.layout, complex.skip(), length, start) {
-            return State::Refused(fault, keeper);
+            return ComplexReading::Refused(fault, keeper);
         }
         let table = lists.into_table();
         if !keeper.keeps() && is_steady(&told, &table, complex.simple.values) {
-            return State::Passes(keeper);
+            return ComplexReading::Passes(keeper);
+        }
+        if told.order == 0 {
+            let values = PlainValues { keeper };
+            return ComplexReading::ReadsPlainly(Fed::groups(complex.layout, table, values).push(
+                numbers,
+            ));
         }
         let values = Values::start(told.running(), keeper);
-        State::Reads(Fed::groups(complex.layout, table, values).push(numbers))
+        ComplexReading::Reads(Fed::groups(complex.layout, table, values).push(numbers))
     }
 }
 

@@ -1,28 +1,29 @@
 //! The points that codes tell.
 
-ghost use Rattle.std.specs.Prelude.{◌≡◌, ℕ, ◌+◌, ◌%◌, ◌<◌, ◌≤◌, ◌^◌, true, List, [], ◌∷◌, ◌++◌, length, None};
+ghost use Rattle.std.specs.Prelude.{◌≡◌, ℕ, ◌+◌, ◌<◌, ◌≤◌, ◌^◌, true, List, [], ◌∷◌, ◌++◌, length};
 ghost use Rattle.grib_base.specs.declared.code.Code.{Code as code_of_value};
 ghost use Rattle.grib_groups.specs.Taking.{number_of};
 ghost use Rattle.grib_complex.specs.Told.{Telling, point_of, after, undoing};
-ghost use Rattle.grib_complex.specs.Tells.{StayWithin, Tells, telling_of};
+ghost use Rattle.grib_spatial.specs.Reach.{IsSteady};
+ghost use Rattle.grib_complex.specs.Tells.{Tells, telling_of};
 
 use grib_base::Code;
 use grib_packing::Point;
 use grib_spatial::{Running, ScaledRange};
 
-/// Tells the points of codes: a code is the scaled number itself, or that of a difference.
+/// Tells the points of the codes of differences.
 #[derive(Debug, Drop)]
-pub(crate) struct Teller {
-    running: Option<Running>,
+pub struct Teller {
+    pub(crate) running: Running,
     /// How many points were told.
-    place: u64,
+    pub(crate) place: u64,
     /// The place, from 1, of the first point out of range, or 0.
-    beyond: u64,
+    pub(crate) beyond: u64,
 }
 
 impl Teller {
     /// Has told nothing.
-    pub fn start(running: Option<Running>) -> Teller
+    pub fn start(running: Running) -> Teller
         ensures running { result.running ≡ running }
         ensures nothing { Tells (telling_of running) [] result }
     {
@@ -44,36 +45,9 @@ impl Teller {
     #[inline(always)]
     pub fn is_ready(&self, count: u32, limit: u64) -> bool
         requires { limit ≤ 2 ^ 49 }
-        ensures { result ≡ true → StayWithin self.now.running count limit }
+        ensures { result ≡ true → IsSteady self.now.running count limit }
     {
-        match &self.running {
-            None => true,
-            Some(running) => running.is_steady(count, limit),
-        }
-    }
-
-    /// What undoes the differences, if there are any. It is to be given back by [`passed`](Teller::passed).
-    #[inline(always)]
-    pub fn take_running(&mut self) -> Option<Running>
-        ensures running { result ≡ self.old.running }
-        ensures place { self.new.place ≡ self.old.place }
-        ensures beyond { self.new.beyond ≡ self.old.beyond }
-    {
-        self.running.take()
-    }
-
-    /// After the points of `count` codes were told, none of which was out of range, and with this the next one is.
-    #[inline(always)]
-    pub fn passed(self, count: u32, running: Option<Running>) -> Teller
-        ensures running { result.running ≡ running }
-        ensures place { result.place ≡ (self.place + count) % 2 ^ 64 }
-        ensures beyond { result.beyond ≡ self.beyond }
-    {
-        Teller {
-            running,
-            place: self.place.wrapping_add(u64::from(count)),
-            beyond: self.beyond,
-        }
+        self.running.is_steady(count, limit)
     }
 
     /// The point of the next code.
@@ -81,7 +55,6 @@ impl Teller {
     pub fn tell(&mut self, code: Code) -> Point
         requires { number_of code < 2 ^ 49 }
         ensures stays { 0 < self.old.beyond → self.new.beyond ≡ self.old.beyond }
-        ensures plain { self.old.running ≡ None → (self.new.running ≡ None) × (self.new.beyond ≡ self.old.beyond) }
         ensures undoes { undoing (telling_of self.new.running) ≡ undoing (telling_of self.old.running) }
         ensures tells { (start : Telling) (seen : List code_of_value) → length seen + 1 < 2 ^ 63 → Tells start seen self.old → Tells start (seen ++ code ∷ []) self.new }
         ensures point { (start : Telling) (seen : List code_of_value) → length seen + 1 < 2 ^ 63 → Tells start seen self.old → self.new.beyond ≡ 0 → result ≡ point_of (after start seen) code }
@@ -92,10 +65,7 @@ impl Teller {
             Code::Primary => return Point::Missing,
             Code::Secondary => return Point::Missing2,
         };
-        let Some(running) = &mut self.running else {
-            return Point::Scaled(number as i64);
-        };
-        match running.push(number) {
+        match self.running.push(number) {
             Ok(number) => Point::Scaled(number),
             Err(ScaledRange) => {
                 if self.beyond == 0 {

@@ -1,11 +1,11 @@
 use Rattle.std.proofs.Common.{◌≡◌, ◌+◌, ◌≤◌, length}
 use Rattle.grib_groups.specs.CodeRuns.{Passed}
-use Rattle.grib_complex.proofs.AtOnce.{PlainWithin}
+use Rattle.grib_complex.proofs.AtOnce.{PlainKept}
 use Rattle.grib_complex.proofs.runs.keep_plainly.Given as goal
 
 abbrev pub invariant-loop-index : goal.invariant-loop-index
 invariant-loop-index g l = record {
-  so_far : Passed (PlainWithin g.K.Keeper.kept l.fn.keeper) (g.R.CodeRun.codes l.fn.run) (g.R.CodeRun.codes l.run) l.keeper;
+  so_far : Passed (PlainKept g.K.Keeper.kept l.fn.keeper) (g.R.CodeRun.codes l.fn.run) (g.R.CodeRun.codes l.run) l.keeper;
   left : length (g.R.CodeRun.codes l.run) + l._index ≡ l._index-end;
   stands : g.R.CodeRun.stands l.run;
   limit : g.R.CodeRun.limit l.run ≡ g.R.CodeRun.limit l.fn.run;

@@ -19,14 +19,14 @@ use Rattle.grib_groups.specs.Taking.{values}
 use Rattle.grib_groups.specs.Feeding.{ListsFed, WasFed}
 use Rattle.grib_groups.proofs.Faults.{TableRead, table_read}
 use Rattle.grib_complex.specs.declared.stages.Between.{Between}
-use Rattle.grib_complex.specs.Feeding.{Continues, ListingAgrees}
+use Rattle.grib_complex.specs.Feeding.{Continues, ListingAgrees, PlainAgrees}
 use Rattle.grib_complex.specs.Told.{Telling, Plainly, After, told, undoing}
-use Rattle.grib_complex.specs.Tells.{Tells, ValuesTook}
-use Rattle.grib_complex.specs.Descriptors.{descriptors_in, telling_by, telling_told}
+use Rattle.grib_complex.specs.Tells.{PlainTook, Tells, ValuesTook}
+use Rattle.grib_complex.specs.Descriptors.{descriptors_by, descriptors_in, telling_by, telling_told}
 use Rattle.grib_complex.proofs.Arriving.{came_refused, came_whole, came_entries, entries_grouped}
 use Rattle.grib_complex.proofs.Begun.{told_count}
-use Rattle.grib_complex.proofs.SoFar.{lists_before, numbers_came, points_agree, table_came, told_by, undone}
-use Rattle.grib_complex.proofs.Outcome.{no_run, plain_range, within_range, beyond_range}
+use Rattle.grib_complex.proofs.SoFar.{lists_before, numbers_came, plain_so_far, points_agree, table_came, told_by, undone}
+use Rattle.grib_complex.proofs.Outcome.{plain_range, within_range, beyond_range}
 use Rattle.grib_complex.proofs.stages.Between.read.Goals as goal
 
 module _ {K : Type 0} (s5 : List ℕ) (keeper : K) (start l : ℕ) (octets : List ℕ) (b : Between K) (agrees : ListingAgrees s5 keeper l octets octets b)
@@ -123,6 +123,20 @@ groups-requires-clause-narrow g c =
     c.into_table-table.result c.in_default.is c.into_table-table.ensures.references c.into_table-table.ensures.widths c.into_table-table.ensures.lengths in
     read.narrow
 
+pub groups-requires-2-clause-whole : goal.groups-requires-2-clause-whole
+groups-requires-2-clause-whole g c =
+    let begun = c.requires.begun in
+    let read = table_told begun.s5 begun.keeper c.args.start c.args.length begun.octets c.args.self begun.agrees begun.whole c.finish-lists.result c.finish-lists.ensures c.skip.result c.fault.result c.skip.ensures c.fault.ensures
+    c.into_table-table.result c.in_default.is c.into_table-table.ensures.references c.into_table-table.ensures.widths c.into_table-table.ensures.lengths in
+    read.whole
+
+pub groups-requires-2-clause-narrow : goal.groups-requires-2-clause-narrow
+groups-requires-2-clause-narrow g c =
+    let begun = c.requires.begun in
+    let read = table_told begun.s5 begun.keeper c.args.start c.args.length begun.octets c.args.self begun.agrees begun.whole c.finish-lists.result c.finish-lists.ensures c.skip.result c.fault.result c.skip.ensures c.fault.ensures
+    c.into_table-table.result c.in_default.is c.into_table-table.ensures.references c.into_table-table.ensures.widths c.into_table-table.ensures.lengths in
+    read.narrow
+
 pub is_steady-requires-clause-values : goal.is_steady-requires-clause-values
 is_steady-requires-clause-values g c =
     let begun = c.requires.begun in
@@ -175,6 +189,59 @@ returns-then-is_steady g c = λ s5 keeper octets agrees is_numbers whole.
       keeps = subst (λ (n : _). (points : List Point) → g.K.Keeper.kept n points b.keeper) agrees.keeper_is (c.keeps.ensures c.if-not-keeps.true);
     }
 
+-- without differences
+pub returns-then-told-eq0 : goal.returns-then-told-eq0
+returns-then-told-eq0 g c = λ s5 keeper octets agrees is_numbers whole.
+    let b = c.args.self in
+    let complex = b.complex in
+    let layout = complex.layout in
+    let k = (complex.order + 1) * complex.extra in
+    let before = k + list_octets layout in
+    let l = c.args.length in
+    let start = c.args.start in
+    let kept = g.K.Keeper.kept in
+    let gs = groups layout (drop k octets) in
+    let fed = c.push.result in
+    let pushed = c.push.ensures in
+    let read = table_told s5 keeper start l octets b agrees whole c.finish-lists.result c.finish-lists.ensures c.skip.result c.fault.result c.skip.ensures c.fault.ensures
+    c.into_table-table.result c.in_default.is c.into_table-table.ensures.references c.into_table-table.ensures.widths c.into_table-table.ensures.lengths in
+    let none = sym (fault_told s5 keeper start l octets b agrees whole c.finish-lists.result c.finish-lists.ensures c.skip.result c.fault.result c.skip.ensures c.fault.ensures) ∙ c.in_default.is in
+    let no_order : complex.order ≡ 0 = sym agrees.order ∙ c.if-told-eq0.true in
+    let by_groups = subst (λ (table : List Group). WasFed (PlainTook kept) layout table (record { keeper = b.keeper }) c.args.numbers.now fed) read.are
+    (pushed.fed layout (groups_in c.into_table-table.result) (record { keeper = b.keeper }) [] c.groups.ensures.fed) in
+    let by_numbers = subst (λ (xs : List ℕ). WasFed (PlainTook kept) layout gs (record { keeper = b.keeper }) xs fed) is_numbers by_groups in
+    let reads : PlainAgrees kept keeper l octets layout gs before fed = record {
+      came = whole;
+      enough = omega (arith, read.enough);
+      feedable = pushed.feedable;
+      so_far = subst (λ n. WasFed (PlainTook kept) layout gs (record { keeper = n }) (drop before octets) fed) agrees.keeper_is by_numbers;
+      caught_up = pushed.caught_up;
+    } in
+    let is_plain : (s7 : List ℕ) → Plainly ≡ telling_by complex.order complex.extra s7 =
+    λ s7. sym (cond-true (eqb complex.order 0) Plainly (After (descriptors_by complex.order complex.extra s7) NoNumber) (eq-eqb complex.order 0 no_order)) in
+    let entries = λ (s7 : List ℕ) (continues : Continues octets l s7).
+    ap (λ (t : Telling). told t (codes_from layout gs (bits (drop before (drop 5 s7))))) (is_plain s7) ∙ came_entries complex s5 agrees.spelled agrees.accepted agrees.groups start l octets s7 continues agrees.within whole in
+    let before_is = lists_before complex s5 agrees.spelled agrees.accepted agrees.groups in
+    let groups_are = λ (s7 : List ℕ) (continues : Continues octets l s7). numbers_came complex s5 agrees.spelled agrees.accepted agrees.groups l octets s7 continues whole in
+    record {
+      layout = layout;
+      groups = gs;
+      before = before;
+      reads = reads;
+      counted = read.counted ∙ agrees.spelled.simple.values;
+      entries = entries;
+      passes = λ s7 continues.
+          came_whole complex s5 agrees.spelled agrees.accepted agrees.groups start l octets s7 continues agrees.within whole (agrees.unsigned s7 continues) none
+          ∙ plain_range complex s5 s7 agrees.spelled agrees.accepted no_order;
+      before_is = before_is;
+      groups_are = groups_are;
+      table = λ s7 continues.
+          ap groups_in (pushed.table ∙ c.groups.ensures.table) ∙ read.are ∙ table_came complex s5 agrees.spelled agrees.accepted agrees.groups l octets s7 continues whole;
+      telling_is = λ s7 continues. is_plain s7 ∙ told_by complex s5 agrees.spelled agrees.accepted agrees.groups s7;
+      points = λ s7 continues. plain_so_far kept s5 keeper l octets layout gs before fed reads s7 continues (entries s7 continues) (groups_are s7 continues) before_is;
+    }
+
+-- with them
 pub returns : goal.returns
 returns g c = λ s5 keeper octets agrees is_numbers whole.
     let b = c.args.self in
@@ -193,9 +260,9 @@ returns g c = λ s5 keeper octets agrees is_numbers whole.
     let none = sym (fault_told s5 keeper start l octets b agrees whole c.finish-lists.result c.finish-lists.ensures c.skip.result c.fault.result c.skip.ensures c.fault.ensures) ∙ c.in_default.is in
     let same = read.are in
     let took = ValuesTook g.K.Keeper.kept in
-    let pushed = c.push.ensures.fed layout (groups_in table) first [] c.groups.ensures.fed in
-    let by_groups = subst (λ (gs : List Group). WasFed took layout gs first c.args.numbers.now c.push.result) same pushed in
-    let so_far = subst (λ (xs : List ℕ). WasFed took layout (groups layout os) first xs c.push.result) is_numbers by_groups in
+    let pushed = c.push-2.ensures.fed layout (groups_in table) first [] c.groups-2.ensures.fed in
+    let by_groups = subst (λ (gs : List Group). WasFed took layout gs first c.args.numbers.now c.push-2.result) same pushed in
+    let so_far = subst (λ (xs : List ℕ). WasFed took layout (groups layout os) first xs c.push-2.result) is_numbers by_groups in
     let fresh = subst (λ (t : Telling). Tells t [] first.teller) c.running.ensures c.start-values.ensures.nothing in
     let few : values (groups layout os) < 2 ^ 32 = omega (arith, read.counted, agrees.few) in
     let before_is = lists_before complex s5 agrees.spelled agrees.accepted agrees.groups in
@@ -211,7 +278,7 @@ returns g c = λ s5 keeper octets agrees is_numbers whole.
       first = first;
       before = k + list_octets layout;
       came = whole;
-      feedable = c.push.ensures.feedable;
+      feedable = c.push-2.ensures.feedable;
       so_far = so_far;
       fresh = fresh;
       keeper_is = keeper_is;
@@ -222,24 +289,24 @@ returns g c = λ s5 keeper octets agrees is_numbers whole.
       within = λ s7 continues nowhere.
           came_whole complex s5 agrees.spelled agrees.accepted agrees.groups start l octets s7 continues agrees.within whole (agrees.unsigned s7 continues) none
           ∙ within_range s5 s7 (sym (ap (first_place is_out_of_range) (entries_grouped complex s5 agrees.spelled agrees.accepted agrees.groups s7)) ∙ nowhere);
-      beyond = λ s7 continues somewhere not_plain.
+      beyond = λ s7 continues somewhere.
           let all = entries_grouped complex s5 agrees.spelled agrees.accepted agrees.groups s7 in
           let here : first_place is_out_of_range (entries_of s5 s7) ≡ first_place is_out_of_range (group_entries s5 s7) = ap (first_place is_out_of_range) all in
           let origin : start + 0 ≡ start = omega arith in
           ap (located start) (came_whole complex s5 agrees.spelled agrees.accepted agrees.groups start l octets s7 continues agrees.within whole (agrees.unsigned s7 continues) none
           ∙ beyond_range s5 s7 (elim agrees.accepted.order [
-            | inl two ↦ absurd (not_plain (c.start-values.ensures.running ∙ no_run c.running.result (c.running.ensures ∙ cond-true (eqb b.told.order 0) Plainly _ (eq-eqb b.told.order 0 (agrees.order ∙ two.1)))))
+            | inl two ↦ absurd (c.if-told-eq0.false (agrees.order ∙ two.1))
             | inr three ↦ sym agrees.spelled.simple.template ∙ three.0
           ]) (omega (arith, here, somewhere)))
           ∙ ap₂ (λ (o d : ℕ). Some (refusal o ScaledRange d)) origin (sym here);
-      caught_up = c.push.ensures.caught_up;
+      caught_up = c.push-2.ensures.caught_up;
       before_is = before_is;
       groups_are = groups_are;
       table = λ s7 continues.
-          ap groups_in (c.push.ensures.table ∙ c.groups.ensures.table) ∙ same ∙ table_came complex s5 agrees.spelled agrees.accepted agrees.groups l octets s7 continues whole;
+          ap groups_in (c.push-2.ensures.table ∙ c.groups-2.ensures.table) ∙ same ∙ table_came complex s5 agrees.spelled agrees.accepted agrees.groups l octets s7 continues whole;
       telling_is = telling_is;
-      undone_with = λ s7 continues. undone g.K.Keeper.kept layout (groups layout os) (telling_told b.told) first (drop (k + list_octets layout) octets) c.push.result so_far fresh ∙ ap undoing (telling_is s7 continues);
+      undone_with = λ s7 continues. undone g.K.Keeper.kept layout (groups layout os) (telling_told b.told) first (drop (k + list_octets layout) octets) c.push-2.result so_far fresh ∙ ap undoing (telling_is s7 continues);
       points = λ s7 continues.
-          points_agree g.K.Keeper.kept s5 keeper l octets layout (groups layout os) (telling_told b.told) first (k + list_octets layout) c.push.result so_far c.push.ensures.caught_up fresh keeper_is few whole
+          points_agree g.K.Keeper.kept s5 keeper l octets layout (groups layout os) (telling_told b.told) first (k + list_octets layout) c.push-2.result so_far c.push-2.ensures.caught_up fresh keeper_is few whole
           s7 continues (entries s7 continues) (groups_are s7 continues) before_is;
     }

@@ -1,11 +1,9 @@
-use Rattle.std.proofs.Common.{◌≡◌, ◌<◌, ◌^◌, ℕ, Bool, true, false, refl, sym, ap, ◌∙◌, arith, subst, le-ltb}
+use Rattle.std.proofs.Common.{◌≡◌, ℕ, Bool, true, false, refl, sym, ap, ◌∙◌}
 use Rattle.grib_base.specs.declared.code.Code.{Code}
 use Rattle.grib_base.specs.declared.code.Code.TheVariants.{Present, Primary, Secondary}
 use Rattle.grib_packing.specs.Entries.{is_out_of_range}
 use Rattle.grib_spatial.specs.Running.{Run}
-use Rattle.grib_groups.specs.Taking.{number_of}
-use Rattle.grib_complex.specs.Told.{Telling, Plainly, After, point_of, telling_after, after}
-use Rattle.grib_complex.specs.Tells.{telling_of}
+use Rattle.grib_complex.specs.Told.{Telling, After, point_of, telling_after, after}
 use Rattle.grib_complex.proofs.Told.{tells_within, tells_beyond}
 use Rattle.grib_complex.proofs.telling.Teller.tell.Goals as goal
 
@@ -30,26 +28,6 @@ returns-in-Secondary-clause-tells c = λ start seen room tells.
     (λ _. ap (λ (code : Code). is_out_of_range (point_of t code)) c.in-Secondary.is)
     (λ none. tells.telling none ∙ ap (telling_after t) (sym c.in-Secondary.is))
 
--- a number as it stands is within the range
-number_within : (t : Telling) (code : Code) (n : ℕ) → number_of code < 2 ^ 49 → code ≡ Present n → Plainly ≡ t → is_out_of_range (point_of t code) ≡ false
-number_within t code n small is_code is_plain =
-    let below : n < 2 ^ 49 = subst (λ (c : Code). number_of c < 2 ^ 49) is_code small in
-    ap (λ (u : Telling). is_out_of_range (point_of u code)) (sym is_plain)
-    ∙ ap (λ (c : Code). is_out_of_range (point_of Plainly c)) is_code
-    ∙ le-ltb (2 ^ 60) n (omega arith)
-
-plain_after : (t : Telling) (code : Code) (n : ℕ) → code ≡ Present n → Plainly ≡ t → Plainly ≡ telling_after t code
-plain_after t code n is_code is_plain =
-    ap (λ (u : Telling). telling_after u (Present n)) is_plain ∙ ap (telling_after t) (sym is_code)
-
-pub returns-in_default-clause-tells : goal.returns-in_default-clause-tells
-returns-in_default-clause-tells c = λ start seen room tells.
-    let t = after start seen in
-    let plain = λ (none : c.args.self.now.beyond ≡ 0). sym (ap telling_of c.in_default.is) ∙ tells.telling none in
-    tells_within start seen c.args.self.now _ c.args.code room tells refl refl
-    (λ none. number_within t c.args.code c.in-Present.number c.requires c.in-Present.is (plain none))
-    (λ none. ap telling_of c.in_default.is ∙ plain_after t c.args.code c.in-Present.number c.in-Present.is (plain none))
-
 -- a number of a run
 run_point : (t : Telling) (code : Code) (run : Run) (n : ℕ) (b : Bool) → code ≡ Present n → After run.told run.last ≡ t → is_out_of_range (point_of (After run.told run.last) (Present n)) ≡ b
     → is_out_of_range (point_of t code) ≡ b
@@ -64,8 +42,8 @@ run_after t code run n is_code is_run =
 pub returns-in-Ok-clause-tells : goal.returns-in-Ok-clause-tells
 returns-in-Ok-clause-tells c = λ start seen room tells.
     let t = after start seen in
-    let run = c.in-Some.running in
-    let is_run = λ (none : c.args.self.now.beyond ≡ 0). sym (ap telling_of c.in-Some.is) ∙ tells.telling none in
+    let run = c.args.self.now.running in
+    let is_run = λ (none : c.args.self.now.beyond ≡ 0). tells.telling none in
     tells_within start seen c.args.self.now _ c.args.code room tells refl refl
     (λ none. run_point t c.args.code run c.in-Present.number false c.in-Present.is (is_run none) c.in-Ok.ensures.within)
     (λ none. ap (λ (r : Run). After r.told r.last) c.in-Ok.ensures.after ∙ run_after t c.args.code run c.in-Present.number c.in-Present.is (is_run none))
@@ -73,9 +51,9 @@ returns-in-Ok-clause-tells c = λ start seen room tells.
 pub returns-then-self-eq0-clause-tells : goal.returns-then-self-eq0-clause-tells
 returns-then-self-eq0-clause-tells c = λ start seen room tells.
     let t = after start seen in
-    let run = c.in-Some.running in
+    let run = c.args.self.now.running in
     let none = c.if-self-eq0.true in
-    let is_run = sym (ap telling_of c.in-Some.is) ∙ tells.telling none in
+    let is_run = tells.telling none in
     tells_beyond start seen c.args.self.now _ c.args.code room tells refl none refl
     (run_point t c.args.code run c.in-Present.number true c.in-Present.is is_run c.in-Err.ensures.beyond)
 

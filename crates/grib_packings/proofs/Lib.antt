@@ -1,0 +1,3 @@
+pub mod Represented
+pub mod Simply
+pub mod Read

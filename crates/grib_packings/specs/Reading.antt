@@ -1,0 +1,105 @@
+-- A Section 7 that comes in pieces, by its packing: what is known of it by the octets that came after its fifth.
+use Rattle.std.specs.Prelude.{◌≡◌, ℕ, ◌+◌, ◌*◌, ◌≤◌, Bool, None, List, [], length, take}
+use Rattle.grib_packing.specs.declared.column.Point.{Point}
+use Rattle.grib_packing.specs.declared.keeping.Points.{Points}
+use Rattle.grib_packing.specs.Entries.{data_fault, entries_of}
+use Rattle.grib_packing.specs.Kept.{ArePoints}
+use Rattle.grib_packing.specs.Packing.{bit_width, packing_template, value_count}
+use Rattle.grib_groups.specs.declared.feeding.Fed.{Fed}
+use Rattle.grib_groups.specs.Feeding.{no_marks, pending_of, plain_groups}
+use Rattle.grib_groups.specs.Table.{groups_in}
+use Rattle.grib_groups.specs.Taking.{values_within}
+use Rattle.grib_complex.specs.declared.values.PlainValues.{PlainValues}
+use Rattle.grib_complex.specs.Feeding as complex
+use Rattle.grib_complex.specs.Feeding.{AreOctets, Continues, IsFaultOf, PassingAgrees, PlainAgrees, StateAgrees}
+use Rattle.grib_packings.specs.declared.reading.Reading.{Reading}
+use Rattle.grib_packings.specs.declared.reading.Reading.TheVariants.{Simple, Complex}
+use Rattle.grib_packings.specs.declared.simple_reading.SimpleReading.{SimpleReading}
+use Rattle.grib_packings.specs.declared.simple_reading.SimpleReading.TheVariants.{Reads, Passes, Refused}
+
+-- ---- simple packing
+
+-- the entries of the numbers that end in these octets
+abbrev pub simply_so_far : List ℕ → List ℕ → List ℕ → List Point
+simply_so_far s5 s7 octets = take (values_within (plain_groups (bit_width s5) (value_count s5)) (8 * length octets)) (entries_of s5 s7)
+
+-- The packed numbers of all values come: the points of those that came are kept, and no further number ends in these
+-- octets. No row fails, whatever comes.
+pub record ReadingSimply {K : Type 0} (kept : K → List Point → K → Type 0) (s5 : List ℕ) (keeper : K) (l : ℕ) (octets : List ℕ) (fed : Fed (PlainValues K)) : Type 0 where
+  pub simple : packing_template s5 ≡ 0
+  pub reads : PlainAgrees kept keeper l octets no_marks (plain_groups (bit_width s5) (value_count s5)) 0 fed
+  pub passes : (s7 : List ℕ) → Continues octets l s7 → data_fault s5 s7 ≡ None
+  pub table : groups_in fed.table ≡ []
+  pub points : (s7 : List ℕ) → Continues octets l s7 → kept keeper (simply_so_far s5 s7 octets) fed.taker.keeper
+
+abbrev pub SimpleAgrees : {K : Type 0} → (K → List Point → K → Type 0) → List ℕ → K → ℕ → ℕ → List ℕ → SimpleReading K → Type 0
+SimpleAgrees kept s5 keeper start l octets (Reads fed) = ReadingSimply kept s5 keeper l octets fed
+SimpleAgrees kept s5 keeper start l octets (Passes after) = PassingAgrees kept s5 keeper l octets after
+SimpleAgrees kept s5 keeper start l octets (Refused fault after) = IsFaultOf s5 start l octets fault × (after ≡ keeper)
+
+-- Some octets were read.
+pub record IsFedSimply {K : Type 0} (kept : K → List Point → K → Type 0) (reading : SimpleReading K) : Type 0 where
+  pub s5 : List ℕ
+  pub keeper : K
+  pub start : ℕ
+  pub l : ℕ
+  pub octets : List ℕ
+  pub agrees : SimpleAgrees kept s5 keeper start l octets reading
+
+-- the bits that came and are not decoded
+abbrev pub simply_pending : {K : Type 0} → SimpleReading K → List Bool
+simply_pending (Reads fed) = pending_of fed
+simply_pending reading = []
+
+-- what keeps the points
+abbrev pub simply_in : {K : Type 0} → SimpleReading K → K
+simply_in (Reads fed) = fed.taker.keeper
+simply_in (Passes keeper) = keeper
+simply_in (Refused fault keeper) = keeper
+
+-- The points of the numbers that came stand in the column. They are those of each section that continues these octets.
+abbrev pub SimpleColumnAgrees : List ℕ → List Bool → ℕ → List ℕ → SimpleReading Points → Type 0
+SimpleColumnAgrees s5 mask l octets (Reads fed) = (s7 : List ℕ) → Continues octets l s7 → ArePoints mask (simply_so_far s5 s7 octets) fed.taker.keeper
+SimpleColumnAgrees s5 mask l octets reading = ArePoints mask [] (simply_in reading)
+
+-- ---- each packing
+
+abbrev pub ReadingAgrees : {K : Type 0} → (K → List Point → K → Type 0) → List ℕ → K → ℕ → ℕ → List ℕ → Reading K → Type 0
+ReadingAgrees kept s5 keeper start l octets (Simple reading) = SimpleAgrees kept s5 keeper start l octets reading
+ReadingAgrees kept s5 keeper start l octets (Complex reading) = StateAgrees kept s5 keeper start l octets reading
+
+-- Some octets were read, this many.
+pub record IsFedReading {K : Type 0} (kept : K → List Point → K → Type 0) (start l count : ℕ) (reading : Reading K) : Type 0 where
+  pub s5 : List ℕ
+  pub keeper : K
+  pub octets : List ℕ
+  pub known : AreOctets octets
+  pub low : 1 ≤ start
+  pub high : start ≤ 268435456
+  pub long : length octets ≡ count
+  pub agrees : ReadingAgrees kept s5 keeper start l octets reading
+
+-- All octets came of a Section 7.
+pub record IsWholeReading {K : Type 0} (kept : K → List Point → K → Type 0) (start : ℕ) (reading : Reading K) : Type 0 where
+  pub s5 : List ℕ
+  pub keeper : K
+  pub l : ℕ
+  pub octets : List ℕ
+  pub low : 1 ≤ start
+  pub high : start ≤ 268435456
+  pub whole : 5 + length octets ≡ l
+  pub agrees : ReadingAgrees kept s5 keeper start l octets reading
+
+-- the bits that came and are not decoded
+abbrev pub pending_in : {K : Type 0} → Reading K → List Bool
+pending_in (Simple reading) = simply_pending reading
+pending_in (Complex reading) = complex.pending_in reading
+
+-- what keeps the points
+abbrev pub keeper_in : {K : Type 0} → Reading K → K
+keeper_in (Simple reading) = simply_in reading
+keeper_in (Complex reading) = complex.keeper_in reading
+
+abbrev pub ColumnAgrees : List ℕ → List Bool → ℕ → List ℕ → Reading Points → Type 0
+ColumnAgrees s5 mask l octets (Simple reading) = SimpleColumnAgrees s5 mask l octets reading
+ColumnAgrees s5 mask l octets (Complex reading) = complex.ColumnAgrees s5 mask l octets reading
