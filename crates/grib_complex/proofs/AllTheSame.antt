@@ -1,20 +1,18 @@
 -- Columns of which all points are the same.
-use Rattle.std.proofs.Common.{◌≡◌, ℕ, zero, suc, ◌+◌, ◌-◌, ◌^◌, ◌<◌, ◌≤◌, ◌⊎◌, inl, inr, Bool, true, false, cond, None, ℤ, pos, nat_abs, nat_lt, ◌==◌, ◌+ℤ◌, ◌-ℤ◌, ◌*ℤ◌, eq-eqb, ne_eqb, lt-ltb, le-ltb, List, [], ◌∷◌, ◌++◌, length, get_or, map, take, replicate, All, refl, sym, ap, ap₂, ◌∙◌, arith}
+use Rattle.std.proofs.Common.{◌≡◌, ℕ, zero, suc, ◌+◌, ◌-◌, ◌^◌, ◌<◌, ◌≤◌, ◌⊎◌, inl, inr, Bool, true, false, cond, ℤ, pos, nat_lt, ◌==◌, ◌+ℤ◌, ◌-ℤ◌, ◌*ℤ◌, eq-eqb, ne_eqb, lt-ltb, le-ltb, List, [], ◌∷◌, get_or, map, take, replicate, refl, sym, ap, ap₂, ◌∙◌, arith}
 use Rattle.std.specs.List.{list_any, range_with_len}
-use Rattle.std.proofs.Math.Seq.{take-suc}
 use Rattle.std.proofs.lemmas.Bool.{cases_lt}
 use Rattle.std.proofs.lemmas.Int.{ints}
 use Rattle.std.proofs.lemmas.List.{get_or-replicate, get_or_past, take_all, take-replicate, drop-replicate, length-replicate}
-use Rattle.std.proofs.lemmas.List.Elements.{All-head}
 use Rattle.grib_base.specs.declared.code.Code.{Code}
 use Rattle.grib_base.specs.declared.code.Code.TheVariants.{Present, Primary, Secondary}
 use Rattle.grib_packing.specs.declared.column.Point.{Point}
 use Rattle.grib_packing.specs.declared.column.Point.TheVariants.{Scaled, Missing, Missing2}
 use Rattle.grib_packing.specs.Differences.{Descriptors, descriptors_of, difference_codes, difference_at, differences, code_at, least, least_of}
-use Rattle.grib_packing.specs.Misfits.{ToComplex, ToSpatial, are_differences_out, is_outside, first_misfit, is_scaled_outside, is_missing, is_missing2, greatest_code, management_of, scaled_numbers}
+use Rattle.grib_packing.specs.Misfits.{ToSpatial, are_differences_out, is_outside, is_missing, is_missing2, greatest_code, management_of, scaled_numbers}
 use Rattle.grib_packing.specs.Packed.{placed_codes, target_codes}
 use Rattle.grib_packing.specs.Groupings.{width_of}
-use Rattle.grib_packing.specs.Span.{IsSpan, IsTold}
+use Rattle.grib_packing.specs.Span.{IsSpan}
 use Rattle.grib_packing.specs.declared.span.Span.{Span}
 use Rattle.grib_split.specs.Fewest.{TakesNone}
 use Rattle.grib_groups.proofs.Same.{any_same, span_same, width_same}
@@ -22,26 +20,7 @@ use Rattle.grib_spatial.specs.declared.differences.Differences.{Differences}
 use Rattle.grib_spatial.specs.Undoing.{read_with}
 use Rattle.grib_complex.specs.Constant.{DifferencesOf}
 
--- one point more is the same
-replicate-more : {X : Type 0} (n : ℕ) (x : X) → replicate n x ++ x ∷ [] ≡ replicate (suc n) x
-replicate-more zero x = refl
-replicate-more (suc n) x = ap (λ xs. x ∷ xs) (replicate-more n x)
-
-pub same_more : {X : Type 0} (xs : List X) (i : ℕ) (d x : X) → i < length xs → get_or xs i d ≡ x → take i xs ≡ replicate i x → take (i + 1) xs ≡ replicate (i + 1) x
-same_more xs i d x within is before =
-    let next : i + 1 ≡ suc i = omega arith in
-    ap (λ (k : ℕ). take k xs) next ∙ take-suc xs i d within ∙ ap₂ (λ (ys : List _) y. ys ++ y ∷ []) before is ∙ replicate-more i x ∙ ap (λ (k : ℕ). replicate k x) (sym next)
-
-pub all_the_same : {X : Type 0} (xs : List X) (i : ℕ) (x : X) → length xs ≤ i → i ≤ length xs → take i xs ≡ replicate i x → xs ≡ replicate (length xs) x
-all_the_same xs i x past within is =
-    let same : i ≡ length xs = omega arith in
-    sym (take_all i xs past) ∙ is ∙ ap (λ (k : ℕ). replicate k x) same
-
 -- ---- codes that are all the same
-
-pub told_one : (k n : ℕ) (c : Code) → 1 ≤ n → All (IsTold k) (replicate n c) → IsTold k c
-told_one k zero c some each = absurd (omega arith)
-told_one k (suc n) c some each = All-head (IsTold k) c (replicate n c) each
 
 pub span_of_all : (span : Span) (n : ℕ) (c : Code) → 1 ≤ n → IsSpan span (c ∷ []) → IsSpan span (replicate n c)
 span_of_all span zero c some is = absurd (omega arith)
@@ -58,10 +37,6 @@ takes_none k n c from m = ap (λ (cs : List Code). width_of k (take m cs)) (drop
 pub management_same : (p : Point) (n : ℕ) → management_of (replicate (suc n) p) ≡ management_of (p ∷ [])
 management_same p n = rw (any_same is_missing2 p n, any_same is_missing p n) refl
 
-numbers_placed : (x : ℤ) (n : ℕ) → placed_codes (replicate n (Scaled x)) (map nat_abs (scaled_numbers (replicate n (Scaled x)))) ≡ replicate n (Present (nat_abs x))
-numbers_placed x zero = refl
-numbers_placed x (suc n) = ap (λ (cs : List Code). Present (nat_abs x) ∷ cs) (numbers_placed x n)
-
 pub primary_placed : (numbers : List ℕ) (n : ℕ) → placed_codes (replicate n Missing) numbers ≡ replicate n Primary
 primary_placed numbers zero = refl
 primary_placed numbers (suc n) = ap (λ (cs : List Code). Primary ∷ cs) (primary_placed numbers n)
@@ -70,35 +45,9 @@ pub secondary_placed : (numbers : List ℕ) (n : ℕ) → placed_codes (replicat
 secondary_placed numbers zero = refl
 secondary_placed numbers (suc n) = ap (λ (cs : List Code). Secondary ∷ cs) (secondary_placed numbers n)
 
-codes_placed : (p : Point) (c : Code) (n : ℕ) → target_codes ToComplex (p ∷ []) ≡ c ∷ [] → replicate n c ≡ target_codes ToComplex (replicate n p)
-codes_placed (Scaled x) c n is = let head : Present (nat_abs x) ≡ c = ap (λ (cs : List Code). get_or cs 0 Primary) is in ap (replicate n) (sym head) ∙ sym (numbers_placed x n)
-codes_placed Missing c n is = let head : Primary ≡ c = ap (λ (cs : List Code). get_or cs 0 Primary) is in ap (replicate n) (sym head) ∙ sym (primary_placed _ n)
-codes_placed Missing2 c n is = let head : Secondary ≡ c = ap (λ (cs : List Code). get_or cs 0 Primary) is in ap (replicate n) (sym head) ∙ sym (secondary_placed _ n)
-
 none_same : {X : Type 0} (test : X → Bool) (x : X) (n : ℕ) → test x ≡ false → list_any test (replicate n x) ≡ false
 none_same test x zero is = refl
 none_same test x (suc n) is = rw is (none_same test x n is)
-
--- what a constant column is packed by
-pub record ToldBy (points : List Point) (codes : List Code) (k : ℕ) : Type 0 where
-  pub none : first_misfit ToComplex points ≡ None
-  pub codes_are : codes ≡ target_codes ToComplex points
-  pub management : k ≡ management_of points
-
-pub constant_told : (points : List Point) (p : Point) (c : Code) (n k m : ℕ) → 1 ≤ length points → n ≡ length points → points ≡ replicate (length points) p
-    → k ≡ management_of (p ∷ []) → m ≡ greatest_code k → is_scaled_outside m p ≡ false → target_codes ToComplex (p ∷ []) ≡ c ∷ [] → ToldBy points (replicate n c) k
-constant_told points p c n k m some long same is_k is_m inside code =
-    let l = length points in
-    let one : suc (l - 1) ≡ l = omega arith in
-    let managed : management_of points ≡ k = ap management_of (same ∙ ap (λ (j : ℕ). replicate j p) (sym one)) ∙ management_same p (l - 1) ∙ sym is_k in
-    let out : list_any (is_scaled_outside (greatest_code (management_of points))) points ≡ false =
-    ap₂ (λ (j : ℕ) (ps : List Point). list_any (is_scaled_outside (greatest_code j)) ps) managed same
-    ∙ ap (λ (j : ℕ). list_any (is_scaled_outside j) (replicate l p)) (sym is_m) ∙ none_same (is_scaled_outside m) p l inside in
-    record {
-      none = rw out refl;
-      codes_are = ap (λ (j : ℕ). replicate j c) long ∙ codes_placed p c l code ∙ ap (target_codes ToComplex) (sym same);
-      management = sym managed;
-    }
 
 -- ---- codes of differences
 

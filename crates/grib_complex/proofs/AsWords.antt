@@ -1,5 +1,5 @@
 -- Words of codes, once all points came.
-use Rattle.std.proofs.Common.{◌≡◌, ℕ, suc, ◌+◌, ◌-◌, ◌^◌, ◌<◌, ◌≤◌, ◌||◌, inl, inr, subst₂, Bool, true, false, cond, max, Some, None, nat_abs, nat_lt, ℤ, pos, negsuc, List, [], ◌∷◌, length, map, refl, sym, ap, ap₂, ◌∙◌, arith, ltb-false, lt-ltb, le-ltb, All}
+use Rattle.std.proofs.Common.{◌≡◌, ℕ, suc, ◌+◌, ◌-◌, ◌^◌, ◌<◌, ◌≤◌, ◌||◌, subst₂, Bool, true, false, cond, max, Some, None, nat_abs, nat_lt, ℤ, pos, negsuc, List, [], ◌∷◌, length, map, refl, sym, ap, ap₂, ◌∙◌, arith, lt-ltb, le-ltb, All}
 use Rattle.std.specs.List.{list_any}
 use Rattle.std.proofs.lemmas.List.Elements.{All-head, All-tail}
 use Rattle.grib_base.specs.declared.code.Code.{Code}
@@ -16,21 +16,23 @@ use Rattle.grib_packing.specs.Column.{points_with_mask}
 use Rattle.grib_packing.specs.Misfits.{ToComplex, OutOfRange, first_misfit, is_missing, is_missing2, is_outside, is_scaled_outside, greatest_code, management_of}
 use Rattle.grib_packing.specs.Packed.{target_codes}
 use Rattle.grib_simple.proofs.Masked.{with_mask_all}
-use Rattle.std.proofs.lemmas.Bool.{cases_lt}
 use Rattle.std.proofs.lemmas.List.{length-map}
 use Rattle.grib_simple.proofs.Fitting.{parts_false}
 use Rattle.grib_complex.proofs.Worded.{either_way}
-use Rattle.grib_complex.proofs.CodeByCode.{length-codes, management-few, number_small, plain_told, reserved_1, reserved_2}
-use Rattle.grib_complex.specs.KeptWords.{AreWords, TellPoints, word_for}
+use Rattle.grib_complex.proofs.CodeByCode.{management-few, number_small, plain_told, reserved_1, reserved_2}
+use Rattle.grib_complex.specs.KeptWords.{AreWords, TellPoints, has_outside, word_for}
 use Rattle.grib_simple.proofs.InPlace.{plain_point}
 
 -- ---- what words stand for
 
-number_stands : (k : ℕ) (x : ℤ) → k ≤ 2 → is_outside (greatest_code 2) x ≡ false → code_of k (cond (is_outside (greatest_code 2) x) 0 (nat_abs x)) ≡ Present (nat_abs x)
-number_stands k x few inside =
-    let small : nat_abs x + 2 < 2 ^ 32 = number_small 2 x (omega arith) inside in
-    let fits : nat_lt (nat_abs x + k) (2 ^ 32) ≡ true = lt-ltb (nat_abs x + k) (2 ^ 32) (omega arith) in
-    rw inside (rw fits refl)
+number_stands : (k : ℕ) (x : ℤ) → k ≤ 2 → is_outside (greatest_code k) x ≡ false → code_of k (word_for (Scaled x)) ≡ Present (nat_abs x)
+number_stands k (negsuc n) few inside = absurd (cc)
+number_stands k (pos n) few inside =
+    let small : n + k < 2 ^ 32 = number_small k (pos n) few inside in
+    let fits : nat_lt (n + k) (2 ^ 32) ≡ true = lt-ltb (n + k) (2 ^ 32) small in
+    let short : nat_lt (2 ^ 32 - 1) n ≡ false = le-ltb (2 ^ 32 - 1) n (omega arith) in
+    let never : nat_lt n 0 ≡ false = le-ltb n 0 (omega arith) in
+    rw (never, short) (rw fits refl)
 
 primary_stands : (k : ℕ) → 1 ≤ k → code_of k (2 ^ 32 - 1) ≡ Primary
 primary_stands k some =
@@ -43,59 +45,51 @@ secondary_stands k some =
     rw above refl
 
 codes_stand : (k : ℕ) (points : List Point) → k ≤ 2 → (list_any is_missing points ≡ true → 1 ≤ k) → (list_any is_missing2 points ≡ true → 2 ≤ k)
-    → list_any (is_scaled_outside (greatest_code 2)) points ≡ false → codes_of k (map word_for points) ≡ target_codes ToComplex points
+    → list_any (is_scaled_outside (greatest_code k)) points ≡ false → codes_of k (map word_for points) ≡ target_codes ToComplex points
 codes_stand k [] few one two inside = refl
 codes_stand k (Scaled x ∷ points) few one two inside =
-    let both = parts_false (is_outside (greatest_code 2) x) (list_any (is_scaled_outside (greatest_code 2)) points) inside in
+    let both = parts_false (is_outside (greatest_code k) x) (list_any (is_scaled_outside (greatest_code k)) points) inside in
     ap₂ (λ (c : Code) (cs : List Code). c ∷ cs) (number_stands k x few both.0) (codes_stand k points few one two both.1)
 codes_stand k (Missing ∷ points) few one two inside =
     ap₂ (λ (c : Code) (cs : List Code). c ∷ cs) (primary_stands k (one refl)) (codes_stand k points few (λ e. one refl) two inside)
 codes_stand k (Missing2 ∷ points) few one two inside =
     ap₂ (λ (c : Code) (cs : List Code). c ∷ cs) (secondary_stands k (two refl)) (codes_stand k points few one (λ e. two refl) inside)
 
--- ---- what fits with two codes reserved fits with fewer
+-- words tell their points, unless a number has no code
+pub outside_told : (points : List Point) (kept : PointWords) → AreWords points kept → nat_lt (greatest_code kept.management) kept.greatest ≡ has_outside points
+outside_told points kept are =
+    ap (λ (k : ℕ). nat_lt (greatest_code k) kept.greatest) are.management ∙ are.outside (management_of points) (management-few points)
 
-outside_fewer : (k : ℕ) (x : ℤ) → k ≤ 2 → is_outside (greatest_code 2) x ≡ false → is_outside (greatest_code k) x ≡ false
-outside_fewer k (negsuc n) few inside = absurd (cc)
-outside_fewer k (pos n) few inside =
-    let both = parts_false (nat_lt n 0) (nat_lt (greatest_code 2) n) inside in
-    let small : n ≤ greatest_code 2 = ltb-false (greatest_code 2) n both.1 in
-    let fits : nat_lt (greatest_code k) n ≡ false = le-ltb (greatest_code k) n (omega arith) in
-    rw (both.0, fits) refl
+pub told_points : (points : List Point) (kept : PointWords) (codes : List Code) → AreWords points kept → nat_lt (greatest_code kept.management) kept.greatest ≡ false
+    → codes ≡ codes_of kept.management kept.words.items → TellPoints points kept.management codes
+told_points points kept codes are fits is = record {
+  few = omega (arith, are.management, management-few points);
+  each = subst₂ (λ (j : ℕ) (cs : List Code). All (IsTold j) cs) (sym are.management) (sym stand) (plain_told points none);
+  none = none;
+  management = are.management;
+  codes_are = stand;
+} where
+  inside : has_outside points ≡ false
+  inside = sym (outside_told points kept are) ∙ fits
 
-fits_fewer : (k : ℕ) (points : List Point) → k ≤ 2 → list_any (is_scaled_outside (greatest_code 2)) points ≡ false → list_any (is_scaled_outside (greatest_code k)) points ≡ false
-fits_fewer k [] few inside = refl
-fits_fewer k (Scaled x ∷ points) few inside =
-    let both = parts_false (is_outside (greatest_code 2) x) (list_any (is_scaled_outside (greatest_code 2)) points) inside in
-    ap₂ (λ (a b : Bool). a || b) (outside_fewer k x few both.0) (fits_fewer k points few both.1)
-fits_fewer k (Missing ∷ points) few inside = fits_fewer k points few inside
-fits_fewer k (Missing2 ∷ points) few inside = fits_fewer k points few inside
+  none : first_misfit ToComplex points ≡ None
+  none = ap (λ (b : Bool). cond b (Some (OutOfRange (first_place (is_scaled_outside (greatest_code (management_of points))) points))) None) inside
 
-module _ (points : List Point) (inside : list_any (is_scaled_outside (greatest_code 2)) points ≡ false) where
-  pub none_misfits : first_misfit ToComplex points ≡ None
-  none_misfits =
-      let k = management_of points in
-      ap (λ (b : Bool). cond b (Some (OutOfRange (first_place (is_scaled_outside (greatest_code k)) points))) None) (fits_fewer k points (management-few points) inside)
-
-  pub words_stand : codes_of (management_of points) (map word_for points) ≡ target_codes ToComplex points
-  words_stand = codes_stand (management_of points) points (management-few points) (reserved_1 points) (reserved_2 points) inside
+  stand : codes ≡ target_codes ToComplex points
+  stand =
+      is ∙ ap₂ codes_of are.management are.words
+      ∙ codes_stand (management_of points) points (management-few points) (reserved_1 points) (reserved_2 points) inside
 
 -- ---- points that a mask leaves out
 
-inside_masked : (m : ℕ) (mask : List Bool) (entries : List Point) → list_any (is_scaled_outside m) entries ≡ false → list_any (is_scaled_outside m) (points_with_mask mask entries) ≡ false
-inside_masked m [] entries inside = refl
-inside_masked m (false ∷ mask) entries inside = inside_masked m mask entries inside
-inside_masked m (true ∷ mask) [] inside = inside_masked m mask [] inside
-inside_masked m (true ∷ mask) (e ∷ entries) inside =
-    let both = parts_false (is_scaled_outside m e) (list_any (is_scaled_outside m) entries) inside in
-    ap₂ (λ (a b : Bool). a || b) both.0 (inside_masked m mask entries both.1)
-
-secondary_masked : (mask : List Bool) (entries : List Point) → present_count mask ≡ length entries → list_any is_missing2 (points_with_mask mask entries) ≡ list_any is_missing2 entries
-secondary_masked [] [] e = refl
-secondary_masked [] (x ∷ xs) e = absurd (omega arith)
-secondary_masked (false ∷ mask) xs e = secondary_masked mask xs (omega (arith, present_count-cons false mask))
-secondary_masked (true ∷ mask) [] e = absurd (omega (arith, present_count-cons true mask))
-secondary_masked (true ∷ mask) (x ∷ xs) e = ap (λ (b : Bool). is_missing2 x || b) (secondary_masked mask xs (omega (arith, present_count-cons true mask)))
+any_masked : (test : Point → Bool) (mask : List Bool) (entries : List Point) → test Missing ≡ false → present_count mask ≡ length entries
+    → list_any test (points_with_mask mask entries) ≡ list_any test entries
+any_masked test [] [] none e = refl
+any_masked test [] (x ∷ xs) none e = absurd (omega arith)
+any_masked test (false ∷ mask) xs none e =
+    ap (λ (b : Bool). b || list_any test (points_with_mask mask xs)) none ∙ any_masked test mask xs none (omega (arith, present_count-cons false mask))
+any_masked test (true ∷ mask) [] none e = absurd (omega (arith, present_count-cons true mask))
+any_masked test (true ∷ mask) (x ∷ xs) none e = ap (λ (b : Bool). test x || b) (any_masked test mask xs none (omega (arith, present_count-cons true mask)))
 
 some_missing : (mask : List Bool) (entries : List Point) → present_count mask < length mask → list_any is_missing (points_with_mask mask entries) ≡ true
 some_missing [] entries less = absurd (omega arith)
@@ -109,20 +103,35 @@ masked_management : (mask : List Bool) (entries : List Point) → present_count 
     → max (management_of entries) 1 ≡ management_of (points_with_mask mask entries)
 masked_management mask entries e less =
     go (list_any is_missing2 entries) (list_any is_missing entries)
-    ∙ ap₂ (λ (a b : Bool). cond a 2 (cond b 1 0)) (sym (secondary_masked mask entries e)) (sym (some_missing mask entries less)) where
+    ∙ ap₂ (λ (a b : Bool). cond a 2 (cond b 1 0)) (sym (any_masked is_missing2 mask entries refl e)) (sym (some_missing mask entries less)) where
       go : (a b : Bool) → max (cond a 2 (cond b 1 0)) 1 ≡ cond a 2 (cond true 1 0)
       go true b = refl
       go false true = refl
       go false false = refl
 
+pub present_few : (mask : List Bool) → present_count mask ≤ length mask
+present_few [] = omega arith
+present_few (false ∷ mask) = omega (arith, present_count-cons false mask, present_few mask)
+present_few (true ∷ mask) = omega (arith, present_count-cons true mask, present_few mask)
+
 pub whole_mask : (mask : List Bool) (entries : List Point) → present_count mask ≡ length entries → length mask ≤ present_count mask → points_with_mask mask entries ≡ entries
 whole_mask mask entries e whole =
-    let full : present_count mask ≡ length mask = omega (arith, present-few mask) in
-    ap (λ (bs : List Bool). points_with_mask bs entries) (all_present mask full) ∙ with_mask_all (length mask) entries (omega arith) where
-      present-few : (bs : List Bool) → present_count bs ≤ length bs
-      present-few [] = omega arith
-      present-few (false ∷ bs) = omega (arith, present_count-cons false bs, present-few bs)
-      present-few (true ∷ bs) = omega (arith, present_count-cons true bs, present-few bs)
+    let full : present_count mask ≡ length mask = omega (arith, present_few mask) in
+    ap (λ (bs : List Bool). points_with_mask bs entries) (all_present mask full) ∙ with_mask_all (length mask) entries (omega arith)
+
+-- the words of all points
+pub masked_words : (mask : List Bool) (entries : List Point) (kept after : PointWords) → AreWords entries kept → present_count mask ≡ length kept.words.items → present_count mask < length mask
+    → after.words.items ≡ map word_for (points_with_mask mask entries) → after.management ≡ max kept.management 1 → after.greatest ≡ kept.greatest
+    → AreWords (points_with_mask mask entries) after
+masked_words mask entries kept after are present less words management greatest =
+    let taken : present_count mask ≡ length entries = present ∙ ap length are.words ∙ length-map entries word_for in
+    record {
+      words = words;
+      management = management ∙ ap (λ (n : ℕ). max n 1) are.management ∙ masked_management mask entries taken less;
+      outside = λ k few.
+          let test = is_scaled_outside (greatest_code k) in
+          ap (nat_lt (greatest_code k)) greatest ∙ are.outside k few ∙ sym (any_masked test mask entries refl taken);
+    }
 
 -- ---- a field
 
@@ -132,49 +141,15 @@ long_as_mask (false ∷ mask) entries = ap suc (long_as_mask mask entries)
 long_as_mask (true ∷ mask) [] = ap suc (long_as_mask mask [])
 long_as_mask (true ∷ mask) (e ∷ entries) = ap suc (long_as_mask mask entries)
 
--- the words of the points of a mask tell them, where `has` of `all` points are present
-pub told_words : (mask : List Bool) (entries : List Point) (kept : PointWords) (has all k : ℕ) (words : List ℕ) → AreWords entries kept → kept.is_outside ≡ false
-    → present_count mask ≡ length kept.words.items → has ≡ length kept.words.items → all ≡ length mask
-    → (has < all → k ≡ max kept.management 1) → (all ≤ has → k ≡ kept.management) → words ≡ map word_for (points_with_mask mask entries)
-    → TellPoints (points_with_mask mask entries) k (codes_of k words)
-told_words mask entries kept has all k words are none_outside present is_has is_all part whole is_words = record {
-  few = omega (arith, is_k, management-few (points_with_mask mask entries));
-  each = subst₂ (λ (j : ℕ) (cs : List Code). All (IsTold j) cs) (sym is_k) (sym codes) (plain_told (points_with_mask mask entries) none);
-  none = none;
-  management = is_k;
-  codes_are = codes;
-} where
-  inside : list_any (is_scaled_outside (greatest_code 2)) (points_with_mask mask entries) ≡ false
-  inside = inside_masked (greatest_code 2) mask entries (sym are.outside ∙ none_outside)
-
-  none : first_misfit ToComplex (points_with_mask mask entries) ≡ None
-  none = none_misfits (points_with_mask mask entries) inside
-
-  taken : present_count mask ≡ length entries
-  taken = present ∙ ap length are.words ∙ length-map entries word_for
-
-  is_k : k ≡ management_of (points_with_mask mask entries)
-  is_k = elim (cases_lt has all) [
-    | inl less ↦ part less ∙ ap (λ (n : ℕ). max n 1) are.management ∙ masked_management mask entries taken (omega (arith, less, present, is_has, is_all))
-    | inr full ↦ whole full ∙ are.management ∙ ap management_of (sym (whole_mask mask entries taken (omega (arith, full, present, is_has, is_all))))
-  ]
-
-  codes : codes_of k words ≡ target_codes ToComplex (points_with_mask mask entries)
-  codes = ap₂ codes_of is_k is_words ∙ words_stand (points_with_mask mask entries) inside
-
 -- there is a word for each place of the mask
 pub words_as_mask : (mask : List Bool) (entries : List Point) (words : List ℕ) → words ≡ map word_for (points_with_mask mask entries) → length words ≡ length mask
 words_as_mask mask entries words is = ap length is ∙ length-map (points_with_mask mask entries) word_for ∙ long_as_mask mask entries
 
--- and a code
-pub codes_as_mask : (mask : List Bool) (entries : List Point) (codes : List Code) → codes ≡ target_codes ToComplex (points_with_mask mask entries) → length codes ≡ length mask
-codes_as_mask mask entries codes is = ap length is ∙ length-codes (points_with_mask mask entries) ∙ long_as_mask mask entries
-
 -- ---- numbers
 
-small_inside : (n : ℕ) → n < 2 ^ 31 → is_outside (greatest_code 2) (pos n) ≡ false
-small_inside n small =
-    let fits : nat_lt (greatest_code 2) n ≡ false = le-ltb (greatest_code 2) n (omega arith) in
+small_inside : (k n : ℕ) → k ≤ 2 → n < 2 ^ 31 → is_outside (greatest_code k) (pos n) ≡ false
+small_inside k n few small =
+    let fits : nat_lt (greatest_code k) n ≡ false = le-ltb (greatest_code k) n (omega arith) in
     let never : nat_lt n 0 ≡ false = le-ltb n 0 (omega arith) in
     rw (never, fits) refl
 
@@ -182,15 +157,20 @@ small_inside n small =
 pub record NumbersAreWords (numbers : List ℕ) (points : List Point) : Type 0 where
   pub words : numbers ≡ map word_for points
   pub none : management_of points ≡ 0
-  pub inside : list_any (is_scaled_outside (greatest_code 2)) points ≡ false
+  pub inside : (k : ℕ) → k ≤ 2 → list_any (is_scaled_outside (greatest_code k)) points ≡ false
 
 pub numbers_are_words : (numbers : List ℕ) → All (λ n. n < 2 ^ 31) numbers → NumbersAreWords numbers (map plain_point numbers)
-numbers_are_words numbers small = record { words = same numbers small; none = reserved numbers; inside = within numbers small } where
+numbers_are_words numbers small = record { words = same numbers small; none = reserved numbers; inside = λ k few. within k few numbers small } where
+  word : (n : ℕ) → n < 2 ^ 31 → n ≡ word_for (plain_point n)
+  word n short =
+      let fits : nat_lt (2 ^ 32 - 1) n ≡ false = le-ltb (2 ^ 32 - 1) n (omega arith) in
+      let never : nat_lt n 0 ≡ false = le-ltb n 0 (omega arith) in
+      rw (never, fits) refl
+
   same : (ns : List ℕ) → All (λ n. n < 2 ^ 31) ns → ns ≡ map word_for (map plain_point ns)
   same [] each = refl
   same (n ∷ ns) each =
-      let here : n ≡ word_for (plain_point n) = ap (λ (b : Bool). cond b 0 n) (sym (small_inside n (All-head (λ n. n < 2 ^ 31) n ns each))) in
-      ap₂ (λ (w : ℕ) (ws : List ℕ). w ∷ ws) here (same ns (All-tail (λ n. n < 2 ^ 31) n ns each))
+      ap₂ (λ (w : ℕ) (ws : List ℕ). w ∷ ws) (word n (All-head (λ n. n < 2 ^ 31) n ns each)) (same ns (All-tail (λ n. n < 2 ^ 31) n ns each))
 
   none_2 : (ns : List ℕ) → list_any is_missing2 (map plain_point ns) ≡ false
   none_2 [] = refl
@@ -203,7 +183,7 @@ numbers_are_words numbers small = record { words = same numbers small; none = re
   reserved : (ns : List ℕ) → management_of (map plain_point ns) ≡ 0
   reserved ns = ap₂ (λ (a b : Bool). cond a 2 (cond b 1 0)) (none_2 ns) (none_1 ns)
 
-  within : (ns : List ℕ) → All (λ n. n < 2 ^ 31) ns → list_any (is_scaled_outside (greatest_code 2)) (map plain_point ns) ≡ false
-  within [] each = refl
-  within (n ∷ ns) each =
-      ap₂ (λ (a b : Bool). a || b) (small_inside n (All-head (λ n. n < 2 ^ 31) n ns each)) (within ns (All-tail (λ n. n < 2 ^ 31) n ns each))
+  within : (k : ℕ) → k ≤ 2 → (ns : List ℕ) → All (λ n. n < 2 ^ 31) ns → list_any (is_scaled_outside (greatest_code k)) (map plain_point ns) ≡ false
+  within k few [] each = refl
+  within k few (n ∷ ns) each =
+      ap₂ (λ (a b : Bool). a || b) (small_inside k n few (All-head (λ n. n < 2 ^ 31) n ns each)) (within k few ns (All-tail (λ n. n < 2 ^ 31) n ns each))

@@ -1,9 +1,8 @@
--- Lemmas on the codes of points, one after another.
-use Rattle.std.proofs.Common.{◌≡◌, ℕ, suc, ◌+◌, ◌^◌, ◌<◌, ◌≤◌, Bool, true, false, cond, Some, None, ℤ, pos, negsuc, nat_abs, nat_lt, List, [], ◌∷◌, ◌++◌, length, drop, get_or, map, All, refl, sym, ap, ◌∙◌, arith, drop-cons, append_assoc, ne_eqb, ltb-false}
+-- Lemmas on the codes of points.
+use Rattle.std.proofs.Common.{◌≡◌, ℕ, suc, ◌+◌, ◌^◌, ◌<◌, ◌≤◌, Bool, true, false, cond, Some, None, ℤ, pos, negsuc, nat_abs, nat_lt, List, [], ◌∷◌, length, drop, get_or, map, All, refl, sym, ap, ◌∙◌, arith, drop-cons, ne_eqb, ltb-false}
 use Rattle.std.specs.List.{list_any}
-use Rattle.std.proofs.lemmas.List.{append-nil, drop_all, length-map}
+use Rattle.std.proofs.lemmas.List.{drop_all, length-map}
 use Rattle.std.proofs.lemmas.List.Elements.{All-nil, All-cons, All-head, All-tail}
-use Rattle.grib_base.specs.declared.code.Code.{Code}
 use Rattle.grib_base.specs.declared.code.Code.TheVariants.{Present, Primary, Secondary}
 use Rattle.grib_base.specs.Rows.{first_place}
 use Rattle.grib_packing.specs.declared.column.Point.{Point}
@@ -20,21 +19,6 @@ use Rattle.grib_simple.proofs.Fitting.{parts_false}
 module _ (points : List Point) (i : ℕ) (d : Point) (within : i < length points) where
   rest_is : drop i points ≡ get_or points i d ∷ drop (i + 1) points
   rest_is = let next : suc i ≡ i + 1 = omega arith in drop-cons points i d within ∙ ap (λ (k : ℕ). get_or points i d ∷ drop k points) next
-
-  pub code_more : (old new : List Code) (code : Code) → target_codes ToComplex (get_or points i d ∷ []) ≡ code ∷ []
-      → old ++ target_codes ToComplex (drop i points) ≡ target_codes ToComplex points → new ≡ old ++ code ∷ []
-      → new ++ target_codes ToComplex (drop (i + 1) points) ≡ target_codes ToComplex points
-  code_more old new code is before is_new =
-      let rest = target_codes ToComplex (drop (i + 1) points) in
-      ap (λ xs. xs ++ rest) is_new ∙ append_assoc old (code ∷ []) rest
-      ∙ ap (λ xs. old ++ (xs ++ rest)) (sym is)
-      ∙ ap (λ xs. old ++ xs) (sym (front (get_or points i d) (drop (i + 1) points)) ∙ ap (target_codes ToComplex) (sym rest_is))
-      ∙ before
-    where
-      front : (point : Point) (ps : List Point) → target_codes ToComplex (point ∷ ps) ≡ target_codes ToComplex (point ∷ []) ++ target_codes ToComplex ps
-      front (Scaled x) ps = refl
-      front Missing ps = refl
-      front Missing2 ps = refl
 
   pub inside_more : (m : ℕ) → is_scaled_outside m (get_or points i d) ≡ false
       → place_after 0 i (is_scaled_outside m) (drop i points) ≡ first_place (is_scaled_outside m) points
@@ -58,9 +42,6 @@ module _ (points : List Point) (i : ℕ) (d : Point) (within : i < length points
 
 -- all points were seen
 module _ (points : List Point) (i : ℕ) (past : length points ≤ i) where
-  pub codes_whole : (codes : List Code) → codes ++ target_codes ToComplex (drop i points) ≡ target_codes ToComplex points → codes ≡ target_codes ToComplex points
-  codes_whole codes e = sym (append-nil codes) ∙ ap (λ ps. codes ++ target_codes ToComplex ps) (sym (drop_all i points past)) ∙ e
-
   pub none_outside : (m : ℕ) → place_after 0 i (is_scaled_outside m) (drop i points) ≡ first_place (is_scaled_outside m) points
       → misfit_at OutOfRange (is_scaled_outside m) points ≡ None
   none_outside m before =

@@ -1,27 +1,19 @@
 -- Lemmas on the words that codes are kept in.
-use Rattle.std.proofs.Common.{◌≡◌, ℕ, suc, zero, ◌+◌, ◌<◌, Bool, true, false, ◌||◌, List, [], ◌∷◌, ◌++◌, length, get_or, drop, drop-cons, append_assoc, ℤ, refl, sym, ap, ap₂, ◌∙◌, arith, subst}
+use Rattle.std.proofs.Common.{◌≡◌, ℕ, suc, zero, ◌+◌, ◌<◌, Bool, true, false, ◌||◌, List, [], ◌∷◌, ◌++◌, length, get_or, drop, drop-cons, append_assoc, ℤ, refl, sym, ap, ap₂, ◌∙◌, arith}
 use Rattle.std.specs.List.{list_any}
 use Rattle.std.proofs.lemmas.List.{map-append}
 use Rattle.grib_base.specs.declared.code.Code.{Code}
-use Rattle.grib_base.specs.declared.code.Code.TheVariants.{Present, Primary, Secondary}
+use Rattle.grib_base.specs.declared.code.Code.TheVariants.{Present}
 use Rattle.grib_packing.specs.Words.{code_of, codes_of}
 use Rattle.grib_packing.specs.declared.column.Point.{Point}
-use Rattle.grib_packing.specs.declared.column.Point.TheVariants.{Scaled, Missing, Missing2}
-use Rattle.grib_packing.specs.Misfits.{ToComplex, greatest_code, is_missing, is_missing2, is_scaled_outside, management_of, scaled_numbers}
-use Rattle.grib_packing.specs.Packed.{placed_codes, target_codes}
-use Rattle.grib_packing.specs.Span.{IsBelow, IsTold}
-use Rattle.grib_complex.proofs.CodeByCode.{management-few, number_small, reserved_1, reserved_2}
+use Rattle.grib_packing.specs.declared.column.Point.TheVariants.{Scaled}
+use Rattle.grib_packing.specs.Misfits.{scaled_numbers}
+use Rattle.grib_packing.specs.Packed.{placed_codes}
 
 -- a word more stands for a code more
 pub word_more : (k : ℕ) (old new : List ℕ) (word : ℕ) (code : Code) → new ≡ old ++ word ∷ [] → code_of k word ≡ code → codes_of k new ≡ codes_of k old ++ code ∷ []
 word_more k old new word code more is =
     ap (codes_of k) more ∙ map-append (code_of k) old (word ∷ []) ∙ ap (λ (c : Code). codes_of k old ++ c ∷ []) is
-
--- a code that is told is a number of 32 bits, or a mark
-pub below_of : (k : ℕ) (code : Code) → IsTold k code → IsBelow 0 code
-below_of k (Present n) told = omega arith
-below_of k Primary told = tt
-below_of k Secondary told = tt
 
 pub either_way : (a b : Bool) → b ≡ true → (a || b) ≡ true
 either_way true b is = refl
@@ -31,21 +23,6 @@ pub any_at : (test : Point → Bool) (points : List Point) (i : ℕ) (d : Point)
 any_at test [] i d within is = absurd (omega arith)
 any_at test (p ∷ points) zero d within is = rw is refl
 any_at test (p ∷ points) (suc i) d within is = either_way (test p) (list_any test points) (any_at test points i d (omega arith) is)
-
--- the code of a point whose number is inside is told
-module _ (points : List Point) (i : ℕ) (d : Point) (within : i < length points) where
-  pub told_here : (k m : ℕ) (code : Code) → k ≡ management_of points → m ≡ greatest_code (management_of points) → is_scaled_outside m (get_or points i d) ≡ false
-      → target_codes ToComplex (get_or points i d ∷ []) ≡ code ∷ [] → IsTold k code
-  told_here k m code is_k is_m inside is =
-      subst (λ (j : ℕ). IsTold j code) (sym is_k) (go (get_or points i d) refl (ap (λ (j : ℕ). is_scaled_outside j (get_or points i d)) (sym is_m) ∙ inside) is)
-    where
-      head : (a b : Code) → a ∷ [] ≡ b ∷ [] → a ≡ b
-      head a b e = ap (λ (cs : List Code). get_or cs 0 a) e
-
-      go : (p : Point) → get_or points i d ≡ p → is_scaled_outside (greatest_code (management_of points)) p ≡ false → target_codes ToComplex (p ∷ []) ≡ code ∷ [] → IsTold (management_of points) code
-      go (Scaled x) here fits e = subst (IsTold (management_of points)) (head _ code e) (number_small (management_of points) x (management-few points) fits)
-      go Missing here fits e = subst (IsTold (management_of points)) (head _ code e) (reserved_1 points (any_at is_missing points i d within (ap is_missing here)))
-      go Missing2 here fits e = subst (IsTold (management_of points)) (head _ code e) (reserved_2 points (any_at is_missing2 points i d within (ap is_missing2 here)))
 
 -- ---- codes at points
 

@@ -29,11 +29,12 @@ mod writing;
 
 pub use grib_groups::Layout;
 pub use of_words::pack_words;
-pub use packed::{pack_complex, pack_spatial};
+pub use packed::{pack_codes, pack_complex, pack_spatial};
 pub use packing::{ComplexPacking, SpatialPacking};
 pub use plain_values::take_numbers;
 pub use point_words::PointWords;
 pub use representation::{Complex, complex_of, read_complex};
 pub use stages::ComplexReading;
+pub use told_codes::ToldCodes;
 pub use unpacking::length_of_section;
 pub use values::PlainValues;

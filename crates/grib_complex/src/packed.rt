@@ -1,7 +1,8 @@
 //! Columns that are packed in groups.
 
-ghost use Rattle.std.specs.Prelude.{◌≡◌, ◌⊎◌, ◌≤◌, All, IfOk, length};
+ghost use Rattle.std.specs.Prelude.{◌≡◌, ◌⊎◌, ◌≤◌, All, IfOk, List, Ok, length};
 ghost use Rattle.grib_packing.specs.declared.column.Column as column_packing;
+ghost use Rattle.grib_packing.specs.declared.column.Point as point_packing;
 ghost use Rattle.grib_packing.specs.Misfits.{ToComplex, ToSpatial};
 ghost use Rattle.grib_packing.specs.Packed.{IsComplex, IsSpatial};
 ghost use Rattle.grib_spatial.specs.Undoing.{read_with};
@@ -9,12 +10,15 @@ ghost use Rattle.grib_packing.specs.Span.{IsTold};
 ghost use Rattle.grib_complex.specs.Constant.{DifferencesOf};
 ghost use Rattle.grib_complex.specs.FieldCodes.{codes_in, HasCodes};
 ghost use Rattle.grib_complex.specs.Below.{IsPackedBelow};
+ghost use Rattle.grib_complex.specs.KeptWords.{TellPoints};
 ghost use Rattle.grib_packing.specs.Written.{MayBePacked};
 
 use crate::below::are_too_many;
+use crate::coding::first_outside;
 use crate::differencing::{descriptor_octets, write_descriptors};
 use crate::grouping::{FieldCodes, grouping_of, octets_of_groups};
-use crate::told_codes::plainly_told;
+use crate::point_words::PointWords;
+use crate::told_codes::ToldCodes;
 use crate::told_differences::{ToldDifferences, told_by_differences};
 use crate::writing::{
     Differencing, complex_representation, groups_section, spatial_representation,
@@ -45,7 +49,34 @@ pub fn pack_complex(
     requires { MayBePacked column.now }
     ensures { IsPackedBelow ToComplex column.now kind below result }
 {
-    let told = plainly_told(alloc, column.points.as_slice())?;
+    let points = column.points.as_slice();
+    let Some(told) = PointWords::of(alloc, points)?.told() else {
+        return Err(PackFault::OutOfRange(first_outside(points)));
+    };
+    Ok(pack_codes(alloc, column, kind, &told, below)?)
+}
+
+/// Sections 5, 6 and 7 of a field whose points have these codes; none where a quick look shows that they have `below`
+/// octets or more. Of the column only R, E and D are looked at.
+///
+/// # Errors
+///
+/// There is no memory.
+pub fn pack_codes(
+    alloc: Global,
+    column: &Column,
+    kind: u8,
+    told: &ToldCodes,
+    below: Option<u64>,
+) -> Result<Option<Packed>, AllocError>
+    requires some { 1 ≤ length (codes_in told.now.codes) }
+    requires most { length (codes_in told.now.codes) ≤ 33554432 }
+    requires points { (points : List point_packing.Point) × TellPoints points told.now.management (codes_in told.now.codes) }
+    ensures { IfOk result (λ found. (field : column_packing.Column)
+        → field.reference ≡ column.now.reference → field.e ≡ column.now.e → field.d ≡ column.now.d
+        → TellPoints field.points told.now.management (codes_in told.now.codes)
+        → IsPackedBelow ToComplex field kind below (Ok found)) }
+{
     if are_too_many(&told.codes, told.management, BESIDE_GROUPS, below) {
         return Ok(None);
     }
@@ -58,7 +89,7 @@ pub fn pack_complex(
 /// # Errors
 ///
 /// There is no memory.
-pub fn pack_plainly(
+fn pack_plainly(
     alloc: Global,
     column: &Column,
     kind: u8,
@@ -128,7 +159,7 @@ pub fn pack_spatial(
 /// # Errors
 ///
 /// There is no memory.
-pub fn pack_spatially(
+fn pack_spatially(
     alloc: Global,
     column: &Column,
     kind: u8,

@@ -1,19 +1,15 @@
 //! The words of codes of points, as these come.
 
-ghost use Rattle.std.specs.Prelude.{◌≡◌, ◌*◌, ◌<◌, ◌≤◌, ◌∷◌, [], ◌++◌, length, map, pos, IfOk, vec_len, vec_capacity};
+ghost use Rattle.std.specs.Prelude.{◌≡◌, ◌*◌, ◌≤◌, ◌∷◌, [], length, map, pos, IfOk, vec_capacity};
 ghost use Rattle.grib_bits.specs.Bits.{bits as bits_in};
 ghost use Rattle.grib_bits.specs.Plain.{plain};
 ghost use Rattle.grib_packing.specs.declared.column.Point.TheVariants.{Scaled};
-ghost use Rattle.grib_packing.specs.Misfits.{greatest_code, is_outside, is_scaled_outside, management_of};
-ghost use Rattle.grib_complex.specs.KeptWords.{AreWords, WordsKept, word_for, words-none, words-more};
+ghost use Rattle.grib_packing.specs.Misfits.{management_of};
+ghost use Rattle.grib_complex.specs.KeptWords.{AreWords, WordsKept, reach_of, word_for, words-none, words-more};
 
-use grib_base::push_within;
-use grib_packing::{Keeper, Point};
+use grib_packing::{Keeper, Point, push_in_room};
 use grib_simple::number_words;
 use std::alloc::{AllocError, Global};
-
-/// The greatest number that has a code of 32 bits, however many codes are reserved for missing points.
-const GREATEST: u64 = 4294967293;
 
 /// The words of the codes of points, one after another: the number itself, or a mark, all bits set for primary missing and
 /// one less for secondary. How many codes are reserved is known when all points came.
@@ -22,8 +18,8 @@ pub struct PointWords {
     pub words: Vec<u32>,
     /// How many codes these points reserve: the missing value management (code table 5.5).
     pub management: u8,
-    /// Whether a number is outside 0 to 4,294,967,293. Its word is 0.
-    pub is_outside: bool,
+    /// The greatest number, or all bits set where one is negative. Of numbers of 31 bits at most it may be greater.
+    pub greatest: u64,
 }
 
 /// What is told of one point.
@@ -31,7 +27,7 @@ pub struct PointWords {
 struct PointWord {
     word: u32,
     management: u8,
-    is_outside: bool,
+    greatest: u64,
 }
 
 impl PointWords {
@@ -48,8 +44,24 @@ impl PointWords {
         Ok(PointWords {
             words,
             management: 0,
-            is_outside: false,
+            greatest: 0,
         })
+    }
+
+    /// The words of these points.
+    ///
+    /// # Errors
+    ///
+    /// There is no memory for the words.
+    pub fn of(alloc: Global, points: &[Point]) -> Result<PointWords, AllocError>
+        requires { length points.now ≤ 33554432 }
+        ensures { IfOk result (AreWords points.now) }
+    {
+        let mut kept = PointWords::start(alloc, points.len() as u32)?;
+        for point in points {
+            kept = kept.keep(*point);
+        }
+        Ok(kept)
     }
 
     /// The words of as many points as there are numbers of 1 to 31 bits each, which stand one after another: each is its
@@ -73,7 +85,7 @@ impl PointWords {
         Ok(PointWords {
             words,
             management: 0,
-            is_outside: false,
+            greatest: (1 << 31) - 1,
         })
     }
 }
@@ -93,7 +105,7 @@ impl Keeper for PointWords {
         let mut kept = self;
         let told = told(point);
         kept.management = told.management.max(kept.management);
-        kept.is_outside = kept.is_outside || told.is_outside;
+        kept.greatest = kept.greatest.max(told.greatest);
         push_in_room(&mut kept.words, told.word);
         kept
     }
@@ -113,19 +125,19 @@ impl Keeper for PointWords {
 fn told(point: Point) -> PointWord
     ensures word { result.word ≡ word_for point }
     ensures management { result.management ≡ management_of (point ∷ []) }
-    ensures outside { result.is_outside ≡ is_scaled_outside (greatest_code 2) point }
+    ensures greatest { result.greatest ≡ reach_of point }
 {
     match point {
         Point::Scaled(x) => told_number(x),
         Point::Missing => PointWord {
             word: u32::MAX,
             management: 1,
-            is_outside: false,
+            greatest: 0,
         },
         Point::Missing2 => PointWord {
             word: u32::MAX - 1,
             management: 2,
-            is_outside: false,
+            greatest: 0,
         },
     }
 }
@@ -135,27 +147,16 @@ fn told(point: Point) -> PointWord
 fn told_number(x: i64) -> PointWord
     ensures word { result.word ≡ word_for (Scaled x) }
     ensures management { result.management ≡ 0 }
-    ensures outside { result.is_outside ≡ is_outside (greatest_code 2) x }
+    ensures greatest { result.greatest ≡ reach_of (Scaled x) }
 {
-    let is_outside = x < 0 || x.unsigned_abs() > GREATEST;
+    let greatest = if x < 0 { u64::MAX } else { x.unsigned_abs() };
     PointWord {
-        word: if is_outside {
+        word: if greatest > u64::from(u32::MAX) {
             0
         } else {
-            x.unsigned_abs() as u32
+            greatest as u32
         },
         management: 0,
-        is_outside,
-    }
-}
-
-/// Adds a word where there is memory for it, as there is for the word of each value.
-#[inline(always)]
-fn push_in_room(words: &mut Vec<u32>, word: u32)
-    ensures items { vec_len words.old < vec_capacity words.old → words.new.items ≡ words.old.items ++ word ∷ [] }
-    ensures capacity { vec_capacity words.old ≤ vec_capacity words.new }
-{
-    if words.len() < words.capacity() {
-        push_within(words, word);
+        greatest,
     }
 }

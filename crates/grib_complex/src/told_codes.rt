@@ -1,50 +1,64 @@
-//! The codes that a column is packed by. A column of one value, or wholly missing, is looked at once.
+//! The codes that the points of a field are packed by.
 
-ghost use Rattle.std.specs.Prelude.{◌≡◌, ◌≤◌, length, None, MatchResult};
-ghost use Rattle.grib_packing.specs.Misfits.{ToComplex, first_misfit, management_of};
-ghost use Rattle.grib_packing.specs.Packed.{target_codes};
-ghost use Rattle.grib_packing.specs.Written.{IsPackFault};
+ghost use Rattle.std.specs.Prelude.{◌≡◌, ◌≤◌, true, EachIndex, IfSome, List, MatchOption, length, slice_index};
+ghost use Rattle.grib_packing.specs.Words.{codes_of};
+ghost use Rattle.grib_packing.specs.declared.column.Point as point_packing;
 ghost use Rattle.grib_complex.specs.FieldCodes.{codes_in};
+ghost use Rattle.grib_complex.specs.KeptWords.{AreWords, TellPoints, has_outside};
 
-use crate::coding::{management, marks, plain_code, plain_codes};
 use crate::grouping::FieldCodes;
-use grib_packing::{PackFault, Point};
-use grib_simple::common_point;
-use std::alloc::Global;
+use crate::point_words::PointWords;
+use crate::words::Words;
+use grib_packing::Codes;
 
-/// The codes of a column, and the missing value management.
+/// The codes of the points of a field, and the missing value management.
 #[derive(Debug, Drop)]
 pub struct ToldCodes {
     pub codes: FieldCodes,
     pub management: u8,
 }
 
-/// The codes of the points themselves.
-///
-/// # Errors
-///
-/// A scaled number is negative, or it and the reserved codes take more than 32 bits; or there is no memory.
-pub fn plainly_told(alloc: Global, points: &[Point]) -> Result<ToldCodes, PackFault>
-    requires some { 1 ≤ length points.now }
-    requires few { length points.now ≤ 33554432 }
-    ensures { MatchResult result
-        (λ told. (first_misfit ToComplex points.now ≡ None) × (codes_in told.codes ≡ target_codes ToComplex points.now)
-        × (told.management ≡ management_of points.now))
-        (IsPackFault (first_misfit ToComplex points.now)) }
-{
-    if let Some(point) = common_point(points) {
-        let management = marks(point);
-        if let Some(code) = plain_code(point, u32::MAX - u32::from(management)) {
-            return Ok(ToldCodes {
-                codes: FieldCodes::Same(code, points.len() as u32),
-                management,
-            });
+impl PointWords {
+    /// The codes that these words stand for; none where a number is negative, or it and the reserved codes take more than
+    /// 32 bits.
+    pub fn told(self) -> Option<ToldCodes>
+        requires some { 1 ≤ length self.words.items }
+        requires most { length self.words.items ≤ 33554432 }
+        requires words { (points : List point_packing.Point) × AreWords points self }
+        ensures points { MatchOption result
+            ((points : List point_packing.Point) → AreWords points self → has_outside points ≡ true)
+            (λ told. (points : List point_packing.Point) → AreWords points self → TellPoints points told.management (codes_in told.codes)) }
+        ensures long { IfSome result (λ told. length (codes_in told.codes) ≡ length self.words.items) }
+    {
+        let management = self.management;
+        if self.greatest > u64::from(u32::MAX - u32::from(management)) {
+            return None;
         }
+        Some(ToldCodes {
+            codes: field_codes(self.words, management),
+            management,
+        })
     }
-    let management = management(points);
-    let codes = plain_codes(alloc, points, management)?;
-    Ok(ToldCodes {
-        codes: FieldCodes::Each(codes),
-        management,
-    })
+}
+
+/// The codes that these words stand for.
+fn field_codes(words: Vec<u32>, management: u8) -> FieldCodes
+    requires some { 1 ≤ length words.items }
+    requires most { length words.items ≤ 33554432 }
+    requires few { management ≤ 2 }
+    ensures { codes_in result ≡ codes_of management words.items }
+{
+    let first = words[0];
+    if are_all(&words, first) {
+        let code = Codes::of(&words, u32::from(management)).at(0);
+        return FieldCodes::Same(code, words.len() as u32);
+    }
+    FieldCodes::Each(Words::of(words, management))
+}
+
+/// Whether each of these words is this one.
+fn are_all(words: &[u32], word: u32) -> bool
+    ensures { result ≡ true → EachIndex words.now (λ k. slice_index words.now k ≡ word) }
+{
+    words.iter().all(|other| *other == word)
 }

@@ -1,9 +1,8 @@
-use Rattle.std.proofs.Common.{◌≡◌, ◌+◌, ◌-◌, ◌++◌, ℕ, List, cond, length, take, map, drop, ap, ap₂, sym, ◌∙◌, arith}
+use Rattle.std.proofs.Common.{◌≡◌, ◌+◌, ◌-◌, ◌++◌, ℕ, List, cond, length, take, drop, ap, ap₂, ◌∙◌, arith}
 use Rattle.std.proofs.lemmas.List.{length-map}
 use Rattle.grib_bitmap.specs.Mask.{present_count}
 use Rattle.grib_simple.proofs.Masked.{present_after}
 use Rattle.grib_complex.specs.KeptWords.{word_for}
-use Rattle.grib_complex.proofs.AsWords.{whole_mask}
 use Rattle.grib_complex.proofs.Placed.{placed_present, placed_missing, placed_whole}
 use Rattle.grib_complex.proofs.masked.masked_words.Goals as goal
 use Rattle.grib_complex.proofs.masked.masked_words.Goals.{then-run+in_ok-extend_from_slice, else-run+in_ok-push_missing}
@@ -11,7 +10,7 @@ use Rattle.grib_complex.proofs.masked.masked_words.Goals.{then-run+in_ok-extend_
 pub loop-place-preserved : goal.loop-place-preserved
 loop-place-preserved c =
     let mask = c.args.mask.now in
-    let words = c.args.words.items in
+    let words = c.args.words.now in
     let place = c.loop-place.place in
     let taken = c.loop-place.taken in
     let n = c.run-run.result.length in
@@ -28,7 +27,7 @@ loop-place-preserved c =
             placed = λ entries is.
                 placed_present mask entries place taken n c.run-run.result.present old w.extend_from_slice.new.self.items c.run-run.ensures.same (c.loop-place.invariant.placed entries is)
                 w.if-run.true (omega (arith, more, ap length is ∙ length-map entries word_for))
-                (w.in_ok-extend_from_slice.ensures.items ∙ ap₂ (λ (k : ℕ) (ws : List ℕ). old ++ take k (drop taken ws)) few (w.deref.ensures.value ∙ is));
+                (w.in_ok-extend_from_slice.ensures.items ∙ ap₂ (λ (k : ℕ) (ws : List ℕ). old ++ take k (drop taken ws)) few is);
           })
       | else-run+in_ok-push_missing w ↦
           let same : taken + present_count (drop (place + n) mask) ≡ length words =
@@ -41,11 +40,6 @@ loop-place-preserved c =
                 w.if-run.false w.in_ok-push_missing.ensures;
           })
     ]
-
-pub returns-then-len : goal.returns-then-len
-returns-then-len c = λ entries is.
-    let whole = whole_mask c.args.mask.now entries (c.requires ∙ ap length is ∙ length-map entries word_for) (omega (arith, c.requires, c.len.ensures, c.len-2.ensures, c.if-len.true, c.args.words.ok.0)) in
-    is ∙ ap (map word_for) (sym whole)
 
 pub returns : goal.returns
 returns c = λ entries is.

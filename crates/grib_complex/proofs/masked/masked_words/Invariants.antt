@@ -8,8 +8,8 @@ use Rattle.grib_complex.proofs.masked.masked_words.Given as goal
 abbrev pub invariant-loop-place : goal.invariant-loop-place
 invariant-loop-place l = record {
   within : l.place ≤ length l.mask;
-  taken : l.taken + present_count (drop l.place l.mask) ≡ length l.words.items;
-  placed : (entries : List Point) → l.words.items ≡ map word_for entries → PlacedWords l.mask entries l.place l.taken l.all.items;
+  taken : l.taken + present_count (drop l.place l.mask) ≡ length l.words;
+  placed : (entries : List Point) → l.words ≡ map word_for entries → PlacedWords l.mask entries l.place l.taken l.all.items;
 }
 
 abbrev pub decreases-loop-place : goal.decreases-loop-place

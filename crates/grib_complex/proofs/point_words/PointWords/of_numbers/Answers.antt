@@ -1,7 +1,8 @@
-use Rattle.std.proofs.Common.{◌^◌, ◌<◌, ◌≤◌, All, map, sym, ◌∙◌, arith, pow_mono}
+use Rattle.std.proofs.Common.{◌^◌, ◌<◌, ◌≤◌, All, ◌-◌, map, sym, ◌∙◌, arith, pow_mono, le-ltb}
 use Rattle.std.proofs.lemmas.List.Elements.{All-weaker}
 use Rattle.grib_bits.specs.Bits.{bits}
 use Rattle.grib_bits.specs.Plain.{plain}
+use Rattle.grib_packing.specs.Misfits.{greatest_code}
 use Rattle.grib_complex.proofs.AsWords.{NumbersAreWords, numbers_are_words}
 use Rattle.grib_simple.proofs.InPlace.{plain_below, plain_point}
 use Rattle.grib_complex.proofs.point_words.PointWords.of_numbers.Goals as goal
@@ -17,5 +18,5 @@ returns c =
     record {
       words = c.in_ok-words.ensures ∙ known.words;
       management = sym known.none;
-      outside = sym known.inside;
+      outside = λ k few. le-ltb (greatest_code k) (2 ^ 31 - 1) (omega arith) ∙ sym (known.inside k few);
     }

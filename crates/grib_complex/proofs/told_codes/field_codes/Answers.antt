@@ -1,7 +1,7 @@
 use Rattle.std.proofs.Common.{◌≡◌, ℕ, zero, suc, ◌<◌, List, [], ◌∷◌, length, get_or, replicate, slice_index, refl, sym, ap, ap₂, ◌∙◌, arith, subst}
 use Rattle.grib_base.specs.declared.code.Code.{Code}
 use Rattle.grib_packing.specs.Words.{code_of, codes_of}
-use Rattle.grib_complex.proofs.of_words.field_codes.Goals as goal
+use Rattle.grib_complex.proofs.told_codes.field_codes.Goals as goal
 
 all_same : (k : ℕ) (words : List ℕ) (word : ℕ) → ((i : ℕ) → i < length words → slice_index words i ≡ word) → codes_of k words ≡ replicate (length words) (code_of k word)
 all_same k [] word each = refl
