@@ -12,8 +12,7 @@ ghost use Rattle.grib_spatial.specs.Undoing.{read_with};
 
 use crate::words::Words;
 use grib_base::Code;
-use grib_packing::word_of;
-use grib_packing::{PackFault, Point};
+use grib_packing::{PackFault, Point, word_of};
 use grib_spatial::{Differences, FirstAndLeast, Trail};
 use std::alloc::Global;
 

@@ -10,9 +10,8 @@ ghost use Rattle.grib_complex.specs.FieldCodes.{codes_in};
 
 use crate::words::Words;
 use grib_base::Code;
-use grib_packing::Codes;
 use grib_groups::{Layout, Measure, later_measures, measures_of, next_measure};
-use grib_packing::{Span, bit_length};
+use grib_packing::{Codes, Span, bit_length};
 use grib_split::{Costs, chosen_lengths, fewest_lengths};
 use std::alloc::{AllocError, Global};
 

@@ -13,8 +13,7 @@ use crate::Layout;
 use crate::measuring::{Measure, later_measures, next_measure};
 use grib_base::Code;
 use grib_bits::BitWriter;
-use grib_packing::{Codes, is_number};
-use grib_packing::Span;
+use grib_packing::{Codes, Span, is_number};
 
 /// Writes codes as groups of these lengths: the references, the widths, the lengths less 1 in 6 bits each
 /// and the packed numbers, each of the four padded with zero bits to a whole octet (WMO-No. 306, Volume

@@ -7,8 +7,7 @@ ghost use Rattle.grib_split.specs.Bound.{NoneTakesFewer};
 ghost use Rattle.grib_split.specs.Costs.{CanSplit, header_of};
 
 use crate::choosing::Costs;
-use grib_packing::{Codes, is_number};
-use grib_packing::Span;
+use grib_packing::{Codes, Span, is_number};
 
 /// How many codes are looked at by themselves.
 const BLOCK: usize = 8;
