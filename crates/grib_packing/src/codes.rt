@@ -7,8 +7,8 @@ ghost use Rattle.grib_base.specs.declared.code.Code.TheVariants.{Primary};
 ghost use Rattle.grib_packing.specs.Groupings.{greatest, smallest, present_codes, is_present};
 ghost use Rattle.grib_packing.specs.Span.{IsBelow, IsOrdered, IsSmallWith, IsSpan, IsTold};
 
-use grib_base::Code;
 use crate::Span;
+use grib_base::Code;
 use std::marker::Model;
 
 /// Codes in 32 bits each, of which up to two are reserved for missing points: all bits set for primary missing,

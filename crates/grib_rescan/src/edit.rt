@@ -8,14 +8,14 @@ ghost use Rattle.grib_rescan.specs.Rescanned.{Stands, cause_of, section_of, new_
 ghost use Rattle.grib_rescan.specs.Plain.{takes_numbers, plain_column, PlainStands};
 ghost use Rattle.grib_rescan.specs.Lengths.{as_long};
 
-use crate::plain::PlainField;
-use grib_bits::{u8_at, u32_at};
-use grib_packing::Column;
 use crate::laws::what_has_no_cause;
+use crate::plain::PlainField;
 use crate::{
     Area, GridCause, Scanning, crop_cause, crop_column, crop_points, crop_section, rescan_cause,
     rescan_column, rescan_columns, rescan_section,
 };
+use grib_bits::{u8_at, u32_at};
+use grib_packing::Column;
 use grib2_message::NewGrid;
 use std::alloc::{AllocError, Global};
 

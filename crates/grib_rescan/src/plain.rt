@@ -5,8 +5,8 @@ ghost use Rattle.grib2_grids.specs.Grid.{grid_points};
 ghost use Rattle.grib2_message.specs.Fields.{field_count, part_octets, column_of};
 ghost use Rattle.grib_rescan.specs.Plain.{plain_column, PlainStands};
 
-use grib_packing::{Simple, numbers_of};
 use crate::Numbers;
+use grib_packing::{Simple, numbers_of};
 use grib2_message::Message;
 use std::alloc::{AllocError, Global};
 

@@ -8,13 +8,12 @@ ghost use Rattle.grib_rescan.specs.Fields.{IsColumnEdited, IsFieldEdited, AreFie
 ghost use Rattle.grib_rescan.specs.Faults.{IsRescanFault};
 ghost use Rattle.grib_rescan.specs.declared.edit.GridEdit.TheVariants as edits;
 
+use crate::laws::what_has_no_cause;
 use crate::packing::pack_as;
 use crate::plain::plain_field;
-use crate::{GridEdit, RescanFault};
+use crate::{Area, GridEdit, RescanFault};
 use grib_packed::laws::one_packing_is_written;
 use grib_packing::{Column, PackFault, Packed};
-use crate::Area;
-use crate::laws::what_has_no_cause;
 use grib2_message::Message;
 use std::alloc::Global;
 
