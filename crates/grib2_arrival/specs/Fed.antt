@@ -1,7 +1,7 @@
 -- A Section 7 of which some octets were read.
 use Rattle.std.specs.Prelude.{◌≡◌, ◌≤◌, ◌+◌, ℕ, List, length}
 use Rattle.grib_packing.specs.declared.column.Point.{Point}
-use Rattle.grib_complex.specs.Feeding.{HasRead}
+use Rattle.grib_packings.specs.Feeding.{HasRead}
 use Rattle.grib_packing.specs.declared.keeping.Nothing.{Nothing}
 use Rattle.grib2_arrival.specs.declared.data.Data.{Data}
 

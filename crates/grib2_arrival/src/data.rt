@@ -3,12 +3,12 @@
 ghost use Rattle.std.specs.Prelude.{◌≡◌, ℕ, ◌+◌, ◌≤◌, None, Some, List, [], ◌++◌, length as length_of, drop, IfOk, MatchResult};
 ghost use Rattle.grib_base.specs.Rows.{located};
 ghost use Rattle.grib_packing.specs.Entries.{data_fault};
-ghost use Rattle.grib_complex.specs.Field.{Represents};
+ghost use Rattle.grib_packings.specs.Field.{Represents};
 ghost use Rattle.grib2_arrival.specs.Fed.{DataAgrees, HasAll, MayBeFed};
 
 use grib_base::Fault;
-use grib_complex::{Feeding, Representation};
 use grib_packing::Nothing;
+use grib_packings::{Feeding, Representation};
 use std::alloc::{AllocError, Global};
 
 /// Tries the rows of a Section 7 as its octets come, and keeps none of its values.

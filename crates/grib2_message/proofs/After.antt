@@ -8,8 +8,8 @@ use Rattle.grib2_sections.specs.Frame.{Placed, placed_at, section_number, may_fo
 use Rattle.grib2_grids.specs.Grid.{grid_points}
 use Rattle.grib_bitmap.specs.Mask.{bitmap_indicator, bitmap_rows}
 use Rattle.grib_packing.specs.Packing.{value_count}
-use Rattle.grib_complex.specs.Field.{Represents}
-use Rattle.grib_complex.specs.declared.field.Representation.{Representation}
+use Rattle.grib_packings.specs.Field.{Represents}
+use Rattle.grib_packings.specs.declared.representation.Representation.{Representation}
 use Rattle.grib2_message.specs.View.{last_number, section_in_force, octets_in_force, points_in_force, earlier_bitmap, earlier_mask, section_count}
 use Rattle.grib2_message.specs.Acceptance.{section_fault, contents_faults, no_rows}
 use Rattle.grib2_message.specs.Kept.{StandsAt, start_in_force, KeepsRepresentation, KeepsBitmap, HasInForce, HasPlaces, Comes}

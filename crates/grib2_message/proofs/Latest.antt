@@ -6,8 +6,8 @@ use Rattle.grib2_sections.specs.Frame.{Placed, placed_at, section_at, section_nu
 use Rattle.grib2_sections.proofs.Frames.{states_itself}
 use Rattle.grib_base.specs.Rows.{choose}
 use Rattle.grib_bitmap.specs.Mask.{bitmap_indicator}
-use Rattle.grib_complex.specs.Field.{Represents}
-use Rattle.grib_complex.specs.declared.field.Representation.{Representation}
+use Rattle.grib_packings.specs.Field.{Represents}
+use Rattle.grib_packings.specs.declared.representation.Representation.{Representation}
 use Rattle.grib2_message.specs.View.{last_number, section_in_force, octets_in_force, earlier_bitmap, first_octets, first_start, own_bitmap, own_bitmap_start}
 use Rattle.grib2_message.specs.Kept.{StandsAt, ArePlaced, start_in_force, KeepsRepresentation, HasInForce, HasPlaces}
 use Rattle.grib2_message.specs.declared.in_force.InForce.{InForce}

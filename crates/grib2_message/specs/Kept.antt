@@ -14,8 +14,8 @@ use Rattle.grib2_products.specs.Product.{product_rows}
 use Rattle.grib_bitmap.specs.Mask.{bitmap_indicator, bitmap_rows, mask_of, present_count}
 use Rattle.grib_packing.specs.Packing.{value_count}
 use Rattle.grib_packing.specs.Entries.{packing_fault, data_fault}
-use Rattle.grib_complex.specs.Field.{Represents}
-use Rattle.grib_complex.specs.declared.field.Representation.{Representation}
+use Rattle.grib_packings.specs.Field.{Represents}
+use Rattle.grib_packings.specs.declared.representation.Representation.{Representation}
 use Rattle.grib2_message.specs.View.{last_number, section_in_force, octets_in_force, points_in_force, earlier_bitmap, earlier_mask, mask_in_force, section_count}
 use Rattle.grib2_message.specs.Fields.{field_sections, field_count}
 use Rattle.grib2_message.specs.Message.{IsMessage}

@@ -2,7 +2,7 @@
 
 ghost use Rattle.std.specs.Prelude.{◌≡◌, ◌≤◌, ◌∷◌, [], IsTrue, List, None, MatchResult, OnErr};
 ghost use Rattle.grib_base.specs.Faults.{IsReadFault};
-ghost use Rattle.grib_complex.specs.Field.{Represents};
+ghost use Rattle.grib_packings.specs.Field.{Represents};
 ghost use Rattle.grib2_sections.specs.Frame.{Placed, placed_at, may_follow, section_number};
 ghost use Rattle.grib2_message.specs.View.{last_number, octets_in_force, earlier_bitmap};
 ghost use Rattle.grib2_message.specs.Acceptance.{section_fault};
@@ -11,7 +11,7 @@ ghost use Rattle.grib2_message.specs.Kept.{HasInForce, KeepsBitmap};
 use crate::checking::{check_bitmap, check_grid, check_identification, check_product};
 use grib_base::{ReadFault, Section};
 use grib_bits::{u8_at, u32_at};
-use grib_complex::Representation;
+use grib_packings::Representation;
 use std::alloc::Global;
 
 /// The indicator of a Section 6 with bits of its own (code table 6.0).
