@@ -14,8 +14,9 @@ use anyhow::{Context, Result, anyhow, bail, ensure};
 use byteorder::{BigEndian, ByteOrder};
 use grib_base::{ReadFault, Section};
 use grib_bitmap::{Mask, ones};
-use grib_complex::{Feeder, read_complex, take_values};
-use grib_packing::{Column, Nothing, Point, read_simple};
+use grib_complex::read_complex;
+use grib_packing::{Column, Point, read_simple};
+use grib_packings::{Feeder, Representation};
 use std::alloc::Global;
 use std::env::Args;
 
@@ -174,10 +175,13 @@ fn fed_column(
 /// Whether the data of a field in which no point is left out are accepted, 1 for yes, by all rows of
 /// Section 7.
 fn accepted(alloc: Global, representation: &[u8], points: u32, data: &[u8]) -> Result<u64> {
-    let section5 = grouped(representation, points, points)?;
+    let section5 = section(5, representation)?;
     let section7 = section(7, data)?;
-    match take_values(alloc, &section5, points, &section7, Nothing) {
-        Ok(_nothing) => Ok(1),
+    let Ok(representation) = Representation::read(&section5, points) else {
+        bail!("Section 5 is refused");
+    };
+    match representation.check_data(alloc, &section7) {
+        Ok(()) => Ok(1),
         Err(ReadFault::Refused(_)) => Ok(0),
         Err(ReadFault::Memory) => bail!("there is no memory"),
     }

@@ -6,17 +6,15 @@ ghost use Rattle.grib_bits.specs.Octets.{StatesItself};
 ghost use Rattle.grib_bitmap.specs.Mask.{present_count};
 ghost use Rattle.grib_packing.specs.Entries.{packing_fault};
 ghost use Rattle.grib_packing.specs.Packing.{packing_template, value_count};
-ghost use Rattle.grib_complex.specs.Feeding.{IsFed, octets_left};
+ghost use Rattle.grib_packings.specs.Feeding.{IsFed, octets_left};
 ghost use Rattle.grib_packing.specs.Kept.{PointsKept};
 
 use crate::given::section;
 use grib_base::{Fault, ReadFault, Reason, Section};
 use grib_bitmap::{Mask, ones, read_mask};
-use grib_complex::{
-    Complex, ComplexPacking, Feeder, Feeding, Layout, Representation, SpatialPacking, read_complex,
-    take_values,
-};
+use grib_complex::{Complex, ComplexPacking, Layout, SpatialPacking, read_complex};
 use grib_packing::{Column, Keeper, Nothing, Packing, Point, read_simple};
+use grib_packings::{Feeder, Feeding, Representation};
 use std::alloc::Global;
 use std::process::Abort;
 use std::test::Fail;
@@ -455,17 +453,10 @@ fn accepted(
 ) -> Result<(), ReadFault> {
     let section5 = section(rt, 5, 144, representation);
     let section7 = section(rt, 7, 200, data);
-    let Ok(simple) = read_simple(&section5, points) else {
+    let Ok(representation) = Representation::read(&section5, points) else {
         panic!(rt; "the representation is refused");
     };
-    assert!(rt; simple.template == 2 || simple.template == 3);
-    let Ok(_complex) = read_complex(&section5, points) else {
-        panic!(rt; "the groups are refused");
-    };
-    match take_values(alloc, &section5, points, &section7, Nothing) {
-        Ok(Nothing) => Ok(()),
-        Err(fault) => Err(fault),
-    }
+    representation.check_data(alloc, &section7)
 }
 
 #[test]

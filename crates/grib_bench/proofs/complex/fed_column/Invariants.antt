@@ -1,4 +1,4 @@
-use Rattle.grib_complex.specs.Feeding.{IsFed}
+use Rattle.grib_packings.specs.Feeding.{IsFed}
 use Rattle.grib_packing.specs.Kept.{PointsKept}
 use Rattle.grib_bench.proofs.complex.fed_column.Given as goal
 
