@@ -133,18 +133,6 @@ masked_words mask entries kept after are present less words management greatest 
           ap (nat_lt (greatest_code k)) greatest ∙ are.outside k few ∙ sym (any_masked test mask entries refl taken);
     }
 
--- ---- a field
-
-long_as_mask : (mask : List Bool) (entries : List Point) → length (points_with_mask mask entries) ≡ length mask
-long_as_mask [] entries = refl
-long_as_mask (false ∷ mask) entries = ap suc (long_as_mask mask entries)
-long_as_mask (true ∷ mask) [] = ap suc (long_as_mask mask [])
-long_as_mask (true ∷ mask) (e ∷ entries) = ap suc (long_as_mask mask entries)
-
--- there is a word for each place of the mask
-pub words_as_mask : (mask : List Bool) (entries : List Point) (words : List ℕ) → words ≡ map word_for (points_with_mask mask entries) → length words ≡ length mask
-words_as_mask mask entries words is = ap length is ∙ length-map (points_with_mask mask entries) word_for ∙ long_as_mask mask entries
-
 -- ---- numbers
 
 small_inside : (k n : ℕ) → k ≤ 2 → n < 2 ^ 31 → is_outside (greatest_code k) (pos n) ≡ false

@@ -10,7 +10,6 @@ mod grouping;
 pub mod laws;
 mod masked;
 mod noted;
-mod of_words;
 mod packed;
 mod packing;
 mod plain_values;
@@ -28,7 +27,6 @@ mod words;
 mod writing;
 
 pub use grib_groups::Layout;
-pub use of_words::pack_words;
 pub use packed::{pack_codes, pack_complex, pack_spatial};
 pub use packing::{ComplexPacking, SpatialPacking};
 pub use plain_values::take_numbers;

@@ -73,22 +73,22 @@ pub without_packed : (target : Target) (column : Column) (kind limit : ℕ) (bes
 without_packed target column kind limit best fault is other = misfit_there (first_misfit target column.points) limit (packed target column kind) best fault is other
 
 -- the four packings, from the last to the first
-pub form_is : (message : List ℕ) (i : ℕ) (column : Column) (kind limit : ℕ) (own one two three last : Packed) → column ≡ column_of message i → kind ≡ kind_of message i → own ≡ own_form message i
-    → limit ≡ size_of own
-    → one ≡ or_form limit (form_of column kind (ToSpatial 2)) own
-    → two ≡ or_form limit (form_of column kind (ToSpatial 1)) one
-    → three ≡ or_form limit (form_of column kind ToComplex) two
-    → last ≡ or_form limit (form_of column kind ToSimple) three
-    → last ≡ least_form message i
-form_is message i column kind limit own one two three last column_is kind_is own_is limit_is first second third fourth =
-    let f = form_of column kind in
+pub form_is : (message : List ℕ) (i limit : ℕ) (own one two three last : Packed) → own ≡ own_form message i → limit ≡ size_of own
+    → (let f = form_of (column_of message i) (kind_of message i) in
+    one ≡ or_form limit (f (ToSpatial 2)) own
+    → two ≡ or_form limit (f (ToSpatial 1)) one
+    → three ≡ or_form limit (f ToComplex) two
+    → last ≡ or_form limit (f ToSimple) three
+    → last ≡ least_form message i)
+form_is message i limit own one two three last own_is limit_is first second third fourth =
+    let f = form_of (column_of message i) (kind_of message i) in
     fourth
     ∙ ap (or_form limit (f ToSimple)) (third
     ∙ ap (or_form limit (f ToComplex)) (second
     ∙ ap (or_form limit (f (ToSpatial 1))) first))
     ∙ ap (λ (n : ℕ). or_form n (f ToSimple) (or_form n (f ToComplex) (or_form n (f (ToSpatial 1)) (or_form n (f (ToSpatial 2)) own)))) limit_is
     ∙ sym (four f own ToSimple ToComplex (ToSpatial 1) (ToSpatial 2))
-    ∙ (λ j. smallest (own_is j) (filter_map (form_of (column_is j) (kind_is j)) targets))
+    ∙ ap (λ (p : Packed). smallest p (filter_map f targets)) own_is
 
 -- a message that is not put together, since it would be too long
 pub long_by : (total n : ℕ) (fault : AssembleFault) → fault ≡ TooLong n → IsAssembleFault total fault → 268435456 < total

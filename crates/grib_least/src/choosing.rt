@@ -1,24 +1,21 @@
 //! Writing a message in the fewest octets.
 
-ghost use Rattle.std.specs.Prelude.{◌≡◌, ◌+◌, ◌≤◌, min, All, IfOk, Some};
+ghost use Rattle.std.specs.Prelude.{◌≡◌, ◌+◌, ◌≤◌, All, IfOk};
 ghost use Rattle.grib_packing.specs.Written.{IsTarget, MayBePacked};
 ghost use Rattle.grib2_message.specs.Assembled.{IsShort};
-ghost use Rattle.grib2_message.specs.Fields.{field_count};
+ghost use Rattle.grib2_message.specs.Fields.{field_count, column_of};
 ghost use Rattle.grib2_message.specs.Message.{IsMessage};
 ghost use Rattle.grib_repack.specs.Faults.{target_of};
-ghost use Rattle.grib_complex.specs.Below.{IsPackedBelow};
+ghost use Rattle.grib_repack.specs.Repacked.{kind_of};
 ghost use Rattle.grib_least.specs.Earlier as earlier;
 ghost use Rattle.grib_least.specs.Earlier.{or_form};
 ghost use Rattle.grib_least.specs.Least as definitions;
 ghost use Rattle.grib_least.specs.Least.{form_of, least, size_of};
 
 use grib_base::List;
-use grib_bits::u8_at;
-use grib_complex::{pack_complex, pack_spatial};
 use grib_packed::laws::{a_packing_is_written, one_packing_is_written};
-use grib_packing::{Column, PackFault, Packed, Packing};
-use grib_repack::RepackTarget;
-use grib_simple::SimplePacking;
+use grib_packing::{Column, PackFault, Packed, are_octets};
+use grib_repack::{RepackTarget, pack_field};
 use grib2_message::{AssembleFault, Message};
 use std::alloc::{AllocError, Global};
 
@@ -80,12 +77,43 @@ fn least_form(alloc: Global, message: &Message<'_>, field: u32) -> Result<Packed
 {
     let column = message.column(alloc, field)?;
     let own = own_form(alloc, message, field)?;
-    let kind = u8_at(own.section5.as_slice(), 21);
     let limit = size(&own);
-    let best = or_packed(alloc, &column, kind, RepackTarget::Spatial(2), limit, own)?;
-    let best = or_packed(alloc, &column, kind, RepackTarget::Spatial(1), limit, best)?;
-    let best = or_packed(alloc, &column, kind, RepackTarget::Complex, limit, best)?;
-    or_packed(alloc, &column, kind, RepackTarget::Simple, limit, best)
+    let best = or_packed(
+        alloc,
+        message,
+        field,
+        &column,
+        RepackTarget::Spatial(2),
+        limit,
+        own,
+    )?;
+    let best = or_packed(
+        alloc,
+        message,
+        field,
+        &column,
+        RepackTarget::Spatial(1),
+        limit,
+        best,
+    )?;
+    let best = or_packed(
+        alloc,
+        message,
+        field,
+        &column,
+        RepackTarget::Complex,
+        limit,
+        best,
+    )?;
+    or_packed(
+        alloc,
+        message,
+        field,
+        &column,
+        RepackTarget::Simple,
+        limit,
+        best,
+    )
 }
 
 /// The Sections 5, 6 and 7 that a field has, counted from 1.
@@ -104,8 +132,8 @@ fn own_form(alloc: Global, message: &Message<'_>, field: u32) -> Result<Packed, 
     })
 }
 
-/// The form of a field that this packing writes, or the best of its own form and the packings after this one.
-/// It is the packing where nothing fails to fit, and it has fewer octets than `limit`, those of the own form,
+/// The form of a field, counted from 1, that this packing writes, or the best of its own form and the packings after this
+/// one. It is the packing where nothing fails to fit, and it has fewer octets than `limit`, those of the own form,
 /// and no more than the best. Sections that a quick look shows to have more are not written at all.
 ///
 /// # Errors
@@ -113,56 +141,32 @@ fn own_form(alloc: Global, message: &Message<'_>, field: u32) -> Result<Packed, 
 /// There is no memory.
 fn or_packed(
     alloc: Global,
+    message: &Message<'_>,
+    field: u32,
     column: &Column,
-    kind: u8,
     target: RepackTarget,
     limit: u64,
     best: Packed,
 ) -> Result<Packed, AllocError>
-    requires target { IsTarget (target_of target) }
+    requires first { 1 ≤ field }
+    requires last { field ≤ field_count message.now }
+    requires is { column.now ≡ column_of message.now field }
     requires column { MayBePacked column.now }
+    requires target { IsTarget (target_of target) }
     requires short { IsShort best }
-    ensures form { IfOk result (λ form. form ≡ or_form limit (form_of column.now kind (target_of target)) best) }
+    ensures form { IfOk result (λ form.
+        form ≡ or_form limit (form_of (column_of message.now field) (kind_of message.now field) (target_of target)) best) }
     ensures short { IfOk result IsShort }
 {
     a_packing_is_written();
     one_packing_is_written();
-    // R, E and D are within their types
-    let _reference = column.reference;
-    let _e = column.e;
-    let _d = column.d;
+    are_octets(message.octets());
     let most = limit.min(size(&best) + 1);
-    match pack_below(alloc, column, kind, target, most) {
+    match pack_field(alloc, message, field, Some(column), target, Some(most)) {
         Ok(Some(form)) => Ok(or_earlier(limit, form, best)),
         Ok(None) => Ok(best),
         Err(PackFault::Memory) => Err(AllocError),
         Err(_) => Ok(best),
-    }
-}
-
-/// The sections of this packing, or none, only where they have at least `most` octets.
-///
-/// # Errors
-///
-/// The first misfit of the column, or there is no memory.
-fn pack_below(
-    alloc: Global,
-    column: &Column,
-    kind: u8,
-    target: RepackTarget,
-    most: u64,
-) -> Result<Option<Packed>, PackFault>
-    requires target { IsTarget (target_of target) }
-    requires column { MayBePacked column.now }
-    ensures { IsPackedBelow (target_of target) column.now kind (Some most) result }
-{
-    match target {
-        RepackTarget::Simple => match SimplePacking.pack(alloc, column, kind) {
-            Ok(form) => Ok(Some(form)),
-            Err(fault) => Err(fault),
-        },
-        RepackTarget::Complex => pack_complex(alloc, column, kind, Some(most)),
-        RepackTarget::Spatial(order) => pack_spatial(alloc, column, kind, order, Some(most)),
     }
 }
 

@@ -13,6 +13,7 @@ use Rattle.grib_base.proofs.Passing.{carried}
 use Rattle.grib_packing.specs.declared.written.PackFault.TheVariants.{Memory}
 use Rattle.grib_packing.specs.Written.{IsPackFault, IsPacked}
 use Rattle.grib_packed.specs.Written.{packed}
+use Rattle.grib_complex.specs.Below.{IsBelowOrNone, IsPackedBelow}
 use Rattle.grib2_message.specs.Fields.{column_of}
 use Rattle.grib2_message.specs.Assembled.{IsShort}
 use Rattle.grib_repack.specs.Repacked.{RepackMisfit, kind_of, packed_field, field_misfit, in_field}
@@ -63,5 +64,12 @@ module _ (target : Target) (message : List ℕ) (i : ℕ) (column : Column) (is 
 pub out_of_memory : (target : Target) (column : Column) (kind : ℕ) (result : Result Packed PackFault) → IsErrAnd result (λ fault. fault ≡ Memory) → IsPacked target column kind result
 out_of_memory target column kind result is =
     let Fits : Packed → Type 0 = (λ p. (first_misfit target column.points ≡ None) × HasPacked target column kind p.section5 p.section6 p.section7) in
+    let Fault : PackFault → Type 0 = IsPackFault (first_misfit target column.points) in
+    carried Fits Fault result Memory is tt
+
+pub none_below : (target : Target) (column : Column) (kind : ℕ) (below : Option ℕ) (result : Result (Option Packed) PackFault) → IsErrAnd result (λ fault. fault ≡ Memory)
+    → IsPackedBelow target column kind below result
+none_below target column kind below result is =
+    let Fits : Option Packed → Type 0 = (λ found. (first_misfit target column.points ≡ None) × IsBelowOrNone target column kind below found) in
     let Fault : PackFault → Type 0 = IsPackFault (first_misfit target column.points) in
     carried Fits Fault result Memory is tt

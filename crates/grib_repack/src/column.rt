@@ -1,34 +1,74 @@
 //! Fields that are packed by way of their column.
 
-ghost use Rattle.std.specs.Prelude.{◌≡◌, ◌≤◌};
-ghost use Rattle.grib_packing.specs.Written.{IsPacked};
+ghost use Rattle.std.specs.Prelude.{◌≡◌, ◌≤◌, IfSome};
+ghost use Rattle.grib_packing.specs.Written.{IsTarget, MayBePacked};
+ghost use Rattle.grib_complex.specs.Below.{IsPackedBelow};
 ghost use Rattle.grib2_message.specs.Fields.{field_count, column_of};
+ghost use Rattle.grib_repack.specs.Faults.{target_of};
 ghost use Rattle.grib_repack.specs.Repacked.{kind_of};
 
+use crate::RepackTarget;
 use grib_bits::u8_at;
-use grib_packing::{PackFault, Packed, Packing};
+use grib_complex::{pack_complex, pack_spatial};
+use grib_packing::{Column, PackFault, Packed, Packing};
+use grib_simple::SimplePacking;
 use grib2_message::Message;
 use std::alloc::Global;
 
-/// Sections 5, 6 and 7 of one field, counted from 1, in this packing.
+/// Sections 5, 6 and 7 of one field, counted from 1, from its column, which is made where it is not handed in.
 ///
 /// # Errors
 ///
 /// The first misfit of the column of the field, or there is no memory.
-pub(crate) fn pack_column<P: Packing>(
+pub(crate) fn pack_by_column(
     alloc: Global,
     message: &Message<'_>,
     field: u32,
-    packing: &P,
-) -> Result<Packed, PackFault>
+    column: Option<&Column>,
+    target: RepackTarget,
+    below: Option<u64>,
+) -> Result<Option<Packed>, PackFault>
+    requires target { IsTarget (target_of target) }
     requires first { 1 ≤ field }
     requires last { field ≤ field_count message.now }
-    ensures { IsPacked (P.target packing.now) (column_of message.now field) (kind_of message.now field) result }
+    requires column { IfSome column (λ column. (column.now ≡ column_of message.now field) × MayBePacked column.now) }
+    ensures { IsPackedBelow (target_of target) (column_of message.now field) (kind_of message.now field) below result }
 {
     let Some(section5) = message.part(field, 5) else {
         unreachable!();
     };
     let kind = u8_at(section5.octets, 21);
-    let column = message.column(alloc, field)?;
-    packing.pack(alloc, &column, kind)
+    match column {
+        Some(column) => pack_column(alloc, column, kind, target, below),
+        None => {
+            let column = message.column(alloc, field)?;
+            pack_column(alloc, &column, kind, target, below)
+        }
+    }
+}
+
+/// Sections 5, 6 and 7 of a column in the packing of a target.
+///
+/// # Errors
+///
+/// The first misfit of the column, or there is no memory.
+fn pack_column(
+    alloc: Global,
+    column: &Column,
+    kind: u8,
+    target: RepackTarget,
+    below: Option<u64>,
+) -> Result<Option<Packed>, PackFault>
+    requires target { IsTarget (target_of target) }
+    requires column { MayBePacked column.now }
+    ensures { IsPackedBelow (target_of target) column.now kind below result }
+{
+    match target {
+        RepackTarget::Simple => match SimplePacking.pack(alloc, column, kind) {
+            Ok(packed) => Ok(Some(packed)),
+            Err(fault) => Err(fault),
+        },
+        RepackTarget::Complex => pack_complex(alloc, column, kind, below),
+        RepackTarget::Spatial(order) => pack_spatial(alloc, column, kind, order, below),
+    }
 }

@@ -3,6 +3,7 @@
 
 mod column;
 mod fault;
+mod field;
 mod groups;
 pub mod laws;
 mod plain;
@@ -10,6 +11,7 @@ mod repacking;
 mod target;
 
 pub use fault::RepackFault;
+pub use field::pack_field;
 pub use plain::pack_simply;
 pub use repacking::repack;
 pub use target::RepackTarget;

@@ -6,8 +6,7 @@ ghost use Rattle.grib_packing.specs.Written.{IsPacked};
 ghost use Rattle.grib2_message.specs.Fields.{field_count, column_of};
 ghost use Rattle.grib_repack.specs.Repacked.{kind_of};
 
-use crate::column::pack_column;
-use grib_packing::{PackFault, Packed, numbers_of};
+use grib_packing::{PackFault, Packed, Packing, numbers_of};
 use grib_simple::{SimplePacking, pack_numbers};
 use grib2_message::Message;
 use std::alloc::Global;
@@ -29,7 +28,8 @@ pub fn pack_simply(alloc: Global, message: &Message<'_>, field: u32) -> Result<P
     };
     let simple = numbers_of(section5.octets);
     if simple.template != 0 {
-        return pack_column(alloc, message, field, &SimplePacking);
+        let column = message.column(alloc, field)?;
+        return SimplePacking.pack(alloc, &column, simple.kind);
     }
     let mask = message.mask(alloc, field)?;
     let packed = pack_numbers(alloc, &simple, &section7.octets[5..], &mask)?;

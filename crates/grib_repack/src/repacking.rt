@@ -2,19 +2,16 @@
 
 ghost use Rattle.std.specs.Prelude.{◌≡◌, ◌≤◌, None, MatchResult, All};
 ghost use Rattle.std.specs.List.{range_with_len};
-ghost use Rattle.grib_packing.specs.Written.{IsPacked, IsTarget};
+ghost use Rattle.grib_packing.specs.Written.{IsTarget};
 ghost use Rattle.grib2_message.specs.Assembled.{IsShort};
-ghost use Rattle.grib2_message.specs.Fields.{field_count, column_of};
-ghost use Rattle.grib_repack.specs.Repacked.{kind_of, packed_field, packed_fields, repacked, field_misfit, misfit_among, repack_misfit};
+ghost use Rattle.grib2_message.specs.Fields.{field_count};
+ghost use Rattle.grib_repack.specs.Repacked.{packed_field, packed_fields, repacked, field_misfit, misfit_among, repack_misfit};
 ghost use Rattle.grib_repack.specs.Faults.{target_of, IsRepackFault};
 
-use crate::column::pack_column;
-use crate::groups::pack_in_groups;
-use crate::plain::pack_simply;
+use crate::field::pack_field;
 use crate::{RepackFault, RepackTarget};
-use grib_complex::SpatialPacking;
 use grib_packed::laws::one_packing_is_written;
-use grib_packing::{PackFault, Packed};
+use grib_packing::Packed;
 use grib2_message::Message;
 use std::alloc::Global;
 
@@ -58,7 +55,7 @@ fn pack_fields(
     let fields = message.fields();
     let mut packed = Vec::with_capacity(alloc, fields as usize)?;
     for before in 0..fields {
-        let field = pack_field(alloc, message, before + 1, target)?;
+        let field = repack_field(alloc, message, before + 1, target)?;
         let Ok(()) = packed.push(field) else {
             return Err(RepackFault::Memory);
         };
@@ -67,7 +64,7 @@ fn pack_fields(
 }
 
 /// Sections 5, 6 and 7 of one field, counted from 1.
-fn pack_field(
+fn repack_field(
     alloc: Global,
     message: &Message<'_>,
     field: u32,
@@ -83,29 +80,9 @@ fn pack_field(
         (IsRepackFault (field_misfit (target_of target) message.now field)) }
 {
     one_packing_is_written();
-    match pack_to(alloc, message, field, target) {
-        Ok(packed) => Ok(packed),
+    match pack_field(alloc, message, field, None, target, None) {
+        Ok(Some(packed)) => Ok(packed),
+        Ok(None) => unreachable!(),
         Err(fault) => Err(RepackFault::in_field(field, fault)),
-    }
-}
-
-/// What the packing of a target writes for one field, counted from 1.
-fn pack_to(
-    alloc: Global,
-    message: &Message<'_>,
-    field: u32,
-    target: RepackTarget,
-) -> Result<Packed, PackFault>
-    requires target { IsTarget (target_of target) }
-    requires first { 1 ≤ field }
-    requires last { field ≤ field_count message.now }
-    ensures { IsPacked (target_of target) (column_of message.now field) (kind_of message.now field) result }
-{
-    match target {
-        RepackTarget::Simple => pack_simply(alloc, message, field),
-        RepackTarget::Complex => pack_in_groups(alloc, message, field),
-        RepackTarget::Spatial(order) => {
-            pack_column(alloc, message, field, &SpatialPacking::new(order))
-        }
     }
 }

@@ -1,20 +1,9 @@
-use Rattle.std.proofs.Common.{◌≡◌, ℕ, List, IfOk, length, refl, sym, ap, ◌∙◌, arith, subst}
-use Rattle.grib_bits.specs.Octets.{octets}
-use Rattle.grib2_grids.specs.Grid.{grid_points}
+use Rattle.std.proofs.Common.{◌≡◌, IfOk, refl, sym, subst}
 use Rattle.grib_packing.specs.declared.written.Packed.{Packed}
 use Rattle.grib2_message.specs.Assembled.{IsShort}
-use Rattle.grib2_message.specs.Fields.{part_octets}
-use Rattle.grib2_message.proofs.Lengths.{packing_least}
 use Rattle.grib_repack.proofs.Columns.{packable}
 use Rattle.grib_least.proofs.Tried.{own_short, form_is}
 use Rattle.grib_least.proofs.choosing.least_form.Goals as goal
-
-pub u8_at-kind-requires-clause-within : goal.u8_at-kind-requires-clause-within
-u8_at-kind-requires-clause-within c =
-    let m = c.args.message.now in
-    let i = c.args.field in
-    let long = packing_least (part_octets m i 5) (grid_points (part_octets m i 3)) c.in_ok-column.ensures.passes.packing in
-    omega (arith, long, ap length c.as_slice.ensures, ap (λ (p : Packed). length p.section5) c.in_ok-own.ensures)
 
 pub or_packed-requires-clause-column : goal.or_packed-requires-clause-column
 or_packed-requires-clause-column c =
@@ -48,9 +37,7 @@ pub returns-clause-form : goal.returns-clause-form
 returns-clause-form c =
     let m = c.args.message.now in
     let i = c.args.field in
-    let kind_is = c.u8_at-kind.ensures ∙ ap (λ (s : List ℕ). octets s 21 21) (c.as_slice.ensures ∙ ap (λ (p : Packed). p.section5) c.in_ok-own.ensures) in
     subst (λ (p : Packed). IfOk c.or_packed-4.result (λ form. form ≡ p))
-    (form_is m i c.in_ok-column.column c.u8_at-kind.result c.size-limit.result c.in_ok-own.own c.in_ok-best.best c.in_ok-best-2.best c.in_ok-best-3.best _
-    c.in_ok-column.ensures.column kind_is c.in_ok-own.ensures c.size-limit.ensures
+    (form_is m i c.size-limit.result c.in_ok-own.own c.in_ok-best.best c.in_ok-best-2.best c.in_ok-best-3.best _ c.in_ok-own.ensures c.size-limit.ensures
     c.in_ok-best.ensures.form c.in_ok-best-2.ensures.form c.in_ok-best-3.ensures.form refl)
     c.or_packed-4.ensures.form
