@@ -24,11 +24,18 @@ pair_numbers [] = []
 pair_numbers (first ∷ []) = []
 pair_numbers (first ∷ second ∷ codes) = pair_number first second ∷ pair_numbers codes
 
+-- what codes are divided by 2 ^ k, and the k bits that are left of each
+abbrev pub highs : ℕ → List ℕ → List ℕ
+highs k codes = map (λ code. code / 2 ^ k) codes
+
+abbrev pub lows : ℕ → List ℕ → List ℕ
+lows k codes = map (λ code. code % 2 ^ k) codes
+
 -- a block of these codes, of which a reference stands for the first `skip`, as it was chosen to be told
 abbrev pub item_as : Choice → ℕ → List ℕ → Item
 item_as AsPlain skip codes = Plain (drop skip codes)
 item_as AsSecond skip codes = Second (pair_numbers codes)
-item_as (AsSplit k) skip codes = Split k (map (λ code. code / 2 ^ k) (drop skip codes)) (map (λ code. code % 2 ^ k) (drop skip codes))
+item_as (AsSplit k) skip codes = Split k (highs k (drop skip codes)) (lows k (drop skip codes))
 
 -- the item of a block that is in no run
 abbrev pub block_item : Coding → List Told → Item
@@ -80,3 +87,8 @@ written c numbers = bits_from c 0 (blocks_of c numbers)
 pub record AddsBits (before now : Written) (bits : List Bool) : Type 0 where
   pub added : now.bits ≡ before.bits ++ bits
   pub spare : now.spare + length bits ≡ before.spare
+
+-- These bits are still left of all that is written behind what stood there.
+pub record Leaves (before now : Written) (all left : List Bool) : Type 0 where
+  pub bits : now.bits ++ left ≡ before.bits ++ all
+  pub spare : now.spare + length all ≡ before.spare + length left

@@ -5,4 +5,5 @@
 //! No command uses this crate yet.
 #![tactic(auto)]
 
+mod items;
 pub mod worked;
