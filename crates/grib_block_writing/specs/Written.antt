@@ -1,10 +1,11 @@
 -- The items that are written of numbers, and their bits (CCSDS 121.0-B, which leaves the choice of the items to the coder;
 -- WMO-No. 306, Volume I.2, FM 92 GRIB edition 2, data template 7.42).
-use Rattle.std.specs.Prelude.{◌≡◌, ℕ, zero, suc, ◌+◌, ◌-◌, ◌/◌, ◌%◌, ◌^◌, Bool, cond, ◌||◌, ◌==◌, List, [], ◌∷◌, ◌++◌, length, map, take, drop, Option, Some, None}
+use Rattle.std.specs.Prelude.{◌≡◌, ◌≤◌, ℕ, zero, suc, ◌+◌, ◌-◌, ◌/◌, ◌%◌, ◌^◌, Bool, cond, ◌||◌, ◌==◌, List, [], ◌∷◌, ◌++◌, length, map, take, drop, Option, Some, None}
 use Rattle.std.specs.List.{flat_map}
 use Rattle.grib_bits.specs.Bits.{bits_of}
 use Rattle.grib_bits.specs.Written.{Written}
 use Rattle.grib_coding.specs.declared.coding.Coding.{Coding}
+use Rattle.grib_coding.specs.Coding.{greatest}
 use Rattle.grib_coding.specs.Items.{Item, Run, Second, Split, Plain, item_bits, pair_number}
 use Rattle.grib_coding.specs.Numbers.{Told}
 use Rattle.grib_coding.specs.Reading.{Coded}
@@ -37,11 +38,12 @@ item_as AsPlain skip codes = Plain (drop skip codes)
 item_as AsSecond skip codes = Second (pair_numbers codes)
 item_as (AsSplit k) skip codes = Split k (highs k (drop skip codes)) (lows k (drop skip codes))
 
--- the item of a block that is in no run
-abbrev pub block_item : Coding → List Told → Item
-block_item c block =
-    let skip = skip_of (reference_of block) in
-    item_as (chosen c skip (codes_of block)) skip (codes_of block)
+-- and as it is to be told: by the item of the fewest bits
+abbrev pub chosen_item : Coding → Option ℕ → List ℕ → Item
+chosen_item c reference codes = let skip = skip_of reference in item_as (chosen c skip codes) skip codes
+
+abbrev pub coded : Option ℕ → Item → Coded
+coded reference item = record { reference = reference; item = item }
 
 -- how many blocks the run covers that begins with the first of these, at this place in its interval: zero blocks of one
 -- segment are one run, as long as possible
@@ -57,7 +59,8 @@ number_of c place blocks =
 -- the item that begins with the first of these blocks
 abbrev pub first_item : Coding → ℕ → List Told → List (List Told) → Item
 first_item c place block blocks =
-    cond (run_length c place (block ∷ blocks) == 0) (block_item c block) (Run (number_of c place (block ∷ blocks)))
+    cond (run_length c place (block ∷ blocks) == 0) (chosen_item c (reference_of block) (codes_of block))
+    (Run (number_of c place (block ∷ blocks)))
 
 -- the items of these blocks, of which the first has this number and a run before it covers the first `more`
 abbrev pub items_of : Coding → ℕ → ℕ → List (List Told) → List Coded
@@ -65,12 +68,21 @@ items_of c number more [] = []
 items_of c number (suc more) (block ∷ blocks) = items_of c (number + 1) more blocks
 items_of c number zero (block ∷ blocks) =
     let place = number % c.interval in
-    record { reference = reference_of block; item = first_item c place block blocks }
+    coded (reference_of block) (first_item c place block blocks)
     ∷ items_of c (number + 1) (run_length c place (block ∷ blocks) - 1) blocks
 
 abbrev pub reference_bits : Coding → Option ℕ → List Bool
 reference_bits c None = []
 reference_bits c (Some number) = bits_of c.bits number
+
+-- a reference, if there is one, is a number that can be
+abbrev pub Within : Coding → Option ℕ → Type 0
+Within c None = Unit {0}
+Within c (Some number) = number ≤ greatest c
+
+-- an identifier of so many bits, and the reference behind it
+abbrev pub head_bits : Coding → ℕ → ℕ → Option ℕ → List Bool
+head_bits c identifier width reference = bits_of width identifier ++ reference_bits c reference
 
 abbrev pub coded_bits : Coding → Coded → List Bool
 coded_bits c coded = item_bits c (reference_bits c coded.reference) coded.item

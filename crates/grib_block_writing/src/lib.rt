@@ -7,3 +7,4 @@
 
 mod items;
 pub mod worked;
+mod writing;
