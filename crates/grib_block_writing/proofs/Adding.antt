@@ -116,3 +116,6 @@ pairs_cut codes pair even within =
     let second : drop (at + 1) codes ≡ other ∷ drop (at + 1 + 1) codes = drop_more codes (at + 1) 0 (omega arith) in
     let two : at + 1 + 1 ≡ 2 * (pair + 1) = omega arith in
     ap F first ∙ (ap (λ (xs : List ℕ). F (one ∷ xs)) second ∙ ap (λ (n : ℕ). F (one ∷ other ∷ drop n codes)) two)
+
+pub room_left : (start now : Written) (all left : List Bool) → Leaves start now all left → length all ≤ start.spare → length left ≤ now.spare
+room_left start now all left h enough = omega (arith, h.spare, enough)

@@ -1,3 +1,6 @@
 pub mod Adding
 pub mod Heads
 pub mod Options
+pub mod Shapes
+pub mod Zeros
+pub mod Runs

@@ -1,9 +1,9 @@
 -- The blocks that numbers are cut into, by what tells each value (CCSDS 121.0-B; WMO-No. 306, Volume I.2, FM 92 GRIB
 -- edition 2, data template 7.42).
-use Rattle.std.specs.Prelude.{ℕ, zero, suc, ◌+◌, ◌-◌, ◌*◌, Bool, cond, ◌==◌, List, [], ◌∷◌, ◌++◌, length, map, take, drop, replicate, Option, Some, None}
+use Rattle.std.specs.Prelude.{ℕ, zero, suc, ◌+◌, ◌-◌, ◌*◌, ◌%◌, Bool, cond, ◌==◌, List, [], ◌∷◌, ◌++◌, length, get_or, map, take, drop, replicate, Option, Some, None}
 use Rattle.std.specs.List.{list_all}
 use Rattle.grib_coding.specs.declared.coding.Coding.{Coding}
-use Rattle.grib_coding.specs.Coding.{block_count}
+use Rattle.grib_coding.specs.Coding.{block_count, is_mapped}
 use Rattle.grib_coding.specs.Numbers.{Told, Reference, Code, told_after}
 
 -- What tells the values of all blocks: what follows the last number, up to the end of its block, is told by the code 0.
@@ -41,3 +41,18 @@ is_zero block = list_all (λ code. code == 0) (codes_of block)
 abbrev pub zero_blocks : List (List Told) → ℕ
 zero_blocks [] = 0
 zero_blocks (block ∷ blocks) = cond (is_zero block) (zero_blocks blocks + 1) 0
+
+-- the block with this number, from 0
+abbrev pub block_at : Coding → List ℕ → ℕ → List Told
+block_at c numbers block = take c.block (drop (block * c.block) (all_told c numbers))
+
+-- the numbers of a block
+abbrev pub numbers_of : Coding → List ℕ → ℕ → List ℕ
+numbers_of c numbers block = take c.block (drop (block * c.block) numbers)
+
+-- What the codes of a block are told from: where they are mapped differences, the number before the block, or its own
+-- first number where that is a reference.
+abbrev pub base_of : Coding → List ℕ → ℕ → ℕ
+base_of c numbers block =
+    let first = block * c.block in
+    cond (is_mapped c) (cond (block % c.interval == 0) (get_or numbers first 0) (get_or numbers (first - 1) 0)) 0

@@ -5,6 +5,10 @@
 //! No command uses this crate yet.
 #![tactic(auto)]
 
+mod blocks;
 mod items;
 pub mod worked;
+mod writer;
 mod writing;
+
+pub use writer::write_blocks;
