@@ -49,8 +49,15 @@ head_none start now c identifier width wide reference is b s i =
 pub reference_room : (c : Coding) (identifier width number spare later : ℕ) (reference : Option ℕ) → reference ≡ Some number
     → length (head_bits c identifier width reference) ≤ spare → later + width ≡ spare → c.bits ≤ later
 reference_room c identifier width number spare later reference is enough s =
-    omega (arith, ap (λ (r : Option ℕ). length (head_bits c identifier width r)) is,
-    length-append (bits_of width identifier) (bits_of c.bits number), length-bits_of width identifier, length-bits_of c.bits number, enough, s)
+    omega (
+      arith,
+      ap (λ (r : Option ℕ). length (head_bits c identifier width r)) is,
+      length-append (bits_of width identifier) (bits_of c.bits number),
+      length-bits_of width identifier,
+      length-bits_of c.bits number,
+      enough,
+      s,
+    )
 
 pub zeros_first : (width bit : ℕ) → bit < 2 → bits_of (width + 1) bit ≡ bits_of width 0 ++ bits_of 1 bit
 zeros_first width bit small =

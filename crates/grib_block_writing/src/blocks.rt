@@ -84,7 +84,10 @@ fn is_zero_at(numbers: &[u32], block: u32, coding: &Coding) -> bool
     requires numbers { All (λ number. number ≤ greatest coding.now) numbers.now }
     ensures { result ≡ is_zero (block_at coding.now numbers.now block) }
 {
-    are_all(numbers_in(numbers, block, coding), base_in(numbers, block, coding))
+    are_all(
+        numbers_in(numbers, block, coding),
+        base_in(numbers, block, coding),
+    )
 }
 
 /// How many blocks the run covers that begins with a block, none where that is no zero block.
@@ -120,7 +123,12 @@ pub(crate) fn fill_codes(numbers: &[u32], block: u32, coding: &Coding, codes: &m
     let these = numbers_in(numbers, block, coding);
     let codes = &mut codes[..these.len()];
     if coding.is_mapped() {
-        map_block(these, coding.greatest(), base_in(numbers, block, coding), codes);
+        map_block(
+            these,
+            coding.greatest(),
+            base_in(numbers, block, coding),
+            codes,
+        );
     } else {
         codes.copy_from_slice(these);
     }

@@ -4,7 +4,6 @@ ghost use Rattle.std.specs.Prelude.{◌≡◌, ◌+◌, ◌-◌, ◌*◌, ◌%�
 ghost use Rattle.grib_coding.specs.Coding.{Fits, greatest, block_count, is_padded};
 ghost use Rattle.grib_block_writing.specs.Blocks.{block_at, blocks_of, codes_of};
 ghost use Rattle.grib_block_writing.specs.Written.{AddsBits, Leaves, Within, bits_from, chosen_item, coded, coded_bits, number_of, run_length, written};
-
 ghost use Rattle.grib_choice.specs.Runs.{run_room, run_number};
 
 use crate::blocks::{fill_codes, reference_in, run_length_at};
@@ -26,7 +25,13 @@ fn run_number_at(count: u32, block: u32, zeros: u32, coding: &Coding) -> u32
 }
 
 /// Writes a block that is in no run.
-fn write_block_at(numbers: &[u32], block: u32, reference: Option<u32>, coding: &Coding, out: &mut BitWriter)
+fn write_block_at(
+    numbers: &[u32],
+    block: u32,
+    reference: Option<u32>,
+    coding: &Coding,
+    out: &mut BitWriter,
+)
     requires fits { Fits coding.now }
     requires within { block < block_count coding.now (length numbers.now) }
     requires few { length numbers.now < 2 ^ 32 }

@@ -12,7 +12,13 @@ use grib_coding::Coding;
 
 /// Writes the identifier in `width` bits, and the reference, if there is one.
 #[inline]
-fn write_head(identifier: u32, width: u32, reference: Option<u32>, coding: &Coding, out: &mut BitWriter)
+fn write_head(
+    identifier: u32,
+    width: u32,
+    reference: Option<u32>,
+    coding: &Coding,
+    out: &mut BitWriter,
+)
     requires width { width ≤ 32 }
     requires bits { coding.now.bits ≤ 32 }
     requires fits { identifier < 2 ^ width }
@@ -64,7 +70,13 @@ fn write_pair_block(codes: &[u32], reference: Option<u32>, coding: &Coding, out:
 }
 
 /// Writes a block of these codes, but for one that a reference stands for, with `k` low bits.
-fn write_split_block(kept: &[u32], k: u32, reference: Option<u32>, coding: &Coding, out: &mut BitWriter)
+fn write_split_block(
+    kept: &[u32],
+    k: u32,
+    reference: Option<u32>,
+    coding: &Coding,
+    out: &mut BitWriter,
+)
     requires fits { Fits coding.now }
     requires k { k + 3 ≤ 2 ^ identifier_width coding.now }
     requires reference { Within coding.now reference }
@@ -77,7 +89,12 @@ fn write_split_block(kept: &[u32], k: u32, reference: Option<u32>, coding: &Codi
 }
 
 /// Writes a block of these codes, of which the first is 0 where there is a reference, as the item of the fewest bits.
-pub(crate) fn write_block(codes: &[u32], reference: Option<u32>, coding: &Coding, out: &mut BitWriter)
+pub(crate) fn write_block(
+    codes: &[u32],
+    reference: Option<u32>,
+    coding: &Coding,
+    out: &mut BitWriter,
+)
     requires fits { Fits coding.now }
     requires block { length codes.now ≡ coding.now.block }
     requires within { All (λ code. code ≤ greatest coding.now) codes.now }

@@ -6,7 +6,7 @@ use Rattle.grib_block_writing.proofs.writer.write_blocks.Goals as goal
 pub loop-block-init : goal.loop-block-init
 loop-block-init c = record { left = begin _ _; within = omega arith }
 
-pub write_item-block-requires-clause-room : goal.write_item-requires-clause-room
+pub write_item-block-requires-clause-room : goal.write_item-block-requires-clause-room
 write_item-block-requires-clause-room c = room_left _ _ _ _ c.loop-block.invariant.left c.requires.room
 
 pub loop-block-preserved : goal.loop-block-preserved

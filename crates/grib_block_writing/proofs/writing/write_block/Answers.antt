@@ -3,7 +3,6 @@ use Rattle.grib_block_writing.proofs.Adding.{same_bits}
 use Rattle.grib_block_writing.proofs.Options.{pairs_small, skip_is, plain_item, pair_item, split_item, split_low, room_as}
 use Rattle.grib_block_writing.proofs.writing.write_block.Goals as goal
 
-
 pub write_plain_block-requires-clause-room : goal.write_plain_block-requires-clause-room
 write_plain_block-requires-clause-room c =
     room_as _ _ _ (plain_item c.args.coding.now c.args.reference _ c.args.codes.now
