@@ -4,3 +4,5 @@ pub mod Options
 pub mod Shapes
 pub mod Zeros
 pub mod Runs
+pub mod Back
+pub mod Read

@@ -125,7 +125,7 @@ place-mod c q i within some =
     ∙ (ap (λ (n : ℕ). n % (c.block * c.interval)) both
     ∙ mod-mul-add a (c.block * c.interval) (b * c.block + i) (mul-add-lt b c.block i c.interval small within))
 
-and-false : (b : Bool) → (b && false) ≡ false
+pub and-false : (b : Bool) → (b && false) ≡ false
 and-false true = refl
 and-false false = refl
 

@@ -8,6 +8,7 @@
 mod blocks;
 mod items;
 pub mod worked;
+pub mod laws;
 mod writer;
 mod writing;
 
