@@ -6,3 +6,4 @@ pub mod Zeros
 pub mod Runs
 pub mod Back
 pub mod Read
+pub mod Stream

@@ -223,10 +223,10 @@ unfolding told_block
 no_told n = zero_codes n
 
 -- the first blocks of a run tell its reference and zeros
-run_told : (c : Coding) (numbers : List ℕ) (q zeros n : ℕ) → 1 ≤ c.block → 1 ≤ c.interval → RunOf c numbers q zeros → n < zeros
+run_told : (c : Coding) (numbers : List ℕ) (q count n : ℕ) → 1 ≤ c.block → 1 ≤ c.interval → RunOf c numbers q count → n < count
     → drop (q * c.block) (all_told c numbers)
     ≡ told_block (reference_of (block_at c numbers q)) (replicate (c.block * (n + 1)) 0) ++ drop ((q + (n + 1)) * c.block) (all_told c numbers)
-run_told c numbers q zeros zero some interval run less =
+run_told c numbers q count zero some interval run less =
     let all = all_told c numbers in
     let here : q + 0 ≡ q = omega arith in
     let zero_one : is_zero (block_at c numbers q) ≡ true = ap (λ (n : ℕ). is_zero (block_at c numbers n)) (sym here) ∙ run.zero_each 0 less in
@@ -236,7 +236,7 @@ run_told c numbers q zeros zero some interval run less =
     ∙ ap₂ (λ (xs : List Told) (m : ℕ). xs ++ drop (m * c.block) all)
     (zeros_told c numbers q some interval (omega (arith, run.within, less)) zero_one
     ∙ ap (λ (m : ℕ). told_block (reference_of (block_at c numbers q)) (replicate m 0)) whole) next
-run_told c numbers q zeros (suc n) some interval run less =
+run_told c numbers q count (suc n) some interval run less =
     let all = all_told c numbers in
     let at = q + (n + 1) in
     let reference = reference_of (block_at c numbers q) in
@@ -246,7 +246,7 @@ run_told c numbers q zeros (suc n) some interval run less =
     let block : block_at c numbers at ≡ replicate c.block (Code 0) =
     zeros_told c numbers at some interval within (run.zero_each (n + 1) (omega (arith, less)))
     ∙ (ap (λ (r : Option ℕ). told_block r (replicate c.block 0)) none ∙ no_told c.block) in
-    let before = run_told c numbers q zeros n some interval run (omega (arith, less)) in
+    let before = run_told c numbers q count n some interval run (omega (arith, less)) in
     let sum : c.block * (n + 1) + c.block ≡ c.block * (suc n + 1) = omega arith in
     let next : at + 1 ≡ q + (suc n + 1) = omega arith in
     let front = told_block reference (replicate (c.block * (n + 1)) 0) in
@@ -271,14 +271,14 @@ pub record Covers (c : Coding) (numbers : List ℕ) (q zeros blocks : ℕ) : Typ
   pub room : blocks ≤ run_room c (q % c.interval)
   pub end : (blocks ≡ zeros) ⊎ (q + zeros ≡ block_count c (length numbers))
 
-numbered : (c : Coding) (place zeros : ℕ) → 1 ≤ zeros → covered c place (Run (run_number zeros false)) ≡ zeros
-numbered c place zeros some = grind (arith, nat_tests)
+numbered : (c : Coding) (place n : ℕ) → 1 ≤ n → covered c place (Run (run_number n false)) ≡ n
+numbered c place n some = grind (arith, nat_tests)
 
-few_covered : (c : Coding) (place zeros : ℕ) (t : Bool) → 1 ≤ zeros → zeros ≤ 4 → covered c place (Run (run_number zeros t)) ≡ zeros
-few_covered c place zeros t some few = grind (arith, nat_tests)
+few_covered : (c : Coding) (place n : ℕ) (t : Bool) → 1 ≤ n → n ≤ 4 → covered c place (Run (run_number n t)) ≡ n
+few_covered c place n t some few = grind (arith, nat_tests)
 
-to_the_end : (c : Coding) (place zeros : ℕ) → 4 < zeros → covered c place (Run (run_number zeros true)) ≡ run_room c place
-to_the_end c place zeros more = grind (arith, nat_tests)
+to_the_end : (c : Coding) (place n : ℕ) → 4 < n → covered c place (Run (run_number n true)) ≡ run_room c place
+to_the_end c place n more = grind (arith, nat_tests)
 
 pub covers : (c : Coding) (numbers : List ℕ) (q zeros : ℕ) → RunOf c numbers q zeros → 0 < zeros
     → Covers c numbers q zeros (covered c (q % c.interval) (Run (run_number zeros

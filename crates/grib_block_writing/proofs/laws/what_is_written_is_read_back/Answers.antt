@@ -1,5 +1,5 @@
-use Rattle.grib_block_writing.proofs.Read.{block_tells, covers, whole_run}
+use Rattle.grib_block_writing.proofs.Stream.{read_back}
 use Rattle.grib_block_writing.proofs.laws.what_is_written_is_read_back.Goals as goal
 
 pub returns : goal.returns
-returns c coding numbers rest fits unpadded within = let x = block_tells coding in ?
+returns c coding numbers rest fits unpadded within = read_back coding numbers rest fits unpadded within
