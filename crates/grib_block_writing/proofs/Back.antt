@@ -69,13 +69,12 @@ is_item : (c : Coding) (skip : ℕ) (codes : List ℕ) (choice : Choice) → len
 is_item c skip codes Plain long small all option =
     (omega (arith, length-drop skip codes, long, small), all_below c.bits (drop skip codes) (All-drop (λ code. code ≤ greatest c) skip codes all))
 is_item c skip codes Second long small all option = length-pairs codes ∙ ap (λ (n : ℕ). n / 2) long
-is_item c skip codes (Split k) long small all option =
-    (
-      option,
-      omega (arith, length-map (drop skip codes) (λ code. code / 2 ^ k), length-drop skip codes, long, small),
-      omega (arith, length-map (drop skip codes) (λ code. code % 2 ^ k), length-drop skip codes, long, small),
-      low_parts k (drop skip codes),
-    )
+is_item c skip codes (Split k) long small all option = (
+  option,
+  omega (arith, length-map (drop skip codes) (λ code. code / 2 ^ k), length-drop skip codes, long, small),
+  omega (arith, length-map (drop skip codes) (λ code. code % 2 ^ k), length-drop skip codes, long, small),
+  low_parts k (drop skip codes),
+)
 
 pub chosen_is_item : (c : Coding) (skip : ℕ) (codes : List ℕ) → length codes ≡ c.block → skip ≤ c.block
     → All (λ code. code ≤ greatest c) codes → IsItem c skip (item_as (chosen c skip codes) skip codes)

@@ -7,3 +7,4 @@ pub mod Runs
 pub mod Back
 pub mod Read
 pub mod Stream
+pub mod Lengths

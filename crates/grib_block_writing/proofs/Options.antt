@@ -57,6 +57,15 @@ pairs_small c skip codes block bits even is =
     let sum = pair_sum-more codes even in
     within_sum codes (2 ^ 15) (omega (arith, least, as_pairs, kept, sum, bits))
 
+pub second_few : (c : Coding) (skip : ℕ) (codes : List ℕ) → c.block ≤ 64 → c.bits ≤ 32 → length codes % 2 ≡ 0 → chosen c skip codes ≡ Second
+    → high_sum 0 codes < 2 ^ 16
+second_few c skip codes block bits even is =
+    let least = chosen-least c skip codes Plain tt in
+    let as_pairs : bits_as c skip codes (chosen c skip codes) ≡ bits_as c skip codes Second = ap (bits_as c skip codes) is in
+    let kept : (c.block - skip) * c.bits ≤ 64 * c.bits = mul-le-mul_right c.bits (omega (arith, block)) in
+    let sum = pair_sum-more codes even in
+    omega (arith, least, as_pairs, kept, sum, bits)
+
 -- ---- the item that a choice makes
 
 pub skip_is : (reference : Option ℕ) (skip : ℕ) (some : Bool) → skip ≡ bool_byte some → some ≡ is_some reference → skip ≡ skip_of reference

@@ -74,8 +74,14 @@ length-all c numbers some =
     let cut : sum / c.block * c.block + sum % c.block ≡ sum = div-add-mod' sum c.block in
     let small : sum % c.block < c.block = mod_below sum c.block some in
     let zeros = c.block * block_count c count - count in
-    omega (arith, cut, small, length-append (told_after c 0 0 numbers) (replicate zeros (Code 0)), length-told c 0 0 numbers,
-    length-replicate zeros (Code 0))
+    omega (
+      arith,
+      cut,
+      small,
+      length-append (told_after c 0 0 numbers) (replicate zeros (Code 0)),
+      length-told c 0 0 numbers,
+      length-replicate zeros (Code 0),
+    )
 
 -- a block and what follows it
 pub block_and_rest : (c : Coding) (numbers : List ℕ) (q : ℕ)
@@ -90,8 +96,14 @@ pub length-block : (c : Coding) (numbers : List ℕ) (q : ℕ) → 1 ≤ c.block
     → length (codes_of (block_at c numbers q)) ≡ c.block
 length-block c numbers q some within =
     let fits = within_blocks c (length numbers) q some within in
-    omega (arith, length-map (block_at c numbers q) code_of, length-take c.block (drop (q * c.block) (all_told c numbers)),
-    length-drop (q * c.block) (all_told c numbers), length-all c numbers some, fits.1)
+    omega (
+      arith,
+      length-map (block_at c numbers q) code_of,
+      length-take c.block (drop (q * c.block) (all_told c numbers)),
+      length-drop (q * c.block) (all_told c numbers),
+      length-all c numbers some,
+      fits.1,
+    )
 
 pub all_gone : (c : Coding) (numbers : List ℕ) (q : ℕ) → 1 ≤ c.block → block_count c (length numbers) ≤ q
     → drop (q * c.block) (all_told c numbers) ≡ []

@@ -98,6 +98,7 @@ pub(crate) fn run_length_at(numbers: &[u32], block: u32, coding: &Coding) -> u32
     requires numbers { All (λ number. number ≤ greatest coding.now) numbers.now }
     ensures is { result ≡ run_length coding.now (block % coding.now.interval) (drop block (blocks_of coding.now numbers.now)) }
     ensures within { block + result ≤ block_count coding.now (length numbers.now) }
+    ensures few { result ≤ 64 }
 {
     let room = room_of_run(coding, block % u32::from(coding.interval));
     let left = coding.block_count(numbers.len() as u32) - block;

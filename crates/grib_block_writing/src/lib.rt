@@ -7,9 +7,11 @@
 
 mod blocks;
 mod items;
-pub mod worked;
 pub mod laws;
+mod sizes;
+pub mod worked;
 mod writer;
 mod writing;
 
+pub use sizes::bits_of_blocks;
 pub use writer::write_blocks;

@@ -13,11 +13,12 @@ use grib_choice::{number_of_run, room_of_run};
 use grib_coding::Coding;
 
 /// The number of the run of so many zero blocks that begins with a block.
-fn run_number_at(count: u32, block: u32, zeros: u32, coding: &Coding) -> u32
+pub(crate) fn run_number_at(count: u32, block: u32, zeros: u32, coding: &Coding) -> u32
     requires fits { Fits coding.now }
     requires some { 1 ≤ zeros }
     requires within { block + zeros ≤ count }
-    ensures { (ends : Bool) → ends ≡ (zeros == run_room coding.now (block % coding.now.interval) || (zeros == count - block)) → result ≡ run_number zeros ends }
+    ensures is { (ends : Bool) → ends ≡ (zeros == run_room coding.now (block % coding.now.interval) || (zeros == count - block)) → result ≡ run_number zeros ends }
+    ensures small { result ≤ zeros }
 {
     let room = room_of_run(coding, block % u32::from(coding.interval));
     let ends = zeros == room || zeros == count - block;

@@ -21,7 +21,7 @@ write_run-requires-clause-room c =
     let q = c.args.block in
     let room = run_room c.args.coding.now (q % c.args.coding.now.interval) in
     let ends = zeros == room || (zeros == block_count c.args.coding.now (length c.args.numbers.now) - q) in
-    let number = c.run_number_at-number.ensures ends (ap (λ (n : ℕ). zeros == room || (zeros == n - q)) (sym c.block_count-count.ensures))
+    let number = c.run_number_at-number.ensures.is ends (ap (λ (n : ℕ). zeros == room || (zeros == n - q)) (sym c.block_count-count.ensures))
     ∙ number_is c.args.coding.now c.args.numbers.now q zeros ends c.run_length_at-zeros.ensures.is refl in
     let some : 0 < zeros = omega (arith, c.if-zeros-eq0.false) in
     first_room _ _ _ _ (run_bits c.args.coding.now c.args.numbers.now q zeros _ _ c.requires.within c.run_length_at-zeros.ensures.is some
@@ -33,7 +33,7 @@ returns-clause-left c =
     let q = c.args.block in
     let room = run_room c.args.coding.now (q % c.args.coding.now.interval) in
     let ends = zeros == room || (zeros == block_count c.args.coding.now (length c.args.numbers.now) - q) in
-    let number = c.run_number_at-number.ensures ends (ap (λ (n : ℕ). zeros == room || (zeros == n - q)) (sym c.block_count-count.ensures))
+    let number = c.run_number_at-number.ensures.is ends (ap (λ (n : ℕ). zeros == room || (zeros == n - q)) (sym c.block_count-count.ensures))
     ∙ number_is c.args.coding.now c.args.numbers.now q zeros ends c.run_length_at-zeros.ensures.is refl in
     let some : 0 < zeros = omega (arith, c.if-zeros-eq0.false) in
     item_left _ _ _ _ _ (run_bits c.args.coding.now c.args.numbers.now q zeros _ _ c.requires.within c.run_length_at-zeros.ensures.is some
