@@ -8,3 +8,4 @@ pub mod Back
 pub mod Read
 pub mod Stream
 pub mod Lengths
+pub mod Least

@@ -1,11 +1,11 @@
 -- The items that are written of numbers, and their bits (CCSDS 121.0-B, which leaves the choice of the items to the coder;
 -- WMO-No. 306, Volume I.2, FM 92 GRIB edition 2, data template 7.42).
-use Rattle.std.specs.Prelude.{◌≡◌, ◌≤◌, ℕ, zero, suc, ◌+◌, ◌-◌, ◌/◌, ◌%◌, ◌^◌, Bool, cond, ◌||◌, ◌==◌, List, [], ◌∷◌, ◌++◌, length, map, take, drop, Option, Some, None}
+use Rattle.std.specs.Prelude.{◌≡◌, ◌≤◌, ℕ, zero, suc, ◌+◌, ◌-◌, ◌/◌, ◌%◌, ◌^◌, Bool, false, cond, ◌||◌, ◌==◌, List, [], ◌∷◌, ◌++◌, length, map, take, drop, Option, Some, None}
 use Rattle.std.specs.List.{flat_map}
 use Rattle.grib_bits.specs.Bits.{bits_of}
 use Rattle.grib_bits.specs.Written.{Written}
 use Rattle.grib_coding.specs.declared.coding.Coding.{Coding}
-use Rattle.grib_coding.specs.Coding.{greatest}
+use Rattle.grib_coding.specs.Coding.{greatest, identifier_width}
 use Rattle.grib_coding.specs.Items.{Item, Run, Second, Split, Plain, item_bits, pair_number}
 use Rattle.grib_coding.specs.Numbers.{Told}
 use Rattle.grib_coding.specs.Reading.{Coded}
@@ -104,3 +104,13 @@ pub record AddsBits (before now : Written) (bits : List Bool) : Type 0 where
 pub record Leaves (before now : Written) (all left : List Bool) : Type 0 where
   pub bits : now.bits ++ left ≡ before.bits ++ all
   pub spare : now.spare + length all ≡ before.spare + length left
+
+-- the bits of a run of so many blocks, its reference apart
+abbrev pub run_size : Coding → ℕ → Bool → ℕ
+run_size c blocks ends = identifier_width c + run_number blocks ends + 2
+
+-- the bits of runs one after another, of which the last may end with its segment, its interval or the last block
+abbrev pub sizes_of : Coding → List ℕ → Bool → ℕ
+sizes_of c [] ends = 0
+sizes_of c (blocks ∷ []) ends = run_size c blocks ends
+sizes_of c (blocks ∷ more ∷ runs) ends = run_size c blocks false + sizes_of c (more ∷ runs) ends
