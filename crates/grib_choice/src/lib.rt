@@ -15,6 +15,7 @@ mod sums;
 pub use choice::Choice;
 pub use choosing::choose;
 pub use runs::{is_zero_block, number_of_run, room_of_run};
+pub use sums::{high_sum_of, pair_sum_of};
 
 #[cfg(test)]
 mod tests;

@@ -6,7 +6,7 @@ ghost use Rattle.grib_choice.specs.Choices.{high_sum, pair_sum};
 
 /// The sum of codes divided by 2 to `k`, each rounded down.
 #[inline]
-pub(crate) fn high_sum_of(codes: &[u32], k: u32) -> u64
+pub fn high_sum_of(codes: &[u32], k: u32) -> u64
     requires few { length codes.now ≤ 64 }
     requires k { k < 32 }
     ensures is { result ≡ high_sum k codes.now }
@@ -21,7 +21,7 @@ pub(crate) fn high_sum_of(codes: &[u32], k: u32) -> u64
 
 /// The sum of the numbers of pairs of codes, where the codes sum up to little.
 #[inline]
-pub(crate) fn pair_sum_of(codes: &[u32]) -> u64
+pub fn pair_sum_of(codes: &[u32]) -> u64
     requires few { length codes.now ≤ 64 }
     requires pairs { length codes.now % 2 ≡ 0 }
     requires small { high_sum 0 codes.now < 2 ^ 16 }

@@ -1,0 +1,11 @@
+pub mod Adding
+pub mod Heads
+pub mod Options
+pub mod Shapes
+pub mod Zeros
+pub mod Runs
+pub mod Back
+pub mod Read
+pub mod Stream
+pub mod Lengths
+pub mod Least

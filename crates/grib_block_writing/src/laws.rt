@@ -1,0 +1,29 @@
+//! Laws over the definitions.
+
+ghost use Rattle.std.specs.Prelude.{◌≡◌, ℕ, ◌%◌, ◌≤◌, List, ◌∷◌, ◌++◌, Bool, false, Option, All, length, get_or, sum};
+ghost use Rattle.grib_coding.specs.declared.coding.Coding.{Coding};
+ghost use Rattle.grib_coding.specs.Coding.{Fits, is_padded, greatest};
+ghost use Rattle.grib_coding.specs.Reading.{decoded, read_as};
+ghost use Rattle.grib_choice.specs.declared.choice.Choice.{Choice};
+ghost use Rattle.grib_choice.specs.Choices.{IsOption};
+ghost use Rattle.grib_block_writing.specs.Written.{chosen_item, coded, coded_bits, item_as, run_size, sizes_of, skip_of, written};
+
+/// What is written of numbers is read as these numbers, whatever follows it.
+pub fn what_is_written_is_read_back()
+    ensures { (c : Coding) (numbers : List ℕ) (rest : List Bool) → Fits c → is_padded c ≡ false → All (λ number. number ≤ greatest c) numbers
+        → decoded c (length numbers) (written c numbers ++ rest) ≡ read_as c numbers }
+{}
+
+/// The item that a block is written as has no more bits than any other that it can be. A reference stands for a code of 0.
+pub fn no_item_has_fewer_bits()
+    ensures { (c : Coding) (reference : Option ℕ) (codes : List ℕ) (choice : Choice) → Fits c → length codes ≡ c.block
+        → (skip_of reference ≡ 1 → get_or codes 0 0 ≡ 0) → IsOption c choice
+        → length (coded_bits c (coded reference (chosen_item c reference codes)))
+        ≤ length (coded_bits c (coded reference (item_as choice (skip_of reference) codes))) }
+{}
+
+/// One run has no more bits than several that cover its blocks, of which the last ends where it ends.
+pub fn no_pieces_have_fewer_bits()
+    ensures { (c : Coding) (blocks : ℕ) (runs : List ℕ) (ends : Bool) → All (λ number. 1 ≤ number) (blocks ∷ runs)
+        → run_size c (sum (blocks ∷ runs)) ends ≤ sizes_of c (blocks ∷ runs) ends }
+{}
