@@ -7,6 +7,7 @@ use Rattle.std.proofs.lemmas.List.Elements.{All-nil, All-append}
 use Rattle.grib_bits.specs.Bits.{bits_of}
 use Rattle.grib_bits.specs.Encoding.{octets_of, section_of}
 use Rattle.grib_bits.proofs.Encoding.{All-octets_of, num_on-octets_of}
+use Rattle.grib_base.specs.declared.limits.TheConstants.{MOST_POINTS}
 use Rattle.grib_packing.specs.declared.column.Point.{Point}
 use Rattle.grib_packing.specs.declared.column.Column.{Column}
 use Rattle.grib_packing.specs.Differences.{Descriptors, descriptors_of, difference_codes}
@@ -32,11 +33,11 @@ use Rattle.grib_packed.proofs.Octets.{has_contents, only_contents}
 
 -- ---- simple packing
 
-bitmap_short : (b : Bool) (n : ℕ) (bits : List Bool) → n ≤ 33554432 → length bits ≡ n → length (cond b (bits_of 8 0 ++ bits) (bits_of 8 255)) ≤ n + 8
+bitmap_short : (b : Bool) (n : ℕ) (bits : List Bool) → n ≤ MOST_POINTS → length bits ≡ n → length (cond b (bits_of 8 0 ++ bits) (bits_of 8 255)) ≤ n + 8
 bitmap_short true n bits few long = omega (arith, length-append (bits_of 8 0) bits)
 bitmap_short false n bits few long = omega arith
 
-pub bitmap_few : (points : List Point) → length points ≤ 33554432
+pub bitmap_few : (points : List Point) → length points ≤ MOST_POINTS
     → length (cond (list_any is_missing points) (bits_of 8 0 ++ present_bits points) (bits_of 8 255)) ≤ length points + 8
 bitmap_few points few = bitmap_short (list_any is_missing points) (length points) (present_bits points) few (length-map points (λ point. not (is_missing point)))
 
@@ -51,7 +52,7 @@ pub simple_written : (column : Column) (kind : ℕ) → MayBePacked column → H
     → let p = simple_sections column kind in IsSimple column kind p.section5 p.section6 p.section7
 simple_written column kind may words small none =
     let points = column.points in
-    let few : length points ≤ 33554432 = may.few in
+    let few : length points ≤ MOST_POINTS = may.few in
     record {
       as_long = refl;
       numbers = has_numbers column (length (simple_numbers points)) 0 (simple_width points) kind [] words (omega (arith, few, few_numbers points)) (omega arith)
