@@ -5,7 +5,6 @@ use Rattle.std.specs.Io.KnownBytes.{Appends}
 use Rattle.grib_io.specs.Outside.{AppendsFront, Counted, Unfinished}
 use Rattle.grib_stream.specs.declared.outcome.Outcome.{Outcome}
 use Rattle.grib_stream.specs.declared.outcome.Outcome.TheVariants.{Done, Passed, Usage, Refused, Kept, TableRefused, ReadFault, WriteFault, ShelfFault, Memory, InputTooLong}
-use Rattle.grib_stream.specs.declared.place.Totals.{Totals}
 use Rattle.grib_stream.specs.Acts.{World}
 use Rattle.grib_stream.specs.Outcomes.{KeepsOrCuts, is_broken, is_cut_short}
 use Rattle.grib_stream.specs.Answer.{Answer, NotesOutcome, answer_within}
@@ -14,7 +13,6 @@ use Rattle.grib_stream.proofs.Notes.{notes_within}
 use Rattle.grib_answers.specs.Closing.{ClosesRun, EndsInTurn, EndsRun, EndsNoted, StandsWhole}
 use Rattle.grib_answers.specs.Outcomes.{note_of, note_with, NotesFront, NotesEnd, Noted, NotesRun}
 use Rattle.grib_answers.specs.Command.{Command, task}
-use Rattle.grib_answers.specs.Endings.{ending_note}
 use Rattle.grib_answers.proofs.Outside.{front_of_nothing}
 
 -- the end of a run answers the outcome, or a fault of writing, or Memory
@@ -81,44 +79,6 @@ module _ {Output Notes : Type 0} (contents : Output → Option (List ℕ)) (faul
   ends_by outcome own done note result same is closed =
       subst (λ o. EndsRun contents faults settled notes_contents notes_faults notes_settled o done result output output_now notes notes_now) same
       (closed_by own done note result is closed)
-
-  -- with a note, or for memory with its own
-  pub noted_by : (outcome : Outcome) (note shown : List ℕ) (result : Outcome) → shown ≡ note
-      → ClosesRun contents faults settled notes_contents notes_faults notes_settled outcome shown result output output_now notes notes_now
-      → EndsNoted contents faults settled notes_contents notes_faults notes_settled outcome note result output output_now notes notes_now
-  noted_by outcome note shown result is closed = record {
-    one_of = closed.one_of;
-    fault = closed.fault;
-    none_counted = closed.none_counted;
-    noted = λ uncut. subst (Appends (notes_contents notes) (notes_contents notes_now)) is (closed.noted uncut);
-    noted_front = inl (subst (AppendsFront (notes_contents notes) (notes_contents notes_now)) is closed.noted_front);
-    settles = closed.settles;
-    unfinished = still_unfinished shown closed.order;
-    output_unfinished = output_unfinished shown closed.order;
-  }
-
-  memory_cuts : (outcome result : Outcome) → OneOf Memory result → OneOf outcome result
-  memory_cuts outcome result (inl same) = inr (inr same)
-  memory_cuts outcome result (inr other) = inr other
-
-  never_uncut : {P : Type 0} (result : Outcome) → OneOf Memory result → is_cut_short result ≡ false → P
-  never_uncut result (inl same) uncut = let no : ⊥ = cc (ap is_cut_short same) in absurd no
-  never_uncut result (inr (inl fault)) uncut = let no : ⊥ = cc (ap is_cut_short fault) in absurd no
-  never_uncut result (inr (inr memory)) uncut = let no : ⊥ = cc (ap is_cut_short memory) in absurd no
-
-  pub noted_memory : (outcome : Outcome) (note shown : List ℕ) (result : Outcome) → shown ≡ note_of Memory
-      → ClosesRun contents faults settled notes_contents notes_faults notes_settled Memory shown result output output_now notes notes_now
-      → EndsNoted contents faults settled notes_contents notes_faults notes_settled outcome note result output output_now notes notes_now
-  noted_memory outcome note shown result is closed = record {
-    one_of = memory_cuts outcome result closed.one_of;
-    fault = λ other. closed.fault (λ e. let no : Memory ≡ WriteFault = e in cc);
-    none_counted = closed.none_counted;
-    noted = never_uncut result closed.one_of;
-    noted_front = inr (subst (AppendsFront (notes_contents notes) (notes_contents notes_now)) is closed.noted_front);
-    settles = closed.settles;
-    unfinished = still_unfinished shown closed.order;
-    output_unfinished = output_unfinished shown closed.order;
-  }
 
   -- with the note of its outcome
   run_noted : (outcome : Outcome) (done : List ℕ) (result : Outcome) → OneOf outcome result
@@ -210,21 +170,6 @@ unfinished_then faults settled InputTooLong before mid now first calm kept later
 
 -- ---- the whole note
 
-whole_input : (a b : Option (List ℕ)) (left : Option (List ℕ)) (limit : ℕ) (job : Command) (totals : Totals) → Notes (task job) limit totals left
-    → Appends a b (ending_note job.ending totals) → NotesEnd (task job) limit left Done a b
-whole_input a b None limit job totals notes appended = tt
-whole_input a b (Some input) limit job totals notes appended = subst (Appends a b) (sym notes) appended
-
--- where the input was read to its end
-pub whole_done : (a b : Option (List ℕ)) (left : Option (List ℕ)) (limit : ℕ) (job : Command) (totals : Totals) (result : Outcome) → Notes (task job) limit totals left
-    → OneOf Done result → (is_cut_short result ≡ false → Appends a b (note_with (ending_note job.ending totals) result)) → is_cut_short result ≡ false
-    → NotesEnd (task job) limit left result a b
-whole_done a b left limit job totals result notes (inl same) appended uncut =
-    subst (λ o. NotesEnd (task job) limit left o a b) (sym same)
-    (whole_input a b left limit job totals notes (subst (λ o. Appends a b (note_with (ending_note job.ending totals) o)) same (appended uncut)))
-whole_done a b left limit job totals result notes (inr (inl fault)) appended uncut = let no : ⊥ = cc (ap is_cut_short fault) in absurd no
-whole_done a b left limit job totals result notes (inr (inr memory)) appended uncut = let no : ⊥ = cc (ap is_cut_short memory) in absurd no
-
 whole_other : (a b : Option (List ℕ)) (left : Option (List ℕ)) (limit : ℕ) (job : Command) (outcome : Outcome) (done : List ℕ) → outcome ≢ Done
     → Appends a b (note_with done outcome) → NotesEnd (task job) limit left outcome a b
 whole_other a b left limit job Done done other appended = absurd (other refl)
@@ -249,18 +194,6 @@ whole_ended a b left limit job outcome result done other (inr (inl fault)) appen
 whole_ended a b left limit job outcome result done other (inr (inr memory)) appended uncut = let no : ⊥ = cc (ap is_cut_short memory) in absurd no
 
 -- ---- a front of a note
-
-front_input : (a b : Option (List ℕ)) (left : Option (List ℕ)) (limit : ℕ) (job : Command) (totals : Totals) (faults faults_now shelf shelf_now : ℕ)
-    → Notes (task job) limit totals left → NotesFront a b (ending_note job.ending totals) Done → NotesRun (task job) limit left faults faults_now shelf shelf_now a b
-front_input a b None limit job totals faults faults_now shelf shelf_now notes noted = tt
-front_input a b (Some input) limit job totals faults faults_now shelf shelf_now notes (inl own) = record { front = inl (subst (AppendsFront a b) (sym notes) own) }
-front_input a b (Some input) limit job totals faults faults_now shelf shelf_now notes (inr memory) = record { front = inr (inr (inr memory)) }
-
--- where the input was read to its end
-pub front_done : (a b left : Option (List ℕ)) (limit : ℕ) (job : Command) (totals : Totals) (faults faults_now shelf shelf_now : ℕ)
-    → Notes (task job) limit totals left → NotesFront a b (ending_note job.ending totals) Done → NotesRun (task job) limit left faults faults_now shelf shelf_now a b
-front_done a b left limit job totals faults faults_now shelf shelf_now notes noted =
-    front_input a b left limit job totals faults faults_now shelf shelf_now notes noted
 
 own_note : (a b : Option (List ℕ)) (job : Command) (answer : Answer) (outcome : Outcome) → NotesOutcome (task job) answer → outcome ≢ Done → outcome ≡ answer.outcome
     → AppendsFront a b (note_of outcome) → AppendsFront a b answer.note

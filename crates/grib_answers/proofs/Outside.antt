@@ -1,18 +1,12 @@
 -- What several writes and reads after one another do to the octets of a sink and of a source.
-use Rattle.std.proofs.Common.{◌≡◌, ℕ, ◌+◌, ◌-◌, ◌≤◌, List, [], ◌++◌, ◌∷◌, length, take, drop, refl, ap, sym, ◌∙◌, append_assoc, length-take-le, take-append-drop, subst, Ok, Err, OnErr}
+use Rattle.std.proofs.Common.{◌≡◌, ℕ, ◌+◌, ◌-◌, ◌≤◌, List, [], ◌++◌, ◌∷◌, length, take, drop, refl, ap, sym, ◌∙◌, append_assoc, length-take-le, take-append-drop, subst}
 use Rattle.std.specs.declared.option.Option.{Option}
-use Rattle.std.specs.declared.result.Result.{Result}
 use Rattle.std.specs.Io.KnownBytes.{Appends, Consumes, Keeps}
 use Rattle.std.proofs.KnownBytes.{Appends-trans, Appends-nil, Appends-kept, Consumes-trans}
 use Rattle.std.proofs.lemmas.List.{take-append-le, take_rest}
 use borrow.Rule.Slice.PartMut.{put_mid, post_of}
 use Rattle.std.proofs.Math.Seq.{take-append-add, take-add}
 use Rattle.grib_io.specs.Outside.{AppendsFront}
-
--- what holds in any case holds of a refusal
-pub on_err : {T E P : Type 0} (result : Result T E) → P → OnErr result P
-on_err (Ok x) p = tt
-on_err (Err y) p = p
 
 -- nothing was appended yet
 pub front_none : (a : Option (List ℕ)) (octets : List ℕ) → AppendsFront a a octets
@@ -48,10 +42,6 @@ written_more a b c xs n k before now =
 -- the front that was written where the rest is refused
 pub written_front : (a b c : Option (List ℕ)) (xs : List ℕ) (n : ℕ) → Appends a b (take n xs) → Keeps b c → AppendsFront a c xs
 written_front a b c xs n before kept = (take n xs, drop n xs, sym (take-append-drop n xs), Appends-kept a b c (take n xs) before kept)
-
--- a front, where nothing was appended after it
-pub front_stays : (a b c : Option (List ℕ)) (octets : List ℕ) → AppendsFront a b octets → Keeps b c → AppendsFront a c octets
-front_stays a b c octets (front, rest, is, appended) kept = (front, rest, is, Appends-kept a b c front appended kept)
 
 -- a front of nothing is a front of anything
 pub front_of_nothing : (a b : Option (List ℕ)) (octets : List ℕ) → AppendsFront a b [] → AppendsFront a b octets

@@ -1,6 +1,7 @@
 -- What a command does with the messages of an input, one after another.
 use Rattle.std.specs.Prelude.{◌≡◌, ℕ, ◌*◌, ◌≤◌, Bool, true, false, Option, Some, None, List, [], ◌++◌, zero, suc, ◌+◌, length, ◌==◌}
 use Rattle.grib_base.specs.Rows.{choose}
+use Rattle.grib_base.specs.declared.limits.TheConstants.{MOST_OCTETS}
 use Rattle.grib2_sections.specs.Head.{edition}
 use Rattle.grib2_message.specs.Fields.{field_count}
 use Rattle.grib2_message.specs.Message.{IsMessage}
@@ -46,9 +47,9 @@ task command = record {
 -- written, and a run ends at a message with an outcome of a message.
 pub record IsLawfulCommand (command : Command) : Type 0 where
   pub few_first : (place : Place) (message : List ℕ) (acts : List Act) (written : ℕ) → IsMessage1 message
-      → command.first place message ≡ Gives acts written → 20 * written ≤ 268435456 * length message
+      → command.first place message ≡ Gives acts written → 20 * written ≤ MOST_OCTETS * length message
   pub few_second : (place : Place) (message : List ℕ) (acts : List Act) (written : ℕ) → IsMessage message
-      → command.second place message ≡ Gives acts written → 20 * written ≤ 268435456 * length message
+      → command.second place message ≡ Gives acts written → 20 * written ≤ MOST_OCTETS * length message
   pub ends_first : (place : Place) (message : List ℕ) (outcome : Outcome) → command.first place message ≡ Ends outcome → is_of_message outcome ≡ true
   pub ends_second : (place : Place) (message : List ℕ) (outcome : Outcome) → command.second place message ≡ Ends outcome → is_of_message outcome ≡ true
 

@@ -8,7 +8,7 @@ use Rattle.grib_causes.specs.declared.cause.Cause.TheVariants.{EditionOne, Secon
 use Rattle.grib_causes.specs.Losses as losses
 use Rattle.grib_causes.specs.Demotions as demotions
 use Rattle.grib_causes.specs.declared.table.TableRefusal.{TableRefusal}
-use Rattle.grib_causes.specs.declared.table.TableRefusal.TheVariants.{Absent, TooLarge, Row, Duplicate}
+use Rattle.grib_causes.specs.Tables.{table_text}
 
 -- what is kept, by a cause of this name at a point of a field
 abbrev pub text_at_point : List ℕ → List ℕ → ℕ → ℕ → List ℕ
@@ -67,10 +67,7 @@ passed_note refused kept = codes "refused " ++ decimal refused ++ codes " kept "
 
 -- the parameter table is refused, and by what
 abbrev pub table_note : TableRefusal → List ℕ
-table_note Absent = codes "table absent\n"
-table_note TooLarge = codes "table too large\n"
-table_note (Row number) = codes "table row " ++ decimal number ++ 10 ∷ []
-table_note (Duplicate number) = codes "table duplicate " ++ decimal number ++ 10 ∷ []
+table_note refusal = table_text refusal ++ 10 ∷ []
 
 -- the messages and fields of an input that was read to its end, and the octets of their results
 abbrev pub written_note : Totals → List ℕ

@@ -187,12 +187,7 @@ fn text_without_key(alloc: Global, head: &str, key: &str, field: u32) -> Result<
 pub fn table_note(alloc: Global, refusal: &TableRefusal) -> Result<Vec<u8>, AllocError>
     ensures { IfOk result (λ note. note.items ≡ notes.table_note refusal.now) }
 {
-    let note = match *refusal {
-        TableRefusal::Absent => format!(in alloc; "table absent\n")?,
-        TableRefusal::TooLarge => format!(in alloc; "table too large\n")?,
-        TableRefusal::Row(number) => format!(in alloc; "table row {number}\n")?,
-        TableRefusal::Duplicate(number) => format!(in alloc; "table duplicate {number}\n")?,
-    };
+    let note = format!(in alloc; "{refusal}\n")?;
     Ok(note.into_bytes())
 }
 

@@ -7,6 +7,7 @@ ghost use Rattle.std.specs.Prelude.{◌≤◌};
 use crate::random::Random;
 use crate::sections::mask_of;
 use anyhow::{Context, Result, bail, ensure};
+use grib_base::MOST_POINTS;
 use grib_bitmap::Mask;
 use std::alloc::{AllocError, Global};
 use std::env::Args;
@@ -33,7 +34,7 @@ pub fn measure(alloc: Global, arguments: &mut Args) -> Result<u64> {
 
 /// A Section 6 with a bit for each point, and how many of the bits are set.
 fn filled_section(alloc: Global, points: u32) -> Result<(Vec<u8>, u32), AllocError>
-    requires { points ≤ 33554432 }
+    requires { points ≤ MOST_POINTS }
 {
     let length = points.div_ceil(8) + 6;
     let mut octets = Vec::with_capacity(alloc, length as usize)?;

@@ -14,7 +14,7 @@ ghost use Rattle.grib_groups.specs.Encoding.{AreMeasures, LaysOut};
 
 use crate::random::Random;
 use anyhow::{Context, Result, ensure};
-use grib_base::Code;
+use grib_base::{Code, MOST_POINTS};
 use grib_bits::BitWriter;
 use grib_codes::{Codes, word_of};
 use grib_groups::{Layout, Measure, encode_groups, encode_measured_groups, measures_of};
@@ -129,7 +129,7 @@ fn words_of(alloc: Global, numbers: &[u64]) -> Result<Vec<u32>, AllocError>
 /// The groups of these codes.
 fn groups_of(alloc: Global, codes: &Codes<'_>) -> Result<Groups, AllocError>
     requires some { 1 ≤ length codes.now }
-    requires most { length codes.now ≤ 33554432 }
+    requires most { length codes.now ≤ MOST_POINTS }
     requires codes { All (IsTold 0) codes.now }
     ensures lays_out { IfOk result (λ groups. LaysOut groups.layout codes.now groups.lengths.items) }
     ensures known { IfOk result (λ groups.
@@ -188,7 +188,7 @@ fn groups_written(
     requires lays_out { LaysOut groups.now.layout codes.now groups.now.lengths.items }
     requires known { AreMeasures groups.now.layout.management groups.now.layout.reference_bits
         groups.now.measures.items (runs groups.now.lengths.items codes.now) }
-    requires most { length codes.now ≤ 33554432 }
+    requires most { length codes.now ≤ MOST_POINTS }
 {
     let layout = &groups.layout;
     let mut out = BitWriter::new(alloc);
@@ -206,7 +206,7 @@ fn groups_written(
 
 /// The bits that groups of this many codes take at most.
 fn room_for(count: u64, layout: &Layout) -> u64
-    requires count { count ≤ 33554432 }
+    requires count { count ≤ MOST_POINTS }
     requires widths { layout.now.width_bits ≤ 6 }
     ensures { result ≡ 44 * layout.now.groups + 2 ^ layout.now.width_bits * count + 28 }
 {

@@ -7,7 +7,7 @@ ghost use Rattle.grib_packing.specs.Packing.{packing_template, value_count};
 
 use anyhow::{Result, anyhow, bail, ensure};
 use byteorder::{BigEndian, ByteOrder};
-use grib_base::{ReadFault, Section};
+use grib_base::{MOST_POINTS, ReadFault, Section};
 use grib_bitmap::{Mask, ones, read_mask};
 use grib_complex::{ComplexPacking, SpatialPacking, read_complex};
 use grib_packing::{Column, Packing, read_simple};
@@ -80,7 +80,7 @@ fn column_by<P: Packing>(
     section7: &Section<'_>,
 ) -> std::result::Result<Column, ReadFault>
     requires some { 1 ≤ length mask.now }
-    requires few { length mask.now ≤ 33554432 }
+    requires few { length mask.now ≤ MOST_POINTS }
     requires accepted { packing_fault section5.now.octets.now (length mask.now) ≡ None }
     requires template { packing_template section5.now.octets.now ≡ P.template packing.now }
     requires values { present_count mask.now ≡ value_count section5.now.octets.now }

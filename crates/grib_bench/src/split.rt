@@ -8,7 +8,7 @@ ghost use Rattle.grib_packing.specs.Span.{IsBelow};
 
 use crate::random::Random;
 use anyhow::{Context, Result, ensure};
-use grib_base::Code;
+use grib_base::{Code, MOST_POINTS};
 use grib_codes::{Codes, word_of};
 use grib_split::{Costs, least_choices};
 use std::alloc::{AllocError, Global};
@@ -108,7 +108,7 @@ fn words_of(alloc: Global, kind: Kind, count: u32) -> Result<Vec<u32>, AllocErro
 fn choice_sum(words: &[u32], reserved: u32, choices: &mut [u8]) -> u64
     requires few { reserved ≤ 1 }
     requires some { 1 ≤ length words.now }
-    requires most { length words.now ≤ 33554432 }
+    requires most { length words.now ≤ MOST_POINTS }
     requires same { length choices.old ≡ length words.now }
 {
     let costs = Costs {

@@ -9,6 +9,7 @@ use Rattle.std.proofs.lemmas.Bool.{cases_eq, and_right}
 use Rattle.grib_changed.specs.Fronts.{IsFront}
 use Rattle.grib_io.specs.Outside.{AppendsFront}
 use Rattle.grib_base.specs.Rows.{choose}
+use Rattle.grib_base.specs.declared.limits.TheConstants.{MOST_OCTETS}
 use Rattle.grib_keys.specs.declared.condition.Condition.{Condition}
 use Rattle.grib_select.specs.Values.{fulfils_all}
 use Rattle.grib_select.specs.Single.{single_of}
@@ -65,9 +66,6 @@ front_one_more conditions message n field is before here j low high =
 pub is_single : (conditions : List Condition) (message : List ℕ) (i : ℕ) → fulfils_all message i conditions ≡ true → single_if conditions message i ≡ single_of message i
 is_single conditions message i here = ap (λ b. choose b (λ _. single_of message i) (λ _. [])) here
 
-pub is_nothing : (conditions : List Condition) (message : List ℕ) (i : ℕ) → fulfils_all message i conditions ≡ false → single_if conditions message i ≡ []
-is_nothing conditions message i none = ap (λ b. choose b (λ _. single_of message i) (λ _. [])) none
-
 -- whether the message is written whole
 pub is_whole : (conditions : List Condition) (message : List ℕ) → all_fulfil conditions message ≡ true → filtered conditions message ≡ message
 is_whole conditions message all = ap (λ b. choose b (λ _. message) (λ _. texts_from (single_if conditions message) (field_count message) 1)) all
@@ -113,7 +111,7 @@ texts_whole a b text k n count is appended =
     record { whole = all; front = (texts_from text n 1, [], sym (append-nil (texts_from text n 1)), all) }
 
 -- as a message of its own a field has no more octets than a message may have
-pub few_written : {E : Type 0} (result : Result ℕ E) (shown octets : List ℕ) → shown ≡ octets → length octets ≤ 268435456
-    → IfOk result (λ count. count ≡ length shown) → IfOk result (λ count. count ≤ 268435456)
+pub few_written : {E : Type 0} (result : Result ℕ E) (shown octets : List ℕ) → shown ≡ octets → length octets ≤ MOST_OCTETS
+    → IfOk result (λ count. count ≡ length shown) → IfOk result (λ count. count ≤ MOST_OCTETS)
 few_written (Ok count) shown octets is few counts = let same = ap length is in omega (arith, counts)
 few_written (Err e) shown octets is few counts = tt

@@ -2,6 +2,7 @@
 use Rattle.std.proofs.Common.{◌≡◌, ◌≢◌, ℕ, zero, suc, ◌+◌, ◌*◌, ◌<◌, ◌≤◌, Bool, true, false, cond, nat_lt, Option, Some, None, option_map, List, length, refl, sym, ap, ◌∙◌, arith, ⊎_elim, ltb-false}
 use Rattle.std.specs.Option.{option_or}
 use Rattle.std.proofs.lemmas.Bool.{cases_Bool, cases_eq}
+use Rattle.grib_base.specs.declared.limits.TheConstants.{MOST_OCTETS}
 use Rattle.grib_causes.specs.declared.cause.Cause.{Cause}
 use Rattle.grib_causes.specs.declared.cause.Cause.TheVariants.{Demoted}
 use Rattle.grib_causes.specs.declared.demotion.Demotion.{Demotion}
@@ -85,7 +86,7 @@ module _ (keep any : Bool) (table : Entries) where
       fits_length (length (demoted table keep message i))
       (later_none (first_of (field_losses table keep any message i)) (λ _. length_loss (length (demoted table keep message i))) none)
 
-  few_fields : (message : List ℕ) → IsMessage message → demoted_cause table keep any message ≡ None → 20 * length (demoted_fields table keep message) ≤ 268435456 * length message
+  few_fields : (message : List ℕ) → IsMessage message → demoted_cause table keep any message ≡ None → 20 * length (demoted_fields table keep message) ≤ MOST_OCTETS * length message
   few_fields message h none =
       let few = texts_most (demoted table keep message) (field_count message) 1
       (λ i low high.
@@ -94,11 +95,11 @@ module _ (keep any : Bool) (table : Entries) where
       omega (arith, twenty_each message h)
 
   few_written : (cause : Option Cause) (m : ℕ) (octets message : List ℕ) (acts : List Act) (written : ℕ)
-      → (cause ≡ None → 20 * length octets ≤ 268435456 * length message) → given_unless cause m octets ≡ Gives acts written → 20 * written ≤ 268435456 * length message
-  few_written None m octets message acts written few is = let same : length octets ≡ written = cc in let fits : 20 * length octets ≤ 268435456 * length message = few refl in omega arith
+      → (cause ≡ None → 20 * length octets ≤ MOST_OCTETS * length message) → given_unless cause m octets ≡ Gives acts written → 20 * written ≤ MOST_OCTETS * length message
+  few_written None m octets message acts written few is = let same : length octets ≡ written = cc in let fits : 20 * length octets ≤ MOST_OCTETS * length message = few refl in omega arith
   few_written (Some cause) m octets message acts written few is = let no : ⊥ = cc in absurd no
 
-  copied_few : (message : List ℕ) (acts : List Act) (written : ℕ) → given_whole message ≡ Gives acts written → 20 * written ≤ 268435456 * length message
+  copied_few : (message : List ℕ) (acts : List Act) (written : ℕ) → given_whole message ≡ Gives acts written → 20 * written ≤ MOST_OCTETS * length message
   copied_few message acts written is = let same : length message ≡ written = cc in omega arith
 
   copied_ends : (message : List ℕ) (outcome : Outcome) → given_whole message ≡ Ends outcome → is_of_message outcome ≡ true

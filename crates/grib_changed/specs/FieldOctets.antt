@@ -3,6 +3,7 @@
 use Rattle.std.proofs.Common.{◌≡◌, ◌≢◌, ℕ, zero, suc, ◌+◌, ◌-◌, ◌*◌, ◌<◌, ◌≤◌, Bool, cond, nat_lt, List, [], ◌∷◌, ◌++◌, length, ap, arith, ⊎_elim, lt-ltb, le-ltb, length-append}
 use Rattle.std.specs.List.{concat, count_by}
 use Rattle.std.proofs.lemmas.Bool.{cases_eq}
+use Rattle.grib_base.specs.declared.limits.TheConstants.{MOST_OCTETS}
 use Rattle.grib2_sections.specs.Frame.{Placed, placed_at, section_number}
 use Rattle.grib2_message.specs.View.{is_numbered, last_number}
 use Rattle.grib2_message.specs.Grammar.{AreSections}
@@ -69,11 +70,11 @@ twenty_each message h =
 
 -- ---- the octets of fields as messages of their own
 
-pub single_most : (message : List ℕ) (i : ℕ) → IsMessage message → 1 ≤ i → i ≤ field_count message → length (single_of message i) ≤ 268435456
+pub single_most : (message : List ℕ) (i : ℕ) → IsMessage message → 1 ≤ i → i ≤ field_count message → length (single_of message i) ≤ MOST_OCTETS
 single_most message i h low high = message_most (single_of message i) (single_accepted message i h low high)
 
 -- texts of at most as many octets as a message has, together
-pub texts_most : (text : ℕ → List ℕ) (n i : ℕ) → ((j : ℕ) → i ≤ j → j < i + n → length (text j) ≤ 268435456) → length (texts_from text n i) ≤ 268435456 * n
+pub texts_most : (text : ℕ → List ℕ) (n i : ℕ) → ((j : ℕ) → i ≤ j → j < i + n → length (text j) ≤ MOST_OCTETS) → length (texts_from text n i) ≤ MOST_OCTETS * n
 texts_most text zero i few = omega arith
 texts_most text (suc n) i few =
     let later = texts_most text n (i + 1) (λ j low high. few j (omega arith) (omega arith)) in

@@ -3,6 +3,7 @@ use Rattle.std.proofs.Common.{◌≡◌, ℕ, ◌*◌, ◌≤◌, Bool, true, Li
 use Rattle.std.specs.List.{list_all, range_with_len}
 use Rattle.std.proofs.lemmas.Bool.{cases_Bool}
 use Rattle.grib_base.specs.Rows.{choose}
+use Rattle.grib_base.specs.declared.limits.TheConstants.{MOST_OCTETS}
 use Rattle.grib2_message.specs.Fields.{field_count}
 use Rattle.grib2_message.specs.Message.{IsMessage}
 use Rattle.grib_keys.specs.declared.condition.Condition.{Condition}
@@ -36,7 +37,7 @@ filter_command conditions = changing (λ place message. given_whole (filtered co
 -- ---- it is lawful
 
 few_if : (conditions : List Condition) (message : List ℕ) (i : ℕ) → IsMessage message → 1 ≤ i → i ≤ field_count message
-    → length (single_if conditions message i) ≤ 268435456
+    → length (single_if conditions message i) ≤ MOST_OCTETS
 few_if conditions message i h low high =
     ⊎_elim
     (λ yes. (let is : length (single_if conditions message i) ≡ length (single_of message i) =
@@ -44,7 +45,7 @@ few_if conditions message i h low high =
     (λ not. (let is : length (single_if conditions message i) ≡ 0 = ap (λ b. length (choose b (λ _. single_of message i) (λ _. []))) not in omega arith))
     (cases_Bool (fulfils_all message i conditions))
 
-few_filtered : (conditions : List Condition) (message : List ℕ) → IsMessage message → 20 * length (filtered conditions message) ≤ 268435456 * length message
+few_filtered : (conditions : List Condition) (message : List ℕ) → IsMessage message → 20 * length (filtered conditions message) ≤ MOST_OCTETS * length message
 few_filtered conditions message h =
     let some : List ℕ = texts_from (single_if conditions message) (field_count message) 1 in
     ⊎_elim
@@ -55,7 +56,7 @@ few_filtered conditions message h =
     (cases_Bool (all_fulfil conditions message))
 
 few_written : (conditions : List Condition) (message : List ℕ) (acts : List Act) (written : ℕ) → IsMessage message
-    → given_whole (filtered conditions message) ≡ Gives acts written → 20 * written ≤ 268435456 * length message
+    → given_whole (filtered conditions message) ≡ Gives acts written → 20 * written ≤ MOST_OCTETS * length message
 few_written conditions message acts written h is =
     let few = few_filtered conditions message h in
     let same : length (filtered conditions message) ≡ written = cc in

@@ -3,6 +3,7 @@ use Rattle.std.proofs.Common.{◌≡◌, ℕ, ◌+◌, ◌-◌, ◌*◌, ◌<◌
 use Rattle.std.proofs.lemmas.Bool.{cases_Bool}
 use Rattle.std.proofs.lemmas.List.Elements.{All-nil, All-cons}
 use Rattle.grib_base.specs.Rows.{choose}
+use Rattle.grib_base.specs.declared.limits.TheConstants.{MOST_OCTETS}
 use Rattle.grib_bits.specs.Octets.{octet_list, octets}
 use Rattle.grib_causes.specs.declared.cause.Cause.TheVariants.{Lost}
 use Rattle.grib1_sections.specs.Acceptance.{identification}
@@ -66,13 +67,13 @@ first_least m h =
 module _ (keep : Bool) (table : Entries) where
   chosen_few : (m : ℕ) (message : List ℕ) (acts : List Act) (written : ℕ) → IsMessage1 message
       → choose (are_octets message) (λ _. given_unless (option_map Lost (first_loss table keep message)) m (migrated table keep message)) (λ _. Gives [] 0) ≡ Gives acts written
-      → 20 * written ≤ 268435456 * length message
+      → 20 * written ≤ MOST_OCTETS * length message
   chosen_few m message acts written h is =
       ⊎_elim
       (λ (yes : are_octets message ≡ true).
       let own = ap (λ b. choose b (λ _. given_unless (option_map Lost (first_loss table keep message)) m (migrated table keep message)) (λ _. Gives [] 0)) (sym yes) in
       let gives : given_unless (option_map Lost (first_loss table keep message)) m (migrated table keep message) ≡ Gives acts written = cc in
-      let few : (option_map Lost (first_loss table keep message) ≡ None → length (migrated table keep message) ≤ 268435456) =
+      let few : (option_map Lost (first_loss table keep message) ≡ None → length (migrated table keep message) ≤ MOST_OCTETS) =
       λ none. message_most (migrated table keep message)
       (migrated_is_message table keep message (record { accepted = h; small = all_octets message yes; kept = unmapped Lost (first_loss table keep message) none })) in
       let most = unless_few (option_map Lost (first_loss table keep message)) m (migrated table keep message) acts written few gives in
@@ -99,7 +100,7 @@ module _ (keep : Bool) (table : Entries) where
       let false_ends : ⊥ = cc in absurd false_ends)
       (cases_Bool (are_octets message))
 
-  copied_few : (message : List ℕ) (acts : List Act) (written : ℕ) → given_whole message ≡ Gives acts written → 20 * written ≤ 268435456 * length message
+  copied_few : (message : List ℕ) (acts : List Act) (written : ℕ) → given_whole message ≡ Gives acts written → 20 * written ≤ MOST_OCTETS * length message
   copied_few message acts written is = let same : length message ≡ written = cc in omega arith
 
   copied_ends : (message : List ℕ) (outcome : Outcome) → given_whole message ≡ Ends outcome → is_of_message outcome ≡ true

@@ -2,6 +2,7 @@
 use Rattle.std.proofs.Common.{◌≡◌, ℕ, ◌≤◌, true, false, cond, Option, Some, None, option_map, List, length, nat_lt, ap, ⊎_elim, ltb-false}
 use Rattle.std.specs.List.{range_with_len}
 use Rattle.std.proofs.lemmas.Bool.{cases_Bool}
+use Rattle.grib_base.specs.declared.limits.TheConstants.{MOST_OCTETS}
 use Rattle.grib2_message.specs.Fields.{field_count}
 use Rattle.grib_packing.specs.Misfits.{Target}
 use Rattle.grib_repack.specs.declared.target.RepackTarget.{RepackTarget}
@@ -26,20 +27,20 @@ repack_command target =
 
 -- ---- it is lawful
 
-fits_length : (l : ℕ) → length_misfit l ≡ None → l ≤ 268435456
+fits_length : (l : ℕ) → length_misfit l ≡ None → l ≤ MOST_OCTETS
 fits_length l none =
     ⊎_elim
-    (λ (long : nat_lt 268435456 l ≡ true).
+    (λ (long : nat_lt MOST_OCTETS l ≡ true).
     let some : length_misfit l ≡ Some (misfits.OutputTooLong l) = ap (λ b. cond b (Some (misfits.OutputTooLong l)) None) long in
     let no : ⊥ = cc in absurd no)
-    (λ (short : nat_lt 268435456 l ≡ false). ltb-false 268435456 l short)
-    (cases_Bool (nat_lt 268435456 l))
+    (λ (short : nat_lt MOST_OCTETS l ≡ false). ltb-false MOST_OCTETS l short)
+    (cases_Bool (nat_lt MOST_OCTETS l))
 
 later_none : (first : Option RepackMisfit) (later : Unit {0} → Option RepackMisfit) → or_later first later ≡ None → later tt ≡ None
 later_none None later none = none
 later_none (Some misfit) later none = let no : ⊥ = cc in absurd no
 
-pub few_repacked : (target : Target) (message : List ℕ) → repack_misfit target message ≡ None → length (repacked target message) ≤ 268435456
+pub few_repacked : (target : Target) (message : List ℕ) → repack_misfit target message ≡ None → length (repacked target message) ≤ MOST_OCTETS
 few_repacked target message none =
     fits_length (length (repacked target message))
     (later_none (misfit_among target message (range_with_len 1 (field_count message))) (λ _. length_misfit (length (repacked target message))) none)

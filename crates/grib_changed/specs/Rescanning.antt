@@ -4,6 +4,7 @@ use Rattle.std.specs.List.{range_with_len}
 use native.Mathlib.Bridge.{le_prop}
 use mathlib.Core.HLevel.{×_prop, Unit-prop}
 use Rattle.std.proofs.lemmas.Bool.{cases_Bool}
+use Rattle.grib_base.specs.declared.limits.TheConstants.{MOST_OCTETS}
 use Rattle.grib2_message.specs.Fields.{field_count}
 use Rattle.grib_packing.specs.Misfits as packing
 use Rattle.grib_rescan.specs.declared.cause.GridCause.TheVariants as grid
@@ -52,20 +53,20 @@ Stands-prop (Crop area) = ×_prop le_prop le_prop
 
 -- ---- it is lawful
 
-fits_length : (l : ℕ) → length_misfit l ≡ None → l ≤ 268435456
+fits_length : (l : ℕ) → length_misfit l ≡ None → l ≤ MOST_OCTETS
 fits_length l none =
     ⊎_elim
-    (λ (long : nat_lt 268435456 l ≡ true).
+    (λ (long : nat_lt MOST_OCTETS l ≡ true).
     let some : length_misfit l ≡ Some (TooLong l) = ap (λ b. cond b (Some (TooLong l)) None) long in
     let no : ⊥ = cc in absurd no)
-    (λ (short : nat_lt 268435456 l ≡ false). ltb-false 268435456 l short)
-    (cases_Bool (nat_lt 268435456 l))
+    (λ (short : nat_lt MOST_OCTETS l ≡ false). ltb-false MOST_OCTETS l short)
+    (cases_Bool (nat_lt MOST_OCTETS l))
 
 later_none : (first : Option EditMisfit) (later : Unit {0} → Option EditMisfit) → or_later first later ≡ None → later tt ≡ None
 later_none None later none = none
 later_none (Some misfit) later none = let no : ⊥ = cc in absurd no
 
-few_of : (edit : GridEdit) (message : List ℕ) → edit_misfit edit message ≡ None → length (edited edit message) ≤ 268435456
+few_of : (edit : GridEdit) (message : List ℕ) → edit_misfit edit message ≡ None → length (edited edit message) ≤ MOST_OCTETS
 few_of edit message none =
     fits_length (length (edited edit message))
     (later_none (misfit_among edit message (range_with_len 1 (field_count message))) (λ _. length_misfit (length (edited edit message))) none)

@@ -11,6 +11,7 @@ ghost use Rattle.grib_changed.specs.Filtering.{single_if, filtered};
 
 use crate::changing::Changer;
 use grib_answers::{Answered, write_counted, written};
+use grib_base::MOST_OCTETS;
 use grib_io::{Sink, Stop};
 use grib_select::{Condition, matches, single};
 use grib2_message::Message;
@@ -108,7 +109,7 @@ fn write_if_matching<T: Sink>(
     ensures writes { WritesTo T.contents T.faults T.settled result output.old output.new
         (single_if conditions.now message.now field) }
     ensures count { IfOk result (λ written. written ≡ length (single_if conditions.now message.now field)) }
-    ensures few { IfOk result (λ written. written ≤ 268435456) }
+    ensures few { IfOk result (λ written. written ≤ MOST_OCTETS) }
 {
     if !is_matching(conditions, message, front, field) {
         return Ok(0);

@@ -12,6 +12,7 @@ ghost use Rattle.grib_changed.specs.Parts.{part, part_of, parts_of, puts, puts_a
 ghost use Rattle.grib_changed.specs.Shelving.{Shelves};
 
 use grib_answers::{Answered, Answerer, Ending, Name};
+use grib_base::MOST_OCTETS;
 use grib_io::{Shelf, Sink, Stop};
 use grib_select::single;
 use grib_stream::{Cause, Place};
@@ -123,7 +124,7 @@ fn put_field<H: Shelf>(
     ensures shelved { Shelves result (H.contents shelf.old) (H.contents shelf.new)
         (puts (part_of name.now before message.now field)) }
     ensures written { IfOk result (λ written. written ≡ length (single_of message.now field)) }
-    ensures few { IfOk result (λ written. written ≤ 268435456) }
+    ensures few { IfOk result (λ written. written ≤ MOST_OCTETS) }
     ensures counted { CountsStops result (H.faults shelf.old) (H.faults shelf.new) }
 {
     let octets = single(alloc, message, field)?;

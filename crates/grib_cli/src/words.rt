@@ -11,6 +11,7 @@ ghost use Rattle.grib_cli.specs.declared.words.JobFault.TheVariants.{Memory};
 use grib_engine::Job;
 use grib_keys::Key;
 use std::alloc::{AllocError, Global};
+use thiserror::Error;
 
 mod asking;
 mod command;
@@ -24,12 +25,14 @@ pub use past::passing_of;
 use values::{is_between, key_value};
 
 /// Why the words ask for no job.
-#[derive(Clone, Copy, Debug, PartialEq, Eq)]
+#[derive(Clone, Copy, Debug, PartialEq, Eq, Error)]
 pub enum JobFault {
     /// They have no reading: the place of the first word that is not read, from 0 for the command on, or
     /// the number of words where one that is needed is missing.
+    #[error("usage word {0}")]
     Usage(u64),
     /// There is no memory.
+    #[error("out of memory")]
     Memory,
 }
 

@@ -5,6 +5,5 @@ pub mod Holding
 pub mod Products
 pub mod Grids
 pub mod Joining
-pub mod Refused
 pub mod Packing
 pub mod Wholes

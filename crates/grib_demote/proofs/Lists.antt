@@ -5,38 +5,18 @@ use Rattle.std.proofs.lemmas.List.{take_more}
 use Rattle.std.proofs.Math.Seq.{drop-cons, drop-length}
 use Rattle.std.proofs.lemmas.List.{map-append}
 use Rattle.std.proofs.lemmas.Bool.{eqb-false}
-use Rattle.std.specs.Option.{option_or}
 use Rattle.grib_bits.specs.Encoding.{octets_of, all_octets}
 use Rattle.grib_bits.specs.Listed.{numbers_octets}
 use Rattle.grib_bits.proofs.Listed.{numbers_octets-more}
-use Rattle.grib_migrate.specs.declared.level.Surface.{Surface}
-use Rattle.grib_demote.specs.declared.level.Level.{Level}
 use Rattle.grib_causes.specs.declared.demotion.Demotion.TheVariants.{Coordinate}
 use Rattle.grib_bits.specs.declared.adding.Number.TheVariants.{Four}
 use Rattle.grib_demote.specs.Words.{ibm_of}
-use Rattle.grib_demote.specs.Levels.{level_with, level_among}
 use Rattle.grib_demote.specs.Losses.{is_lost, coordinate_loss_from}
 use Rattle.grib_demote.specs.Products.{coordinate_numbers}
 use Rattle.grib_bits.proofs.AllOctets.{all_octets-append}
 
 next : (k : ℕ) → suc k ≡ k + 1
 next k = omega arith
-
--- ---- levels
-
-pub level_here : (first second : Surface) (types : List ℕ) (k : ℕ) (level : Level) → k < length types → level_with first second (get_or types k 0) ≡ Some level
-    → level_among first second (drop k types) ≡ Some level
-level_here first second types k level within is =
-    ap (level_among first second) (drop-cons types k 0 within) ∙ ap (λ o. option_or o (level_among first second (drop (suc k) types))) is
-
-pub level_later : (first second : Surface) (types : List ℕ) (k : ℕ) → k < length types → level_with first second (get_or types k 0) ≡ None
-    → level_among first second (drop k types) ≡ level_among first second (drop (k + 1) types)
-level_later first second types k within is =
-    ap (level_among first second) (drop-cons types k 0 within) ∙ ap (λ o. option_or o (level_among first second (drop (suc k) types))) is
-    ∙ ap (λ j. level_among first second (drop j types)) (next k)
-
-pub level_none : (first second : Surface) (types : List ℕ) (k : ℕ) → k ≡ length types → level_among first second (drop k types) ≡ None
-level_none first second types k end = ap (λ n. level_among first second (drop n types)) end ∙ ap (level_among first second) (drop-length types)
 
 -- ---- vertical coordinates
 

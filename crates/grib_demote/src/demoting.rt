@@ -27,16 +27,13 @@ use crate::product::{Told, product_octets};
 use crate::tested::grid_loss;
 use crate::values::{add_bitmap, data_octets, has_bitmap};
 use crate::word::ibm_of;
-use grib_base::List;
 use grib_bits::Number::{Four, Two};
 use grib_bits::{add_numbers, add_section1, add_uint, u16_at, u32_at};
 use grib_causes::Demotion;
 use grib_packed::laws::one_packing_is_written;
 use grib_packing::{PackFault, Packed};
 use grib_params::Table;
-use grib2_grids::{GridFault, read_grid};
 use grib2_message::Message;
-use grib2_products::{ProductFault, read_product};
 use std::alloc::{AllocError, Global};
 
 /// The most octets of a message of edition 1.
@@ -100,44 +97,18 @@ fn grid_octets(
         (IsDemoteFault (first_of (losses.shape_losses keep_local any_earth message.now field))) }
 {
     let parts = Field::of(message, field);
-    let rows = rows_of(alloc, message, field)?;
+    let rows = message.grid(alloc, field)?.rows;
     if let Some(loss) = form_loss(&parts, rows.as_slice(), keep_local, any_earth) {
         return Err(DemoteFault::Lost(loss));
     }
     if let Some(loss) = grid_loss(parts.grid) {
         return Err(DemoteFault::Lost(loss));
     }
-    let coordinates = coordinates_of(alloc, message, field)?;
+    let coordinates = message.product(alloc, field)?.coordinates;
     if let Some(loss) = coordinate_loss(coordinates.as_slice()) {
         return Err(DemoteFault::Lost(loss));
     }
     Ok(grid_section(alloc, parts.grid, coordinates.as_slice(), rows.as_slice())?)
-}
-
-/// The list of rows of the grid of a field.
-fn rows_of(alloc: Global, message: &Message<'_>, field: u32) -> Result<List<u32>, AllocError>
-    requires first { 1 ≤ field }
-    requires last { field ≤ field_count message.now }
-    ensures { IfOk result (λ rows. rows ≡ row_list (part_octets message.now field 3)) }
-{
-    match read_grid(alloc, &there(message, field, 3)) {
-        Ok(grid) => Ok(grid.rows),
-        Err(GridFault::Memory) => Err(AllocError),
-        Err(GridFault::Refused(_)) => unreachable!(),
-    }
-}
-
-/// The vertical coordinates of a field.
-fn coordinates_of(alloc: Global, message: &Message<'_>, field: u32) -> Result<List<u32>, AllocError>
-    requires first { 1 ≤ field }
-    requires last { field ≤ field_count message.now }
-    ensures { IfOk result (λ coordinates. coordinates ≡ coordinate_list (part_octets message.now field 4)) }
-{
-    match read_product(alloc, &there(message, field, 4)) {
-        Ok(product) => Ok(product.coordinates),
-        Err(ProductFault::Memory) => Err(AllocError),
-        Err(ProductFault::Refused(_)) => unreachable!(),
-    }
 }
 
 /// Octet 4 and further of Section 2, with these vertical coordinates and this list of rows.

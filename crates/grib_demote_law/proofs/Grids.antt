@@ -5,6 +5,7 @@ use Rattle.grib_bits.specs.Listed.{numbers_octets, numbers_at}
 use Rattle.grib_bits.proofs.Encoding.{num_on-octets_of}
 use Rattle.grib_bits.proofs.Listed.{numbers_at-behind}
 use Rattle.grib_base.proofs.Passing.{none_from_passes}
+use Rattle.grib_base.specs.declared.limits.TheConstants.{MOST_POINTS}
 use Rattle.grib2_sections.specs.Template.{is_template, least_length}
 use Rattle.grib1_sections.specs.Grid.{grid_types, grid_rows, grid_type, grid_points, nv, ni, nj, list_place, lists_rows, has_list, row_count, row_list, lists_end, is_regular}
 use Rattle.grib1_sections.specs.Grammar.{IsSection}
@@ -156,9 +157,9 @@ module _ (count start t columns rows : ℕ) (listed : Bool) (numbers coordinates
     by true e = nothing_row (ap (λ (b : Bool). cond b 255 start) e)
     by false e = ends_row (ap (λ (b : Bool). cond b 255 start) e)
 
-  module _ (points : ℕ) (some : 1 ≤ points) (few : points ≤ 33554432) (total : grid_points s ≡ points) where
-    points_row : (grid_points s == 0 || nat_lt 33554432 (grid_points s)) ≡ false
-    points_row = ap₂ ◌||◌ (ne_eqb (grid_points s) 0 (λ none. omega (arith, total, none, some))) (le-ltb 33554432 (grid_points s) (omega (arith, total, few)))
+  module _ (points : ℕ) (some : 1 ≤ points) (few : points ≤ MOST_POINTS) (total : grid_points s ≡ points) where
+    points_row : (grid_points s == 0 || nat_lt MOST_POINTS (grid_points s)) ≡ false
+    points_row = ap₂ ◌||◌ (ne_eqb (grid_points s) 0 (λ none. omega (arith, total, none, some))) (le-ltb MOST_POINTS (grid_points s) (omega (arith, total, few)))
 
     pub is_section_2 : length s ≤ 16777215 → IsSection 6 grid_rows s
     is_section_2 short = record {

@@ -56,9 +56,6 @@ module _ (n : ℕ) (g s3 : List ℕ) (back : IsBack g s3) (small : AreOctets s3)
   pub nj_back : grid1.nj g ≡ nj s3 → nj s3 < 65536 → octets w 35 38 ≡ octets s3 35 38
   nj_back is few = num_on-octets_of 4 (grid1.nj g) (omega (arith, is, few)) ∙ is
 
-  scanning_small : scanning s3 < 256 → migrate.scanning g < 256
-  scanning_small few = let is = back.scanning_is in omega (arith, is, few)
-
   -- La1 and Lo1 as they are written, at octet `first` of Section 3
   module _ (la : la_place (grid_template s3) ≡ 47) (lo : lo_place (grid_template s3) ≡ 51) (long : 54 ≤ length s3) where
     angles_la1 : signed (bits_of 32 (migrate.angle (three g 11))) ≡ signed (bits_of 32 (octets s3 47 50))

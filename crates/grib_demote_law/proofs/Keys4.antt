@@ -2,8 +2,8 @@
 use Rattle.std.proofs.Common.{◌≡◌, ℕ, ◌<◌, ◌^◌, ◌||◌, ◌==◌, Bool, true, false, not, cond, Option, Some, None, List, refl, sym, ap, ◌∙◌, arith, eqb-true}
 use Rattle.std.specs.Prelude.{is_none, option_map, unwrap_or}
 use Rattle.std.specs.Option.{option_map_or}
-use Rattle.grib_bits.specs.Octets.{octets, octet_list}
-use Rattle.grib_bits.specs.Encoding.{octets_of, section_of}
+use Rattle.grib_bits.specs.Octets.{octets}
+use Rattle.grib_bits.specs.Encoding.{section_of}
 use Rattle.grib_bits.proofs.Encoding.{num_on-octets_of}
 use Rattle.grib_params.specs.declared.row.Target.{Target}
 use Rattle.grib2_products.specs.Product.{product_template}
@@ -84,9 +84,6 @@ module _ (told : Told) (bitmapped : Bool) (s1 s4 s5 local words : List ℕ) (tar
       let is : (unwrap_or (times.unit_of a) no_unit).code ≡ octets s4 18 18 =
       code_of (times.unit_of a) ∙ ap (λ (n : ℕ). option_map_or (λ u. u.code) (times.unit_at n) 0) key ∙ known.code ∙ unit_code s4 some in
       num_on-octets_of 1 (unwrap_or (times.unit_of a) no_unit).code (omega (arith, is, few)) ∙ is
-
-  pub forecast_written : octet_list w 19 22 ≡ octets_of 4 (times.forecast_time a)
-  forecast_written = refl
 
   pub forecast_is : has_process s4 ≡ true → times.forecast_time a ≡ octets s4 19 22
   forecast_is has = forecast_back told bitmapped s1 s4 s5 local kept has

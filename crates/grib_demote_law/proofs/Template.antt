@@ -6,6 +6,7 @@ use Rattle.grib_bits.specs.Listed.{numbers_octets}
 use Rattle.grib_bits.proofs.Listed.{length-numbers_octets, length-numbers_at}
 use Rattle.grib_base.specs.Rows.{first_fault}
 use Rattle.grib_base.proofs.Passing.{passes_from_none, second_fails}
+use Rattle.grib_base.specs.declared.limits.TheConstants.{MOST_POINTS}
 use Rattle.grib2_sections.specs.Template.{is_template, least_length}
 use Rattle.grib2_grids.specs.Grid as grid2
 use Rattle.grib2_grids.specs.Grid.{grid_template, list_octets, list_meaning, list_start, row_list, may_have_list}
@@ -19,7 +20,6 @@ use Rattle.grib_demote.specs.declared.tested.Tested.{Tested}
 use Rattle.grib_bits.specs.Encoding.{number_octets, all_octets}
 use Rattle.grib_demote.specs.Grids.{type_of, four, scanning, are_given, increment, is_listed, has_long_row, loses_rows, template_numbers, mercator, polar, polar_end, lambert, lat_lon, last_number, loss_among, grid_loss, tested_ni, tested_nj}
 use Rattle.grib_demote.specs.Products.{coordinate_numbers}
-use Rattle.grib_demote.proofs.Holding.{grid_list}
 use Rattle.grib_demote_law.proofs.Grids.{MayStand, section_2, place_with, is_section_2, plain_points, listed_points}
 
 -- ---- the octets of a template
@@ -160,7 +160,7 @@ module _ (s words : List ℕ) (passes : first_fault (grid2.grid_rows s) ≡ None
 
   pub as_many : is_listed s ≡ true → length (row_list s) ≡ grid2.nj s
   as_many on =
-      ap length (sym (row_list-whole s (list_start s) (list_octets s) (grid2.nj s) (grid_list s passes) refl refl refl (some_octets on)))
+      ap length (sym (row_list-whole s (list_start s) (list_octets s) (grid2.nj s) (has_numbers s passes).list refl refl refl (some_octets on)))
       ∙ length-numbers_at s (list_start s) (list_octets s) (grid2.nj s)
 
   pub long_rows : is_listed s ≡ true → has_long_row (row_list s) ≡ false
@@ -224,7 +224,7 @@ module _ (s words : List ℕ) (passes : first_fault (grid2.grid_rows s) ≡ None
   pub points_are : grid_points (section_by (is_listed s)) ≡ grid2.grid_points s
   points_are = points_by (is_listed s) refl
 
-  pub grid_is_section : 1 ≤ grid2.grid_points s → grid2.grid_points s ≤ 33554432 → length (section_by (is_listed s)) ≤ 16777215 → IsSection 6 grid_rows (section_by (is_listed s))
+  pub grid_is_section : 1 ≤ grid2.grid_points s → grid2.grid_points s ≤ MOST_POINTS → length (section_by (is_listed s)) ≤ 16777215 → IsSection 6 grid_rows (section_by (is_listed s))
   grid_is_section low high short =
       is_section_2 (length words) start t (columns (is_listed s)) (grid2.nj s) (is_listed s) numbers coordinates (numbers_octets 2 (row_list s)) (may_stand (is_listed s) refl)
       (grid2.grid_points s) low high points_are short

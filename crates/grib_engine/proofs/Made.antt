@@ -4,6 +4,7 @@ use Rattle.std.specs.List.{range_with_len}
 use Rattle.std.specs.Io.KnownBytes.{Appends, Keeps}
 use Rattle.std.proofs.lemmas.Bool.{cases_Bool}
 use Rattle.grib_bits.specs.Octets.{octets}
+use Rattle.grib_base.specs.declared.limits.TheConstants.{MOST_OCTETS}
 use Rattle.grib_io.specs.Outside.{AppendsFront}
 use Rattle.grib_io.specs.Shelves.{Held as Names}
 use Rattle.grib_packing.specs.declared.column.Column.{Column}
@@ -61,11 +62,11 @@ broken_either outcome result broken (inr (inr memory)) = ap is_broken memory
 
 -- ---- nothing of a message that is made is lost
 
-short_fits : (l : ℕ) → l ≤ 268435456 → length_misfit l ≡ None
+short_fits : (l : ℕ) → l ≤ MOST_OCTETS → length_misfit l ≡ None
 short_fits l few =
-    ⊎_elim (λ (long : nat_lt 268435456 l ≡ true). absurd (omega (arith, ltb-true 268435456 l long)))
-    (λ (short : nat_lt 268435456 l ≡ false). ap (λ b. cond b (Some (OutputTooLong l)) None) short)
-    (cases_Bool (nat_lt 268435456 l))
+    ⊎_elim (λ (long : nat_lt MOST_OCTETS l ≡ true). absurd (omega (arith, ltb-true MOST_OCTETS l long)))
+    (λ (short : nat_lt MOST_OCTETS l ≡ false). ap (λ b. cond b (Some (OutputTooLong l)) None) short)
+    (cases_Bool (nat_lt MOST_OCTETS l))
 
 field_fits : (target : Target) (message : List ℕ) (column : Column) → column_of message 1 ≡ column → first_misfit target column.points ≡ None
     → field_misfit target message 1 ≡ None
@@ -87,10 +88,10 @@ stays_same target message column one is kind same = ap (assembled message) (one_
 
 -- a message of one field whose column fits, and which does not become too long
 pub nothing_lost : (target : Target) (message : List ℕ) (column : Column) → field_count message ≡ 1 → column_of message 1 ≡ column → kind_of message 1 ≡ 0
-    → first_misfit target column.points ≡ None → length (assembled message (packed target column 0 ∷ [])) ≤ 268435456 → repack_misfit target message ≡ None
+    → first_misfit target column.points ≡ None → length (assembled message (packed target column 0 ∷ [])) ≤ MOST_OCTETS → repack_misfit target message ≡ None
 nothing_lost target message column one is kind none few =
     let parts = one_part target message column one is kind in
-    let short : length (repacked target message) ≤ 268435456 = subst (λ ps. length (assembled message ps) ≤ 268435456) (sym parts) few in
+    let short : length (repacked target message) ≤ MOST_OCTETS = subst (λ ps. length (assembled message ps) ≤ MOST_OCTETS) (sym parts) few in
     let fields : misfit_among target message (range_with_len 1 (field_count message)) ≡ None =
     ap (λ n. misfit_among target message (range_with_len 1 n)) one ∙ ap (λ o. or_later o (λ _. None)) (field_fits target message column is none) in
     ap (λ o. or_later o (λ _. length_misfit (length (repacked target message)))) fields ∙ short_fits (length (repacked target message)) short

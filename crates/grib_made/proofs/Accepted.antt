@@ -48,12 +48,6 @@ module _ (ni nj : ℕ) (s5 s6 s7 : List ℕ) where
   abbrev pub before_5 : List Placed
   before_5 = placed_at 110 made_product ∷ placed_at 38 (made_grid ni nj) ∷ placed_at 17 made_identification ∷ []
 
-  abbrev pub placed_5 : Placed
-  placed_5 = placed_at 144 s5
-
-  abbrev pub placed_6 : Placed
-  placed_6 = placed_at (144 + length s5) s6
-
   abbrev pub placed_7 : Placed
   placed_7 = placed_at (144 + length s5 + length s6) s7
 

@@ -3,6 +3,7 @@ use Rattle.std.proofs.Common.{◌≡◌, ℕ, ◌*◌, ◌≤◌, ◌||◌, ◌=
 use Rattle.std.specs.Prelude.{None}
 use Rattle.std.proofs.lemmas.Nat.{mul-le}
 use Rattle.grib_base.specs.Rows.{first_fault}
+use Rattle.grib_base.specs.declared.limits.TheConstants.{MOST_POINTS}
 use Rattle.grib_bits.proofs.Encoding.{num_on-octets_of}
 use Rattle.grib2_grids.specs.Grid.{grid_rows, grid_points}
 use Rattle.grib2_grids.specs.Grid as grid
@@ -27,12 +28,12 @@ module _ (seed ni nj : ℕ) (may : MayBeMade seed ni nj) where
   rows_stand = num_on-octets_of 4 nj (omega (arith, may.few_rows))
 
 module _ (seed ni nj : ℕ) (may : MayBeMade seed ni nj) where
-  counted : (grid_points (made_grid ni nj) == 0 || nat_lt 33554432 (grid_points (made_grid ni nj))) ≡ false
+  counted : (grid_points (made_grid ni nj) == 0 || nat_lt MOST_POINTS (grid_points (made_grid ni nj))) ≡ false
   counted =
       let s = made_grid ni nj in
       let bounds = points_bounds seed ni nj may in
       let stand = points_stand seed ni nj may in
-      ap₂ ◌||◌ (ne_eqb (grid_points s) 0 (λ none. omega (arith, bounds.0, stand, none))) (le-ltb 33554432 (grid_points s) (omega (arith, bounds.1, stand)))
+      ap₂ ◌||◌ (ne_eqb (grid_points s) 0 (λ none. omega (arith, bounds.0, stand, none))) (le-ltb MOST_POINTS (grid_points s) (omega (arith, bounds.1, stand)))
 
   agreed : not (grid.ni (made_grid ni nj) * grid.nj (made_grid ni nj) == grid_points (made_grid ni nj)) ≡ false
   agreed =

@@ -1,6 +1,5 @@
 -- Lemmas on the points that are made one after another.
-use Rattle.std.proofs.Common.{◌≡◌, ℕ, ◌+◌, ◌-◌, ◌*◌, ◌/◌, ◌%◌, ◌^◌, ◌<◌, ◌≤◌, sym, ap, ◌∙◌, arith, add-one}
-use Rattle.std.proofs.Math.Nat.{le-mul_of_pos_right}
+use Rattle.std.proofs.Common.{◌≡◌, ℕ, ◌+◌, ◌-◌, ◌*◌, ◌/◌, ◌%◌, ◌^◌, ◌≤◌, sym, ap, ◌∙◌, arith, add-one}
 use Rattle.std.proofs.lemmas.Nat.{div-mul-add, mod-mul-add, mul-le}
 use Rattle.grib_made.specs.declared.points.Maker.{Maker}
 use Rattle.grib_made.specs.Maker.{HasMade}
@@ -24,9 +23,3 @@ point-next maker seed n r made is =
 -- a field has few points
 pub few_points : (ni nj : ℕ) → ni ≤ 4096 → nj ≤ 4096 → ni * nj ≤ 16777216
 few_points ni nj few_columns few_rows = mul-le ni nj 4096 4096 few_columns few_rows
-
--- so the next place is small
-pub place_small : (maker : Maker) (seed n : ℕ) → HasMade maker seed n → maker.ni ≤ 4096 → n ≤ 16777216 → maker.i + maker.j < 2 ^ 31
-place_small maker seed n made few_columns few =
-    let some : 0 < maker.ni = omega (arith, made.within) in
-    omega (arith, le-mul_of_pos_right maker.j some, made.place_stands, made.within)

@@ -1,11 +1,11 @@
 -- Lemmas on what is summed up of points.
-use Rattle.std.proofs.Common.{◌≡◌, ℕ, ◌+◌, ◌≤◌, ◌||◌, Bool, true, false, List, [], ◌∷◌, ◌++◌, length, map, sum, ℤ, pos, negsuc, nat_abs, nat_lt, ap, ◌∙◌, arith, ltb-false, subst, ◌⊎◌, inl, inr}
+use Rattle.std.proofs.Common.{◌≡◌, ℕ, ◌+◌, ◌||◌, Bool, true, false, List, [], ◌∷◌, ◌++◌, length, map, sum, ℤ, nat_abs, ap, ◌∙◌, arith, ◌⊎◌, inl, inr}
 use Rattle.std.proofs.lemmas.List.{length-append, map-append}
 use Rattle.std.proofs.lemmas.List.Sums.{sum_by-append}
 use Rattle.std.proofs.lemmas.List.Elements.{filter_map-append}
 use Rattle.grib_packing.specs.declared.column.Point.{Point}
 use Rattle.grib_packing.specs.declared.column.Point.TheVariants.{Scaled, Missing, Missing2}
-use Rattle.grib_packing.specs.Misfits.{is_outside, is_scaled_outside, scaled_of, scaled_numbers}
+use Rattle.grib_packing.specs.Misfits.{scaled_of, scaled_numbers}
 use Rattle.grib_packing.specs.Packed.{simple_numbers}
 use Rattle.grib_made.specs.declared.summary.Summary.{Summary}
 use Rattle.grib_made.specs.Summary.{SumsUp, present_count, present_sum}
@@ -32,14 +32,6 @@ sums-more before now points point so_far present summed = record {
 second_false : (a b : Bool) → (a || b) ≡ false → b ≡ false
 second_false true b e = absurd (cc)
 second_false false b e = e
-
-inside_most : (m : ℕ) (x : ℤ) → is_outside m x ≡ false → nat_abs x ≤ m
-inside_most m (pos n) inside = ltb-false m n (second_false (nat_lt n 0) (nat_lt m n) inside)
-inside_most m (negsuc n) inside = absurd (cc)
-
--- the number of a point that is inside is not greater
-pub number_most : (m : ℕ) (point : Point) (x : ℤ) → point ≡ Scaled x → is_scaled_outside m point ≡ false → nat_abs x ≤ m
-number_most m point x is inside = inside_most m x (subst (λ (p : Point). is_scaled_outside m p ≡ false) is inside)
 
 -- a point with a number, and one without
 pub one_number : (point : Point) (x : ℤ) → point ≡ Scaled x → (present_count (point ∷ []) ≡ 1) × (present_sum (point ∷ []) ≡ nat_abs x)

@@ -11,6 +11,7 @@ ghost use Rattle.grib2_message.specs.Fields.{field_count, column_of, part_octets
 ghost use Rattle.grib_made.specs.Points.{made_points, made_column};
 ghost use Rattle.grib_made.specs.Made.{made, MayBeMade};
 
+use grib_base::MOST_OCTETS;
 use grib_packed::laws::few_octets_are_written;
 use grib_simple::laws::what_is_packed_simply_reads_back;
 
@@ -44,7 +45,7 @@ pub fn what_is_made_is_packed_simply()
 /// No packing makes it too long: a message is put together again with what any packing of its column writes.
 pub fn what_is_made_stays_short()
     ensures { (target : Target) (seed ni nj : ℕ) → IsTarget target → MayBeMade seed ni nj
-        → length (assembled (made seed ni nj) (packed target (made_column seed ni nj) 0 ∷ [])) ≤ 268435456 }
+        → length (assembled (made seed ni nj) (packed target (made_column seed ni nj) 0 ∷ [])) ≤ MOST_OCTETS }
 {
     few_octets_are_written();
     what_is_packed_simply_reads_back();

@@ -12,6 +12,7 @@ use Rattle.grib_bits.proofs.OctetBits.{AreOctets}
 use Rattle.grib_bits.proofs.OctetNumbers.{octets-lt}
 use Rattle.grib_base.specs.Rows.{first_fault}
 use Rattle.grib_base.proofs.Passing.{passes_from_none, none_from_passes, second_fails}
+use Rattle.grib_base.specs.declared.limits.TheConstants.{MOST_POINTS}
 use Rattle.grib2_sections.specs.Template.{is_template, least_length}
 use Rattle.grib2_grids.specs.Grid.{grid_templates, grid_rows, grid_points, grid_template, may_have_list, list_start, row_list}
 use Rattle.grib2_grids.specs.Grid as grid2
@@ -49,7 +50,7 @@ record IsTemplate (t : ℕ) (numbers : List ℕ) : Type 0 where
   known : is_template grid_templates t ≡ true
   long : 38 + length numbers ≡ least_length grid_templates t
 
-module _ (listed : Bool) (points t shape columns rows : ℕ) (numbers list : List ℕ) (some : 1 ≤ points) (few : points ≤ 33554432) (is : IsTemplate t numbers)
+module _ (listed : Bool) (points t shape columns rows : ℕ) (numbers list : List ℕ) (some : 1 ≤ points) (few : points ≤ MOST_POINTS) (is : IsTemplate t numbers)
     (columns_fit : columns < 2 ^ 32) (rows_fit : rows < 2 ^ 32) where
   points_stand : grid_points (section_with listed points t shape columns rows numbers list) ≡ points
   points_stand = num_on-octets_of 4 points (omega arith)
@@ -79,14 +80,14 @@ module _ (listed : Bool) (points t shape columns rows : ℕ) (numbers list : Lis
       ap (λ (n : ℕ). nat_lt l (least_length grid_templates n)) template_stands
       ∙ le-ltb l (least_length grid_templates t) (omega (arith, is.long, length-with))
 
-  counted : (grid_points (section_with listed points t shape columns rows numbers list) == 0 || nat_lt 33554432 (grid_points (section_with listed points t shape columns rows numbers list))) ≡ false
+  counted : (grid_points (section_with listed points t shape columns rows numbers list) == 0 || nat_lt MOST_POINTS (grid_points (section_with listed points t shape columns rows numbers list))) ≡ false
   counted =
       let n = grid_points (section_with listed points t shape columns rows numbers list) in
-      ap₂ ◌||◌ (ne_eqb n 0 (λ none. omega (arith, points_stand, none))) (le-ltb 33554432 n (omega (arith, points_stand)))
+      ap₂ ◌||◌ (ne_eqb n 0 (λ none. omega (arith, points_stand, none))) (le-ltb MOST_POINTS n (omega (arith, points_stand)))
 
 -- ---- without a list
 
-module _ (points t shape columns rows : ℕ) (numbers list : List ℕ) (some : 1 ≤ points) (few : points ≤ 33554432) (is : IsTemplate t numbers)
+module _ (points t shape columns rows : ℕ) (numbers list : List ℕ) (some : 1 ≤ points) (few : points ≤ MOST_POINTS) (is : IsTemplate t numbers)
     (columns_fit : columns < 2 ^ 32) (rows_fit : rows < 2 ^ 32) (product : columns * rows ≡ points) where
   agreed :
       not (grid2.ni (section_with false points t shape columns rows numbers list) * grid2.nj (section_with false points t shape columns rows numbers list)
@@ -129,7 +130,7 @@ record MayList (t : ℕ) : Type 0 where
   start : start_for t ≡ 73
   long : least_length grid_templates t ≡ 72
 
-module _ (points t shape columns rows : ℕ) (numbers s : List ℕ) (at count : ℕ) (some : 1 ≤ points) (few : points ≤ 33554432) (is : IsTemplate t numbers)
+module _ (points t shape columns rows : ℕ) (numbers s : List ℕ) (at count : ℕ) (some : 1 ≤ points) (few : points ≤ MOST_POINTS) (is : IsTemplate t numbers)
     (columns_fit : columns < 2 ^ 32) (rows_few : rows < 65536) (lists : MayList t) (counts : count ≡ rows) (within : at + 2 * count ≤ length s)
     (total : sum (numbers_at s (at + 1) 2 count) ≡ points) where
   rows_fit : rows < 2 ^ 32
@@ -263,7 +264,7 @@ list_for t (inr (inr (inr (inr e)))) free = let both : true ≡ false = sym (ap 
 -- ---- the section of a grid
 
 module _ (s : List ℕ) (points : ℕ) (known : AreOctets s) (passes : first_fault (grid1.grid_rows s) ≡ None) (holds : HoldsGrid s) (is : points ≡ grid1.grid_points s)
-    (some : 1 ≤ points) (few : points ≤ 33554432) where
+    (some : 1 ≤ points) (few : points ≤ MOST_POINTS) where
   ni_fits : ni s < 65536
   ni_fits = let long = holds.least in octets-lt s 7 8 2 known (omega arith) (omega arith) (omega arith)
 

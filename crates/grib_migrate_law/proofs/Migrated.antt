@@ -14,6 +14,7 @@ use Rattle.grib_bits.proofs.OctetNumbers.{AreOctets-octet_list, octets-lt}
 use Rattle.grib_bits.proofs.Listed.{AreOctets-from_All}
 use Rattle.grib_base.specs.Rows.{first_fault}
 use Rattle.grib_base.proofs.Passing.{passes_from_none}
+use Rattle.grib_base.specs.declared.limits.TheConstants.{MOST_POINTS}
 use Rattle.grib_dyadic.specs.Meaning.{SameMeaning}
 use Rattle.grib_bitmap.specs.Mask.{present_count, bitmap_rows}
 use Rattle.grib_bitmap.specs.Mask as mask2
@@ -94,7 +95,7 @@ pub record Known (m : List ℕ) (r : ℕ) : Type 0 where
   pub octets_2 : AreOctets (grid m)
   pub octets_4 : AreOctets (data_section m)
   pub some : 1 ≤ points_of m
-  pub few : points_of m ≤ 33554432
+  pub few : points_of m ≤ MOST_POINTS
   pub values_few : values_of m ≤ points_of m
   pub word : IsWordFor (reference (data_section m)) r
   pub may : MayBeWritten (values_of m) r (octets (data_section m) 5 6) (key_in (identification m) DecimalScale) (bit_width (data_section m))

@@ -8,6 +8,7 @@ use Rattle.grib_bits.specs.Encoding.{section_of, all_octets}
 use Rattle.grib_bits.proofs.Encoding.{num_on-octets_of, StatesItself-section_of}
 use Rattle.grib_base.specs.Rows.{first_fault}
 use Rattle.grib_base.proofs.Passing.{none_from_passes}
+use Rattle.grib_base.specs.declared.limits.TheConstants.{MOST_POINTS}
 use Rattle.grib_dyadic.specs.Reference.{IsFinite}
 use Rattle.grib_bitmap.specs.Mask.{bitmap_rows, mask_of, present_count}
 use Rattle.grib_packing.specs.declared.column.Point.TheVariants.{Scaled}
@@ -81,7 +82,7 @@ module _ (values reference e d width kind : ℕ) (may : MayBeWritten values refe
 
 -- ---- Section 6
 
-module _ (points : ℕ) (few : points ≤ 33554432) where
+module _ (points : ℕ) (few : points ≤ MOST_POINTS) where
   pub bitmap_short : (s3 : Option (List ℕ)) → HoldsBits s3 points → length (section_of 6 (bitmap_octets s3 points)) ≤ 4194310
   bitmap_short None holds = omega arith
   bitmap_short (Some s) holds = omega (arith, front-length (drop 6 s) points (omega (arith, holds, length-drop 6 s)))

@@ -9,6 +9,7 @@ use Rattle.grib_base.specs.declared.fault.Fault.{Fault}
 use Rattle.grib_base.specs.declared.fault.Reason.{Reason}
 use Rattle.grib_base.specs.declared.fault.Reason.TheVariants.{Truncated}
 use Rattle.grib_base.specs.Rows.{choose, first_fault}
+use Rattle.grib_base.specs.declared.limits.TheConstants.{MOST_OCTETS}
 use Rattle.grib2_sections.specs.Verdict.{Verdict, Accepted, Refused}
 use Rattle.grib2_sections.specs.Head.{edition, head_rows}
 use Rattle.grib2_sections.specs.Frame.{ends_at, section_at, placed_at}
@@ -239,7 +240,7 @@ given_other : (command : Command) (place : Place) (message : List ℕ) → (edit
 given_other command place message not_one = ap (λ b. choose b (λ _. command.first place message) (λ _. command.second place message)) not_one
 
 few_given : (command : Command) → IsLawfulCommand command → (place : Place) (octets : List ℕ) (total : ℕ) (acts : List Act) (written : ℕ) → begins octets ≡ true
-    → judge octets ≡ Message total → given command place (take total octets) ≡ Gives acts written → 20 * written ≤ 268435456 * total
+    → judge octets ≡ Message total → given command place (take total octets) ≡ Gives acts written → 20 * written ≤ MOST_OCTETS * total
 few_given command law place octets total acts written begun is gives =
     let message = take total octets in
     let least = least_message octets total is in

@@ -4,7 +4,7 @@ ghost use Rattle.std.specs.Prelude.{◌≡◌, length};
 ghost use Rattle.grib_answers.specs.Judging.{fields_of};
 ghost use Rattle.grib_performed.specs.Reading.{held_octets};
 
-use crate::reading::{Held, first_edition, second_edition};
+use crate::reading::Held;
 use grib_stream::Whole;
 
 /// The octets and the fields of a message, of whose result this many octets are counted.
@@ -15,7 +15,7 @@ pub(crate) fn counted(held: &Held<'_>, written: u64) -> Whole
 {
     match held {
         Held::One(message) => {
-            first_edition(message);
+            message.octets();
             Whole {
                 octets: message.length(),
                 fields: 1,
@@ -23,7 +23,7 @@ pub(crate) fn counted(held: &Held<'_>, written: u64) -> Whole
             }
         }
         Held::Two(message) => {
-            second_edition(message);
+            message.octets();
             Whole {
                 octets: message.length(),
                 fields: u64::from(message.fields()),

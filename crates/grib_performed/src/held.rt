@@ -5,7 +5,7 @@ ghost use Rattle.grib_answers.specs.Answering.{AnswersMessage};
 ghost use Rattle.grib_answers.specs.Command.{given};
 ghost use Rattle.grib_performed.specs.Reading.{held_octets};
 
-use crate::reading::{Held, first_edition, second_edition};
+use crate::reading::Held;
 use grib_answers::{Answered, Answerer};
 use grib_io::{Shelf, Sink};
 use grib_stream::Place;
@@ -27,11 +27,11 @@ pub fn answer_held<C: Answerer, T: Sink, H: Shelf>(
 {
     match held {
         Held::One(message) => {
-            first_edition(message);
+            message.octets();
             answerer.first(alloc, place, message, output, shelf)
         }
         Held::Two(message) => {
-            second_edition(message);
+            message.octets();
             answerer.second(alloc, place, message, output, shelf)
         }
     }

@@ -67,17 +67,3 @@ fn read_second<'a>(alloc: Global, octets: &'a [u8]) -> Result<Held<'a>, ReadFaul
     let message = read_message(alloc, octets)?;
     Ok(Held::Two(message))
 }
-
-/// A message of edition 1 says so in its octets.
-pub(crate) fn first_edition(message: &Message1<'_>)
-    ensures { head.edition message.now ≡ 1 }
-{
-    message.octets();
-}
-
-/// A message of edition 2 says so in its octets.
-pub(crate) fn second_edition(message: &Message<'_>)
-    ensures { head.edition message.now ≡ 2 }
-{
-    message.octets();
-}

@@ -4,6 +4,7 @@ use Rattle.std.specs.Prelude.{ℕ, zero, suc, ◌+◌, ◌*◌, ◌≤◌, ◌�
 use Rattle.std.proofs.Common.{sym, ap}
 use Rattle.grib_bits.specs.Bits.{bits_of, signed}
 use Rattle.grib_dyadic.specs.Reference.{Binary, ieee, ibm, reduced}
+use Rattle.grib_base.specs.declared.limits.TheConstants.{MOST_OCTETS}
 use Rattle.grib_packing.specs.declared.column.Column.{Column}
 use Rattle.grib2_message.specs.Fields.{field_count, column_of}
 use Rattle.grib1_sections.specs.Column.{column1_of}
@@ -82,7 +83,7 @@ value_command places = record {
 -- ---- it is lawful
 
 few_unless : (cause : Option Cause) (m : ℕ) (text : List ℕ) (acts : List Act) (written : ℕ) (message : List ℕ) → text_unless cause m text ≡ Gives acts written
-    → 20 * written ≤ 268435456 * length message
+    → 20 * written ≤ MOST_OCTETS * length message
 few_unless None m text acts written message is = none_counted text acts written message is
 few_unless (Some cause) m text acts written message is = let no : ⊥ = cc in absurd no
 

@@ -10,6 +10,7 @@ use crate::fields::{FieldPrinter, write_fields};
 use crate::points::{ROOM, append_text, append_values};
 use crate::references::{first_reference, ibm_reference, ieee_reference, second_reference};
 use grib_answers::{Answered, Ending, Writer, printed, write_whole};
+use grib_base::MOST_POINTS;
 use grib_decimal::DecimalScale;
 use grib_dyadic::Dyadic;
 use grib_io::{Sink, Stop};
@@ -184,7 +185,7 @@ fn fits_field(message: &Message<'_>, places: u32, field: u32) -> bool
 
 /// The cause by the points of a field.
 fn range_cause(column: &Column, reference: &Dyadic, places: u32, field: u32) -> Option<Cause>
-    requires few { length column.now.points ≤ 33554432 }
+    requires few { length column.now.points ≤ MOST_POINTS }
     requires mantissa { nat_abs reference.now.mantissa < 2 ^ 24 }
     requires places { places ≤ 18 }
     ensures { result ≡ values.range_cause places field reference.now column.now }

@@ -4,6 +4,7 @@ use Rattle.std.specs.List.{concat, count_by}
 use Rattle.std.proofs.lemmas.Bool.{cases_eq}
 use Rattle.grib_bits.specs.Octets.{StatesItself}
 use Rattle.grib_base.specs.Rows.{located, choose}
+use Rattle.grib_base.specs.declared.limits.TheConstants.{MOST_OCTETS}
 use Rattle.grib_packing.specs.Entries.{column_from}
 use Rattle.grib_bitmap.specs.Mask.{bitmap_indicator}
 use Rattle.grib_bits.specs.Encoding.{octets_of}
@@ -106,7 +107,7 @@ size_short k (s ∷ before) =
     ]
 
 -- and what stands in a message of one field
-pub part_short : (m : List ℕ) (i k : ℕ) → IsMessage m → 1 ≤ i → i ≤ field_count m → length (field_part m i k) ≤ 268435456
+pub part_short : (m : List ℕ) (i k : ℕ) → IsMessage m → 1 ≤ i → i ≤ field_count m → length (field_part m i k) ≤ MOST_OCTETS
 part_short m i k h low high =
     let xs = field_sections m i in
     let up = field_up_to m i h low high in
@@ -263,7 +264,7 @@ module _ (m : List ℕ) (i : ℕ) (h : IsMessage m) (low : 1 ≤ i) (high : i �
   grammar c =
       let n = 16 + length (first_parts m i 7) + 4 in
       let same : n ≡ 16 + length (concat c.sections) + 4 = ap (λ (xs : List ℕ). 16 + length xs + 4) c.cut.body in
-      let few : n ≤ 268435456 = omega (arith, short, message_most m h) in
+      let few : n ≤ MOST_OCTETS = omega (arith, short, message_most m h) in
       let head_octets : List ℕ = take 8 m ++ octets_of 8 n in
       let is : single_of m i ≡ head_octets ++ (concat c.sections ++ end_mark) =
       sym (append_assoc (take 8 m) (octets_of 8 n) (first_parts m i 7 ++ end_mark))

@@ -1,6 +1,7 @@
 -- What is in the grammar is a message.
 use Rattle.std.proofs.Common.{ℕ, ◌+◌, ◌≤◌, List, [], length, sym, ap, ◌∙◌, append-nil, arith}
 use Rattle.grib_base.specs.Rows.{first_fault}
+use Rattle.grib_base.specs.declared.limits.TheConstants.{MOST_OCTETS}
 use Rattle.grib2_sections.specs.Head.{head_rows}
 use Rattle.grib2_message.specs.Acceptance.{verdict_2, verdict_from}
 use Rattle.grib2_message.specs.Grammar.{Grammar2}
@@ -17,7 +18,7 @@ message_in_grammar m sections g = record {
 }
 
 -- a message has at most 2 ^ 28 octets
-pub message_most : (m : List ℕ) → IsMessage m → length m ≤ 268435456
+pub message_most : (m : List ℕ) → IsMessage m → length m ≤ MOST_OCTETS
 message_most m h =
     let told = unless_tells (first_fault (head_rows m)) (λ _. verdict_from (length m + 1) m [] 17) (length m) h.accepted in
     let p = head_passes m (second_edition m h) (passes_from_none (head_rows m) told.0) in

@@ -3,9 +3,10 @@ use Rattle.std.proofs.Common.{◌≡◌, ℕ, zero, suc, ◌+◌, ◌-◌, ◌*�
 use Rattle.std.specs.Prelude.{sum}
 use Rattle.std.specs.List.{range_with_len}
 use Rattle.std.proofs.lemmas.Bool.{cases_eq}
-use Rattle.grib_bits.specs.Octets.{octets, octet_list, num_on, StatesItself}
+use Rattle.grib_bits.specs.Octets.{octets, octet_list, num_on}
 use Rattle.grib_base.specs.declared.fault.Reason.TheVariants.{SectionLength, GridSource, GridTemplate, PointCount, ListShape, FieldCount, ProductTemplate}
 use Rattle.grib_base.specs.Rows.{Row, row}
+use Rattle.grib_base.specs.declared.limits.TheConstants.{MOST_POINTS}
 use Rattle.grib2_sections.specs.Template.{is_template, least_length}
 use Rattle.grib2_sections.specs.Identification.{identification_rows}
 use Rattle.grib2_grids.specs.Grid.{grid_rows, grid_points, grid_template, grid_templates, list_octets, list_start, row_list, ni, nj, may_have_list}
@@ -71,14 +72,6 @@ template_stays number s t h = elim (cases_eq number 3) [
     ]
   ]
 ]
-
--- it states the same length and the same number
-pub alike_itself : (number n : ℕ) (s t : List ℕ) → AreAlike number s t → is_fixed number 1 4 ≡ true → is_fixed number 5 5 ≡ true → StatesItself n s → StatesItself n t
-alike_itself number n s t h four five is = record {
-  length_stands = alike_octets number 1 4 s t h (omega arith) (omega arith) four ∙ is.length_stands ∙ sym h.long;
-  least = omega (arith, is.least, h.long);
-  number_stands = alike_octets number 5 5 s t h (omega arith) (omega arith) five ∙ is.number_stands;
-}
 
 pub alike_identification : (s t : List ℕ) → AreAlike 1 s t → identification_rows t ≡ identification_rows s
 alike_identification s t h = ap (λ (l : ℕ). row (nat_lt l 21) 1 SectionLength l ∷ []) h.long
@@ -151,7 +144,7 @@ grid_by l source t points size meaning n_i n_j list =
     ∷ row (not (source == 0)) 6 GridSource source
     ∷ row (not (is_template grid_templates t)) 13 GridTemplate t
     ∷ row (nat_lt l (least_length grid_templates t)) 1 SectionLength l
-    ∷ row (points == 0 || nat_lt 33554432 points) 7 PointCount points
+    ∷ row (points == 0 || nat_lt MOST_POINTS points) 7 PointCount points
     ∷ row (listed && not (meaning == 1) && not (meaning == 2)) 12 ListShape meaning
     ∷ row (nat_lt 4 size || (listed && not (may_have_list t))) 11 ListShape size
     ∷ row (listed && (n_j == 0 || n_j == 4294967295)) 35 ListShape n_j

@@ -7,6 +7,7 @@ ghost use Rattle.grib_sums.specs.declared.keeping.Tallying.{Tallying as tallying
 ghost use Rattle.grib_sums.specs.Kept.{IsStart, TallyKept};
 ghost use Rattle.grib_sums.specs.Laws.{tally-none, tally-more};
 
+use grib_base::MOST_POINTS;
 use grib_decimal::{Summary, Tally};
 use grib_packing::{Keeper, Point};
 
@@ -28,7 +29,7 @@ impl Tallying {
 
     /// The summary, once all points came.
     pub(crate) fn finish(self) -> Summary
-        ensures { (start : tallying) (points : List point_packing) → length points ≤ 33554432
+        ensures { (start : tallying) (points : List point_packing) → length points ≤ MOST_POINTS
             → IsStart start → TallyKept start points self → SumUp points result }
     {
         self.tally.summary()

@@ -7,6 +7,7 @@ ghost use Rattle.grib_decimal.specs.Summary.{summary_of};
 
 use crate::keeping::Tallying;
 use crate::placing::placed;
+use grib_base::MOST_POINTS;
 use grib_bitmap::Mask;
 use grib_bits::{u8_at, uint_at};
 use grib_complex::take_numbers;
@@ -35,7 +36,7 @@ pub fn message_sums1(alloc: Global, message: &Message1<'_>) -> Result<Summary, A
 /// Which grid points of a message have a value.
 fn mask_of(alloc: Global, message: &Message1<'_>) -> Result<Mask, AllocError>
     ensures mask { IfOk result (λ mask. mask ≡ definitions.mask message.now) }
-    ensures few { IfOk result (λ mask. length mask ≤ 33554432) }
+    ensures few { IfOk result (λ mask. length mask ≤ MOST_POINTS) }
 {
     match message.section(3) {
         None => Mask::all(alloc, message.points()),

@@ -8,12 +8,13 @@ ghost use Rattle.grib_decimal.specs.Bounds.{AreExtremesSoFar};
 ghost use Rattle.grib_decimal.specs.Summary.{SumUp, extremes_of, summary_of};
 ghost use Rattle.grib_sums.specs.Placed.{place_in};
 
+use grib_base::MOST_POINTS;
 use grib_bitmap::{Mask, ones};
 use grib_decimal::{Extremes, Summary};
 
 /// The summary of grid points, where that of the points that are present is known.
 pub(crate) fn placed(summary: Summary, mask: &Mask) -> Summary
-    requires few { length mask.now ≤ 33554432 }
+    requires few { length mask.now ≤ MOST_POINTS }
     requires sums { (entries : List point_packing) × (length entries ≡ present_count mask.now) × SumUp entries summary }
     ensures { (entries : List point_packing) → length entries ≡ present_count mask.now → SumUp entries summary
         → result ≡ summary_of (points_with_mask mask.now entries) }

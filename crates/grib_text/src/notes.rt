@@ -35,9 +35,6 @@ pub fn refused_line(
 fn refusal_text(alloc: Global, head: &str, fault: &Fault) -> Result<Vec<u8>, AllocError>
     ensures { IfOk result (λ text. text.items ≡ notes.refusal_text head.now fault.now) }
 {
-    let octet = fault.octet;
-    let reason = fault.reason;
-    let detail = fault.detail;
-    let text = format!(in alloc; "{head} octet {octet} {reason} {detail}\n")?;
+    let text = format!(in alloc; "{head} {fault}\n")?;
     Ok(text.into_bytes())
 }

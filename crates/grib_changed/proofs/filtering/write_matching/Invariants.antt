@@ -1,6 +1,7 @@
 use Rattle.std.proofs.Common.{◌≡◌, ◌*◌, ◌≤◌, length}
 use Rattle.grib_io.specs.Outside.{Unfinished}
 use Rattle.std.specs.Io.KnownBytes.{Appends}
+use Rattle.grib_base.specs.declared.limits.TheConstants.{MOST_OCTETS}
 use Rattle.grib_answers.specs.Command.{texts_from}
 use Rattle.grib_changed.specs.Filtering.{single_if}
 use Rattle.grib_changed.proofs.filtering.write_matching.Given as goal
@@ -12,5 +13,5 @@ invariant-loop-index g l = record {
   faults_stay : g.T.Sink.faults l.output ≡ g.T.Sink.faults l.fn.output;
   unfinished : Unfinished (g.T.Sink.settled l.fn.output) (g.T.Sink.settled l.output);
   count : l.written ≡ length (texts_from (single_if l.conditions l.message) l.index 1);
-  few : l.written ≤ 268435456 * l.index;
+  few : l.written ≤ MOST_OCTETS * l.index;
 }

@@ -8,11 +8,11 @@ returns-in-One g c =
     subst
     (λ given. AnswersMessage g.T.Sink.contents g.T.Sink.faults g.T.Sink.settled g.H.Shelf.contents g.H.Shelf.faults c.first.result c.args.place.now.message given
     (g.C.Answerer.definition c.args.answerer.now).uses_shelf c.args.output.now c.first.new.output c.args.shelf.now c.first.new.shelf)
-    (sym (given_of_first (g.C.Answerer.definition c.args.answerer.now) c.args.place.now _ _ c.in-One.is c.first_edition.ensures)) c.first.ensures
+    (sym (given_of_first (g.C.Answerer.definition c.args.answerer.now) c.args.place.now _ _ c.in-One.is c.octets.ensures.message.edition_stands)) c.first.ensures
 
 pub returns-in-Two : goal.returns-in-Two
 returns-in-Two g c =
     subst
     (λ given. AnswersMessage g.T.Sink.contents g.T.Sink.faults g.T.Sink.settled g.H.Shelf.contents g.H.Shelf.faults c.second.result c.args.place.now.message given
     (g.C.Answerer.definition c.args.answerer.now).uses_shelf c.args.output.now c.second.new.output c.args.shelf.now c.second.new.shelf)
-    (sym (given_of_second (g.C.Answerer.definition c.args.answerer.now) c.args.place.now _ _ c.in-Two.is c.second_edition.ensures)) c.second.ensures
+    (sym (given_of_second (g.C.Answerer.definition c.args.answerer.now) c.args.place.now _ _ c.in-Two.is c.octets.ensures.message.edition_stands)) c.second.ensures

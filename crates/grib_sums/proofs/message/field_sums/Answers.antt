@@ -1,5 +1,6 @@
 use Rattle.std.proofs.Common.{◌≡◌, ◌≤◌, Bool, List, length, sym, ap, ◌∙◌, arith}
 use Rattle.std.proofs.lemmas.List.Sums.{count_by-le-length}
+use Rattle.grib_base.specs.declared.limits.TheConstants.{MOST_POINTS}
 use Rattle.grib_bitmap.specs.Mask.{present_count}
 use Rattle.grib_packing.specs.Column.{points_with_mask}
 use Rattle.grib_packing.specs.Entries.{entries_of}
@@ -19,8 +20,8 @@ placed-requires-clause-sums c =
     let i = c.args.field in
     let entries = entries_of (part_octets m i 5) (part_octets m i 7) in
     let bounds = points_bounds (part_octets m i 3) c.mask.ensures.passes.grid in
-    let few : length c.in_ok-mask.mask ≤ 33554432 = omega (arith, c.in_ok-mask.ensures.long, bounds.1) in
-    let short : length entries ≤ 33554432 =
+    let few : length c.in_ok-mask.mask ≤ MOST_POINTS = omega (arith, c.in_ok-mask.ensures.long, bounds.1) in
+    let short : length entries ≤ MOST_POINTS =
     omega (arith, c.in_ok-summed.ensures.count, c.in_ok-mask.ensures.values, count_by-le-length (λ (b : Bool). b) c.in_ok-mask.mask, few) in
     let long : length entries ≡ present_count c.in_ok-mask.mask = c.in_ok-summed.ensures.count ∙ sym c.in_ok-mask.ensures.values in
     let sums = c.finish.ensures c.start.result entries short c.start.ensures c.in_ok-summed.ensures.kept in
@@ -32,8 +33,8 @@ returns c =
     let i = c.args.field in
     let entries = entries_of (part_octets m i 5) (part_octets m i 7) in
     let bounds = points_bounds (part_octets m i 3) c.mask.ensures.passes.grid in
-    let few : length c.in_ok-mask.mask ≤ 33554432 = omega (arith, c.in_ok-mask.ensures.long, bounds.1) in
-    let short : length entries ≤ 33554432 =
+    let few : length c.in_ok-mask.mask ≤ MOST_POINTS = omega (arith, c.in_ok-mask.ensures.long, bounds.1) in
+    let short : length entries ≤ MOST_POINTS =
     omega (arith, c.in_ok-summed.ensures.count, c.in_ok-mask.ensures.values, count_by-le-length (λ (b : Bool). b) c.in_ok-mask.mask, few) in
     let long : length entries ≡ present_count c.in_ok-mask.mask = c.in_ok-summed.ensures.count ∙ sym c.in_ok-mask.ensures.values in
     let sums = c.finish.ensures c.start.result entries short c.start.ensures c.in_ok-summed.ensures.kept in

@@ -4,6 +4,7 @@ use Rattle.std.proofs.lemmas.List.FromFn.{length-map-range_with_len}
 use Rattle.std.proofs.lemmas.List.Sums.{count_by-le-length}
 use Rattle.grib_bits.specs.Bits.{bits}
 use Rattle.grib_bits.specs.Plain.{plain, plain_at}
+use Rattle.grib_base.specs.declared.limits.TheConstants.{MOST_POINTS}
 use Rattle.grib_bitmap.specs.Mask.{present_count}
 use Rattle.grib_packing.specs.declared.column.Point.{Point}
 use Rattle.grib_packing.specs.declared.column.Point.TheVariants.{Scaled}
@@ -39,7 +40,7 @@ placed-requires-clause-sums c =
     length-map (plain (bits (drop 11 (data_section m))) (bit_width (data_section m)) (present_count presence)) f
     ∙ length-map-range_with_len (plain_at (bits (drop 11 (data_section m))) (bit_width (data_section m))) 0 (present_count presence) in
     let long : length entries ≡ present_count c.in_ok-mask.mask = count ∙ ap present_count (sym c.in_ok-mask.ensures.mask) in
-    let short : length entries ≤ 33554432 =
+    let short : length entries ≤ MOST_POINTS =
     omega (arith, long, count_by-le-length (λ (b : Bool). b) c.in_ok-mask.mask, c.in_ok-mask.ensures.few) in
     let sums = c.finish.ensures c.start.result entries short c.start.ensures
     (subst (λ (ps : List Point). TallyKept c.start.result ps c.take_numbers-summed.result) numbers c.take_numbers-summed.ensures) in
@@ -65,7 +66,7 @@ returns c =
     length-map (plain (bits (drop 11 (data_section m))) (bit_width (data_section m)) (present_count presence)) f
     ∙ length-map-range_with_len (plain_at (bits (drop 11 (data_section m))) (bit_width (data_section m))) 0 (present_count presence) in
     let long : length entries ≡ present_count c.in_ok-mask.mask = count ∙ ap present_count (sym c.in_ok-mask.ensures.mask) in
-    let short : length entries ≤ 33554432 =
+    let short : length entries ≤ MOST_POINTS =
     omega (arith, long, count_by-le-length (λ (b : Bool). b) c.in_ok-mask.mask, c.in_ok-mask.ensures.few) in
     let sums = c.finish.ensures c.start.result entries short c.start.ensures
     (subst (λ (ps : List Point). TallyKept c.start.result ps c.take_numbers-summed.result) numbers c.take_numbers-summed.ensures) in
