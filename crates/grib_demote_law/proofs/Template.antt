@@ -11,6 +11,7 @@ use Rattle.grib2_sections.specs.Template.{is_template, least_length}
 use Rattle.grib2_grids.specs.Grid as grid2
 use Rattle.grib2_grids.specs.Grid.{grid_template, list_octets, list_meaning, list_start, row_list, may_have_list}
 use Rattle.grib2_grids.proofs.Lists.{row_list-whole, row_list-none}
+use Rattle.grib2_grids.proofs.Numbers.{has_numbers}
 use Rattle.grib1_sections.specs.Grid.{grid_types, grid_rows, grid_points, is_regular}
 use Rattle.grib1_sections.specs.Grammar.{IsSection}
 use Rattle.grib_causes.specs.declared.demotion.Demotion.TheVariants.{GridNumber}
