@@ -229,11 +229,7 @@ fn has_points(answer: &Result<Column, ReadFault>, points: &[Point]) -> bool {
 
 /// Whether the field is refused so.
 fn is_refused(answer: &Result<Column, ReadFault>, octet: u64, reason: Reason, detail: u64) -> bool {
-    let expected = Fault {
-        octet,
-        reason,
-        detail,
-    };
+    let expected = Fault::at(octet, reason, detail);
     match answer {
         Ok(_column) => false,
         Err(fault) => *fault == ReadFault::Refused(expected),
@@ -268,19 +264,12 @@ fn worked_messages(rt: HostRuntime) -> Result<(), Fail> {
     let three = Mask::all(rt.alloc(), 3)?;
     let data = [0, 0, 0, 9, 7, 0xa0, 0x80, 0x08, 0x34];
     let answer = unpacked(&rt, rt.alloc(), &C1, &three, &data);
-    let points = [Point::Scaled(5), Point::Missing, Point::Scaled(6)];
-    assert!(rt; has_points(&answer, &points));
+    assert!(rt; has_points(&answer, &points![5 _ 6]));
 
     let four = Mask::all(rt.alloc(), 4)?;
     let data = [0, 0, 0, 9, 7, 0x00, 0x80, 0x0c, 0xa0];
     let answer = unpacked(&rt, rt.alloc(), &C2, &four, &data);
-    let points = [
-        Point::Missing,
-        Point::Missing2,
-        Point::Missing,
-        Point::Missing2,
-    ];
-    assert!(rt; has_points(&answer, &points));
+    assert!(rt; has_points(&answer, &points![_ ~ _ ~]));
 
     let answer = unpacked(&rt, rt.alloc(), &M3, &four, &M3_DATA);
     let points = [5, -5, 1, 2].map(Point::Scaled);
@@ -363,24 +352,27 @@ fn refusals_of_section_5(rt: HostRuntime) {
 #[test]
 fn refusals_of_section_7(rt: HostRuntime) -> Result<(), Fail> {
     let four = Mask::all(rt.alloc(), 4)?;
-    let short = [0, 0, 0, 11, 7, 0x85, 0x8a, 0x02, 0xc0, 0x0c, 0x04];
-    let answer = unpacked(&rt, rt.alloc(), &M3, &four, &short);
-    assert!(rt; is_refused(&answer, 200, Reason::DataTooShort, 11));
+    let short = b"\0\0\0\x0b\x07\x85\x8a\x02\xc0\x0c\x04";
     let mut negative = M3_DATA;
     negative[5] = 0x85;
-    let answer = unpacked(&rt, rt.alloc(), &M3, &four, &negative);
-    assert!(rt; is_refused(&answer, 205, Reason::FirstValueSign, 1));
     let mut order = M3;
     order[47] = 2;
-    let longer = [
-        0, 0, 0, 14, 7, 0x05, 0x85, 0x8a, 0x02, 0xc0, 0x0c, 0x04, 0x10, 0xa0,
-    ];
-    let answer = unpacked(&rt, rt.alloc(), &order, &four, &longer);
-    assert!(rt; is_refused(&answer, 206, Reason::FirstValueSign, 2));
+    let longer = b"\0\0\0\x0e\x07\x05\x85\x8a\x02\xc0\x0c\x04\x10\xa0";
     let mut last = M3;
     last[45] = 3;
-    let answer = unpacked(&rt, rt.alloc(), &last, &four, &M3_DATA);
-    assert!(rt; is_refused(&answer, 200, Reason::GroupShape, 2));
+    let cases: [(&[u8], &[u8], u64, Reason, u64); 4] = [
+        (&M3, short, 200, Reason::DataTooShort, 11),
+        (&M3, &negative, 205, Reason::FirstValueSign, 1),
+        (&order, longer, 206, Reason::FirstValueSign, 2),
+        (&last, &M3_DATA, 200, Reason::GroupShape, 2),
+    ];
+    for (section5, section7, octet, reason, detail) in cases {
+        let answer = unpacked(&rt, rt.alloc(), section5, &four, section7);
+        assert!(rt;
+            is_refused(&answer, octet, reason, detail),
+            "{reason} {detail}"
+        );
+    }
     Ok(())
 }
 
@@ -405,11 +397,7 @@ fn m3_octet_by_octet(rt: HostRuntime) -> Result<(), Fail> {
 
     let mut negative = M3_DATA;
     negative[5] = 0x85;
-    let refusal = Fault {
-        octet: 204,
-        reason: Reason::FirstValueSign,
-        detail: 1,
-    };
+    let refusal = Fault::at(204, Reason::FirstValueSign, 1);
     let feeder_negative = feeder(&rt, rt.alloc(), &section5, &four, 199, 13);
     let answer = fed(&rt, feeder_negative, &negative, 1);
     assert!(rt; answer.err() == Some(refusal));
@@ -434,11 +422,7 @@ fn numbers_out_of_range(rt: HostRuntime) -> Result<(), Fail> {
     let answer = unpacked(&rt, rt.alloc(), &STEEP, &mask, &data);
     assert!(rt; is_refused(&answer, 200, Reason::ScaledRange, 18921));
     let accepted = accepted(&rt, rt.alloc(), &STEEP, 33_000, &data);
-    let refusal = Fault {
-        octet: 200,
-        reason: Reason::ScaledRange,
-        detail: 18921,
-    };
+    let refusal = Fault::at(200, Reason::ScaledRange, 18921);
     assert!(rt; accepted == Err(ReadFault::Refused(refusal)));
     Ok(())
 }
@@ -463,13 +447,9 @@ fn accepted(
 fn what_is_accepted(rt: HostRuntime) {
     let accepted_m3 = accepted(&rt, rt.alloc(), &M3, 4, &M3_DATA);
     assert!(rt; accepted_m3 == Ok(()));
-    assert!(rt; accepted(&rt, rt.alloc(), &WALK_5, 276, &WALK_7) == Ok(()));
+    assert!(rt; accepted(&rt, rt.alloc(), WALK_5, 276, WALK_7) == Ok(()));
     let short = [0, 0, 0, 12, 7, 0x05, 0x8a, 0x02, 0xc0, 0x0c, 0x04, 0x10];
-    let refusal = Fault {
-        octet: 200,
-        reason: Reason::DataTooShort,
-        detail: 12,
-    };
+    let refusal = Fault::at(200, Reason::DataTooShort, 12);
     let answer = accepted(&rt, rt.alloc(), &M3, 4, &short);
     assert!(rt; answer == Err(ReadFault::Refused(refusal)));
 }
@@ -503,16 +483,7 @@ fn simple_packing_in_pieces(rt: HostRuntime) -> Result<(), Fail> {
     }
     let feeder = feeder(&rt, rt.alloc(), &section5, &mask, 200, 34);
     let answer = fed(&rt, feeder, &data[..34], 7);
-    assert!(rt;
-        matches!(
-            answer,
-            Err(Fault {
-                octet: 200,
-                reason: Reason::DataTooShort,
-                detail: 34
-            })
-        )
-    );
+    assert!(rt; answer.err() == Some(Fault::at(200, Reason::DataTooShort, 34)));
     Ok(())
 }
 
@@ -523,37 +494,24 @@ const MISSING: i64 = i64::MAX - 1;
 const SECOND: i64 = i64::MAX;
 
 /// Section 5 of 230 values in template 5.3, order 2, management 2, descriptors of three octets.
-const WALK_5: [u8; 49] = [
-    0x00, 0x00, 0x00, 0x31, 0x05, 0x00, 0x00, 0x00, 0xe6, 0x00, 0x03, 0xc2, 0xed, 0x40, 0x00, 0x80,
-    0x03, 0x00, 0x01, 0x09, 0x00, 0x01, 0x02, 0xff, 0xff, 0xff, 0xff, 0xff, 0xff, 0xff, 0xff, 0x00,
-    0x00, 0x00, 0x10, 0x00, 0x04, 0x00, 0x00, 0x00, 0x01, 0x01, 0x00, 0x00, 0x00, 0x0e, 0x06, 0x02,
-    0x03,
-];
+const WALK_5: &[u8; 49] = b"\0\0\0\x31\x05\0\0\0\xe6\0\x03\xc2\xed\x40\0\x80\x03\0\x01\t\0\x01\x02\
+\xff\xff\xff\xff\xff\xff\xff\xff\0\0\0\x10\0\x04\0\0\0\x01\x01\0\0\0\x0e\x06\x02\x03";
 
 /// A bitmap of 276 points.
-const WALK_6: [u8; 41] = [
-    0x00, 0x00, 0x00, 0x29, 0x06, 0x00, 0xcf, 0xff, 0xfc, 0xdf, 0xf1, 0xed, 0xff, 0xdf, 0x7f, 0xff,
-    0xff, 0xf7, 0xfc, 0x6f, 0xff, 0x5d, 0x3d, 0xf3, 0xff, 0xff, 0xdd, 0xdb, 0x3e, 0xff, 0xfd, 0xff,
-    0xdf, 0xff, 0xf4, 0xfd, 0xef, 0xbf, 0xd7, 0xbf, 0x80,
-];
+const WALK_6: &[u8; 41] = b"\0\0\0\x29\x06\0\xcf\xff\xfc\xdf\xf1\xed\xff\xdf\x7f\xff\xff\xf7\xfc\
+\x6f\xff\x5d\x3d\xf3\xff\xff\xdd\xdb\x3e\xff\xfd\xff\xdf\xff\xf4\xfd\xef\xbf\xd7\xbf\x80";
 
 /// Its Section 7, with 16 groups.
-const WALK_7: [u8; 221] = [
-    0x00, 0x00, 0x00, 0xdd, 0x07, 0x00, 0x01, 0xec, 0x00, 0x01, 0xec, 0x80, 0x00, 0xca, 0x00, 0x30,
-    0xc0, 0x0c, 0x30, 0xe3, 0x09, 0x84, 0xc1, 0x61, 0x30, 0x58, 0x6c, 0x26, 0x13, 0x09, 0x84, 0xc1,
-    0x84, 0x94, 0x95, 0x35, 0x45, 0x55, 0x45, 0x55, 0x34, 0xd6, 0xca, 0x50, 0x80, 0x8e, 0x09, 0x03,
-    0x1d, 0x0d, 0x72, 0x4d, 0x00, 0x00, 0xd1, 0xca, 0xc5, 0xc6, 0xff, 0xd0, 0xc9, 0xc6, 0xc8, 0xc7,
-    0xcf, 0xc3, 0x06, 0xc8, 0x56, 0x5b, 0x15, 0xa1, 0xc7, 0x65, 0x34, 0x99, 0x2c, 0x66, 0x93, 0x23,
-    0xfe, 0xc1, 0x61, 0x32, 0xda, 0x4c, 0x4f, 0xff, 0xff, 0xff, 0xff, 0xff, 0xff, 0xff, 0xff, 0xff,
-    0xff, 0xff, 0xff, 0xff, 0x00, 0x67, 0xd9, 0x2c, 0x80, 0x38, 0xde, 0xee, 0xee, 0xee, 0xff, 0x7f,
-    0xbf, 0xc0, 0x0b, 0x0a, 0xa5, 0x6c, 0xa8, 0x56, 0xac, 0x95, 0xcb, 0x35, 0xaa, 0xd9, 0x60, 0xac,
-    0x57, 0x7f, 0xd6, 0x8a, 0x75, 0x4b, 0xde, 0xc7, 0xbb, 0xe0, 0xf3, 0x2d, 0x0b, 0x5f, 0xa4, 0x72,
-    0x0e, 0x07, 0x3f, 0xa3, 0x08, 0x00, 0x2f, 0x52, 0xb5, 0x78, 0x48, 0x4a, 0xe0, 0x20, 0x0c, 0xff,
-    0x23, 0x18, 0x27, 0xc1, 0x08, 0x4a, 0x10, 0x07, 0x1d, 0xa6, 0x71, 0x58, 0xd2, 0x21, 0x0d, 0x23,
-    0xd4, 0x06, 0xa8, 0xaa, 0x6a, 0x62, 0xf3, 0xb1, 0x89, 0x20, 0x52, 0x0f, 0x9f, 0xa8, 0x1c, 0x27,
-    0xfc, 0x42, 0x17, 0x44, 0x2f, 0x03, 0xfe, 0x65, 0xf8, 0x71, 0x3a, 0xc8, 0x25, 0xa7, 0xe1, 0x02,
-    0x10, 0xe7, 0x89, 0x10, 0x23, 0x04, 0x00, 0x44, 0x80, 0x04, 0x4a, 0x53, 0x78,
-];
+const WALK_7: &[u8; 221] = b"\0\0\0\xdd\x07\0\x01\xec\0\x01\xec\x80\0\xca\0\x30\xc0\x0c\x30\xe3\t\
+\x84\xc1\x61\x30\x58\x6c\x26\x13\t\x84\xc1\x84\x94\x95\x35\x45\x55\x45\x55\x34\xd6\xca\x50\x80\x8e\
+\t\x03\x1d\x0d\x72\x4d\0\0\xd1\xca\xc5\xc6\xff\xd0\xc9\xc6\xc8\xc7\xcf\xc3\x06\xc8\x56\x5b\x15\xa1\
+\xc7\x65\x34\x99\x2c\x66\x93\x23\xfe\xc1\x61\x32\xda\x4c\x4f\xff\xff\xff\xff\xff\xff\xff\xff\xff\
+\xff\xff\xff\xff\0\x67\xd9\x2c\x80\x38\xde\xee\xee\xee\xff\x7f\xbf\xc0\x0b\x0a\xa5\x6c\xa8\x56\xac\
+\x95\xcb\x35\xaa\xd9\x60\xac\x57\x7f\xd6\x8a\x75\x4b\xde\xc7\xbb\xe0\xf3\x2d\x0b\x5f\xa4\x72\x0e\
+\x07\x3f\xa3\x08\0\x2f\x52\xb5\x78\x48\x4a\xe0\x20\x0c\xff\x23\x18\x27\xc1\x08\x4a\x10\x07\x1d\xa6\
+\x71\x58\xd2\x21\x0d\x23\xd4\x06\xa8\xaa\x6a\x62\xf3\xb1\x89\x20\x52\x0f\x9f\xa8\x1c\x27\xfc\x42\
+\x17\x44\x2f\x03\xfe\x65\xf8\x71\x3a\xc8\x25\xa7\xe1\x02\x10\xe7\x89\x10\x23\x04\0\x44\x80\x04\x4a\
+\x53\x78";
 
 /// Its points.
 const WALK: [i64; 276] = [
@@ -581,12 +539,12 @@ const WALK: [i64; 276] = [
 
 #[test]
 fn differences_behind_a_bitmap(rt: HostRuntime) {
-    let section6 = section(&rt, 6, 193, &WALK_6);
+    let section6 = section(&rt, 6, 193, WALK_6);
     let mask = match read_mask(rt.alloc(), &section6, 276, 230, None) {
         Ok(mask) => mask,
         Err(_) => panic!(rt; "the bitmap is refused"),
     };
-    let answer = unpacked(&rt, rt.alloc(), &WALK_5, &mask, &WALK_7);
+    let answer = unpacked(&rt, rt.alloc(), WALK_5, &mask, WALK_7);
     let column = match answer {
         Ok(column) => column,
         Err(_) => panic!(rt; "the field is refused"),
@@ -594,17 +552,13 @@ fn differences_behind_a_bitmap(rt: HostRuntime) {
     let points = column.points.as_slice();
     assert_eq!(rt; points.len(), 276);
     for (point, number) in points.iter().zip(&WALK) {
-        let expected = if *number == MISSING {
-            Point::Missing
-        } else if *number == SECOND {
-            Point::Missing2
-        } else {
-            Point::Scaled(*number)
+        let expected = match *number {
+            MISSING => Point::Missing,
+            SECOND => Point::Missing2,
+            number => Point::Scaled(number),
         };
         assert_eq!(rt; *point, expected);
     }
-    assert_eq!(rt;
-        (column.reference, column.e, column.d),
-        (0xc2ed4000, 0x8003, 1)
-    );
+    let scales = (column.reference, column.e, column.d);
+    assert_eq!(rt; scales, (0xc2ed4000, 0x8003, 1));
 }

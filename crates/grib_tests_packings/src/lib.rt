@@ -2,6 +2,38 @@
 //! input is not tried again: expected values are from outside, worked by hand or made by another program.
 #![tactic(auto)]
 
+/// Points: `_` is a missing one, `~` a secondary missing one.
+macro_rules! points {
+    (@ _) => {
+        Point::Missing
+    };
+    (@ ~) => {
+        Point::Missing2
+    };
+    (@ $number:literal) => {
+        Point::Scaled($number)
+    };
+    ($($point:tt)*) => {
+        [$(points!(@ $point)),*]
+    };
+}
+
+/// Codes: `_` is primary, `~` secondary missing.
+macro_rules! codes {
+    (@ _) => {
+        Code::Primary
+    };
+    (@ ~) => {
+        Code::Secondary
+    };
+    (@ $number:literal) => {
+        Code::Present($number)
+    };
+    ($($code:tt)*) => {
+        [$(codes!(@ $code)),*]
+    };
+}
+
 #[cfg(test)]
 mod complex;
 #[cfg(test)]

@@ -40,15 +40,7 @@ fn has(packed: &Packed, values: u8, bits: u8, bitmap: &[u8], data: &[u8]) -> boo
 
 #[test]
 fn numbers_take_the_bits_of_the_greatest(rt: HostRuntime) -> Result<(), Fail> {
-    let points = [
-        Point::Scaled(6),
-        Point::Scaled(126),
-        Point::Scaled(65),
-        Point::Scaled(171),
-    ];
-    let Ok(made) = packed(rt.alloc(), &points) else {
-        panic!(rt; "not packed");
-    };
+    let made = packed(rt.alloc(), &points![6 126 65 171])?;
     let data = [0, 0, 0, 9, 7, 0x06, 0x7e, 0x41, 0xab];
     assert!(rt; has(&made, 4, 8, &[0, 0, 0, 6, 6, 255], &data));
     Ok(())
@@ -56,73 +48,42 @@ fn numbers_take_the_bits_of_the_greatest(rt: HostRuntime) -> Result<(), Fail> {
 
 #[test]
 fn missing_points_stand_in_a_bitmap(rt: HostRuntime) -> Result<(), Fail> {
-    let points = [Point::Scaled(5), Point::Missing, Point::Scaled(6)];
-    let Ok(made) = packed(rt.alloc(), &points) else {
-        panic!(rt; "not packed");
-    };
-    assert!(rt;
-        has(
-            &made,
-            2,
-            3,
-            &[0, 0, 0, 7, 6, 0, 0xa0],
-            &[0, 0, 0, 6, 7, 0xb8]
-        )
-    );
+    let made = packed(rt.alloc(), &points![5 _ 6])?;
+    let bitmap = [0, 0, 0, 7, 6, 0, 0xa0];
+    assert!(rt; has(&made, 2, 3, &bitmap, &[0, 0, 0, 6, 7, 0xb8]));
     Ok(())
 }
 
 #[test]
 fn nothing_present_takes_no_bits(rt: HostRuntime) -> Result<(), Fail> {
-    let Ok(made) = packed(rt.alloc(), &[Point::Missing; 9]) else {
-        panic!(rt; "not packed");
-    };
+    let made = packed(rt.alloc(), &[Point::Missing; 9])?;
     assert!(rt; has(&made, 0, 0, &[0, 0, 0, 8, 6, 0, 0, 0], &[0, 0, 0, 5, 7]));
-    let Ok(made) = packed(rt.alloc(), &[Point::Scaled(0)]) else {
-        panic!(rt; "not packed");
-    };
+    let made = packed(rt.alloc(), &points![0])?;
     assert!(rt; has(&made, 1, 0, &[0, 0, 0, 6, 6, 255], &[0, 0, 0, 5, 7]));
     Ok(())
 }
 
 #[test]
-fn what_does_not_fit_is_named(rt: HostRuntime) -> Result<(), Fail> {
+fn what_does_not_fit_is_named(rt: HostRuntime) {
+    let alloc = rt.alloc();
     let negative = [Point::Scaled(5), Point::Scaled(-5), Point::Scaled(-1)];
-    assert!(rt; matches!(packed(rt.alloc(), &negative), Err(PackFault::OutOfRange(2))));
-    let wide = [
-        Point::Scaled((1 << 48) - 1),
-        Point::Missing,
-        Point::Scaled(1 << 48),
-    ];
-    assert!(rt; matches!(packed(rt.alloc(), &wide), Err(PackFault::OutOfRange(3))));
+    assert!(rt; packed(alloc, &negative).err() == Some(PackFault::OutOfRange(2)));
+    let wide = points![0xffff_ffff_ffff _ 0x1_0000_0000_0000];
+    assert!(rt; packed(alloc, &wide).err() == Some(PackFault::OutOfRange(3)));
     let ends = [Point::Scaled(1 << 60), Point::Scaled(-(1 << 60))];
-    assert!(rt; matches!(packed(rt.alloc(), &ends), Err(PackFault::OutOfRange(1))));
+    assert!(rt; packed(alloc, &ends).err() == Some(PackFault::OutOfRange(1)));
     let marks = [
         Point::Scaled(-1),
         Point::Missing,
         Point::Missing2,
         Point::Missing2,
     ];
-    assert!(rt;
-        matches!(
-            packed(rt.alloc(), &marks),
-            Err(PackFault::SecondaryMissing(3))
-        )
-    );
-    Ok(())
+    assert!(rt; packed(alloc, &marks).err() == Some(PackFault::SecondaryMissing(3)));
 }
 
 #[test]
 fn numbers_of_33_bits(rt: HostRuntime) -> Result<(), Fail> {
-    let points = [
-        Point::Scaled(0),
-        Point::Scaled(1),
-        Point::Scaled(2),
-        Point::Scaled(1 << 32),
-    ];
-    let Ok(made) = packed(rt.alloc(), &points) else {
-        panic!(rt; "not packed");
-    };
+    let made = packed(rt.alloc(), &points![0 1 2 0x1_0000_0000])?;
     let data = [
         0, 0, 0, 22, 7, 0, 0, 0, 0, 0, 0, 0, 0, 0x40, 0, 0, 0, 0x50, 0, 0, 0, 0,
     ];
@@ -132,10 +93,7 @@ fn numbers_of_33_bits(rt: HostRuntime) -> Result<(), Fail> {
 
 #[test]
 fn numbers_of_48_bits(rt: HostRuntime) -> Result<(), Fail> {
-    let points = [Point::Scaled((1 << 48) - 1), Point::Scaled(1)];
-    let Ok(made) = packed(rt.alloc(), &points) else {
-        panic!(rt; "not packed");
-    };
+    let made = packed(rt.alloc(), &points![0xffff_ffff_ffff 1])?;
     let data = [
         0, 0, 0, 17, 7, 255, 255, 255, 255, 255, 255, 0, 0, 0, 0, 0, 1,
     ];
@@ -168,26 +126,11 @@ fn same_and_back(
 /// One number of 19 bits at each point: three stand in a word, and one is left.
 #[test]
 fn one_number_many_times(rt: HostRuntime) -> Result<(), Fail> {
-    let Ok(section7) = same_and_back(&rt, rt.alloc(), 0x54321, 70_000) else {
-        panic!(rt; "not packed");
-    };
+    let section7 = same_and_back(&rt, rt.alloc(), 0x54321, 70_000)?;
     let octets = section7.as_slice();
     assert!(rt; octets.len() == 166_255);
     assert!(rt; octets[..5] == [0, 0x02, 0x89, 0x6f, 7]);
     Ok(())
-}
-
-/// Points of these numbers, where `_` is a missing one.
-macro_rules! points {
-    (@ _) => {
-        Point::Missing
-    };
-    (@ $number:literal) => {
-        Point::Scaled($number)
-    };
-    ($($number:tt)*) => {
-        [$(points!(@ $number)),*]
-    };
 }
 
 /// Points of 10 bits, whose bitmap goes over two words.
@@ -202,24 +145,15 @@ fn many_points(rt: HostRuntime) -> Result<(), Fail> {
         _ 737 774 811 848 _ 922 959 996 33 _ 107 144 181 218 _ 292 329 366 403
         _ 477 514 551 588 _ 662 699 736 _
     ];
-    let Ok(made) = packed(rt.alloc(), &points) else {
-        panic!(rt; "not packed");
-    };
-    let bitmap = [
-        0, 0, 0, 23, 6, 0, 0x7b, 0xde, 0xf7, 0xbd, 0xef, 0x7b, 0xde, 0xf6, 0x3d, 0xef, 0x7b, 0xde,
-        0xf7, 0xbd, 0xef, 0x7b, 0x80,
-    ];
-    let data = [
-        0, 0, 0, 132, 7, 0x09, 0x44, 0xa1, 0xbc, 0x94, 0x37, 0x90, 0x34, 0xa1, 0x4d, 0x65, 0xdb,
-        0xc7, 0x86, 0x06, 0x94, 0x27, 0x5a, 0x6a, 0xbf, 0xc2, 0x72, 0xed, 0x4f, 0x78, 0xf0, 0xbe,
-        0x70, 0x90, 0x49, 0x24, 0xcb, 0x83, 0x75, 0x02, 0x53, 0x17, 0x16, 0x59, 0xbb, 0x81, 0x62,
-        0xa9, 0x3e, 0x74, 0xaf, 0xae, 0x3c, 0x23, 0x2d, 0xdd, 0xf9, 0xcf, 0x07, 0xe6, 0x12, 0x06,
-        0xd2, 0x48, 0xb7, 0x40, 0x52, 0x66, 0xe9, 0xdf, 0x81, 0x22, 0x99, 0xce, 0x98, 0xaf, 0x6e,
-        0x2c, 0xb3, 0x51, 0xdd, 0xb9, 0xbf, 0x94, 0x22, 0x11, 0xc6, 0xc2, 0xd8, 0xdb, 0x40, 0x12,
-        0x55, 0xbd, 0x94, 0x6e, 0x5d, 0xe8, 0xa2, 0x4d, 0x9c, 0xa9, 0x7b, 0x87, 0x06, 0xca, 0xf5,
-        0x0e, 0x6b, 0xbf, 0xf9, 0x02, 0x11, 0xac, 0x90, 0x2d, 0x4d, 0xa4, 0x91, 0x49, 0x5b, 0x99,
-        0x37, 0x76, 0x02, 0x89, 0xe4, 0xca, 0x5a, 0xbb, 0xb8, 0x00,
-    ];
-    assert!(rt; has(&made, 101, 10, &bitmap, &data));
+    let made = packed(rt.alloc(), &points)?;
+    let bitmap = b"\0\0\0\x17\x06\0\x7b\xde\xf7\xbd\xef\x7b\xde\xf6\x3d\xef\x7b\xde\xf7\xbd\xef\x7b\
+\x80";
+    let data = b"\0\0\0\x84\x07\t\x44\xa1\xbc\x94\x37\x90\x34\xa1\x4d\x65\xdb\xc7\x86\x06\x94\x27\
+\x5a\x6a\xbf\xc2\x72\xed\x4f\x78\xf0\xbe\x70\x90\x49\x24\xcb\x83\x75\x02\x53\x17\x16\x59\xbb\x81\
+\x62\xa9\x3e\x74\xaf\xae\x3c\x23\x2d\xdd\xf9\xcf\x07\xe6\x12\x06\xd2\x48\xb7\x40\x52\x66\xe9\xdf\
+\x81\x22\x99\xce\x98\xaf\x6e\x2c\xb3\x51\xdd\xb9\xbf\x94\x22\x11\xc6\xc2\xd8\xdb\x40\x12\x55\xbd\
+\x94\x6e\x5d\xe8\xa2\x4d\x9c\xa9\x7b\x87\x06\xca\xf5\x0e\x6b\xbf\xf9\x02\x11\xac\x90\x2d\x4d\xa4\
+\x91\x49\x5b\x99\x37\x76\x02\x89\xe4\xca\x5a\xbb\xb8\0";
+    assert!(rt; has(&made, 101, 10, bitmap, data));
     Ok(())
 }
