@@ -1,0 +1,7 @@
+//! Values of points as numbers of a machine: the word of IEEE 754 binary64 or binary32 whose number is nearest to the exact
+//! value, ties to even.
+//!
+//! No command uses this crate yet.
+#![tactic(auto)]
+
+pub mod laws;
