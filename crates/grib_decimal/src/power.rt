@@ -8,7 +8,7 @@ ghost use Rattle.grib_decimal.specs.Parts.{IsKnown};
 pub(crate) const BOUND: u128 = 1 << 126;
 
 /// `2 ^ twos * 10 ^ tens`, where an exponent below 0 counts as 0, if it is below the bound.
-pub(crate) fn power(twos: i64, tens: i64) -> Option<u128>
+pub fn power(twos: i64, tens: i64) -> Option<u128>
     ensures { SomeIff result (2 ^ or_0 twos * 10 ^ or_0 tens < 2 ^ 126) (2 ^ or_0 twos * 10 ^ or_0 tens) }
 {
     if twos > 125 || tens > 37 {
@@ -35,7 +35,7 @@ fn power_of_ten(tens: i64) -> u128
 }
 
 /// `number * 2 ^ shift`, if it is known to be below `2 ^ 127`.
-pub(crate) fn shifted(number: i64, shift: i64) -> Option<i128>
+pub fn shifted(number: i64, shift: i64) -> Option<i128>
     requires { pos 0 ≤ℤ shift }
     ensures { IsKnown 127 result (number *ℤ pos (2 ^ nat_abs shift)) }
 {

@@ -9,7 +9,7 @@ use grib_bits::signed_of;
 use grib_dyadic::Dyadic;
 
 /// A scale factor from its two octets, a sign and a magnitude.
-pub(crate) fn scale_factor(raw: u16) -> i64
+pub fn scale_factor(raw: u16) -> i64
     ensures value { result ≡ signed (bits_of 16 raw) }
     ensures small { nat_abs result < 2 ^ 15 }
 {
@@ -17,7 +17,7 @@ pub(crate) fn scale_factor(raw: u16) -> i64
 }
 
 /// The mantissa with its sign.
-pub(crate) fn signed_mantissa(reference: &Dyadic) -> i64
+pub fn signed_mantissa(reference: &Dyadic) -> i64
     requires { nat_abs reference.now.mantissa < 2 ^ 24 }
     ensures { result ≡ reference.now.mantissa }
 {

@@ -19,7 +19,7 @@ at_fields : (f : Format) (x t : ℕ) → t < field_unit f → units_of f (x * fi
 unfolding units_by_fields
 at_fields f x t small = λ i. units_by_fields f (digits_div x small i) (digits_mod x small i)
 
-no_field : (f : Format) (t : ℕ) → t < field_unit f → units_of f t ≡ t
+pub no_field : (f : Format) (t : ℕ) → t < field_unit f → units_of f t ≡ t
 unfolding units_by_fields
 no_field f t small = ap (units_of f) {x = t} {y = 0 * field_unit f + t} (omega arith) ∙ at_fields f 0 t small
 

@@ -1,1 +1,6 @@
 pub mod Nearest
+pub mod Formats
+pub mod Leading
+pub mod Values
+pub mod Fractions
+pub mod Parts

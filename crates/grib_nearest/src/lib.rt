@@ -4,4 +4,7 @@
 //! No command uses this crate yet.
 #![tactic(auto)]
 
+mod format;
 pub mod laws;
+mod leading;
+mod parts;
