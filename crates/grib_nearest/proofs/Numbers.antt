@@ -1,33 +1,19 @@
--- The numbers of points, and how large they are.
+-- Numbers of 126 digits, and their signs.
 use Rattle.std.proofs.Common.{◌≡◌, ℕ, suc, ◌+◌, ◌-◌, ◌*◌, ◌/◌, ◌%◌, ◌^◌, ◌<◌, ◌≤◌, inl, inr, ℤ, pos, negsuc, ◌+ℤ◌, ◌-ℤ◌, ◌*ℤ◌, ◌<ℤ◌, ◌≤ℤ◌, nat_abs, true, false, FitsSigned, to_z, of_z, to_z-of_z, refl, sym, ap, ◌∙◌, arith}
 use Rattle.std.proofs.Math.Nat.{mul-le-mul_right, mul-pos, pow-le-pow_right}
 use Rattle.std.proofs.lemmas.Nat.{pow_pos, pow-add, leading_top, shl_below, le-div}
 use Rattle.std.proofs.lemmas.Bool.Decides.{nat_tests}
-use Rattle.std.proofs.lemmas.Int.{ints, unsigned_abs-mul, fits_signed_from_abs, to_z_pos}
+use Rattle.std.proofs.lemmas.Int.{ints, fits_signed_from_abs, to_z_pos}
 use Rattle.std.specs.Int.{w32, w128, is_negative}
 use Rattle.std.proofs.lemmas.Bool.{cases_lt}
 use native.Mathlib.Nat.{mod-eq_of_lt}
 use lib.Count.{count_leading_zeros}
 use lib.Ieee.{Format, low}
-use Rattle.grib_decimal.proofs.Sums.{abs_sum}
 use Rattle.grib_nearest.specs.Nearest.{infinity, units_of, IsNearest, nearest_word}
 use Rattle.grib_nearest.specs.Fractions.{numerator_at, denominator_at}
 use Rattle.grib_nearest.specs.Values.{signed_word}
 use Rattle.grib_nearest.proofs.Units.{unit_some, no_field}
 use Rattle.grib_nearest.proofs.Nearness.{only_one, is_nearest}
-
-module _ (o s x : ℤ) (most : ℕ) (within : nat_abs o + most * nat_abs s < 2 ^ 126) (few : nat_abs x ≤ most) where
-  product : nat_abs (x *ℤ s) ≤ most * nat_abs s
-  product = omega (arith, mul-le-mul_right (nat_abs s) few, unsigned_abs-mul x s)
-
-  pub product_fits : FitsSigned w128 (x *ℤ s)
-  product_fits = fits_signed_from_abs w128 (x *ℤ s) (omega (arith, product))
-
-  pub sum_small : nat_abs (o +ℤ (x *ℤ s)) < 2 ^ 126
-  sum_small = omega (arith, abs_sum o (x *ℤ s), product)
-
-  pub sum_fits : FitsSigned w128 (o +ℤ (x *ℤ s))
-  sum_fits = fits_signed_from_abs w128 (o +ℤ (x *ℤ s)) (omega (arith, sum_small))
 
 -- a number shifted until it has 126 digits
 pub record IsShifted (number zeros : ℕ) : Type 0 where
@@ -115,3 +101,6 @@ pub minus_signed : (f : Format) (z : ℤ) (word : ℕ) → z <ℤ pos 0 → word
 minus_signed f z word less =
     let sign : word + signed_word f true 0 ≡ signed_word f true word = omega arith in
     sign ∙ ap (λ b. signed_word f b word) (sym (negative_is z less))
+
+pub infinity_below : (f : Format) → infinity f < signed_word f true 0
+infinity_below f = omega (arith, unit_some f)

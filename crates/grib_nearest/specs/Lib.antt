@@ -3,4 +3,3 @@ pub mod Formats
 pub mod Leading
 pub mod Values
 pub mod Fractions
-pub mod Parts

@@ -5,6 +5,11 @@
 #![tactic(auto)]
 
 mod format;
+mod fraction;
 pub mod laws;
 mod leading;
-mod parts;
+
+pub use fraction::{binary32, binary64};
+
+#[cfg(test)]
+mod tests;

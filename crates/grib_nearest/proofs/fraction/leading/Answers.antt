@@ -3,7 +3,7 @@ use Rattle.std.proofs.lemmas.Bool.Decides.{nat_tests}
 use Rattle.grib_nearest.proofs.Fractions.{division, leading_is}
 use Rattle.grib_nearest.proofs.Numbers.{is_shifted, steps_many, steps_few, exponent_is}
 use lib.Count.{count_leading_zeros}
-use Rattle.grib_nearest.proofs.parts.leading.Goals as goal
+use Rattle.grib_nearest.proofs.fraction.leading.Goals as goal
 
 pub overflow_sub-zeros : goal.overflow_sub-zeros
 overflow_sub-zeros c = (is_shifted c.args.number c.requires.some c.requires.few).many
