@@ -10,6 +10,3 @@ pub mod laws;
 mod leading;
 
 pub use fraction::{binary32, binary64};
-
-#[cfg(test)]
-mod tests;
