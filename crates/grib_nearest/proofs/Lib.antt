@@ -1,0 +1,6 @@
+pub mod Units
+pub mod Rounds
+pub mod Nearness
+pub mod Settling
+pub mod Fractions
+pub mod Numbers

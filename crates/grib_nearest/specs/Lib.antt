@@ -1,0 +1,5 @@
+pub mod Nearest
+pub mod Formats
+pub mod Leading
+pub mod Values
+pub mod Fractions
