@@ -1,5 +1,5 @@
 //! Expected texts are of Python's fractions, rounded half to even once, and those of the message M1 of
-//! docs/PROFILE.md with three places.
+//! docs/WORKED.md with three places.
 
 use grib_base::List;
 use grib_decimal::{DecimalFault, Extremes, decimal_text, extremes};

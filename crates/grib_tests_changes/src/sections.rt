@@ -63,7 +63,7 @@ pub(crate) fn message(
     Ok(octets)
 }
 
-/// The message M3 of docs/PROFILE.md.
+/// The message M3 of docs/WORKED.md.
 pub(crate) fn differences(alloc: Global) -> Result<Vec<u8>, AllocError> {
     let section7 = [0, 0, 0, 0x0d, 7, 5, 0x8a, 2, 0xc0, 0x0c, 4, 0x10, 0xa0];
     message(

@@ -1,4 +1,4 @@
--- Worked messages of edition 1 of docs/PROFILE.md, section by section, and two made from G1.
+-- Worked messages of edition 1 of docs/WORKED.md, section by section, and two made from G1.
 use Rattle.std.specs.Prelude.{ℕ, List, ◌++◌}
 use Rattle.grib_worked.specs.Hex.{hex, put}
 use Rattle.grib_worked.specs.Messages.{end}

@@ -1,4 +1,4 @@
--- Octets written in hexadecimal, as the tables of docs/PROFILE.md write them, and edits of messages.
+-- Octets written in hexadecimal, as the tables of docs/WORKED.md write them, and edits of messages.
 use Rattle.std.specs.Prelude.{ℕ, ◌+◌, ◌-◌, ◌*◌, not, cond, List, [], ◌∷◌, ◌++◌, length, take, drop, nat_lt, ◌==◌, filter, codes}
 use Prim.Native.String.{String}
 

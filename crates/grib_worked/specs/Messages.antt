@@ -1,4 +1,4 @@
--- The worked messages of docs/PROFILE.md, section by section.
+-- The worked messages of docs/WORKED.md, section by section.
 use Rattle.std.specs.Prelude.{ℕ, List, ◌++◌, drop}
 use Rattle.grib_worked.specs.Hex.{hex, put}
 
