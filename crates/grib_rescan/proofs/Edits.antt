@@ -18,7 +18,7 @@ use Rattle.grib_rescan.specs.Fields.{IsColumnEdited, IsFieldEdited}
 use Rattle.grib_rescan.specs.Rescanned.{Stands, OfGrid, OfColumn, cause_of, new_column, own_target, grid_misfit, column_misfit}
 use Rattle.grib_rescan.proofs.Fields.{none_after}
 use Rattle.grib_rescan.proofs.Packs.{none_simple}
-use Rattle.grib_rescan.proofs.FieldPoints.{none_new, new_packable}
+use Rattle.grib_rescan.proofs.Points.{none_new, new_packable}
 
 module _ (edit : GridEdit) (message : List ℕ) (i : ℕ) where
   pub column_edited : (s : List ℕ) (old new : Column) → Stands edit → s ≡ part_octets message i 3 → FieldPasses message i → cause_of edit s ≡ None → old ≡ column_of message i

@@ -24,7 +24,7 @@ use Rattle.grib_rescan.specs.Rescanned.{TooLong, MayBeEdited, cause_of, section_
 use Rattle.grib_rescan.proofs.Fields.{no_grid, no_column, none_later, each_fits}
 use Rattle.grib_rescan.proofs.Grids.{new_grid, new_points}
 use Rattle.grib_rescan.proofs.Packs.{packs_as}
-use Rattle.grib_rescan.proofs.FieldPoints.{new_packable, same_reference, same_e, same_d}
+use Rattle.grib_rescan.proofs.Points.{new_packable, same_reference, same_e, same_d}
 
 not_long : (l : ℕ) → length_misfit l ≡ None → l ≤ 268435456
 not_long l none = go (nat_lt 268435456 l) refl none where

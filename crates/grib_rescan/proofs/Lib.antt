@@ -11,7 +11,7 @@ pub mod Kept
 pub mod Accepted
 pub mod Uncaused
 mod Grids
-mod FieldPoints
+mod Points
 mod Fields
 mod Packs
 mod Numbered
