@@ -14,10 +14,10 @@ use Rattle.grib_repack.specs.Faults.{IsRepackFault}
 use Rattle.grib_repack.specs.Repacked.{RepackMisfit}
 use Rattle.grib_repack.specs.declared.fault.RepackFault.{RepackFault}
 use Rattle.grib_repack.specs.declared.fault.RepackFault.TheVariants as unpacked
-use Rattle.grib_rescan.specs.Faults.{IsRescanFault}
-use Rattle.grib_rescan.specs.Rescanned.{EditMisfit}
-use Rattle.grib_rescan.specs.declared.fault.RescanFault.{RescanFault}
-use Rattle.grib_rescan.specs.declared.fault.RescanFault.TheVariants as unedited
+use Rattle.grib_rescanned.specs.Faults.{IsRescanFault}
+use Rattle.grib_rescanned.specs.Rescanned.{EditMisfit}
+use Rattle.grib_rescanned.specs.declared.fault.RescanFault.{RescanFault}
+use Rattle.grib_rescanned.specs.declared.fault.RescanFault.TheVariants as unedited
 use Rattle.grib_select.specs.Changed.{IsSetFault}
 use Rattle.grib_select.specs.declared.changing.SetFault.{SetFault}
 use Rattle.grib_select.specs.declared.changing.SetFault.TheVariants as unset

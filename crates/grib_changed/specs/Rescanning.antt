@@ -8,11 +8,11 @@ use Rattle.grib_base.specs.declared.limits.TheConstants.{MOST_OCTETS}
 use Rattle.grib2_message.specs.Fields.{field_count}
 use Rattle.grib_packing.specs.Misfits as packing
 use Rattle.grib_rescan.specs.declared.cause.GridCause.TheVariants as grid
-use Rattle.grib_rescan.specs.declared.edit.GridEdit.{GridEdit}
-use Rattle.grib_rescan.specs.declared.edit.GridEdit.TheVariants.{Rescan, Crop}
-use Rattle.grib_rescan.specs.declared.fault.RescanFault.{RescanFault}
-use Rattle.grib_rescan.specs.declared.fault.RescanFault.TheVariants as faults
-use Rattle.grib_rescan.specs.Rescanned.{Stands, EditMisfit, OfGrid, OfColumn, TooLong, edited, misfit_among, or_later, length_misfit, edit_misfit}
+use Rattle.grib_rescanned.specs.declared.edit.GridEdit.{GridEdit}
+use Rattle.grib_rescanned.specs.declared.edit.GridEdit.TheVariants.{Rescan, Crop}
+use Rattle.grib_rescanned.specs.declared.fault.RescanFault.{RescanFault}
+use Rattle.grib_rescanned.specs.declared.fault.RescanFault.TheVariants as faults
+use Rattle.grib_rescanned.specs.Rescanned.{Stands, EditMisfit, OfGrid, OfColumn, TooLong, edited, misfit_among, or_later, length_misfit, edit_misfit}
 use Rattle.grib_causes.specs.declared.cause.Cause.{Cause}
 use Rattle.grib_causes.specs.declared.cause.Cause.TheVariants as causes
 use Rattle.grib_answers.specs.declared.answered.Answered.{Answered}

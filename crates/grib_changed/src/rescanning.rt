@@ -1,13 +1,13 @@
 //! `rescan` and `crop`: each message in the order of scanning octet 0, or a box of its grids.
 
 ghost use Rattle.std.specs.Prelude.{◌≡◌};
-ghost use Rattle.grib_rescan.specs.Rescanned.{Stands};
+ghost use Rattle.grib_rescanned.specs.Rescanned.{Stands};
 ghost use Rattle.grib_changed.specs.Rescanning.{answered_unedited, Stands-prop};
 
 use crate::changing::Changer;
 use grib_answers::{Answered, write_counted, written};
 use grib_io::Sink;
-use grib_rescan::{GridEdit, RescanFault, edit_message};
+use grib_rescanned::{GridEdit, RescanFault, edit_message};
 use grib_stream::Cause;
 use grib2_message::Message;
 use std::alloc::Global;

@@ -16,7 +16,7 @@ use grib_io::{Shelf, Sink};
 use grib_params::Table;
 use grib_performed::{Held, answer_held};
 use grib_printed::{Checking, Dumping, Keying, Listing, Printing, Summing, Valuing};
-use grib_rescan::GridEdit;
+use grib_rescanned::GridEdit;
 use grib_stream::Place;
 use std::alloc::Global;
 

@@ -32,7 +32,7 @@ use grib_io::{Shelf, Sink, Source};
 use grib_passing::Passing;
 use grib_performed::{Answering, Hearing};
 use grib_printed::{Checking, Dumping, Keying, Listing, Printing, Summing, Valuing};
-use grib_rescan::GridEdit;
+use grib_rescanned::GridEdit;
 use grib_stream::{LIMIT, Outcome, Totals, answer_within};
 use grib_table::{TableStop, read_table};
 use std::alloc::Global;

@@ -10,10 +10,3 @@ mod Octets
 pub mod Kept
 pub mod Accepted
 pub mod Uncaused
-mod Grids
-mod Points
-mod Fields
-mod Packs
-mod Numbered
-mod Edits
-mod KeptOfMessages

@@ -5,8 +5,3 @@ pub mod Put
 pub mod Sections
 pub mod Causes
 pub mod Worked
-pub mod Rescanned
-pub mod Faults
-pub mod Fields
-pub mod Lengths
-pub mod Plain

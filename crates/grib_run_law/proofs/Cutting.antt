@@ -10,7 +10,7 @@ use Rattle.grib_params.specs.Table.{Entries}
 use Rattle.grib_table.specs.Tabled.{Tabled, Good, Refused, tabled}
 use Rattle.grib_migrate.specs.Losses.{first_loss}
 use Rattle.grib_migrate.specs.Migrated.{migrated}
-use Rattle.grib_rescan.specs.declared.edit.GridEdit.TheVariants as edits
+use Rattle.grib_rescanned.specs.declared.edit.GridEdit.TheVariants as edits
 use Rattle.grib_stream.specs.declared.outcome.Outcome.{Outcome}
 use Rattle.grib_stream.specs.declared.outcome.Outcome.TheVariants.{Done}
 use Rattle.grib_stream.specs.Acts.{Act, written, writes}

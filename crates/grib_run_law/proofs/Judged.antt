@@ -41,7 +41,7 @@ use Rattle.grib_changed.specs.Repacking.{repack_command}
 use Rattle.grib_changed.specs.Rescanning.{edit_command}
 use Rattle.grib_changed.specs.Migrating.{are_octets, migrate_command}
 use Rattle.grib_changed.specs.Demoting.{demote_command}
-use Rattle.grib_rescan.specs.declared.edit.GridEdit.TheVariants as edits
+use Rattle.grib_rescanned.specs.declared.edit.GridEdit.TheVariants as edits
 use Rattle.grib_run_law.specs.Same.{messages_answered}
 use Rattle.grib_tasks.specs.Serving.{RunsTabled, RunsWork, RunsJob}
 use Rattle.grib_changed.specs.Splitting.{split_command}

@@ -28,7 +28,7 @@ use Rattle.grib_changed.specs.Demoting.{demote_command}
 use Rattle.grib_answers.specs.Outcomes.{note_of}
 use Rattle.grib_changed.specs.Repacking.{repack_command}
 use Rattle.grib_changed.specs.Rescanning.{edit_command}
-use Rattle.grib_rescan.specs.declared.edit.GridEdit.TheVariants as edits
+use Rattle.grib_rescanned.specs.declared.edit.GridEdit.TheVariants as edits
 use Rattle.grib_changed.specs.Setting.{set_command}
 use Rattle.grib_changed.specs.Splitting.{split_command}
 use Rattle.grib_printed.specs.Summing.{stats_command}

@@ -1,0 +1,7 @@
+mod Grids
+mod Points
+mod Fields
+mod Packs
+mod Numbered
+mod Edits
+mod Kept

@@ -1,0 +1,5 @@
+pub mod Rescanned
+pub mod Faults
+pub mod Fields
+pub mod Lengths
+pub mod Plain
