@@ -2,10 +2,19 @@
 use Rattle.std.proofs.Common.{◌≡◌, ℕ, ◌-◌, ◌^◌, Bool, true, false, IsTrue, ◌↔◌, List, [], ◌∷◌, ◌++◌, ℤ, pos, negsuc, ◌<ℤ◌, nat_abs, codes, length, replicate, refl, ap, ◌∙◌, arith, append_assoc, append-nil}
 use Rattle.std.proofs.lemmas.Int.{ints}
 use Rattle.std.specs.Fmt.{decimal, signed_decimal, sign_text, padded_integral, format_spec, char_count}
+use Rattle.grib_base.specs.declared.fault.Fault.{Fault}
+use Rattle.grib_base.specs.Reason.{name_of}
 use Rattle.grib_dyadic.specs.Reference.{Binary}
 use Rattle.grib_text.specs.Words.{filled_decimal}
 use Rattle.grib2_message.specs.declared.summary.FieldSummary.{FieldSummary}
 use Rattle.grib_text.specs.Lines.{reference_line, time_of, time_text, origin_of, grid_of, product_of, product_text, packing_of, summary_line}
+use Rattle.grib_text.specs.Notes.{refusal_text}
+
+refusal_text-regroup : (a b c d : List ℕ) → a ++ (codes " octet " ++ (b ++ (codes " " ++ (c ++ (codes " " ++ (d ++ 10 ∷ [])))))) ≡ a ++ codes " octet " ++ b ++ codes " " ++ c ++ codes " " ++ d ++ 10 ∷ []
+refusal_text-regroup a b c d = simp append_assoc
+
+pub refusal_text-pieces : (head : List ℕ) (fault : Fault) → head ++ (codes " octet " ++ (decimal fault.octet ++ (codes " " ++ (name_of fault.reason ++ (codes " " ++ (decimal fault.detail ++ 10 ∷ [])))))) ≡ refusal_text head fault
+refusal_text-pieces head fault = refusal_text-regroup head (decimal fault.octet) (name_of fault.reason) (decimal fault.detail)
 
 -- a number is its sign and its magnitude
 signed_decimal-pieces : (negative : Bool) (z : ℤ) → IsTrue negative ↔ (z <ℤ pos 0) → sign_text negative ++ decimal (nat_abs z) ≡ signed_decimal z

@@ -2,11 +2,12 @@
 use Rattle.std.specs.Prelude.{ℕ, List, [], ◌∷◌, ◌++◌, codes}
 use Rattle.std.specs.Fmt.{decimal}
 use Rattle.grib_base.specs.declared.fault.Fault.{Fault}
-use Rattle.grib_base.specs.Reason.{fault_text}
+use Rattle.grib_base.specs.Reason.{name_of}
 
 -- what is refused, and the octet that decides it, the reason and its detail
 abbrev pub refusal_text : List ℕ → Fault → List ℕ
-refusal_text head fault = head ++ codes " " ++ fault_text fault ++ 10 ∷ []
+refusal_text head fault =
+    head ++ codes " octet " ++ decimal fault.octet ++ codes " " ++ name_of fault.reason ++ codes " " ++ decimal fault.detail ++ 10 ∷ []
 
 -- message m is refused, with which the run ends
 abbrev pub refusal_note : ℕ → Fault → List ℕ

@@ -35,6 +35,9 @@ pub fn refused_line(
 fn refusal_text(alloc: Global, head: &str, fault: &Fault) -> Result<Vec<u8>, AllocError>
     ensures { IfOk result (λ text. text.items ≡ notes.refusal_text head.now fault.now) }
 {
-    let text = format!(in alloc; "{head} {fault}\n")?;
+    let octet = fault.octet;
+    let reason = fault.reason;
+    let detail = fault.detail;
+    let text = format!(in alloc; "{head} octet {octet} {reason} {detail}\n")?;
     Ok(text.into_bytes())
 }
