@@ -1,0 +1,5 @@
+pub mod Places
+pub mod Fronts
+pub mod Spread
+pub mod Items
+pub mod Keeping
