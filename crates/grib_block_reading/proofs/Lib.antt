@@ -3,3 +3,4 @@ pub mod Fronts
 pub mod Spread
 pub mod Items
 pub mod Keeping
+pub mod Shown

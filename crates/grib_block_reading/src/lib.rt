@@ -9,3 +9,4 @@ mod item;
 mod lists;
 mod numbers;
 mod pairs;
+mod taking;

@@ -1,10 +1,10 @@
 //! The numbers that codes tell, one after another.
 
-ghost use Rattle.std.specs.Prelude.{◌≡◌, ℕ, ◌≤◌, true, false, length, map, replicate, cond, All};
+ghost use Rattle.std.specs.Prelude.{◌≡◌, ℕ, ◌+◌, ◌++◌, ◌≤◌, true, false, length, map, replicate, cond, All};
 ghost use Rattle.grib_mapped.specs.Mapped.{mapped as mapped_code};
 ghost use Rattle.grib_coding.specs.Coding.{greatest, is_mapped};
 ghost use Rattle.grib_coding.specs.Numbers.{Code};
-ghost use Rattle.grib_block_reading.specs.Kept.{IsKept, NoReference, StandsAt, point_of, reference_entries};
+ghost use Rattle.grib_block_reading.specs.Kept.{IsKept, IsWithin, NoReference, StandsAt, point_of, reference_entries};
 
 use grib_coding::Coding;
 use grib_mapped::unmap;
@@ -19,13 +19,15 @@ pub(crate) struct Kept<K> {
 
 /// Keeps a reference, if there is one.
 #[inline]
-pub(crate) fn keep_reference<K: Keeper>(
+fn keep_reference<K: Keeper>(
     kept: Kept<K>,
     coding: Coding,
     reference: Option<u32>,
 ) -> Kept<K>
-    requires { kept.last ≤ greatest coding }
-    ensures { (place : ℕ) → StandsAt coding place reference
+    requires last { kept.last ≤ greatest coding }
+    requires reference { IsWithin coding reference }
+    ensures last { result.last ≤ greatest coding }
+    ensures kept { (place : ℕ) → StandsAt coding place reference
         → IsKept K.kept coding place kept.last (reference_entries reference) kept.keeper result.last result.keeper }
 {
     let Some(number) = reference else {
@@ -38,7 +40,7 @@ pub(crate) fn keep_reference<K: Keeper>(
 }
 
 /// Keeps the numbers that some codes tell.
-pub(crate) fn keep_codes<K: Keeper>(kept: Kept<K>, coding: Coding, codes: &[u64]) -> Kept<K>
+fn keep_codes<K: Keeper>(kept: Kept<K>, coding: Coding, codes: &[u64]) -> Kept<K>
     requires bits { coding.bits ≤ 32 }
     requires last { kept.last ≤ greatest coding }
     requires codes { All (λ code. code ≤ greatest coding) codes.now }
@@ -58,6 +60,24 @@ pub(crate) fn keep_codes<K: Keeper>(kept: Kept<K>, coding: Coding, codes: &[u64]
     Kept { keeper, last }
 }
 
+/// Keeps a reference, if there is one, and the numbers that some codes tell behind it.
+pub(crate) fn keep_block<K: Keeper>(
+    kept: Kept<K>,
+    coding: Coding,
+    reference: Option<u32>,
+    codes: &[u64],
+) -> Kept<K>
+    requires bits { coding.bits ≤ 32 }
+    requires last { kept.last ≤ greatest coding }
+    requires reference { IsWithin coding reference }
+    requires codes { All (λ code. code ≤ greatest coding) codes.now }
+    ensures { (place : ℕ) → StandsAt coding place reference → NoReference coding (place + length (reference_entries reference)) (length codes.now)
+        → IsKept K.kept coding place kept.last (reference_entries reference ++ map Code codes.now) kept.keeper result.last result.keeper }
+{
+    let kept = keep_reference(kept, coding, reference);
+    keep_codes(kept, coding, codes)
+}
+
 /// The number that a code tells after the number `last`.
 #[inline(always)]
 fn number_of(code: u64, is_mapped: bool, most: u32, last: u32) -> u32
@@ -74,7 +94,7 @@ fn number_of(code: u64, is_mapped: bool, most: u32, last: u32) -> u32
 }
 
 /// Keeps the numbers that `count` codes of 0 tell.
-pub(crate) fn keep_zeros<K: Keeper>(kept: Kept<K>, coding: Coding, count: u32) -> Kept<K>
+fn keep_zeros<K: Keeper>(kept: Kept<K>, coding: Coding, count: u32) -> Kept<K>
     requires { kept.last ≤ greatest coding }
     ensures { (place : ℕ) → NoReference coding place count
         → IsKept K.kept coding place kept.last (replicate count (Code 0)) kept.keeper result.last result.keeper }
@@ -89,6 +109,22 @@ pub(crate) fn keep_zeros<K: Keeper>(kept: Kept<K>, coding: Coding, count: u32) -
         keeper = keeper.keep(point(number));
     }
     Kept { keeper, last }
+}
+
+/// Keeps a reference, if there is one, and the numbers that `count` codes of 0 tell behind it.
+pub(crate) fn keep_zero_blocks<K: Keeper>(
+    kept: Kept<K>,
+    coding: Coding,
+    reference: Option<u32>,
+    count: u32,
+) -> Kept<K>
+    requires last { kept.last ≤ greatest coding }
+    requires reference { IsWithin coding reference }
+    ensures { (place : ℕ) → StandsAt coding place reference → NoReference coding (place + length (reference_entries reference)) count
+        → IsKept K.kept coding place kept.last (reference_entries reference ++ replicate count (Code 0)) kept.keeper result.last result.keeper }
+{
+    let kept = keep_reference(kept, coding, reference);
+    keep_zeros(kept, coding, count)
 }
 
 /// The number that the code 0 tells after the number `last`, and again after itself.

@@ -1,16 +1,18 @@
 //! One item, from its bits to its points.
 
-ghost use Rattle.std.specs.Prelude.{◌≡◌, ℕ, ◌+◌, ◌-◌, ◌*◌, ◌%◌, ◌/◌, ◌^◌, ◌<◌, ◌≤◌, min, length, nat_lt, take, true, MatchResult};
+ghost use Rattle.std.specs.Prelude.{◌≡◌, ℕ, ◌+◌, ◌-◌, ◌*◌, ◌<◌, ◌≤◌, ◌++◌, min, map, List, length, nat_lt, MatchResult};
 ghost use Rattle.std.specs.List.{position};
-ghost use Rattle.grib_coding.specs.Coding.{Fits, greatest, is_mapped};
+ghost use Rattle.grib_coding.specs.Coding.{Fits, greatest};
 ghost use Rattle.grib_coding.specs.Items.{Item, covered};
 ghost use Rattle.grib_coding.specs.Reading.{item_fault, skipped};
-ghost use Rattle.grib_block_reading.specs.ItemRead.{IsOfKind, HasReference, coded_of};
-ghost use Rattle.grib_block_reading.specs.Taking.{ItemTaken, ItemPassed, front_at, outcome};
+ghost use Rattle.grib_block_reading.specs.ItemRead.{IsOfKind, HasReference};
+ghost use Rattle.grib_coding.specs.Numbers.{Code};
+ghost use Rattle.grib_block_reading.specs.Kept.{IsKept, IsWithin, NoReference, StandsAt, reference_entries};
+ghost use Rattle.grib_block_reading.specs.Taking.{ItemTaken, ItemPassed, coded_of, with_reference as has_reference, front_at, outcome};
 
 use crate::bits_left::BitsLeft;
 use crate::item::{Head, Kind, read_item};
-use crate::numbers::{Kept, keep_codes, keep_reference, keep_zeros};
+use crate::numbers::{Kept, keep_block, keep_zero_blocks};
 use grib_coding::{BlockFault, Coding};
 use grib_packing::Keeper;
 
@@ -64,9 +66,10 @@ fn take_read<K: Keeper + Drop>(
     requires few { count ≤ 33554432 }
     requires some { block * coding.block < count }
     requires last { kept.last ≤ greatest coding }
-    ensures { (item : Item) (with_reference : _) → IsOfKind coding (skipped with_reference) head.kind item codes.now → HasReference coding with_reference head.reference
-        → length codes.now + skipped with_reference ≡ coding.block → IsFirst coding block with_reference
-        → let coded = record { reference = head.reference; item = item } in MatchResult result
+    requires room { length codes.now + skipped (has_reference coding block) ≡ coding.block }
+    requires reference { HasReference coding (has_reference coding block) head.reference }
+    ensures { (item : Item) → IsOfKind coding (skipped (has_reference coding block)) head.kind item codes.now
+        → let coded = coded_of head.reference item in MatchResult result
         (λ taken. ItemPassed K.kept coding count block coded kept.last kept.keeper taken.blocks taken.kept.last taken.kept.keeper)
         (λ fault. item_fault coding count block coded ≡ Some fault) }
 {
@@ -76,30 +79,71 @@ fn take_read<K: Keeper + Drop>(
         return Err(BlockFault::Block(block + 1));
     }
     let blocks = blocks as u32;
-    let skip = u32::from(head.reference.is_some());
-    let before = block * u32::from(coding.block);
-    let values = (blocks * u32::from(coding.block)).min(count - before) - skip;
+    let values = values_shown(coding, count, block, blocks, head.reference);
     match head.kind {
         Kind::Zeros(_) => {
-            let kept = keep_zeros(keep_reference(kept, coding, head.reference), coding, values);
+            let kept = keep_zero_blocks(kept, coding, head.reference, values);
             Ok(Taken { blocks, kept })
         }
-        Kind::Codes => {
-            let codes = &codes[..values as usize];
-            if let Some(place) = first_over(codes, coding.greatest()) {
-                return Err(BlockFault::Value(before + skip + place + 1));
-            }
-            let kept = keep_codes(keep_reference(kept, coding, head.reference), coding, codes);
-            Ok(Taken { blocks, kept })
-        }
+        Kind::Codes => take_codes(head.reference, coding, block, &codes[..values as usize], kept),
         Kind::Long => Err(BlockFault::Block(block + 1)),
     }
+}
+
+/// Takes the codes of a block that are of values, behind a reference, if there is one.
+fn take_codes<K: Keeper + Drop>(
+    reference: Option<u32>,
+    coding: Coding,
+    block: u32,
+    codes: &[u64],
+    kept: Kept<K>,
+) -> Result<Taken<K>, BlockFault>
+    requires fits { Fits coding }
+    requires few { length codes.now ≤ 64 }
+    requires some { block * coding.block < 33554432 }
+    requires last { kept.last ≤ greatest coding }
+    requires reference { IsWithin coding reference }
+    ensures { MatchResult result
+        (λ taken. (taken.blocks ≡ 1) × (position (λ code. nat_lt (greatest coding) code) codes.now ≡ None) × ((place : ℕ) → StandsAt coding place reference
+            → NoReference coding (place + length (reference_entries reference)) (length codes.now)
+            → IsKept K.kept coding place kept.last (reference_entries reference ++ map Code codes.now) kept.keeper taken.kept.last taken.kept.keeper))
+        (λ fault. (place : ℕ) × (position (λ code. nat_lt (greatest coding) code) codes.now ≡ Some place)
+            × (fault ≡ BlockFault.Value (block * coding.block + length (reference_entries reference) + place + 1))) }
+{
+    if let Some(place) = first_over(codes, coding.greatest()) {
+        let before = block * u32::from(coding.block) + u32::from(reference.is_some());
+        return Err(BlockFault::Value(before + place as u32 + 1));
+    }
+    let kept = keep_block(kept, coding, reference, codes);
+    Ok(Taken { blocks: 1, kept })
+}
+
+/// How many codes of an item are of values, where it covers so many blocks and may have a reference.
+fn values_shown(
+    coding: Coding,
+    count: u32,
+    block: u32,
+    blocks: u32,
+    reference: Option<u32>,
+) -> u32
+    requires fits { Fits coding }
+    requires few { count ≤ 33554432 }
+    requires some { block * coding.block < count }
+    requires blocks { 1 ≤ blocks }
+    requires most { blocks ≤ 4096 }
+    ensures { result ≡ min (coding.block * blocks) (count - block * coding.block) - length (reference_entries reference) }
+{
+    let values = u32::from(coding.block) * blocks;
+    let left = count - block * u32::from(coding.block);
+    values.min(left) - u32::from(reference.is_some())
 }
 
 /// How many blocks an item covers whose first one has this place in its interval.
 fn blocks_covered(coding: Coding, place: u32, kind: Kind) -> u64
     requires { place < coding.interval }
-    ensures { (item : Item) (skip : ℕ) (codes : _) → IsOfKind coding skip kind item codes → result ≡ covered coding place item }
+    ensures some { 1 ≤ result }
+    ensures one { kind ≡ Kind.Codes → result ≡ 1 }
+    ensures covered { (item : Item) (skip : ℕ) (codes : List ℕ) → IsOfKind coding skip kind item codes → result ≡ covered coding place item }
 {
     match kind {
         Kind::Zeros(4) => u64::from((u32::from(coding.interval) - place).min(64 - place % 64)),
@@ -110,14 +154,9 @@ fn blocks_covered(coding: Coding, place: u32, kind: Kind) -> u64
 }
 
 /// The place of the first code that is over the greatest number.
-fn first_over(codes: &[u64], most: u32) -> Option<u32>
-    requires { length codes.now ≤ 64 }
+fn first_over(codes: &[u64], most: u32) -> Option<usize>
     ensures { result ≡ position (λ code. nat_lt most code) codes.now }
 {
-    for (place, code) in codes.iter().enumerate() {
-        if *code > u64::from(most) {
-            return Some(place as u32);
-        }
-    }
-    None
+    let most = u64::from(most);
+    codes.iter().position(|code| *code > most)
 }
