@@ -5,8 +5,11 @@
 #![tactic(auto)]
 
 mod bits_left;
+mod blocks;
 mod item;
 mod lists;
 mod numbers;
 mod pairs;
 mod taking;
+
+pub use blocks::take_blocks;

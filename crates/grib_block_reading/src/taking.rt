@@ -1,10 +1,10 @@
 //! One item, from its bits to its points.
 
-ghost use Rattle.std.specs.Prelude.{◌≡◌, ℕ, ◌+◌, ◌-◌, ◌*◌, ◌<◌, ◌≤◌, ◌++◌, min, map, List, length, nat_lt, MatchResult};
+ghost use Rattle.std.specs.Prelude.{◌≡◌, ℕ, ◌+◌, ◌-◌, ◌*◌, ◌%◌, ◌==◌, ◌<◌, ◌≤◌, ◌++◌, min, map, List, length, nat_lt, MatchResult};
 ghost use Rattle.std.specs.List.{position};
 ghost use Rattle.grib_coding.specs.Coding.{Fits, greatest};
 ghost use Rattle.grib_coding.specs.Items.{Item, covered};
-ghost use Rattle.grib_coding.specs.Reading.{item_fault, skipped};
+ghost use Rattle.grib_coding.specs.Reading.{item_fault, padded, skipped};
 ghost use Rattle.grib_block_reading.specs.ItemRead.{IsOfKind, HasReference};
 ghost use Rattle.grib_coding.specs.Numbers.{Code};
 ghost use Rattle.grib_block_reading.specs.Kept.{IsKept, IsWithin, NoReference, StandsAt, reference_entries};
@@ -41,16 +41,31 @@ pub(crate) fn take_item<K: Keeper + Drop>(
         (λ taken. ItemTaken K.kept coding count block front bits.new kept.last kept.keeper taken.blocks taken.kept.last taken.kept.keeper)
         (λ fault. outcome coding count block front ≡ Some fault) }
 {
-    let first = block % u32::from(coding.interval) == 0;
-    if first && coding.is_padded() {
-        bits.drop_to_octet();
-    }
-    let with_reference = first && coding.is_mapped();
+    skip_padding(bits, coding, block);
+    let with_reference = is_referred(coding, block);
     let codes = &mut codes[usize::from(with_reference)..];
     let Some(head) = read_item(bits, coding, with_reference, codes) else {
         return Err(BlockFault::Short);
     };
     take_read(head, coding, count, block, codes, kept)
+}
+
+/// Passes what may stand before the first item of an interval.
+fn skip_padding(bits: &mut BitsLeft<'_>, coding: Coding, block: u32)
+    requires { Fits coding }
+    ensures { bits.new ≡ padded coding (block % coding.interval == 0) bits.old }
+{
+    if coding.is_padded() && block % u32::from(coding.interval) == 0 {
+        bits.drop_to_octet();
+    }
+}
+
+/// Whether the item that begins with a block has a reference.
+fn is_referred(coding: Coding, block: u32) -> bool
+    requires { Fits coding }
+    ensures { result ≡ has_reference coding block }
+{
+    block % u32::from(coding.interval) == 0 && coding.is_mapped()
 }
 
 /// Takes an item that was read.
