@@ -4,4 +4,3 @@ pub mod Spread
 pub mod Items
 pub mod Keeping
 pub mod Shown
-pub mod Whole
