@@ -33,7 +33,9 @@ pub fn take_blocks<K: Keeper + Drop>(
         (λ after. (fault_of read ≡ None) × AreKept K.kept coding.now read.entries keeper after)
         (λ fault. fault_of read ≡ Some fault) }
 {
-    take_all(octets, *coding, count, keeper)
+    let mut room = [0; 64];
+    let codes = &mut room[..usize::from(coding.block)];
+    take_all(octets, *coding, count, codes, keeper)
 }
 
 /// Takes item after item.
@@ -41,16 +43,17 @@ fn take_all<K: Keeper + Drop>(
     octets: &[u8],
     coding: Coding,
     count: u32,
+    codes: &mut [u64],
     keeper: K,
 ) -> Result<K, BlockFault>
     requires short { length octets.now < 2 ^ 32 }
     requires fits { Fits coding }
     requires few { count ≤ 33554432 }
+    requires room { length codes.old ≡ coding.block }
     ensures { let read = decoded coding count (bits_in octets.now) in MatchResult result
         (λ after. (fault_of read ≡ None) × AreKept K.kept coding read.entries keeper after)
         (λ fault. fault_of read ≡ Some fault) }
 {
-    let mut room = [0; 64];
     let mut bits = BitsLeft::of(octets);
     let blocks = coding.block_count(count);
     let mut block = 0;
@@ -59,7 +62,6 @@ fn take_all<K: Keeper + Drop>(
         if block >= blocks {
             return Ok(kept.keeper);
         }
-        let codes = &mut room[..usize::from(coding.block)];
         let taken = take_item(&mut bits, coding, count, block, codes, kept)?;
         block += taken.blocks;
         kept = taken.kept;
