@@ -4,3 +4,4 @@ pub mod Spread
 pub mod Items
 pub mod Keeping
 pub mod Shown
+pub mod Whole
