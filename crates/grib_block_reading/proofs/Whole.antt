@@ -1,6 +1,6 @@
 -- Items one after another.
 use Rattle.std.proofs.Common.{◌≡◌, ℕ, zero, suc, ◌+◌, ◌-◌, ◌*◌, ◌/◌, ◌%◌, ◌<◌, ◌≤◌, Bool, true, false, List, [], ◌∷◌, ◌++◌, length, take, drop, map, refl, sym, ap, ap₂, subst, ◌∙◌, arith, append_assoc, nat_le, Option, Some, None}
-use Rattle.std.proofs.Math.Nat.{mul-le-mul_right}
+use Rattle.std.proofs.Math.Nat.{div-mul-le_self, mul-le-mul_right}
 use Rattle.std.proofs.Math.Seq.{take-add, take-append_seam, drop-append_seam}
 use Rattle.std.proofs.lemmas.Bool.{le-leb}
 use Rattle.std.proofs.lemmas.Bool.Decides.{nat_tests}
@@ -149,7 +149,12 @@ finished kept c count start first index block bits last now over so =
     let none : block_count c count - index ≡ 0 = omega (arith, over) in
     finished_by kept c count start first index block bits last now (ap (λ n. items_from n c count block bits) none) so
 
+within_size : (count size block blocks : ℕ) → 0 < size → blocks ≡ (count + size - 1) / size → block < blocks → block * size < count
+within_size count size block blocks some is less =
+    let above : block + 1 ≤ blocks = omega (arith, less) in
+    let next : (block + 1) * size ≤ blocks * size = mul-le-mul_right size above in
+    let most : blocks * size ≤ count + size - 1 = subst (λ n. n * size ≤ count + size - 1) (sym is) (div-mul-le_self (count + size - 1) size) in
+    omega (arith, next, most, some)
+
 pub within_count : (c : Coding) (count block : ℕ) → 0 < c.block → block < block_count c count → block * c.block < count
-within_count c count block some less =
-    let most : (block + 1) * c.block ≤ (count + c.block - 1) / c.block * c.block = mul-le-mul_right c.block less in
-    omega (arith, most, some)
+within_count c count block some less = within_size count c.block block (block_count c count) some refl less
