@@ -128,8 +128,7 @@ one_found xs width word lead within small is some is_lead =
     let tail_long : length (drop zeros front) ≡ suc j = omega (arith, length-drop zeros front, sum, long) in
     let (more, tail) = begins_with_one j (drop zeros front) tail_long (omega (arith, tail_number, low)) in
     let one : drop zeros xs ≡ true ∷ (more ++ drop width xs) = drop_front zeros width xs (omega (arith, sum)) within ∙ ap (λ ys. ys ++ drop width xs) tail in
-    let after : drop (zeros + 1) xs ≡ more ++ drop width xs = sym (drop-drop 1 zeros xs) ∙ ap (drop 1) one in
-    (
+    let after : drop (zeros + 1) xs ≡ more ++ drop width xs = sym (drop-drop 1 zeros xs) ∙ ap (drop 1) one in (
       omega (arith, leads, is_lead, fits),
       omega (arith, sum),
       one_behind zeros xs (more ++ drop width xs) (omega (arith, sum, within)) are_here one ∙ ap (Found zeros) (sym after),

@@ -123,8 +123,7 @@ finished_by kept c count start first index block bits last now ends so =
     let whole : items_from (block_count c count) c count 0 start ≡ behind so.entries (ended_by None) = so.whole ∙ ap (behind so.entries) ends in
     let are = so.kept_are in
     let entries : take count (items_from (block_count c count) c count 0 start).entries ≡ take count so.entries =
-    ap (λ (d : Decoded). take count d.entries) whole ∙ ap (take count) (append-nil so.entries) in
-    (
+    ap (λ (d : Decoded). take count d.entries) whole ∙ ap (take count) (append-nil so.entries) in (
       ap (λ (d : Decoded). d.fault) whole,
       record {
         numbers = are.numbers;

@@ -13,3 +13,6 @@ mod pairs;
 mod taking;
 
 pub use blocks::take_blocks;
+
+#[cfg(test)]
+mod tests;

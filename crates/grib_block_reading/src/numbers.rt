@@ -19,11 +19,7 @@ pub(crate) struct Kept<K> {
 
 /// Keeps a reference, if there is one.
 #[inline]
-fn keep_reference<K: Keeper>(
-    kept: Kept<K>,
-    coding: Coding,
-    reference: Option<u32>,
-) -> Kept<K>
+fn keep_reference<K: Keeper>(kept: Kept<K>, coding: Coding, reference: Option<u32>) -> Kept<K>
     requires last { kept.last ≤ greatest coding }
     requires reference { IsWithin coding reference }
     ensures last { result.last ≤ greatest coding }

@@ -100,7 +100,13 @@ fn take_read<K: Keeper + Drop>(
             let kept = keep_zero_blocks(kept, coding, head.reference, values);
             Ok(Taken { blocks, kept })
         }
-        Kind::Codes => take_codes(head.reference, coding, block, &codes[..values as usize], kept),
+        Kind::Codes => take_codes(
+            head.reference,
+            coding,
+            block,
+            &codes[..values as usize],
+            kept,
+        ),
         Kind::Long => Err(BlockFault::Block(block + 1)),
     }
 }
@@ -120,10 +126,10 @@ fn take_codes<K: Keeper + Drop>(
     requires reference { IsWithin coding reference }
     ensures { MatchResult result
         (λ taken. (taken.blocks ≡ 1) × (position (λ code. nat_lt (greatest coding) code) codes.now ≡ None) × ((place : ℕ) → StandsAt coding place reference
-            → NoReference coding (place + length (reference_entries reference)) (length codes.now)
-            → IsKept K.kept coding place kept.last (reference_entries reference ++ map Code codes.now) kept.keeper taken.kept.last taken.kept.keeper))
+        → NoReference coding (place + length (reference_entries reference)) (length codes.now)
+        → IsKept K.kept coding place kept.last (reference_entries reference ++ map Code codes.now) kept.keeper taken.kept.last taken.kept.keeper))
         (λ fault. (place : ℕ) × (position (λ code. nat_lt (greatest coding) code) codes.now ≡ Some place)
-            × (fault ≡ BlockFault.Value (block * coding.block + length (reference_entries reference) + place + 1))) }
+        × (fault ≡ BlockFault.Value (block * coding.block + length (reference_entries reference) + place + 1))) }
 {
     if let Some(place) = first_over(codes, coding.greatest()) {
         let before = block * u32::from(coding.block) + u32::from(reference.is_some());
@@ -134,13 +140,7 @@ fn take_codes<K: Keeper + Drop>(
 }
 
 /// How many codes of an item are of values, where it covers so many blocks and may have a reference.
-fn values_shown(
-    coding: Coding,
-    count: u32,
-    block: u32,
-    blocks: u32,
-    reference: Option<u32>,
-) -> u32
+fn values_shown(coding: Coding, count: u32, block: u32, blocks: u32, reference: Option<u32>) -> u32
     requires fits { Fits coding }
     requires few { count ≤ 33554432 }
     requires some { block * coding.block < count }

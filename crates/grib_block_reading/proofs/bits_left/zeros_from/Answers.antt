@@ -19,8 +19,7 @@ returns-then-word-ne0 c =
     let place = c.loop-place.place in
     let here = drop place xs in
     let found = one_found here _ _ _ (omega (arith, length-bits c.args.octets.now, length-drop place xs, c.min-width.ensures)) (omega (arith, c.min-width.ensures)) c.get_bits-word.ensures (omega arith) refl in
-    let sum : c.from.result ≡ count_leading_zeros 64 c.get_bits-word.result + c.min-width.result - 64 = c.from.ensures in
-    (
+    let sum : c.from.result ≡ count_leading_zeros 64 c.get_bits-word.result + c.min-width.result - 64 = c.from.ensures in (
       found_behind xs c.args.at place c.from.result c.loop-place.invariant.behind c.loop-place.invariant.zeros
           (subst (λ (n : ℕ). front_sequence here ≡ Found n (drop (n + 1) here)) (sym sum) found.2),
       omega (arith, found.1, sum, c.min-width.ensures, c.loop-place.invariant.within),

@@ -13,5 +13,5 @@ returns c =
     one_shl width 64 (omega (arith, c.identifier_width-width.ensures.within)) ∙ ap (λ n. 2 ^ n) c.identifier_width-width.ensures.is in
     let found = subst (λ (w : ℕ). front_number w c.args.bits.now ≡ Found identifier c.number.new.self) c.identifier_width-width.ensures.is c.in_ok-identifier.ensures.found in
     let same = split_identified c.args.coding c.args.with_reference c.args.bits.now c.number.new.self identifier (identifier - 1) found (omega arith)
-        (λ is. c.if-identifier-width.false (is ∙ sym power)) in
+    (λ is. c.if-identifier-width.false (is ∙ sym power)) in
     rw same c.read_split.ensures
