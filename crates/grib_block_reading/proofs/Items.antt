@@ -1,15 +1,14 @@
 -- Items from what their parts are.
-use Rattle.std.proofs.Common.{◌≡◌, ℕ, zero, suc, ◌+◌, ◌-◌, ◌*◌, ◌/◌, ◌^◌, ◌<◌, ◌≤◌, Bool, true, false, List, [], ◌∷◌, length, drop, Option, refl, sym, ap, ap₂, ◌∙◌, arith, ◌==◌}
+use Rattle.std.proofs.Common.{◌≡◌, ℕ, suc, ◌+◌, ◌-◌, ◌/◌, ◌^◌, Bool, false, List, length, Option, refl, sym, ap, ap₂, ◌∙◌, arith, ◌==◌}
 use Rattle.std.proofs.lemmas.Bool.{ne_eqb}
 use Rattle.grib_coding.specs.Coding.{identifier_width}
 use Rattle.grib_coding.specs.declared.coding.Coding.{Coding}
-use Rattle.grib_coding.specs.Items.{Item, Run, Second, Split, Plain, joined, codes_of_pairs}
+use Rattle.grib_coding.specs.Items.{Run, Second, Split, Plain}
 use Rattle.grib_coding.specs.Reading.{Front, Ended, Found, Coded, and_then, front_number, front_sequence, front_list, front_reference, front_zero, front_plain, front_split, front_kind, front_item, skipped}
-use Rattle.grib_block_reading.specs.declared.item.Head.{Head}
 use Rattle.grib_block_reading.specs.declared.item.Kind.{Kind}
 use Rattle.grib_block_reading.specs.declared.item.Kind.TheVariants.{Zeros, Codes, Long}
 use Rattle.grib_block_reading.specs.Fronts.{LowFound}
-use Rattle.grib_block_reading.specs.ItemRead.{ItemRead, IsBlock, IsOfKind, IsSpread, HasReference}
+use Rattle.grib_block_reading.specs.ItemRead.{ItemRead, IsOfKind, IsSpread, HasReference}
 
 pub chain : {A B : Type 0} (front : Front A) (next : A → List Bool → Front B) (x : A) (rest : List Bool) (end : Front B)
     → front ≡ Found x rest → next x rest ≡ end → and_then front next ≡ end

@@ -1,11 +1,11 @@
 -- Places of bits, and what is found there.
-use Rattle.std.proofs.Common.{◌≡◌, ◌⊎◌, inl, inr, ℕ, zero, suc, ◌+◌, ◌-◌, ◌*◌, ◌/◌, ◌%◌, ◌^◌, ◌<◌, ◌≤◌, Bool, true, false, cond, List, [], ◌∷◌, ◌++◌, length, take, drop, replicate, refl, sym, ap, ap₂, subst, ◌∙◌, arith, mod-eq_of_lt, nat_le, zero-add, pow_mono}
+use Rattle.std.proofs.Common.{◌≡◌, inl, inr, ℕ, zero, suc, ◌+◌, ◌-◌, ◌*◌, ◌/◌, ◌%◌, ◌^◌, ◌<◌, ◌≤◌, Bool, true, false, cond, List, [], ◌∷◌, ◌++◌, length, take, drop, replicate, refl, sym, ap, ap₂, subst, ◌∙◌, arith, mod-eq_of_lt, nat_le, zero-add, pow_mono}
 use Rattle.std.proofs.lemmas.Bool.{le-leb, cases_lt}
 use Rattle.std.proofs.lemmas.Bool.Decides.{nat_tests}
 use Rattle.std.proofs.lemmas.List.{length-drop, length-take-le, take-append-drop, drop-drop, drop-append-le, take-take, drop_all}
-use Rattle.std.proofs.lemmas.Nat.{leading_top, pow_pos, shr_below}
+use Rattle.std.proofs.lemmas.Nat.{leading_top, shr_below}
 use Rattle.std.specs.Int.Count.{count_leading_zeros}
-use Rattle.grib_bits.specs.Bits.{bits, bits_of, num, digit}
+use Rattle.grib_bits.specs.Bits.{bits, bits_of, num}
 use Rattle.grib_bits.proofs.Numbers.{bits_of-num, bits_of-zero, num-take, num-drop, num-lt}
 use Rattle.grib_coding.specs.Reading.{Front, Ended, Found, and_then, front_number, front_sequence}
 

@@ -1,6 +1,6 @@
 -- What an item shows of the values.
-use Rattle.std.proofs.Common.{◌≡◌, ℕ, zero, suc, ◌+◌, ◌-◌, ◌*◌, ◌%◌, ◌/◌, ◌<◌, ◌≤◌, ◌⊎◌, inl, inr, min, Bool, true, false, cond, not, ◌&&◌, ◌||◌, List, [], ◌∷◌, ◌++◌, length, get_or, take, drop, map, replicate, refl, sym, ap, ap₂, subst, ◌∙◌, arith, add-one, nat_lt, ◌==◌, Option, Some, None}
-use Rattle.std.specs.List.{All, position, position_or_len, prefix_len}
+use Rattle.std.proofs.Common.{◌≡◌, ℕ, zero, suc, ◌+◌, ◌-◌, ◌*◌, ◌%◌, ◌/◌, ◌<◌, ◌≤◌, inl, inr, min, Bool, true, false, cond, not, ◌&&◌, ◌||◌, List, [], ◌∷◌, ◌++◌, length, take, map, replicate, refl, sym, ap, ap₂, subst, ◌∙◌, arith, nat_lt, ◌==◌, Option, Some, None}
+use Rattle.std.specs.List.{All, position, position_or_len}
 use Rattle.std.proofs.lemmas.Bool.{cases_lt, lt-ltb, eq-eqb, ne_eqb, eqb-true, false≢true}
 use Rattle.std.proofs.Math.Nat.{mul-le-mul_right, mul-le-mul_left}
 use Rattle.std.proofs.lemmas.Nat.{mod-mul-add}
@@ -11,11 +11,11 @@ use Rattle.std.proofs.lemmas.List.Folds.{prefix_len-replicate}
 use Rattle.grib_packing.specs.declared.column.Point.{Point}
 use Rattle.grib_coding.specs.declared.coding.Coding.{Coding}
 use Rattle.grib_coding.specs.declared.fault.BlockFault.{BlockFault}
-use Rattle.grib_coding.specs.declared.fault.BlockFault.TheVariants.{Short, Block, Value}
+use Rattle.grib_coding.specs.declared.fault.BlockFault.TheVariants.{Block, Value}
 use Rattle.grib_coding.specs.Coding.{greatest, is_mapped, Fits}
 use Rattle.grib_coding.specs.Items.{Item, Run, covered, item_codes}
 use Rattle.grib_coding.specs.Numbers.{Told, Reference, Code, is_reference}
-use Rattle.grib_coding.specs.Reading.{Coded, is_over, item_fault, is_too_long, value_fault, entries_of, entries_with, skipped}
+use Rattle.grib_coding.specs.Reading.{is_over, item_fault, is_too_long, value_fault, entries_of, entries_with, skipped}
 use Rattle.grib_block_reading.specs.ItemRead.{HasReference, IsBlock}
 use Rattle.grib_block_reading.specs.Kept.{reference_entries, IsKept, IsWithin, StandsAt, NoReference}
 use Rattle.grib_block_reading.specs.Taking.{with_reference, coded_of, ItemPassed}

@@ -1,5 +1,5 @@
 -- Items one after another.
-use Rattle.std.proofs.Common.{◌≡◌, ℕ, zero, suc, ◌+◌, ◌-◌, ◌*◌, ◌/◌, ◌%◌, ◌<◌, ◌≤◌, Bool, true, false, List, [], ◌∷◌, ◌++◌, length, take, drop, map, refl, sym, ap, ap₂, subst, ◌∙◌, arith, append_assoc, nat_le, Option, Some, None}
+use Rattle.std.proofs.Common.{◌≡◌, ℕ, zero, suc, ◌+◌, ◌-◌, ◌*◌, ◌/◌, ◌%◌, ◌<◌, ◌≤◌, Bool, false, List, [], ◌++◌, length, take, refl, sym, ap, ap₂, subst, ◌∙◌, arith, append_assoc, nat_le, Some, None}
 use Rattle.std.proofs.Math.Nat.{div-mul-le_self, mul-le-mul_right}
 use Rattle.std.proofs.Math.Seq.{take-add, take-append_seam, drop-append_seam}
 use Rattle.std.proofs.lemmas.Bool.{le-leb}
@@ -8,12 +8,12 @@ use Rattle.std.proofs.lemmas.List.{take_all, append-nil, length-append}
 use Rattle.grib_packing.specs.declared.column.Point.{Point}
 use Rattle.grib_coding.specs.declared.coding.Coding.{Coding}
 use Rattle.grib_coding.specs.declared.fault.BlockFault.{BlockFault}
-use Rattle.grib_coding.specs.Coding.{greatest, block_count}
+use Rattle.grib_coding.specs.Coding.{block_count}
 use Rattle.grib_coding.specs.Items.{covered}
 use Rattle.grib_coding.specs.Numbers.{Told, told_after}
 use Rattle.grib_coding.specs.Reading.{Front, Ended, Found, Coded, Decoded, decoded, fault_of, items_from, after_item, unless_fault, unless_ended, ended_by, behind, item_fault, entries_of}
-use Rattle.grib_block_reading.specs.Kept.{IsKept, AreKept, point_of}
-use Rattle.grib_block_reading.specs.Taking.{ItemTaken, ItemPassed, front_at, outcome}
+use Rattle.grib_block_reading.specs.Kept.{IsKept, AreKept}
+use Rattle.grib_block_reading.specs.Taking.{ItemTaken, front_at, outcome}
 use Rattle.grib_block_reading.proofs.Keeping.{kept_none, kept_more}
 
 -- Items before a block were taken, and these bits are left.

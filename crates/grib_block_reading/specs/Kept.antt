@@ -4,7 +4,7 @@ use Rattle.grib_packing.specs.declared.column.Point.{Point}
 use Rattle.grib_packing.specs.declared.column.Point.TheVariants.{Scaled}
 use Rattle.grib_coding.specs.declared.coding.Coding.{Coding}
 use Rattle.grib_coding.specs.Coding.{greatest}
-use Rattle.grib_coding.specs.Numbers.{Told, Reference, Code, is_reference, told_after, AreTold}
+use Rattle.grib_coding.specs.Numbers.{Told, Reference, is_reference, told_after, AreTold}
 
 -- the point of a number
 abbrev pub point_of : ℕ → Point

@@ -1,4 +1,4 @@
-use Rattle.std.proofs.Common.{ℕ, sym, subst, ◌≡◌, ◌+◌, ◌*◌, ◌-◌, ◌≤◌, ◌<◌, refl, length, drop, arith}
+use Rattle.std.proofs.Common.{ℕ, sym, subst, ◌≡◌, ◌+◌, ◌-◌, refl, drop, arith}
 use Rattle.std.proofs.lemmas.List.{length-drop}
 use Rattle.std.specs.Int.Count.{count_leading_zeros}
 use Rattle.grib_bits.specs.Bits.{bits}

@@ -1,4 +1,4 @@
-use Rattle.std.proofs.Common.{◌≡◌, ◌-◌, ◌*◌, ◌≤◌, length, drop}
+use Rattle.std.proofs.Common.{◌≡◌, ◌-◌, ◌≤◌, drop}
 use Rattle.grib_bits.specs.Bits.{bits}
 use Rattle.grib_coding.specs.Reading.{front_sequence}
 use Rattle.grib_block_reading.proofs.Places.{behind_zeros}

@@ -1,4 +1,3 @@
-use Rattle.std.proofs.Common.{length}
 use Rattle.grib_bits.specs.Bits.{bits}
 use Rattle.grib_block_reading.proofs.Whole.{Going}
 use Rattle.grib_block_reading.proofs.blocks.take_all.Given as goal

@@ -1,4 +1,4 @@
-use Rattle.std.proofs.Common.{ℕ, suc, ◌≡◌, ◌-◌, arith}
+use Rattle.std.proofs.Common.{suc, ◌≡◌, ◌-◌, arith}
 use Rattle.grib_block_reading.proofs.item.read_zero.Goals as goal
 
 pub returns-else-bit-eq0 : goal.returns-else-bit-eq0

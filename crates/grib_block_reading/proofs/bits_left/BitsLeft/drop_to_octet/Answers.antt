@@ -1,4 +1,4 @@
-use Rattle.std.proofs.Common.{List, Bool, ◌≡◌, ◌+◌, ◌*◌, ◌%◌, ◌/◌, ap, sym, ◌∙◌, length, drop, arith}
+use Rattle.std.proofs.Common.{List, Bool, ◌%◌, ap, ◌∙◌, length, drop, arith}
 use Rattle.grib_bits.specs.Bits.{bits}
 use Rattle.grib_bits.proofs.OctetBits.{length-bits}
 use Rattle.grib_block_reading.proofs.Places.{to_octet}

@@ -1,5 +1,5 @@
-use Rattle.std.proofs.Common.{List, Bool, ◌≡◌, ◌+◌, ◌*◌, ◌≤◌, ◌<◌, ap, sym, ◌∙◌, length, take, drop, arith}
-use Rattle.grib_bits.specs.Bits.{bits, num}
+use Rattle.std.proofs.Common.{◌≡◌, ◌+◌, ap, sym, ◌∙◌, drop, arith}
+use Rattle.grib_bits.specs.Bits.{bits}
 use Rattle.grib_bits.proofs.OctetBits.{length-bits}
 use Rattle.grib_bits.proofs.WordNumbers.{number-lt}
 use Rattle.grib_coding.specs.Reading.{front_number, Found}
