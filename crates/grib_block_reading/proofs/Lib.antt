@@ -1,0 +1,7 @@
+pub mod Places
+pub mod Fronts
+pub mod Spread
+pub mod Items
+pub mod Keeping
+pub mod Shown
+pub mod Whole

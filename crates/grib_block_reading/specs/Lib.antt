@@ -1,0 +1,4 @@
+pub mod Fronts
+pub mod ItemRead
+pub mod Kept
+pub mod Taking

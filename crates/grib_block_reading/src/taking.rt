@@ -1,0 +1,177 @@
+//! One item, from its bits to its points.
+
+ghost use Rattle.std.specs.Prelude.{◌≡◌, ℕ, ◌+◌, ◌-◌, ◌*◌, ◌%◌, ◌==◌, ◌<◌, ◌≤◌, ◌++◌, min, map, List, length, nat_lt, MatchResult};
+ghost use Rattle.std.specs.List.{position};
+ghost use Rattle.grib_coding.specs.Coding.{Fits, greatest};
+ghost use Rattle.grib_coding.specs.Items.{Item, covered};
+ghost use Rattle.grib_coding.specs.Reading.{item_fault, padded, skipped};
+ghost use Rattle.grib_block_reading.specs.ItemRead.{IsOfKind, HasReference};
+ghost use Rattle.grib_coding.specs.Numbers.{Code};
+ghost use Rattle.grib_block_reading.specs.Kept.{IsKept, IsWithin, NoReference, StandsAt, reference_entries};
+ghost use Rattle.grib_block_reading.specs.Taking.{ItemTaken, ItemPassed, coded_of, with_reference as has_reference, front_at, outcome};
+
+use crate::bits_left::BitsLeft;
+use crate::item::{Head, Kind, read_item};
+use crate::numbers::{Kept, keep_block, keep_zero_blocks};
+use grib_coding::{BlockFault, Coding};
+use grib_packing::Keeper;
+
+/// What an item leaves: how many blocks it covers, and what its numbers went to.
+#[derive(Drop)]
+pub(crate) struct Taken<K> {
+    pub(crate) blocks: u32,
+    pub(crate) kept: Kept<K>,
+}
+
+/// Takes the item whose first block is `block`, of `count` values.
+pub(crate) fn take_item<K: Keeper + Drop>(
+    bits: &mut BitsLeft<'_>,
+    coding: Coding,
+    count: u32,
+    block: u32,
+    codes: &mut [u64],
+    kept: Kept<K>,
+) -> Result<Taken<K>, BlockFault>
+    requires fits { Fits coding }
+    requires few { count ≤ 33554432 }
+    requires some { block * coding.block < count }
+    requires room { length codes.old ≡ coding.block }
+    requires last { kept.last ≤ greatest coding }
+    ensures { let front = front_at coding block bits.old in MatchResult result
+        (λ taken. ItemTaken K.kept coding count block front bits.new kept.last kept.keeper taken.blocks taken.kept.last taken.kept.keeper)
+        (λ fault. outcome coding count block front ≡ Some fault) }
+{
+    skip_padding(bits, coding, block);
+    let with_reference = is_referred(coding, block);
+    let codes = &mut codes[usize::from(with_reference)..];
+    let Some(head) = read_item(bits, coding, with_reference, codes) else {
+        return Err(BlockFault::Short);
+    };
+    take_read(head, coding, count, block, codes, kept)
+}
+
+/// Passes what may stand before the first item of an interval.
+fn skip_padding(bits: &mut BitsLeft<'_>, coding: Coding, block: u32)
+    requires { Fits coding }
+    ensures { bits.new ≡ padded coding (block % coding.interval == 0) bits.old }
+{
+    if coding.is_padded() && block % u32::from(coding.interval) == 0 {
+        bits.drop_to_octet();
+    }
+}
+
+/// Whether the item that begins with a block has a reference.
+fn is_referred(coding: Coding, block: u32) -> bool
+    requires { Fits coding }
+    ensures { result ≡ has_reference coding block }
+{
+    block % u32::from(coding.interval) == 0 && coding.is_mapped()
+}
+
+/// Takes an item that was read.
+fn take_read<K: Keeper + Drop>(
+    head: Head,
+    coding: Coding,
+    count: u32,
+    block: u32,
+    codes: &[u64],
+    kept: Kept<K>,
+) -> Result<Taken<K>, BlockFault>
+    requires fits { Fits coding }
+    requires few { count ≤ 33554432 }
+    requires some { block * coding.block < count }
+    requires last { kept.last ≤ greatest coding }
+    requires room { length codes.now + skipped (has_reference coding block) ≡ coding.block }
+    requires reference { HasReference coding (has_reference coding block) head.reference }
+    ensures { (item : Item) → IsOfKind coding (skipped (has_reference coding block)) head.kind item codes.now
+        → let coded = coded_of head.reference item in MatchResult result
+        (λ taken. ItemPassed K.kept coding count block coded kept.last kept.keeper taken.blocks taken.kept.last taken.kept.keeper)
+        (λ fault. item_fault coding count block coded ≡ Some fault) }
+{
+    let place = block % u32::from(coding.interval);
+    let blocks = blocks_covered(coding, place, head.kind);
+    if blocks > u64::from(u32::from(coding.interval) - place) {
+        return Err(BlockFault::Block(block + 1));
+    }
+    let blocks = blocks as u32;
+    let values = values_shown(coding, count, block, blocks, head.reference);
+    match head.kind {
+        Kind::Zeros(_) => {
+            let kept = keep_zero_blocks(kept, coding, head.reference, values);
+            Ok(Taken { blocks, kept })
+        }
+        Kind::Codes => take_codes(
+            head.reference,
+            coding,
+            block,
+            &codes[..values as usize],
+            kept,
+        ),
+        Kind::Long => Err(BlockFault::Block(block + 1)),
+    }
+}
+
+/// Takes the codes of a block that are of values, behind a reference, if there is one.
+fn take_codes<K: Keeper + Drop>(
+    reference: Option<u32>,
+    coding: Coding,
+    block: u32,
+    codes: &[u64],
+    kept: Kept<K>,
+) -> Result<Taken<K>, BlockFault>
+    requires fits { Fits coding }
+    requires few { length codes.now ≤ 64 }
+    requires some { block * coding.block < 33554432 }
+    requires last { kept.last ≤ greatest coding }
+    requires reference { IsWithin coding reference }
+    ensures { MatchResult result
+        (λ taken. (taken.blocks ≡ 1) × (position (λ code. nat_lt (greatest coding) code) codes.now ≡ None) × ((place : ℕ) → StandsAt coding place reference
+        → NoReference coding (place + length (reference_entries reference)) (length codes.now)
+        → IsKept K.kept coding place kept.last (reference_entries reference ++ map Code codes.now) kept.keeper taken.kept.last taken.kept.keeper))
+        (λ fault. (place : ℕ) × (position (λ code. nat_lt (greatest coding) code) codes.now ≡ Some place)
+        × (fault ≡ BlockFault.Value (block * coding.block + length (reference_entries reference) + place + 1))) }
+{
+    if let Some(place) = first_over(codes, coding.greatest()) {
+        let before = block * u32::from(coding.block) + u32::from(reference.is_some());
+        return Err(BlockFault::Value(before + place as u32 + 1));
+    }
+    let kept = keep_block(kept, coding, reference, codes);
+    Ok(Taken { blocks: 1, kept })
+}
+
+/// How many codes of an item are of values, where it covers so many blocks and may have a reference.
+fn values_shown(coding: Coding, count: u32, block: u32, blocks: u32, reference: Option<u32>) -> u32
+    requires fits { Fits coding }
+    requires few { count ≤ 33554432 }
+    requires some { block * coding.block < count }
+    requires blocks { 1 ≤ blocks }
+    requires most { blocks ≤ 4096 }
+    ensures { result ≡ min (coding.block * blocks) (count - block * coding.block) - length (reference_entries reference) }
+{
+    let values = u32::from(coding.block) * blocks;
+    let left = count - block * u32::from(coding.block);
+    values.min(left) - u32::from(reference.is_some())
+}
+
+/// How many blocks an item covers whose first one has this place in its interval.
+fn blocks_covered(coding: Coding, place: u32, kind: Kind) -> u64
+    requires { place < coding.interval }
+    ensures some { 1 ≤ result }
+    ensures one { kind ≡ Kind.Codes → result ≡ 1 }
+    ensures covered { (item : Item) (skip : ℕ) (codes : List ℕ) → IsOfKind coding skip kind item codes → result ≡ covered coding place item }
+{
+    match kind {
+        Kind::Zeros(4) => u64::from((u32::from(coding.interval) - place).min(64 - place % 64)),
+        Kind::Zeros(number) if number < 4 => number + 1,
+        Kind::Zeros(number) => number,
+        Kind::Codes | Kind::Long => 1,
+    }
+}
+
+/// The place of the first code that is over the greatest number.
+fn first_over(codes: &[u64], most: u32) -> Option<usize>
+    ensures { result ≡ position (λ code. nat_lt most code) codes.now }
+{
+    let most = u64::from(most);
+    codes.iter().position(|code| *code > most)
+}
