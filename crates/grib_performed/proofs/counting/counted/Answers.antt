@@ -6,4 +6,4 @@ pub returns-in-One-clause-fields : goal.returns-in-One-clause-fields
 returns-in-One-clause-fields c = sym (fields_first _ _ c.in-One.is c.octets.ensures.message.edition_stands)
 
 pub returns-in-Two-clause-fields : goal.returns-in-Two-clause-fields
-returns-in-Two-clause-fields c = c.from.ensures ∙ (c.fields.ensures.count ∙ sym (fields_second _ _ c.in-Two.is c.octets.ensures.message.edition_stands))
+returns-in-Two-clause-fields c = c.from.ensures ∙ (c.fields.ensures.count ∙ sym (fields_second _ _ c.in-Two.is c.octets-in-Two.ensures.message.edition_stands))

@@ -15,4 +15,4 @@ returns-in-Two g c =
     subst
     (λ given. AnswersMessage g.T.Sink.contents g.T.Sink.faults g.T.Sink.settled g.H.Shelf.contents g.H.Shelf.faults c.second.result c.args.place.now.message given
     (g.C.Answerer.definition c.args.answerer.now).uses_shelf c.args.output.now c.second.new.output c.args.shelf.now c.second.new.shelf)
-    (sym (given_of_second (g.C.Answerer.definition c.args.answerer.now) c.args.place.now _ _ c.in-Two.is c.octets.ensures.message.edition_stands)) c.second.ensures
+    (sym (given_of_second (g.C.Answerer.definition c.args.answerer.now) c.args.place.now _ _ c.in-Two.is c.octets-in-Two.ensures.message.edition_stands)) c.second.ensures
