@@ -7,7 +7,6 @@ ghost use Rattle.grib2_grids.specs.Writable.{IsWritable};
 use crate::given::{put, put_length, section};
 use grib_base::{Fault, ReadFault, Reason};
 use grib_bits::BitWriter;
-use grib_samples::GRID;
 use grib2_grids::{
     Gaussian, Grid, GridSection, Lambert, LatLon, Mercator, Polar, Rotation, read_grid, write_grid,
 };
@@ -132,7 +131,7 @@ fn rewritten(rt: &impl Abort, alloc: Global, octets: &[u8]) -> Result<Vec<u8>, F
     let mut longer = octets.to_vec(alloc)?;
     longer.extend_from_slice(&[0xee; 3])?;
     put_length(rt, &mut longer);
-    let value = read(rt, alloc, &longer)?;
+    let value = read(rt, alloc, longer.as_slice())?;
     written(alloc, &value)
 }
 
@@ -163,12 +162,12 @@ const GRIDS: [(u8, u8, Grid); 6] = [
 fn templates_are_read_and_written(rt: HostRuntime) -> Result<(), Fail> {
     for (template, length, grid) in GRIDS {
         let octets = numbered(rt.alloc(), template, length)?;
-        let value = read(&rt, rt.alloc(), &octets)?;
+        let value = read(&rt, rt.alloc(), octets.as_slice())?;
         assert_eq!(rt; value.grid, grid, "template {template}");
         assert_eq!(rt; value.points, 4);
         assert_eq!(rt; (value.list_octets, value.list_meaning), (0, 7));
         assert_eq!(rt; value.rows.as_slice().len(), 0);
-        let again = rewritten(&rt, rt.alloc(), &octets)?;
+        let again = rewritten(&rt, rt.alloc(), octets.as_slice())?;
         assert_eq!(rt; again.as_slice(), octets.as_slice(), "template {template}");
     }
     Ok(())
@@ -192,19 +191,28 @@ fn lists_are_read_and_written(rt: HostRuntime) -> Result<(), Fail> {
             put(&mut octets, 6, &rows[0].wrapping_add(rows[1]).to_be_bytes());
             put(&mut octets, 10, &[size, 1]);
             put(&mut octets, 30, &[0xff; 4]);
-            let value = read(&rt, rt.alloc(), &octets)?;
+            let value = read(&rt, rt.alloc(), octets.as_slice())?;
             assert_eq!(rt; (value.list_octets, value.list_meaning), (size, 1));
             assert_eq!(rt; value.rows.as_slice(), rows.as_slice());
-            let again = rewritten(&rt, rt.alloc(), &octets)?;
+            let again = rewritten(&rt, rt.alloc(), octets.as_slice())?;
             assert_eq!(rt; again.as_slice(), octets.as_slice(), "template {template}");
         }
     }
     Ok(())
 }
 
+/// Section 3 of a message of two rows from 50 N 10 E to 49 N 11 E, in steps of one degree.
+const WORKED: [u8; 72] = [
+    0x00, 0x00, 0x00, 0x48, 0x03, 0x00, 0x00, 0x00, 0x00, 0x04, 0x00, 0x00, 0x00, 0x00, 0x06, 0xff,
+    0xff, 0xff, 0xff, 0xff, 0xff, 0xff, 0xff, 0xff, 0xff, 0xff, 0xff, 0xff, 0xff, 0xff, 0x00, 0x00,
+    0x00, 0x02, 0x00, 0x00, 0x00, 0x02, 0x00, 0x00, 0x00, 0x00, 0xff, 0xff, 0xff, 0xff, 0x02, 0xfa,
+    0xf0, 0x80, 0x00, 0x98, 0x96, 0x80, 0x30, 0x02, 0xeb, 0xae, 0x40, 0x00, 0xa7, 0xd8, 0xc0, 0x00,
+    0x0f, 0x42, 0x40, 0x00, 0x0f, 0x42, 0x40, 0x00,
+];
+
 #[test]
 fn a_worked_section_is_read(rt: HostRuntime) -> Result<(), Fail> {
-    let value = read(&rt, rt.alloc(), GRID)?;
+    let value = read(&rt, rt.alloc(), &WORKED)?;
     let Grid::LatLon(grid) = value.grid else {
         return Err(Fail::from("no grid of latitude and longitude"));
     };
@@ -221,29 +229,47 @@ fn a_worked_section_is_read(rt: HostRuntime) -> Result<(), Fail> {
 
 /// What the octets of the worked section from `at` on, counted from 0, become, with a list of rows
 /// behind them; and the refusal.
-const REFUSED: [(u8, &[u8], &[u8], u64, Reason, u64); 10] = rows![
-    5, &[1], &[], 43, Reason::GridSource, 1;
-    12, &[0, 2], &[], 50, Reason::GridTemplate, 2;
-    12, &[0, 30], &[], 38, Reason::SectionLength, 72;
-    10, &[1, 3], &[], 49, Reason::ListShape, 3;
-    10, &[5, 1], &[], 48, Reason::ListShape, 5;
-    10, &[2, 1], &[0, 1, 0], 110, Reason::ListShape, 2;
-    10, &[2, 1, 0, 40], &[0, 1, 0, 2], 44, Reason::PointCount, 3;
-    10, &[4, 1], &[0xff; 8], 44, Reason::PointCount, 8_589_934_590;
-    30, &[0, 0, 0, 3], &[], 44, Reason::PointCount, 6;
-    30, &[0xff; 8], &[], 44, Reason::PointCount, 18_446_744_065_119_617_025;
+const REFUSED: [(u8, &[u8], &[u8], u64, Reason, u64); 10] = [
+    (5, &[1], &[], 43, Reason::GridSource, 1),
+    (12, &[0, 2], &[], 50, Reason::GridTemplate, 2),
+    (12, &[0, 30], &[], 38, Reason::SectionLength, 72),
+    (10, &[1, 3], &[], 49, Reason::ListShape, 3),
+    (10, &[5, 1], &[], 48, Reason::ListShape, 5),
+    (10, &[2, 1], &[0, 1, 0], 110, Reason::ListShape, 2),
+    (10, &[2, 1, 0, 40], &[0, 1, 0, 2], 44, Reason::PointCount, 3),
+    (
+        10,
+        &[4, 1],
+        &[0xff; 8],
+        44,
+        Reason::PointCount,
+        8_589_934_590,
+    ),
+    (30, &[0, 0, 0, 3], &[], 44, Reason::PointCount, 6),
+    (
+        30,
+        &[0xff; 8],
+        &[],
+        44,
+        Reason::PointCount,
+        18_446_744_065_119_617_025,
+    ),
 ];
 
 #[test]
 fn sections_are_refused(rt: HostRuntime) -> Result<(), Fail> {
     for (at, new, behind, octet, reason, detail) in REFUSED {
-        let fault = ReadFault::Refused(Fault::at(octet, reason, detail));
-        let mut octets = GRID.to_vec(rt.alloc())?;
+        let fault = Fault {
+            octet,
+            reason,
+            detail,
+        };
+        let mut octets = WORKED.to_vec(rt.alloc())?;
         octets.extend_from_slice(behind)?;
         put_length(&rt, &mut octets);
         put(&mut octets, at, new);
-        let refused = read(&rt, rt.alloc(), &octets).err();
-        assert_eq!(rt; refused, Some(fault), "{reason} {detail}");
+        let refused = read(&rt, rt.alloc(), octets.as_slice()).err();
+        assert_eq!(rt; refused, Some(ReadFault::Refused(fault)));
     }
     Ok(())
 }

@@ -96,16 +96,20 @@ fn conditions_are_compared_by_key_and_value(rt: HostRuntime) -> Result<(), Fail>
         key: Key::Centre,
         value: Value::Number(98),
     };
-    let other_key = Condition {
-        key: Key::Year,
-        ..condition
-    };
-    let other_value = Condition {
-        value: Value::Missing,
-        ..condition
-    };
     assert!(rt; condition == Condition { ..condition });
-    assert!(rt; condition != other_key);
-    assert!(rt; condition != other_value);
+    assert!(rt;
+        condition
+            != Condition {
+                key: Key::Year,
+                ..condition
+            }
+    );
+    assert!(rt;
+        condition
+            != Condition {
+                value: Value::Missing,
+                ..condition
+            }
+    );
     Ok(())
 }

@@ -3,13 +3,6 @@
 //! values are from outside, worked by hand or made by another program.
 #![tactic(auto)]
 
-/// A table of cases. Commas stand between the cells of a row, and each row ends with a semicolon.
-macro_rules! rows {
-    ($($($cell:expr),+;)+) => {
-        [$(($($cell),+)),+]
-    };
-}
-
 #[cfg(test)]
 mod base;
 #[cfg(test)]

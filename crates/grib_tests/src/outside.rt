@@ -147,10 +147,14 @@ fn shelf_is_read_from_an_offset_on(rt: HostRuntime) -> Result<(), Fail> {
     assert_eq!(rt; read_two(&mut shelf, "a", 0), (Ok(2), [1, 2]));
     assert_eq!(rt; read_two(&mut shelf, "a", 2), (Ok(1), [3, 0]));
     assert_eq!(rt; read_two(&mut shelf, "a", 3), (Ok(0), [0, 0]));
-    let answer = read_two(&mut shelf, "b", 0);
-    assert_eq!(rt; answer, (Err(ShelfStop::Absent), [0, 0]));
-    let answer = read_two(&mut shelf, "a", 0);
-    assert_eq!(rt; answer, (Err(ShelfStop::Failed), [0, 0]));
+    assert_eq!(rt;
+        read_two(&mut shelf, "b", 0),
+        (Err(ShelfStop::Absent), [0, 0])
+    );
+    assert_eq!(rt;
+        read_two(&mut shelf, "a", 0),
+        (Err(ShelfStop::Failed), [0, 0])
+    );
     Ok(())
 }
 
@@ -217,15 +221,21 @@ fn file_shelf_keeps_octets_in_a_file(rt: HostRuntime) -> Result<(), Fail> {
     assert_eq!(rt; read_two(&mut shelf, name, 4), (Ok(0), [0, 0]));
     // A file is no folder: what would be in it is no absent name.
     let inside = "/tmp/grib-io-file-shelf.1/part";
-    let answer = read_two(&mut shelf, inside, 0);
-    assert_eq!(rt; answer, (Err(ShelfStop::Failed), [0, 0]));
+    assert_eq!(rt;
+        read_two(&mut shelf, inside, 0),
+        (Err(ShelfStop::Failed), [0, 0])
+    );
     fs::remove_file(&rt, name)?;
-    let answer = read_two(&mut shelf, name, 0);
-    assert_eq!(rt; answer, (Err(ShelfStop::Absent), [0, 0]));
+    assert_eq!(rt;
+        read_two(&mut shelf, name, 0),
+        (Err(ShelfStop::Absent), [0, 0])
+    );
     assert_eq!(rt; make(&mut shelf, "/tmp"), Err(Stop::Failed));
     assert_eq!(rt; append(&mut shelf, "/tmp", &[1]), Err(Stop::Failed));
-    let answer = read_two(&mut shelf, "/tmp", 0);
-    assert_eq!(rt; answer, (Err(ShelfStop::Failed), [0, 0]));
+    assert_eq!(rt;
+        read_two(&mut shelf, "/tmp", 0),
+        (Err(ShelfStop::Failed), [0, 0])
+    );
     Ok(())
 }
 
@@ -236,7 +246,7 @@ fn file_shelf_keeps_long_pieces(rt: HostRuntime) -> Result<(), Fail> {
     let mut shelf = FileShelf::new(rt.clone()?);
     let piece = vec![in rt.alloc(); 7u8; 200_000]?;
     assert_eq!(rt; make(&mut shelf, name), Ok(()));
-    assert_eq!(rt; append(&mut shelf, name, &piece), Ok(()));
+    assert_eq!(rt; append(&mut shelf, name, piece.as_slice()), Ok(()));
     assert_eq!(rt; append(&mut shelf, name, &[8, 9]), Ok(()));
     assert_eq!(rt; read_two(&mut shelf, name, 0), (Ok(2), [7, 7]));
     assert_eq!(rt; read_two(&mut shelf, name, 199_999), (Ok(2), [7, 8]));

@@ -77,8 +77,8 @@ fn a_long_piece_is_taken(rt: HostRuntime) -> Result<(), Fail> {
     for (most, count) in [(3, 3), (65_536, 65_536), (1_000_000, 200_000)] {
         let mut counting = Counting::new(most, 0);
         let mut sink = WriteSink::new(&mut counting);
-        assert_eq!(rt; sink.write(&piece), Ok(count));
-        assert_eq!(rt; sink.write(&piece), Ok(count));
+        assert_eq!(rt; sink.write(piece.as_slice()), Ok(count));
+        assert_eq!(rt; sink.write(piece.as_slice()), Ok(count));
         drop(sink);
         assert_eq!(rt; counting.writes, 2);
         assert_eq!(rt; counting.octets, count.saturating_mul(2));
