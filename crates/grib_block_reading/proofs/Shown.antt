@@ -15,10 +15,10 @@ use Rattle.grib_coding.specs.declared.fault.BlockFault.TheVariants.{Block, Value
 use Rattle.grib_coding.specs.Coding.{greatest, is_mapped, Fits}
 use Rattle.grib_coding.specs.Items.{Item, Run, covered, item_codes}
 use Rattle.grib_coding.specs.Numbers.{Told, Reference, Code, is_reference}
-use Rattle.grib_coding.specs.Reading.{is_over, item_fault, is_too_long, value_fault, entries_of, entries_with, skipped}
+use Rattle.grib_coding.specs.Reading.{is_over, item_fault, is_too_long, value_fault, entries_of, entries_with, skipped, IsWithin, coded_of}
 use Rattle.grib_block_reading.specs.ItemRead.{HasReference, IsBlock}
-use Rattle.grib_block_reading.specs.Kept.{reference_entries, IsKept, IsWithin, StandsAt, NoReference}
-use Rattle.grib_block_reading.specs.Taking.{with_reference, coded_of, ItemPassed}
+use Rattle.grib_block_reading.specs.Kept.{reference_entries, IsKept, StandsAt, NoReference}
+use Rattle.grib_block_reading.specs.Taking.{with_reference, ItemPassed}
 
 -- ---- places of references
 

@@ -27,11 +27,6 @@ abbrev pub reference_entries : Option ℕ → List Told
 reference_entries None = []
 reference_entries (Some number) = Reference number ∷ []
 
--- A reference is a number that can be.
-abbrev pub IsWithin : Coding → Option ℕ → Type 0
-IsWithin c None = Unit {0}
-IsWithin c (Some number) = number ≤ greatest c
-
 -- A reference stands where it can.
 abbrev pub StandsAt : Coding → ℕ → Option ℕ → Type 0
 StandsAt c place None = Unit {0}

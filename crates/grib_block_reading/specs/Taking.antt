@@ -17,9 +17,6 @@ with_reference c block = (block % c.interval == 0) && is_mapped c
 abbrev pub front_at : Coding → ℕ → List Bool → Front Coded
 front_at c block bits = front_item c (with_reference c block) (padded c (block % c.interval == 0) bits)
 
-abbrev pub coded_of : Option ℕ → Item → Coded
-coded_of reference item = record { reference = reference; item = item }
-
 -- what is wrong with it
 abbrev pub outcome : Coding → ℕ → ℕ → Front Coded → Option BlockFault
 outcome c count block Ended = Some Short

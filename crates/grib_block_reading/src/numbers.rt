@@ -1,10 +1,11 @@
 //! The numbers that codes tell, one after another.
 
 ghost use Rattle.std.specs.Prelude.{◌≡◌, ℕ, ◌+◌, ◌++◌, ◌≤◌, true, false, length, map, replicate, cond, All};
+ghost use Rattle.grib_coding.specs.Reading.{IsWithin};
 ghost use Rattle.grib_mapped.specs.Mapped.{mapped as mapped_code};
 ghost use Rattle.grib_coding.specs.Coding.{greatest, is_mapped};
 ghost use Rattle.grib_coding.specs.Numbers.{Code};
-ghost use Rattle.grib_block_reading.specs.Kept.{IsKept, IsWithin, NoReference, StandsAt, point_of, reference_entries};
+ghost use Rattle.grib_block_reading.specs.Kept.{IsKept, NoReference, StandsAt, point_of, reference_entries};
 
 use grib_coding::Coding;
 use grib_mapped::unmap;

@@ -4,11 +4,11 @@ ghost use Rattle.std.specs.Prelude.{◌≡◌, ℕ, ◌+◌, ◌-◌, ◌*◌, �
 ghost use Rattle.std.specs.List.{position};
 ghost use Rattle.grib_coding.specs.Coding.{Fits, greatest};
 ghost use Rattle.grib_coding.specs.Items.{Item, covered};
-ghost use Rattle.grib_coding.specs.Reading.{item_fault, padded, skipped};
+ghost use Rattle.grib_coding.specs.Reading.{item_fault, padded, skipped, IsWithin, coded_of};
 ghost use Rattle.grib_block_reading.specs.ItemRead.{IsOfKind, HasReference};
 ghost use Rattle.grib_coding.specs.Numbers.{Code};
-ghost use Rattle.grib_block_reading.specs.Kept.{IsKept, IsWithin, NoReference, StandsAt, reference_entries};
-ghost use Rattle.grib_block_reading.specs.Taking.{ItemTaken, ItemPassed, coded_of, with_reference as has_reference, front_at, outcome};
+ghost use Rattle.grib_block_reading.specs.Kept.{IsKept, NoReference, StandsAt, reference_entries};
+ghost use Rattle.grib_block_reading.specs.Taking.{ItemTaken, ItemPassed, with_reference as has_reference, front_at, outcome};
 
 use crate::bits_left::BitsLeft;
 use crate::item::{Head, Kind, read_item};

@@ -16,7 +16,7 @@ use Rattle.grib_coding.specs.Items.{Item, IsItem, item_codes, covered, joined, c
 use Rattle.grib_coding.specs.declared.fault.BlockFault.{BlockFault}
 use Rattle.grib_coding.specs.declared.fault.BlockFault.TheVariants.{Block}
 use Rattle.grib_coding.specs.Numbers.{Told, Reference, Code}
-use Rattle.grib_coding.specs.Reading.{Front, Found, Coded, is_too_long, is_over, item_fault, value_fault, entries_of, entries_with, front_item, skipped}
+use Rattle.grib_coding.specs.Reading.{Front, Found, Coded, is_too_long, is_over, item_fault, value_fault, entries_of, entries_with, front_item, skipped, coded_of}
 use Rattle.grib_coding.proofs.Pairs.{pair_of-number}
 use Rattle.grib_coding.proofs.Fronts.{item_back, no_reference, some_reference}
 use Rattle.grib_choice.specs.declared.choice.Choice.{Choice}
@@ -24,7 +24,7 @@ use Rattle.grib_choice.specs.declared.choice.Choice.TheVariants.{Plain, Second, 
 use Rattle.grib_choice.specs.Choices.{bits_as, high_sum, pair_sum, chosen, IsOption}
 use Rattle.grib_choice.proofs.Chosen.{chosen-least, wide}
 use Rattle.grib_choice.proofs.PairSums.{pair_sum-more}
-use Rattle.grib_block_writing.specs.Written.{coded, coded_bits, chosen_item, item_as, skip_of, pair_numbers, highs, lows}
+use Rattle.grib_block_writing.specs.Written.{coded_bits, chosen_item, item_as, skip_of, pair_numbers, highs, lows}
 use Rattle.grib_block_writing.proofs.Options.{chosen-option}
 use Rattle.grib_block_writing.proofs.Heads.{all_below, below_power}
 use Rattle.grib_block_writing.proofs.Shapes.{told_block}
@@ -197,14 +197,14 @@ no_fault c count q item within short all =
 -- ---- an item is read back
 
 pub front_back : (c : Coding) (t : Bool) (number : ℕ) (item : Item) (behind : List Bool) → number ≤ greatest c → IsItem c (skipped t) item
-    → front_item c t (coded_bits c (coded (cond t (Some number) None) item) ++ behind) ≡ Found (coded (cond t (Some number) None) item) behind
+    → front_item c t (coded_bits c (coded_of (cond t (Some number) None) item) ++ behind) ≡ Found (coded_of (cond t (Some number) None) item) behind
 front_back c true number item behind within is =
     item_back c true (bits_of c.bits number) (Some number) item behind (some_reference c number (below_power c.bits number within)) is
 front_back c false number item behind within is = item_back c false [] None item behind (no_reference c) is
 
 -- what a block's item tells
 pub block_entries : (c : Coding) (place : ℕ) (reference : Option ℕ) (codes : List ℕ) → length codes % 2 ≡ 0
-    → entries_of c place (coded reference (chosen_item c reference codes)) ≡ told_block reference codes
+    → entries_of c place (coded_of reference (chosen_item c reference codes)) ≡ told_block reference codes
 unfolding told_block
 block_entries c place None codes even = ap (map Code) (codes_back c place 0 codes (chosen c 0 codes) even)
 block_entries c place (Some number) codes even =

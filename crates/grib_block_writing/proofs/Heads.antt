@@ -1,5 +1,6 @@
 -- The bits of an item as its head and what follows that.
 use Rattle.std.proofs.Common.{lit<, inl, inr, ◌≡◌, ℕ, zero, suc, ◌+◌, ◌-◌, ◌*◌, ◌/◌, ◌%◌, ◌^◌, ◌<◌, ◌≤◌, Bool, true, false, List, [], ◌∷◌, ◌++◌, length, get_or, Option, Some, None, refl, sym, ap, ◌∙◌, arith, append_assoc, append-nil, length-append}
+use Rattle.grib_coding.specs.Reading.{IsWithin, coded_of}
 use Rattle.std.specs.List.{All}
 use Rattle.std.proofs.Math.Nat.{pow-le-pow_right}
 use Rattle.std.proofs.lemmas.Nat.{one_shl, pow_pos}
@@ -10,7 +11,7 @@ use Rattle.grib_bits.proofs.Numbers.{bits_of-add, length-bits_of}
 use Rattle.grib_coding.specs.declared.coding.Coding.{Coding}
 use Rattle.grib_coding.specs.Coding.{identifier_width, greatest}
 use Rattle.grib_coding.specs.Items.{Run, Second, Split, Plain, sequence, all_bits}
-use Rattle.grib_block_writing.specs.Written.{AddsBits, Leaves, Within, coded, coded_bits, head_bits, reference_bits}
+use Rattle.grib_block_writing.specs.Written.{AddsBits, Leaves, coded_bits, head_bits, reference_bits}
 use Rattle.grib_block_writing.proofs.Adding.{both, same_bits, number_added}
 
 -- ---- two parts of all bits
@@ -65,7 +66,7 @@ zeros_first width bit small =
     bits_of-add width 1 bit ∙ ap (λ (n : ℕ). bits_of width n ++ bits_of 1 bit) none
 
 pub run_parts : (c : Coding) (reference : Option ℕ) (number width : ℕ) → width ≡ identifier_width c
-    → coded_bits c (coded reference (Run number)) ≡ head_bits c 0 (width + 1) reference ++ sequence number
+    → coded_bits c (coded_of reference (Run number)) ≡ head_bits c 0 (width + 1) reference ++ sequence number
 run_parts c reference number width is =
     let w = identifier_width c in
     let r = reference_bits c reference in
@@ -75,7 +76,7 @@ run_parts c reference number width is =
     ∙ append_assoc (bits_of w 0) (false ∷ []) (r ++ sequence number))))
 
 pub second_parts : (c : Coding) (reference : Option ℕ) (pairs : List ℕ) (width : ℕ) → width ≡ identifier_width c
-    → coded_bits c (coded reference (Second pairs)) ≡ head_bits c 1 (width + 1) reference ++ all_bits sequence pairs
+    → coded_bits c (coded_of reference (Second pairs)) ≡ head_bits c 1 (width + 1) reference ++ all_bits sequence pairs
 second_parts c reference pairs width is =
     let w = identifier_width c in
     let r = reference_bits c reference in
@@ -87,7 +88,7 @@ second_parts c reference pairs width is =
 
 pub plain_parts : (c : Coding) (reference : Option ℕ) (codes : List ℕ) (width ones bits : ℕ) → width ≡ identifier_width c
     → ones ≡ 2 ^ identifier_width c - 1 → bits ≡ c.bits
-    → coded_bits c (coded reference (Plain codes)) ≡ head_bits c ones width reference ++ all_bits (bits_of bits) codes
+    → coded_bits c (coded_of reference (Plain codes)) ≡ head_bits c ones width reference ++ all_bits (bits_of bits) codes
 plain_parts c reference codes width ones bits is is' is'' =
     let w = identifier_width c in
     let r = reference_bits c reference in
@@ -97,7 +98,7 @@ plain_parts c reference codes width ones bits is is' is'' =
     ∙ ap (λ (n : ℕ). bits_of w (2 ^ w - 1) ++ (r ++ all_bits (bits_of n) codes)) is'')))
 
 pub split_parts : (c : Coding) (reference : Option ℕ) (k : ℕ) (high low : List ℕ) (width : ℕ) → width ≡ identifier_width c
-    → coded_bits c (coded reference (Split k high low))
+    → coded_bits c (coded_of reference (Split k high low))
     ≡ (head_bits c (k + 1) width reference ++ all_bits sequence high) ++ all_bits (bits_of k) low
 split_parts c reference k high low width is =
     let i = bits_of width (k + 1) in

@@ -1,5 +1,6 @@
 -- No other items have fewer bits.
 use Rattle.std.proofs.Common.{inl, inr, ◌≡◌, ℕ, zero, suc, ◌+◌, ◌-◌, ◌*◌, ◌/◌, ◌%◌, ◌<◌, ◌≤◌, Bool, true, false, List, [], ◌∷◌, get_or, length, Option, Some, None, sum, ap, ◌∙◌, arith}
+use Rattle.grib_coding.specs.Reading.{coded_of}
 use Rattle.std.specs.List.{All}
 use Rattle.std.proofs.lemmas.Bool.Decides.{nat_tests}
 use Rattle.std.proofs.lemmas.List.Sums.{sum_by-cons}
@@ -10,13 +11,13 @@ use Rattle.grib_choice.specs.declared.choice.Choice.{Choice}
 use Rattle.grib_choice.specs.Choices.{bits_as, chosen, IsOption}
 use Rattle.grib_choice.specs.Runs.{run_number}
 use Rattle.grib_choice.proofs.Chosen.{chosen-least}
-use Rattle.grib_block_writing.specs.Written.{coded, coded_bits, chosen_item, item_as, skip_of, run_size, sizes_of}
+use Rattle.grib_block_writing.specs.Written.{coded_bits, chosen_item, item_as, skip_of, run_size, sizes_of}
 use Rattle.grib_block_writing.proofs.Lengths.{length-coded, skip_few}
 
 pub least_block : (c : Coding) (reference : Option ℕ) (codes : List ℕ) (choice : Choice) → length codes ≡ c.block → c.block % 2 ≡ 0 → 1 ≤ c.block
     → (skip_of reference ≡ 1 → get_or codes 0 0 ≡ 0) → IsOption c choice
-    → length (coded_bits c (coded reference (chosen_item c reference codes)))
-    ≤ length (coded_bits c (coded reference (item_as choice (skip_of reference) codes)))
+    → length (coded_bits c (coded_of reference (chosen_item c reference codes)))
+    ≤ length (coded_bits c (coded_of reference (item_as choice (skip_of reference) codes)))
 least_block c reference codes choice long even some first option =
     let s = skip_of reference in
     let codes_even : length codes % 2 ≡ 0 = ap (λ (n : ℕ). n % 2) long ∙ even in

@@ -1,5 +1,6 @@
 -- How many bits items have.
 use Rattle.std.proofs.Common.{lit<, inl, inr, ◌≡◌, ℕ, zero, suc, ◌+◌, ◌-◌, ◌*◌, ◌/◌, ◌%◌, ◌^◌, ◌<◌, ◌≤◌, Bool, true, false, List, [], ◌∷◌, ◌++◌, map, get_or, take, drop, length, Option, Some, None, refl, sym, ap, ap₂, ◌∙◌, subst, arith, length-append, length-drop}
+use Rattle.grib_coding.specs.Reading.{coded_of}
 use Rattle.std.specs.List.{All, sum_by}
 use Rattle.std.proofs.Math.Nat.{mul-le-mul_right, mul-le-mul_left}
 use Rattle.std.proofs.lemmas.List.{length-map}
@@ -15,7 +16,7 @@ use Rattle.grib_choice.specs.declared.choice.Choice.TheVariants.{Plain, Second, 
 use Rattle.grib_choice.specs.Choices.{bits_as, high_sum, pair_sum, chosen}
 use Rattle.grib_choice.proofs.Chosen.{chosen-least}
 use Rattle.grib_block_writing.specs.Blocks.{codes_of, reference_of}
-use Rattle.grib_block_writing.specs.Written.{coded, coded_bits, chosen_item, item_as, skip_of, pair_numbers, highs, lows, reference_bits, head_bits}
+use Rattle.grib_block_writing.specs.Written.{coded_bits, chosen_item, item_as, skip_of, pair_numbers, highs, lows, reference_bits, head_bits}
 use Rattle.grib_block_writing.proofs.Adding.{length-sequence}
 use Rattle.grib_block_writing.proofs.Heads.{run_parts, second_parts, plain_parts, split_parts}
 
@@ -63,7 +64,7 @@ kept_sum k (suc (suc skip)) codes few none = absurd (omega arith)
 
 pub length-coded : (c : Coding) (reference : Option ℕ) (skip : ℕ) (codes : List ℕ) (choice : Choice) → length codes ≡ c.block → length codes % 2 ≡ 0
     → skip ≤ 1 → skip ≤ c.block → (skip ≡ 1 → get_or codes 0 0 ≡ 0)
-    → length (coded_bits c (coded reference (item_as choice skip codes)))
+    → length (coded_bits c (coded_of reference (item_as choice skip codes)))
     ≡ identifier_width c + length (reference_bits c reference) + bits_as c skip codes choice
 length-coded c reference skip codes Plain long even few small none =
     let w = identifier_width c in
@@ -110,7 +111,7 @@ length-coded c reference skip codes (Split k) long even few small none =
     )
 
 pub length-run : (c : Coding) (reference : Option ℕ) (number : ℕ)
-    → length (coded_bits c (coded reference (Run number))) ≡ identifier_width c + length (reference_bits c reference) + number + 2
+    → length (coded_bits c (coded_of reference (Run number))) ≡ identifier_width c + length (reference_bits c reference) + number + 2
 length-run c reference number =
     let w = identifier_width c in
     omega (
@@ -140,7 +141,7 @@ chosen_few c skip codes block bits =
 
 pub length-chosen : (c : Coding) (block : List Told) → length (codes_of block) ≡ c.block → 1 ≤ c.block → c.block % 2 ≡ 0
     → (reference : Option ℕ) (skip : ℕ) (codes : List ℕ) → reference ≡ reference_of block → skip ≡ skip_of reference → codes ≡ codes_of block
-    → length (coded_bits c (coded reference (chosen_item c reference (codes_of block))))
+    → length (coded_bits c (coded_of reference (chosen_item c reference (codes_of block))))
     ≡ identifier_width c + length (reference_bits c reference) + bits_as c skip codes (chosen c skip codes)
 length-chosen c block long some even reference skip codes is_reference is_skip is_codes =
     let s = skip_of reference in

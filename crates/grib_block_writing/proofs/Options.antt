@@ -1,5 +1,6 @@
 -- The item that a block was chosen to be.
 use Rattle.std.proofs.Common.{lit<, inl, inr, ◌≡◌, ℕ, zero, suc, ◌+◌, ◌-◌, ◌*◌, ◌/◌, ◌%◌, ◌^◌, ◌<◌, ◌≤◌, Bool, true, false, cond, nat_lt, List, [], ◌∷◌, map, take, drop, length, Option, Some, None, refl, sym, ap, ◌∙◌, subst, arith, div-one}
+use Rattle.grib_coding.specs.Reading.{coded_of}
 use Rattle.std.specs.List.{All, range_with_len}
 use Rattle.std.proofs.Math.Nat.{mul-le-mul_left, mul-le-mul_right}
 use Rattle.std.proofs.lemmas.Bool.{cases_lt, lt-ltb, le-ltb}
@@ -14,7 +15,7 @@ use Rattle.grib_choice.specs.declared.choice.Choice.{Choice}
 use Rattle.grib_choice.specs.declared.choice.Choice.TheVariants.{Plain, Second, Split}
 use Rattle.grib_choice.specs.Choices.{bits_as, fewest_of, high_sum, pair_sum, chosen, IsOption}
 use Rattle.grib_coding.specs.Items.{Item, Plain as AsPlain, Second as AsSecond, Split as AsSplit}
-use Rattle.grib_block_writing.specs.Written.{coded, coded_bits, chosen_item, item_as, skip_of, pair_numbers, highs, lows}
+use Rattle.grib_block_writing.specs.Written.{coded_bits, chosen_item, item_as, skip_of, pair_numbers, highs, lows}
 use Rattle.grib_choice.proofs.Chosen.{chosen-least}
 use Rattle.grib_choice.proofs.PairSums.{pair_sum-more}
 
@@ -79,25 +80,25 @@ chosen-item c reference skip codes choice is chose =
 
 pub plain_item : (c : Coding) (reference : Option ℕ) (skip : ℕ) (codes : List ℕ) → skip ≡ skip_of reference
     → chosen c skip codes ≡ Plain
-    → coded_bits c (coded reference (AsPlain (take (length codes - skip) (drop skip codes)))) ≡ coded_bits c (coded reference (chosen_item c reference codes))
+    → coded_bits c (coded_of reference (AsPlain (take (length codes - skip) (drop skip codes)))) ≡ coded_bits c (coded_of reference (chosen_item c reference codes))
 plain_item c reference skip codes is chose =
-    ap (λ (xs : List ℕ). coded_bits c (coded reference (AsPlain xs))) (take_rest codes skip)
-    ∙ ap (λ (i : Item). coded_bits c (coded reference i)) (chosen-item c reference skip codes Plain is chose)
+    ap (λ (xs : List ℕ). coded_bits c (coded_of reference (AsPlain xs))) (take_rest codes skip)
+    ∙ ap (λ (i : Item). coded_bits c (coded_of reference i)) (chosen-item c reference skip codes Plain is chose)
 
 pub pair_item : (c : Coding) (reference : Option ℕ) (skip : ℕ) (codes : List ℕ) → skip ≡ skip_of reference
     → chosen c skip codes ≡ Second
-    → coded_bits c (coded reference (AsSecond (pair_numbers codes))) ≡ coded_bits c (coded reference (chosen_item c reference codes))
+    → coded_bits c (coded_of reference (AsSecond (pair_numbers codes))) ≡ coded_bits c (coded_of reference (chosen_item c reference codes))
 pair_item c reference skip codes is chose =
-    ap (λ (i : Item). coded_bits c (coded reference i)) (chosen-item c reference skip codes Second is chose)
+    ap (λ (i : Item). coded_bits c (coded_of reference i)) (chosen-item c reference skip codes Second is chose)
 
 pub split_item : (c : Coding) (reference : Option ℕ) (skip : ℕ) (codes : List ℕ) (k low : ℕ) → skip ≡ skip_of reference
     → chosen c skip codes ≡ Split k → low ≡ k
-    → coded_bits c (coded reference (AsSplit low (highs low (take (length codes - skip) (drop skip codes))) (lows low (take (length codes - skip) (drop skip codes)))))
-    ≡ coded_bits c (coded reference (chosen_item c reference codes))
+    → coded_bits c (coded_of reference (AsSplit low (highs low (take (length codes - skip) (drop skip codes))) (lows low (take (length codes - skip) (drop skip codes)))))
+    ≡ coded_bits c (coded_of reference (chosen_item c reference codes))
 split_item c reference skip codes k low is chose same =
-    ap (λ (xs : List ℕ). coded_bits c (coded reference (AsSplit low (highs low xs) (lows low xs)))) (take_rest codes skip)
-    ∙ (ap (λ (n : ℕ). coded_bits c (coded reference (AsSplit n (highs n (drop skip codes)) (lows n (drop skip codes))))) same
-    ∙ ap (λ (i : Item). coded_bits c (coded reference i)) (chosen-item c reference skip codes (Split k) is chose))
+    ap (λ (xs : List ℕ). coded_bits c (coded_of reference (AsSplit low (highs low xs) (lows low xs)))) (take_rest codes skip)
+    ∙ (ap (λ (n : ℕ). coded_bits c (coded_of reference (AsSplit n (highs n (drop skip codes)) (lows n (drop skip codes))))) same
+    ∙ ap (λ (i : Item). coded_bits c (coded_of reference i)) (chosen-item c reference skip codes (Split k) is chose))
 
 pub split_low : (c : Coding) (skip : ℕ) (codes : List ℕ) (k low : ℕ) → chosen c skip codes ≡ Split k → low ≡ k → low + 3 ≤ 2 ^ identifier_width c
 split_low c skip codes k low chose same =

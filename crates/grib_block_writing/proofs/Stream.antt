@@ -11,13 +11,13 @@ use Rattle.grib_coding.specs.Coding.{Fits, block_count, is_mapped, is_padded, gr
 use Rattle.grib_coding.specs.declared.fault.BlockFault.{BlockFault}
 use Rattle.grib_coding.specs.Items.{Item, IsItem, Run, covered}
 use Rattle.grib_coding.specs.Numbers.{Told, Reference, Code, told_after}
-use Rattle.grib_coding.specs.Reading.{Front, Found, Coded, Decoded, decoded, read_as, ended_by, item_fault, entries_of, front_item, items_from, is_over, is_too_long, skipped, behind as with_behind}
+use Rattle.grib_coding.specs.Reading.{Front, Found, Coded, Decoded, decoded, read_as, ended_by, item_fault, entries_of, front_item, items_from, is_over, is_too_long, skipped, behind as with_behind, coded_of}
 use Rattle.grib_mapped.specs.Mapped.{codes_after}
 use Rattle.grib_choice.specs.Runs.{run_room, run_number}
 use Rattle.grib_choice.specs.Choices.{chosen}
 use Rattle.grib_mapped.proofs.Lists.{tells_within}
 use Rattle.grib_block_writing.specs.Blocks.{all_told, blocks_of, block_at, codes_of, reference_of, numbers_of, base_of}
-use Rattle.grib_block_writing.specs.Written.{run_length, number_of, coded, coded_bits, chosen_item, bits_from, skip_of, written}
+use Rattle.grib_block_writing.specs.Written.{run_length, number_of, coded_bits, chosen_item, bits_from, skip_of, written}
 use Rattle.grib_block_writing.proofs.Shapes.{Shape, shape, told_block, reference_at, codes_at, length-told, within_blocks}
 use Rattle.grib_block_writing.proofs.Zeros.{fits_block, base-within, these-within}
 use Rattle.grib_block_writing.proofs.Runs.{run_bits, block_bits, number_is}
@@ -67,8 +67,8 @@ skip_is false number = refl
 -- an item of a block is read back
 front : (c : Coding) (numbers : List ℕ) (q : ℕ) (item : Item) (behind : List Bool) → 1 ≤ c.block → 1 ≤ c.interval → q < block_count c (length numbers)
     → All (λ n. n ≤ greatest c) numbers → IsItem c (skip_of (reference_of (block_at c numbers q))) item
-    → front_item c (begins c q) (coded_bits c (coded (reference_of (block_at c numbers q)) item) ++ behind)
-    ≡ Found (coded (reference_of (block_at c numbers q)) item) behind
+    → front_item c (begins c q) (coded_bits c (coded_of (reference_of (block_at c numbers q)) item) ++ behind)
+    ≡ Found (coded_of (reference_of (block_at c numbers q)) item) behind
 front c numbers q item behind some interval within all is =
     let number = get_or numbers (q * c.block) 0 in
     let t = begins c q in
@@ -76,9 +76,9 @@ front c numbers q item behind some interval within all is =
     let fits = within_blocks c (length numbers) q some within in
     let is' : IsItem c (skipped t) item =
     subst (λ (n : ℕ). IsItem c n item) (ap skip_of reference ∙ skip_is t number) is in
-    ap (λ (r : Option ℕ). front_item c t (coded_bits c (coded r item) ++ behind)) reference
+    ap (λ (r : Option ℕ). front_item c t (coded_bits c (coded_of r item) ++ behind)) reference
     ∙ (front_back c t number item behind (All-get_or (λ n. n ≤ greatest c) numbers (q * c.block) 0 (fits.0) all) is'
-    ∙ ap (λ (r : Option ℕ). Found (coded r item) behind) (sym reference))
+    ∙ ap (λ (r : Option ℕ). Found (coded_of r item) behind) (sym reference))
 
 skip_small : (reference : Option ℕ) → skip_of reference ≤ 1
 skip_small None = omega arith
@@ -98,7 +98,7 @@ read_block c numbers rest most q fits unpadded all within none next =
     let reference = reference_of block in
     let codes = codes_of block in
     let item = chosen_item c reference codes in
-    let one = coded reference item in
+    let one = coded_of reference item in
     let place = q % c.interval in
     let B = fits_block c fits in
     let behind = bits_from c (q + 1) (drop (q + 1) (blocks_of c numbers)) ++ rest in
@@ -124,7 +124,7 @@ read_block c numbers rest most q fits unpadded all within none next =
 
 -- what a run tells as it is read
 run_entries : (c : Coding) (place number : ℕ) (reference : Option ℕ)
-    → entries_of c place (coded reference (Run number)) ≡ told_block reference (replicate (c.block * covered c place (Run number)) 0)
+    → entries_of c place (coded_of reference (Run number)) ≡ told_block reference (replicate (c.block * covered c place (Run number)) 0)
 unfolding told_block
 run_entries c place number None =
     let all = c.block * covered c place (Run number) in
@@ -145,7 +145,7 @@ read_run c numbers rest most q count fits unpadded all within is some next =
     let blocks = block_count c (length numbers) in
     let ends = count == run_room c place || (count == blocks - q) in
     let number = run_number count ends in
-    let one = coded reference (Run number) in
+    let one = coded_of reference (Run number) in
     let k = covered c place (Run number) in
     let behind = bits_from c (q + count) (drop (q + count) (blocks_of c numbers)) ++ rest in
     let run : RunOf c numbers q count = subst (λ (n : ℕ). RunOf c numbers q n) (sym is) (run_of c numbers q within) in

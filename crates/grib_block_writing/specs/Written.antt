@@ -8,7 +8,7 @@ use Rattle.grib_coding.specs.declared.coding.Coding.{Coding}
 use Rattle.grib_coding.specs.Coding.{greatest, identifier_width}
 use Rattle.grib_coding.specs.Items.{Item, Run, Second, Split, Plain, item_bits, pair_number}
 use Rattle.grib_coding.specs.Numbers.{Told}
-use Rattle.grib_coding.specs.Reading.{Coded}
+use Rattle.grib_coding.specs.Reading.{Coded, coded_of}
 use Rattle.grib_choice.specs.declared.choice.Choice.{Choice}
 use Rattle.grib_choice.specs.declared.choice.Choice.TheVariants.{Plain as AsPlain, Second as AsSecond, Split as AsSplit}
 use Rattle.grib_choice.specs.Choices.{chosen}
@@ -42,9 +42,6 @@ item_as (AsSplit k) skip codes = Split k (highs k (drop skip codes)) (lows k (dr
 abbrev pub chosen_item : Coding → Option ℕ → List ℕ → Item
 chosen_item c reference codes = let skip = skip_of reference in item_as (chosen c skip codes) skip codes
 
-abbrev pub coded : Option ℕ → Item → Coded
-coded reference item = record { reference = reference; item = item }
-
 -- how many blocks the run covers that begins with the first of these, at this place in its interval: zero blocks of one
 -- segment are one run, as long as possible
 abbrev pub run_length : Coding → ℕ → List (List Told) → ℕ
@@ -68,17 +65,12 @@ items_of c number more [] = []
 items_of c number (suc more) (block ∷ blocks) = items_of c (number + 1) more blocks
 items_of c number zero (block ∷ blocks) =
     let place = number % c.interval in
-    coded (reference_of block) (first_item c place block blocks)
+    coded_of (reference_of block) (first_item c place block blocks)
     ∷ items_of c (number + 1) (run_length c place (block ∷ blocks) - 1) blocks
 
 abbrev pub reference_bits : Coding → Option ℕ → List Bool
 reference_bits c None = []
 reference_bits c (Some number) = bits_of c.bits number
-
--- a reference, if there is one, is a number that can be
-abbrev pub Within : Coding → Option ℕ → Type 0
-Within c None = Unit {0}
-Within c (Some number) = number ≤ greatest c
 
 -- an identifier of so many bits, and the reference behind it
 abbrev pub head_bits : Coding → ℕ → ℕ → Option ℕ → List Bool

@@ -1,10 +1,11 @@
 //! The blocks that numbers are cut into.
 
 ghost use Rattle.std.specs.Prelude.{◌≡◌, ℕ, ◌+◌, ◌-◌, ◌*◌, ◌%◌, ◌^◌, ◌<◌, ◌≤◌, ◌&&◌, ◌==◌, All, length, take, drop, replicate};
+ghost use Rattle.grib_coding.specs.Reading.{IsWithin};
 ghost use Rattle.std.specs.List.{list_all};
 ghost use Rattle.grib_coding.specs.Coding.{Fits, greatest, block_count, is_mapped};
 ghost use Rattle.grib_block_writing.specs.Blocks.{block_at, blocks_of, numbers_of, base_of, codes_of, reference_of, is_zero};
-ghost use Rattle.grib_block_writing.specs.Written.{Within, run_length};
+ghost use Rattle.grib_block_writing.specs.Written.{run_length};
 
 use grib_choice::room_of_run;
 use grib_coding::Coding;
@@ -40,7 +41,7 @@ pub(crate) fn reference_in(numbers: &[u32], block: u32, coding: &Coding) -> Opti
     requires few { length numbers.now < 2 ^ 32 }
     requires numbers { All (λ number. number ≤ greatest coding.now) numbers.now }
     ensures is { result ≡ reference_of (block_at coding.now numbers.now block) }
-    ensures within { Within coding.now result }
+    ensures within { IsWithin coding.now result }
 {
     if begins_interval(block, coding) {
         Some(numbers[block as usize * usize::from(coding.block)])

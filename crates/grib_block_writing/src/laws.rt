@@ -3,10 +3,10 @@
 ghost use Rattle.std.specs.Prelude.{◌≡◌, ℕ, ◌%◌, ◌≤◌, List, ◌∷◌, ◌++◌, Bool, false, Option, All, length, get_or, sum};
 ghost use Rattle.grib_coding.specs.declared.coding.Coding.{Coding};
 ghost use Rattle.grib_coding.specs.Coding.{Fits, is_padded, greatest};
-ghost use Rattle.grib_coding.specs.Reading.{decoded, read_as};
+ghost use Rattle.grib_coding.specs.Reading.{decoded, read_as, coded_of};
 ghost use Rattle.grib_choice.specs.declared.choice.Choice.{Choice};
 ghost use Rattle.grib_choice.specs.Choices.{IsOption};
-ghost use Rattle.grib_block_writing.specs.Written.{chosen_item, coded, coded_bits, item_as, run_size, sizes_of, skip_of, written};
+ghost use Rattle.grib_block_writing.specs.Written.{chosen_item, coded_bits, item_as, run_size, sizes_of, skip_of, written};
 
 /// What is written of numbers is read as these numbers, whatever follows it.
 pub fn what_is_written_is_read_back()
@@ -18,8 +18,8 @@ pub fn what_is_written_is_read_back()
 pub fn no_item_has_fewer_bits()
     ensures { (c : Coding) (reference : Option ℕ) (codes : List ℕ) (choice : Choice) → Fits c → length codes ≡ c.block
         → (skip_of reference ≡ 1 → get_or codes 0 0 ≡ 0) → IsOption c choice
-        → length (coded_bits c (coded reference (chosen_item c reference codes)))
-        ≤ length (coded_bits c (coded reference (item_as choice (skip_of reference) codes))) }
+        → length (coded_bits c (coded_of reference (chosen_item c reference codes)))
+        ≤ length (coded_bits c (coded_of reference (item_as choice (skip_of reference) codes))) }
 {}
 
 /// One run has no more bits than several that cover its blocks, of which the last ends where it ends.

@@ -1,10 +1,11 @@
 //! How many bits items have.
 
 ghost use Rattle.std.specs.Prelude.{◌≡◌, ◌+◌, ◌-◌, ◌*◌, ◌/◌, ◌%◌, ◌^◌, ◌<◌, ◌≤◌, All, length, drop};
+ghost use Rattle.grib_coding.specs.Reading.{coded_of};
 ghost use Rattle.grib_coding.specs.Coding.{Fits, greatest, block_count, is_padded, identifier_width};
 ghost use Rattle.grib_choice.specs.Choices.{bits_as, chosen};
 ghost use Rattle.grib_block_writing.specs.Blocks.{block_at, blocks_of, codes_of, reference_of};
-ghost use Rattle.grib_block_writing.specs.Written.{bits_from, chosen_item, coded, coded_bits, reference_bits, skip_of, written};
+ghost use Rattle.grib_block_writing.specs.Written.{bits_from, chosen_item, coded_bits, reference_bits, skip_of, written};
 
 use crate::blocks::{fill_codes, reference_in, run_length_at};
 use crate::writer::run_number_at;
@@ -52,7 +53,7 @@ fn size_of_block(numbers: &[u32], block: u32, reference: Option<u32>, coding: &C
     requires few { length numbers.now < 2 ^ 32 }
     requires numbers { All (λ number. number ≤ greatest coding.now) numbers.now }
     requires reference { reference ≡ reference_of (block_at coding.now numbers.now block) }
-    ensures is { result ≡ length (coded_bits coding.now (coded reference (chosen_item coding.now reference (codes_of (block_at coding.now numbers.now block))))) }
+    ensures is { result ≡ length (coded_bits coding.now (coded_of reference (chosen_item coding.now reference (codes_of (block_at coding.now numbers.now block))))) }
     ensures small { result ≤ 2 ^ 12 }
 {
     let mut codes = [0; 64];

@@ -1,9 +1,10 @@
 //! All blocks of numbers, item after item.
 
 ghost use Rattle.std.specs.Prelude.{◌≡◌, ◌+◌, ◌-◌, ◌*◌, ◌%◌, ◌^◌, ◌<◌, ◌≤◌, All, length, drop, Bool, false, ◌||◌, ◌==◌};
+ghost use Rattle.grib_coding.specs.Reading.{IsWithin, coded_of};
 ghost use Rattle.grib_coding.specs.Coding.{Fits, greatest, block_count, is_padded};
 ghost use Rattle.grib_block_writing.specs.Blocks.{block_at, blocks_of, codes_of};
-ghost use Rattle.grib_block_writing.specs.Written.{AddsBits, Leaves, Within, bits_from, chosen_item, coded, coded_bits, number_of, run_length, written};
+ghost use Rattle.grib_block_writing.specs.Written.{AddsBits, Leaves, bits_from, chosen_item, coded_bits, number_of, run_length, written};
 ghost use Rattle.grib_choice.specs.Runs.{run_room, run_number};
 
 use crate::blocks::{fill_codes, reference_in, run_length_at};
@@ -37,9 +38,9 @@ fn write_block_at(
     requires within { block < block_count coding.now (length numbers.now) }
     requires few { length numbers.now < 2 ^ 32 }
     requires numbers { All (λ number. number ≤ greatest coding.now) numbers.now }
-    requires reference { Within coding.now reference }
-    requires room { length (coded_bits coding.now (coded reference (chosen_item coding.now reference (codes_of (block_at coding.now numbers.now block))))) ≤ out.old.spare }
-    ensures { AddsBits out.old out.new (coded_bits coding.now (coded reference (chosen_item coding.now reference (codes_of (block_at coding.now numbers.now block))))) }
+    requires reference { IsWithin coding.now reference }
+    requires room { length (coded_bits coding.now (coded_of reference (chosen_item coding.now reference (codes_of (block_at coding.now numbers.now block))))) ≤ out.old.spare }
+    ensures { AddsBits out.old out.new (coded_bits coding.now (coded_of reference (chosen_item coding.now reference (codes_of (block_at coding.now numbers.now block))))) }
 {
     let mut codes = [0; 64];
     let codes = &mut codes[..usize::from(coding.block)];

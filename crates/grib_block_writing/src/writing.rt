@@ -1,9 +1,10 @@
 //! One block, or one run, as it is written.
 
 ghost use Rattle.std.specs.Prelude.{◌≡◌, ℕ, ◌+◌, ◌-◌, ◌*◌, ◌/◌, ◌%◌, ◌^◌, ◌<◌, ◌≤◌, All, length};
+ghost use Rattle.grib_coding.specs.Reading.{IsWithin, coded_of};
 ghost use Rattle.grib_coding.specs.Coding.{Fits, greatest, identifier_width};
 ghost use Rattle.grib_coding.specs.Items.{Run, Second, Split, Plain};
-ghost use Rattle.grib_block_writing.specs.Written.{AddsBits, Within, chosen_item, coded, coded_bits, head_bits, pair_numbers, highs, lows};
+ghost use Rattle.grib_block_writing.specs.Written.{AddsBits, chosen_item, coded_bits, head_bits, pair_numbers, highs, lows};
 
 use crate::items::{write_high, write_low, write_pairs, write_plain, write_sequence};
 use grib_bits::BitWriter;
@@ -22,7 +23,7 @@ fn write_head(
     requires width { width ≤ 32 }
     requires bits { coding.now.bits ≤ 32 }
     requires fits { identifier < 2 ^ width }
-    requires reference { Within coding.now reference }
+    requires reference { IsWithin coding.now reference }
     requires room { length (head_bits coding.now identifier width reference) ≤ out.old.spare }
     ensures { AddsBits out.old out.new (head_bits coding.now identifier width reference) }
 {
@@ -35,9 +36,9 @@ fn write_head(
 /// Writes a run with this number.
 pub(crate) fn write_run(number: u32, reference: Option<u32>, coding: &Coding, out: &mut BitWriter)
     requires fits { Fits coding.now }
-    requires reference { Within coding.now reference }
-    requires room { length (coded_bits coding.now (coded reference (Run number))) ≤ out.old.spare }
-    ensures { AddsBits out.old out.new (coded_bits coding.now (coded reference (Run number))) }
+    requires reference { IsWithin coding.now reference }
+    requires room { length (coded_bits coding.now (coded_of reference (Run number))) ≤ out.old.spare }
+    ensures { AddsBits out.old out.new (coded_bits coding.now (coded_of reference (Run number))) }
 {
     write_head(0, coding.identifier_width() + 1, reference, coding, out);
     write_sequence(number, out);
@@ -47,9 +48,9 @@ pub(crate) fn write_run(number: u32, reference: Option<u32>, coding: &Coding, ou
 fn write_plain_block(kept: &[u32], reference: Option<u32>, coding: &Coding, out: &mut BitWriter)
     requires fits { Fits coding.now }
     requires within { All (λ code. code ≤ greatest coding.now) kept.now }
-    requires reference { Within coding.now reference }
-    requires room { length (coded_bits coding.now (coded reference (Plain kept.now))) ≤ out.old.spare }
-    ensures { AddsBits out.old out.new (coded_bits coding.now (coded reference (Plain kept.now))) }
+    requires reference { IsWithin coding.now reference }
+    requires room { length (coded_bits coding.now (coded_of reference (Plain kept.now))) ≤ out.old.spare }
+    ensures { AddsBits out.old out.new (coded_bits coding.now (coded_of reference (Plain kept.now))) }
 {
     let width = coding.identifier_width();
     write_head((1 << width) - 1, width, reference, coding, out);
@@ -61,9 +62,9 @@ fn write_pair_block(codes: &[u32], reference: Option<u32>, coding: &Coding, out:
     requires fits { Fits coding.now }
     requires pairs { length codes.now % 2 ≡ 0 }
     requires small { All (λ code. code < 2 ^ 15) codes.now }
-    requires reference { Within coding.now reference }
-    requires room { length (coded_bits coding.now (coded reference (Second (pair_numbers codes.now)))) ≤ out.old.spare }
-    ensures { AddsBits out.old out.new (coded_bits coding.now (coded reference (Second (pair_numbers codes.now)))) }
+    requires reference { IsWithin coding.now reference }
+    requires room { length (coded_bits coding.now (coded_of reference (Second (pair_numbers codes.now)))) ≤ out.old.spare }
+    ensures { AddsBits out.old out.new (coded_bits coding.now (coded_of reference (Second (pair_numbers codes.now)))) }
 {
     write_head(1, coding.identifier_width() + 1, reference, coding, out);
     write_pairs(codes, out);
@@ -79,9 +80,9 @@ fn write_split_block(
 )
     requires fits { Fits coding.now }
     requires k { k + 3 ≤ 2 ^ identifier_width coding.now }
-    requires reference { Within coding.now reference }
-    requires room { length (coded_bits coding.now (coded reference (Split k (highs k kept.now) (lows k kept.now)))) ≤ out.old.spare }
-    ensures { AddsBits out.old out.new (coded_bits coding.now (coded reference (Split k (highs k kept.now) (lows k kept.now)))) }
+    requires reference { IsWithin coding.now reference }
+    requires room { length (coded_bits coding.now (coded_of reference (Split k (highs k kept.now) (lows k kept.now)))) ≤ out.old.spare }
+    ensures { AddsBits out.old out.new (coded_bits coding.now (coded_of reference (Split k (highs k kept.now) (lows k kept.now)))) }
 {
     write_head(k + 1, coding.identifier_width(), reference, coding, out);
     write_high(kept, k, out);
@@ -98,9 +99,9 @@ pub(crate) fn write_block(
     requires fits { Fits coding.now }
     requires block { length codes.now ≡ coding.now.block }
     requires within { All (λ code. code ≤ greatest coding.now) codes.now }
-    requires reference { Within coding.now reference }
-    requires room { length (coded_bits coding.now (coded reference (chosen_item coding.now reference codes.now))) ≤ out.old.spare }
-    ensures { AddsBits out.old out.new (coded_bits coding.now (coded reference (chosen_item coding.now reference codes.now))) }
+    requires reference { IsWithin coding.now reference }
+    requires room { length (coded_bits coding.now (coded_of reference (chosen_item coding.now reference codes.now))) ≤ out.old.spare }
+    ensures { AddsBits out.old out.new (coded_bits coding.now (coded_of reference (chosen_item coding.now reference codes.now))) }
 {
     let skip = u32::from(reference.is_some());
     let kept = &codes[skip as usize..];

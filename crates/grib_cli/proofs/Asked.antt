@@ -12,13 +12,13 @@ use Rattle.grib_keys.specs.declared.key.Key.{Key}
 use Rattle.grib_keys.specs.declared.condition.Value.{Value}
 use Rattle.grib_keys.specs.declared.condition.Condition.{Condition}
 use Rattle.grib_keys.specs.Keys.{key_named, can_set}
-use Rattle.grib_made.specs.Made.{MayBeMade}
+use Rattle.grib_synthetic.specs.Made.{MayBeMade}
 use Rattle.grib_repack.specs.declared.target.RepackTarget.{RepackTarget}
 use Rattle.grib_repack.specs.declared.target.RepackTarget.TheVariants.{Simple, Complex, Spatial}
-use Rattle.grib_answers.specs.declared.job.Job.{Job}
-use Rattle.grib_answers.specs.Jobs.{IsJob, HasPlaces, is_target}
+use Rattle.grib_command.specs.declared.job.Job.{Job}
+use Rattle.grib_command.specs.Jobs.{IsJob, HasPlaces, is_target}
 use Rattle.grib_cli.specs.declared.words.JobFault.{JobFault}
-use Rattle.grib_answers.specs.declared.job.Job.TheVariants as jobs
+use Rattle.grib_command.specs.declared.job.Job.TheVariants as jobs
 use Rattle.grib_cli.specs.declared.words.command.Command.{Command}
 use Rattle.grib_cli.specs.declared.words.command.Command.TheVariants as the
 use Rattle.grib_cli.specs.declared.words.command.Command.TheVariants.{Dump, Filter, Split, Set, Repack, Migrate, Demote, Crop, Make}

@@ -1,7 +1,7 @@
 -- The lines of `help`.
 use Rattle.std.proofs.Common.{◌≡◌, true, refl}
 use Rattle.std.specs.List.{list_any}
-use Rattle.grib_answers.specs.Pages.{help_lines}
+use Rattle.grib_command.specs.Pages.{help_lines}
 use Rattle.grib_cli.specs.declared.words.command.Command.{Command}
 use Rattle.grib_cli.specs.declared.words.command.Command.TheVariants as the
 use Rattle.grib_cli.specs.HelpLines.{is_line_on}

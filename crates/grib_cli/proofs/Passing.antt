@@ -20,15 +20,15 @@ use Rattle.grib_passing.specs.Deeds.{Outside, outside}
 use Rattle.grib_passing.specs.Answer.{Answered}
 use Rattle.grib_passing.specs.Laws.{is_whole}
 use Rattle.grib_passing.specs.Run.{answer_within}
-use Rattle.grib_answers.specs.declared.ending.Ending.{Ending}
-use Rattle.grib_answers.specs.declared.ending.Ending.TheVariants.{Silent}
-use Rattle.grib_answers.specs.declared.job.Job.{Job}
-use Rattle.grib_answers.specs.Closing.{StandsWhole}
-use Rattle.grib_answers.specs.Command.{Command}
-use Rattle.grib_answers.specs.Counts.{NoneCounted}
-use Rattle.grib_answers.specs.Outcomes.{note_of, note_with, NotesFront}
-use Rattle.grib_tasks.specs.Passing.{deeds_by, NotedBehind, NotesSome, IsCounted, GivesPassing, plan_by, RunsPast, refused_table, RunsTabledPast, RunsWorkPassing, IfTabledAnswered, IfWorkAnswered, ServesPassing, StandsBehind}
-use Rattle.grib_tasks.specs.Tasks.{Work, Reads, Makes, ReadsTable, work_of}
+use Rattle.grib_command.specs.declared.ending.Ending.{Ending}
+use Rattle.grib_command.specs.declared.ending.Ending.TheVariants.{Silent}
+use Rattle.grib_command.specs.declared.job.Job.{Job}
+use Rattle.grib_command.specs.Closing.{StandsWhole}
+use Rattle.grib_command.specs.Command.{Command}
+use Rattle.grib_command.specs.Counts.{NoneCounted}
+use Rattle.grib_command.specs.Outcomes.{note_of, note_with, NotesFront}
+use Rattle.grib_run_spec.specs.Passing.{deeds_by, NotedBehind, NotesSome, IsCounted, GivesPassing, plan_by, RunsPast, refused_table, RunsTabledPast, RunsWorkPassing, IfTabledAnswered, IfWorkAnswered, ServesPassing, StandsBehind}
+use Rattle.grib_run_spec.specs.Tasks.{Work, Reads, Makes, ReadsTable, work_of}
 use Rattle.grib_engine.proofs.Past.{counts_past}
 use Rattle.grib_engine.proofs.Tabled.{stands}
 use Rattle.grib_cli.specs.declared.words.JobFault.{JobFault}

@@ -8,16 +8,16 @@ use Rattle.grib_stream.specs.Run.{Gives, Runs}
 use Rattle.grib_stream.specs.Answer.{Answer}
 use Rattle.grib_stream.specs.declared.outcome.Outcome.{Outcome}
 use Rattle.grib_stream.specs.declared.outcome.Outcome.TheVariants.{ReadFault, WriteFault, ShelfFault, Memory}
-use Rattle.grib_answers.specs.declared.job.Job.{Job}
-use Rattle.grib_answers.specs.declared.job.Job.TheVariants as jobs
-use Rattle.grib_performed.specs.Hearing.{IfHears, RefusesInTime}
-use Rattle.grib_answers.specs.Outcomes.{note_of, NotesFront, Noted}
-use Rattle.grib_answers.specs.Command.{task}
-use Rattle.grib_tasks.specs.Serving.{RunsWork, RunsJob, NotesWorkFront, NotesJobFront, RefusedWork, RefusedJob}
+use Rattle.grib_command.specs.declared.job.Job.{Job}
+use Rattle.grib_command.specs.declared.job.Job.TheVariants as jobs
+use Rattle.grib_dispatch.specs.Hearing.{IfHears, RefusesInTime}
+use Rattle.grib_command.specs.Outcomes.{note_of, NotesFront, Noted}
+use Rattle.grib_command.specs.Command.{task}
+use Rattle.grib_run_spec.specs.Serving.{RunsWork, RunsJob, NotesWorkFront, NotesJobFront, RefusedWork, RefusedJob}
 use Rattle.grib_stream.specs.Task.{Task}
 use Rattle.grib_stream.proofs.Exits.{runs_broken, cut_broken}
 use Rattle.grib_stream.proofs.Windows.{takes_none}
-use Rattle.grib_tasks.specs.Tasks.{Work, Reads, Makes, ReadsTable, work_of}
+use Rattle.grib_run_spec.specs.Tasks.{Work, Reads, Makes, ReadsTable, work_of}
 use Rattle.grib_engine.proofs.Tabled.{stands, runs_none, fronts_none, if_refused}
 use Rattle.grib_io.specs.Shelves.{Held, Stays}
 use Rattle.grib_table.specs.Tabled.{tabled}

@@ -5,7 +5,7 @@ use Rattle.std.specs.Io.KnownBytes.{Appends, Keeps}
 use Rattle.grib_stream.specs.declared.outcome.Outcome.{Outcome}
 use Rattle.grib_stream.specs.declared.outcome.Outcome.TheVariants.{WriteFault, Memory}
 use Rattle.grib_stream.specs.Outcomes.{is_cut_short}
-use Rattle.grib_answers.specs.Outcomes.{note_of, NotesFront}
+use Rattle.grib_command.specs.Outcomes.{note_of, NotesFront}
 use Rattle.grib_cli.specs.declared.words.JobFault.{JobFault}
 use Rattle.grib_cli.specs.Words.{outcome_of}
 

@@ -11,9 +11,9 @@ use Rattle.grib_stream.specs.declared.outcome.Outcome.TheVariants as outcomes
 use Rattle.grib_repack.specs.declared.target.RepackTarget.{RepackTarget}
 use Rattle.grib_repack.specs.declared.target.RepackTarget.TheVariants.{Simple, Complex, Spatial}
 use Rattle.grib_rescan.specs.declared.points.Area.{Area}
-use Rattle.grib_answers.specs.declared.job.Job.{Job}
-use Rattle.grib_answers.specs.declared.job.Job.TheVariants as jobs
-use Rattle.grib_answers.specs.declared.page.Page.TheVariants as pages
+use Rattle.grib_command.specs.declared.job.Job.{Job}
+use Rattle.grib_command.specs.declared.job.Job.TheVariants as jobs
+use Rattle.grib_command.specs.declared.page.Page.TheVariants as pages
 use Rattle.grib_cli.specs.declared.words.JobFault.{JobFault}
 use Rattle.grib_cli.specs.declared.words.JobFault.TheVariants.{Usage, Memory}
 use Rattle.grib_cli.specs.declared.words.command.Command.{Command}

@@ -9,10 +9,10 @@ ghost use Rattle.grib_stream.specs.declared.outcome.Outcome.TheVariants.{Memory}
 ghost use Rattle.grib_passing.specs.Deeds.{outside};
 ghost use Rattle.grib_passing_law.specs.Leaving.{JudgesPast, LeavesPast};
 ghost use Rattle.grib_passing_law.specs.Shelved.{LeavesPartsPast};
-ghost use Rattle.grib_answers.specs.Closing.{StandsWhole};
-ghost use Rattle.grib_answers.specs.Outcomes.{note_of};
-ghost use Rattle.grib_tasks.specs.Passing.{ServesPassing, StandsBehind};
-ghost use Rattle.grib_tasks.specs.Tasks.{work_of};
+ghost use Rattle.grib_command.specs.Closing.{StandsWhole};
+ghost use Rattle.grib_command.specs.Outcomes.{note_of};
+ghost use Rattle.grib_run_spec.specs.Passing.{ServesPassing, StandsBehind};
+ghost use Rattle.grib_run_spec.specs.Tasks.{work_of};
 ghost use Rattle.grib_cli.specs.Running.{EndsUnasked};
 ghost use Rattle.grib_cli.specs.Words as asked;
 

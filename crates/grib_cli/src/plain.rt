@@ -8,13 +8,13 @@ ghost use Rattle.grib_stream.specs.Acts.{world};
 ghost use Rattle.grib_stream.specs.Faults.{faults, CountsRun};
 ghost use Rattle.grib_stream.specs.Outcomes.{is_cut_short, is_broken};
 ghost use Rattle.grib_stream.specs.declared.outcome.Outcome.TheVariants.{Done, ReadFault, WriteFault, ShelfFault, Memory};
-ghost use Rattle.grib_answers.specs.Closing.{StandsWhole};
-ghost use Rattle.grib_performed.specs.Hearing.{IfHears, RefusesInTime};
+ghost use Rattle.grib_command.specs.Closing.{StandsWhole};
+ghost use Rattle.grib_dispatch.specs.Hearing.{IfHears, RefusesInTime};
 ghost use Rattle.grib_run_law.specs.Judged.{JudgesInput};
 ghost use Rattle.grib_run_law.specs.Leaving.{LeavesFields, LeavesParts};
-ghost use Rattle.grib_answers.specs.Outcomes.{note_of, NotesFront};
-ghost use Rattle.grib_tasks.specs.Serving.{RunsJob, NotesJob, NotesJobFront, RefusedJob};
-ghost use Rattle.grib_tasks.specs.Tasks.{makes, reads_table, uses_shelf};
+ghost use Rattle.grib_command.specs.Outcomes.{note_of, NotesFront};
+ghost use Rattle.grib_run_spec.specs.Serving.{RunsJob, NotesJob, NotesJobFront, RefusedJob};
+ghost use Rattle.grib_run_spec.specs.Tasks.{makes, reads_table, uses_shelf};
 ghost use Rattle.grib_cli.specs.Words as asked;
 
 use crate::words::{JobFault, job_of};

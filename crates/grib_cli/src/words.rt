@@ -1,7 +1,7 @@
 //! The words of the command line.
 
 ghost use Rattle.std.specs.Prelude.{◌≡◌, ◌≤◌, [], length, map, string_bytes, IfOk};
-ghost use Rattle.grib_answers.specs.Jobs.{IsJob};
+ghost use Rattle.grib_command.specs.Jobs.{IsJob};
 ghost use Rattle.grib_cli.specs.Reading as grammar;
 ghost use Rattle.grib_cli.specs.Reading.{entries, own_entries, passing_entries, box_entries, size_entries, target_entries, reading};
 ghost use Rattle.grib_cli.specs.declared.words.command.Command.TheVariants.{Crop};

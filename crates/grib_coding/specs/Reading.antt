@@ -40,6 +40,14 @@ pub record Coded : Type 0 where
   pub reference : Option ℕ
   pub item : Item
 
+abbrev pub coded_of : Option ℕ → Item → Coded
+coded_of reference item = record { reference = reference; item = item }
+
+-- A reference is a number that can be.
+abbrev pub IsWithin : Coding → Option ℕ → Type 0
+IsWithin c None = Unit {0}
+IsWithin c (Some number) = number ≤ greatest c
+
 -- a reference where there is one
 abbrev pub front_reference : Coding → Bool → List Bool → Front (Option ℕ)
 front_reference c false bits = Found None bits

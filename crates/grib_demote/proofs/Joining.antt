@@ -7,7 +7,7 @@ use Rattle.grib_params.specs.Table.{Entries}
 use Rattle.grib_params.specs.Pairs.{Pair}
 use Rattle.grib_migrate.specs.Dates.{is_civil}
 use Rattle.grib_migrate.proofs.Later.{civil_parts}
-use Rattle.grib_causes.specs.declared.demotion.Demotion.{Demotion}
+use Rattle.grib_reasons.specs.declared.demotion.Demotion.{Demotion}
 use Rattle.grib_demote.specs.declared.demotion.DemoteFault.{DemoteFault}
 use Rattle.grib_demote.specs.declared.demotion.DemoteFault.TheVariants.{Lost, Memory}
 use Rattle.grib_demote.specs.declared.level.Level.{Level}

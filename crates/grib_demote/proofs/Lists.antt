@@ -8,7 +8,7 @@ use Rattle.std.proofs.lemmas.Bool.{eqb-false}
 use Rattle.grib_bits.specs.Encoding.{octets_of, all_octets}
 use Rattle.grib_bits.specs.Listed.{numbers_octets}
 use Rattle.grib_bits.proofs.Listed.{numbers_octets-more}
-use Rattle.grib_causes.specs.declared.demotion.Demotion.TheVariants.{Coordinate}
+use Rattle.grib_reasons.specs.declared.demotion.Demotion.TheVariants.{Coordinate}
 use Rattle.grib_bits.specs.declared.adding.Number.TheVariants.{Four}
 use Rattle.grib_demote.specs.Words.{ibm_of}
 use Rattle.grib_demote.specs.Losses.{is_lost, coordinate_loss_from}

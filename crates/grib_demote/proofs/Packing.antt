@@ -17,7 +17,7 @@ use Rattle.grib_packed.specs.Written.{packed}
 use Rattle.grib2_message.specs.Fields.{part_octets, column_of}
 use Rattle.grib_repack.specs.Repacked.{kind_of, packed_field}
 use Rattle.grib_repack.proofs.Packing.{IsOnly}
-use Rattle.grib_causes.specs.declared.demotion.Demotion.TheVariants.{Reference}
+use Rattle.grib_reasons.specs.declared.demotion.Demotion.TheVariants.{Reference}
 use Rattle.grib_demote.specs.Losses.{first_of, loss_of, column_loss, loses_reference, reference_loss, value_losses}
 use Rattle.grib_demote.specs.Held.{HoldsPacked}
 use Rattle.grib_demote.proofs.Joining.{not_here}

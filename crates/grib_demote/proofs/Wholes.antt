@@ -9,7 +9,7 @@ use Rattle.grib_packing.specs.declared.written.Packed.{Packed}
 use Rattle.grib2_message.specs.Fields.{part_octets}
 use Rattle.grib_params.specs.Table.{Entries}
 use Rattle.grib_repack.specs.Repacked.{packed_field}
-use Rattle.grib_causes.specs.declared.demotion.Demotion.{Demotion}
+use Rattle.grib_reasons.specs.declared.demotion.Demotion.{Demotion}
 use Rattle.grib_demote.specs.declared.demotion.DemoteFault.{DemoteFault}
 use Rattle.grib_demote.specs.declared.product.Told.{Told}
 use Rattle.grib_demote.specs.Answered.{IsDemoteFault}

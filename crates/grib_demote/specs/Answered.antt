@@ -1,6 +1,6 @@
 -- Why a field was not demoted.
 use Rattle.std.specs.Prelude.{◌≡◌, Option, Some}
-use Rattle.grib_causes.specs.declared.demotion.Demotion.{Demotion}
+use Rattle.grib_reasons.specs.declared.demotion.Demotion.{Demotion}
 use Rattle.grib_demote.specs.declared.demotion.DemoteFault.{DemoteFault}
 use Rattle.grib_demote.specs.declared.demotion.DemoteFault.TheVariants.{Lost, Memory}
 

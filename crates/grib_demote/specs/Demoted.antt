@@ -11,8 +11,8 @@ use Rattle.grib_packing.specs.Misfits.{ToSimple}
 use Rattle.grib_packed.specs.Written.{packed}
 use Rattle.grib2_message.specs.Fields.{part_octets, column_of}
 use Rattle.grib_repack.specs.Repacked.{packed_field}
-use Rattle.grib_causes.specs.declared.demotion.Demotion.{Demotion}
-use Rattle.grib_causes.specs.declared.demotion.Demotion.TheVariants as losses
+use Rattle.grib_reasons.specs.declared.demotion.Demotion.{Demotion}
+use Rattle.grib_reasons.specs.declared.demotion.Demotion.TheVariants as losses
 use Rattle.grib_demote.specs.Levels.{level, level_of}
 use Rattle.grib_demote.specs.Times.{unit_of}
 use Rattle.grib_demote.specs.Grids.{type_of, header, template_numbers}

@@ -11,8 +11,8 @@ use Rattle.grib_migrate.specs.Grids as migrate
 use Rattle.grib_bits.specs.declared.adding.Number.{Number}
 use Rattle.grib_bits.specs.declared.adding.Number.TheVariants.{One, Two, Three, Four}
 use Rattle.grib_demote.specs.declared.tested.Tested.{Tested}
-use Rattle.grib_causes.specs.declared.demotion.Demotion.{Demotion}
-use Rattle.grib_causes.specs.declared.demotion.Demotion.TheVariants.{GridNumber}
+use Rattle.grib_reasons.specs.declared.demotion.Demotion.{Demotion}
+use Rattle.grib_reasons.specs.declared.demotion.Demotion.TheVariants.{GridNumber}
 
 -- the types of grid, each of the template that it is migrated to
 abbrev pub grid_types : List ℕ

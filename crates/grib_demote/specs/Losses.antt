@@ -12,8 +12,8 @@ use Rattle.grib_packing.specs.Misfits.{Misfit, ToSimple, first_misfit}
 use Rattle.grib_packing.specs.Packing.{reference_word}
 use Rattle.grib_packing.specs.declared.column.Point.{Point}
 use Rattle.grib2_message.specs.Fields.{part_octets, column_of}
-use Rattle.grib_causes.specs.declared.demotion.Demotion.{Demotion}
-use Rattle.grib_causes.specs.declared.demotion.Demotion.TheVariants as losses
+use Rattle.grib_reasons.specs.declared.demotion.Demotion.{Demotion}
+use Rattle.grib_reasons.specs.declared.demotion.Demotion.TheVariants as losses
 use Rattle.grib_demote.specs.Words.{ibm_of}
 use Rattle.grib_demote.specs.Levels.{level_of}
 use Rattle.grib_demote.specs.Times.{unit_of, has_process, loses_interval}

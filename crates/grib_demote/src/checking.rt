@@ -17,8 +17,8 @@ use crate::product::{Told, has_local};
 use crate::time::{has_process, loses_interval, unit_of};
 use crate::word::ibm_of;
 use grib_bits::{u8_at, u16_at};
-use grib_causes::Demotion;
 use grib_params::{Table, Target};
+use grib_reasons::Demotion;
 
 /// What Section 1 has of the product of a field, or the first thing of Sections 1 and 4, or of the template of
 /// the grid, that would be lost.

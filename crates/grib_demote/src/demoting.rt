@@ -29,10 +29,10 @@ use crate::values::{add_bitmap, data_octets, has_bitmap};
 use crate::word::ibm_of;
 use grib_bits::Number::{Four, Two};
 use grib_bits::{add_numbers, add_section1, add_uint, u16_at, u32_at};
-use grib_causes::Demotion;
 use grib_packed::laws::one_packing_is_written;
 use grib_packing::{PackFault, Packed};
 use grib_params::Table;
+use grib_reasons::Demotion;
 use grib2_message::Message;
 use std::alloc::{AllocError, Global};
 

@@ -3,7 +3,7 @@
 ghost use Rattle.std.specs.Prelude.{◌≡◌};
 ghost use Rattle.grib_demote.specs.declared.demotion.DemoteFault.TheVariants as faults;
 
-use grib_causes::Demotion;
+use grib_reasons::Demotion;
 use std::alloc::AllocError;
 use thiserror::Error;
 

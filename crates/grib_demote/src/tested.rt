@@ -7,8 +7,8 @@ ghost use Rattle.grib_demote.specs.Grids as grids;
 
 use crate::grid::{are_given, is_listed};
 use grib_bits::{u8_at, u16_at, u32_at};
-use grib_causes::Demotion;
 use grib_migrate::true_latitude;
+use grib_reasons::Demotion;
 
 /// A number of Section 3, by the first of its octets.
 #[derive(Clone, Copy, Debug)]

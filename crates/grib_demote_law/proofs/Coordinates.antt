@@ -9,8 +9,8 @@ use Rattle.grib_bits.specs.Octets.{octets}
 use Rattle.grib_bits.specs.Encoding.{octets_of, all_octets}
 use Rattle.grib_bits.specs.Listed.{number_at, numbers_at, numbers_octets}
 use Rattle.grib_bits.proofs.Encoding.{length-octets_of, octets-within, num_on-octets_of}
-use Rattle.grib_causes.specs.declared.demotion.Demotion.TheVariants.{Coordinate}
-use Rattle.grib_causes.specs.declared.loss.Loss.TheVariants as losses
+use Rattle.grib_reasons.specs.declared.demotion.Demotion.TheVariants.{Coordinate}
+use Rattle.grib_reasons.specs.declared.loss.Loss.TheVariants as losses
 use Rattle.grib1_sections.specs.Grid.{nv, list_place, has_list, lists_rows}
 use Rattle.grib1_sections.specs.Coordinates.{coordinate_list}
 use Rattle.grib_migrate.specs.Losses as migrate

@@ -8,8 +8,8 @@ use Rattle.grib2_products.specs.Spelled.{coordinate_list}
 use Rattle.grib_packing.specs.Misfits.{ToSimple, Misfit, first_misfit}
 use Rattle.grib_params.specs.Table.{Entries}
 use Rattle.grib2_message.specs.Fields.{part_octets, column_of}
-use Rattle.grib_causes.specs.declared.demotion.Demotion.{Demotion}
-use Rattle.grib_causes.specs.declared.demotion.Demotion.TheVariants.{LocalUse, EarthShape, GridFlags, RowList, Reference, TooLong}
+use Rattle.grib_reasons.specs.declared.demotion.Demotion.{Demotion}
+use Rattle.grib_reasons.specs.declared.demotion.Demotion.TheVariants.{LocalUse, EarthShape, GridFlags, RowList, Reference, TooLong}
 use Rattle.grib_demote.specs.Losses.{first_of, lost_where, loss_of, column_loss, field_losses, parameter_losses, time_losses, product_losses, form_losses, number_losses, shape_losses, value_losses, loses_product, loses_shape, loses_reference, reference_loss, coordinate_loss}
 use Rattle.grib_demote.specs.Levels.{level_of}
 use Rattle.grib_demote.specs.Times.{unit_of, has_process, loses_interval}

@@ -14,7 +14,7 @@ use Rattle.grib2_grids.proofs.Lists.{row_list-whole, row_list-none}
 use Rattle.grib2_grids.proofs.Numbers.{has_numbers}
 use Rattle.grib1_sections.specs.Grid.{grid_types, grid_rows, grid_points, is_regular}
 use Rattle.grib1_sections.specs.Grammar.{IsSection}
-use Rattle.grib_causes.specs.declared.demotion.Demotion.TheVariants.{GridNumber}
+use Rattle.grib_reasons.specs.declared.demotion.Demotion.TheVariants.{GridNumber}
 use Rattle.grib_bits.specs.declared.adding.Number.{Number}
 use Rattle.grib_bits.specs.declared.adding.Number.TheVariants.{One, Two, Four}
 use Rattle.grib_demote.specs.declared.tested.Tested.{Tested}

@@ -19,7 +19,7 @@ use Rattle.grib_params.specs.Pairs.{Pair, first_pair}
 use Rattle.grib1_sections.specs.Acceptance.{data_section}
 use Rattle.grib1_sections.specs.Coordinates as coordinates1
 use Rattle.grib1_sections.proofs.Joined.{Rejoined, rejoined}
-use Rattle.grib_causes.specs.declared.loss.Loss.{Loss}
+use Rattle.grib_reasons.specs.declared.loss.Loss.{Loss}
 use Rattle.grib_migrate.specs.Values.{reference}
 use Rattle.grib_migrate.specs.References.{binary32_of}
 use Rattle.grib_migrate.specs.Losses as migrate

@@ -6,8 +6,8 @@ use Rattle.grib_stream.specs.declared.outcome.Outcome.TheVariants.{WriteFault}
 use Rattle.grib_stream.specs.Faults as plain
 use Rattle.grib_stream.specs.Faults.{faults, OneCounted, CountsRun}
 use Rattle.grib_passing.specs.Run.{CountsOne}
-use Rattle.grib_answers.specs.Counts.{NoneCounted}
-use Rattle.grib_answers.proofs.Noted.{OneOf}
+use Rattle.grib_command.specs.Counts.{NoneCounted}
+use Rattle.grib_command.proofs.Noted.{OneOf}
 use Rattle.grib_engine.proofs.Past.{counts_past, notes_then}
 
 module _ {Output Notes : Type 0} (output_faults : Output → ℕ) (notes_faults : Notes → ℕ) (notes_settled : Notes → Bool) (own outcome : Outcome) (i i_now s s_now : ℕ) (output output_mid output_now : Output) (notes notes_now : Notes) (counts : plain.CountsOne own (faults i (output_faults output) 0 s) (faults i_now (output_faults output_mid) 0 s_now)) (one : OneOf own outcome) (fault : own ≢ WriteFault → outcome ≡ WriteFault → OneCounted (output_faults output_mid) (output_faults output_now) (notes_faults notes) (notes_faults notes_now)) (none : outcome ≢ WriteFault → NoneCounted (output_faults output_mid) (output_faults output_now) (notes_faults notes) (notes_faults notes_now)) (after : own ≡ WriteFault → (outcome ≡ WriteFault) × (output_now ≡ output_mid) × (notes_now ≡ notes)) where

@@ -5,7 +5,7 @@ use Rattle.std.specs.declared.option.Option.{Option}
 use Rattle.std.specs.Io.KnownBytes.{Appends}
 use Rattle.std.specs.List.{concat}
 use Rattle.std.proofs.KnownBytes.{Appends-nil}
-use Rattle.grib_causes.specs.declared.table.TableRefusal.{TableRefusal}
+use Rattle.grib_reasons.specs.declared.table.TableRefusal.{TableRefusal}
 use Rattle.grib_io.specs.Outside.{AppendsFront}
 use Rattle.grib_io.specs.Shelves.{Held, Stays}
 use Rattle.grib_params.specs.Table.{Entries}
@@ -26,15 +26,15 @@ use Rattle.grib_passing.specs.Run.{answer_of, answer_within, Gives, Runs, Counts
 use Rattle.grib_passing.specs.Steps.{Plan}
 use Rattle.grib_passing.proofs.Effects.{done_then, front_whole, front_of_nothing}
 use Rattle.grib_passing.proofs.Stopping.{broken_before_end}
-use Rattle.grib_answers.specs.declared.ending.Ending.{Ending}
-use Rattle.grib_answers.specs.declared.ending.Ending.TheVariants.{Silent}
-use Rattle.grib_answers.specs.Closing.{EndsRun, StandsWhole}
-use Rattle.grib_answers.specs.Command.{Command}
-use Rattle.grib_answers.specs.Outcomes.{note_of}
-use Rattle.grib_answers.proofs.Noted.{OneOf, no_shelf_fault}
-use Rattle.grib_tasks.specs.Passing.{deeds_by, NotedBehind, NotesSome, IsCounted, GivesPassing, plan_by, RunsPast, RunsTabledPast, RunsWorkPassing, IfTabledAnswered, IfWorkAnswered, refused_table, ServesPassing, ServesAs, StandsAs}
-use Rattle.grib_tasks.specs.Serving.{IfRefused, Serves}
-use Rattle.grib_tasks.specs.Tasks.{Work, Reads, Makes, ReadsTable}
+use Rattle.grib_command.specs.declared.ending.Ending.{Ending}
+use Rattle.grib_command.specs.declared.ending.Ending.TheVariants.{Silent}
+use Rattle.grib_command.specs.Closing.{EndsRun, StandsWhole}
+use Rattle.grib_command.specs.Command.{Command}
+use Rattle.grib_command.specs.Outcomes.{note_of}
+use Rattle.grib_command.proofs.Noted.{OneOf, no_shelf_fault}
+use Rattle.grib_run_spec.specs.Passing.{deeds_by, NotedBehind, NotesSome, IsCounted, GivesPassing, plan_by, RunsPast, RunsTabledPast, RunsWorkPassing, IfTabledAnswered, IfWorkAnswered, refused_table, ServesPassing, ServesAs, StandsAs}
+use Rattle.grib_run_spec.specs.Serving.{IfRefused, Serves}
+use Rattle.grib_run_spec.specs.Tasks.{Work, Reads, Makes, ReadsTable}
 use Rattle.grib_engine.proofs.Past.{counts_past, if_told, gives_past, some_noted, some_told, runs_past}
 use Rattle.grib_engine.proofs.Tabled.{did_stays}
 

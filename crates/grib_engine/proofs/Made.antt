@@ -19,10 +19,10 @@ use Rattle.grib_stream.specs.Run.{Gives}
 use Rattle.grib_stream.specs.declared.outcome.Outcome.{Outcome}
 use Rattle.grib_stream.specs.declared.outcome.Outcome.TheVariants.{Done, WriteFault}
 use Rattle.grib_stream.proofs.Worlds.{did_write, did_write_front, did_keep, did_still, front_whole, front_still, front_more}
-use Rattle.grib_tasks.specs.Tasks.{writing}
-use Rattle.grib_answers.specs.Outcomes.{NotesFront}
-use Rattle.grib_answers.proofs.Outside.{front_of_nothing}
-use Rattle.grib_answers.proofs.Noted.{OneOf}
+use Rattle.grib_run_spec.specs.Tasks.{writing}
+use Rattle.grib_command.specs.Outcomes.{NotesFront}
+use Rattle.grib_command.proofs.Outside.{front_of_nothing}
+use Rattle.grib_command.proofs.Noted.{OneOf}
 
 -- ---- octets that were written, and the end of the run
 

@@ -23,13 +23,13 @@ use Rattle.grib_passing.specs.Laws.{outcome_of, is_whole}
 use Rattle.grib_passing.specs.Run.{answer_of, answer_within, Gives, Took, Runs, CountsOne}
 use Rattle.grib_passing.specs.Steps.{Plan}
 use Rattle.grib_passing.proofs.Effects.{concat_append, done_then, octets_whole, octets_after}
-use Rattle.grib_answers.specs.declared.ending.Ending.{Ending}
-use Rattle.grib_answers.specs.Closing.{EndsNoted, StandsWhole}
-use Rattle.grib_answers.specs.Command.{Command}
-use Rattle.grib_answers.specs.Outcomes.{note_of, note_with}
-use Rattle.grib_answers.proofs.Noted.{OneOf, keeps_or_cuts, no_shelf_fault, unfinished_then}
-use Rattle.grib_tasks.specs.Passing.{is_plain, outcome_by, note_by, deeds_by, NotedBehind, NotedFrontBehind, NotesSome, IsCounted, GivesPassing, TakesPassing, plan_by, RunsPast, ServesPassing, StandsBehind}
-use Rattle.grib_tasks.specs.Tasks.{Reads}
+use Rattle.grib_command.specs.declared.ending.Ending.{Ending}
+use Rattle.grib_command.specs.Closing.{EndsNoted, StandsWhole}
+use Rattle.grib_command.specs.Command.{Command}
+use Rattle.grib_command.specs.Outcomes.{note_of, note_with}
+use Rattle.grib_command.proofs.Noted.{OneOf, keeps_or_cuts, no_shelf_fault, unfinished_then}
+use Rattle.grib_run_spec.specs.Passing.{is_plain, outcome_by, note_by, deeds_by, NotedBehind, NotedFrontBehind, NotesSome, IsCounted, GivesPassing, TakesPassing, plan_by, RunsPast, ServesPassing, StandsBehind}
+use Rattle.grib_run_spec.specs.Tasks.{Reads}
 
 -- ---- outcomes
 

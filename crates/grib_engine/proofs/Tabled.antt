@@ -2,7 +2,7 @@
 use Rattle.std.proofs.Common.{◌≡◌, ◌≢◌, ℕ, ◌^◌, true, false, IfSome, Option, Some, None, List, [], ◌++◌, refl, sym, ap, ◌∙◌, subst, inl, inr, arith}
 use Rattle.std.specs.Io.KnownBytes.{Appends}
 use Rattle.std.proofs.lemmas.Bool.{false≢true}
-use Rattle.grib_causes.specs.declared.table.TableRefusal.{TableRefusal}
+use Rattle.grib_reasons.specs.declared.table.TableRefusal.{TableRefusal}
 use Rattle.grib_io.specs.Outside.{Counted}
 use Rattle.grib_io.specs.Shelves.{Held, Stays}
 use Rattle.grib_params.specs.Table.{Entries}
@@ -17,11 +17,11 @@ use Rattle.grib_stream.proofs.Exits.{runs_broken}
 use Rattle.grib_stream.proofs.Windows.{takes_none}
 use Rattle.grib_stream.proofs.Worlds.{did_none, did_then, front_whole, front_after}
 use Rattle.grib_table.specs.Tabled.{Tabled, Good, Refused, Stood}
-use Rattle.grib_answers.specs.Command.{Command, task}
-use Rattle.grib_answers.specs.Outcomes.{note_of, note_with, NotesFront, Noted}
-use Rattle.grib_tasks.specs.Serving.{RunsTabled, NotesTabled, NotesTabledFront, IfRefused}
-use Rattle.grib_tasks.specs.Tasks.{refused_answer}
-use Rattle.grib_answers.proofs.Noted.{OneOf, whole_ended}
+use Rattle.grib_command.specs.Command.{Command, task}
+use Rattle.grib_command.specs.Outcomes.{note_of, note_with, NotesFront, Noted}
+use Rattle.grib_run_spec.specs.Serving.{RunsTabled, NotesTabled, NotesTabledFront, IfRefused}
+use Rattle.grib_run_spec.specs.Tasks.{refused_answer}
+use Rattle.grib_command.proofs.Noted.{OneOf, whole_ended}
 
 -- some text stands under the name, where the shelf tells it
 pub stands : (names : Option Held) (name : List ℕ) → (text : Option (List ℕ)) × Stood names name text

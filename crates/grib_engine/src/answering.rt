@@ -1,22 +1,22 @@
 //! A message that is answered as a job says.
 
 ghost use Rattle.std.specs.Prelude.{◌≤◌, ◌^◌, option_copied};
-ghost use Rattle.grib_answers.specs.Answering.{AnswersMessage};
-ghost use Rattle.grib_answers.specs.Command.{given};
-ghost use Rattle.grib_answers.specs.Jobs.{IsJob};
-ghost use Rattle.grib_performed.specs.Reading.{held_octets};
-ghost use Rattle.grib_tasks.specs.Tasks.{IfReads, work_of};
+ghost use Rattle.grib_command.specs.Answering.{AnswersMessage};
+ghost use Rattle.grib_command.specs.Command.{given};
+ghost use Rattle.grib_command.specs.Jobs.{IsJob};
+ghost use Rattle.grib_dispatch.specs.Reading.{held_octets};
+ghost use Rattle.grib_run_spec.specs.Tasks.{IfReads, work_of};
 
-use grib_answers::{Answered, ByOutput, Job};
-use grib_changed::{
+use grib_command::{Answered, ByOutput, Job};
+use grib_dispatch::{Held, answer_held};
+use grib_edit::{
     ByTable, Changing, Demoting, Filtering, Migrating, Repacking, Rescanning, Setting, Shrinking,
     Splitting,
 };
 use grib_io::{Shelf, Sink};
 use grib_params::Table;
-use grib_performed::{Held, answer_held};
-use grib_printed::{Checking, Dumping, Keying, Listing, Printing, Summing, Valuing};
-use grib_rescanned::GridEdit;
+use grib_reorder::GridEdit;
+use grib_report::{Checking, Dumping, Keying, Listing, Printing, Summing, Valuing};
 use grib_stream::Place;
 use std::alloc::Global;
 

@@ -2,13 +2,13 @@
 
 ghost use Rattle.std.specs.Prelude.{◌≡◌, ◌≢◌, true, false, IfErr, OnOk, MatchResult};
 ghost use Rattle.std.specs.Io.KnownBytes.{Keeps};
-ghost use Rattle.grib_answers.specs.Closing.{ClosesRun, EndsInTurn, EndsRun, StandsWhole};
-ghost use Rattle.grib_answers.specs.Counts.{NoneCounted, CountsEither};
-ghost use Rattle.grib_answers.specs.Outcomes.{note_with};
-ghost use Rattle.grib_answers.specs.Pending.{Writes};
+ghost use Rattle.grib_command.specs.Closing.{ClosesRun, EndsInTurn, EndsRun, StandsWhole};
+ghost use Rattle.grib_command.specs.Counts.{NoneCounted, CountsEither};
+ghost use Rattle.grib_command.specs.Outcomes.{note_with};
+ghost use Rattle.grib_command.specs.Pending.{Writes};
 ghost use Rattle.grib_stream.specs.declared.outcome.Outcome.TheVariants.{WriteFault};
 
-use grib_answers::{kept_note, passed_note, table_note, usage_note, write_whole};
+use grib_command::{kept_note, passed_note, table_note, usage_note, write_whole};
 use grib_io::{Sink, Stop};
 use grib_stream::Outcome;
 use grib_text::refusal_note;

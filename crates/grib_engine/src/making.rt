@@ -3,30 +3,30 @@
 ghost use Rattle.std.specs.Prelude.{◌≡◌, ◌≢◌, true, false, None, Option, IfOk};
 ghost use Rattle.grib_io.specs.Shelves.{Held as Names};
 ghost use Rattle.grib2_message.specs.Message.{IsMessage};
-ghost use Rattle.grib_made.specs.Made.{made, MayBeMade};
+ghost use Rattle.grib_synthetic.specs.Made.{made, MayBeMade};
 ghost use Rattle.grib_packing.specs.Misfits.{ToSimple};
 ghost use Rattle.grib_repack.specs.Faults.{target_of};
 ghost use Rattle.grib_repack.specs.Repacked.{repacked, repack_misfit};
 ghost use Rattle.grib_stream.specs.Acts.{world};
 ghost use Rattle.grib_stream.specs.Run.{Gives};
 ghost use Rattle.grib_stream.specs.declared.outcome.Outcome.TheVariants.{Done, Memory, WriteFault};
-ghost use Rattle.grib_answers.specs.Closing.{EndsRun, StandsWhole};
-ghost use Rattle.grib_answers.specs.Jobs.{is_target};
-ghost use Rattle.grib_answers.specs.Outcomes.{note_of, note_with};
-ghost use Rattle.grib_tasks.specs.Tasks as tasks;
-ghost use Rattle.grib_tasks.specs.Tasks.{writing, made_answer};
+ghost use Rattle.grib_command.specs.Closing.{EndsRun, StandsWhole};
+ghost use Rattle.grib_command.specs.Jobs.{is_target};
+ghost use Rattle.grib_command.specs.Outcomes.{note_of, note_with};
+ghost use Rattle.grib_run_spec.specs.Tasks as tasks;
+ghost use Rattle.grib_run_spec.specs.Tasks.{writing, made_answer};
 
 use crate::closing::close_with_note;
-use grib_answers::{made_note, write_whole};
 use grib_base::ReadFault;
+use grib_command::{made_note, write_whole};
 use grib_io::{Sink, Stop};
-use grib_made::laws::{
+use grib_repack::{RepackFault, RepackTarget, repack};
+use grib_stream::Outcome;
+use grib_synthetic::laws::{
     what_is_made_fits, what_is_made_is_accepted, what_is_made_is_packed_simply,
     what_is_made_stays_short,
 };
-use grib_made::{made_message, made_summary};
-use grib_repack::{RepackFault, RepackTarget, repack};
-use grib_stream::Outcome;
+use grib_synthetic::{made_message, made_summary};
 use grib2_message::read_message;
 use std::alloc::{AllocError, Global};
 

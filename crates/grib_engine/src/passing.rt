@@ -3,17 +3,17 @@
 ghost use Rattle.std.specs.Prelude.{◌≡◌, false, IfOk, Ok};
 ghost use Rattle.std.specs.Io.KnownBytes.{Keeps};
 ghost use Rattle.grib_stream.specs.declared.outcome.Outcome.TheVariants.{Memory};
-ghost use Rattle.grib_answers.specs.Closing.{EndsNoted, StandsWhole};
-ghost use Rattle.grib_answers.specs.Outcomes.{note_of};
-ghost use Rattle.grib_tasks.specs.Passing as runs;
-ghost use Rattle.grib_tasks.specs.Passing.{ServesPassing, StandsBehind, outcome_by, note_by};
-ghost use Rattle.grib_tasks.specs.Tasks.{Reads};
+ghost use Rattle.grib_command.specs.Closing.{EndsNoted, StandsWhole};
+ghost use Rattle.grib_command.specs.Outcomes.{note_of};
+ghost use Rattle.grib_run_spec.specs.Passing as runs;
+ghost use Rattle.grib_run_spec.specs.Passing.{ServesPassing, StandsBehind, outcome_by, note_by};
+ghost use Rattle.grib_run_spec.specs.Tasks.{Reads};
 
 use crate::closing::{close, close_with_note};
-use grib_answers::{Answerer, Ending};
+use grib_command::{Answerer, Ending};
+use grib_dispatch::Answering;
 use grib_io::{Shelf, Sink, Source};
 use grib_passing::{PassTotals, Passing, answer_passing};
-use grib_performed::Answering;
 use grib_stream::{LIMIT, Outcome};
 use std::alloc::{AllocError, Global};
 

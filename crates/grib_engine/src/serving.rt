@@ -9,30 +9,30 @@ ghost use Rattle.grib_stream.specs.Outcomes.{is_cut_short};
 ghost use Rattle.grib_stream.specs.Faults.{faults, CountsRun};
 ghost use Rattle.grib_stream.specs.Soon.{RefusesSoon};
 ghost use Rattle.grib_stream.specs.declared.outcome.Outcome.TheVariants.{Done, ReadFault, WriteFault, ShelfFault, Memory};
-ghost use Rattle.grib_answers.specs.Closing.{EndsRun, StandsWhole};
-ghost use Rattle.grib_answers.specs.Endings.{ending_note};
-ghost use Rattle.grib_answers.specs.Command.{task};
-ghost use Rattle.grib_performed.specs.Hearing.{IfHears, RefusesInTime, is_second};
-ghost use Rattle.grib_answers.specs.Jobs.{IsJob};
-ghost use Rattle.grib_answers.specs.Outcomes.{note_of, note_with};
+ghost use Rattle.grib_command.specs.Closing.{EndsRun, StandsWhole};
+ghost use Rattle.grib_command.specs.Endings.{ending_note};
+ghost use Rattle.grib_command.specs.Command.{task};
+ghost use Rattle.grib_dispatch.specs.Hearing.{IfHears, RefusesInTime, is_second};
+ghost use Rattle.grib_command.specs.Jobs.{IsJob};
+ghost use Rattle.grib_command.specs.Outcomes.{note_of, note_with};
 ghost use Rattle.grib_passing.specs.Deeds.{outside};
-ghost use Rattle.grib_tasks.specs.Passing.{RunsPassing, IfJobAnswered, NotesSome, IsCounted, StandsBehind, ServesAs, StandsAs};
-ghost use Rattle.grib_tasks.specs.Serving.{RunsJob, NotesJob, NotesJobFront, RefusedJob, Serves};
-ghost use Rattle.grib_tasks.specs.Tasks.{Reads, ReadsTable, work_of, makes, reads_table, uses_shelf};
+ghost use Rattle.grib_run_spec.specs.Passing.{RunsPassing, IfJobAnswered, NotesSome, IsCounted, StandsBehind, ServesAs, StandsAs};
+ghost use Rattle.grib_run_spec.specs.Serving.{RunsJob, NotesJob, NotesJobFront, RefusedJob, Serves};
+ghost use Rattle.grib_run_spec.specs.Tasks.{Reads, ReadsTable, work_of, makes, reads_table, uses_shelf};
 
 use crate::closing::close_with_note;
 use crate::making::{serve_made, write_noted};
 use crate::passing::serve_past;
-use grib_answers::{Answerer, ByOutput, Job, Listener, Name};
-use grib_changed::{
+use grib_command::{Answerer, ByOutput, Job, Listener, Name};
+use grib_dispatch::{Answering, Hearing};
+use grib_edit::{
     ByTable, Changing, Demoting, Filtering, Migrating, Repacking, Rescanning, Setting, Shrinking,
     Splitting, TableWriter,
 };
 use grib_io::{Shelf, Sink, Source};
 use grib_passing::Passing;
-use grib_performed::{Answering, Hearing};
-use grib_printed::{Checking, Dumping, Keying, Listing, Printing, Summing, Valuing};
-use grib_rescanned::GridEdit;
+use grib_reorder::GridEdit;
+use grib_report::{Checking, Dumping, Keying, Listing, Printing, Summing, Valuing};
 use grib_stream::{LIMIT, Outcome, Totals, answer_within};
 use grib_table::{TableStop, read_table};
 use std::alloc::Global;

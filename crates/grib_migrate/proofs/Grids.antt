@@ -5,8 +5,8 @@ use Rattle.std.specs.Prelude.{Result, Ok, Err, IsErr, IsErrAnd, MatchResult}
 use Rattle.std.specs.Result.{result_unwrap_or}
 use Rattle.grib1_sections.specs.Grid.{grid_type}
 use Rattle.grib_bits.specs.Octets.{octets}
-use Rattle.grib_causes.specs.declared.loss.Loss.{Loss}
-use Rattle.grib_causes.specs.declared.loss.Loss.TheVariants.{GridNumber}
+use Rattle.grib_reasons.specs.declared.loss.Loss.{Loss}
+use Rattle.grib_reasons.specs.declared.loss.Loss.TheVariants.{GridNumber}
 use Rattle.grib_migrate.specs.declared.loss.MigrateFault.{MigrateFault}
 use Rattle.grib_migrate.specs.declared.loss.MigrateFault.TheVariants.{Memory}
 use Rattle.grib_migrate.specs.Answered.{IsMigrateFault}

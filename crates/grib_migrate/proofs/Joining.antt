@@ -6,7 +6,7 @@ use Rattle.std.proofs.Common.{subst}
 use Rattle.grib_bits.proofs.Listed.{length-numbers_at}
 use Rattle.grib1_sections.specs.Grid.{nv, list_place, has_list}
 use Rattle.grib1_sections.specs.Coordinates.{coordinate_count, coordinate_list}
-use Rattle.grib_causes.specs.declared.loss.Loss.{Loss}
+use Rattle.grib_reasons.specs.declared.loss.Loss.{Loss}
 use Rattle.grib_migrate.specs.declared.loss.MigrateFault.{MigrateFault}
 use Rattle.grib_migrate.specs.declared.loss.MigrateFault.TheVariants.{Lost, Memory}
 use Rattle.grib_migrate.specs.Answered.{IsMigrateFault}

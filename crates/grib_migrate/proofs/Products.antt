@@ -12,7 +12,7 @@ use Rattle.grib_bits.specs.Encoding.{all_octets}
 use Rattle.grib_migrate.specs.Times.{is_interval, statistic}
 use Rattle.grib_migrate.specs.Dates.{end_of}
 use Rattle.grib_migrate.specs.Products.{interval_numbers, end_numbers, instant_numbers, coordinate_numbers, product_octets}
-use Rattle.grib_causes.specs.declared.loss.Loss.TheVariants.{Coordinate}
+use Rattle.grib_reasons.specs.declared.loss.Loss.TheVariants.{Coordinate}
 use Rattle.grib_migrate.specs.Losses.{coordinate_loss, coordinate_loss_from}
 use Rattle.grib_migrate.specs.References.{binary32_of}
 use Rattle.grib_bits.proofs.AllOctets.{all_octets-append, length-all_octets}

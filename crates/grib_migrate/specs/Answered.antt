@@ -1,6 +1,6 @@
 -- Why a message was not migrated.
 use Rattle.std.specs.Prelude.{◌≡◌, Option, Some}
-use Rattle.grib_causes.specs.declared.loss.Loss.{Loss}
+use Rattle.grib_reasons.specs.declared.loss.Loss.{Loss}
 use Rattle.grib_migrate.specs.declared.loss.MigrateFault.{MigrateFault}
 use Rattle.grib_migrate.specs.declared.loss.MigrateFault.TheVariants.{Lost, Memory}
 

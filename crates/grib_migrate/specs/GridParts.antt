@@ -2,7 +2,7 @@
 use Rattle.std.specs.Prelude.{◌≡◌, ℕ, Option, Some, None, List, ◌++◌, Result, Ok, Err}
 use Rattle.grib_bits.specs.declared.adding.Number.{Number}
 use Rattle.grib_bits.specs.Encoding.{all_octets}
-use Rattle.grib_causes.specs.declared.loss.Loss.{Loss}
+use Rattle.grib_reasons.specs.declared.loss.Loss.{Loss}
 use Rattle.grib_migrate.specs.declared.loss.MigrateFault.{MigrateFault}
 use Rattle.grib_migrate.specs.Answered.{IsMigrateFault}
 

@@ -5,8 +5,8 @@ use Rattle.std.specs.Prelude.{ℕ, ◌+◌, ◌-◌, ◌*◌, ◌%◌, ◌/◌, 
 use Rattle.grib_bits.specs.Bits.{bit, digit}
 use Rattle.grib_bits.specs.Octets.{octets}
 use Rattle.grib1_sections.specs.Grid.{grid_type, nv, list_place, ni, nj, lists_rows, row_count}
-use Rattle.grib_causes.specs.declared.loss.Loss.{Loss}
-use Rattle.grib_causes.specs.declared.loss.Loss.TheVariants.{GridNumber}
+use Rattle.grib_reasons.specs.declared.loss.Loss.{Loss}
+use Rattle.grib_reasons.specs.declared.loss.Loss.TheVariants.{GridNumber}
 use Rattle.grib_bits.specs.declared.adding.Number.{Number}
 use Rattle.grib_bits.specs.declared.adding.Number.TheVariants.{One, Two, Four}
 use Rattle.grib_migrate.specs.declared.scaled.Scaled.{Scaled}

@@ -7,8 +7,8 @@ use Rattle.grib1_sections.specs.Acceptance.{identification, grid, data_section}
 use Rattle.grib1_sections.specs.Coordinates.{coordinate_list}
 use Rattle.grib1_sections.specs.Keys.{key_in}
 use Rattle.grib1_sections.specs.declared.key.Key1.TheVariants.{TimeRange, AverageCount, AverageMissing}
-use Rattle.grib_causes.specs.declared.loss.Loss.{Loss}
-use Rattle.grib_causes.specs.declared.loss.Loss.TheVariants as losses
+use Rattle.grib_reasons.specs.declared.loss.Loss.{Loss}
+use Rattle.grib_reasons.specs.declared.loss.Loss.TheVariants as losses
 use Rattle.grib_migrate.specs.Source.{target_in, has_local}
 use Rattle.grib_migrate.specs.Levels.{surfaces_of}
 use Rattle.grib_migrate.specs.Times.{unit_of, is_instant, is_interval, loses_range}

@@ -16,7 +16,7 @@ mod source;
 mod time;
 mod values;
 
-pub use grib_causes::Loss;
+pub use grib_reasons::Loss;
 pub use grid::true_latitude;
 pub use level::{Surface, Surfaces, surfaces_at};
 pub use loss::MigrateFault;

@@ -1,6 +1,6 @@
 //! Why a message is not migrated.
 
-use grib_causes::Loss;
+use grib_reasons::Loss;
 use std::alloc::AllocError;
 use thiserror::Error;
 

@@ -2,7 +2,7 @@
 
 ghost use Rattle.std.specs.Prelude.{◌≡◌, ◌+◌, ◌≤◌, ◌<◌, ◌^◌, true, false, length, MatchResult};
 ghost use Rattle.grib_migrate.specs.Grids as grids;
-ghost use Rattle.grib_causes.specs.declared.loss.Loss.TheVariants.{GridNumber};
+ghost use Rattle.grib_reasons.specs.declared.loss.Loss.TheVariants.{GridNumber};
 
 use crate::Loss;
 use grib_bits::uint_at;

@@ -41,8 +41,8 @@ use Rattle.grib1_sections.proofs.Columns.{length-mask}
 use Rattle.grib2_message.specs.Message.{IsMessage}
 use Rattle.grib2_message.specs.Fields.{part_octets, field_count, column_of, meaning_of}
 use Rattle.grib2_message.specs.Fields as fields
-use Rattle.grib_causes.specs.declared.loss.Loss.{Loss}
-use Rattle.grib_causes.specs.declared.loss.Loss.TheVariants as losses
+use Rattle.grib_reasons.specs.declared.loss.Loss.{Loss}
+use Rattle.grib_reasons.specs.declared.loss.Loss.TheVariants as losses
 use Rattle.grib_migrate.specs.declared.level.Surfaces.{Surfaces}
 use Rattle.grib_migrate.specs.declared.time.Unit.{Unit as UnitOfTime}
 use Rattle.grib_migrate.specs.Held.{Holds}

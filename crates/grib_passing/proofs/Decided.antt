@@ -7,7 +7,7 @@ use Rattle.std.specs.List.{concat}
 use Rattle.grib_base.specs.Rows.{first_fault}
 use Rattle.grib_base.specs.declared.fault.Fault.{Fault}
 use Rattle.grib2_sections.specs.Head.{head_rows, head_of}
-use Rattle.grib_causes.specs.declared.cause.Kept.{Kept}
+use Rattle.grib_reasons.specs.declared.cause.Kept.{Kept}
 use Rattle.grib_io.specs.Outside.{AppendsFront}
 use Rattle.grib_stream.specs.declared.outcome.Outcome.{Outcome}
 use Rattle.grib_stream.specs.declared.outcome.Outcome.TheVariants as outcomes

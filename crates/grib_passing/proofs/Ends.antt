@@ -2,7 +2,7 @@
 use Rattle.std.proofs.Common.{◌≡◌, ◌≢◌, ℕ, zero, suc, ◌+◌, ◌-◌, Bool, true, false, cond, ◌&&◌, List, [], ◌∷◌, length, take, nat_lt, Option, None, Some, refl}
 use Rattle.grib_base.specs.Rows.{choose}
 use Rattle.grib_base.specs.declared.fault.Fault.{Fault}
-use Rattle.grib_causes.specs.declared.cause.Kept.{Kept}
+use Rattle.grib_reasons.specs.declared.cause.Kept.{Kept}
 use Rattle.grib_stream.specs.declared.outcome.Outcome.{Outcome}
 use Rattle.grib_stream.specs.declared.outcome.Outcome.TheVariants as outcomes
 use Rattle.grib_stream.specs.declared.place.Place.{Place}

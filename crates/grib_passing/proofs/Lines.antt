@@ -2,7 +2,7 @@
 use Rattle.std.proofs.Common.{◌≡◌, ℕ, suc, ◌+◌, Bool, true, false, List, [], ◌∷◌, length, take, nat_lt, Option, None, Some, Ok, Err, subst, arith}
 use Rattle.std.specs.declared.result.Result.{Result}
 use Rattle.grib_base.specs.Rows.{choose}
-use Rattle.grib_causes.specs.declared.cause.Kept.{Kept}
+use Rattle.grib_reasons.specs.declared.cause.Kept.{Kept}
 use Rattle.grib_stream.specs.declared.outcome.Outcome.{Outcome}
 use Rattle.grib_stream.specs.declared.place.Place.{Place}
 use Rattle.grib_stream.specs.Task.{Task, Given, Gives, Ends}

@@ -1,7 +1,7 @@
 -- What a run may end with at an item.
 use Rattle.std.proofs.Common.{◌≡◌, ◌≢◌, ℕ, Bool, true, false, cond, ◌&&◌, List, take, Option, Some, None, refl, sym, subst}
 use Rattle.grib_base.specs.declared.fault.Fault.{Fault}
-use Rattle.grib_causes.specs.declared.cause.Kept.{Kept as KeptMessage}
+use Rattle.grib_reasons.specs.declared.cause.Kept.{Kept as KeptMessage}
 use Rattle.grib_stream.specs.declared.outcome.Outcome.{Outcome}
 use Rattle.grib_stream.specs.declared.outcome.Outcome.TheVariants.{Done as Finished, Passed, Usage, Refused, Kept, TableRefused, ReadFault, WriteFault, ShelfFault, Memory, InputTooLong}
 use Rattle.grib_stream.specs.declared.place.Place.{Place}

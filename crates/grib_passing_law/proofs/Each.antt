@@ -2,9 +2,9 @@
 use Rattle.std.proofs.Common.{◌≡◌, ℕ, ◌==◌, Bool, true, false, Option, Some, None, option_map, ◌≤◌, List, [], length, refl, sym, ap, ◌∙◌, subst}
 use Rattle.std.specs.List.{concat}
 use Rattle.grib_base.specs.Rows.{choose}
-use Rattle.grib_causes.specs.declared.cause.Cause.{Cause}
-use Rattle.grib_causes.specs.declared.cause.Cause.TheVariants.{Lost}
-use Rattle.grib_causes.specs.declared.loss.Loss.{Loss}
+use Rattle.grib_reasons.specs.declared.cause.Cause.{Cause}
+use Rattle.grib_reasons.specs.declared.cause.Cause.TheVariants.{Lost}
+use Rattle.grib_reasons.specs.declared.loss.Loss.{Loss}
 use Rattle.grib_keys.specs.declared.condition.Condition.{Condition}
 use Rattle.grib_select.specs.declared.changing.SetFault.{SetFault}
 use Rattle.grib_select.specs.declared.changing.SetFault.TheVariants.{KeyRange, KeyAbsent, Memory}
@@ -25,11 +25,11 @@ use Rattle.grib_stream.specs.declared.place.Place.{Place}
 use Rattle.grib_stream.specs.Acts.{Act, writes, written}
 use Rattle.grib_stream.specs.Stream.{Found}
 use Rattle.grib_stream.specs.Task.{Given, Gives, Ends}
-use Rattle.grib_answers.specs.Command.{given, given_unless, task}
-use Rattle.grib_changed.specs.Filtering.{filtered, filter_command, all_fulfil}
-use Rattle.grib_changed.specs.Migrating.{are_octets, migrate_command}
-use Rattle.grib_changed.specs.Repacking.{cause_of, repack_command}
-use Rattle.grib_changed.specs.Setting.{set_cause, set_command}
+use Rattle.grib_command.specs.Command.{given, given_unless, task}
+use Rattle.grib_edit.specs.Filtering.{filtered, filter_command, all_fulfil}
+use Rattle.grib_edit.specs.Migrating.{are_octets, migrate_command}
+use Rattle.grib_edit.specs.Repacking.{cause_of, repack_command}
+use Rattle.grib_edit.specs.Setting.{set_cause, set_command}
 use Rattle.grib_run_law.specs.Same.{SameValues}
 use Rattle.grib_run_law.specs.SameMigrated.{SameMigrated}
 use Rattle.grib_run_law.specs.SamePicked.{IsPicked}

@@ -10,10 +10,10 @@ use Rattle.grib_passing.specs.declared.passing.Passing.{Passing}
 use Rattle.grib_passing.specs.Items.{Item, Accepted, Refused, items}
 use Rattle.grib_passing.specs.Laws.{StandsIn}
 use Rattle.grib_passing.proofs.Standing.{items_stand}
-use Rattle.grib_printed.specs.Checking.{check_command, check_lawful}
-use Rattle.grib_answers.specs.Command.{task}
-use Rattle.grib_answers.specs.Judging.{judge}
-use Rattle.grib_performed.specs.Lawful.{lawful}
+use Rattle.grib_report.specs.Checking.{check_command, check_lawful}
+use Rattle.grib_command.specs.Command.{task}
+use Rattle.grib_command.specs.Judging.{judge}
+use Rattle.grib_dispatch.specs.Lawful.{lawful}
 use Rattle.grib_run_law.specs.Complete.{IsInGrammar}
 use Rattle.grib_run_law.specs.Octets.{AreOctets, IsOfOctets}
 use Rattle.grib_run_law.proofs.Accepting.{IsAccepted}

@@ -6,7 +6,7 @@ use Rattle.std.specs.Io.KnownBytes.{Appends}
 use Rattle.std.proofs.lemmas.Bool.{false≢true}
 use Rattle.std.proofs.lemmas.List.{take_all}
 use Rattle.grib_base.specs.Rows.{choose}
-use Rattle.grib_causes.specs.declared.cause.Kept.{Kept as KeptMessage}
+use Rattle.grib_reasons.specs.declared.cause.Kept.{Kept as KeptMessage}
 use Rattle.grib_keys.specs.declared.condition.Condition.{Condition}
 use Rattle.grib_params.specs.Table.{Entries}
 use Rattle.grib_repack.specs.declared.target.RepackTarget.{RepackTarget}
@@ -29,17 +29,17 @@ use Rattle.grib_passing.specs.Items.{Item, End, Over, Refusing, Open}
 use Rattle.grib_passing.specs.Laws.{is_whole}
 use Rattle.grib_passing.specs.Run.{answer_of, answer_within}
 use Rattle.grib_passing.specs.Steps.{Plan}
-use Rattle.grib_answers.specs.declared.job.Job.{Job}
-use Rattle.grib_answers.specs.declared.job.Job.TheVariants.{Check, List as Listing, Keys, Stats, Dump, Filter, Split, Set, Repack, RepackLeast, Rescan, Crop, Migrate, Demote, Make, Print}
-use Rattle.grib_answers.specs.Command.{Command, given, task}
-use Rattle.grib_answers.specs.Jobs.{IsJob, CanChange, is_target}
-use Rattle.grib_changed.specs.Filtering.{filter_command, filter_lawful}
-use Rattle.grib_changed.specs.Migrating.{migrate_command, migrate_lawful}
-use Rattle.grib_changed.specs.Repacking.{repack_command, repack_lawful}
-use Rattle.grib_changed.specs.Setting.{set_command, set_lawful}
-use Rattle.grib_performed.specs.Lawful.{lawful}
-use Rattle.grib_performed.specs.Passing.{texts}
-use Rattle.grib_tasks.specs.Passing.{GivesPassing, RunsPast, RunsTabledPast, RunsPassing, outcome_by, plan_by}
+use Rattle.grib_command.specs.declared.job.Job.{Job}
+use Rattle.grib_command.specs.declared.job.Job.TheVariants.{Check, List as Listing, Keys, Stats, Dump, Filter, Split, Set, Repack, RepackLeast, Rescan, Crop, Migrate, Demote, Make, Print}
+use Rattle.grib_command.specs.Command.{Command, given, task}
+use Rattle.grib_command.specs.Jobs.{IsJob, CanChange, is_target}
+use Rattle.grib_edit.specs.Filtering.{filter_command, filter_lawful}
+use Rattle.grib_edit.specs.Migrating.{migrate_command, migrate_lawful}
+use Rattle.grib_edit.specs.Repacking.{repack_command, repack_lawful}
+use Rattle.grib_edit.specs.Setting.{set_command, set_lawful}
+use Rattle.grib_dispatch.specs.Lawful.{lawful}
+use Rattle.grib_dispatch.specs.Passing.{texts}
+use Rattle.grib_run_spec.specs.Passing.{GivesPassing, RunsPast, RunsTabledPast, RunsPassing, outcome_by, plan_by}
 use Rattle.grib_run_law.specs.Leaving.{IfGood}
 use Rattle.grib_run_law.specs.Octets.{AreOctets}
 use Rattle.grib_passing_law.specs.Leaving.{is_longer, items_answered, AppendsItems, LeavesPast}

@@ -21,15 +21,15 @@ use Rattle.grib_passing.specs.Deeds.{Outside}
 use Rattle.grib_passing.specs.Items.{Passed, Item, Accepted, Refused, End, Over, Refusing, Open, Items, items_from, items, on_next}
 use Rattle.grib_passing.specs.Next.{Unknown, Refuses, next_judged, next_passed, passed}
 use Rattle.grib_passing.specs.Run.{answer_of, answer_within}
-use Rattle.grib_answers.specs.declared.job.Job.{Job}
-use Rattle.grib_answers.specs.declared.job.Job.TheVariants.{Check, List as Listing, Keys, Stats, Dump, Filter, Split, Set, Repack, RepackLeast, Rescan, Crop, Migrate, Demote, Make, Print}
-use Rattle.grib_answers.specs.Command.{task}
-use Rattle.grib_answers.specs.Judging.{judge, fields_of}
-use Rattle.grib_changed.specs.Parts.{Part, part_name, part_of, parts_of, adds, puts, puts_all, octets_within}
-use Rattle.grib_changed.specs.Splitting.{split_command, split_lawful}
-use Rattle.grib_performed.specs.Lawful.{lawful, fields_other}
-use Rattle.grib_performed.specs.Passing.{texts}
-use Rattle.grib_tasks.specs.Passing.{GivesPassing, RunsPast, RunsPassing, deeds_by, plan_by}
+use Rattle.grib_command.specs.declared.job.Job.{Job}
+use Rattle.grib_command.specs.declared.job.Job.TheVariants.{Check, List as Listing, Keys, Stats, Dump, Filter, Split, Set, Repack, RepackLeast, Rescan, Crop, Migrate, Demote, Make, Print}
+use Rattle.grib_command.specs.Command.{task}
+use Rattle.grib_command.specs.Judging.{judge, fields_of}
+use Rattle.grib_edit.specs.Parts.{Part, part_name, part_of, parts_of, adds, puts, puts_all, octets_within}
+use Rattle.grib_edit.specs.Splitting.{split_command, split_lawful}
+use Rattle.grib_dispatch.specs.Lawful.{lawful, fields_other}
+use Rattle.grib_dispatch.specs.Passing.{texts}
+use Rattle.grib_run_spec.specs.Passing.{GivesPassing, RunsPast, RunsPassing, deeds_by, plan_by}
 use Rattle.grib_run_law.specs.Leaving.{OfNames}
 use Rattle.grib_run_law.specs.Standing.{StandFirst, StandAll}
 use Rattle.grib_run_law.proofs.Standing.{Distinct, stand_first, stand_all, same_number}

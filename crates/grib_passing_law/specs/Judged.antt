@@ -3,7 +3,7 @@ use Rattle.std.specs.Prelude.{◌≡◌, ℕ, Bool, List, true, drop, Some}
 use Rattle.grib_stream.specs.Stream.{Faulty, begins}
 use Rattle.grib_passing.specs.Items.{Item, Accepted, Refused}
 use Rattle.grib_passing.specs.Next.{passed}
-use Rattle.grib_answers.specs.Judging.{judge}
+use Rattle.grib_command.specs.Judging.{judge}
 use Rattle.grib_run_law.specs.Complete.{IsInGrammar}
 
 -- A message is in the grammar of its edition. Octets that are refused begin with `GRIB`; the fault is that of the first

@@ -10,10 +10,10 @@ use Rattle.grib_passing.specs.declared.passing.Passing.{Passing}
 use Rattle.grib_passing.specs.Deeds.{Outside}
 use Rattle.grib_passing.specs.Items.{Item, items}
 use Rattle.grib_passing.specs.Laws.{is_whole}
-use Rattle.grib_answers.specs.declared.job.Job.{Job}
-use Rattle.grib_answers.specs.declared.job.Job.TheVariants.{Filter, Set, Repack, Migrate}
-use Rattle.grib_answers.specs.Judging.{judge}
-use Rattle.grib_tasks.specs.Serving.{ByTable}
+use Rattle.grib_command.specs.declared.job.Job.{Job}
+use Rattle.grib_command.specs.declared.job.Job.TheVariants.{Filter, Set, Repack, Migrate}
+use Rattle.grib_command.specs.Judging.{judge}
+use Rattle.grib_run_spec.specs.Serving.{ByTable}
 use Rattle.grib_run_law.specs.Leaving.{IfGood}
 use Rattle.grib_run_law.specs.Octets.{AreOctets}
 use Rattle.grib_passing_law.specs.Judged.{IsJudged}

@@ -11,10 +11,10 @@ use Rattle.grib_passing.specs.declared.passing.Instead.{Instead}
 use Rattle.grib_passing.specs.declared.passing.Passing.{Passing}
 use Rattle.grib_passing.specs.Deeds.{Outside}
 use Rattle.grib_passing.specs.Items.{Item, Accepted, Refused, items}
-use Rattle.grib_answers.specs.declared.job.Job.{Job}
-use Rattle.grib_answers.specs.declared.job.Job.TheVariants.{Split}
-use Rattle.grib_answers.specs.Judging.{judge, fields_of}
-use Rattle.grib_changed.specs.Parts.{Part, parts_of}
+use Rattle.grib_command.specs.declared.job.Job.{Job}
+use Rattle.grib_command.specs.declared.job.Job.TheVariants.{Split}
+use Rattle.grib_command.specs.Judging.{judge, fields_of}
+use Rattle.grib_edit.specs.Parts.{Part, parts_of}
 use Rattle.grib_run_law.specs.Leaving.{OfTaken, OfNames}
 use Rattle.grib_run_law.specs.Standing.{StandFirst, StandAll}
 use Rattle.grib_passing_law.specs.Leaving.{items_answered}

@@ -13,9 +13,9 @@ use Rattle.grib_stream.specs.declared.place.Totals.{Totals}
 use Rattle.grib_stream.specs.Answer.{Answer, after, on_given, answers, on_end, place_of, totals_of, at_limit, answer_of, answer_within}
 use Rattle.grib_stream.proofs.Exits.{within_short, within_long, closed_at_limit, open_at_limit}
 use Rattle.grib_stream.proofs.Streams.{stream_skip, stream_begun}
-use Rattle.grib_answers.specs.Command.{Command, given, task}
-use Rattle.grib_answers.specs.Endings.{ending_text}
-use Rattle.grib_answers.specs.Judging.{judge, fields_of}
+use Rattle.grib_command.specs.Command.{Command, given, task}
+use Rattle.grib_command.specs.Endings.{ending_text}
+use Rattle.grib_command.specs.Judging.{judge, fields_of}
 use Rattle.grib_run_law.proofs.Keeping.{alone_other, alone_first}
 
 -- a message of an input is in the grammar of its edition

@@ -4,8 +4,8 @@ use Rattle.std.proofs.lemmas.Bool.{cases_Bool, cases_lt, false≢true}
 use Rattle.std.proofs.lemmas.List.{take_all}
 use Rattle.std.proofs.lemmas.List.Elements.{All-nil, All-cons, All-head, All-tail}
 use Rattle.grib_base.specs.Rows.{choose}
-use Rattle.grib_causes.specs.declared.cause.Cause.TheVariants.{Lost}
-use Rattle.grib_causes.specs.declared.loss.Loss.{Loss}
+use Rattle.grib_reasons.specs.declared.cause.Cause.TheVariants.{Lost}
+use Rattle.grib_reasons.specs.declared.loss.Loss.{Loss}
 use Rattle.grib2_sections.specs.Head.{edition}
 use Rattle.grib_keys.specs.declared.condition.Condition.{Condition}
 use Rattle.grib_migrate.specs.Losses.{first_loss}
@@ -26,17 +26,17 @@ use Rattle.grib_stream.specs.Outcomes.{is_open, is_of_message}
 use Rattle.grib_stream.specs.Stream.{Found, End, stream}
 use Rattle.grib_stream.specs.Task.{Task, Given, Gives, Ends}
 use Rattle.grib_stream.proofs.Exits.{within_short, within_long, closed_at_limit, open_at_limit}
-use Rattle.grib_answers.specs.Command.{Command, IsLawfulCommand, given, given_unless, task}
-use Rattle.grib_changed.specs.Filtering.{filter_command}
-use Rattle.grib_answers.specs.Judging.{judge, fields_of}
-use Rattle.grib_performed.specs.Lawful.{lawful}
-use Rattle.grib_changed.specs.Migrating.{are_octets, migrate_command}
+use Rattle.grib_command.specs.Command.{Command, IsLawfulCommand, given, given_unless, task}
+use Rattle.grib_edit.specs.Filtering.{filter_command}
+use Rattle.grib_command.specs.Judging.{judge, fields_of}
+use Rattle.grib_dispatch.specs.Lawful.{lawful}
+use Rattle.grib_edit.specs.Migrating.{are_octets, migrate_command}
 use Rattle.grib_run_law.specs.Octets.{AreOctets, AreAllOctets, unless_lost, until_lost}
-use Rattle.grib_changed.specs.Repacking.{cause_of, repack_command}
+use Rattle.grib_edit.specs.Repacking.{cause_of, repack_command}
 use Rattle.grib_run_law.specs.Same.{kept_then, before_kept}
 use Rattle.grib_run_law.specs.SameMigrated.{lost_then, before_lost}
 use Rattle.grib_run_law.specs.SameSet.{unless_at_fault, before_fault}
-use Rattle.grib_changed.specs.Setting.{set_cause, set_command}
+use Rattle.grib_edit.specs.Setting.{set_cause, set_command}
 use Rattle.grib_run_law.specs.Standing.{before_first}
 use Rattle.grib_run_law.proofs.Migrations.{are_small, after_found}
 use Rattle.grib_run_law.proofs.Settings.{never_memory}

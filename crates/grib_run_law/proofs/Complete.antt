@@ -14,15 +14,15 @@ use Rattle.grib_stream.specs.Stream.{begins, Message, Stream, followed_by, messa
 use Rattle.grib_stream.specs.Task.{Task, Given, Gives}
 use Rattle.grib_stream.proofs.Exits.{within_short}
 use Rattle.grib_stream.proofs.Streams.{stream_passed, stream_message, is_begun}
-use Rattle.grib_answers.specs.declared.job.Job.{Job}
-use Rattle.grib_answers.specs.declared.job.Job.TheVariants.{Check, List as Listing, Keys, Stats, Dump, Filter, Split, Set, Repack, RepackLeast, Rescan, Crop, Migrate, Demote, Make, Print}
-use Rattle.grib_answers.specs.Command.{Command, given, task}
+use Rattle.grib_command.specs.declared.job.Job.{Job}
+use Rattle.grib_command.specs.declared.job.Job.TheVariants.{Check, List as Listing, Keys, Stats, Dump, Filter, Split, Set, Repack, RepackLeast, Rescan, Crop, Migrate, Demote, Make, Print}
+use Rattle.grib_command.specs.Command.{Command, given, task}
 use Rattle.grib_run_law.specs.Complete.{Piece, IsInGrammar, IsMadeOf, HasResult, HaveResults}
-use Rattle.grib_answers.specs.Judging.{judged, judge, fields_of}
-use Rattle.grib_performed.specs.Lawful.{least_message, message_stays}
-use Rattle.grib_answers.specs.Pages.{text_of}
-use Rattle.grib_tasks.specs.Tasks as tasks
-use Rattle.grib_tasks.specs.Tasks.{Work, Reads, Makes, ReadsTable, work_of, made_answer, writing, answer_by, answer_with}
+use Rattle.grib_command.specs.Judging.{judged, judge, fields_of}
+use Rattle.grib_dispatch.specs.Lawful.{least_message, message_stays}
+use Rattle.grib_command.specs.Pages.{text_of}
+use Rattle.grib_run_spec.specs.Tasks as tasks
+use Rattle.grib_run_spec.specs.Tasks.{Work, Reads, Makes, ReadsTable, work_of, made_answer, writing, answer_by, answer_with}
 
 -- ---- one message
 

@@ -3,14 +3,14 @@ use Rattle.std.proofs.Common.{◌≡◌, ℕ, ◌^◌, ◌≤◌, Bool, true, fa
 use Rattle.std.proofs.lemmas.Bool.{false≢true}
 use Rattle.grib_base.specs.Rows.{choose}
 use Rattle.grib2_sections.specs.Head.{edition}
-use Rattle.grib_causes.specs.declared.cause.Cause.{Cause}
-use Rattle.grib_causes.specs.declared.cause.Cause.TheVariants.{EditionOne, Lost}
+use Rattle.grib_reasons.specs.declared.cause.Cause.{Cause}
+use Rattle.grib_reasons.specs.declared.cause.Cause.TheVariants.{EditionOne, Lost}
 use Rattle.grib_keys.specs.declared.condition.Condition.{Condition}
 use Rattle.grib_params.specs.Table.{Entries}
 use Rattle.grib_table.specs.Tabled.{Tabled, Good, Refused, tabled}
 use Rattle.grib_migrate.specs.Losses.{first_loss}
 use Rattle.grib_migrate.specs.Migrated.{migrated}
-use Rattle.grib_rescanned.specs.declared.edit.GridEdit.TheVariants as edits
+use Rattle.grib_reorder.specs.declared.edit.GridEdit.TheVariants as edits
 use Rattle.grib_stream.specs.declared.outcome.Outcome.{Outcome}
 use Rattle.grib_stream.specs.declared.outcome.Outcome.TheVariants.{Done}
 use Rattle.grib_stream.specs.Acts.{Act, written, writes}
@@ -20,22 +20,22 @@ use Rattle.grib_stream.specs.Task.{Task, Given, Gives, Ends, IsLawful}
 use Rattle.grib_stream.proofs.Exits.{within_short}
 use Rattle.grib_stream.proofs.Parts.{AsParts, parts_done}
 use Rattle.grib_run_law.proofs.Keeping.{written_join}
-use Rattle.grib_answers.specs.declared.job.Job.{Job}
-use Rattle.grib_answers.specs.declared.job.Job.TheVariants.{Check, List as Listing, Keys, Stats, Dump, Filter, Split, Set, Repack, RepackLeast, Rescan, Crop, Migrate, Demote, Make, Print}
-use Rattle.grib_answers.specs.Command.{Command, IsLawfulCommand, given_unless, given_whole, kept_at, kept_first, changing_unless, task}
+use Rattle.grib_command.specs.declared.job.Job.{Job}
+use Rattle.grib_command.specs.declared.job.Job.TheVariants.{Check, List as Listing, Keys, Stats, Dump, Filter, Split, Set, Repack, RepackLeast, Rescan, Crop, Migrate, Demote, Make, Print}
+use Rattle.grib_command.specs.Command.{Command, IsLawfulCommand, given_unless, given_whole, kept_at, kept_first, changing_unless, task}
 use Rattle.grib_run_law.specs.Each.{writes_each}
-use Rattle.grib_changed.specs.Filtering.{filtered, filter_command, filter_lawful}
-use Rattle.grib_answers.specs.Jobs.{IsJob}
-use Rattle.grib_answers.specs.Judging.{judge}
-use Rattle.grib_performed.specs.Lawful.{lawful}
-use Rattle.grib_changed.specs.Migrating.{are_octets, migrate_command, migrate_lawful}
-use Rattle.grib_changed.specs.Demoting.{demoted_cause, demoted_fields, demote_command, demote_lawful}
+use Rattle.grib_edit.specs.Filtering.{filtered, filter_command, filter_lawful}
+use Rattle.grib_command.specs.Jobs.{IsJob}
+use Rattle.grib_command.specs.Judging.{judge}
+use Rattle.grib_dispatch.specs.Lawful.{lawful}
+use Rattle.grib_edit.specs.Migrating.{are_octets, migrate_command, migrate_lawful}
+use Rattle.grib_edit.specs.Demoting.{demoted_cause, demoted_fields, demote_command, demote_lawful}
 use Rattle.grib_least.specs.Least.{least}
-use Rattle.grib_changed.specs.Least.{least_lawful}
-use Rattle.grib_changed.specs.Repacking.{repack_lawful}
-use Rattle.grib_changed.specs.Rescanning.{edit_lawful}
-use Rattle.grib_changed.specs.Setting.{set_lawful}
-use Rattle.grib_tasks.specs.Tasks.{answer_by, answer_with}
+use Rattle.grib_edit.specs.Least.{least_lawful}
+use Rattle.grib_edit.specs.Repacking.{repack_lawful}
+use Rattle.grib_edit.specs.Rescanning.{edit_lawful}
+use Rattle.grib_edit.specs.Setting.{set_lawful}
+use Rattle.grib_run_spec.specs.Tasks.{answer_by, answer_with}
 
 -- ---- commands whose results do not hang on the place, but for the number of a message that is kept
 

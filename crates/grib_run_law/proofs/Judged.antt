@@ -6,7 +6,7 @@ use Rattle.std.proofs.lemmas.List.Elements.{All-nil, All-cons, All-head, All-tai
 use Rattle.grib_base.specs.Rows.{choose}
 use Rattle.grib_base.specs.declared.fault.Fault.{Fault}
 use Rattle.grib_base.specs.declared.fault.Refusal.{Refusal}
-use Rattle.grib_causes.specs.declared.cause.Cause.{Cause}
+use Rattle.grib_reasons.specs.declared.cause.Cause.{Cause}
 use Rattle.grib2_sections.specs.Head.{edition}
 use Rattle.grib_params.specs.Table.{Entries}
 use Rattle.grib_table.specs.Tabled.{Tabled, Good}
@@ -22,31 +22,31 @@ use Rattle.grib_stream.specs.Stream.{begins, Judgement, Message, Faulty, Found, 
 use Rattle.grib_stream.specs.Task.{Given, Gives, Ends}
 use Rattle.grib_stream.proofs.Exits.{within_short, within_long, closed_at_limit, open_at_limit}
 use Rattle.grib_stream.proofs.Streams.{stream_skip, stream_begun}
-use Rattle.grib_answers.specs.declared.job.Job.{Job}
-use Rattle.grib_answers.specs.declared.job.Job.TheVariants.{Check, List as Listing, Keys, Stats, Dump, Filter, Split, Set, Repack, RepackLeast, Rescan, Crop, Migrate, Demote, Make, Print}
-use Rattle.grib_answers.specs.Command.{Command, given, given_unless, kept_at, task}
+use Rattle.grib_command.specs.declared.job.Job.{Job}
+use Rattle.grib_command.specs.declared.job.Job.TheVariants.{Check, List as Listing, Keys, Stats, Dump, Filter, Split, Set, Repack, RepackLeast, Rescan, Crop, Migrate, Demote, Make, Print}
+use Rattle.grib_command.specs.Command.{Command, given, given_unless, kept_at, task}
 use Rattle.grib_run_law.specs.Complete.{IsInGrammar}
 use Rattle.grib_run_law.specs.Judged.{IsRefusedIn, NamesRow, JudgesInput}
-use Rattle.grib_answers.specs.Judging.{judge, fields_of}
-use Rattle.grib_printed.specs.Checking.{check_command}
-use Rattle.grib_printed.specs.Listing.{list_command}
-use Rattle.grib_printed.specs.Keying.{keys_command}
-use Rattle.grib_printed.specs.Summing.{stats_command}
-use Rattle.grib_printed.specs.Dumping.{dump_command}
-use Rattle.grib_changed.specs.Filtering.{filter_command}
-use Rattle.grib_changed.specs.Setting.{set_command}
+use Rattle.grib_command.specs.Judging.{judge, fields_of}
+use Rattle.grib_report.specs.Checking.{check_command}
+use Rattle.grib_report.specs.Listing.{list_command}
+use Rattle.grib_report.specs.Keying.{keys_command}
+use Rattle.grib_report.specs.Summing.{stats_command}
+use Rattle.grib_report.specs.Dumping.{dump_command}
+use Rattle.grib_edit.specs.Filtering.{filter_command}
+use Rattle.grib_edit.specs.Setting.{set_command}
 use Rattle.grib_least.specs.Least.{least}
-use Rattle.grib_changed.specs.Least.{least_command}
-use Rattle.grib_changed.specs.Repacking.{repack_command}
-use Rattle.grib_changed.specs.Rescanning.{edit_command}
-use Rattle.grib_changed.specs.Migrating.{are_octets, migrate_command}
-use Rattle.grib_changed.specs.Demoting.{demote_command}
-use Rattle.grib_rescanned.specs.declared.edit.GridEdit.TheVariants as edits
+use Rattle.grib_edit.specs.Least.{least_command}
+use Rattle.grib_edit.specs.Repacking.{repack_command}
+use Rattle.grib_edit.specs.Rescanning.{edit_command}
+use Rattle.grib_edit.specs.Migrating.{are_octets, migrate_command}
+use Rattle.grib_edit.specs.Demoting.{demote_command}
+use Rattle.grib_reorder.specs.declared.edit.GridEdit.TheVariants as edits
 use Rattle.grib_run_law.specs.Same.{messages_answered}
-use Rattle.grib_tasks.specs.Serving.{RunsTabled, RunsWork, RunsJob}
-use Rattle.grib_changed.specs.Splitting.{split_command}
-use Rattle.grib_tasks.specs.Tasks.{Work, Reads, Makes, ReadsTable, work_of, refused_answer}
-use Rattle.grib_printed.specs.Valuing.{text_unless, value_command}
+use Rattle.grib_run_spec.specs.Serving.{RunsTabled, RunsWork, RunsJob}
+use Rattle.grib_edit.specs.Splitting.{split_command}
+use Rattle.grib_run_spec.specs.Tasks.{Work, Reads, Makes, ReadsTable, work_of, refused_answer}
+use Rattle.grib_report.specs.Valuing.{text_unless, value_command}
 use Rattle.grib_run_law.proofs.Accepting.{IsAccepted, accepted_all}
 
 -- ---- no command refuses a message that is accepted

@@ -19,11 +19,11 @@ use Rattle.grib_stream.specs.declared.place.Place.{Place}
 use Rattle.grib_stream.specs.Task.{Task}
 use Rattle.grib_stream.specs.Answer.{Answer, after, on_given, answers, on_end, place_of, at_limit, answer_of, answer_within}
 use Rattle.grib_stream.proofs.Exits.{within_short, within_long, closed_at_limit, open_at_limit}
-use Rattle.grib_answers.specs.Command.{given_unless, task}
-use Rattle.grib_answers.specs.Judging.{judge}
-use Rattle.grib_performed.specs.Lawful.{IsFirst, IsOther, message_judged, least_message, there_message, edition_alone, message_alone, first_alone_message}
+use Rattle.grib_command.specs.Command.{given_unless, task}
+use Rattle.grib_command.specs.Judging.{judge}
+use Rattle.grib_dispatch.specs.Lawful.{IsFirst, IsOther, message_judged, least_message, there_message, edition_alone, message_alone, first_alone_message}
 use Rattle.grib_run_law.specs.Same.{kept_then, before_kept}
-use Rattle.grib_changed.specs.Repacking.{cause_of, repack_command}
+use Rattle.grib_edit.specs.Repacking.{cause_of, repack_command}
 
 -- ---- the messages of an input
 

@@ -16,23 +16,23 @@ use Rattle.grib_stream.specs.Answer.{answer_of, answer_within}
 use Rattle.grib_stream.specs.Outcomes.{is_broken}
 use Rattle.grib_stream.specs.Run.{Gives, Runs}
 use Rattle.grib_stream.specs.Stream.{stream}
-use Rattle.grib_answers.specs.declared.job.Job.{Job}
-use Rattle.grib_answers.specs.declared.job.Job.TheVariants.{Check, List as Listing, Keys, Stats, Dump, Filter, Split, Set, Repack, RepackLeast, Rescan, Crop, Migrate, Demote, Make, Print}
-use Rattle.grib_answers.specs.Command.{task}
-use Rattle.grib_changed.specs.Filtering.{filter_command, filter_lawful}
-use Rattle.grib_answers.specs.Jobs.{IsJob, CanChange, is_target}
-use Rattle.grib_answers.specs.Judging.{judge}
+use Rattle.grib_command.specs.declared.job.Job.{Job}
+use Rattle.grib_command.specs.declared.job.Job.TheVariants.{Check, List as Listing, Keys, Stats, Dump, Filter, Split, Set, Repack, RepackLeast, Rescan, Crop, Migrate, Demote, Make, Print}
+use Rattle.grib_command.specs.Command.{task}
+use Rattle.grib_edit.specs.Filtering.{filter_command, filter_lawful}
+use Rattle.grib_command.specs.Jobs.{IsJob, CanChange, is_target}
+use Rattle.grib_command.specs.Judging.{judge}
 use Rattle.grib_run_law.specs.Leaving.{OfTaken, OfNames, LeavesNames, WritesSame, WritesMigrated, WritesSet, WritesPicked, IfGood, LeavesFields, LeavesParts}
-use Rattle.grib_changed.specs.Migrating.{migrate_command, migrate_lawful}
+use Rattle.grib_edit.specs.Migrating.{migrate_command, migrate_lawful}
 use Rattle.grib_run_law.specs.Octets.{AreAllOctets, until_lost}
-use Rattle.grib_changed.specs.Repacking.{repack_command, repack_lawful}
+use Rattle.grib_edit.specs.Repacking.{repack_command, repack_lawful}
 use Rattle.grib_run_law.specs.Same.{KeepsValues, before_kept, messages_answered}
 use Rattle.grib_run_law.specs.SameMigrated.{before_lost}
 use Rattle.grib_run_law.specs.SamePicked.{PicksFields}
 use Rattle.grib_run_law.specs.SameSet.{KeepsColumns, before_fault}
-use Rattle.grib_tasks.specs.Serving.{RunsTabled, RunsJob}
-use Rattle.grib_changed.specs.Setting.{set_command, set_lawful}
-use Rattle.grib_changed.specs.Splitting.{split_command}
+use Rattle.grib_run_spec.specs.Serving.{RunsTabled, RunsJob}
+use Rattle.grib_edit.specs.Setting.{set_command, set_lawful}
+use Rattle.grib_edit.specs.Splitting.{split_command}
 use Rattle.grib_run_law.specs.Standing.{all_parts, before_first, StandFirst, StandAll}
 use Rattle.grib_run_law.proofs.Accepting.{no_ending}
 use Rattle.grib_run_law.proofs.AllGiven.{done_whole, all_repacked, all_set, all_filtered, all_migrated}

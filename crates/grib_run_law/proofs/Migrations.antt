@@ -4,8 +4,8 @@ use Rattle.std.specs.List.{concat}
 use Rattle.std.proofs.lemmas.Bool.{false≢true, eq-eqb}
 use Rattle.std.proofs.lemmas.List.Elements.{All-head, All-tail}
 use Rattle.grib_base.specs.Rows.{choose}
-use Rattle.grib_causes.specs.declared.cause.Cause.TheVariants.{Lost}
-use Rattle.grib_causes.specs.declared.loss.Loss.{Loss}
+use Rattle.grib_reasons.specs.declared.cause.Cause.TheVariants.{Lost}
+use Rattle.grib_reasons.specs.declared.loss.Loss.{Loss}
 use Rattle.grib1_sections.specs.Message.{IsMessage1}
 use Rattle.grib1_sections.specs.Column.{meaning1_of}
 use Rattle.grib2_sections.specs.Head.{edition}
@@ -22,9 +22,9 @@ use Rattle.grib_stream.specs.Stream.{Found, End, Over, Refusing, stream}
 use Rattle.grib_stream.specs.Task.{Task, Given, Gives}
 use Rattle.grib_stream.specs.declared.place.Place.{Place}
 use Rattle.grib_stream.specs.Answer.{Answer, after, on_given, answers, on_end, place_of, answer_within}
-use Rattle.grib_answers.specs.Command.{given_unless, task}
-use Rattle.grib_answers.specs.Judging.{judge}
-use Rattle.grib_changed.specs.Migrating.{are_octets, migrate_command}
+use Rattle.grib_command.specs.Command.{given_unless, task}
+use Rattle.grib_command.specs.Judging.{judge}
+use Rattle.grib_edit.specs.Migrating.{are_octets, migrate_command}
 use Rattle.grib_run_law.specs.SameMigrated.{SameMigrated, AllMigrated, lost_then, before_lost}
 use Rattle.grib_run_law.specs.Octets.{AreOctets, AreAllOctets, unless_lost, until_lost}
 use Rattle.grib_run_law.proofs.Accepting.{IsAccepted, accepted_all}

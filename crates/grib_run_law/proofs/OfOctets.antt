@@ -7,17 +7,17 @@ use Rattle.grib_packing.specs.Misfits.{Target}
 use Rattle.grib_packing.specs.Written.{IsTarget}
 use Rattle.grib2_sections.specs.Head.{edition}
 use Rattle.grib_repack.specs.Repacked.{RepackMisfit, MayBeRepacked, repacked, repack_misfit}
-use Rattle.grib_causes.specs.declared.loss.Loss.{Loss}
+use Rattle.grib_reasons.specs.declared.loss.Loss.{Loss}
 use Rattle.grib_migrate.specs.Losses.{first_loss}
 use Rattle.grib_params.specs.Table.{Entries}
 use Rattle.grib_stream.specs.Stream.{begins, Judgement, Message, Faulty, Found, Stream, stream_from, stream, on_judgement, followed_by, message_after}
 use Rattle.grib_stream.specs.Within.{messages_within}
 use Rattle.grib_stream.proofs.Streams.{stream_skip, stream_begun}
 use Rattle.grib_stream.proofs.Within.{messages_taken}
-use Rattle.grib_printed.specs.Checking.{check_command, check_lawful}
-use Rattle.grib_answers.specs.Command.{task}
-use Rattle.grib_performed.specs.Lawful.{lawful}
-use Rattle.grib_answers.specs.Judging.{judge}
+use Rattle.grib_report.specs.Checking.{check_command, check_lawful}
+use Rattle.grib_command.specs.Command.{task}
+use Rattle.grib_dispatch.specs.Lawful.{lawful}
+use Rattle.grib_command.specs.Judging.{judge}
 use Rattle.grib_run_law.specs.Octets.{AreOctets, AreAllOctets, IsOfOctets, unless_lost, until_lost}
 use Rattle.grib_run_law.specs.Same.{SameValues, AllSame, kept_then, before_kept, messages_answered}
 use Rattle.grib_run_law.proofs.Accepting.{IsAccepted, accepted_all}

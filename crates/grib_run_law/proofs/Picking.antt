@@ -15,10 +15,10 @@ use Rattle.grib_stream.specs.Stream.{Found, End, Over, Refusing, stream}
 use Rattle.grib_stream.specs.Task.{Task}
 use Rattle.grib_stream.specs.declared.place.Place.{Place}
 use Rattle.grib_stream.specs.Answer.{Answer, after, on_given, answers, on_end, place_of, answer_within}
-use Rattle.grib_answers.specs.Command.{task, texts_from}
-use Rattle.grib_changed.specs.Filtering.{all_fulfil, single_if, filtered, filter_command}
-use Rattle.grib_answers.specs.Judging.{judge}
-use Rattle.grib_changed.specs.Parts.{Part, part_of, parts_of}
+use Rattle.grib_command.specs.Command.{task, texts_from}
+use Rattle.grib_edit.specs.Filtering.{all_fulfil, single_if, filtered, filter_command}
+use Rattle.grib_command.specs.Judging.{judge}
+use Rattle.grib_edit.specs.Parts.{Part, part_of, parts_of}
 use Rattle.grib_run_law.specs.SamePicked.{columns_of, IsPicked, AllPicked, IsAlone}
 use Rattle.grib_run_law.specs.Standing.{parts_within, before_first}
 use Rattle.grib_run_law.proofs.Accepting.{IsAccepted, accepted_all}

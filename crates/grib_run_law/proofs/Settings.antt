@@ -18,10 +18,10 @@ use Rattle.grib_stream.specs.Stream.{Found, End, Over, Refusing, stream}
 use Rattle.grib_stream.specs.Task.{Task}
 use Rattle.grib_stream.specs.declared.place.Place.{Place}
 use Rattle.grib_stream.specs.Answer.{Answer, after, on_given, answers, on_end, place_of, answer_within}
-use Rattle.grib_answers.specs.Command.{given_unless, task}
-use Rattle.grib_answers.specs.Judging.{judge}
+use Rattle.grib_command.specs.Command.{given_unless, task}
+use Rattle.grib_command.specs.Judging.{judge}
 use Rattle.grib_run_law.specs.SameSet.{SetsKeys, AllSet, unless_at_fault, before_fault}
-use Rattle.grib_changed.specs.Setting.{set_cause, set_command}
+use Rattle.grib_edit.specs.Setting.{set_cause, set_command}
 use Rattle.grib_run_law.proofs.Accepting.{IsAccepted, accepted_all}
 use Rattle.grib_run_law.proofs.Keeping.{written_join, written_of, within_acts}
 

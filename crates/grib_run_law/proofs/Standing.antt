@@ -24,15 +24,15 @@ use Rattle.grib_stream.specs.Answer.{Answer, after, on_given, answers, place_of,
 use Rattle.grib_stream.proofs.Exits.{within_short, within_long, closed_at_limit, open_at_limit}
 use Rattle.grib_stream.proofs.Streams.{stream_skip, stream_begun}
 use Rattle.grib_stream.proofs.Worlds.{held-append}
-use Rattle.grib_changed.specs.FieldOctets.{twenty_each}
-use Rattle.grib_answers.specs.Command.{task}
-use Rattle.grib_answers.specs.Judging.{judge, fields_of}
-use Rattle.grib_performed.specs.Lawful.{least_message, there_message, fields_other}
-use Rattle.grib_changed.specs.Parts.{Part, part, part_name, part_of, parts_of, adds, puts, puts_all, octets_within}
+use Rattle.grib_edit.specs.FieldOctets.{twenty_each}
+use Rattle.grib_command.specs.Command.{task}
+use Rattle.grib_command.specs.Judging.{judge, fields_of}
+use Rattle.grib_dispatch.specs.Lawful.{least_message, there_message, fields_other}
+use Rattle.grib_edit.specs.Parts.{Part, part, part_name, part_of, parts_of, adds, puts, puts_all, octets_within}
 use Rattle.grib_run_law.specs.Standing.{parts_within, before_first, all_parts, MayBeBegun, StandFirst, StandAll}
-use Rattle.grib_changed.specs.Splitting.{split_command}
+use Rattle.grib_edit.specs.Splitting.{split_command}
 use Rattle.grib_run_law.proofs.Keeping.{alone_other, within_acts}
-use Rattle.grib_changed.proofs.Shelved.{held_adds, other_adds, same_name, range-append}
+use Rattle.grib_edit.proofs.Shelved.{held_adds, other_adds, same_name, range-append}
 
 -- ---- some first acts
 

@@ -9,8 +9,8 @@ use Rattle.grib_stream.specs.declared.place.Place.{Place}
 use Rattle.grib_stream.specs.Acts.{Act}
 use Rattle.grib_stream.specs.Searching.{Markless}
 use Rattle.grib_stream.specs.Task.{Gives}
-use Rattle.grib_answers.specs.Command.{Command, given}
-use Rattle.grib_tasks.specs.Tasks.{Work, Reads, Makes, ReadsTable}
+use Rattle.grib_command.specs.Command.{Command, given}
+use Rattle.grib_run_spec.specs.Tasks.{Work, Reads, Makes, ReadsTable}
 
 -- a message, and the octets before it
 pub record Piece : Type 0 where

@@ -1,7 +1,7 @@
 -- The jobs that write what becomes of a message by the message alone, wherever it stands.
 use Rattle.std.specs.Prelude.{Bool, true, false}
-use Rattle.grib_answers.specs.declared.job.Job.{Job}
-use Rattle.grib_answers.specs.declared.job.Job.TheVariants.{Filter, Set, Repack, RepackLeast, Rescan, Crop, Migrate, Demote}
+use Rattle.grib_command.specs.declared.job.Job.{Job}
+use Rattle.grib_command.specs.declared.job.Job.TheVariants.{Filter, Set, Repack, RepackLeast, Rescan, Crop, Migrate, Demote}
 
 abbrev pub writes_each : Job → Bool
 writes_each (Filter conditions) = true

@@ -6,7 +6,7 @@ use Rattle.grib_stream.specs.declared.outcome.Outcome.{Outcome}
 use Rattle.grib_stream.specs.declared.outcome.Outcome.TheVariants.{Refused}
 use Rattle.grib_stream.specs.Stream.{Faulty, Refusing, begins, stream}
 use Rattle.grib_run_law.specs.Complete.{IsInGrammar}
-use Rattle.grib_answers.specs.Judging.{judge}
+use Rattle.grib_command.specs.Judging.{judge}
 use Rattle.grib_run_law.specs.Same.{messages_answered}
 
 -- the octets of an input from some `GRIB` on are refused, by the first row that fails

@@ -17,14 +17,14 @@ use Rattle.grib_stream.specs.Acts.{World}
 use Rattle.grib_stream.specs.Outcomes.{is_broken}
 use Rattle.grib_stream.specs.Reading.{Takes}
 use Rattle.grib_stream.specs.Stream.{stream}
-use Rattle.grib_answers.specs.declared.job.Job.{Job}
-use Rattle.grib_answers.specs.declared.job.Job.TheVariants.{Filter, Split, Set, Repack, Migrate}
-use Rattle.grib_answers.specs.Judging.{judge}
+use Rattle.grib_command.specs.declared.job.Job.{Job}
+use Rattle.grib_command.specs.declared.job.Job.TheVariants.{Filter, Split, Set, Repack, Migrate}
+use Rattle.grib_command.specs.Judging.{judge}
 use Rattle.grib_run_law.specs.Same.{AllSame, before_kept, messages_answered}
 use Rattle.grib_run_law.specs.SameMigrated.{AllMigrated, before_lost}
 use Rattle.grib_run_law.specs.SamePicked.{AllPicked}
 use Rattle.grib_run_law.specs.SameSet.{AllSet, before_fault}
-use Rattle.grib_tasks.specs.Serving.{ByTable}
+use Rattle.grib_run_spec.specs.Serving.{ByTable}
 use Rattle.grib_run_law.specs.Standing.{all_parts, before_first, StandFirst, StandAll}
 
 -- what holds of the octets that were taken

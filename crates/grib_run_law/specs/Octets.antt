@@ -1,7 +1,7 @@
 -- Messages of octets.
 use Rattle.std.specs.Prelude.{ℕ, ◌<◌, ◌==◌, Bool, Option, Some, None, List, [], ◌∷◌, All}
 use Rattle.grib_base.specs.Rows.{choose}
-use Rattle.grib_causes.specs.declared.loss.Loss.{Loss}
+use Rattle.grib_reasons.specs.declared.loss.Loss.{Loss}
 use Rattle.grib_migrate.specs.Losses.{first_loss}
 use Rattle.grib_params.specs.Table.{Entries}
 use Rattle.grib2_sections.specs.Head.{edition}

@@ -12,9 +12,9 @@ use Rattle.grib_repack.specs.Faults.{target_of}
 use Rattle.grib_repack.specs.Repacked.{RepackMisfit, repack_misfit}
 use Rattle.grib_stream.specs.Acts.{written}
 use Rattle.grib_stream.specs.Stream.{Found, stream}
-use Rattle.grib_answers.specs.declared.job.Job.TheVariants.{Repack}
-use Rattle.grib_answers.specs.Judging.{judge}
-use Rattle.grib_tasks.specs.Tasks.{answer}
+use Rattle.grib_command.specs.declared.job.Job.TheVariants.{Repack}
+use Rattle.grib_command.specs.Judging.{judge}
+use Rattle.grib_run_spec.specs.Tasks.{answer}
 
 -- a message that is accepted and whose points mean what those of another message mean
 pub record SameValues (message other : List ℕ) : Type 0 where

@@ -2,7 +2,7 @@
 use Rattle.std.specs.Prelude.{◌≡◌, ◌≢◌, ℕ, ◌==◌, Bool, Option, Some, None, List, [], ◌∷◌}
 use Rattle.std.specs.List.{concat}
 use Rattle.grib_base.specs.Rows.{choose}
-use Rattle.grib_causes.specs.declared.loss.Loss.{Loss}
+use Rattle.grib_reasons.specs.declared.loss.Loss.{Loss}
 use Rattle.grib_dyadic.specs.Meaning.{SameMeaning}
 use Rattle.grib1_sections.specs.Column.{meaning1_of}
 use Rattle.grib2_sections.specs.Head.{edition}
@@ -12,9 +12,9 @@ use Rattle.grib_migrate.specs.Losses.{first_loss}
 use Rattle.grib_params.specs.Table.{Entries}
 use Rattle.grib_stream.specs.Acts.{written}
 use Rattle.grib_stream.specs.Stream.{Found}
-use Rattle.grib_answers.specs.declared.job.Job.TheVariants.{Migrate}
+use Rattle.grib_command.specs.declared.job.Job.TheVariants.{Migrate}
 use Rattle.grib_run_law.specs.Same.{messages_answered}
-use Rattle.grib_tasks.specs.Tasks.{answer_with}
+use Rattle.grib_run_spec.specs.Tasks.{answer_with}
 
 -- an accepted message of edition 2, with one field whose points mean what those of a message of edition 1 mean; one
 -- of edition 2 is that message

@@ -8,11 +8,11 @@ use Rattle.grib_keys.specs.declared.condition.Condition.{Condition}
 use Rattle.grib_select.specs.Values.{fulfils_all}
 use Rattle.grib_stream.specs.Acts.{written}
 use Rattle.grib_stream.specs.Stream.{Found}
-use Rattle.grib_answers.specs.declared.job.Job.TheVariants.{Filter}
-use Rattle.grib_changed.specs.Parts.{Part}
+use Rattle.grib_command.specs.declared.job.Job.TheVariants.{Filter}
+use Rattle.grib_edit.specs.Parts.{Part}
 use Rattle.grib_run_law.specs.Same.{messages_answered}
 use Rattle.grib_run_law.specs.Standing.{all_parts, before_first}
-use Rattle.grib_tasks.specs.Tasks.{answer}
+use Rattle.grib_run_spec.specs.Tasks.{answer}
 
 -- the columns of the fields of a message, one after another
 abbrev pub columns_of : List ℕ → List Column

@@ -12,9 +12,9 @@ use Rattle.grib_select.specs.Changed.{set_fault}
 use Rattle.grib_select.specs.Values.{key_value_of}
 use Rattle.grib_stream.specs.Acts.{written}
 use Rattle.grib_stream.specs.Stream.{Found}
-use Rattle.grib_answers.specs.declared.job.Job.TheVariants.{Set}
+use Rattle.grib_command.specs.declared.job.Job.TheVariants.{Set}
 use Rattle.grib_run_law.specs.Same.{messages_answered}
-use Rattle.grib_tasks.specs.Tasks.{answer}
+use Rattle.grib_run_spec.specs.Tasks.{answer}
 
 -- An accepted message with the columns of another message. Where no key stands twice among the changes, each of its
 -- fields has the keys with their new values.

@@ -6,8 +6,8 @@ use Rattle.grib_io.specs.Shelves.{Held}
 use Rattle.grib2_sections.specs.Head.{edition}
 use Rattle.grib2_message.specs.Fields.{field_count}
 use Rattle.grib_stream.specs.Stream.{Found, stream}
-use Rattle.grib_changed.specs.Parts.{Part, parts_of}
-use Rattle.grib_answers.specs.Judging.{judge}
+use Rattle.grib_edit.specs.Parts.{Part, parts_of}
+use Rattle.grib_command.specs.Judging.{judge}
 
 -- the parts of these messages, before which the input has this many fields
 abbrev pub parts_within : List ℕ → ℕ → List Found → List Part

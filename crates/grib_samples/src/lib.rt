@@ -141,15 +141,6 @@ pub fn message_of(alloc: Global, total: u64, sections: &[&[u8]]) -> Result<Vec<u
     Ok(octets)
 }
 
-/// These pieces, one behind another.
-pub fn joined(alloc: Global, pieces: &[&[u8]]) -> Result<Vec<u8>, AllocError> {
-    let mut octets = Vec::new(alloc);
-    for piece in pieces {
-        octets.extend_from_slice(piece)?;
-    }
-    Ok(octets)
-}
-
 /// These octets with others at some places, counted from 1.
 pub fn edited(alloc: Global, octets: &[u8], edits: &[(usize, u8)]) -> Result<Vec<u8>, AllocError> {
     let mut copy = octets.to_vec(alloc)?;

@@ -18,7 +18,7 @@ mod window;
 pub use answering::{LIMIT, answer_within};
 pub use deciding::is_truncated;
 pub use gathering::{Rest, gather, probe};
-pub use grib_causes::{Cause, Kept, Loss, TableRefusal};
+pub use grib_reasons::{Cause, Kept, Loss, TableRefusal};
 pub use hearing::{Deaf, HearStop, Hearer};
 pub use outcome::Outcome;
 pub use performer::{Performed, Performer, Whole};

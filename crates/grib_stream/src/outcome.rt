@@ -4,7 +4,7 @@ ghost use Rattle.std.specs.Prelude.{◌≡◌};
 ghost use Rattle.grib_stream.specs.Outcomes.{status_of};
 
 use grib_base::Refusal;
-use grib_causes::{Kept, TableRefusal};
+use grib_reasons::{Kept, TableRefusal};
 
 /// How a run ends.
 #[derive(Clone, Copy, Debug, PartialEq, Eq)]

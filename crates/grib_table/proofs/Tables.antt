@@ -4,7 +4,7 @@ use Rattle.std.specs.declared.result.Result.{Result}
 use Rattle.std.specs.Prelude.{IsErrAnd}
 use Rattle.std.proofs.lemmas.Bool.{cases_lt}
 use Rattle.std.proofs.lemmas.List.{take_all}
-use Rattle.grib_causes.specs.declared.table.TableRefusal.TheVariants as refusals
+use Rattle.grib_reasons.specs.declared.table.TableRefusal.TheVariants as refusals
 use Rattle.grib_io.specs.Shelves.{Held}
 use Rattle.grib_params.specs.declared.fault.TableFault.{TableFault}
 use Rattle.grib_params.specs.declared.fault.TableFault.TheVariants as faults

@@ -1,6 +1,6 @@
 -- What was read so far of what stands on a shelf under a name, for private functions.
 use Rattle.std.specs.Prelude.{◌≡◌, ℕ, ◌≤◌, ◌+◌, ◌⊎◌, List, length, take, drop, Option, Some, None, IsSomeAnd}
-use Rattle.grib_causes.specs.declared.table.TableRefusal.TheVariants.{Absent}
+use Rattle.grib_reasons.specs.declared.table.TableRefusal.TheVariants.{Absent}
 use Rattle.grib_io.specs.Shelves.{Held, Stays}
 use Rattle.grib_table.specs.declared.stop.TableStop.{TableStop}
 use Rattle.grib_table.specs.declared.stop.TableStop.TheVariants.{Refused, ShelfFault, Memory}

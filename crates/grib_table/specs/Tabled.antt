@@ -1,8 +1,8 @@
 -- What stands on a shelf under a name as a parameter table.
 use Rattle.std.specs.Prelude.{◌≡◌, ℕ, List, Option, Some, None, Ok, Err}
 use Rattle.std.specs.declared.result.Result.{Result}
-use Rattle.grib_causes.specs.declared.table.TableRefusal.{TableRefusal}
-use Rattle.grib_causes.specs.declared.table.TableRefusal.TheVariants as refusals
+use Rattle.grib_reasons.specs.declared.table.TableRefusal.{TableRefusal}
+use Rattle.grib_reasons.specs.declared.table.TableRefusal.TheVariants as refusals
 use Rattle.grib_io.specs.declared.outside.ShelfStop.{ShelfStop}
 use Rattle.grib_io.specs.declared.outside.ShelfStop.TheVariants.{Absent, Failed}
 use Rattle.grib_io.specs.Outside.{Counted}

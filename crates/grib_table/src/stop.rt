@@ -4,9 +4,9 @@ ghost use Rattle.std.specs.Prelude.{◌≡◌};
 ghost use Rattle.grib_table.specs.Tabled.{stop_of_fault, stop_of_shelf};
 ghost use Rattle.grib_table.specs.declared.stop.TableStop.TheVariants.{Memory};
 
-use grib_causes::TableRefusal;
 use grib_io::ShelfStop;
 use grib_params::TableFault;
+use grib_reasons::TableRefusal;
 use std::alloc::AllocError;
 use thiserror::Error;
 

@@ -5,8 +5,8 @@ use crate::sections::{
     NO_BITMAP, complex, differences, gives, gives_fields, keeps, message, missing, rotated, simple,
 };
 use grib_engine::{Cause, Kept, Outcome};
-use grib_runs::{CALM, run_over};
 use grib_samples::{FIRST_EDITION, PLAIN, TWO_FIELDS, edited, put};
+use grib_test_runs::{CALM, run_over};
 use std::alloc::{AllocError, Global};
 use std::test::Fail;
 

@@ -4,8 +4,8 @@ use crate::sections::{
     NO_BITMAP, complex, differences, gives, message, missing, rotated, simple, spatial,
 };
 use grib_engine::{Cause, Kept, Outcome};
-use grib_runs::{CALM, Failing, run_over};
 use grib_samples::PLAIN;
+use grib_test_runs::{CALM, Failing, run_over};
 use std::alloc::{AllocError, Global};
 use std::test::Fail;
 

@@ -1,8 +1,8 @@
 //! Messages that are put together from sections, and what their runs give.
 
 use grib_engine::{Cause, Kept, Outcome};
-use grib_runs::{CALM, run_over};
 use grib_samples::PLAIN;
+use grib_test_runs::{CALM, run_over};
 use std::alloc::{AllocError, Global};
 
 /// Section 6 of a field without a bitmap.

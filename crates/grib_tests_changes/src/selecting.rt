@@ -1,8 +1,8 @@
 //! Fields that are picked, changed in their head, and cut apart.
 
 use grib_engine::{Cause, Kept, Key, Outcome};
-use grib_runs::{CALM, run_over};
 use grib_samples::PLAIN;
+use grib_test_runs::{CALM, run_over};
 use std::alloc::{AllocError, Global};
 use std::test::Fail;
 

@@ -1,8 +1,8 @@
 //! Messages of edition 1: read as those of edition 2 are, and never changed.
 
 use grib_engine::{Cause, Kept, Outcome};
-use grib_runs::{CALM, run_over};
 use grib_samples::{FIRST_EDITION, PLAIN};
+use grib_test_runs::{CALM, run_over};
 use std::test::Fail;
 
 const LISTED: &str = "1.1 ed=1 centre=98 time=2024-01-15T12:00 grid=0 points=4 param=2.11 unit=1 \

@@ -3,8 +3,8 @@
 use grib_base::{Fault, Reason, Refusal};
 use grib_engine::Outcome;
 use grib_io::Source;
-use grib_runs::{CALM, Failing, run_over};
 use grib_samples::{PLAIN, edited};
+use grib_test_runs::{CALM, Failing, run_over};
 use std::alloc::{AllocError, Global};
 use std::test::Fail;
 

@@ -1,8 +1,8 @@
 //! What the program prints of itself, without an input.
 
 use grib_engine::Outcome;
-use grib_runs::{CALM, Failing, run_over};
 use grib_samples::PLAIN;
+use grib_test_runs::{CALM, Failing, run_over};
 use std::test::Fail;
 
 const HELP: &str = "\

@@ -2,11 +2,11 @@
 //! the made message by a program in another language.
 
 use grib_engine::{Cause, Kept, Outcome};
-use grib_runs::{CALM, Ran, run_over};
 use grib_samples::{
     FIRST_EDITION, GRID, IDENTIFICATION, NO_BITMAP, PLAIN, PRODUCT, TWO_FIELDS, edited, message_of,
     put,
 };
+use grib_test_runs::{CALM, Ran, run_over};
 use std::alloc::{AllocError, Global};
 use std::test::Fail;
 

@@ -1,13 +1,13 @@
 //! Runs of `demote`, with its table on a shelf in memory. The octets and the losses are worked by hand from the
 //! tables of docs/PROFILE.md.
 
-use grib_causes::Demotion;
 use grib_engine::{Cause, Kept, Outcome};
-use grib_runs::{CALM, gives_with_table, run_with_table};
+use grib_reasons::Demotion;
 use grib_samples::{
     FIRST_EDITION, MASKED, MIGRATED, NO_BITMAP, PLAIN, REDUCED, TABLE, TWO_FIELDS, between, edited,
     message_of,
 };
+use grib_test_runs::{CALM, gives_with_table, run_with_table};
 use std::alloc::{AllocError, Global};
 use std::test::Fail;
 

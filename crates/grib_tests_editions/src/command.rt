@@ -1,12 +1,12 @@
 //! Runs of `migrate`, with its table on a shelf in memory. The octets and the losses are worked by hand from the
 //! tables of docs/PROFILE.md.
 
-use grib_causes::Loss;
 use grib_engine::{Cause, Kept, Outcome};
-use grib_runs::{CALM, Failing, Ran, gives_with_table, run_with_table};
+use grib_reasons::Loss;
 use grib_samples::{
     ALL_LOST, FIRST_EDITION, MASKED, MIGRATED, PLAIN, REDUCED, TABLE, TWO_FIELDS, between, edited,
 };
+use grib_test_runs::{CALM, Failing, Ran, gives_with_table, run_with_table};
 use std::alloc::{AllocError, Global};
 use std::test::Fail;
 

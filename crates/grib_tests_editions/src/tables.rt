@@ -1,10 +1,10 @@
 //! Tables of `migrate`: those that are refused, before anything of the input is read, and those that are not.
 
-use grib_causes::{Loss, TableRefusal};
 use grib_engine::{Cause, Kept, Outcome};
 use grib_io::{MemoryShelf, MemorySource, Source};
-use grib_runs::{CALM, Failing, Ran, run_with};
+use grib_reasons::{Loss, TableRefusal};
 use grib_samples::{FIRST_EDITION, MIGRATED, PLAIN, TABLE, edited};
+use grib_test_runs::{CALM, Failing, Ran, run_with};
 use std::alloc::{AllocError, Global};
 use std::test::Fail;
 

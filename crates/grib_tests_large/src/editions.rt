@@ -3,8 +3,8 @@
 use crate::messages::{LARGE, five_times, message, message_on, ran};
 use grib_engine::Outcome;
 use grib_io::MemoryShelf;
-use grib_runs::{CALM, run_with};
 use grib_samples::{FIRST_EDITION, between, put};
+use grib_test_runs::{CALM, run_with};
 use std::alloc::{AllocError, Global};
 use std::test::Fail;
 

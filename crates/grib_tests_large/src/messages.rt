@@ -1,7 +1,7 @@
 //! Large messages, told by the numbers of their points.
 
-use grib_runs::{CALM, Ran, run_over};
 use grib_samples::{FOUR_NUMBERS, GRID, IDENTIFICATION, NO_BITMAP, PRODUCT, message_of, put};
+use grib_test_runs::{CALM, Ran, run_over};
 use std::alloc::{AllocError, Global};
 
 /// A box of a grid of latitude and longitude whose points are a tenth of a degree apart: its first column and row,

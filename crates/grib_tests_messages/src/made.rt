@@ -1,8 +1,8 @@
 //! What is made, against octets and sums that another program made by the same rules.
 
 use crate::worked::read;
-use grib_made::{Summary, made_message, made_summary};
 use grib_packing::Point;
+use grib_synthetic::{Summary, made_message, made_summary};
 use std::test::Fail;
 
 /// The message from 1 with 2 rows of 2 points: the numbers 6, 126, 65 and 171.

@@ -1,8 +1,8 @@
 //! Runs that go past what is refused or kept.
 
 use grib_engine::Outcome;
-use grib_runs::gives;
 use grib_samples::{FIRST_EDITION, PLAIN, edited, message_of};
+use grib_test_runs::gives;
 use std::alloc::{AllocError, Global};
 use std::test::Fail;
 

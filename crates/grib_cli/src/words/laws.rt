@@ -9,7 +9,7 @@ ghost use Rattle.grib2_message.specs.Fields.{field_count};
 ghost use Rattle.grib2_message.specs.Message.{IsMessage};
 ghost use Rattle.grib_select.specs.Bounds.{IsWithin64};
 ghost use Rattle.grib_select.specs.Values.{key_value_of, fulfils_all};
-ghost use Rattle.grib_answers.specs.Pages.{help_lines};
+ghost use Rattle.grib_command.specs.Pages.{help_lines};
 ghost use Rattle.grib_cli.specs.declared.words.command.Command.{Command};
 ghost use Rattle.grib_cli.specs.declared.words.command.Command.TheVariants.{Dump, Filter, Repack, Migrate, Demote, Help, Version};
 ghost use Rattle.grib_cli.specs.HelpLines.{is_line_on};

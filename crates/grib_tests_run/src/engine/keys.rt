@@ -2,7 +2,7 @@
 
 ghost use Rattle.std.specs.Prelude.{◌≡◌, true, IfOk};
 ghost use Rattle.grib_keys.specs.Keys.{can_set};
-ghost use Rattle.grib_answers.specs.Jobs.{IsJob};
+ghost use Rattle.grib_command.specs.Jobs.{IsJob};
 
 use grib_base::List;
 use grib_engine::{Cause, Condition, Job, Kept, Key, Outcome, Value, serve};

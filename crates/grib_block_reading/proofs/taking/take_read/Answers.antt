@@ -1,10 +1,10 @@
 use Rattle.std.proofs.Common.{ℕ, ◌≡◌, ◌+◌, ◌-◌, ◌*◌, ◌%◌, ◌≤◌, min, Some, refl, ap, sym, subst, ◌∙◌}
 use Rattle.std.proofs.lemmas.Result.{MatchResult-weaker}
 use Rattle.grib_coding.specs.Items.{Run, covered}
-use Rattle.grib_coding.specs.Reading.{skipped}
+use Rattle.grib_coding.specs.Reading.{skipped, coded_of}
 use Rattle.grib_block_reading.specs.declared.item.Kind.{Kind}
 use Rattle.grib_block_reading.specs.ItemRead.{IsOfKind, IsBlock}
-use Rattle.grib_block_reading.specs.Taking.{with_reference, coded_of, ItemPassed}
+use Rattle.grib_block_reading.specs.Taking.{with_reference, ItemPassed}
 use Rattle.grib_block_reading.proofs.Shown.{values_are, some_block, inside_of, zeros_passed, codes_passed, codes_fault}
 use Rattle.grib_block_reading.proofs.taking.take_read.Goals as goal
 

@@ -1,4 +1,5 @@
 use Rattle.std.proofs.Common.{ℕ, ◌+◌, ◌<◌, ◌^◌, sym, subst}
+use Rattle.grib_coding.specs.Reading.{coded_of}
 use Rattle.grib_block_writing.specs.Written.{highs, lows}
 use Rattle.grib_block_writing.proofs.Adding.{both}
 use Rattle.grib_block_writing.proofs.Heads.{first_room, second_room, both_are, split_parts, low_bits_few}
@@ -8,11 +9,11 @@ use Rattle.grib_bits.specs.Bits.{bits_of}
 use Rattle.grib_coding.specs.Items.{sequence, all_bits, Split}
 use Rattle.grib_coding.specs.declared.coding.Coding.{Coding}
 use Rattle.std.proofs.Common.{Option}
-use Rattle.grib_block_writing.specs.Written.{coded, coded_bits, head_bits}
+use Rattle.grib_block_writing.specs.Written.{coded_bits, head_bits}
 use Rattle.grib_coding.specs.Coding.{identifier_width}
 
 parts : (c : Coding) (k width : ℕ) (reference : Option ℕ) (kept : List ℕ) → width ≡ identifier_width c
-    → coded_bits c (coded reference (Split k (highs k kept) (lows k kept)))
+    → coded_bits c (coded_of reference (Split k (highs k kept) (lows k kept)))
     ≡ (head_bits c (k + 1) width reference ++ all_bits sequence (highs k kept)) ++ all_bits (bits_of k) (lows k kept)
 parts c k width reference kept is = split_parts c reference k (highs k kept) (lows k kept) width is
 

@@ -9,10 +9,10 @@ use Rattle.grib_passing.specs.Deeds.{outside}
 use Rattle.grib_passing_law.specs.Leaving.{JudgesPast, LeavesPast}
 use Rattle.grib_passing_law.specs.Shelved.{LeavesPartsPast}
 use Rattle.grib_stream.specs.declared.outcome.Outcome.TheVariants.{WriteFault, Memory}
-use Rattle.grib_answers.specs.Outcomes.{NotesFront}
-use Rattle.grib_answers.proofs.Noted.{memory_stands}
-use Rattle.grib_tasks.specs.Passing.{ServesPassing, StandsBehind}
-use Rattle.grib_tasks.specs.Tasks.{work_of}
+use Rattle.grib_command.specs.Outcomes.{NotesFront}
+use Rattle.grib_command.proofs.Noted.{memory_stands}
+use Rattle.grib_run_spec.specs.Passing.{ServesPassing, StandsBehind}
+use Rattle.grib_run_spec.specs.Tasks.{work_of}
 use Rattle.grib_cli.specs.Words.{job_of}
 use Rattle.grib_cli.proofs.Runs.{OneOf, asks, if_asked, if_unasked, one_at_memory, cut_memory, memory_front, other_front}
 use Rattle.grib_cli.proofs.Passing.{runs_work, serves_nothing, stands_work, plain_note, counts_unasked, ok_unasked}

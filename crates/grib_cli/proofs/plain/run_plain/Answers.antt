@@ -6,8 +6,8 @@ use Rattle.grib_stream.proofs.Exits.{cut_broken}
 use Rattle.grib_run_law.specs.Judged.{JudgesInput}
 use Rattle.grib_run_law.specs.Leaving.{LeavesFields, LeavesParts}
 use Rattle.grib_stream.proofs.Worlds.{did_keep}
-use Rattle.grib_answers.specs.Outcomes.{NotesFront}
-use Rattle.grib_answers.proofs.Noted.{memory_stands}
+use Rattle.grib_command.specs.Outcomes.{NotesFront}
+use Rattle.grib_command.proofs.Noted.{memory_stands}
 use Rattle.grib_cli.specs.Words.{job_of}
 use Rattle.grib_cli.proofs.Runs.{OneOf, asks, if_asked, by_asked, cut_memory, runs_nothing, soon_nothing, fronts_memory, memory_front, other_front, unshelved_memory, unread_memory, refused_memory, shelf_stays}
 use Rattle.grib_cli.proofs.plain.run_plain.Goals as goal

@@ -2,7 +2,7 @@ use Rattle.std.proofs.Common.{◌≡◌, ℕ, Option, None, Some, List, length, 
 use Rattle.grib2_sections.specs.Head.{discipline}
 use Rattle.grib2_grids.specs.Grid.{grid_points}
 use Rattle.grib2_message.specs.Fields.{part_octets}
-use Rattle.grib_causes.specs.declared.demotion.Demotion.{Demotion}
+use Rattle.grib_reasons.specs.declared.demotion.Demotion.{Demotion}
 use Rattle.grib_demote.specs.Losses.{first_of, product_losses, shape_losses, value_losses}
 use Rattle.grib_demote.specs.Demoted.{demoted, demoted_sections, first_loss, length_loss}
 use Rattle.grib_demote.proofs.Joining.{lost_carried, fault_carried, memory_carried}

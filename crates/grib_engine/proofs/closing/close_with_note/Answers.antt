@@ -1,7 +1,7 @@
 use Rattle.std.proofs.Common.{refl, sym, ap, ◌∙◌}
 use Rattle.grib_stream.specs.declared.outcome.Outcome.TheVariants.{Kept, Memory, Passed, Refused, TableRefused, Usage}
-use Rattle.grib_answers.specs.Outcomes.{note_with}
-use Rattle.grib_answers.proofs.Noted.{ends_by, stands_by}
+use Rattle.grib_command.specs.Outcomes.{note_with}
+use Rattle.grib_command.proofs.Noted.{ends_by, stands_by}
 use Rattle.grib_engine.proofs.closing.close_with_note.Goals as goal
 
 pub returns-in-Ok-clause-ends : goal.returns-in-Ok-clause-ends

@@ -1,4 +1,4 @@
-use Rattle.grib_answers.proofs.Passing.{failed_passed}
+use Rattle.grib_command.proofs.Passing.{failed_passed}
 use Rattle.grib_engine.proofs.closing.settle.Goals as goal
 
 pub returns-in_err-write_whole-clause-memory : goal.returns-in_err-write_whole-clause-memory

@@ -1,10 +1,10 @@
 use Rattle.std.proofs.Common.{◌≡◌, None, sym, subst}
-use Rattle.grib_made.specs.Made.{made}
-use Rattle.grib_made.specs.Points.{made_column}
+use Rattle.grib_synthetic.specs.Made.{made}
+use Rattle.grib_synthetic.specs.Points.{made_column}
 use Rattle.grib_packing.specs.Misfits.{ToSimple}
 use Rattle.grib_repack.specs.Faults.{target_of}
 use Rattle.grib_repack.specs.Repacked.{repacked, repack_misfit}
-use Rattle.grib_answers.proofs.Answers.{target_stands}
+use Rattle.grib_command.proofs.Answers.{target_stands}
 use Rattle.grib_engine.proofs.Made.{nothing_lost, stays_same}
 use Rattle.grib_engine.proofs.making.make.Goals as goal
 

@@ -1,9 +1,9 @@
 use Rattle.std.proofs.Common.{[], refl, ◌∙◌, subst}
 use Rattle.grib_stream.specs.declared.outcome.Outcome.TheVariants.{Done, Memory}
-use Rattle.grib_answers.specs.Closing.{EndsRun}
-use Rattle.grib_answers.proofs.Outside.{front_none}
+use Rattle.grib_command.specs.Closing.{EndsRun}
+use Rattle.grib_command.proofs.Outside.{front_none}
 use Rattle.grib_engine.proofs.Made.{gives_same, gives_broken, broken_either}
-use Rattle.grib_answers.proofs.Noted.{memory_stands}
+use Rattle.grib_command.proofs.Noted.{memory_stands}
 use Rattle.grib_engine.proofs.making.serve_made.Goals as goal
 
 pub returns-in-Ok-clause-runs : goal.returns-in-Ok-clause-runs

@@ -1,9 +1,9 @@
 use Rattle.std.proofs.Common.{[], Ok, Err, refl, subst}
 use Rattle.grib_stream.specs.declared.outcome.Outcome.TheVariants.{WriteFault}
-use Rattle.grib_answers.specs.Closing.{EndsNoted}
-use Rattle.grib_answers.specs.Outcomes.{note_of}
-use Rattle.grib_answers.proofs.Noted.{ends_noted, memory_stands}
-use Rattle.grib_tasks.specs.Passing.{outcome_by, note_by}
+use Rattle.grib_command.specs.Closing.{EndsNoted}
+use Rattle.grib_command.specs.Outcomes.{note_of}
+use Rattle.grib_command.proofs.Noted.{ends_noted, memory_stands}
+use Rattle.grib_run_spec.specs.Passing.{outcome_by, note_by}
 use Rattle.grib_engine.proofs.Past.{serves_past, stands_past, own_of, own_note}
 use Rattle.grib_engine.proofs.passing.serve_past.Goals as goal
 

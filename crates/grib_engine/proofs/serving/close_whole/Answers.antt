@@ -1,8 +1,8 @@
 use Rattle.std.proofs.Common.{[], ap, ◌∙◌, subst}
-use Rattle.grib_answers.specs.Closing.{StandsWhole}
-use Rattle.grib_answers.specs.Endings.{ending_note}
-use Rattle.grib_answers.specs.Outcomes.{note_with}
-use Rattle.grib_answers.proofs.Noted.{stands_memory}
+use Rattle.grib_command.specs.Closing.{StandsWhole}
+use Rattle.grib_command.specs.Endings.{ending_note}
+use Rattle.grib_command.specs.Outcomes.{note_with}
+use Rattle.grib_command.proofs.Noted.{stands_memory}
 use Rattle.grib_engine.proofs.serving.close_whole.Goals as goal
 
 pub returns-in-Ok-clause-whole : goal.returns-in-Ok-clause-whole

@@ -3,9 +3,9 @@ use Rattle.std.proofs.lemmas.Bool.{false≢true}
 use Rattle.grib_stream.proofs.Exits.{runs_to_the_end}
 use Rattle.grib_stream.proofs.Worlds.{did_keep}
 use Rattle.grib_stream.specs.declared.outcome.Outcome.TheVariants.{Done}
-use Rattle.grib_performed.proofs.HeardMessages.{soon_kept, done_soon}
-use Rattle.grib_answers.specs.Endings.{ending_note}
-use Rattle.grib_answers.proofs.Noted.{keeps_or_cuts, front_ended, no_shelf_fault, unfinished_then, memory_stands}
+use Rattle.grib_dispatch.proofs.HeardMessages.{soon_kept, done_soon}
+use Rattle.grib_command.specs.Endings.{ending_note}
+use Rattle.grib_command.proofs.Noted.{keeps_or_cuts, front_ended, no_shelf_fault, unfinished_then, memory_stands}
 use Rattle.grib_engine.proofs.Counting.{counts_plain, notes_plain}
 use Rattle.grib_engine.proofs.serving.hear_all.Goals as goal
 

@@ -1,6 +1,6 @@
 use Rattle.std.proofs.Common.{sym, subst}
-use Rattle.grib_tasks.specs.Passing.{ServesAs}
-use Rattle.grib_tasks.specs.Tasks.{Reads}
+use Rattle.grib_run_spec.specs.Passing.{ServesAs}
+use Rattle.grib_run_spec.specs.Tasks.{Reads}
 use Rattle.grib_engine.proofs.serving.serve_heard.Goals as goal
 
 pub returns-in-None-clause-serves : goal.returns-in-None-clause-serves

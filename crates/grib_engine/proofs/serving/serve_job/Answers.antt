@@ -1,13 +1,13 @@
 use Rattle.std.proofs.Common.{rules, ◌≡◌, [], refl, sym, subst}
-use Rattle.grib_answers.specs.declared.ending.Ending.TheVariants.{Silent, Total}
-use Rattle.grib_printed.specs.Checking.{line_of, line_2}
-use Rattle.grib_performed.specs.Hearing.{IfHears, RefusesInTime}
-use Rattle.grib_performed.proofs.HeardMessages.{in_time}
-use Rattle.grib_answers.specs.Pages.{text_of}
-use Rattle.grib_answers.proofs.Noted.{memory_stands}
+use Rattle.grib_command.specs.declared.ending.Ending.TheVariants.{Silent, Total}
+use Rattle.grib_report.specs.Checking.{line_of, line_2}
+use Rattle.grib_dispatch.specs.Hearing.{IfHears, RefusesInTime}
+use Rattle.grib_dispatch.proofs.HeardMessages.{in_time}
+use Rattle.grib_command.specs.Pages.{text_of}
+use Rattle.grib_command.proofs.Noted.{memory_stands}
 use Rattle.grib_stream.specs.Acts.{world}
-use Rattle.grib_tasks.specs.Passing.{ServesAs, StandsAs}
-use Rattle.grib_tasks.specs.Tasks.{Makes, work_of, writing, made_answer}
+use Rattle.grib_run_spec.specs.Passing.{ServesAs, StandsAs}
+use Rattle.grib_run_spec.specs.Tasks.{Makes, work_of, writing, made_answer}
 use Rattle.grib_engine.proofs.Either.{made_as, made_serves, stands_made}
 use Rattle.grib_engine.proofs.Made.{gives_same}
 use Rattle.grib_engine.proofs.serving.serve_job.Goals as goal

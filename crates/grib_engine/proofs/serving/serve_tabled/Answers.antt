@@ -7,12 +7,12 @@ use Rattle.grib_stream.proofs.Worlds.{did_keep, did_still}
 use Rattle.grib_stream.specs.declared.outcome.Outcome.TheVariants.{TableRefused, ReadFault, ShelfFault, Memory}
 use Rattle.grib_passing.specs.Deeds.{outside}
 use Rattle.grib_table.specs.Tabled.{Stood, CountsTableStop, tabled, ReadsTable as TableRead}
-use Rattle.grib_answers.specs.Command.{task}
-use Rattle.grib_answers.specs.Outcomes.{NotesRun, note_of}
-use Rattle.grib_tasks.specs.Serving.{RunsTabled, NotesTabled, NotesTabledFront, IfRefused, Serves}
-use Rattle.grib_tasks.specs.Passing.{RunsTabledPast, IfTabledAnswered, NotesSome, IsCounted}
-use Rattle.grib_tasks.specs.Tasks.{ReadsTable}
-use Rattle.grib_answers.proofs.Noted.{ends_noted, memory_stands}
+use Rattle.grib_command.specs.Command.{task}
+use Rattle.grib_command.specs.Outcomes.{NotesRun, note_of}
+use Rattle.grib_run_spec.specs.Serving.{RunsTabled, NotesTabled, NotesTabledFront, IfRefused, Serves}
+use Rattle.grib_run_spec.specs.Passing.{RunsTabledPast, IfTabledAnswered, NotesSome, IsCounted}
+use Rattle.grib_run_spec.specs.Tasks.{ReadsTable}
+use Rattle.grib_command.proofs.Noted.{ends_noted, memory_stands}
 use Rattle.grib_engine.proofs.Either.{done_stays, none_read, none_noted, refused_read, refused_noted, ends_refused, stands_unread, stands_tabled, as_past, tabled_as}
 use Rattle.grib_engine.proofs.Past.{own_note}
 use Rattle.grib_engine.proofs.Tabled.{stands, did_stays, runs_after, runs_none, broken_of, not_read, notes_none, shelf_noted, memory_noted, fronts_none, if_refused}

@@ -3,9 +3,9 @@ use Rattle.grib2_message.specs.Message.{IsMessage}
 use Rattle.grib2_message.specs.Fields.{field_count}
 use Rattle.grib_passing.specs.Answer.{no_counts}
 use Rattle.grib_passing.specs.Items.{items}
-use Rattle.grib_answers.specs.Command.{task}
-use Rattle.grib_answers.specs.Judging.{judge}
-use Rattle.grib_changed.specs.Filtering.{filter_command}
+use Rattle.grib_command.specs.Command.{task}
+use Rattle.grib_command.specs.Judging.{judge}
+use Rattle.grib_edit.specs.Filtering.{filter_command}
 use Rattle.grib_run_law.proofs.Accepting.{IsAccepted}
 use Rattle.grib_run_law.proofs.Picking.{CutsOut}
 use Rattle.grib_passing_law.specs.Written.{IsFiltered}

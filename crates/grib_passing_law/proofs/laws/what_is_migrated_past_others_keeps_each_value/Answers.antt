@@ -1,8 +1,8 @@
 use Rattle.grib_passing.specs.Answer.{no_counts}
 use Rattle.grib_passing.specs.Items.{items}
-use Rattle.grib_answers.specs.Command.{task}
-use Rattle.grib_answers.specs.Judging.{judge}
-use Rattle.grib_changed.specs.Migrating.{migrate_command}
+use Rattle.grib_command.specs.Command.{task}
+use Rattle.grib_command.specs.Judging.{judge}
+use Rattle.grib_edit.specs.Migrating.{migrate_command}
 use Rattle.grib_passing_law.specs.Written.{IsMigrated}
 use Rattle.grib_passing_law.proofs.Judging.{IsSound, sound_items}
 use Rattle.grib_passing_law.proofs.Items.{answers_written}

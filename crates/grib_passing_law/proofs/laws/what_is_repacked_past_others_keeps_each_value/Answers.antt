@@ -1,10 +1,10 @@
 use Rattle.grib_repack.specs.Faults.{target_of}
 use Rattle.grib_passing.specs.Answer.{no_counts}
 use Rattle.grib_passing.specs.Items.{items}
-use Rattle.grib_answers.specs.Command.{task}
-use Rattle.grib_answers.specs.Judging.{judge}
-use Rattle.grib_answers.proofs.Answers.{target_stands}
-use Rattle.grib_changed.specs.Repacking.{repack_command}
+use Rattle.grib_command.specs.Command.{task}
+use Rattle.grib_command.specs.Judging.{judge}
+use Rattle.grib_command.proofs.Answers.{target_stands}
+use Rattle.grib_edit.specs.Repacking.{repack_command}
 use Rattle.grib_passing_law.specs.Written.{IsRepacked}
 use Rattle.grib_passing_law.proofs.Judging.{IsSound, sound_items}
 use Rattle.grib_passing_law.proofs.Items.{answers_written}

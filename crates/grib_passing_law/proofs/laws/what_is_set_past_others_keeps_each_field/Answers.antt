@@ -1,8 +1,8 @@
 use Rattle.grib_passing.specs.Answer.{no_counts}
 use Rattle.grib_passing.specs.Items.{items}
-use Rattle.grib_answers.specs.Command.{task}
-use Rattle.grib_answers.specs.Judging.{judge}
-use Rattle.grib_changed.specs.Setting.{set_command}
+use Rattle.grib_command.specs.Command.{task}
+use Rattle.grib_command.specs.Judging.{judge}
+use Rattle.grib_edit.specs.Setting.{set_command}
 use Rattle.grib_run_law.proofs.Accepting.{IsAccepted}
 use Rattle.grib_passing_law.specs.Written.{IsSet}
 use Rattle.grib_passing_law.proofs.Judging.{accepted_items}

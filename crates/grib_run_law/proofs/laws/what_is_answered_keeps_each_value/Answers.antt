@@ -3,8 +3,8 @@ use Rattle.grib_repack.specs.Faults.{target_of}
 use Rattle.grib_repack.specs.Repacked.{repacked}
 use Rattle.grib_stream.specs.Stream.{stream}
 use Rattle.grib_run_law.specs.Same.{before_kept}
-use Rattle.grib_answers.specs.Judging.{judge}
-use Rattle.grib_answers.proofs.Answers.{target_stands}
+use Rattle.grib_command.specs.Judging.{judge}
+use Rattle.grib_command.proofs.Answers.{target_stands}
 use Rattle.grib_run_law.proofs.Keeping.{written_are}
 use Rattle.grib_run_law.proofs.OfOctets.{octets_same}
 use Rattle.grib_run_law.proofs.laws.what_is_answered_keeps_each_value.Goals as goal

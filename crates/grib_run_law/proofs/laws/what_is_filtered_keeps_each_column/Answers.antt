@@ -2,7 +2,7 @@ use Rattle.std.proofs.Common.{ℕ, ◌^◌, ◌≤◌, List, map, take}
 use Rattle.grib2_message.specs.Message.{IsMessage}
 use Rattle.grib2_message.specs.Fields.{field_count}
 use Rattle.grib_stream.specs.Stream.{stream}
-use Rattle.grib_answers.specs.Judging.{judge}
+use Rattle.grib_command.specs.Judging.{judge}
 use Rattle.grib_run_law.specs.Standing.{before_first}
 use Rattle.grib_run_law.proofs.Picking.{CutsOut, picked_of, filter_written, filter_picked}
 use Rattle.grib_run_law.proofs.laws.what_is_filtered_keeps_each_column.Goals as goal

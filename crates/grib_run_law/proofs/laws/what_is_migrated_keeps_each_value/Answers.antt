@@ -1,10 +1,10 @@
 use Rattle.std.proofs.Common.{◌^◌, map, take, ap, ◌∙◌}
 use Rattle.grib_stream.specs.Acts.{written}
 use Rattle.grib_stream.specs.Stream.{stream}
-use Rattle.grib_answers.specs.Judging.{judge}
-use Rattle.grib_changed.specs.Migrating.{migrate_command}
+use Rattle.grib_command.specs.Judging.{judge}
+use Rattle.grib_edit.specs.Migrating.{migrate_command}
 use Rattle.grib_run_law.specs.SameMigrated.{before_lost}
-use Rattle.grib_tasks.specs.Tasks.{answer_by}
+use Rattle.grib_run_spec.specs.Tasks.{answer_by}
 use Rattle.grib_run_law.proofs.Migrations.{output_of, migrated_written, migrated_same}
 use Rattle.grib_run_law.proofs.laws.what_is_migrated_keeps_each_value.Goals as goal
 

@@ -1,6 +1,6 @@
 use Rattle.std.proofs.Common.{◌^◌, map, take}
 use Rattle.grib_stream.specs.Stream.{stream}
-use Rattle.grib_answers.specs.Judging.{judge}
+use Rattle.grib_command.specs.Judging.{judge}
 use Rattle.grib_run_law.specs.SameSet.{before_fault}
 use Rattle.grib_run_law.proofs.Settings.{changed_of, set_written, set_same}
 use Rattle.grib_run_law.proofs.laws.what_is_set_keeps_each_field.Goals as goal

@@ -1,0 +1,112 @@
+-- What a command does with the messages of an input, one after another.
+use Rattle.std.specs.Prelude.{◌≡◌, ℕ, ◌*◌, ◌≤◌, Bool, true, false, Option, Some, None, List, [], ◌++◌, zero, suc, ◌+◌, length, ◌==◌}
+use Rattle.grib_base.specs.Rows.{choose}
+use Rattle.grib_base.specs.declared.limits.TheConstants.{MOST_OCTETS}
+use Rattle.grib2_sections.specs.Head.{edition}
+use Rattle.grib2_message.specs.Fields.{field_count}
+use Rattle.grib2_message.specs.Message.{IsMessage}
+use Rattle.grib1_sections.specs.Message.{IsMessage1}
+use Rattle.grib_stream.specs.declared.place.Place.{Place}
+use Rattle.grib_stream.specs.declared.outcome.Outcome.{Outcome}
+use Rattle.grib_stream.specs.declared.outcome.Outcome.TheVariants.{Kept}
+use Rattle.grib_reasons.specs.declared.cause.Cause.{Cause}
+use Rattle.grib_reasons.specs.declared.cause.Cause.TheVariants.{EditionOne}
+use Rattle.grib_stream.specs.Acts.{Act, writes}
+use Rattle.grib_stream.specs.Outcomes.{is_of_message}
+use Rattle.grib_stream.specs.Task.{Task, Given, Gives, Ends}
+use Rattle.grib_command.specs.Judging.{judge, fields_of}
+use Rattle.grib_command.specs.declared.ending.Ending.{Ending}
+use Rattle.grib_command.specs.declared.ending.Ending.TheVariants.{Silent, Written}
+use Rattle.grib_command.specs.Endings.{ending_text, ending_note}
+use Rattle.grib_command.specs.Outcomes.{note_of}
+
+pub record Command : Type 0 where
+  -- what a message of edition 1 at a place gives
+  pub first : Place → List ℕ → Given
+  -- what one of edition 2 gives
+  pub second : Place → List ℕ → Given
+  -- what is printed and noted at the end of the input
+  pub ending : Ending
+  -- whether what is made is put on the shelf, and nothing of it is written to the output
+  pub uses_shelf : Bool
+
+-- what a message gives, by its edition
+abbrev pub given : Command → Place → List ℕ → Given
+given command place message = choose (edition message == 1) (λ _. command.first place message) (λ _. command.second place message)
+
+abbrev pub task : Command → Task
+task command = record {
+  judge = judge;
+  fields = fields_of;
+  result = given command;
+  ending = λ totals. record { acts = writes (ending_text command.ending totals); note = ending_note command.ending totals };
+  note = note_of;
+}
+
+-- What a command owes so that its task is lawful. For each 20 octets of a message at most 268435456 are counted as
+-- written, and a run ends at a message with an outcome of a message.
+pub record IsLawfulCommand (command : Command) : Type 0 where
+  pub few_first : (place : Place) (message : List ℕ) (acts : List Act) (written : ℕ) → IsMessage1 message
+      → command.first place message ≡ Gives acts written → 20 * written ≤ MOST_OCTETS * length message
+  pub few_second : (place : Place) (message : List ℕ) (acts : List Act) (written : ℕ) → IsMessage message
+      → command.second place message ≡ Gives acts written → 20 * written ≤ MOST_OCTETS * length message
+  pub ends_first : (place : Place) (message : List ℕ) (outcome : Outcome) → command.first place message ≡ Ends outcome → is_of_message outcome ≡ true
+  pub ends_second : (place : Place) (message : List ℕ) (outcome : Outcome) → command.second place message ≡ Ends outcome → is_of_message outcome ≡ true
+
+-- ---- what a message may give
+
+-- a text, of which no note counts the octets
+abbrev pub given_text : List ℕ → Given
+given_text text = Gives (writes text) 0
+
+-- these octets, which are counted
+abbrev pub given_whole : List ℕ → Given
+given_whole octets = Gives (writes octets) (length octets)
+
+-- message m is kept
+abbrev pub kept_at : ℕ → Cause → Outcome
+kept_at m cause = Kept (record { message = m; cause = cause })
+
+-- these octets are written, or message m is kept by its cause
+abbrev pub given_unless : Option Cause → ℕ → List ℕ → Given
+given_unless None m octets = given_whole octets
+given_unless (Some cause) m octets = Ends (kept_at m cause)
+
+-- message m is kept, since its edition is only read
+abbrev pub kept_first : ℕ → Given
+kept_first m = Ends (kept_at m EditionOne)
+
+-- the texts of n fields, from field i on
+abbrev pub texts_from : (ℕ → List ℕ) → ℕ → ℕ → List ℕ
+texts_from text zero i = []
+texts_from text (suc n) i = text i ++ texts_from text n (i + 1)
+
+-- ---- commands of one kind
+
+-- a text is printed of each message
+abbrev pub printing : (Place → List ℕ → List ℕ) → (Place → List ℕ → List ℕ) → Ending → Command
+printing first second ending = record {
+  first = λ place message. given_text (first place message);
+  second = λ place message. given_text (second place message);
+  ending = ending;
+  uses_shelf = false;
+}
+
+-- a text is printed of a message of edition 1 with its number, and one of each field of a message of edition 2
+abbrev pub printing_fields : (List ℕ → ℕ → List ℕ) → (List ℕ → ℕ → ℕ → List ℕ) → Command
+printing_fields first text =
+    printing (λ place message. first message place.message)
+    (λ place message. texts_from (text message place.message) (field_count message) 1) Silent
+
+-- a message of edition 2 gives what is written in its place, and one of edition 1 is kept
+abbrev pub changing : (Place → List ℕ → Given) → Command
+changing second = record {
+  first = λ place message. kept_first place.message;
+  second = second;
+  ending = Written;
+  uses_shelf = false;
+}
+
+-- these octets are written in its place, or it is kept by the cause
+abbrev pub changing_unless : (List ℕ → Option Cause) → (List ℕ → List ℕ) → Command
+changing_unless cause octets = changing (λ place message. given_unless (cause message) place.message (octets message))

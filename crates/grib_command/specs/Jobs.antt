@@ -1,0 +1,53 @@
+-- Which jobs there are.
+use Rattle.std.specs.Prelude.{◌≡◌, ◌≤◌, Some, Bool, true, ◌||◌, ◌==◌, List, [], All, IsTrue}
+use Rattle.grib_keys.specs.declared.condition.Condition.{Condition}
+use Rattle.grib_keys.specs.Keys.{can_set}
+use Rattle.grib_repack.specs.declared.target.RepackTarget.{RepackTarget}
+use Rattle.grib_repack.specs.declared.target.RepackTarget.TheVariants.{Simple, Complex, Spatial}
+use Rattle.grib_synthetic.specs.Made.{MayBeMade}
+use Rattle.grib_command.specs.declared.job.Job.{Job}
+use Rattle.grib_command.specs.declared.job.Job.TheVariants.{Dump, Set, Repack, Crop, Make}
+
+-- spatial differences are of order 1 or 2
+abbrev pub is_target : RepackTarget → Bool
+is_target Simple = true
+is_target Complex = true
+is_target (Spatial order) = (order == 1) || (order == 2)
+
+-- whether what fields are packed to is there
+abbrev pub has_target : Job → Bool
+has_target (Repack target) = is_target target
+has_target (Make seed ni nj target) = is_target target
+has_target job = true
+
+-- what is made can be made
+abbrev pub HasSize : Job → Type 0
+HasSize (Make seed ni nj target) = MayBeMade seed ni nj
+HasSize job = Unit {0}
+
+-- the first column and row of a box are at most its last
+abbrev pub HasArea : Job → Type 0
+HasArea (Crop area) = (area.i0 ≤ area.i1) × (area.j0 ≤ area.j1)
+HasArea job = Unit {0}
+
+-- decimals have at most 18 places
+abbrev pub HasPlaces : Job → Type 0
+HasPlaces (Dump (Some places)) = places ≤ 18
+HasPlaces job = Unit {0}
+
+-- the new values of keys that a job gives
+abbrev pub changes_of : Job → List Condition
+changes_of (Set changes) = changes
+changes_of job = []
+
+-- each of these keys can be set
+abbrev pub CanChange : List Condition → Type 0
+CanChange changes = All (λ c. IsTrue (can_set c.key)) changes
+
+-- the jobs that there are
+pub record IsJob (job : Job) : Type 0 where
+  pub target_stands : has_target job ≡ true
+  pub size_stands : HasSize job
+  pub area_stands : HasArea job
+  pub changes_stand : CanChange (changes_of job)
+  pub places_stand : HasPlaces job

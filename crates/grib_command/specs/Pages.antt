@@ -1,0 +1,34 @@
+-- The pages that the program prints of itself.
+use Rattle.std.specs.Prelude.{ℕ, List, [], ◌∷◌, codes}
+use Rattle.std.specs.List.{concat}
+use Rattle.grib_command.specs.declared.page.Page.{Page}
+use Rattle.grib_command.specs.declared.page.Page.TheVariants.{Help, Version}
+
+-- each command with the names of its words, the words on what is gone past, and where the rest is told
+abbrev pub help_lines : List (List ℕ)
+help_lines =
+    codes "grib check                                        lines on messages and input\n"
+    ∷ codes "grib list                                         a line for each field\n"
+    ∷ codes "grib keys                                         the keys of each field\n"
+    ∷ codes "grib dump [decimals=0..18]                        the points of each field\n"
+    ∷ codes "grib stats                                        counts and extremes of fields\n"
+    ∷ codes "grib filter KEY=VALUE ..                          fields that have these values\n"
+    ∷ codes "grib split out=NAME                               fields as files NAME.1, NAME.2\n"
+    ∷ codes "grib set KEY=VALUE ..                             new values of keys\n"
+    ∷ codes "grib repack to=0|2|3|least [order=1|2]            fields packed anew\n"
+    ∷ codes "grib migrate params=FILE [local=keep]             edition 1 to edition 2\n"
+    ∷ codes "grib demote params=FILE [local=keep] [earth=any]  edition 2 to edition 1\n"
+    ∷ codes "grib rescan                                       points in scanning mode 0\n"
+    ∷ codes "grib crop i0=N i1=N j0=N j1=N                     a box of each grid\n"
+    ∷ codes "grib make seed=N ni=N nj=N to=0|2|3 [order=1|2]   a message made from a number\n"
+    ∷ codes "grib help                                         this page\n"
+    ∷ codes "grib version                                      the version of this program\n"
+    ∷ codes "Beside these words, in any place:\n"
+    ∷ codes "check to crop  [refused=pass]                     on behind what is refused\n"
+    ∷ codes "filter to crop [kept=copy|pass], dump [kept=pass] on behind what is kept\n"
+    ∷ codes "Messages come from standard input and go to standard output. The pages: man grib\n"
+    ∷ []
+
+abbrev pub text_of : Page → List ℕ
+text_of Help = concat help_lines
+text_of Version = codes "grib 1.0.0-alpha\n"

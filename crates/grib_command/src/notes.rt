@@ -1,0 +1,236 @@
+//! The notes on what was changed, kept or made.
+
+ghost use Rattle.std.specs.Prelude.{◌≡◌, string_bytes, IfOk};
+ghost use Rattle.grib_reasons.specs.declared.cause.Cause.TheVariants.{Demoted, Lost};
+ghost use Rattle.grib_command.specs.Notes as notes;
+ghost use Rattle.grib_command.specs.Outcomes.{note_of};
+ghost use Rattle.grib_stream.specs.declared.outcome.Outcome.TheVariants.{Usage};
+
+use grib_reasons::{Cause, Demotion, Kept, Loss, TableRefusal};
+use grib_stream::Totals;
+use std::alloc::{AllocError, Global};
+
+/// The note on words that have no reading, by the first that is not read. The only error of notes is
+/// that there is no memory.
+pub fn usage_note(alloc: Global, word: u64) -> Result<Vec<u8>, AllocError>
+    ensures { IfOk result (λ note. note.items ≡ note_of (Usage word)) }
+{
+    let note = format!(in alloc; "usage word {word}\n")?;
+    Ok(note.into_bytes())
+}
+
+/// The note on an input that was read to its end, with this many refusals passed and this many messages kept.
+pub fn passed_note(alloc: Global, refused: u64, kept: u64) -> Result<Vec<u8>, AllocError>
+    ensures { IfOk result (λ note. note.items ≡ notes.passed_note refused kept) }
+{
+    let note = format!(in alloc; "refused {refused} kept {kept}\n")?;
+    Ok(note.into_bytes())
+}
+
+/// The note on a message that is accepted and kept from being changed.
+pub fn kept_note(alloc: Global, kept: &Kept) -> Result<Vec<u8>, AllocError>
+    ensures { IfOk result (λ note. note.items ≡ notes.kept_note kept.now.message kept.now.cause) }
+{
+    let message = kept.message;
+    let head = format!(in alloc; "kept message {message}")?;
+    let text = kept_text(alloc, head.as_str(), &kept.cause)?;
+    Ok(text.into_bytes())
+}
+
+/// The line on a message that is kept, and behind which a run goes on, with the octets of the input before it.
+pub fn kept_line(alloc: Global, kept: &Kept, before: u64) -> Result<Vec<u8>, AllocError>
+    ensures { IfOk result (λ line. line.items ≡ notes.kept_line kept.now.message before kept.now.cause) }
+{
+    let message = kept.message;
+    let head = format!(in alloc; "kept message {message} at {before}")?;
+    let text = kept_text(alloc, head.as_str(), &kept.cause)?;
+    Ok(text.into_bytes())
+}
+
+/// What is kept, and by what.
+fn kept_text(alloc: Global, head: &str, cause: &Cause) -> Result<String, AllocError>
+    ensures { IfOk result (λ text. string_bytes text ≡ notes.kept_text head.now cause.now) }
+{
+    match *cause {
+        Cause::EditionOne => format!(in alloc; "{head} EditionOne\n"),
+        Cause::SecondaryMissing { field, point } => {
+            text_at_point(alloc, head, "SecondaryMissing", field, point)
+        }
+        Cause::OutOfRange { field, point } => {
+            text_at_point(alloc, head, "OutOfRange", field, point)
+        }
+        Cause::DifferenceRange { field } => text_in_field(alloc, head, "DifferenceRange", field),
+        Cause::OutputTooLong(length) => { format!(in alloc; "{head} OutputTooLong {length}\n") }
+        Cause::KeyRange { key } => text_at_key(alloc, head, key.name()),
+        Cause::KeyAbsent { field, key } => { text_without_key(alloc, head, key.name(), field) }
+        Cause::Lost(loss) => lost_text(alloc, head, &loss),
+        Cause::Demoted { field, loss } => demoted_text(alloc, head, &loss, field),
+        Cause::GridKind { field } => text_in_field(alloc, head, "GridKind", field),
+        Cause::ScanMode { field } => text_in_field(alloc, head, "ScanMode", field),
+        Cause::OutsideBox { field } => text_in_field(alloc, head, "OutsideBox", field),
+        Cause::Increments { field } => text_in_field(alloc, head, "Increments", field),
+        Cause::DecimalRange { field, point } => {
+            text_at_point(alloc, head, "DecimalRange", field, point)
+        }
+    }
+}
+
+/// What is kept, by a cause of this name at a point of a field.
+fn text_at_point(
+    alloc: Global,
+    head: &str,
+    name: &str,
+    field: u32,
+    point: u32,
+) -> Result<String, AllocError>
+    ensures { IfOk result (λ text. string_bytes text ≡ notes.text_at_point head.now name.now field point) }
+{
+    let text = format!(in alloc; "{head} {name} field {field} point {point}\n")?;
+    Ok(text)
+}
+
+/// What is kept, by a cause of this name in a field.
+fn text_in_field(alloc: Global, head: &str, name: &str, field: u32) -> Result<String, AllocError>
+    ensures { IfOk result (λ text. string_bytes text ≡ notes.text_in_field head.now name.now field) }
+{
+    let text = format!(in alloc; "{head} {name} field {field}\n")?;
+    Ok(text)
+}
+
+/// What is kept, by this loss.
+fn lost_text(alloc: Global, head: &str, loss: &Loss) -> Result<String, AllocError>
+    ensures { IfOk result (λ text. string_bytes text ≡ notes.kept_text head.now (Lost loss.now)) }
+{
+    match loss.number() {
+        Some(number) => text_of_numbered_loss(alloc, head, loss.name(), number),
+        None => text_of_loss(alloc, head, loss.name()),
+    }
+}
+
+/// What is kept, by a loss of this name that has no number.
+fn text_of_loss(alloc: Global, head: &str, name: &str) -> Result<String, AllocError>
+    ensures { IfOk result (λ text. string_bytes text ≡ notes.text_of_loss head.now name.now None) }
+{
+    let text = format!(in alloc; "{head} Loss {name}\n")?;
+    Ok(text)
+}
+
+/// What is kept, by a loss of this name with its number.
+fn text_of_numbered_loss(
+    alloc: Global,
+    head: &str,
+    name: &str,
+    number: u32,
+) -> Result<String, AllocError>
+    ensures { IfOk result (λ text.
+        string_bytes text ≡ notes.text_of_loss head.now name.now (Some number)) }
+{
+    let text = format!(in alloc; "{head} Loss {name} {number}\n")?;
+    Ok(text)
+}
+
+/// What is kept, by this loss of a field.
+fn demoted_text(
+    alloc: Global,
+    head: &str,
+    loss: &Demotion,
+    field: u32,
+) -> Result<String, AllocError>
+    ensures { IfOk result (λ text. string_bytes text ≡ notes.kept_text head.now (Demoted field loss.now)) }
+{
+    match loss.number() {
+        Some(number) => text_of_numbered_demotion(alloc, head, loss.name(), number, field),
+        None => text_of_demotion(alloc, head, loss.name(), field),
+    }
+}
+
+/// What is kept, by a loss of this name of a field that has no number.
+fn text_of_demotion(alloc: Global, head: &str, name: &str, field: u32) -> Result<String, AllocError>
+    ensures { IfOk result (λ text. string_bytes text ≡ notes.text_of_demotion head.now name.now None field) }
+{
+    let text = format!(in alloc; "{head} Demotion {name} field {field}\n")?;
+    Ok(text)
+}
+
+/// What is kept, by a loss of this name of a field, with its number.
+fn text_of_numbered_demotion(
+    alloc: Global,
+    head: &str,
+    name: &str,
+    number: u64,
+    field: u32,
+) -> Result<String, AllocError>
+    ensures { IfOk result (λ text.
+        string_bytes text ≡ notes.text_of_demotion head.now name.now (Some number) field) }
+{
+    let text = format!(in alloc; "{head} Demotion {name} {number} field {field}\n")?;
+    Ok(text)
+}
+
+/// What is kept, where the value of this key does not fit.
+fn text_at_key(alloc: Global, head: &str, key: &str) -> Result<String, AllocError>
+    ensures { IfOk result (λ text. string_bytes text ≡ notes.text_at_key head.now key.now) }
+{
+    let text = format!(in alloc; "{head} KeyRange {key}\n")?;
+    Ok(text)
+}
+
+/// What is kept, where a field has not this key.
+fn text_without_key(alloc: Global, head: &str, key: &str, field: u32) -> Result<String, AllocError>
+    ensures { IfOk result (λ text. string_bytes text ≡ notes.text_without_key head.now key.now field) }
+{
+    let text = format!(in alloc; "{head} KeyAbsent {key} field {field}\n")?;
+    Ok(text)
+}
+
+/// The note on a parameter table that is refused.
+pub fn table_note(alloc: Global, refusal: &TableRefusal) -> Result<Vec<u8>, AllocError>
+    ensures { IfOk result (λ note. note.items ≡ notes.table_note refusal.now) }
+{
+    let note = format!(in alloc; "{refusal}\n")?;
+    Ok(note.into_bytes())
+}
+
+/// The note on an input that was read to its end, with all of its messages changed.
+pub(crate) fn written_note(alloc: Global, totals: &Totals) -> Result<Vec<u8>, AllocError>
+    ensures { IfOk result (λ note. note.items ≡ notes.written_note totals.now) }
+{
+    let messages = totals.messages;
+    let fields = totals.fields;
+    let written = totals.written;
+    let note = format!(in alloc; "messages {messages} fields {fields} written {written}\n")?;
+    Ok(note.into_bytes())
+}
+
+/// The note on an input that was read to its end, with all of its messages changed but those that were kept.
+pub(crate) fn written_passed_note(
+    alloc: Global,
+    totals: &Totals,
+    refused: u64,
+    kept: u64,
+) -> Result<Vec<u8>, AllocError>
+    ensures { IfOk result (λ note. note.items ≡ notes.written_passed_note totals.now refused kept) }
+{
+    let messages = totals.messages;
+    let fields = totals.fields;
+    let written = totals.written;
+    let note = format!(in alloc;
+        "messages {messages} fields {fields} written {written} refused {refused} kept {kept}\n"
+    )?;
+    Ok(note.into_bytes())
+}
+
+/// The note on a message that was made: its octets, those that were written of it packed anew, its present
+/// points and the sum of their scaled numbers.
+pub fn made_note(
+    alloc: Global,
+    made: u64,
+    written: u64,
+    present: u64,
+    sum: u64,
+) -> Result<Vec<u8>, AllocError>
+    ensures { IfOk result (λ note. note.items ≡ notes.made_note made written present sum) }
+{
+    let note = format!(in alloc; "made {made} written {written} present {present} sum {sum}\n")?;
+    Ok(note.into_bytes())
+}

@@ -1,0 +1,50 @@
+//! The pages that the program prints of itself.
+
+ghost use Rattle.std.specs.Prelude.{◌≡◌};
+ghost use Rattle.grib_command.specs.Pages.{text_of};
+
+/// A text on the program, which needs no input.
+#[derive(Clone, Copy, Debug, PartialEq, Eq)]
+pub enum Page {
+    /// The commands, each with the names of its words.
+    Help,
+    /// The version of the program.
+    Version,
+}
+
+const HELP: &str = "\
+grib check                                        lines on messages and input\n\
+grib list                                         a line for each field\n\
+grib keys                                         the keys of each field\n\
+grib dump [decimals=0..18]                        the points of each field\n\
+grib stats                                        counts and extremes of fields\n\
+grib filter KEY=VALUE ..                          fields that have these values\n\
+grib split out=NAME                               fields as files NAME.1, NAME.2\n\
+grib set KEY=VALUE ..                             new values of keys\n\
+grib repack to=0|2|3|least [order=1|2]            fields packed anew\n\
+grib migrate params=FILE [local=keep]             edition 1 to edition 2\n\
+grib demote params=FILE [local=keep] [earth=any]  edition 2 to edition 1\n\
+grib rescan                                       points in scanning mode 0\n\
+grib crop i0=N i1=N j0=N j1=N                     a box of each grid\n\
+grib make seed=N ni=N nj=N to=0|2|3 [order=1|2]   a message made from a number\n\
+grib help                                         this page\n\
+grib version                                      the version of this program\n\
+Beside these words, in any place:\n\
+check to crop  [refused=pass]                     on behind what is refused\n\
+filter to crop [kept=copy|pass], dump [kept=pass] on behind what is kept\n\
+Messages come from standard input and go to standard output. The pages: man grib\n\
+";
+
+const VERSION: &str = "grib 1.0.0-alpha\n";
+
+impl Page {
+    /// What is printed.
+    pub fn text(self) -> &'static str
+        ensures { result.now ≡ text_of self }
+    {
+        match self {
+            Page::Help => HELP,
+            Page::Version => VERSION,
+        }
+    }
+}

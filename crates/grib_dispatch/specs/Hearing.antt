@@ -1,0 +1,59 @@
+-- Messages of edition 2 that are judged as their octets come.
+use Rattle.std.specs.Prelude.{◌≡◌, ◌≢◌, ℕ, ◌+◌, ◌≤◌, Bool, true, false, ◌&&◌, ◌==◌, List, ◌++◌, length, take, Ok, Err}
+use Rattle.std.specs.Str.{bytes_eq}
+use Rattle.std.specs.declared.option.Option.{Option}
+use Rattle.std.specs.declared.result.Result.{Result}
+use Rattle.grib_stream.specs.Reading.{Takes}
+use Rattle.grib_base.specs.declared.fault.Refusal.{Refusal}
+use Rattle.grib2_sections.specs.Head.{indicator, edition}
+use Rattle.grib2_message.specs.Acceptance.{verdict_2}
+use Rattle.grib_stream.specs.declared.outcome.Outcome.{Outcome}
+use Rattle.grib_stream.specs.declared.outcome.Outcome.TheVariants as outcomes
+use Rattle.grib_stream.specs.declared.place.Place.{Place}
+use Rattle.grib_stream.specs.declared.performer.Whole.{Whole as AnsweredMessage}
+use Rattle.grib_stream.specs.Stream.{Judgement}
+use Rattle.grib_stream.specs.Outcomes.{is_truncated}
+use Rattle.grib_stream.specs.Hearing.{is_closed}
+use Rattle.grib_stream.specs.Soon.{StandsAt}
+use Rattle.grib_command.specs.declared.answered.Answered.{Answered}
+use Rattle.grib_command.specs.declared.answered.Answered.TheVariants.{Whole, Kept, WriteFault, ShelfFault, Memory}
+use Rattle.grib_command.specs.declared.job.Job.{Job}
+use Rattle.grib_command.specs.declared.job.Job.TheVariants.{Check, List as Listing}
+use Rattle.grib_command.specs.Command.{kept_at}
+use Rattle.grib_command.specs.Judging.{judge, judged}
+
+-- what octets are as a message of edition 2
+abbrev pub judge_2 : List ℕ → Judgement
+judge_2 octets = judged (verdict_2 octets)
+
+-- whether a message that begins with these eight octets is one of edition 2
+abbrev pub is_second : List ℕ → Bool
+is_second first = bytes_eq (take 4 first) indicator && (edition first == 2)
+
+-- what came of a message that was heard, with this many octets and fields
+abbrev pub heard_of : Answered → Place → ℕ → ℕ → Result AnsweredMessage Outcome
+heard_of (Whole written) place octets fields = Ok (record { octets = octets; fields = fields; written = written })
+heard_of (Kept cause) place octets fields = Err (kept_at place.message cause)
+heard_of WriteFault place octets fields = Err outcomes.WriteFault
+heard_of ShelfFault place octets fields = Err outcomes.ShelfFault
+heard_of Memory place octets fields = Err outcomes.Memory
+
+-- what holds of a job that hears messages of edition 2
+abbrev pub IfHears : Job → Type 0 → Type 0
+IfHears Check P = P
+IfHears Listing P = P
+IfHears job P = Unit {0}
+
+-- Of these octets message n is refused. Where it is not of edition 1, they go on for no more than one read, 65536
+-- octets, behind the first of them by which it is.
+pub record IsRefusedSoon (taken : List ℕ) (n : ℕ) : Type 0 where
+  pub before : ℕ
+  pub rest : List ℕ
+  pub place : StandsAt judge taken n before rest
+  pub bound : edition rest ≢ 1 → (k : ℕ) → is_closed (judge (take k rest)) ≡ true → length taken ≤ before + k + 65536
+
+-- a run that ends with a refusal for another reason than the end of the input took no more than that
+abbrev pub RefusesInTime : Outcome → Option (List ℕ) → Option (List ℕ) → Type 0
+RefusesInTime outcome left left_now =
+    (refusal : Refusal) → outcome ≡ outcomes.Refused refusal → is_truncated refusal.fault.reason ≡ false
+    → (taken : List ℕ) × Takes left left_now taken × IsRefusedSoon taken refusal.message

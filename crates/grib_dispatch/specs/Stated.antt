@@ -1,0 +1,36 @@
+-- An accepted length is the one that Section 0 states.
+use Rattle.std.proofs.Common.{◌≡◌, ℕ, ◌==◌, Some, None, List, ◌∙◌, refl, ap, ⊎_elim}
+use Rattle.std.specs.declared.option.Option.{Option}
+use Rattle.std.proofs.lemmas.Bool.{cond-true, cond-false}
+use Rattle.grib_base.specs.declared.fault.Fault.{Fault}
+use Rattle.grib_base.specs.Rows.{first_fault}
+use Rattle.grib2_sections.specs.Head.{edition, discipline, total_length, total_length_1, head_rows, head_of}
+use Rattle.grib2_sections.specs.Verdict.{Accepted}
+use Rattle.grib2_sections.specs.declared.indicator.Head.{Head}
+use Rattle.grib1_sections.specs.Acceptance.{or_else, verdict_by, sections_fault}
+use Rattle.grib1_sections.proofs.Fronts.{accepted_states as first_states}
+use Rattle.grib2_message.proofs.Fronts.{accepted_states}
+use Rattle.grib_stream.specs.Stream.{Message}
+use Rattle.grib_command.specs.Judging.{judge}
+use Rattle.grib_passing.specs.Steps.{States}
+use Rattle.grib_dispatch.specs.Lawful.{IsFirst, IsOther, message_judged, head_none, not_first}
+
+first_none : (head : Option Fault) (later : Unit {0} → Option Fault) (n total : ℕ) → verdict_by (or_else head later) n ≡ Accepted total → head ≡ None
+first_none None later n total is = refl
+first_none (Some fault) later n total is = let no : ⊥ = cc in absurd no
+
+pub states : (octets : List ℕ) (total : ℕ) → judge octets ≡ Message total → States octets total
+states octets total is =
+    let one : Head = record { edition = 1; discipline = 0; total = total_length_1 octets } in
+    let two : Head = record { edition = 2; discipline = discipline octets; total = total_length octets } in
+    ⊎_elim
+    (λ (m : IsFirst octets (Accepted total)). (
+      first_none (first_fault (head_rows octets)) (λ _. sections_fault octets) (total_length_1 octets) total m.verdict_is,
+      ap (λ (h : Head). h.total) (cond-true (edition octets == 1) one two m.first_edition) ∙ first_states octets total m.verdict_is,
+    ))
+    (λ (m : IsOther octets (Accepted total)). (
+      head_none (first_fault (head_rows octets)) _ total m.verdict_is,
+      ap (λ (h : Head). h.total) (cond-false (edition octets == 1) one two m.other_edition)
+          ∙ accepted_states octets total (not_first octets m.other_edition) m.verdict_is,
+    ))
+    (message_judged octets total is)

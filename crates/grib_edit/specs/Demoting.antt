@@ -1,0 +1,115 @@
+-- `demote`: each field of a message of edition 2 as a message of edition 1, by the rows of a parameter table.
+use Rattle.std.proofs.Common.{◌≡◌, ◌≢◌, ℕ, zero, suc, ◌+◌, ◌*◌, ◌<◌, ◌≤◌, Bool, true, false, cond, nat_lt, Option, Some, None, option_map, List, length, refl, sym, ap, ◌∙◌, arith, ⊎_elim, ltb-false}
+use Rattle.std.specs.Option.{option_or}
+use Rattle.std.proofs.lemmas.Bool.{cases_Bool, cases_eq}
+use Rattle.grib_base.specs.declared.limits.TheConstants.{MOST_OCTETS}
+use Rattle.grib_reasons.specs.declared.cause.Cause.{Cause}
+use Rattle.grib_reasons.specs.declared.cause.Cause.TheVariants.{Demoted}
+use Rattle.grib_reasons.specs.declared.demotion.Demotion.{Demotion}
+use Rattle.grib_reasons.specs.declared.demotion.Demotion.TheVariants.{TooLong}
+use Rattle.grib2_message.specs.Fields.{field_count}
+use Rattle.grib2_message.specs.Message.{IsMessage}
+use Rattle.grib_params.specs.Table.{Entries}
+use Rattle.grib_demote.specs.Losses.{first_of, field_losses}
+use Rattle.grib_demote.specs.Demoted.{demoted, first_loss, length_loss, or_later}
+use Rattle.grib_stream.specs.declared.outcome.Outcome.{Outcome}
+use Rattle.grib_stream.specs.Acts.{Act}
+use Rattle.grib_stream.specs.Outcomes.{is_of_message}
+use Rattle.grib_stream.specs.Task.{Gives, Ends}
+use Rattle.grib_command.specs.declared.ending.Ending.TheVariants.{Written}
+use Rattle.grib_command.specs.Command.{Command, IsLawfulCommand, given_whole, given_unless, texts_from}
+use Rattle.grib_edit.specs.FieldOctets.{twenty_each, texts_most}
+use Rattle.grib_command.specs.LawfulCommands.{unless_ends, unmapped}
+
+-- why field i is not demoted, if it is not
+abbrev pub field_cause : Entries → Bool → Bool → List ℕ → ℕ → Option Cause
+field_cause table keep_local any_earth message i = option_map (Demoted i) (first_loss table keep_local any_earth message i)
+
+-- the first cause of n fields, from field i on
+abbrev pub first_cause : (ℕ → Option Cause) → ℕ → ℕ → Option Cause
+first_cause cause zero i = None
+first_cause cause (suc n) i = option_or (cause i) (first_cause cause n (i + 1))
+
+-- why a message is kept: the first field with a loss, and its first loss
+abbrev pub demoted_cause : Entries → Bool → Bool → List ℕ → Option Cause
+demoted_cause table keep_local any_earth message = first_cause (field_cause table keep_local any_earth message) (field_count message) 1
+
+-- the messages of edition 1 of its fields, one after another
+abbrev pub demoted_fields : Entries → Bool → List ℕ → List ℕ
+demoted_fields table keep_local message = texts_from (demoted table keep_local message) (field_count message) 1
+
+-- The fields of a message of edition 2 are demoted, and a message of edition 1 is copied.
+abbrev pub demote_command : Bool → Bool → Entries → Command
+demote_command keep_local any_earth table = record {
+  first = λ place message. given_whole message;
+  second = λ place message.
+      given_unless (demoted_cause table keep_local any_earth message) place.message (demoted_fields table keep_local message);
+  ending = Written;
+  uses_shelf = false;
+}
+
+-- ---- it is lawful
+
+-- where no field has a cause, each has none
+first_none : (a b : Option Cause) → option_or a b ≡ None → a ≡ None
+first_none None b none = refl
+first_none (Some cause) b none = let no : ⊥ = cc in absurd no
+
+rest_none : (a b : Option Cause) → option_or a b ≡ None → b ≡ None
+rest_none None b none = none
+rest_none (Some cause) b none = let no : ⊥ = cc in absurd no
+
+pub none_each : (cause : ℕ → Option Cause) (n i : ℕ) → first_cause cause n i ≡ None → (j : ℕ) → i ≤ j → j < i + n → cause j ≡ None
+none_each cause zero i none j low high = absurd (omega arith)
+none_each cause (suc n) i none j low high =
+    ⊎_elim
+    (λ (here : i ≡ j). sym (ap cause here) ∙ first_none (cause i) (first_cause cause n (i + 1)) none)
+    (λ (later : i ≢ j). none_each cause n (i + 1) (rest_none (cause i) (first_cause cause n (i + 1)) none) j (omega (arith, later)) (omega arith))
+    (cases_eq i j)
+
+fits_length : (l : ℕ) → length_loss l ≡ None → l ≤ 16777215
+fits_length l none =
+    ⊎_elim
+    (λ (long : nat_lt 16777215 l ≡ true).
+    let some : length_loss l ≡ Some (TooLong l) = ap (λ b. cond b (Some (TooLong l)) None) long in
+    let no : ⊥ = cc in absurd no)
+    (λ (short : nat_lt 16777215 l ≡ false). ltb-false 16777215 l short)
+    (cases_Bool (nat_lt 16777215 l))
+
+later_none : (first : Option Demotion) (later : Unit {0} → Option Demotion) → or_later first later ≡ None → later tt ≡ None
+later_none None later none = none
+later_none (Some loss) later none = let no : ⊥ = cc in absurd no
+
+module _ (keep any : Bool) (table : Entries) where
+  pub few_octets : (message : List ℕ) (i : ℕ) → first_loss table keep any message i ≡ None → length (demoted table keep message i) ≤ 16777215
+  few_octets message i none =
+      fits_length (length (demoted table keep message i))
+      (later_none (first_of (field_losses table keep any message i)) (λ _. length_loss (length (demoted table keep message i))) none)
+
+  few_fields : (message : List ℕ) → IsMessage message → demoted_cause table keep any message ≡ None → 20 * length (demoted_fields table keep message) ≤ MOST_OCTETS * length message
+  few_fields message h none =
+      let few = texts_most (demoted table keep message) (field_count message) 1
+      (λ i low high.
+      let own = few_octets message i (unmapped (Demoted i) (first_loss table keep any message i) (none_each (field_cause table keep any message) (field_count message) 1 none i low high)) in
+      omega arith) in
+      omega (arith, twenty_each message h)
+
+  few_written : (cause : Option Cause) (m : ℕ) (octets message : List ℕ) (acts : List Act) (written : ℕ)
+      → (cause ≡ None → 20 * length octets ≤ MOST_OCTETS * length message) → given_unless cause m octets ≡ Gives acts written → 20 * written ≤ MOST_OCTETS * length message
+  few_written None m octets message acts written few is = let same : length octets ≡ written = cc in let fits : 20 * length octets ≤ MOST_OCTETS * length message = few refl in omega arith
+  few_written (Some cause) m octets message acts written few is = let no : ⊥ = cc in absurd no
+
+  copied_few : (message : List ℕ) (acts : List Act) (written : ℕ) → given_whole message ≡ Gives acts written → 20 * written ≤ MOST_OCTETS * length message
+  copied_few message acts written is = let same : length message ≡ written = cc in omega arith
+
+  copied_ends : (message : List ℕ) (outcome : Outcome) → given_whole message ≡ Ends outcome → is_of_message outcome ≡ true
+  copied_ends message outcome is = let no : ⊥ = cc in absurd no
+
+  pub demote_lawful : IsLawfulCommand (demote_command keep any table)
+  demote_lawful = record {
+    few_first = λ place message acts written h is. copied_few message acts written is;
+    few_second = λ place message acts written h is.
+        few_written (demoted_cause table keep any message) place.message (demoted_fields table keep message) message acts written (few_fields message h) is;
+    ends_first = λ place message outcome is. copied_ends message outcome is;
+    ends_second = λ place message outcome is. unless_ends (demoted_cause table keep any message) place.message (demoted_fields table keep message) outcome is;
+  }

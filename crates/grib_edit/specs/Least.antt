@@ -1,0 +1,21 @@
+-- `repack to=least`: each message with each of its fields in the fewest octets.
+use Rattle.std.proofs.Common.{◌≤◌, None, length, arith}
+use Rattle.grib_base.specs.declared.limits.TheConstants.{MOST_OCTETS}
+use Rattle.grib2_message.specs.Assembled.{assembled}
+use Rattle.grib2_message.proofs.Parted.{message_most}
+use Rattle.grib_least.specs.Least.{least, least_forms}
+use Rattle.grib_least.proofs.Kept.{no_longer}
+use Rattle.grib_command.specs.Command.{Command, IsLawfulCommand, changing_unless}
+use Rattle.grib_command.specs.LawfulCommands.{unless_lawful}
+
+-- no message is kept
+abbrev pub least_command : Command
+least_command = changing_unless (λ message. None) least
+
+-- ---- it is lawful
+
+pub least_lawful : IsLawfulCommand least_command
+least_lawful = unless_lawful (λ message. None) least (λ message h none.
+    let shorter : length (least message) ≤ length message = no_longer message (assembled message (least_forms message)) in
+    let most : length message ≤ MOST_OCTETS = message_most message h in
+    omega (arith, shorter, most))

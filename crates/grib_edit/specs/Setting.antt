@@ -1,0 +1,29 @@
+-- `set`: each message with new values of some keys.
+use Rattle.std.proofs.Common.{Option, Some, None, List, All, IsTrue}
+use Rattle.grib2_message.proofs.Parted.{message_most}
+use Rattle.grib_keys.specs.declared.condition.Condition.{Condition}
+use Rattle.grib_keys.specs.Keys.{can_set}
+use Rattle.grib_select.specs.Changed.{with_keys, set_fault}
+use Rattle.grib_select.specs.declared.changing.SetFault.{SetFault}
+use Rattle.grib_select.specs.declared.changing.SetFault.TheVariants.{KeyRange, KeyAbsent, Memory}
+use Rattle.grib_select.proofs.Kept.{can_be_set, changed_accepted}
+use Rattle.grib_reasons.specs.declared.cause.Cause.{Cause}
+use Rattle.grib_reasons.specs.declared.cause.Cause.TheVariants as causes
+use Rattle.grib_command.specs.Command.{Command, IsLawfulCommand, changing_unless}
+use Rattle.grib_command.specs.LawfulCommands.{unless_lawful}
+
+-- the fault of a change as the cause that a message is kept by. No change is at fault for lack of memory.
+abbrev pub set_cause : Option SetFault → Option Cause
+set_cause None = None
+set_cause (Some (KeyRange key)) = Some (causes.KeyRange key)
+set_cause (Some (KeyAbsent field key)) = Some (causes.KeyAbsent field key)
+set_cause (Some Memory) = None
+
+abbrev pub set_command : List Condition → Command
+set_command changes = changing_unless (λ message. set_cause (set_fault message changes)) (λ message. with_keys message changes)
+
+-- ---- it is lawful
+
+pub set_lawful : (changes : List Condition) → All (λ c. IsTrue (can_set c.key)) changes → IsLawfulCommand (set_command changes)
+set_lawful changes can =
+    unless_lawful _ _ (λ message h none. message_most (with_keys message changes) (changed_accepted message changes h (can_be_set changes can)))

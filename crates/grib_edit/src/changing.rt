@@ -1,0 +1,67 @@
+//! Commands that write what is made of messages of edition 2.
+
+ghost use Rattle.std.specs.Prelude.{ℕ, List};
+ghost use Rattle.grib_stream.specs.Task.{Given};
+ghost use Rattle.grib_stream.specs.declared.place.Place.{Place as AtPlace};
+ghost use Rattle.grib_command.specs.Answering.{AnswersByOutput};
+ghost use Rattle.grib_command.specs.Command as commands;
+ghost use Rattle.grib_command.specs.Command.{IsLawfulCommand};
+
+use grib_command::{Answered, Ending, Writer};
+use grib_io::Sink;
+use grib_stream::{Cause, Place};
+use grib1_sections::Message1;
+use grib2_message::Message;
+use std::alloc::Global;
+
+/// Makes something else of messages of edition 2.
+pub trait Changer {
+    /// What a message at a place gives.
+    ghost gives: { Self → AtPlace → List ℕ → Given };
+
+    /// Writes what is made of a message, or keeps it, wherever it stands.
+    fn change<T: Sink>(&self, alloc: Global, message: &Message<'_>, output: &mut T) -> Answered
+        ensures { (place : AtPlace) → AnswersByOutput T.contents T.faults T.settled result place.message
+            (gives self.now place message.now) output.old output.new };
+
+    ghost lawful: { (changer : Self) → IsLawfulCommand (commands.changing (gives changer)) };
+}
+
+/// The command of what changes messages of edition 2. Those of edition 1 are kept.
+#[derive(Debug, Drop)]
+pub struct Changing<C>(pub C);
+
+impl<C: Changer> Writer for Changing<C> {
+    ghost use Rattle.std.specs.Prelude.{refl};
+    ghost use Rattle.grib_command.specs.Command.{changing};
+
+    ghost definition = { λ changing_by. changing (C.gives changing_by.0) };
+
+    ghost lawful = { λ changing_by. C.lawful changing_by.0 };
+
+    ghost unshelved = { λ changing_by. refl };
+
+    fn first<T: Sink>(
+        &self,
+        _alloc: Global,
+        _place: &Place,
+        _message: &Message1<'_>,
+        _output: &mut T,
+    ) -> Answered {
+        Answered::Kept(Cause::EditionOne)
+    }
+
+    fn second<T: Sink>(
+        &self,
+        alloc: Global,
+        _place: &Place,
+        message: &Message<'_>,
+        output: &mut T,
+    ) -> Answered {
+        self.0.change(alloc, message, output)
+    }
+
+    fn ending(&self) -> Ending {
+        Ending::Written
+    }
+}

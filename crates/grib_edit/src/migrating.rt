@@ -1,0 +1,84 @@
+//! `migrate`: each message of edition 1 as one of edition 2.
+
+ghost use Rattle.std.specs.Prelude.{◌≡◌, true};
+ghost use Rattle.grib_edit.specs.Unchanged.{answered_lost};
+ghost use Rattle.grib_edit.specs.Migrating.{are_octets};
+
+use crate::tabling::TableWriter;
+use grib_command::{Answered, write_counted, written};
+use grib_io::Sink;
+use grib_migrate::{MigrateFault, migrate};
+use grib_params::Table;
+use grib_stream::Cause;
+use grib1_sections::Message1;
+use grib2_message::Message;
+use std::alloc::Global;
+
+/// The command `migrate`.
+#[derive(Clone, Copy, Debug)]
+pub struct Migrating {
+    /// Whether octets for the centre's own use are kept.
+    pub keep_local: bool,
+}
+
+impl TableWriter for Migrating {
+    ghost use Rattle.std.specs.Prelude.{refl};
+    ghost use Rattle.grib_edit.specs.Migrating.{migrate_command, migrate_lawful};
+
+    ghost commands = { λ migrating. migrate_command migrating.keep_local };
+
+    ghost lawful = { λ migrating table. migrate_lawful migrating.keep_local table };
+
+    ghost written = { λ migrating table. refl };
+
+    ghost unshelved = { λ migrating table. refl };
+
+    fn first<T: Sink>(
+        &self,
+        alloc: Global,
+        table: &Table,
+        message: &Message1<'_>,
+        output: &mut T,
+    ) -> Answered {
+        has_octets(message);
+        match migrate(alloc, message, table, self.keep_local) {
+            Ok(octets) => written(write_counted(output, octets.as_slice())),
+            Err(fault) => kept_by(fault),
+        }
+    }
+
+    fn second<T: Sink>(
+        &self,
+        _alloc: Global,
+        _table: &Table,
+        message: &Message<'_>,
+        output: &mut T,
+    ) -> Answered {
+        written(write_counted(output, message.octets()))
+    }
+}
+
+/// A message is of octets.
+fn has_octets(message: &Message1<'_>)
+    ensures { are_octets message.now ≡ true }
+{
+    let octets = message.octets();
+    of_octets(octets);
+}
+
+/// Octets are less than 256.
+fn of_octets(octets: &[u8])
+    ensures { are_octets octets.now ≡ true }
+{
+    let _octets = octets;
+}
+
+/// What comes of a message that is not migrated.
+fn kept_by(fault: MigrateFault) -> Answered
+    ensures { result ≡ answered_lost fault }
+{
+    match fault {
+        MigrateFault::Lost(loss) => Answered::Kept(Cause::Lost(loss)),
+        MigrateFault::Memory => Answered::Memory,
+    }
+}

@@ -1,0 +1,47 @@
+//! `set`: each message with new values of some keys.
+
+ghost use Rattle.std.specs.Prelude.{◌≡◌};
+ghost use Rattle.grib_edit.specs.Unchanged.{answered_unset};
+ghost use Rattle.grib_command.specs.Jobs.{CanChange};
+
+use crate::changing::Changer;
+use grib_command::{Answered, write_counted, written};
+use grib_io::Sink;
+use grib_select::{Condition, SetFault, set_keys};
+use grib_stream::Cause;
+use grib2_message::Message;
+use std::alloc::Global;
+
+/// The command `set`.
+#[derive(Debug, Drop)]
+pub struct Setting<'a> {
+    /// The keys with their new values.
+    pub changes: &'a [Condition],
+    pub ghost changes_stand: { CanChange changes.now },
+}
+
+impl Changer for Setting<'_> {
+    ghost use Rattle.grib_edit.specs.Setting.{set_command, set_lawful};
+
+    ghost gives = { λ setting. (set_command setting.changes.now).second };
+
+    ghost lawful = { λ setting. set_lawful setting.changes.now setting.changes_stand };
+
+    fn change<T: Sink>(&self, alloc: Global, message: &Message<'_>, output: &mut T) -> Answered {
+        match set_keys(alloc, message, self.changes) {
+            Ok(changed) => written(write_counted(output, changed.as_slice())),
+            Err(fault) => unset(fault),
+        }
+    }
+}
+
+/// What comes of a message in which no key is set.
+fn unset(fault: SetFault) -> Answered
+    ensures { result ≡ answered_unset fault }
+{
+    match fault {
+        SetFault::KeyRange { key } => Answered::Kept(Cause::KeyRange { key }),
+        SetFault::KeyAbsent { field, key } => Answered::Kept(Cause::KeyAbsent { field, key }),
+        SetFault::Memory => Answered::Memory,
+    }
+}

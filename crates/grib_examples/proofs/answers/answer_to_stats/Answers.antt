@@ -1,0 +1,12 @@
+-- The clauses compute, once the digits of numbers do.
+use Rattle.std.proofs.Common.{refl}
+use Rattle.std.specs.Fmt.{digits}
+use Rattle.grib_examples.proofs.answers.answer_to_stats.Goals as goal
+
+pub returns-clause-two_fields : goal.returns-clause-two_fields
+unfolding digits
+returns-clause-two_fields c = refl
+
+pub returns-clause-marks : goal.returns-clause-marks
+unfolding digits
+returns-clause-marks c = refl

@@ -1,5 +1,0 @@
-use Rattle.grib_made.proofs.Fitting.{made_may_be_packed, made_fits}
-use Rattle.grib_made.proofs.laws.what_is_made_fits.Goals as goal
-
-pub returns : goal.returns
-returns c = record { may_be_packed = made_may_be_packed; fits = made_fits }

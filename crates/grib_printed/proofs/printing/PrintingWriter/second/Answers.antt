@@ -1,7 +1,0 @@
-use Rattle.std.proofs.Common.{refl}
-use Rattle.grib_answers.proofs.Answers.{by_printing}
-use Rattle.grib_printed.proofs.printing.PrintingWriter.second.Goals as goal
-
-pub returns : goal.returns
-returns g c =
-    by_printing g.T.Sink.contents g.T.Sink.faults g.T.Sink.settled c.write_fields.result c.printed.result _ _ _ _ _ c.printed.ensures refl c.write_fields.ensures

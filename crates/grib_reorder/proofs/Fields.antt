@@ -1,0 +1,111 @@
+-- Lemmas on fields that are tried one after another.
+use Rattle.std.proofs.Common.{◌≡◌, ℕ, zero, suc, ◌+◌, ◌-◌, ◌<◌, ◌≤◌, Option, Some, None, option_map, List, [], ◌∷◌, ◌++◌, inl, inr, refl, sym, ap, ◌∙◌, arith, subst}
+use Rattle.std.specs.List.{range_with_len}
+use Rattle.std.proofs.lemmas.Bool.{cases_eq}
+use Rattle.grib_packing.specs.Misfits.{Misfit}
+use Rattle.grib_rescan.specs.declared.cause.GridCause.{GridCause}
+use Rattle.grib_base.specs.Rows.{first_fault}
+use Rattle.grib2_grids.specs.Grid.{grid_rows}
+use Rattle.grib_packing.specs.declared.written.Packed.{Packed}
+use Rattle.grib2_message.specs.Fields.{part_octets}
+use Rattle.grib_repack.proofs.Fields.{range-at, range-more}
+use Rattle.grib_repack.proofs.Packing.{parts_more, short_more}
+use Rattle.grib_reorder.specs.declared.edit.GridEdit.{GridEdit}
+use Rattle.grib_reorder.specs.declared.fault.RescanFault.{RescanFault}
+use Rattle.grib_reorder.specs.declared.fault.RescanFault.TheVariants.{GridKind, ScanMode, OutsideBox, Increments, OutOfRange, DifferenceRange, OutputTooLong, Memory}
+use Rattle.grib_reorder.specs.Fields.{IsFieldEdited, AreFieldsEdited}
+use Rattle.grib_reorder.specs.Rescanned.{EditMisfit, cause_of, grid_misfit, column_misfit, edited_field, OfGrid, OfColumn, field_misfit, misfit_among, or_later}
+use Rattle.grib_reorder.specs.Faults.{IsRescanFault}
+
+pub no_grid : (i : ℕ) (cause : Option GridCause) → option_map (OfGrid i) cause ≡ None → cause ≡ None
+no_grid i (Some cause) none = absurd (cc)
+no_grid i None none = refl
+
+pub no_column : (i : ℕ) (misfit : Option Misfit) → option_map (OfColumn i) misfit ≡ None → misfit ≡ None
+no_column i (Some misfit) none = absurd (cc)
+no_column i None none = refl
+
+-- ---- causes one after another
+
+pub none_later : (cause : Option EditMisfit) (later : Unit {0} → Option EditMisfit) → or_later cause later ≡ None → (cause ≡ None) × (later tt ≡ None)
+none_later (Some misfit) later none = absurd (cc)
+none_later None later none = (refl, none)
+
+pub fault_later : (cause : Option EditMisfit) (later : Unit {0} → Option EditMisfit) (fault : RescanFault) → IsRescanFault cause fault → IsRescanFault (or_later cause later) fault
+fault_later (Some misfit) later fault is = is
+fault_later None later (GridKind field) is = absurd (cc)
+fault_later None later (ScanMode field) is = absurd (cc)
+fault_later None later (OutsideBox field) is = absurd (cc)
+fault_later None later (Increments field) is = absurd (cc)
+fault_later None later (OutOfRange field point) is = absurd (cc)
+fault_later None later (DifferenceRange field) is = absurd (cc)
+fault_later None later (OutputTooLong total) is = absurd (cc)
+fault_later None later Memory is = tt
+
+-- where nothing failed earlier, the later cause is the first
+pub fault_after : (cause : Option EditMisfit) (later : Unit {0} → Option EditMisfit) (fault : RescanFault) → cause ≡ None → IsRescanFault (later tt) fault → IsRescanFault (or_later cause later) fault
+fault_after cause later fault none is = subst (λ (o : Option EditMisfit). IsRescanFault (or_later o later) fault) (sym none) is
+
+pub none_after : (cause : Option EditMisfit) (later : Unit {0} → Option EditMisfit) → cause ≡ None → later tt ≡ None → or_later cause later ≡ None
+none_after cause later first then = ap (λ (o : Option EditMisfit). or_later o later) first ∙ then
+
+module _ (edit : GridEdit) (message : List ℕ) where
+  -- fields of which none fails leave the answer to those after them
+  past : (xs ys : List ℕ) → misfit_among edit message xs ≡ None → misfit_among edit message (xs ++ ys) ≡ misfit_among edit message ys
+  past [] ys none = refl
+  past (x ∷ xs) ys none =
+      let both = none_later (field_misfit edit message x) (λ _. misfit_among edit message xs) none in
+      ap (λ (o : Option EditMisfit). or_later o (λ _. misfit_among edit message (xs ++ ys))) both.0 ∙ past xs ys both.1
+
+  -- one more that does not fail
+  pub none_more : (n : ℕ) → misfit_among edit message (range_with_len 1 n) ≡ None → field_misfit edit message (n + 1) ≡ None
+      → misfit_among edit message (range_with_len 1 (n + 1)) ≡ None
+  none_more n none here =
+      ap (misfit_among edit message) (range-more n)
+      ∙ past (range_with_len 1 n) ((n + 1) ∷ []) none
+      ∙ ap (λ (o : Option EditMisfit). or_later o (λ _. None)) here
+
+  -- one that fails
+  pub fault_among : (n count : ℕ) (fault : RescanFault) → n < count → misfit_among edit message (range_with_len 1 n) ≡ None
+      → IsRescanFault (field_misfit edit message (n + 1)) fault → IsRescanFault (misfit_among edit message (range_with_len 1 count)) fault
+  fault_among n count fault low none is =
+      let rest = range_with_len (n + 2) (count - n - 1) in
+      let same : misfit_among edit message (range_with_len 1 count) ≡ misfit_among edit message ((n + 1) ∷ rest) =
+      ap (misfit_among edit message) (range-at n count low) ∙ past (range_with_len 1 n) ((n + 1) ∷ rest) none in
+      subst (λ (o : Option EditMisfit). IsRescanFault o fault) (sym same)
+      (fault_later (field_misfit edit message (n + 1)) (λ _. misfit_among edit message rest) fault is)
+
+  -- where none of some fields fails, each does not
+  each_from : (first n i : ℕ) → misfit_among edit message (range_with_len first n) ≡ None → first ≤ i → i < first + n → field_misfit edit message i ≡ None
+  each_from first zero i none low high = absurd (omega arith)
+  each_from first (suc n) i none low high =
+      let both = none_later (field_misfit edit message first) (λ _. misfit_among edit message (range_with_len (first + 1) n)) none in
+      elim (cases_eq first i) [
+        | inl same ↦ ap (field_misfit edit message) (sym same) ∙ both.0
+        | inr other ↦ each_from (first + 1) n i both.1 (omega (arith, other)) (omega arith)
+      ]
+
+  pub each_fits : (n i : ℕ) → misfit_among edit message (range_with_len 1 n) ≡ None → 1 ≤ i → i ≤ n → field_misfit edit message i ≡ None
+  each_fits n i none low high = each_from 1 n i none low (omega arith)
+
+-- the parts of one more field
+pub fields_more : (edit : GridEdit) (message : List ℕ) (n : ℕ) (items new : List Packed) (p : Packed) → AreFieldsEdited edit message n items
+    → IsFieldEdited edit message (n + 1) p → new ≡ items ++ p ∷ [] → AreFieldsEdited edit message (n + 1) new
+fields_more edit message n items new p before here is = record {
+  fit = none_more edit message n before.fit here.fits;
+  are = parts_more (edited_field edit message) n items new p before.are here.is is;
+  short = short_more items new p before.short here.short is;
+  rows = λ i low high. elim (cases_eq i (n + 1)) [
+    | inl same ↦ subst (λ (k : ℕ). first_fault (grid_rows (part_octets message k 3)) ≡ None) (sym same) here.rows
+    | inr other ↦ before.rows i low (omega (arith, high, other))
+  ];
+}
+
+-- what is taken of each grid where all fields fit
+pub each_taken : (edit : GridEdit) (message : List ℕ) (n : ℕ) (items : List Packed) → AreFieldsEdited edit message n items → (i : ℕ) → 1 ≤ i → i ≤ n
+    → (first_fault (grid_rows (part_octets message i 3)) ≡ None) × (cause_of edit (part_octets message i 3) ≡ None)
+each_taken edit message n items are i low high = (
+  are.rows i low high,
+  no_grid i (cause_of edit (part_octets message i 3))
+      (none_later (grid_misfit edit message i) (λ _. column_misfit edit message i) (each_fits edit message n i are.fit low high)).0,
+)

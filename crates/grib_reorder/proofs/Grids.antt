@@ -1,0 +1,82 @@
+-- What a Section 3 becomes.
+use Rattle.std.proofs.Common.{◌≡◌, ℕ, ◌<◌, ◌≤◌, None, List, length, inl, ap, sym, ◌∙◌, arith}
+use Rattle.grib_bits.specs.Octets.{octets, octet_list, num_on}
+use Rattle.grib_base.specs.Rows.{first_fault}
+use Rattle.grib2_grids.specs.Grid.{grid_rows, grid_points}
+use Rattle.grib_packing.specs.declared.column.Column.{Column}
+use Rattle.grib2_message.specs.Assembled.{IsGrid}
+use Rattle.grib_rescan.specs.declared.points.Area.{Area}
+use Rattle.grib_rescan.specs.Scanning.{scanning_of}
+use Rattle.grib_rescan.specs.Points.{IsBox, width, height}
+use Rattle.grib_rescan.specs.Sections.{IsLatLon, rescanned_section, cropped_section}
+use Rattle.grib_rescan.specs.Causes.{CanBeCut}
+use Rattle.grib_rescan.proofs.Kept.{as_before, box-points, box-elsewhere}
+use Rattle.grib_rescan.proofs.Rows.{rescanned_length, box_length}
+use Rattle.grib_rescan.proofs.Accepted.{accepted, rescanned, cropped, has_size}
+use Rattle.grib_rescan.proofs.Uncaused.{can_be_rescanned, can_be_cut}
+use Rattle.grib_reorder.specs.declared.edit.GridEdit.{GridEdit}
+use Rattle.grib_reorder.specs.declared.edit.GridEdit.TheVariants.{Rescan, Crop}
+use Rattle.grib_reorder.specs.Lengths.{as_long}
+use Rattle.grib_reorder.specs.Rescanned.{Stands, cause_of, section_of, new_column}
+
+-- the box lies in the grid
+pub box_of : (area : Area) (s : List ℕ) → (area.i0 ≤ area.i1) × (area.j0 ≤ area.j1) → CanBeCut area s → IsBox area (octets s 31 34) (octets s 35 38)
+box_of area s stands can = record { columns = stands.0; rows = stands.1; last_column = can.last_column; last_row = can.last_row }
+
+-- a grid that is edited is one of latitude and longitude
+pub lat_lon_of : (edit : GridEdit) (s : List ℕ) → first_fault (grid_rows s) ≡ None → cause_of edit s ≡ None → IsLatLon s
+lat_lon_of Rescan s none uncaused = can_be_rescanned s none uncaused
+lat_lon_of (Crop area) s none uncaused = (can_be_cut area s none uncaused).lat_lon
+
+number : (s t : List ℕ) (first last : ℕ) → octet_list s first last ≡ octet_list t first last → octets s first last ≡ octets t first last
+number s t first last same = ap (num_on 0) same
+
+-- the octets of the head stay
+module _ (s : List ℕ) (is : IsLatLon s) where
+  pub rescanned_head : (first last : ℕ) → 1 ≤ first → last < 47 → octets (rescanned_section s) first last ≡ octets s first last
+  rescanned_head first last some before =
+      let order = scanning_of (octets s 72 72) in
+      number (rescanned_section s) s first last
+      (as_before s is.long order.northward order.westward first last some (inl before) (inl (omega (arith, before))) (inl (omega (arith, before))))
+
+  pub cropped_head : (area : Area) (first last : ℕ) → 1 ≤ first → last < 7 → octets (cropped_section area s) first last ≡ octets s first last
+  cropped_head area first last some before =
+      number (cropped_section area s) s first last
+      (box-elsewhere area s is.long first last some (inl before) (inl (omega (arith, before))) (inl (omega (arith, before))) (inl (omega (arith, before))))
+
+-- no row refuses it
+pub new_rows : (edit : GridEdit) (s : List ℕ) → Stands edit → first_fault (grid_rows s) ≡ None → cause_of edit s ≡ None → first_fault (grid_rows (section_of edit s)) ≡ None
+new_rows Rescan s stands none uncaused = accepted (rescanned_section s) (rescanned s (can_be_rescanned s none uncaused))
+new_rows (Crop area) s stands none uncaused =
+    let can = can_be_cut area s none uncaused in
+    accepted (cropped_section area s) (cropped area s can.lat_lon (box_of area s stands can))
+
+new_head : (edit : GridEdit) (s : List ℕ) → first_fault (grid_rows s) ≡ None → cause_of edit s ≡ None → (first last : ℕ) → 1 ≤ first → last < 7
+    → octets (section_of edit s) first last ≡ octets s first last
+new_head Rescan s none uncaused first last some before = rescanned_head s (can_be_rescanned s none uncaused) first last some (omega (arith, before))
+new_head (Crop area) s none uncaused first last some before = cropped_head s (can_be_cut area s none uncaused).lat_lon area first last some before
+
+pub new_grid : (edit : GridEdit) (s : List ℕ) → Stands edit → cause_of edit s ≡ None → IsGrid s → IsGrid (section_of edit s)
+new_grid edit s stands uncaused grid =
+    let size = as_long edit s (stands, grid.rows, uncaused) in
+    record {
+      itself = record {
+        length_stands = new_head edit s grid.rows uncaused 1 4 (omega arith) (omega arith) ∙ grid.itself.length_stands ∙ sym size;
+        least = omega (arith, size, grid.itself.least);
+        number_stands = new_head edit s grid.rows uncaused 5 5 (omega arith) (omega arith) ∙ grid.itself.number_stands;
+      };
+      rows = new_rows edit s stands grid.rows uncaused;
+    }
+
+-- a new column has one entry for each of its points
+pub new_points : (edit : GridEdit) (s : List ℕ) (column : Column) → Stands edit → first_fault (grid_rows s) ≡ None → cause_of edit s ≡ None
+    → length (new_column edit s column).points ≡ grid_points (section_of edit s)
+new_points Rescan s column stands none uncaused =
+    let is = can_be_rescanned s none uncaused in
+    rescanned_length (scanning_of (octets s 72 72)) (octets s 31 34) (octets s 35 38) column.points ∙ is.product
+    ∙ sym (rescanned_head s is 7 10 (omega arith) (omega arith))
+new_points (Crop area) s column stands none uncaused =
+    let can = can_be_cut area s none uncaused in
+    let size = has_size area s can.lat_lon (box_of area s stands can) in
+    box_length (scanning_of 0) (octets s 31 34) (octets s 35 38) column.points area.i0 (width area) area.j0 (height area)
+    ∙ sym (box-points area s can.lat_lon.long (omega (arith, size.few)))

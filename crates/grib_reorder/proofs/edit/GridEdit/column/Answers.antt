@@ -1,0 +1,25 @@
+use Rattle.std.proofs.Common.{◌≡◌, ℕ, ◌*◌, None, sym, ap₂, ◌∙◌, arith, subst}
+use Rattle.grib_rescan.proofs.Uncaused.{can_be_cut}
+use Rattle.grib_reorder.specs.declared.edit.GridEdit.{GridEdit}
+use Rattle.grib_reorder.specs.Rescanned.{Stands, cause_of}
+use Rattle.grib_reorder.proofs.edit.GridEdit.column.Goals as goal
+
+pub crop_column-requires-clause-length : goal.crop_column-requires-clause-length
+crop_column-requires-clause-length c =
+    let s = c.args.section3.now in
+    let uncaused = subst (λ (edit : GridEdit). cause_of edit s ≡ None) c.in-Crop.is c.requires.uncaused in
+    let can = can_be_cut c.in-Crop.area s c.requires.accepted uncaused in
+    c.requires.length ∙ sym can.lat_lon.product ∙ sym (ap₂ (λ (a b : ℕ). a * b) c.u32_at-ni.ensures c.u32_at-nj.ensures)
+
+pub crop_column-requires-clause-within : goal.crop_column-requires-clause-within
+crop_column-requires-clause-within c =
+    let s = c.args.section3.now in
+    let stands = subst Stands c.in-Crop.is c.requires.stands in
+    let uncaused = subst (λ (edit : GridEdit). cause_of edit s ≡ None) c.in-Crop.is c.requires.uncaused in
+    let can = can_be_cut c.in-Crop.area s c.requires.accepted uncaused in
+    record {
+      columns = stands.0;
+      rows = stands.1;
+      last_column = omega (arith, can.last_column, c.u32_at-ni.ensures);
+      last_row = omega (arith, can.last_row, c.u32_at-nj.ensures);
+    }

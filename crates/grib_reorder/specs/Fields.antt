@@ -1,0 +1,36 @@
+-- What is known of fields that are edited.
+use Rattle.std.specs.Prelude.{◌≡◌, ℕ, ◌≤◌, false, None, List, map, All}
+use Rattle.std.specs.List.{range_with_len, list_any}
+use Rattle.grib_base.specs.Rows.{first_fault}
+use Rattle.grib2_grids.specs.Grid.{grid_rows}
+use Rattle.grib_packing.specs.declared.column.Column.{Column}
+use Rattle.grib_packing.specs.declared.written.Packed.{Packed}
+use Rattle.grib_packing.specs.Misfits.{is_missing2}
+use Rattle.grib_packing.specs.Packing.{packing_template}
+use Rattle.grib_packing.specs.Written.{MayBePacked}
+use Rattle.grib2_message.specs.Assembled.{IsShort}
+use Rattle.grib2_message.specs.Fields.{part_octets}
+use Rattle.grib_reorder.specs.declared.edit.GridEdit.{GridEdit}
+use Rattle.grib_reorder.specs.Rescanned.{grid_misfit, field_misfit, misfit_among, edited_column, edited_field}
+
+-- the new column of field i; simple packing has no secondary missing points
+pub record IsColumnEdited (edit : GridEdit) (message : List ℕ) (i : ℕ) (column : Column) : Type 0 where
+  pub uncaused : grid_misfit edit message i ≡ None
+  pub is : column ≡ edited_column edit message i
+  pub may_be_packed : MayBePacked column
+  pub simple : packing_template (part_octets message i 5) ≡ 0 → list_any is_missing2 column.points ≡ false
+  pub rows : first_fault (grid_rows (part_octets message i 3)) ≡ None
+
+-- Sections 5, 6 and 7 of field i
+pub record IsFieldEdited (edit : GridEdit) (message : List ℕ) (i : ℕ) (packed : Packed) : Type 0 where
+  pub fits : field_misfit edit message i ≡ None
+  pub is : packed ≡ edited_field edit message i
+  pub short : IsShort packed
+  pub rows : first_fault (grid_rows (part_octets message i 3)) ≡ None
+
+-- those of the first n fields
+pub record AreFieldsEdited (edit : GridEdit) (message : List ℕ) (n : ℕ) (packed : List Packed) : Type 0 where
+  pub fit : misfit_among edit message (range_with_len 1 n) ≡ None
+  pub are : packed ≡ map (edited_field edit message) (range_with_len 1 n)
+  pub short : All IsShort packed
+  pub rows : (i : ℕ) → 1 ≤ i → i ≤ n → first_fault (grid_rows (part_octets message i 3)) ≡ None

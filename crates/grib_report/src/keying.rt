@@ -1,0 +1,46 @@
+//! `keys`: for each field a line with each key that the field has.
+
+use crate::points::append_text;
+use crate::printing::Printer;
+use grib_command::write_whole;
+use grib_io::{Sink, Stop};
+use grib_text::{keys_line, keys_line1};
+use grib1_sections::Message1;
+use grib2_message::Message;
+use std::alloc::Global;
+
+/// Prints the line with the keys of a field.
+#[derive(Clone, Copy, Debug)]
+pub struct Keying;
+
+impl Printer for Keying {
+    ghost use Rattle.grib_text.specs.KeyLines.{keys_line, keys_line1};
+
+    ghost first_text = { λ keying. keys_line1 };
+
+    ghost field_text = { λ keying. keys_line };
+
+    fn write_first<T: Sink>(
+        &self,
+        alloc: Global,
+        number: u64,
+        message: &Message1<'_>,
+        output: &mut T,
+    ) -> Result<(), Stop> {
+        let line = keys_line1(alloc, message, number)?;
+        write_whole(output, line.as_slice())
+    }
+
+    fn append_field<T: Sink>(
+        &self,
+        alloc: Global,
+        number: u64,
+        message: &Message<'_>,
+        field: u32,
+        lines: &mut Vec<u8>,
+        output: &mut T,
+    ) -> Result<(), Stop> {
+        let line = keys_line(alloc, message, number, field)?;
+        append_text(lines, line.as_slice(), output)
+    }
+}

@@ -1,0 +1,250 @@
+//! `dump decimals=`: as `dump`, with the values of points as decimals.
+
+ghost use Rattle.std.specs.Prelude.{◌≡◌, ◌^◌, ◌<◌, ◌≤◌, ◌++◌, true, None, length, nat_abs, IfOk};
+ghost use Rattle.grib2_message.specs.Fields.{field_count};
+ghost use Rattle.grib_decimal.specs.Range.{first_too_large};
+ghost use Rattle.grib_command.specs.Pending.{WritesTo, WritesToAllBut};
+ghost use Rattle.grib_report.specs.Valuing as values;
+
+use crate::fields::{FieldPrinter, write_fields};
+use crate::points::{ROOM, append_text, append_values};
+use crate::references::{first_reference, ibm_reference, ieee_reference, second_reference};
+use crate::{field_scaling, message_scaling1};
+use grib_base::MOST_POINTS;
+use grib_command::{Answered, Ending, Writer, printed, write_whole};
+use grib_decimal::DecimalScale;
+use grib_dyadic::Dyadic;
+use grib_io::{Sink, Stop};
+use grib_packing::Column;
+use grib_stream::{Cause, Place};
+use grib_text::{list_line, list_line1, reference_line};
+use grib1_sections::Message1;
+use grib2_message::Message;
+use std::alloc::{AllocError, Global};
+
+/// The command `dump` with values of this many places.
+#[derive(Clone, Copy, Debug)]
+pub struct Valuing {
+    pub places: u32,
+    pub ghost places_stand: { places ≤ 18 },
+}
+
+impl Writer for Valuing {
+    ghost use Rattle.std.specs.Prelude.{refl};
+    ghost use Rattle.grib_report.specs.Valuing.{value_command, value_lawful};
+
+    ghost definition = { λ valuing. value_command valuing.places };
+
+    ghost lawful = { λ valuing. value_lawful valuing.places };
+
+    ghost unshelved = { λ valuing. refl };
+
+    fn first<T: Sink>(
+        &self,
+        alloc: Global,
+        place: &Place,
+        message: &Message1<'_>,
+        output: &mut T,
+    ) -> Answered {
+        match first_cause(alloc, message, self.places) {
+            Ok(None) => printed(write_first(alloc, place.message, message, self.places, output)),
+            Ok(Some(cause)) => Answered::Kept(cause),
+            Err(_) => Answered::Memory,
+        }
+    }
+
+    fn second<T: Sink>(
+        &self,
+        alloc: Global,
+        place: &Place,
+        message: &Message<'_>,
+        output: &mut T,
+    ) -> Answered {
+        match second_cause(alloc, message, self.places) {
+            Ok(None) => printed(write_fields(self, alloc, place.message, message, output)),
+            Ok(Some(cause)) => Answered::Kept(cause),
+            Err(_) => Answered::Memory,
+        }
+    }
+
+    fn ending(&self) -> Ending {
+        Ending::Silent
+    }
+}
+
+impl FieldPrinter for Valuing {
+    ghost use Rattle.std.specs.Prelude.{is_none};
+    ghost use Rattle.grib_report.specs.Valuing.{value_text, cause_2};
+
+    ghost text = { λ valuing. value_text valuing.places };
+
+    ghost can_print = { λ valuing message. is_none (cause_2 valuing.places message) };
+
+    fn append<T: Sink>(
+        &self,
+        alloc: Global,
+        number: u64,
+        message: &Message<'_>,
+        field: u32,
+        lines: &mut Vec<u8>,
+        output: &mut T,
+    ) -> Result<(), Stop> {
+        let column = message.column(alloc, field)?;
+        let reference = second_reference(&column);
+        let listed = list_line(alloc, message, number, field)?;
+        append_valued(
+            alloc,
+            listed.as_slice(),
+            &reference,
+            &column,
+            self.places,
+            lines,
+            output,
+        )
+    }
+}
+
+/// The cause by which a message of edition 1 is kept, if one of its values is too large for a text.
+fn first_cause(
+    alloc: Global,
+    message: &Message1<'_>,
+    places: u32,
+) -> Result<Option<Cause>, AllocError>
+    requires { places ≤ 18 }
+    ensures { IfOk result (λ cause. cause ≡ values.cause_1 places message.now) }
+{
+    if fits_first(message, places) {
+        return Ok(None);
+    }
+    let column = message.column1(alloc)?;
+    let reference = first_reference(&column);
+    Ok(range_cause(&column, &reference, places, 1))
+}
+
+/// The cause by which a message of edition 2 is kept: its first value that is too large for a text.
+fn second_cause(
+    alloc: Global,
+    message: &Message<'_>,
+    places: u32,
+) -> Result<Option<Cause>, AllocError>
+    requires { places ≤ 18 }
+    ensures { IfOk result (λ cause. cause ≡ values.cause_2 places message.now) }
+{
+    for index in 0..message.fields() {
+        let cause = field_cause(alloc, message, places, index + 1)?;
+        if cause.is_some() {
+            return Ok(cause);
+        }
+    }
+    Ok(None)
+}
+
+/// The cause by a field, counted from 1.
+fn field_cause(
+    alloc: Global,
+    message: &Message<'_>,
+    places: u32,
+    field: u32,
+) -> Result<Option<Cause>, AllocError>
+    requires places { places ≤ 18 }
+    requires first { 1 ≤ field }
+    requires last { field ≤ field_count message.now }
+    ensures { IfOk result (λ cause. cause ≡ values.field_cause places message.now field) }
+{
+    if fits_field(message, places, field) {
+        return Ok(None);
+    }
+    let column = message.column(alloc, field)?;
+    let reference = second_reference(&column);
+    Ok(range_cause(&column, &reference, places, field))
+}
+
+/// Whether no value of a message of edition 1 can be too large for a text, by its reference value and its scale
+/// factors alone.
+fn fits_first(message: &Message1<'_>, places: u32) -> bool
+    requires { places ≤ 18 }
+    ensures { result ≡ true → values.cause_1 places message.now ≡ None }
+{
+    let scaling = message_scaling1(message);
+    let reference = ibm_reference(scaling.reference);
+    DecimalScale::of(&reference, scaling.e, scaling.d, places).holds_all()
+}
+
+/// Whether no value of a field of edition 2, counted from 1, can be too large for a text, by its reference value
+/// and its scale factors alone.
+fn fits_field(message: &Message<'_>, places: u32, field: u32) -> bool
+    requires places { places ≤ 18 }
+    requires first { 1 ≤ field }
+    requires last { field ≤ field_count message.now }
+    ensures { result ≡ true → values.field_cause places message.now field ≡ None }
+{
+    let scaling = field_scaling(message, field);
+    let reference = ieee_reference(scaling.reference);
+    DecimalScale::of(&reference, scaling.e, scaling.d, places).holds_all()
+}
+
+/// The cause by the points of a field.
+fn range_cause(column: &Column, reference: &Dyadic, places: u32, field: u32) -> Option<Cause>
+    requires few { length column.now.points ≤ MOST_POINTS }
+    requires mantissa { nat_abs reference.now.mantissa < 2 ^ 24 }
+    requires places { places ≤ 18 }
+    ensures { result ≡ values.range_cause places field reference.now column.now }
+{
+    let scale = DecimalScale::of(reference, column.e, column.d, places);
+    let point = scale.first_too_large(column)?;
+    Some(Cause::DecimalRange { field, point })
+}
+
+/// Writes what is printed of the message of edition 1 with this number, whose values all have texts.
+fn write_first<T: Sink>(
+    alloc: Global,
+    number: u64,
+    message: &Message1<'_>,
+    places: u32,
+    output: &mut T,
+) -> Result<(), Stop>
+    requires places { places ≤ 18 }
+    requires fits { values.cause_1 places message.now ≡ None }
+    ensures { WritesTo T.contents T.faults T.settled result output.old output.new
+        (values.value_text_1 places message.now number) }
+{
+    let column = message.column1(alloc)?;
+    let reference = first_reference(&column);
+    let listed = list_line1(alloc, message, number)?;
+    let mut lines = Vec::with_capacity(alloc, ROOM)?;
+    append_valued(
+        alloc,
+        listed.as_slice(),
+        &reference,
+        &column,
+        places,
+        &mut lines,
+        output,
+    )?;
+    write_whole(output, lines.as_slice())
+}
+
+/// Appends the list line of a field, the line on its reference value and its scale factors, and the line of
+/// each of its points with its value to the buffer.
+fn append_valued<T: Sink>(
+    alloc: Global,
+    listed: &[u8],
+    reference: &Dyadic,
+    column: &Column,
+    places: u32,
+    lines: &mut Vec<u8>,
+    output: &mut T,
+) -> Result<(), Stop>
+    requires few { length column.now.points < 2 ^ 32 }
+    requires mantissa { nat_abs reference.now.mantissa < 2 ^ 24 }
+    requires places { places ≤ 18 }
+    requires fits { first_too_large (values.scale_by places reference.now column.now) column.now.points ≡ None }
+    ensures { WritesToAllBut T.contents T.faults T.settled result output.old output.new
+        (lines.old.items ++ values.valued places listed.now reference.now column.now) lines.new.items }
+{
+    let scale = DecimalScale::of(reference, column.e, column.d, places);
+    let numbers = reference_line(alloc, reference, column.e, column.d)?;
+    append_text(lines, listed, output)?;
+    append_text(lines, numbers.as_slice(), output)?;
+    append_values(lines, column.points.as_slice(), &scale, output)
+}
