@@ -255,4 +255,5 @@ def main():
     print(f"{len(records)} records")
 
 
-main()
+if __name__ == "__main__":
+    main()

@@ -346,10 +346,10 @@ key_can : (name value : List ℕ) → takes (entries Set) name value ≡ true �
 key_can name value h =
     ⊎_elim (λ own. inl (both (is_key_to_set name) (is_key_value value) own).0)
     (λ past.
-    ⊎_elim (λ refused. inr (ap key_named (same_text name (codes "refused") (both (is (codes "refused") name) (is (codes "pass") value) refused).0)))
+    ⊎_elim (λ refused. inr (ap key_named (same_text name (codes "refused") (both (is (codes "refused") name) (is (codes "copy") value || is (codes "pass") value) refused).0)))
     (λ kept. inr (ap key_named (same_text name (codes "kept") (both (is (codes "kept") name) (is (codes "copy") value || is (codes "pass") value) (only_first (is (codes "kept") name && (is (codes "copy") value || is (codes "pass") value)) kept)).0)))
-    (either (is (codes "refused") name && is (codes "pass") value) ((is (codes "kept") name && (is (codes "copy") value || is (codes "pass") value)) || false) past))
-    (either (is_key_to_set name && is_key_value value) ((is (codes "refused") name && is (codes "pass") value) || ((is (codes "kept") name && (is (codes "copy") value || is (codes "pass") value)) || false)) h)
+    (either (is (codes "refused") name && (is (codes "copy") value || is (codes "pass") value)) ((is (codes "kept") name && (is (codes "copy") value || is (codes "pass") value)) || false) past))
+    (either (is_key_to_set name && is_key_value value) ((is (codes "refused") name && (is (codes "copy") value || is (codes "pass") value)) || ((is (codes "kept") name && (is (codes "copy") value || is (codes "pass") value)) || false)) h)
 
 keyless_can : (key : Option Key) (value : Option Value) (changes : List Condition) → key ≡ None → All CanBeSet changes
     → All CanBeSet (cons_option (option_and_then (λ key. option_map (condition key) value) key) changes)

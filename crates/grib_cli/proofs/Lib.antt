@@ -1,8 +1,7 @@
 mod Numbers
 mod Parts
 mod Counts
+mod Promised
 mod Asked
-mod Runs
-mod Passing
 pub mod Printed
 mod Helped

@@ -2,4 +2,4 @@ pub mod Words
 pub mod Values
 pub mod Reading
 pub mod HelpLines
-pub mod Running
+pub mod Answers

@@ -75,27 +75,27 @@ box_entries =
     ∷ entry (is (codes "j1")) is_side
     ∷ []
 
--- what a run goes past: octets that are refused, and messages that are kept, which are copied or left out. `dump` prints
--- lines, so nothing is copied between them.
-abbrev pub refused_entry : Entry
-refused_entry = entry (is (codes "refused")) (is (codes "pass"))
+-- What a run does with octets that are refused and with messages that are kept: they are left out, or copied as they are.
+-- Where lines are printed, nothing is copied between them.
+abbrev pub is_instead : List ℕ → Bool
+is_instead value = is (codes "copy") value || is (codes "pass") value
 
-abbrev pub left_out_entry : Entry
-left_out_entry = entry (is (codes "kept")) (is (codes "pass"))
+abbrev pub passed_entry : List ℕ → Entry
+passed_entry name = entry (is name) (is (codes "pass"))
 
-abbrev pub kept_entry : Entry
-kept_entry = entry (is (codes "kept")) (λ value. is (codes "copy") value || is (codes "pass") value)
+abbrev pub copied_entry : List ℕ → Entry
+copied_entry name = entry (is name) is_instead
 
-abbrev pub passing_entries : Command → List Entry
-passing_entries Check = refused_entry ∷ []
-passing_entries the.List = refused_entry ∷ []
-passing_entries Keys = refused_entry ∷ []
-passing_entries Stats = refused_entry ∷ []
-passing_entries Dump = refused_entry ∷ left_out_entry ∷ []
-passing_entries Make = []
-passing_entries Help = []
-passing_entries Version = []
-passing_entries command = refused_entry ∷ kept_entry ∷ []
+abbrev pub policy_entries : Command → List Entry
+policy_entries Check = passed_entry (codes "refused") ∷ []
+policy_entries the.List = passed_entry (codes "refused") ∷ []
+policy_entries Keys = passed_entry (codes "refused") ∷ []
+policy_entries Stats = passed_entry (codes "refused") ∷ []
+policy_entries Dump = passed_entry (codes "refused") ∷ passed_entry (codes "kept") ∷ []
+policy_entries Make = []
+policy_entries Help = []
+policy_entries Version = []
+policy_entries command = copied_entry (codes "refused") ∷ copied_entry (codes "kept") ∷ []
 
 -- whether a name has this value among the entries
 abbrev pub takes : List Entry → List ℕ → List ℕ → Bool
@@ -177,7 +177,8 @@ row_of Migrate =
     (has_name (codes "params"))
 row_of Demote =
     row (codes "demote")
-    (entry (is (codes "params")) is_not_empty ∷ entry (is (codes "local")) (is (codes "keep")) ∷ entry (is (codes "earth")) (is (codes "any")) ∷ [])
+    (entry (is (codes "params")) is_not_empty ∷ entry (is (codes "local")) (is (codes "keep")) ∷ entry (is (codes "earth")) (is (codes "any"))
+    ∷ entry (is (codes "tables")) (is (codes "any")) ∷ [])
     (has_name (codes "params"))
 row_of Rescan = row (codes "rescan") [] nothing
 row_of Crop = row (codes "crop") box_entries has_box
@@ -206,7 +207,7 @@ abbrev pub own_entries : Command → List Entry
 own_entries command = (row_of command).entries
 
 abbrev pub entries : Command → List Entry
-entries command = own_entries command ++ passing_entries command
+entries command = own_entries command ++ policy_entries command
 
 abbrev pub is_complete : Command → List (List ℕ) → Bool
 is_complete command words = (row_of command).is_complete words

@@ -6,6 +6,8 @@ use Rattle.grib_keys.specs.declared.key.Key.{Key}
 use Rattle.grib_keys.specs.declared.condition.Value.{Value}
 use Rattle.grib_keys.specs.declared.condition.Condition.{Condition}
 use Rattle.grib_keys.specs.Keys.{key_named}
+use Rattle.grib_params.specs.declared.matching.TableMatch.{TableMatch}
+use Rattle.grib_params.specs.declared.matching.TableMatch.TheVariants.{Any, Same}
 use Rattle.grib_stream.specs.declared.outcome.Outcome.{Outcome}
 use Rattle.grib_stream.specs.declared.outcome.Outcome.TheVariants as outcomes
 use Rattle.grib_repack.specs.declared.target.RepackTarget.{RepackTarget}
@@ -19,9 +21,11 @@ use Rattle.grib_cli.specs.declared.words.JobFault.TheVariants.{Usage, Memory}
 use Rattle.grib_cli.specs.declared.words.command.Command.{Command}
 use Rattle.grib_cli.specs.declared.words.command.Command.TheVariants as commands
 use Rattle.grib_cli.specs.Values.{is_between, key_value}
-use Rattle.grib_passing.specs.declared.passing.Instead.{Instead}
-use Rattle.grib_passing.specs.declared.passing.Instead.TheVariants.{Copy, Pass}
-use Rattle.grib_passing.specs.declared.passing.Passing.{Passing}
+use Rattle.grib_items.specs.declared.policy.Instead.{Instead}
+use Rattle.grib_items.specs.declared.policy.Instead.TheVariants.{Copy, Pass}
+use Rattle.grib_items.specs.declared.policy.Policy.{Policy}
+use Rattle.grib_run_spec.specs.Tasks as tasks
+use Rattle.grib_run_spec.specs.Tasks.{Work, Makes, ends_at_once}
 use Rattle.grib_cli.specs.Reading.{is, name_in, value_in, value_of, number_of, number_if_given, has_name, has_word, reading}
 
 -- what `to` and `order` ask for
@@ -62,6 +66,10 @@ condition_of word =
 abbrev pub conditions_of : List (List ℕ) → List Condition
 conditions_of words = filter_map condition_of words
 
+-- which tables a record of the parameter table may have
+abbrev pub matching_of : List (List ℕ) → TableMatch
+matching_of words = cond (has_name (codes "tables") words) Any Same
+
 -- the job of a command with these words behind it
 abbrev pub job_of_command : Command → List (List ℕ) → Result Job JobFault
 job_of_command commands.Check words = Ok jobs.Check
@@ -75,7 +83,7 @@ job_of_command commands.Set words = Ok (jobs.Set (conditions_of words))
 job_of_command commands.Repack words = Ok (repack_of words)
 job_of_command commands.Migrate words = Ok (jobs.Migrate (value_of (codes "params") words) (has_name (codes "local") words))
 job_of_command commands.Demote words =
-    Ok (jobs.Demote (value_of (codes "params") words) (has_name (codes "local") words) (has_name (codes "earth") words))
+    Ok (jobs.Demote (value_of (codes "params") words) (has_name (codes "local") words) (has_name (codes "earth") words) (matching_of words))
 job_of_command commands.Rescan words = Ok jobs.Rescan
 job_of_command commands.Crop words = Ok (jobs.Crop (area_of words))
 job_of_command commands.Make words =
@@ -91,28 +99,19 @@ job_of_reading (Err word) words = Err (Usage word)
 abbrev pub job_of : List (List ℕ) → Result Job JobFault
 job_of words = job_of_reading (reading words) (drop 1 words)
 
--- ---- what the run goes past
+-- ---- what the run does with what it cannot answer
 
--- what the words ask to be written instead of a message that is kept, where they ask for it
-abbrev pub instead_of : List (List ℕ) → Option Instead
-instead_of words =
-    cond (has_word (codes "kept=copy") words) (Some Copy) (cond (has_word (codes "kept=pass") words) (Some Pass) None)
+-- what is written instead, by the word that asks for a copy and the one that asks for nothing
+abbrev pub instead_by : List ℕ → List ℕ → List (List ℕ) → Option Instead
+instead_by copied passed words = cond (has_word copied words) (Some Copy) (cond (has_word passed words) (Some Pass) None)
 
-abbrev pub passing_by : Bool → Option Instead → Option Passing
-passing_by false None = None
-passing_by refused kept = Some (record { refused = refused; kept = kept })
+abbrev pub policy_of : List (List ℕ) → Policy
+policy_of words = record {
+  refused = instead_by (codes "refused=copy") (codes "refused=pass") words;
+  kept = instead_by (codes "kept=copy") (codes "kept=pass") words;
+}
 
--- what the words ask the run to go past, none where no word speaks of it
-abbrev pub passing_of : List (List ℕ) → Option Passing
-passing_of words = passing_by (has_word (codes "refused=pass") words) (instead_of words)
-
--- no word asks the run to go past anything
-abbrev pub IsPlain : List (List ℕ) → Type 0
-IsPlain words = passing_of words ≡ None
-
--- what holds of the job of words that ask the run to go past this
-abbrev pub IfPassing : List (List ℕ) → (Job → Passing → Type 0) → Type 0
-IfPassing words P = IfSome (passing_of words) (λ passing. IfOk (job_of words) (λ job. P job passing))
+-- ---- words without a reading
 
 -- a result is this one, unless there is no memory
 abbrev pub IsUnlessMemory : Result Job JobFault → Result Job JobFault → Type 0
@@ -125,3 +124,11 @@ IsAsked result words = IsUnlessMemory result (job_of words)
 abbrev pub outcome_of : JobFault → Outcome
 outcome_of (Usage word) = outcomes.Usage word
 outcome_of Memory = outcomes.Memory
+
+abbrev pub work_by : Result Job JobFault → Work
+work_by (Ok job) = tasks.work_of job
+work_by (Err fault) = Makes (ends_at_once (outcome_of fault))
+
+-- what the words ask for: the work of their job, or to note that they have no reading
+abbrev pub work_of : List (List ℕ) → Work
+work_of words = work_by (job_of words)

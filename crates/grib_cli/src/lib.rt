@@ -1,10 +1,8 @@
 //! The top call of the command `grib`: from the words and the input to the output, the notes and the files.
 #![tactic(auto)]
 
-mod past;
-mod plain;
 mod running;
 mod words;
 
 pub use running::run;
-pub use words::{JobFault, job_of, passing_of};
+pub use words::{JobFault, job_of, policy_of};

@@ -3,7 +3,7 @@
 ghost use Rattle.std.specs.Prelude.{◌≡◌, ◌≤◌, [], length, map, string_bytes, IfOk};
 ghost use Rattle.grib_command.specs.Jobs.{IsJob};
 ghost use Rattle.grib_cli.specs.Reading as grammar;
-ghost use Rattle.grib_cli.specs.Reading.{entries, own_entries, passing_entries, box_entries, size_entries, target_entries, reading};
+ghost use Rattle.grib_cli.specs.Reading.{entries, own_entries, policy_entries, box_entries, size_entries, target_entries, reading};
 ghost use Rattle.grib_cli.specs.declared.words.command.Command.TheVariants.{Crop};
 ghost use Rattle.grib_cli.specs.Words.{IsAsked};
 ghost use Rattle.grib_cli.specs.declared.words.JobFault.TheVariants.{Memory};
@@ -16,12 +16,12 @@ use thiserror::Error;
 mod asking;
 mod command;
 pub mod laws;
-mod past;
+mod policy;
 mod values;
 
 use asking::{job_of_command, number_by};
 pub use command::Command;
-pub use past::passing_of;
+pub use policy::policy_of;
 use values::{is_between, key_value};
 
 /// Why the words ask for no job.
@@ -120,12 +120,12 @@ fn is_named(word: &str, name: &str) -> bool
 fn takes(command: Command, name: &str, value: &str) -> bool
     ensures { result ≡ grammar.takes (entries command) name.now value.now }
 {
-    takes_own(command, name, value) || takes_passing(command, name, value)
+    takes_own(command, name, value) || takes_policy(command, name, value)
 }
 
-/// Whether the names of what a command goes past have a name with this value.
-fn takes_passing(command: Command, name: &str, value: &str) -> bool
-    ensures { result ≡ grammar.takes (passing_entries command) name.now value.now }
+/// Whether the names of what a run does with what it cannot answer have a name with this value.
+fn takes_policy(command: Command, name: &str, value: &str) -> bool
+    ensures { result ≡ grammar.takes (policy_entries command) name.now value.now }
 {
     match command {
         Command::Make | Command::Help | Command::Version => false,
@@ -141,8 +141,7 @@ fn takes_passing(command: Command, name: &str, value: &str) -> bool
         | Command::Demote
         | Command::Rescan
         | Command::Crop => {
-            (name == "refused" && value == "pass")
-                || (name == "kept" && matches!(value, "copy" | "pass"))
+            matches!(name, "refused" | "kept") && matches!(value, "copy" | "pass")
         }
     }
 }
@@ -170,7 +169,7 @@ fn takes_own(command: Command, name: &str, value: &str) -> bool
         Command::Demote => {
             (name == "params" && !value.is_empty())
                 || (name == "local" && value == "keep")
-                || (name == "earth" && value == "any")
+                || (matches!(name, "earth" | "tables") && value == "any")
         }
         Command::Crop => takes_side(name, value),
         Command::Make => takes_size(name, value) || takes_target(name, value),

@@ -1,19 +1,13 @@
 -- The note of a run, by the outcome before the end and by the answer.
-use Rattle.std.proofs.Common.{◌≡◌, ◌≢◌, ◌⊎◌, ℕ, ◌<◌, Bool, ◌&&◌, ◌==◌, true, false, arith, length, List, None, Some, IfSome, refl, sym, ap, ◌∙◌, subst, inl, inr}
+use Rattle.std.proofs.Common.{◌≡◌, ◌≢◌, ◌⊎◌, ℕ, ◌<◌, Bool, ◌&&◌, ◌==◌, true, false, arith, length, List, refl, sym, ap, ◌∙◌, subst, inl, inr}
 use Rattle.std.specs.declared.option.Option.{Option}
 use Rattle.std.specs.Io.KnownBytes.{Appends}
-use Rattle.grib_io.specs.Outside.{AppendsFront, Counted, Unfinished}
+use Rattle.grib_io.specs.Outside.{AppendsFront, Unfinished}
 use Rattle.grib_stream.specs.declared.outcome.Outcome.{Outcome}
 use Rattle.grib_stream.specs.declared.outcome.Outcome.TheVariants.{Done, Passed, Usage, Refused, Kept, TableRefused, ReadFault, WriteFault, ShelfFault, Memory, InputTooLong}
-use Rattle.grib_stream.specs.Acts.{World}
-use Rattle.grib_stream.specs.Outcomes.{KeepsOrCuts, is_broken, is_cut_short}
-use Rattle.grib_stream.specs.Answer.{Answer, NotesOutcome, answer_within}
-use Rattle.grib_stream.specs.Run.{Gives, Runs, Notes}
-use Rattle.grib_stream.proofs.Notes.{notes_within}
+use Rattle.grib_stream.specs.Outcomes.{KeepsOrCuts, is_cut_short}
 use Rattle.grib_command.specs.Closing.{ClosesRun, EndsInTurn, EndsRun, EndsNoted, StandsWhole}
-use Rattle.grib_command.specs.Outcomes.{note_of, note_with, NotesFront, NotesEnd, Noted, NotesRun}
-use Rattle.grib_command.specs.Command.{Command, task}
-use Rattle.grib_command.proofs.Outside.{front_of_nothing}
+use Rattle.grib_command.specs.Outcomes.{note_of, note_with}
 
 -- the end of a run answers the outcome, or a fault of writing, or Memory
 abbrev pub OneOf : Outcome → Outcome → Type 0
@@ -167,68 +161,3 @@ unfinished_then faults settled Memory before mid now first calm kept later rose 
     then_unfinished (faults before) (faults mid) (faults now) (settled before) (settled mid) (settled now) first (calm (λ e. cc)) later rose
 unfinished_then faults settled InputTooLong before mid now first calm kept later rose =
     then_unfinished (faults before) (faults mid) (faults now) (settled before) (settled mid) (settled now) first (calm (λ e. cc)) later rose
-
--- ---- the whole note
-
-whole_other : (a b : Option (List ℕ)) (left : Option (List ℕ)) (limit : ℕ) (job : Command) (outcome : Outcome) (done : List ℕ) → outcome ≢ Done
-    → Appends a b (note_with done outcome) → NotesEnd (task job) limit left outcome a b
-whole_other a b left limit job Done done other appended = absurd (other refl)
-whole_other a b left limit job (Passed refused kept) done other appended = appended
-whole_other a b left limit job (Usage word) done other appended = appended
-whole_other a b left limit job (Refused refusal) done other appended = appended
-whole_other a b left limit job (Kept kept) done other appended = appended
-whole_other a b left limit job (TableRefused refusal) done other appended = appended
-whole_other a b left limit job ReadFault done other appended = appended
-whole_other a b left limit job WriteFault done other appended = appended
-whole_other a b left limit job ShelfFault done other appended = appended
-whole_other a b left limit job Memory done other appended = appended
-whole_other a b left limit job InputTooLong done other appended = appended
-
--- where it ended before
-pub whole_ended : (a b : Option (List ℕ)) (left : Option (List ℕ)) (limit : ℕ) (job : Command) (outcome result : Outcome) (done : List ℕ) → outcome ≢ Done
-    → OneOf outcome result → (is_cut_short result ≡ false → Appends a b (note_with done result)) → is_cut_short result ≡ false
-    → NotesEnd (task job) limit left result a b
-whole_ended a b left limit job outcome result done other (inl same) appended uncut =
-    whole_other a b left limit job result done (λ is. other (sym same ∙ is)) (appended uncut)
-whole_ended a b left limit job outcome result done other (inr (inl fault)) appended uncut = let no : ⊥ = cc (ap is_cut_short fault) in absurd no
-whole_ended a b left limit job outcome result done other (inr (inr memory)) appended uncut = let no : ⊥ = cc (ap is_cut_short memory) in absurd no
-
--- ---- a front of a note
-
-own_note : (a b : Option (List ℕ)) (job : Command) (answer : Answer) (outcome : Outcome) → NotesOutcome (task job) answer → outcome ≢ Done → outcome ≡ answer.outcome
-    → AppendsFront a b (note_of outcome) → AppendsFront a b answer.note
-own_note a b job answer outcome notes other same own =
-    subst (AppendsFront a b) (ap note_of same ∙ sym (notes (λ is. other (same ∙ is)))) own
-
-front_other : (a b : Option (List ℕ)) (job : Command) (answer : Answer) (outcome : Outcome) (done : List ℕ) (faults faults_now shelf shelf_now : ℕ)
-    → NotesOutcome (task job) answer → outcome ≢ Done → (is_broken outcome ≡ false → outcome ≡ answer.outcome)
-    → (outcome ≡ ReadFault → Counted faults faults_now) → (outcome ≡ ShelfFault → Counted shelf shelf_now)
-    → NotesFront a b done outcome → Noted a b answer.note faults faults_now shelf shelf_now
-front_other a b job answer outcome done f f_now s s_now notes other same read shelf (inr memory) = record { front = inr (inr (inr memory)) }
-front_other a b job answer Done done f f_now s s_now notes other same read shelf (inl own) = absurd (other refl)
-front_other a b job answer (Passed refused kept) done f f_now s s_now notes other same read shelf (inl own) = record { front = inl (own_note a b job answer (Passed refused kept) notes other (same refl) own) }
-front_other a b job answer (Usage word) done f f_now s s_now notes other same read shelf (inl own) = record { front = inl (own_note a b job answer (Usage word) notes other (same refl) own) }
-front_other a b job answer (Refused refusal) done f f_now s s_now notes other same read shelf (inl own) = record { front = inl (own_note a b job answer (Refused refusal) notes other (same refl) own) }
-front_other a b job answer (Kept kept) done f f_now s s_now notes other same read shelf (inl own) = record { front = inl (own_note a b job answer (Kept kept) notes other (same refl) own) }
-front_other a b job answer (TableRefused refusal) done f f_now s s_now notes other same read shelf (inl own) = record { front = inl (own_note a b job answer (TableRefused refusal) notes other (same refl) own) }
-front_other a b job answer InputTooLong done f f_now s s_now notes other same read shelf (inl own) = record { front = inl (own_note a b job answer InputTooLong notes other (same refl) own) }
-front_other a b job answer ReadFault done f f_now s s_now notes other same read shelf (inl own) = record { front = inr (inl (own, (read refl).1)) }
-front_other a b job answer ShelfFault done f f_now s s_now notes other same read shelf (inl own) = record { front = inr (inr (inl (own, (shelf refl).1))) }
-front_other a b job answer Memory done f f_now s s_now notes other same read shelf (inl own) = record { front = inr (inr (inr own)) }
-front_other a b job answer WriteFault done f f_now s s_now notes other same read shelf (inl own) = record { front = inl (front_of_nothing a b answer.note own) }
-
-front_told : (job : Command) (limit : ℕ) (outcome : Outcome) (left a b : Option (List ℕ)) (done : List ℕ) (before now : World) (faults faults_now shelf shelf_now : ℕ)
-    → IfSome left (λ input. Gives (answer_within limit (task job) input) outcome before now) → outcome ≢ Done
-    → (outcome ≡ ReadFault → Counted faults faults_now) → (outcome ≡ ShelfFault → Counted shelf shelf_now)
-    → NotesFront a b done outcome → NotesRun (task job) limit left faults faults_now shelf shelf_now a b
-front_told job limit outcome None a b done before now f f_now s s_now gives other read shelf noted = tt
-front_told job limit outcome (Some input) a b done before now f f_now s s_now gives other read shelf noted =
-    front_other a b job (answer_within limit (task job) input) outcome done f f_now s s_now (notes_within (task job) limit input) other gives.ends read shelf noted
-
--- where it ended before
-pub front_ended : (a b left left_now : Option (List ℕ)) (limit : ℕ) (job : Command) (outcome : Outcome) (done : List ℕ) (before now : World) (faults faults_now shelf shelf_now : ℕ)
-    → Runs (task job) limit outcome left left_now before now → outcome ≢ Done
-    → (outcome ≡ ReadFault → Counted faults faults_now) → (outcome ≡ ShelfFault → Counted shelf shelf_now)
-    → NotesFront a b done outcome → NotesRun (task job) limit left faults faults_now shelf shelf_now a b
-front_ended a b left left_now limit job outcome done before now f f_now s s_now runs other read shelf noted =
-    front_told job limit outcome left a b done before now f f_now s s_now runs.gives other read shelf noted

@@ -1,5 +1,5 @@
 -- Texts of fields one after another, and refusals that are passed on.
-use Rattle.std.proofs.Common.{◌≡◌, ℕ, ◌+◌, ◌-◌, zero, suc, refl, Ok, Err, IfOk, IfErr, OnOk, List, [], ◌++◌, ap, sym, ◌∙◌, arith, append_assoc, append-nil, subst}
+use Rattle.std.proofs.Common.{◌≡◌, ℕ, ◌+◌, zero, suc, refl, Ok, Err, IfOk, IfErr, OnOk, List, [], ◌++◌, ap, sym, ◌∙◌, arith, append_assoc, append-nil, subst}
 use Rattle.std.specs.declared.result.Result.{Result}
 use Rattle.std.specs.Result.{IsErr, IsErrAnd}
 use Rattle.grib_io.specs.declared.outside.Stop.{Stop}

@@ -29,6 +29,8 @@ pub record Command : Type 0 where
   pub ending : Ending
   -- whether what is made is put on the shelf, and nothing of it is written to the output
   pub uses_shelf : Bool
+  -- whether it answers messages of edition 2 by what was heard of them, so that they need not be held whole
+  pub hears : Bool
 
 -- what a message gives, by its edition
 abbrev pub given : Command → Place → List ℕ → Given
@@ -90,6 +92,7 @@ printing first second ending = record {
   second = λ place message. given_text (second place message);
   ending = ending;
   uses_shelf = false;
+  hears = false;
 }
 
 -- a text is printed of a message of edition 1 with its number, and one of each field of a message of edition 2
@@ -105,6 +108,7 @@ changing second = record {
   second = second;
   ending = Written;
   uses_shelf = false;
+  hears = false;
 }
 
 -- these octets are written in its place, or it is kept by the cause

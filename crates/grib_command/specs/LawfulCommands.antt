@@ -1,5 +1,5 @@
 -- Commands of one kind are lawful.
-use Rattle.std.proofs.Common.{◌≡◌, ℕ, ◌*◌, ◌≤◌, true, Option, Some, None, option_map, List, length, refl, sym, ap, arith}
+use Rattle.std.proofs.Common.{◌≡◌, ℕ, ◌*◌, ◌≤◌, Bool, true, Option, Some, None, option_map, List, length, refl, sym, ap, arith}
 use Rattle.grib_base.specs.declared.limits.TheConstants.{MOST_OCTETS}
 use Rattle.grib2_message.specs.Message.{IsMessage}
 use Rattle.grib2_message.proofs.Parted.{message_least}
@@ -10,7 +10,7 @@ use Rattle.grib_reasons.specs.declared.cause.Cause.TheVariants.{EditionOne}
 use Rattle.grib_stream.specs.Acts.{Act}
 use Rattle.grib_stream.specs.Outcomes.{is_of_message}
 use Rattle.grib_stream.specs.Task.{Given, Gives, Ends}
-use Rattle.grib_command.specs.Command.{IsLawfulCommand, given_text, given_unless, kept_at, kept_first, printing, printing_fields, changing, changing_unless}
+use Rattle.grib_command.specs.Command.{Command, IsLawfulCommand, given_text, given_unless, kept_at, kept_first, printing, printing_fields, changing, changing_unless}
 use Rattle.grib_command.specs.declared.ending.Ending.{Ending}
 
 -- nothing of a text is counted
@@ -41,6 +41,10 @@ printing_lawful first second ending = record {
 
 pub fields_lawful : (first : List ℕ → ℕ → List ℕ) (text : List ℕ → ℕ → ℕ → List ℕ) → IsLawfulCommand (printing_fields first text)
 fields_lawful first text = printing_lawful _ _ _
+
+-- what is heard makes no difference
+pub heard_lawful : (command : Command) (hears : Bool) → IsLawfulCommand command → IsLawfulCommand (record command { hears = hears })
+heard_lawful command hears law = record { few_first = law.few_first; few_second = law.few_second; ends_first = law.ends_first; ends_second = law.ends_second }
 
 pub changing_lawful : (second : Place → List ℕ → Given)
     → ((place : Place) (message : List ℕ) (acts : List Act) (written : ℕ) → IsMessage message → second place message ≡ Gives acts written → 20 * written ≤ MOST_OCTETS * length message)

@@ -1,5 +1,6 @@
 pub mod Jobs
 pub mod Notes
+pub mod Texts
 pub mod Outcomes
 pub mod Judging
 pub mod Endings

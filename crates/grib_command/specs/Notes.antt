@@ -1,7 +1,9 @@
 -- The lines that are noted of what was changed, kept or made, each with its newline (10).
 use Rattle.std.specs.Prelude.{ℕ, Option, Some, None, List, [], ◌∷◌, ◌++◌, codes}
 use Rattle.std.specs.Fmt.{decimal}
+use Rattle.grib_base.specs.declared.fault.Fault.{Fault}
 use Rattle.grib_keys.specs.Keys.{name_of}
+use Rattle.grib_text.specs.Notes.{refusal_text}
 use Rattle.grib_stream.specs.declared.place.Totals.{Totals}
 use Rattle.grib_reasons.specs.declared.cause.Cause.{Cause}
 use Rattle.grib_reasons.specs.declared.cause.Cause.TheVariants.{EditionOne, SecondaryMissing, OutOfRange, DifferenceRange, OutputTooLong, KeyRange, KeyAbsent, Lost, GridKind, ScanMode, OutsideBox, Increments, DecimalRange, Demoted}
@@ -60,6 +62,11 @@ kept_note m cause = kept_text (codes "kept message " ++ decimal m) cause
 -- message m is kept, and the run goes on behind it: how many octets of the input stand before it
 abbrev pub kept_line : ℕ → ℕ → Cause → List ℕ
 kept_line m before cause = kept_text (codes "kept message " ++ decimal m ++ codes " at " ++ decimal before) cause
+
+-- octets are refused, and copied, and the run goes on behind them: the number that a message there would have, and how
+-- many octets of the input stand before them
+abbrev pub copied_line : ℕ → ℕ → Fault → List ℕ
+copied_line m before fault = refusal_text (codes "copied message " ++ decimal m ++ codes " at " ++ decimal before) fault
 
 -- an input was read to its end, with this many refusals passed and this many messages kept
 abbrev pub passed_note : ℕ → ℕ → List ℕ

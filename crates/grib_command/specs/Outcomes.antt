@@ -1,15 +1,11 @@
 -- What is noted of the outcomes of a run.
 use Rattle.std.specs.Prelude.{ℕ, ◌⊎◌, List, [], ◌∷◌, ◌++◌, codes}
 use Rattle.std.specs.Fmt.{decimal}
-use Rattle.std.specs.Prelude.{IfSome}
-use Rattle.std.specs.Io.KnownBytes.{Appends}
 use Rattle.std.specs.declared.option.Option.{Option}
-use Rattle.grib_io.specs.Outside.{AppendsFront, Rose}
+use Rattle.grib_io.specs.Outside.{AppendsFront}
 use Rattle.grib_text.specs.Notes.{refusal_note}
 use Rattle.grib_stream.specs.declared.outcome.Outcome.{Outcome}
 use Rattle.grib_stream.specs.declared.outcome.Outcome.TheVariants.{Done, Passed, Usage, Refused, Kept, TableRefused, ReadFault, WriteFault, ShelfFault, Memory, InputTooLong}
-use Rattle.grib_stream.specs.Task.{Task}
-use Rattle.grib_stream.specs.Answer.{answer_within}
 use Rattle.grib_command.specs.Notes.{kept_note, table_note, passed_note}
 
 -- the line that is noted, with its newline; what is noted of an input that was read to its end is another's to say
@@ -34,19 +30,3 @@ note_with done outcome = note_of outcome
 -- A front of the note of this outcome was appended, or of the note on memory, which ran out at the end.
 abbrev pub NotesFront : Option (List ℕ) → Option (List ℕ) → List ℕ → Outcome → Type 0
 NotesFront before now done outcome = AppendsFront before now (note_with done outcome) ⊎ AppendsFront before now (note_of Memory)
-
--- The whole note was appended: that of the answer where the input was read to its end, else that of the outcome.
-abbrev pub NotesEnd : Task → ℕ → Option (List ℕ) → Outcome → Option (List ℕ) → Option (List ℕ) → Type 0
-NotesEnd task limit left Done before now = IfSome left (λ input. Appends before now (answer_within limit task input).note)
-NotesEnd task limit left outcome before now = Appends before now (note_of outcome)
-
--- A front of the note of the answer was appended, or of the note of a read fault, where the input failed, of
--- a fault of the shelf, where that failed, or on memory.
-pub record Noted (before now : Option (List ℕ)) (note : List ℕ) (faults faults_now shelf shelf_now : ℕ) : Type 0 where
-  pub front : AppendsFront before now note
-      ⊎ ((AppendsFront before now (note_of ReadFault) × Rose faults faults_now)
-      ⊎ ((AppendsFront before now (note_of ShelfFault) × Rose shelf shelf_now) ⊎ AppendsFront before now (note_of Memory)))
-
-abbrev pub NotesRun : Task → ℕ → Option (List ℕ) → ℕ → ℕ → ℕ → ℕ → Option (List ℕ) → Option (List ℕ) → Type 0
-NotesRun task limit left faults faults_now shelf shelf_now before now =
-    IfSome left (λ input. Noted before now (answer_within limit task input).note faults faults_now shelf shelf_now)

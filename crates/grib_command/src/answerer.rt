@@ -1,6 +1,9 @@
 //! What answers the messages of an input as a command says.
 
-ghost use Rattle.std.specs.Prelude.{◌≡◌, ◌≤◌, ◌^◌, false};
+ghost use Rattle.std.specs.Prelude.{◌≡◌, ℕ, ◌≤◌, ◌^◌, true, false, List, length};
+ghost use Rattle.grib2_sections.specs.Verdict.{Accepted};
+ghost use Rattle.grib2_message.specs.Acceptance.{verdict_2};
+ghost use Rattle.grib2_arrival.specs.Heard.{Heard};
 ghost use Rattle.grib_command.specs.Answering.{AnswersMessage, AnswersByOutput};
 ghost use Rattle.grib_command.specs.Command.{Command, IsLawfulCommand};
 
@@ -9,6 +12,7 @@ use crate::ending::Ending;
 use grib_io::{Shelf, Sink};
 use grib_stream::Place;
 use grib1_sections::Message1;
+use grib2_arrival::Arrival;
 use grib2_message::Message;
 use std::alloc::Global;
 
@@ -46,6 +50,26 @@ pub trait Answerer {
             result place.now.message ((definition self.now).second place.now message.now)
             (definition self.now).uses_shelf output.old output.new shelf.old shelf.new };
 
+    /// Whether messages of edition 2 are answered by what was heard of them.
+    fn hears(&self) -> bool
+        ensures { result ≡ (definition self.now).hears };
+
+    /// Answers a message of edition 2 at this place, which was heard whole, by the output alone. Of a command that hears
+    /// none nothing is said.
+    fn heard<T: Sink>(
+        &self,
+        alloc: Global,
+        place: &Place,
+        arrival: &Arrival,
+        output: &mut T,
+    ) -> Answered
+        requires whole { (octets : List ℕ) × Heard arrival.now octets
+            × (verdict_2 octets ≡ Accepted (length octets)) }
+        ensures { (definition self.now).hears ≡ true
+            → (octets : List ℕ) → Heard arrival.now octets → verdict_2 octets ≡ Accepted (length octets)
+            → AnswersByOutput T.contents T.faults T.settled result place.now.message
+            ((definition self.now).second place.now octets) output.old output.new };
+
     /// What is printed and noted at the end of the input.
     fn ending(&self) -> Ending
         ensures { result ≡ (definition self.now).ending };
@@ -79,6 +103,26 @@ pub trait Writer {
     ) -> Answered
         ensures { AnswersByOutput T.contents T.faults T.settled result place.now.message
             ((definition self.now).second place.now message.now) output.old output.new };
+
+    /// Whether messages of edition 2 are answered by what was heard of them.
+    fn hears(&self) -> bool
+        ensures { result ≡ (definition self.now).hears };
+
+    /// Answers a message of edition 2 at this place, which was heard whole, by the output alone. Of a command that hears
+    /// none nothing is said.
+    fn heard<T: Sink>(
+        &self,
+        alloc: Global,
+        place: &Place,
+        arrival: &Arrival,
+        output: &mut T,
+    ) -> Answered
+        requires whole { (octets : List ℕ) × Heard arrival.now octets
+            × (verdict_2 octets ≡ Accepted (length octets)) }
+        ensures { (definition self.now).hears ≡ true
+            → (octets : List ℕ) → Heard arrival.now octets → verdict_2 octets ≡ Accepted (length octets)
+            → AnswersByOutput T.contents T.faults T.settled result place.now.message
+            ((definition self.now).second place.now octets) output.old output.new };
 
     /// What is printed and noted at the end of the input.
     fn ending(&self) -> Ending
@@ -118,6 +162,20 @@ impl<W: Writer> Answerer for ByOutput<W> {
         _shelf: &mut H,
     ) -> Answered {
         self.0.second(alloc, place, message, output)
+    }
+
+    fn hears(&self) -> bool {
+        self.0.hears()
+    }
+
+    fn heard<T: Sink>(
+        &self,
+        alloc: Global,
+        place: &Place,
+        arrival: &Arrival,
+        output: &mut T,
+    ) -> Answered {
+        self.0.heard(alloc, place, arrival, output)
     }
 
     fn ending(&self) -> Ending {

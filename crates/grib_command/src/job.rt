@@ -3,6 +3,7 @@
 use crate::name::Name;
 use crate::page::Page;
 use grib_base::List;
+use grib_params::TableMatch;
 use grib_repack::RepackTarget;
 use grib_rescan::Area;
 use grib_select::Condition;
@@ -57,6 +58,8 @@ pub enum Job {
         keep_local: bool,
         /// Whether the shape of the earth is not told where edition 1 has no place for it.
         any_earth: bool,
+        /// Whether a record of the table needs to have the versions of the message's own tables.
+        matching: TableMatch,
     },
     /// A message of `nj` rows of `ni` points, made from the number `seed`, with its field packed anew. No
     /// input is read.

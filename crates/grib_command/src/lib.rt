@@ -5,7 +5,6 @@ mod answered;
 mod answerer;
 mod ending;
 mod job;
-mod listener;
 mod name;
 mod notes;
 mod page;
@@ -15,8 +14,9 @@ pub use answered::{Answered, printed, written};
 pub use answerer::{Answerer, ByOutput, Writer};
 pub use ending::Ending;
 pub use job::{Conditions, Job};
-pub use listener::Listener;
 pub use name::Name;
-pub use notes::{kept_line, kept_note, made_note, passed_note, table_note, usage_note};
+pub use notes::{
+    copied_line, kept_line, kept_note, made_note, passed_note, table_note, usage_note,
+};
 pub use page::Page;
 pub use writing::{write_counted, write_whole};

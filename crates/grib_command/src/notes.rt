@@ -6,6 +6,7 @@ ghost use Rattle.grib_command.specs.Notes as notes;
 ghost use Rattle.grib_command.specs.Outcomes.{note_of};
 ghost use Rattle.grib_stream.specs.declared.outcome.Outcome.TheVariants.{Usage};
 
+use grib_base::Fault;
 use grib_reasons::{Cause, Demotion, Kept, Loss, TableRefusal};
 use grib_stream::Totals;
 use std::alloc::{AllocError, Global};
@@ -45,6 +46,25 @@ pub fn kept_line(alloc: Global, kept: &Kept, before: u64) -> Result<Vec<u8>, All
     let head = format!(in alloc; "kept message {message} at {before}")?;
     let text = kept_text(alloc, head.as_str(), &kept.cause)?;
     Ok(text.into_bytes())
+}
+
+/// The line on octets that are refused and copied, at the place where a message of this number would begin behind
+/// this many octets of the input.
+pub fn copied_line(
+    alloc: Global,
+    message: u64,
+    before: u64,
+    fault: &Fault,
+) -> Result<Vec<u8>, AllocError>
+    ensures { IfOk result (λ line. line.items ≡ notes.copied_line message before fault.now) }
+{
+    let octet = fault.octet;
+    let reason = fault.reason;
+    let detail = fault.detail;
+    let line = format!(in alloc;
+        "copied message {message} at {before} octet {octet} {reason} {detail}\n"
+    )?;
+    Ok(line.into_bytes())
 }
 
 /// What is kept, and by what.

@@ -3,6 +3,7 @@ use Rattle.std.proofs.Common.{◌≡◌, ℕ, ◌+◌, ◌<◌, ◌≤◌, ◌==
 use Rattle.std.specs.Prelude.{Result, Ok, Err, MatchResult, IfOk, option_map, unwrap_or}
 use Rattle.std.specs.Result.{IsErrAnd}
 use Rattle.grib_base.specs.Rows.{choose}
+use Rattle.grib_params.specs.declared.matching.TableMatch.{TableMatch}
 use Rattle.grib_params.specs.Table.{Entries}
 use Rattle.grib_params.specs.Pairs.{Pair}
 use Rattle.grib_migrate.specs.Dates.{is_civil}
@@ -83,11 +84,11 @@ told_by pair number unit = record {
   unit = unwrap_or unit 0;
 }
 
-pub told_is : (table : Entries) (discipline : ℕ) (s1 s4 : List ℕ) (version parameter : ℕ) (number : Level) (unit : ℕ) → pair_in table discipline s1 s4 ≡ Some (version, parameter)
+pub told_is : (table : Entries) (matching : TableMatch) (discipline : ℕ) (s1 s4 : List ℕ) (version parameter : ℕ) (number : Level) (unit : ℕ) → pair_in table matching discipline s1 s4 ≡ Some (version, parameter)
     → level_of s4 ≡ Some number → option_map (λ row. row.old) (unit_of s4) ≡ Some unit
-    → record { version = version; parameter = parameter; level = number; unit = unit } ≡ told_in table discipline s1 s4
+    → record { version = version; parameter = parameter; level = number; unit = unit } ≡ told_in table matching discipline s1 s4
 unfolding told_by
-told_is table discipline s1 s4 version parameter number unit pair_is level_is unit_is =
+told_is table matching discipline s1 s4 version parameter number unit pair_is level_is unit_is =
     sym (
     ap (λ o. told_by o (level_of s4) (option_map (λ row. row.old) (unit_of s4))) pair_is
     ∙ ap (λ o. told_by (Some (version, parameter)) o (option_map (λ row. row.old) (unit_of s4))) level_is
@@ -108,9 +109,9 @@ ranged true true end e is = refl
 ranged true false end e is = cc e
 ranged false range end e is = cc is
 
-pub demoted_holds : (table : Entries) (field : Field) (found : ℕ × ℕ × Level) (unit : ℕ) → Holds field.identification.now field.grid.now field.product.now field.packing.now
-    → IsParameter table field found → AreTimes field.identification.now field.product.now unit → IsDemoted field
-demoted_holds table field found unit holds parameter times =
+pub demoted_holds : (table : Entries) (matching : TableMatch) (field : Field) (found : ℕ × ℕ × Level) (unit : ℕ) → Holds field.identification.now field.grid.now field.product.now field.packing.now
+    → IsParameter table matching field found → AreTimes field.identification.now field.product.now unit → IsDemoted field
+demoted_holds table matching field found unit holds parameter times =
     let s1 = field.identification.now in
     let s4 = field.product.now in
     let centres = both_true (nat_lt (centre s1) 256) (nat_lt (sub_centre s1) 256) parameter.centre_fits in

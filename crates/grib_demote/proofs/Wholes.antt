@@ -7,6 +7,7 @@ use Rattle.grib2_products.specs.Spelled.{coordinate_list}
 use Rattle.grib_packing.specs.Misfits.{ToSimple}
 use Rattle.grib_packing.specs.declared.written.Packed.{Packed}
 use Rattle.grib2_message.specs.Fields.{part_octets}
+use Rattle.grib_params.specs.declared.matching.TableMatch.{TableMatch}
 use Rattle.grib_params.specs.Table.{Entries}
 use Rattle.grib_repack.specs.Repacked.{packed_field}
 use Rattle.grib_reasons.specs.declared.demotion.Demotion.{Demotion}
@@ -30,24 +31,24 @@ module _ (xs ys zs : List (Option Demotion)) (later : Unit {0} → Option Demoti
   pub none_lost : first_of xs ≡ None → first_of ys ≡ None → first_of zs ≡ None → or_later (first_of (xs ++ (ys ++ zs))) later ≡ later tt
   none_lost none nor neither = ap (λ o. or_later o later) (later_lost xs (ys ++ zs) none ∙ later_lost ys zs nor ∙ neither)
 
-pub product_is : (table : Entries) (d e : ℕ) (s1 t1 s3 t3 s4 t4 : List ℕ) → d ≡ e → s1 ≡ t1 → s3 ≡ t3 → s4 ≡ t4
-    → first_of (product_losses table d s1 s3 s4) ≡ first_of (product_losses table e t1 t3 t4)
-product_is table d e s1 t1 s3 t3 s4 t4 ed e1 e3 e4 =
-    ap (λ x. first_of (product_losses table x s1 s3 s4)) ed ∙ ap (λ x. first_of (product_losses table e x s3 s4)) e1
-    ∙ ap (λ x. first_of (product_losses table e t1 x s4)) e3 ∙ ap (λ x. first_of (product_losses table e t1 t3 x)) e4
+pub product_is : (table : Entries) (matching : TableMatch) (d e : ℕ) (s1 t1 s3 t3 s4 t4 : List ℕ) → d ≡ e → s1 ≡ t1 → s3 ≡ t3 → s4 ≡ t4
+    → first_of (product_losses table matching d s1 s3 s4) ≡ first_of (product_losses table matching e t1 t3 t4)
+product_is table matching d e s1 t1 s3 t3 s4 t4 ed e1 e3 e4 =
+    ap (λ x. first_of (product_losses table matching x s1 s3 s4)) ed ∙ ap (λ x. first_of (product_losses table matching e x s3 s4)) e1
+    ∙ ap (λ x. first_of (product_losses table matching e t1 x s4)) e3 ∙ ap (λ x. first_of (product_losses table matching e t1 t3 x)) e4
 
-pub sections_are : (table : Entries) (keep : Bool) (m : List ℕ) (i : ℕ) (told : Told) (d : ℕ) (s1 s2 s4 s5 grid : List ℕ) (p : Packed) (points : ℕ)
-    → d ≡ discipline m → s1 ≡ part_octets m i 1 → s2 ≡ part_octets m i 2 → s4 ≡ part_octets m i 4 → s5 ≡ part_octets m i 5 → told ≡ told_in table d s1 s4
+pub sections_are : (table : Entries) (matching : TableMatch) (keep : Bool) (m : List ℕ) (i : ℕ) (told : Told) (d : ℕ) (s1 s2 s4 s5 grid : List ℕ) (p : Packed) (points : ℕ)
+    → d ≡ discipline m → s1 ≡ part_octets m i 1 → s2 ≡ part_octets m i 2 → s4 ≡ part_octets m i 4 → s5 ≡ part_octets m i 5 → told ≡ told_in table matching d s1 s4
     → grid ≡ grid_octets (coordinate_list (part_octets m i 4)) (part_octets m i 3) → p ≡ packed_field ToSimple m i → points ≡ grid_points (part_octets m i 3)
-    → all_sections told keep s1 s2 s4 s5 grid p points ≡ demoted_sections table keep m i
-sections_are table keep m i told d s1 s2 s4 s5 grid p points ed e1 e2 e4 e5 et eg ep en =
+    → all_sections told keep s1 s2 s4 s5 grid p points ≡ demoted_sections table matching keep m i
+sections_are table matching keep m i told d s1 s2 s4 s5 grid p points ed e1 e2 e4 e5 et eg ep en =
     let t1 = part_octets m i 1 in
     let t2 = part_octets m i 2 in
     let t4 = part_octets m i 4 in
     let t5 = part_octets m i 5 in
-    let new = told_in table (discipline m) t1 t4 in
+    let new = told_in table matching (discipline m) t1 t4 in
     let told_same : told ≡ new =
-    et ∙ ap (λ x. told_in table x s1 s4) ed ∙ ap (λ x. told_in table (discipline m) x s4) e1 ∙ ap (λ x. told_in table (discipline m) t1 x) e4 in
+    et ∙ ap (λ x. told_in table matching x s1 s4) ed ∙ ap (λ x. told_in table matching (discipline m) x s4) e1 ∙ ap (λ x. told_in table matching (discipline m) t1 x) e4 in
     let octets = grid_octets (coordinate_list t4) (part_octets m i 3) in
     ap (λ x. all_sections x keep s1 s2 s4 s5 grid p points) told_same ∙ ap (λ x. all_sections new keep x s2 s4 s5 grid p points) e1
     ∙ ap (λ x. all_sections new keep t1 x s4 s5 grid p points) e2 ∙ ap (λ x. all_sections new keep t1 t2 x s5 grid p points) e4

@@ -3,6 +3,7 @@ use Rattle.std.specs.Prelude.{ℕ, ◌+◌, Bool, cond, Option, Some, None, List
 use Rattle.grib_bits.specs.Encoding.{octets_of, all_octets, section1_of}
 use Rattle.grib_bits.specs.Listed.{numbers_octets}
 use Rattle.grib2_sections.specs.Head.{indicator, end_mark, discipline}
+use Rattle.grib_params.specs.declared.matching.TableMatch.{TableMatch}
 use Rattle.grib_params.specs.Table.{Entries}
 use Rattle.grib2_grids.specs.Grid.{grid_template, grid_points, row_list}
 use Rattle.grib2_products.specs.Spelled.{coordinate_list}
@@ -22,10 +23,10 @@ use Rattle.grib_demote.specs.Values.{has_bitmap, bitmap_section, data_section}
 use Rattle.grib_demote.specs.Losses.{first_of, lost_where, field_losses}
 
 -- what Section 1 has of a product; 0 where there is a loss
-abbrev pub told_in : Entries → ℕ → List ℕ → List ℕ → Told
-told_in table discipline s1 s4 = record {
-  version = (unwrap_or (pair_in table discipline s1 s4) (0, 0)).0;
-  parameter = (unwrap_or (pair_in table discipline s1 s4) (0, 0)).1;
+abbrev pub told_in : Entries → TableMatch → ℕ → List ℕ → List ℕ → Told
+told_in table matching discipline s1 s4 = record {
+  version = (unwrap_or (pair_in table matching discipline s1 s4) (0, 0)).0;
+  parameter = (unwrap_or (pair_in table matching discipline s1 s4) (0, 0)).1;
   level = unwrap_or (level_of s4) (level 0 0);
   unit = unwrap_or (option_map (λ r. r.old) (unit_of s4)) 0;
 }
@@ -53,15 +54,15 @@ all_sections told keep_local s1 s2 s4 s5 grid values points =
     ++ (section1_of grid ++ (bitmap_section values points ++ data_section s5 values))
 
 -- those of field i
-abbrev pub demoted_sections : Entries → Bool → List ℕ → ℕ → List ℕ
-demoted_sections table keep_local message i =
+abbrev pub demoted_sections : Entries → TableMatch → Bool → List ℕ → ℕ → List ℕ
+demoted_sections table matching keep_local message i =
     let part = λ (k : ℕ). part_octets message i k in
-    all_sections (told_in table (discipline message) (part 1) (part 4)) keep_local (part 1) (part 2) (part 4) (part 5)
+    all_sections (told_in table matching (discipline message) (part 1) (part 4)) keep_local (part 1) (part 2) (part 4) (part 5)
     (grid_octets (coordinate_list (part 4)) (part 3)) (packed_field ToSimple message i) (grid_points (part 3))
 
 -- the message of edition 1 of field i, where there is no loss
-abbrev pub demoted : Entries → Bool → List ℕ → ℕ → List ℕ
-demoted table keep_local message i = message_with (demoted_sections table keep_local message i)
+abbrev pub demoted : Entries → TableMatch → Bool → List ℕ → ℕ → List ℕ
+demoted table matching keep_local message i = message_with (demoted_sections table matching keep_local message i)
 
 -- a message of edition 1 has 16,777,215 octets at most
 abbrev pub length_loss : ℕ → Option Demotion
@@ -73,7 +74,7 @@ or_later (Some loss) later = Some loss
 or_later None later = later tt
 
 -- the first loss of field i
-abbrev pub first_loss : Entries → Bool → Bool → List ℕ → ℕ → Option Demotion
-first_loss table keep_local any_earth message i =
-    or_later (first_of (field_losses table keep_local any_earth message i))
-    (λ _. length_loss (length (demoted table keep_local message i)))
+abbrev pub first_loss : Entries → TableMatch → Bool → Bool → List ℕ → ℕ → Option Demotion
+first_loss table matching keep_local any_earth message i =
+    or_later (first_of (field_losses table matching keep_local any_earth message i))
+    (λ _. length_loss (length (demoted table matching keep_local message i)))

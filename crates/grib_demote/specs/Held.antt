@@ -6,6 +6,7 @@ use Rattle.grib_packing.specs.declared.written.Packed.{Packed}
 use Rattle.grib_migrate.specs.declared.level.Surface.{Surface}
 use Rattle.grib_migrate.specs.declared.level.Surfaces.{Surfaces}
 use Rattle.grib_demote.specs.declared.field.Field.{Field}
+use Rattle.grib_params.specs.declared.matching.TableMatch.{TableMatch}
 use Rattle.grib_params.specs.Table.{Entries}
 use Rattle.grib_demote.specs.declared.level.Level.{Level}
 use Rattle.grib_demote.specs.Levels.{level_of}
@@ -22,8 +23,8 @@ pub record Holds (s1 s3 s4 s5 : List ℕ) : Type 0 where
   pub packing : 21 ≤ length s5
 
 -- the version, the parameter and the level of a field
-pub record IsParameter (table : Entries) (field : Field) (found : ℕ × ℕ × Level) : Type 0 where
-  pub pair : pair_in table field.discipline field.identification.now field.product.now ≡ Some (found.0, found.1)
+pub record IsParameter (table : Entries) (matching : TableMatch) (field : Field) (found : ℕ × ℕ × Level) : Type 0 where
+  pub pair : pair_in table matching field.discipline field.identification.now field.product.now ≡ Some (found.0, found.1)
   pub level : level_of field.product.now ≡ Some found.2
   pub centre_fits : loses_centre field.identification.now ≡ false
 

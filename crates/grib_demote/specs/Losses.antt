@@ -2,6 +2,7 @@
 -- choice.
 use Rattle.std.specs.Prelude.{ℕ, ◌+◌, Bool, false, not, cond, ◌&&◌, ◌||◌, Option, Some, None, is_none, option_map, List, [], ◌∷◌, ◌++◌, nat_lt, ◌==◌}
 use Rattle.grib_bits.specs.Octets.{octets}
+use Rattle.grib_params.specs.declared.matching.TableMatch.{TableMatch}
 use Rattle.grib_params.specs.Table.{Entries}
 use Rattle.grib2_sections.specs.Head.{discipline}
 use Rattle.grib2_grids.specs.Grid.{grid_template}
@@ -61,12 +62,12 @@ abbrev pub column_loss : List Point → Option Demotion
 column_loss points = option_map loss_of (first_misfit ToSimple points)
 
 -- the losses of the templates, the parameter and the level
-abbrev pub parameter_losses : Entries → ℕ → List ℕ → List ℕ → List ℕ → List (Option Demotion)
-parameter_losses table discipline s1 s3 s4 =
+abbrev pub parameter_losses : Entries → TableMatch → ℕ → List ℕ → List ℕ → List ℕ → List (Option Demotion)
+parameter_losses table matching discipline s1 s3 s4 =
     lost_where (loses_product s4) losses.Product
     ∷ lost_where (is_none (type_of (grid_template s3))) losses.GridTemplate
     ∷ lost_where (loses_centre s1) losses.Centre
-    ∷ lost_where (is_none (pair_in table discipline s1 s4)) losses.Parameter
+    ∷ lost_where (is_none (pair_in table matching discipline s1 s4)) losses.Parameter
     ∷ lost_where (is_none (level_of s4)) losses.Level
     ∷ []
 
@@ -79,8 +80,8 @@ time_losses s1 s4 =
     ∷ lost_where (loses_interval s1 s4) losses.Interval
     ∷ []
 
-abbrev pub product_losses : Entries → ℕ → List ℕ → List ℕ → List ℕ → List (Option Demotion)
-product_losses table discipline s1 s3 s4 = parameter_losses table discipline s1 s3 s4 ++ time_losses s1 s4
+abbrev pub product_losses : Entries → TableMatch → ℕ → List ℕ → List ℕ → List ℕ → List (Option Demotion)
+product_losses table matching discipline s1 s3 s4 = parameter_losses table matching discipline s1 s3 s4 ++ time_losses s1 s4
 
 -- those of Section 2, and of the earth, the flags and the list of rows of Section 3
 abbrev pub form_losses : Bool → Bool → List ℕ → List ℕ → List (Option Demotion)
@@ -111,7 +112,7 @@ shape_losses keep_local any_earth message i =
 abbrev pub value_losses : List ℕ → ℕ → List (Option Demotion)
 value_losses message i = reference_loss (part_octets message i 5) ∷ column_loss (column_of message i).points ∷ []
 
-abbrev pub field_losses : Entries → Bool → Bool → List ℕ → ℕ → List (Option Demotion)
-field_losses table keep_local any_earth message i =
-    product_losses table (discipline message) (part_octets message i 1) (part_octets message i 3) (part_octets message i 4)
+abbrev pub field_losses : Entries → TableMatch → Bool → Bool → List ℕ → ℕ → List (Option Demotion)
+field_losses table matching keep_local any_earth message i =
+    product_losses table matching (discipline message) (part_octets message i 1) (part_octets message i 3) (part_octets message i 4)
     ++ (shape_losses keep_local any_earth message i ++ value_losses message i)

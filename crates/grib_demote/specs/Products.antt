@@ -3,6 +3,7 @@
 use Rattle.std.specs.Prelude.{ℕ, ◌+◌, ◌*◌, Bool, not, cond, ◌&&◌, Option, Some, None, is_none, map, List, [], ◌∷◌, ◌++◌, drop, length, nat_lt, replicate, ◌==◌, unwrap_or}
 use Rattle.grib_bits.specs.Bits.{digit}
 use Rattle.grib_bits.specs.Octets.{octets}
+use Rattle.grib_params.specs.declared.matching.TableMatch.{TableMatch}
 use Rattle.grib_params.specs.Table.{Entries}
 use Rattle.grib_params.specs.Pairs.{Pair, first_pair}
 use Rattle.grib_params.specs.declared.row.Target.{Target}
@@ -37,8 +38,8 @@ target_of discipline s1 s4 = record {
 }
 
 -- its first version and parameter of edition 1
-abbrev pub pair_in : Entries → ℕ → List ℕ → List ℕ → Option Pair
-pair_in table discipline s1 s4 = first_pair table (centre s1) (target_of discipline s1 s4)
+abbrev pub pair_in : Entries → TableMatch → ℕ → List ℕ → List ℕ → Option Pair
+pair_in table matching discipline s1 s4 = first_pair table matching (centre s1) (target_of discipline s1 s4)
 
 -- octet 6 and further of Section 2 are for the centre's own use
 abbrev pub has_local : List ℕ → Bool

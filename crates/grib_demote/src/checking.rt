@@ -17,22 +17,26 @@ use crate::product::{Told, has_local};
 use crate::time::{has_process, loses_interval, unit_of};
 use crate::word::ibm_of;
 use grib_bits::{u8_at, u16_at};
-use grib_params::{Table, Target};
+use grib_params::{Table, TableMatch, Target};
 use grib_reasons::Demotion;
 
 /// What Section 1 has of the product of a field, or the first thing of Sections 1 and 4, or of the template of
 /// the grid, that would be lost.
-pub(crate) fn check_product(field: &Field<'_>, table: &Table) -> Result<Told, Demotion>
+pub(crate) fn check_product(
+    field: &Field<'_>,
+    table: &Table,
+    matching: TableMatch,
+) -> Result<Told, Demotion>
     requires { Holds field.now.identification.now field.now.grid.now field.now.product.now field.now.packing.now }
     ensures { MatchResult result
-        (λ told. (first_of (product_losses table.now field.now.discipline field.now.identification.now
+        (λ told. (first_of (product_losses table.now matching field.now.discipline field.now.identification.now
         field.now.grid.now field.now.product.now) ≡ None)
-        × (told ≡ told_in table.now field.now.discipline field.now.identification.now field.now.product.now)
+        × (told ≡ told_in table.now matching field.now.discipline field.now.identification.now field.now.product.now)
         × IsDemoted field.now)
-        (λ loss. first_of (product_losses table.now field.now.discipline field.now.identification.now
+        (λ loss. first_of (product_losses table.now matching field.now.discipline field.now.identification.now
         field.now.grid.now field.now.product.now) ≡ Some loss) }
 {
-    let (version, parameter, level) = check_parameter(field, table)?;
+    let (version, parameter, level) = check_parameter(field, table, matching)?;
     let unit = check_times(field.identification, field.product)?;
     Ok(Told {
         version,
@@ -44,13 +48,17 @@ pub(crate) fn check_product(field: &Field<'_>, table: &Table) -> Result<Told, De
 
 /// The version, the parameter and the level of a field, or the first of them or of the templates that would be
 /// lost.
-fn check_parameter(field: &Field<'_>, table: &Table) -> Result<(u8, u8, Level), Demotion>
+fn check_parameter(
+    field: &Field<'_>,
+    table: &Table,
+    matching: TableMatch,
+) -> Result<(u8, u8, Level), Demotion>
     requires { Holds field.now.identification.now field.now.grid.now field.now.product.now field.now.packing.now }
     ensures { MatchResult result
-        (λ found. (first_of (parameter_losses table.now field.now.discipline field.now.identification.now
+        (λ found. (first_of (parameter_losses table.now matching field.now.discipline field.now.identification.now
         field.now.grid.now field.now.product.now) ≡ None)
-        × IsParameter table.now field.now found)
-        (λ loss. first_of (parameter_losses table.now field.now.discipline field.now.identification.now
+        × IsParameter table.now matching field.now found)
+        (λ loss. first_of (parameter_losses table.now matching field.now.discipline field.now.identification.now
         field.now.grid.now field.now.product.now) ≡ Some loss) }
 {
     let section1 = field.identification;
@@ -64,7 +72,7 @@ fn check_parameter(field: &Field<'_>, table: &Table) -> Result<(u8, u8, Level), 
     if loses_centre(section1) {
         return Err(Demotion::Centre);
     }
-    let Some((version, parameter)) = pair_in(field, table) else {
+    let Some((version, parameter)) = pair_in(field, table, matching) else {
         return Err(Demotion::Parameter);
     };
     let Some(level) = level_of(section4) else {
@@ -114,11 +122,11 @@ fn loses_centre(section1: &[u8]) -> bool
 }
 
 /// The first version and parameter of the centre that stand for the parameter of a field.
-fn pair_in(field: &Field<'_>, table: &Table) -> Option<(u8, u8)>
+fn pair_in(field: &Field<'_>, table: &Table, matching: TableMatch) -> Option<(u8, u8)>
     requires identification { 21 ≤ length field.now.identification.now }
     requires product { 34 ≤ length field.now.product.now }
     requires centre { products.loses_centre field.now.identification.now ≡ false }
-    ensures { result ≡ products.pair_in table.now field.now.discipline field.now.identification.now
+    ensures { result ≡ products.pair_in table.now matching field.now.discipline field.now.identification.now
         field.now.product.now }
 {
     let target = Target {
@@ -128,7 +136,7 @@ fn pair_in(field: &Field<'_>, table: &Table) -> Option<(u8, u8)>
         master: u8_at(field.identification, 10),
         local: u8_at(field.identification, 11),
     };
-    table.first_pair(u16_at(field.identification, 6) as u8, &target)
+    table.first_pair(matching, u16_at(field.identification, 6) as u8, &target)
 }
 
 /// The first thing of Section 2, or of the earth, the flags and the list of rows of the grid, that would be lost.

@@ -31,7 +31,7 @@ use grib_bits::Number::{Four, Two};
 use grib_bits::{add_numbers, add_section1, add_uint, u16_at, u32_at};
 use grib_packed::laws::one_packing_is_written;
 use grib_packing::{PackFault, Packed};
-use grib_params::Table;
+use grib_params::{Table, TableMatch};
 use grib_reasons::Demotion;
 use grib2_message::Message;
 use std::alloc::{AllocError, Global};
@@ -40,7 +40,8 @@ use std::alloc::{AllocError, Global};
 const MOST_OCTETS: u64 = 16_777_215;
 
 /// The message of edition 1 that has the values of a field of this message, counted from 1: the exact value or the
-/// missing mark of each point, and the version and parameter that the table has for its centre and parameter.
+/// missing mark of each point, and the first version and parameter that the table has for its centre and parameter,
+/// with the versions of the master and the local tables as `matching` says.
 /// Octets for the centre's own use, Section 2, become octets 41 and further of Section 1 where they are to be
 /// kept. With `any_earth` the shape of the earth is not told where edition 1 has no place for it.
 ///
@@ -52,18 +53,19 @@ pub fn demote(
     message: &Message<'_>,
     field: u32,
     table: &Table,
+    matching: TableMatch,
     keep_local: bool,
     any_earth: bool,
 ) -> Result<Vec<u8>, DemoteFault>
     requires first { 1 ≤ field }
     requires last { field ≤ field_count message.now }
     ensures { MatchResult result
-        (λ octets. (first_loss table.now keep_local any_earth message.now field ≡ None)
-        × (octets.items ≡ demoted table.now keep_local message.now field))
-        (IsDemoteFault (first_loss table.now keep_local any_earth message.now field)) }
+        (λ octets. (first_loss table.now matching keep_local any_earth message.now field ≡ None)
+        × (octets.items ≡ demoted table.now matching keep_local message.now field))
+        (IsDemoteFault (first_loss table.now matching keep_local any_earth message.now field)) }
 {
     let parts = Field::of(message, field);
-    let told = check_product(&parts, table)?;
+    let told = check_product(&parts, table, matching)?;
     let grid = grid_octets(alloc, message, field, keep_local, any_earth)?;
     let packed = pack_simply(alloc, message, field)?;
     let points = u32_at(parts.grid, 7);

@@ -28,6 +28,7 @@ use Rattle.grib_simple.proofs.Fitting.{width_few}
 use Rattle.grib_demote_law.proofs.Bitmaps.{count_present}
 use Rattle.grib_repack.specs.Repacked.{kind_of, packed_field}
 use Rattle.grib_repack.proofs.Columns.{column_long, may_be_packed, has_words, kind_small}
+use Rattle.grib_params.specs.declared.matching.TableMatch.{TableMatch}
 use Rattle.grib_params.specs.Table.{Entries}
 use Rattle.grib1_sections.specs.Acceptance.{verdict_1}
 use Rattle.grib1_sections.specs.Bitmap.{mask_of}
@@ -59,7 +60,7 @@ none_secondary : (points : List Point) → first_misfit ToSimple points ≡ None
 none_secondary points none =
     not_first (list_any is_missing2 points) (misfits.SecondaryMissing (first_place is_missing2 points)) (misfits.misfit_at misfits.OutOfRange (misfits.is_scaled_outside (2 ^ 48 - 1)) points) none
 
-module _ (table : Entries) (keep any : Bool) (message : List ℕ) (i : ℕ) (may : MayBeDemoted table keep any message i) where
+module _ (table : Entries) (matching : TableMatch) (keep any : Bool) (message : List ℕ) (i : ℕ) (may : MayBeDemoted table matching keep any message i) where
   abbrev pub part : ℕ → List ℕ
   part k = part_octets message i k
 
@@ -72,8 +73,8 @@ module _ (table : Entries) (keep any : Bool) (message : List ℕ) (i : ℕ) (may
   abbrev pub n : ℕ
   n = grid2.grid_points (part 3)
 
-  pub kept : Kept table keep any message i
-  kept = all_kept table keep any message i may.kept
+  pub kept : Kept table matching keep any message i
+  kept = all_kept table matching keep any message i may.kept
 
   pub passes : FieldPasses message i
   passes = field_passes_alone message i may.accepted may.first may.last
@@ -94,7 +95,7 @@ module _ (table : Entries) (keep any : Bool) (message : List ℕ) (i : ℕ) (may
   -- ---- the sections
 
   abbrev pub told : Told
-  told = told_in table (discipline message) (part 1) (part 4)
+  told = told_in table matching (discipline message) (part 1) (part 4)
 
   abbrev pub local : List ℕ
   local = local_octets keep (part 2)
@@ -114,13 +115,13 @@ module _ (table : Entries) (keep any : Bool) (message : List ℕ) (i : ℕ) (may
   abbrev pub d : List ℕ
   d = data_section (part 5) values
 
-  joined : demoted_sections table keep message i ≡ a ++ (b ++ (unwrap_or c [] ++ d))
+  joined : demoted_sections table matching keep message i ≡ a ++ (b ++ (unwrap_or c [] ++ d))
   joined = ap (λ (xs : List ℕ). a ++ (b ++ (xs ++ d))) (sym (section_3-octets values n))
 
   all_short : length a + (length b + (length (unwrap_or c []) + length d)) ≤ 16777203
   all_short =
-      let short : length (message_with (demoted_sections table keep message i)) ≤ 16777215 = kept.short in
-      let long = length-message (demoted_sections table keep message i) in
+      let short : length (message_with (demoted_sections table matching keep message i)) ≤ 16777215 = kept.short in
+      let long = length-message (demoted_sections table matching keep message i) in
       let parts = ap length joined in
       omega (arith, short, long, parts, length-append a (b ++ (unwrap_or c [] ++ d)), length-append b (unwrap_or c [] ++ d), length-append (unwrap_or c []) d)
 
@@ -154,7 +155,7 @@ module _ (table : Entries) (keep any : Bool) (message : List ℕ) (i : ℕ) (may
       is_section_4 (part 5) values (simple_width column.points) (length (simple_numbers column.points)) simple.numbers.bit_width_stands simple.numbers.values_stand
       (width_few column.points kept.column) room (omega (arith, all_short))
 
-  pub field_grammar : Grammar1 (demoted table keep message i) (record { identification = a; grid = b; bitmap = c; data_section = d })
+  pub field_grammar : Grammar1 (demoted table matching keep message i) (record { identification = a; grid = b; bitmap = c; data_section = d })
   field_grammar =
       let bounds = points_bounds (part 3) passes.grid in
       let is_a = is_section_1 told (part 1) (part 4) (part 5) local (has_bitmap values) (omega (arith, all_short)) in
@@ -167,9 +168,9 @@ module _ (table : Entries) (keep any : Bool) (message : List ℕ) (i : ℕ) (may
       subst (λ (xs : List ℕ). Grammar1 (message_with xs) (record { identification = a; grid = b; bitmap = c; data_section = d })) (sym joined)
       (in_grammar a b d c short is_a is_b flagged is_c is_d)
 
-  pub demoted_is_message : IsMessage1 (demoted table keep message i)
+  pub demoted_is_message : IsMessage1 (demoted table matching keep message i)
   demoted_is_message =
-      let m = demoted table keep message i in
+      let m = demoted table matching keep message i in
       let g = field_grammar in
       record {
         indicated = g.indicated;

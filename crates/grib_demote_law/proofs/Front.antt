@@ -8,6 +8,7 @@ use Rattle.grib_bits.proofs.Encoding.{num_on-octets_of}
 use Rattle.grib_bits.proofs.OctetBits.{AreOctets}
 use Rattle.grib_bits.proofs.OctetNumbers.{octets-lt}
 use Rattle.grib_base.specs.Rows.{choose}
+use Rattle.grib_params.specs.declared.matching.TableMatch.{TableMatch}
 use Rattle.grib_params.specs.Table.{Entries, lookup_in}
 use Rattle.grib_params.specs.Pairs.{first_pair}
 use Rattle.grib_params.specs.declared.row.Target.{Target}
@@ -28,7 +29,7 @@ use Rattle.grib_demote.specs.Times.{unit_of, range, process, forecast_time, is_i
 use Rattle.grib_demote.specs.Products.{centre, local_octets}
 use Rattle.grib_demote_law.proofs.Identification.{section_1}
 use Rattle.grib_demote_law.proofs.Levels.{IsFound}
-use Rattle.grib_demote_law.proofs.Pairs.{first_has}
+use Rattle.grib_demote_law.proofs.Pairs.{first_finds}
 
 -- ---- the unit of time
 
@@ -330,12 +331,12 @@ module _ (told : Told) (bitmapped : Bool) (s1 s4 s5 local : List ℕ) where
       no_date_lost = ap₂ ◌||◌ (no_date small long date) no_end
 
   -- the parameter
-  pub no_parameter : (table : Entries) (target : Target) → told.version < 256 → told.parameter < 256 → centre s1 < 256
-      → first_pair table (centre s1) target ≡ Some (told.version, told.parameter) → is_none (target_in table a) ≡ false
-  no_parameter table target v p c pair =
+  pub no_parameter : (table : Entries) (matching : TableMatch) (parameter : Target) → told.version < 256 → told.parameter < 256 → centre s1 < 256
+      → first_pair table matching (centre s1) parameter ≡ Some (told.version, told.parameter) → is_none (target_in table a) ≡ false
+  no_parameter table matching parameter v p c pair =
       ap₂ (λ x y. is_none (lookup_in table (key_in a Centre) x y)) (version_is v) (parameter_is p)
       ∙ ap (λ x. is_none (lookup_in table x told.version told.parameter)) (centre_is c)
-      ∙ ap is_none (first_has table (centre s1) target (told.version, told.parameter) pair)
+      ∙ ap is_none (first_finds table matching (centre s1) parameter (told.version, told.parameter) pair).found
 
   -- the level
   pub surfaces_here : IsFound told.level → surfaces_of a ≡ surfaces_at told.level.level_type (key_in a LevelNumber) (octets a 11 11) (octets a 12 12)

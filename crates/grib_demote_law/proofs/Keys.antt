@@ -2,6 +2,7 @@
 use Rattle.std.proofs.Common.{◌≡◌, ℕ, ◌+◌, ◌*◌, ◌<◌, ◌≤◌, ◌^◌, ◌||◌, ◌==◌, Bool, true, false, not, Option, Some, List, [], ◌∷◌, length, take, drop, All, refl, sym, ap, ap₂, ◌∙◌, subst, arith, take-take, eqb-true}
 use Rattle.std.specs.Prelude.{unwrap_or}
 use Rattle.std.specs.List.{AllByRecursion}
+use Rattle.std.specs.Option.{option_and_then}
 use Rattle.std.proofs.lemmas.Bool.{not-false}
 use Rattle.std.proofs.lemmas.List.{drop-take}
 use Rattle.std.proofs.lemmas.List.Elements.{All-from_recursion}
@@ -17,6 +18,9 @@ use Rattle.grib2_products.specs.Spelled.{coordinate_list}
 use Rattle.grib2_message.specs.Fields.{part_octets}
 use Rattle.grib2_message.proofs.Masks.{points_bounds}
 use Rattle.grib_params.specs.declared.row.Target.{Target}
+use Rattle.grib_params.specs.declared.matching.TableMatch.{TableMatch}
+use Rattle.grib_params.specs.declared.matching.TableMatch.TheVariants.{Same, Any}
+use Rattle.grib_params.specs.Pairs.{Pair, is_local, matches}
 use Rattle.grib_params.specs.Table.{Entries, Good, lookup_in, table_verdict}
 use Rattle.grib1_sections.specs.Acceptance.{identification, grid}
 use Rattle.grib1_sections.specs.Grid as grid1
@@ -37,18 +41,19 @@ use Rattle.grib_demote.specs.declared.product.Told.{Told}
 use Rattle.grib_demote.specs.declared.level.Level.{Level}
 use Rattle.grib_demote.specs.Levels.{level, level_of}
 use Rattle.grib_demote.specs.Grids.{is_listed}
-use Rattle.grib_demote.specs.Products as products
 use Rattle.grib_demote.specs.Products.{centre, local_octets}
 use Rattle.grib_demote.specs.Times.{has_process, is_interval}
 use Rattle.grib_demote.specs.Values as values1
 use Rattle.grib_demote.specs.Demoted.{demoted}
 use Rattle.grib_demote_law.specs.Field.{MayBeDemoted}
 use Rattle.grib_demote_law.specs.Coordinates.{SameWords}
-use Rattle.grib_demote_law.specs.Keys.{kept_keys}
+use Rattle.grib_demote_law.specs.Records.{Finds, parameter_of, record_of}
+use Rattle.grib_demote_law.specs.Keys.{kept_keys, table_keys}
 use Rattle.grib_demote_law.proofs.Losses.{Kept}
 use Rattle.grib_demote_law.proofs.Grids.{type_stands, rows_stand}
 use Rattle.grib_demote_law.proofs.Template.{may_stand, rows_few}
-use Rattle.grib_demote_law.proofs.Pairs.{first_has}
+use Rattle.grib_demote_law.proofs.Pairs.{HasNumbers, first_finds, has_numbers, has_local, target_is}
+use Rattle.grib_demote_law.proofs.Tables.{target_small}
 use Rattle.grib_demote_law.proofs.Front.{version_is, parameter_is, centre_is}
 use Rattle.grib_demote_law.proofs.Surfaces.{kind_of, level_kind}
 use Rattle.grib_demote_law.proofs.KeyValues.{plain_key, missing_key, signed_key, signed_written}
@@ -68,27 +73,27 @@ abbrev interval_list : List Key
 interval_list =
     key.EndYear ∷ key.EndMonth ∷ key.EndDay ∷ key.EndHour ∷ key.EndMinute ∷ key.EndSecond ∷ key.RangeProcess ∷ key.RangeIncrementType ∷ key.RangeUnit ∷ key.RangeLength ∷ []
 
-module _ (text : List ℕ) (table : Entries) (keep any : Bool) (message : List ℕ) (i : ℕ) (read : table_verdict text ≡ Good table) (may : MayBeDemoted table keep any message i) where
+module _ (text : List ℕ) (table : Entries) (matching : TableMatch) (keep any : Bool) (message : List ℕ) (i : ℕ) (read : table_verdict text ≡ Good table) (may : MayBeDemoted table matching keep any message i) where
   abbrev part : ℕ → List ℕ
   part k = part_octets message i k
 
   abbrev old : List ℕ
-  old = demoted table keep message i
+  old = demoted table matching keep message i
 
   abbrev new : List ℕ
   new = migrated table keep old
 
   abbrev a : List ℕ
-  a = accepted.a table keep any message i may
+  a = accepted.a table matching keep any message i may
 
   abbrev b : List ℕ
-  b = accepted.b table keep any message i may
+  b = accepted.b table matching keep any message i may
 
   abbrev told : Told
-  told = accepted.told table keep any message i may
+  told = accepted.told table matching keep any message i may
 
   abbrev bitmapped : Bool
-  bitmapped = values1.has_bitmap (accepted.values table keep any message i may)
+  bitmapped = values1.has_bitmap (accepted.values table matching keep any message i may)
 
   abbrev local : List ℕ
   local = local_octets keep (part 2)
@@ -96,11 +101,11 @@ module _ (text : List ℕ) (table : Entries) (keep any : Bool) (message : List �
   abbrev words : List ℕ
   words = coordinate_list (part 4)
 
-  kept : Kept table keep any message i
-  kept = accepted.kept table keep any message i may
+  kept : Kept table matching keep any message i
+  kept = accepted.kept table matching keep any message i may
 
   small : (k : ℕ) → AreOctets (part k)
-  small k = back.part_small table keep any message i may k
+  small k = back.part_small table matching keep any message i may k
 
   -- a number of one octet
   one : (k n : ℕ) → 1 ≤ n → n ≤ length (part k) → octets (part k) n n < 256
@@ -110,26 +115,34 @@ module _ (text : List ℕ) (table : Entries) (keep any : Bool) (message : List �
 
   -- ---- the parameter
 
+  abbrev parameter : Target
+  parameter = parameter_of message i
+
+  -- the record that the look-up finds
+  pub finds : Finds table matching (centre (part 1)) parameter (told.version, told.parameter)
+  finds = first_finds table matching (centre (part 1)) parameter (told.version, told.parameter) (back.pair_is table matching keep any message i may)
+
   abbrev target : Target
-  target = products.target_of (discipline message) (part 1) (part 4)
+  target = finds.target
+
+  numbers : HasNumbers parameter target
+  numbers = has_numbers matching parameter target finds.stands
 
   target_here : target_of table a ≡ target
   target_here =
-      let few = back.told_small text table keep any message i read may in
-      let found : lookup_in table (centre (part 1)) told.version told.parameter ≡ Some target =
-      first_has table (centre (part 1)) target (told.version, told.parameter) (back.pair_is table keep any message i may) in
-      let centred = centre_is told bitmapped (part 1) (part 4) (part 5) local (back.centre_fits table keep any message i may) in
+      let few = back.told_small text table matching keep any message i read may in
+      let centred = centre_is told bitmapped (part 1) (part 4) (part 5) local (back.centre_fits table matching keep any message i may) in
       ap₂ (λ (v p : ℕ). unwrap_or (lookup_in table (key_in a Centre) v p) no_target) (version_is told bitmapped (part 1) (part 4) (part 5) local few.0)
       (parameter_is told bitmapped (part 1) (part 4) (part 5) local few.1)
-      ∙ ap (λ (c : ℕ). unwrap_or (lookup_in table c told.version told.parameter) no_target) centred ∙ ap (λ (o : Option Target). unwrap_or o no_target) found
+      ∙ ap (λ (c : ℕ). unwrap_or (lookup_in table c told.version told.parameter) no_target) centred ∙ ap (λ (o : Option Target). unwrap_or o no_target) finds.found
 
   -- ---- the sections that are in force
 
   first_is : identification old ≡ a
-  first_is = (back.sections table keep any message i may).identification_is
+  first_is = (back.sections table matching keep any message i may).identification_is
 
   second_is : grid old ≡ b
-  second_is = (back.sections table keep any message i may).grid_is
+  second_is = (back.sections table matching keep any message i may).grid_is
 
   abbrev w1 : List ℕ
   w1 = written_1 target a
@@ -142,18 +155,18 @@ module _ (text : List ℕ) (table : Entries) (keep any : Bool) (message : List �
 
   part_1 : part_octets new 1 1 ≡ w1
   part_1 =
-      (migrated_parts table keep old (may_be_migrated text table keep any message i read may)).0 ∙ ap (λ (x : List ℕ). written_1 (target_of table x) x) first_is
+      (migrated_parts table keep old (may_be_migrated text table matching keep any message i read may)).0 ∙ ap (λ (x : List ℕ). written_1 (target_of table x) x) first_is
       ∙ ap (λ (t : Target). written_1 t a) target_here
 
   part_3 : part_octets new 1 3 ≡ w3
   part_3 =
-      (migrated_parts table keep old (may_be_migrated text table keep any message i read may)).1
+      (migrated_parts table keep old (may_be_migrated text table matching keep any message i read may)).1
       ∙ ap (λ (g : List ℕ). section_of 3 (migrated_grid (grid1.grid_points g) g)) second_is
-      ∙ ap (λ (n : ℕ). section_of 3 (migrated_grid n b)) (accepted.grid_points_are table keep any message i may)
+      ∙ ap (λ (n : ℕ). section_of 3 (migrated_grid n b)) (accepted.grid_points_are table matching keep any message i may)
 
   part_4 : part_octets new 1 4 ≡ w4
   part_4 =
-      (migrated_parts table keep old (may_be_migrated text table keep any message i read may)).2
+      (migrated_parts table keep old (may_be_migrated text table matching keep any message i read may)).2
       ∙ ap₂ (λ (x g : List ℕ). section_of 4 (product_octets (target_of table x) x (coordinates1.coordinate_list g) (unwrap_or (times.unit_of x) no_unit) (unwrap_or (surfaces_of x) no_surfaces))) first_is second_is
       ∙ ap (λ (t : Target). section_of 4 (product_octets t a (coordinates1.coordinate_list b) (unwrap_or (times.unit_of a) no_unit) (unwrap_or (surfaces_of a) no_surfaces))) target_here
 
@@ -162,7 +175,7 @@ module _ (text : List ℕ) (table : Entries) (keep any : Bool) (message : List �
   discipline_back : octets (take 16 new) 7 7 ≡ octets (take 16 message) 7 7
   discipline_back =
       let first : octets (take 16 new) 7 7 ≡ (target_of table (identification old)).discipline = alone (target_of table (identification old)).discipline in
-      first ∙ ap (λ (x : List ℕ). (target_of table x).discipline) first_is ∙ ap (λ (t : Target). t.discipline) target_here ∙ seventh message
+      first ∙ ap (λ (x : List ℕ). (target_of table x).discipline) first_is ∙ ap (λ (t : Target). t.discipline) target_here ∙ numbers.discipline ∙ seventh message
     where
       alone : (n : ℕ) → 0 * 256 + n ≡ n
       alone n = omega arith
@@ -175,27 +188,27 @@ module _ (text : List ℕ) (table : Entries) (keep any : Bool) (message : List �
   grid_keys : SameGrid w3 (part 3)
   grid_keys =
       let s3 = part 3 in
-      let passes = accepted.passes table keep any message i may in
-      let few = accepted.few_words table keep any message i may in
+      let passes = accepted.passes table matching keep any message i may in
+      let few = accepted.few_words table matching keep any message i may in
       let stands = may_stand s3 words passes.grid kept.product.template kept.shape.numbers kept.shape.rows few (is_listed s3) refl in
-      grid_same (grid2.grid_points s3) b s3 (back.grid_back table keep any message i may) (small 3) kept.product.template (back.holds table keep any message i may).grid
+      grid_same (grid2.grid_points s3) b s3 (back.grid_back table matching keep any message i may) (small 3) kept.product.template (back.holds table matching keep any message i may).grid
       (type_stands (length words) _ _ _ _ _ _ _ _ stands)
 
   points_key : octets w3 7 10 ≡ octets (part 3) 7 10
   points_key =
-      let passes = accepted.passes table keep any message i may in
+      let passes = accepted.passes table matching keep any message i may in
       let bounds = points_bounds (part 3) passes.grid in
       let most = bounds.1 in
-      keys3.points_back (grid2.grid_points (part 3)) b (part 3) (back.grid_back table keep any message i may) (small 3) (omega (arith, most))
+      keys3.points_back (grid2.grid_points (part 3)) b (part 3) (back.grid_back table matching keep any message i may) (small 3) (omega (arith, most))
 
   nj_key : octets w3 35 38 ≡ octets (part 3) 35 38
   nj_key =
       let s3 = part 3 in
-      let passes = accepted.passes table keep any message i may in
-      let few = accepted.few_words table keep any message i may in
+      let passes = accepted.passes table matching keep any message i may in
+      let few = accepted.few_words table matching keep any message i may in
       let stands = may_stand s3 words passes.grid kept.product.template kept.shape.numbers kept.shape.rows few (is_listed s3) refl in
       let lt = rows_few s3 words passes.grid kept.product.template kept.shape.numbers kept.shape.rows few in
-      keys3.nj_back (grid2.grid_points s3) b s3 (back.grid_back table keep any message i may) (small 3) (rows_stand (length words) _ _ _ _ _ _ _ _ stands) (omega (arith, lt))
+      keys3.nj_back (grid2.grid_points s3) b s3 (back.grid_back table matching keep any message i may) (small 3) (rows_stand (length words) _ _ _ _ _ _ _ _ stands) (omega (arith, lt))
 
   -- ---- Section 4
 
@@ -221,7 +234,7 @@ module _ (text : List ℕ) (table : Entries) (keep any : Bool) (message : List �
 
       by : (x : Bool) → is_interval (part 4) ≡ x → SameInterval w4 (part 4)
       by true on =
-          let h = back.holds table keep any message i may in
+          let h = back.holds table matching keep any message i may in
           with_interval told bitmapped (part 1) (part 4) (part 5) local (coordinates1.coordinate_list b) target kept.times.interval (small 1) h.identification (small 4) h.product.long kept.times.date
           kept.times.unit refl template on
       by false off = no_interval w4 (part 4) (template ∙ instant_template off) (instant_template off)
@@ -242,7 +255,7 @@ module _ (text : List ℕ) (table : Entries) (keep any : Bool) (message : List �
       let x1 = part_octets new 1 1 in
       let x3 = part_octets new 1 3 in
       let x4 = part_octets new 1 4 in
-      let h = back.holds table keep any message i may in
+      let h = back.holds table matching keep any message i may in
       let long_1 = h.identification in
       let long_4 = h.product.least in
       let centred = centre_small s1 kept.product.centre in
@@ -257,56 +270,50 @@ module _ (text : List ℕ) (table : Entries) (keep any : Bool) (message : List �
           (
             plain_key x1 w1 s1 8 9 part_1 (keys1.sub_centre_back told bitmapped s1 s4 s5 local target centred.1),
             (
-              plain_key x1 w1 s1 10 10 part_1 (keys1.master_back told bitmapped s1 s4 s5 local target refl (one 1 10 (omega arith) (omega (arith, long_1)))),
+              plain_key x1 w1 s1 13 14 part_1 (keys1.year_back told bitmapped s1 s4 s5 local target (small 1) long_1 date),
               (
-                plain_key x1 w1 s1 11 11 part_1 (keys1.local_back told bitmapped s1 s4 s5 local target refl (one 1 11 (omega arith) (omega (arith, long_1)))),
+                plain_key x1 w1 s1 15 15 part_1 (keys1.month_back told bitmapped s1 s4 s5 local target (small 1) long_1 date),
                 (
-                  plain_key x1 w1 s1 13 14 part_1 (keys1.year_back told bitmapped s1 s4 s5 local target (small 1) long_1 date),
+                  plain_key x1 w1 s1 16 16 part_1 (keys1.day_back told bitmapped s1 s4 s5 local target (small 1) long_1 date (one 1 16 (omega arith) (omega (arith, long_1)))),
                   (
-                    plain_key x1 w1 s1 15 15 part_1 (keys1.month_back told bitmapped s1 s4 s5 local target (small 1) long_1 date),
+                    plain_key x1 w1 s1 17 17 part_1 (keys1.hour_back told bitmapped s1 s4 s5 local target (small 1) long_1 date (one 1 17 (omega arith) (omega (arith, long_1)))),
                     (
-                      plain_key x1 w1 s1 16 16 part_1 (keys1.day_back told bitmapped s1 s4 s5 local target (small 1) long_1 date (one 1 16 (omega arith) (omega (arith, long_1)))),
+                      plain_key x1 w1 s1 18 18 part_1 (keys1.minute_back told bitmapped s1 s4 s5 local target (small 1) long_1 date (one 1 18 (omega arith) (omega (arith, long_1)))),
                       (
-                        plain_key x1 w1 s1 17 17 part_1 (keys1.hour_back told bitmapped s1 s4 s5 local target (small 1) long_1 date (one 1 17 (omega arith) (omega (arith, long_1)))),
+                        plain_key x1 w1 s1 19 19 part_1 (keys1.second_back told bitmapped s1 s4 s5 local target (small 1) long_1 date),
                         (
-                          plain_key x1 w1 s1 18 18 part_1 (keys1.minute_back told bitmapped s1 s4 s5 local target (small 1) long_1 date (one 1 18 (omega arith) (omega (arith, long_1)))),
+                          plain_key x3 w3 s3 13 14 part_3 grid_keys.template,
                           (
-                            plain_key x1 w1 s1 19 19 part_1 (keys1.second_back told bitmapped s1 s4 s5 local target (small 1) long_1 date),
+                            plain_key x3 w3 s3 7 10 part_3 points_key,
                             (
-                              plain_key x3 w3 s3 13 14 part_3 grid_keys.template,
+                              missing_key 4 x3 w3 s3 35 38 part_3 nj_key,
                               (
-                                plain_key x3 w3 s3 7 10 part_3 points_key,
+                                ap (value_in key.Scanning) part_3 ∙ grid_keys.scanning_key,
                                 (
-                                  missing_key 4 x3 w3 s3 35 38 part_3 nj_key,
+                                  ap (value_in key.La1) part_3 ∙ grid_keys.la1_key,
                                   (
-                                    ap (value_in key.Scanning) part_3 ∙ grid_keys.scanning_key,
+                                    ap (value_in key.Lo1) part_3 ∙ grid_keys.lo1_key,
                                     (
-                                      ap (value_in key.La1) part_3 ∙ grid_keys.la1_key,
+                                      plain_key x4 w4 s4 8 9 part_4 (keys4.template_back told bitmapped s1 s4 s5 local found target interval kept.product.product),
                                       (
-                                        ap (value_in key.Lo1) part_3 ∙ grid_keys.lo1_key,
+                                        plain_key x4 w4 s4 10 10 part_4 (keys4.category_back told bitmapped s1 s4 s5 local found target interval numbers.category (one 4 10 (omega arith) (omega (arith, long_4)))),
                                         (
-                                          plain_key x4 w4 s4 8 9 part_4 (keys4.template_back told bitmapped s1 s4 s5 local found target interval kept.product.product),
+                                          plain_key x4 w4 s4 11 11 part_4 (keys4.number_back told bitmapped s1 s4 s5 local found target interval numbers.number (one 4 11 (omega arith) (omega (arith, long_4)))),
                                           (
-                                            plain_key x4 w4 s4 10 10 part_4 (keys4.category_back told bitmapped s1 s4 s5 local found target interval refl (one 4 10 (omega arith) (omega (arith, long_4)))),
+                                            plain_key x4 w4 s4 12 12 part_4 (keys4.process_key told bitmapped s1 s4 s5 local found target interval has (one 4 12 (omega arith) (omega (arith, long_4)))),
                                             (
-                                              plain_key x4 w4 s4 11 11 part_4 (keys4.number_back told bitmapped s1 s4 s5 local found target interval refl (one 4 11 (omega arith) (omega (arith, long_4)))),
+                                              plain_key x4 w4 s4 14 14 part_4 (keys4.generator_back told bitmapped s1 s4 s5 local found target interval (one 4 14 (omega arith) (omega (arith, long_4)))),
                                               (
-                                                plain_key x4 w4 s4 12 12 part_4 (keys4.process_key told bitmapped s1 s4 s5 local found target interval has (one 4 12 (omega arith) (omega (arith, long_4)))),
+                                                plain_key x4 w4 s4 18 18 part_4 (keys4.unit_back told bitmapped s1 s4 s5 local found target interval kept.times.unit refl (one 4 18 (omega arith) (omega (arith, long_4)))),
                                                 (
-                                                  plain_key x4 w4 s4 14 14 part_4 (keys4.generator_back told bitmapped s1 s4 s5 local found target interval (one 4 14 (omega arith) (omega (arith, long_4)))),
+                                                  signed_key x4 w4 s4 19 22 part_4
+                                                      (signed_written w4 s4 19 22 (times.forecast_time a) (small 4) (omega arith) (omega arith) (omega (arith, long_4)) refl
+                                                      (ap (λ (n : ℕ). signed (bits_of 32 n)) (keys4.forecast_is told bitmapped s1 s4 s5 local found target interval has))),
                                                   (
-                                                    plain_key x4 w4 s4 18 18 part_4 (keys4.unit_back told bitmapped s1 s4 s5 local found target interval kept.times.unit refl (one 4 18 (omega arith) (omega (arith, long_4)))),
-                                                    (
-                                                      signed_key x4 w4 s4 19 22 part_4
-                                                          (signed_written w4 s4 19 22 (times.forecast_time a) (small 4) (omega arith) (omega arith) (omega (arith, long_4)) refl
-                                                          (ap (λ (n : ℕ). signed (bits_of 32 n)) (keys4.forecast_is told bitmapped s1 s4 s5 local found target interval has))),
-                                                      (
-                                                        missing_key 1 x4 w4 s4 23 23 part_4
-                                                            (keys4.surface_back told bitmapped s1 s4 s5 local found target interval (back.level_found table keep any message i may) surface_kind
-                                                            (one 4 23 (omega arith) (omega (arith, long_4)))),
-                                                        last_keys,
-                                                      ),
-                                                    ),
+                                                    missing_key 1 x4 w4 s4 23 23 part_4
+                                                        (keys4.surface_back told bitmapped s1 s4 s5 local found target interval (back.level_found table matching keep any message i may) surface_kind
+                                                        (one 4 23 (omega arith) (omega (arith, long_4)))),
+                                                    last_keys,
                                                   ),
                                                 ),
                                               ),
@@ -331,12 +338,46 @@ module _ (text : List ℕ) (table : Entries) (keep any : Bool) (message : List �
         ),
       )
 
+  -- the versions of the tables
+  pub tables_come_back : All (λ key. key_value_of new 1 key ≡ key_value_of message i key) (table_keys matching (is_local parameter))
+  tables_come_back = by matching finds.stands (is_local parameter) refl
+    where
+      long_1 : 21 ≤ length (part 1)
+      long_1 = (back.holds table matching keep any message i may).identification
+
+      master : target.master ≡ parameter.master → key_value_of new 1 key.MasterTables ≡ key_value_of message i key.MasterTables
+      master is = plain_key (part_octets new 1 1) w1 (part 1) 10 10 part_1 (keys1.master_back told bitmapped (part 1) (part 4) (part 5) local target is (one 1 10 (omega arith) (omega (arith, long_1))))
+
+      locals : target.local ≡ parameter.local → key_value_of new 1 key.LocalTables ≡ key_value_of message i key.LocalTables
+      locals is = plain_key (part_octets new 1 1) w1 (part 1) 11 11 part_1 (keys1.local_back told bitmapped (part 1) (part 4) (part 5) local target is (one 1 11 (omega arith) (omega (arith, long_1))))
+
+      by : (m : TableMatch) → matches m parameter target ≡ true → (b : Bool) → is_local parameter ≡ b → All (λ key. key_value_of new 1 key ≡ key_value_of message i key) (table_keys m b)
+      by Same stands b e =
+          let same = target_is parameter target stands in
+          All-from_recursion (λ key. key_value_of new 1 key ≡ key_value_of message i key) (table_keys Same b)
+          (master (sym (ap (λ (t : Target). t.master) same)), (locals (sym (ap (λ (t : Target). t.local) same)), tt))
+      by Any stands true e =
+          All-from_recursion (λ key. key_value_of new 1 key ≡ key_value_of message i key) (table_keys Any true) (locals (has_local parameter target stands e), tt)
+      by Any stands false e = All-from_recursion (λ key. key_value_of new 1 key ≡ key_value_of message i key) (table_keys Any false) tt
+
+  pub tables_are : (row : Target) → record_of table matching message i ≡ Some row
+      → (octets (part_octets new 1 1) 10 10 ≡ row.master) × (octets (part_octets new 1 1) 11 11 ≡ row.local)
+  tables_are row is =
+      let looked : record_of table matching message i ≡ Some target =
+      ap (option_and_then (λ (p : Pair). lookup_in table (centre (part 1)) p.0 p.1)) (back.pair_is table matching keep any message i may) ∙ finds.found in
+      let whole : Some target ≡ Some row = sym looked ∙ is in
+      let same : target ≡ row = cc whole in
+      let few = target_small text table read (centre (part 1)) told.version told.parameter target finds.found in (
+        ap (λ (s : List ℕ). octets s 10 10) part_1 ∙ keys1.master_is told bitmapped (part 1) (part 4) (part 5) local target few.0 ∙ ap (λ (t : Target). t.master) same,
+        ap (λ (s : List ℕ). octets s 11 11) part_1 ∙ keys1.local_is told bitmapped (part 1) (part 4) (part 5) local target few.1 ∙ ap (λ (t : Target). t.local) same,
+      )
+
   -- ---- the vertical coordinates
 
   pub coordinates_come_back : SameWords (coordinate_list (part_octets new 1 4)) (coordinate_list (part 4))
   coordinates_come_back =
       let unit = unwrap_or (times.unit_of a) no_unit in
       let surfaces = unwrap_or (surfaces_of a) no_surfaces in
-      let written = ap (λ (xs : List ℕ). section_of 4 (product_octets target a xs unit surfaces)) (back.coordinates_back table keep any message i may) in
+      let written = ap (λ (xs : List ℕ). section_of 4 (product_octets target a xs unit surfaces)) (back.coordinates_back table matching keep any message i may) in
       subst (λ (s : List ℕ). SameWords (coordinate_list s) words) (sym (part_4 ∙ written))
-      (words_back target a words unit surfaces (accepted.few_words table keep any message i may) (back.word_small table keep any message i may) kept.shape.coordinates)
+      (words_back target a words unit surfaces (accepted.few_words table matching keep any message i may) (back.word_small table matching keep any message i may) kept.shape.coordinates)

@@ -36,11 +36,17 @@ module _ (told : Told) (bitmapped : Bool) (s1 s4 s5 local : List ℕ) (target : 
   pub process_number : octets s4 14 14 < 256 → key_in a Process ≡ octets s4 14 14
   process_number few = num_on-octets_of 1 (octets s4 14 14) (omega arith)
 
+  pub master_is : target.master < 256 → octets w 10 10 ≡ target.master
+  master_is few = num_on-octets_of 1 target.master (omega (arith, few))
+
+  pub local_is : target.local < 256 → octets w 11 11 ≡ target.local
+  local_is few = num_on-octets_of 1 target.local (omega (arith, few))
+
   pub master_back : target.master ≡ octets s1 10 10 → octets s1 10 10 < 256 → octets w 10 10 ≡ octets s1 10 10
-  master_back is few = num_on-octets_of 1 target.master (omega (arith, is, few)) ∙ is
+  master_back is few = master_is (omega (arith, is, few)) ∙ is
 
   pub local_back : target.local ≡ octets s1 11 11 → octets s1 11 11 < 256 → octets w 11 11 ≡ octets s1 11 11
-  local_back is few = num_on-octets_of 1 target.local (omega (arith, is, few)) ∙ is
+  local_back is few = local_is (omega (arith, is, few)) ∙ is
 
   -- ---- the reference time
 

@@ -7,6 +7,7 @@ mod Bitmaps
 mod Values
 mod Accepted
 mod Pairs
+mod Earliest
 mod Levels
 mod Words
 mod Front

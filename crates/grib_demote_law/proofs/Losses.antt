@@ -6,6 +6,7 @@ use Rattle.grib2_sections.specs.Head.{discipline}
 use Rattle.grib2_grids.specs.Grid.{grid_template}
 use Rattle.grib2_products.specs.Spelled.{coordinate_list}
 use Rattle.grib_packing.specs.Misfits.{ToSimple, Misfit, first_misfit}
+use Rattle.grib_params.specs.declared.matching.TableMatch.{TableMatch}
 use Rattle.grib_params.specs.Table.{Entries}
 use Rattle.grib2_message.specs.Fields.{part_octets, column_of}
 use Rattle.grib_reasons.specs.declared.demotion.Demotion.{Demotion}
@@ -40,15 +41,15 @@ no_misfit None e = refl
 no_misfit (Some misfit) e = let no : ⊥ = cc in absurd no
 
 -- nothing of the templates, the parameter and the level
-pub record ParameterKept (table : Entries) (d : ℕ) (s1 s3 s4 : List ℕ) : Type 0 where
+pub record ParameterKept (table : Entries) (matching : TableMatch) (d : ℕ) (s1 s3 s4 : List ℕ) : Type 0 where
   pub product : loses_product s4 ≡ false
   pub template : is_none (type_of (grid_template s3)) ≡ false
   pub centre : loses_centre s1 ≡ false
-  pub parameter : is_none (pair_in table d s1 s4) ≡ false
+  pub parameter : is_none (pair_in table matching d s1 s4) ≡ false
   pub level : is_none (level_of s4) ≡ false
 
-parameter_kept : (table : Entries) (d : ℕ) (s1 s3 s4 : List ℕ) → first_of (parameter_losses table d s1 s3 s4) ≡ None → ParameterKept table d s1 s3 s4
-parameter_kept table d s1 s3 s4 e =
+parameter_kept : (table : Entries) (matching : TableMatch) (d : ℕ) (s1 s3 s4 : List ℕ) → first_of (parameter_losses table matching d s1 s3 s4) ≡ None → ParameterKept table matching d s1 s3 s4
+parameter_kept table matching d s1 s3 s4 e =
     let a = head_none _ _ e in
     let b = head_none _ _ a.1 in
     let c = head_none _ _ b.1 in
@@ -102,32 +103,32 @@ shape_kept keep any s2 s3 s4 e =
     record { flags = form.0; rows = form.1; numbers = numbers.0; coordinates = numbers.1 }
 
 -- nothing of a field
-pub record Kept (table : Entries) (keep any : Bool) (message : List ℕ) (i : ℕ) : Type 0 where
-  pub product : ParameterKept table (discipline message) (part_octets message i 1) (part_octets message i 3) (part_octets message i 4)
+pub record Kept (table : Entries) (matching : TableMatch) (keep any : Bool) (message : List ℕ) (i : ℕ) : Type 0 where
+  pub product : ParameterKept table matching (discipline message) (part_octets message i 1) (part_octets message i 3) (part_octets message i 4)
   pub times : TimesKept (part_octets message i 1) (part_octets message i 4)
   pub shape : ShapeKept keep any (part_octets message i 2) (part_octets message i 3) (part_octets message i 4)
   pub reference : loses_reference (part_octets message i 5) ≡ false
   pub column : first_misfit ToSimple (column_of message i).points ≡ None
-  pub short : length (demoted table keep message i) ≤ 16777215
+  pub short : length (demoted table matching keep message i) ≤ 16777215
 
-pub all_kept : (table : Entries) (keep any : Bool) (message : List ℕ) (i : ℕ) → first_loss table keep any message i ≡ None → Kept table keep any message i
-all_kept table keep any message i e =
+pub all_kept : (table : Entries) (matching : TableMatch) (keep any : Bool) (message : List ℕ) (i : ℕ) → first_loss table matching keep any message i ≡ None → Kept table matching keep any message i
+all_kept table matching keep any message i e =
     let s1 = part_octets message i 1 in
     let s3 = part_octets message i 3 in
     let s4 = part_octets message i 4 in
-    let both = both_none (first_of (field_losses table keep any message i)) (λ _. length_loss (length (demoted table keep message i))) e in
-    let outer = parts_none (product_losses table (discipline message) s1 s3 s4) (shape_losses keep any message i ++ value_losses message i) both.0 in
-    let front = parts_none (parameter_losses table (discipline message) s1 s3 s4) (time_losses s1 s4) outer.0 in
+    let both = both_none (first_of (field_losses table matching keep any message i)) (λ _. length_loss (length (demoted table matching keep message i))) e in
+    let outer = parts_none (product_losses table matching (discipline message) s1 s3 s4) (shape_losses keep any message i ++ value_losses message i) both.0 in
+    let front = parts_none (parameter_losses table matching (discipline message) s1 s3 s4) (time_losses s1 s4) outer.0 in
     let inner = parts_none (shape_losses keep any message i) (value_losses message i) outer.1 in
     let s5 = part_octets message i 5 in
     let points = (column_of message i).points in
     let r = head_none (reference_loss s5) (column_loss points ∷ []) inner.1 in
     let c = head_none (column_loss points) [] r.1 in
     record {
-      product = parameter_kept table (discipline message) s1 s3 s4 front.0;
+      product = parameter_kept table matching (discipline message) s1 s3 s4 front.0;
       times = times_kept s1 s4 front.1;
       shape = shape_kept keep any (part_octets message i 2) s3 s4 inner.0;
       reference = not_lost (loses_reference s5) Reference r.0;
       column = no_misfit (first_misfit ToSimple (column_of message i).points) c.0;
-      short = ltb-false 16777215 (length (demoted table keep message i)) (not_lost (nat_lt 16777215 (length (demoted table keep message i))) (TooLong (length (demoted table keep message i))) both.1);
+      short = ltb-false 16777215 (length (demoted table matching keep message i)) (not_lost (nat_lt 16777215 (length (demoted table matching keep message i))) (TooLong (length (demoted table matching keep message i))) both.1);
     }

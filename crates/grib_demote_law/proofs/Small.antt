@@ -11,6 +11,7 @@ use Rattle.grib2_products.specs.Spelled.{coordinate_list}
 use Rattle.grib2_message.specs.Fields.{part_octets}
 use Rattle.grib2_message.proofs.Holding.{field_octets}
 use Rattle.grib_packing.specs.declared.written.Packed.{Packed}
+use Rattle.grib_params.specs.declared.matching.TableMatch.{TableMatch}
 use Rattle.grib_params.specs.Table.{Entries}
 use Rattle.grib_bits.specs.declared.adding.Number.{Number}
 use Rattle.grib_bits.specs.declared.adding.Number.TheVariants.{One, Two, Three, Four}
@@ -87,18 +88,18 @@ message_small sections small =
     (All-append IsOctet (octets_of 3 total) (1 ∷ (sections ++ end_mark)) (All-octets_of 3 total)
     (All-cons IsOctet 1 (sections ++ end_mark) (omega arith) (All-append IsOctet sections end_mark small mark)))
 
-pub demoted_small : (table : Entries) (keep any : Bool) (message : List ℕ) (i : ℕ) → MayBeDemoted table keep any message i → All (λ octet. octet < 256) (demoted table keep message i)
-demoted_small table keep any message i may =
+pub demoted_small : (table : Entries) (matching : TableMatch) (keep any : Bool) (message : List ℕ) (i : ℕ) → MayBeDemoted table matching keep any message i → All (λ octet. octet < 256) (demoted table matching keep message i)
+demoted_small table matching keep any message i may =
     let part = λ (k : ℕ). part_octets message i k in
-    let values = accepted.values table keep any message i may in
-    let simple = accepted.simple table keep any message i may in
+    let values = accepted.values table matching keep any message i may in
+    let simple = accepted.simple table matching keep any message i may in
     let n = grid_points (part 3) in
-    let a = accepted.a table keep any message i may in
-    let b = accepted.b table keep any message i may in
-    let d = accepted.d table keep any message i may in
-    let ids = identification_numbers (accepted.told table keep any message i may) (has_bitmap values) (part 1) (part 4) (part 5) in
+    let a = accepted.a table matching keep any message i may in
+    let b = accepted.b table matching keep any message i may in
+    let d = accepted.d table matching keep any message i may in
+    let ids = identification_numbers (accepted.told table matching keep any message i may) (has_bitmap values) (part 1) (part 4) (part 5) in
     let two : All IsOctet (part 2) = All-from_AreOctets (part 2) (field_octets message i 2 (AreOctets-from_All message may.small)) in
-    message_small (demoted_sections table keep message i)
+    message_small (demoted_sections table matching keep message i)
     (All-append IsOctet a (b ++ (bitmap_section values n ++ d))
     (section_small (all_octets ids ++ local_octets keep (part 2)) (All-append IsOctet (all_octets ids) (local_octets keep (part 2)) (numbers_small ids) (local_small keep (part 2) two)))
     (All-append IsOctet b (bitmap_section values n ++ d) (grid_small (coordinate_list (part 4)) (part 3))

@@ -14,6 +14,7 @@ use Rattle.grib2_products.specs.Spelled.{coordinate_list}
 use Rattle.grib2_message.specs.Fields.{part_octets}
 use Rattle.grib2_message.proofs.Holding.{field_octets}
 use Rattle.grib_packing.specs.Packing.{reference_word}
+use Rattle.grib_params.specs.declared.matching.TableMatch.{TableMatch}
 use Rattle.grib_params.specs.Table.{Entries, Good, table_verdict}
 use Rattle.grib_params.specs.Pairs.{Pair, first_pair}
 use Rattle.grib1_sections.specs.Acceptance.{data_section}
@@ -68,44 +69,44 @@ centre_small s1 kept = by (nat_lt (centre s1) 256) (nat_lt (sub_centre s1) 256) 
     by true false p q kept = let no : ⊥ = cc kept in absurd no
     by false b p q kept = let no : ⊥ = cc kept in absurd no
 
-module _ (table : Entries) (keep any : Bool) (message : List ℕ) (i : ℕ) (may : MayBeDemoted table keep any message i) where
+module _ (table : Entries) (matching : TableMatch) (keep any : Bool) (message : List ℕ) (i : ℕ) (may : MayBeDemoted table matching keep any message i) where
   abbrev part : ℕ → List ℕ
   part k = part_octets message i k
 
   abbrev told : Told
-  told = accepted.told table keep any message i may
+  told = accepted.told table matching keep any message i may
 
   abbrev a : List ℕ
-  a = accepted.a table keep any message i may
+  a = accepted.a table matching keep any message i may
 
   abbrev b : List ℕ
-  b = accepted.b table keep any message i may
+  b = accepted.b table matching keep any message i may
 
   abbrev d : List ℕ
-  d = accepted.d table keep any message i may
+  d = accepted.d table matching keep any message i may
 
   abbrev words : List ℕ
   words = coordinate_list (part 4)
 
-  pub kept : Kept table keep any message i
-  kept = accepted.kept table keep any message i may
+  pub kept : Kept table matching keep any message i
+  kept = accepted.kept table matching keep any message i may
 
   pub part_small : (k : ℕ) → AreOctets (part k)
   part_small k = field_octets message i k (AreOctets-from_All message may.small)
 
   pub holds : Holds (part 1) (part 3) (part 4) (part 5)
-  holds = field_holds message i (accepted.passes table keep any message i may)
+  holds = field_holds message i (accepted.passes table matching keep any message i may)
 
-  pub sections : Rejoined (demoted table keep message i) (record { identification = a; grid = b; bitmap = accepted.c table keep any message i may; data_section = d })
-  sections = rejoined (demoted table keep message i) _ (accepted.field_grammar table keep any message i may)
+  pub sections : Rejoined (demoted table matching keep message i) (record { identification = a; grid = b; bitmap = accepted.c table matching keep any message i may; data_section = d })
+  sections = rejoined (demoted table matching keep message i) _ (accepted.field_grammar table matching keep any message i may)
 
   -- ---- Section 1
 
   -- the first version and parameter of the table
-  pub pair : (p : Pair) × (pair_in table (discipline message) (part 1) (part 4) ≡ Some p)
-  pair = some_of (pair_in table (discipline message) (part 1) (part 4)) kept.product.parameter
+  pub pair : (p : Pair) × (pair_in table matching (discipline message) (part 1) (part 4) ≡ Some p)
+  pair = some_of (pair_in table matching (discipline message) (part 1) (part 4)) kept.product.parameter
 
-  pub pair_is : first_pair table (centre (part 1)) (target_of (discipline message) (part 1) (part 4)) ≡ Some (told.version, told.parameter)
+  pub pair_is : first_pair table matching (centre (part 1)) (target_of (discipline message) (part 1) (part 4)) ≡ Some (told.version, told.parameter)
   pair_is = pair.1 ∙ sym (ap (λ (o : Option Pair). Some ((unwrap_or o (0, 0)).0, (unwrap_or o (0, 0)).1)) pair.1)
 
   pub level_found : IsFound told.level
@@ -134,8 +135,8 @@ module _ (table : Entries) (keep any : Bool) (message : List ℕ) (i : ℕ) (may
   pub coordinates_back : coordinates1.coordinate_list b ≡ written_words words
   coordinates_back =
       let s3 = part 3 in
-      let passes = accepted.passes table keep any message i may in
-      let few = accepted.few_words table keep any message i may in
+      let passes = accepted.passes table matching keep any message i may in
+      let few = accepted.few_words table matching keep any message i may in
       read_again words _ _ _ _ _ _ _ (may_stand s3 words passes.grid kept.product.template kept.shape.numbers kept.shape.rows few (is_listed s3) refl) word_small kept.shape.coordinates
 
   -- ---- Section 4
@@ -160,10 +161,10 @@ module _ (table : Entries) (keep any : Bool) (message : List ℕ) (i : ℕ) (may
       let s4 = part 4 in
       let s5 = part 5 in
       let local = local_octets keep (part 2) in
-      let bitmapped = values1.has_bitmap (accepted.values table keep any message i may) in
+      let bitmapped = values1.has_bitmap (accepted.values table matching keep any message i may) in
       let interval = kept.times.interval in
       none_of_eight (migrate.number_losses b d) _ _ _ _ _ _ _ _ _ _ _ _ _ _ _ _
-      (no_parameter told bitmapped s1 s4 s5 local table (target_of (discipline message) s1 s4) few.0 few.1 centre_fits pair_is)
+      (no_parameter told bitmapped s1 s4 s5 local table matching (target_of (discipline message) s1 s4) few.0 few.1 centre_fits pair_is)
       (no_level told bitmapped s1 s4 s5 local level_found)
       (no_unit told bitmapped s1 s4 s5 local interval (part_small 1) holds.identification kept.times.date kept.times.unit refl)
       (no_range told bitmapped s1 s4 s5 local interval)
@@ -174,21 +175,21 @@ module _ (table : Entries) (keep any : Bool) (message : List ℕ) (i : ℕ) (may
       (none_of_three _ _ _ _ grid_back.none_lost
       (ap migrate.coordinate_loss coordinates_back ∙ none_lost 1 1 words word_small kept.shape.coordinates) reference_back)
 
-  pub none_where : IsTold → migrate.first_loss table keep (demoted table keep message i) ≡ None
+  pub none_where : IsTold → migrate.first_loss table keep (demoted table matching keep message i) ≡ None
   none_where few =
       let first = sections.identification_is in
       let second = sections.grid_is in
       let fourth = sections.data_is in
-      ap₂ (λ (x y : List ℕ). migrate.first_of (migrate.front_losses table keep x y ++ migrate.number_losses y (data_section (demoted table keep message i)))) first second
+      ap₂ (λ (x y : List ℕ). migrate.first_of (migrate.front_losses table keep x y ++ migrate.number_losses y (data_section (demoted table matching keep message i)))) first second
       ∙ ap (λ (z : List ℕ). migrate.first_of (migrate.front_losses table keep a b ++ migrate.number_losses b z)) fourth ∙ none_here few
 
-module _ (text : List ℕ) (table : Entries) (keep any : Bool) (message : List ℕ) (i : ℕ) (read : table_verdict text ≡ Good table) (may : MayBeDemoted table keep any message i) where
-  pub told_small : IsTold table keep any message i may
+module _ (text : List ℕ) (table : Entries) (matching : TableMatch) (keep any : Bool) (message : List ℕ) (i : ℕ) (read : table_verdict text ≡ Good table) (may : MayBeDemoted table matching keep any message i) where
+  pub told_small : IsTold table matching keep any message i may
   told_small =
       let s1 = part_octets message i 1 in
       let s4 = part_octets message i 4 in
-      let here = told table keep any message i may in
-      pair_small text table read (centre s1) (target_of (discipline message) s1 s4) (here.version, here.parameter) (pair_is table keep any message i may)
+      let here = told table matching keep any message i may in
+      pair_small text table read matching (centre s1) (target_of (discipline message) s1 s4) (here.version, here.parameter) (pair_is table matching keep any message i may)
 
-  pub nothing_lost : migrate.first_loss table keep (demoted table keep message i) ≡ None
-  nothing_lost = none_where table keep any message i may told_small
+  pub nothing_lost : migrate.first_loss table keep (demoted table matching keep message i) ≡ None
+  nothing_lost = none_where table matching keep any message i may told_small

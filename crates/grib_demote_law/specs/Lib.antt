@@ -1,3 +1,4 @@
 pub mod Coordinates
 pub mod Field
 pub mod Keys
+pub mod Records

@@ -22,7 +22,7 @@ use Rattle.grib_stream.specs.declared.place.Place.{Place}
 use Rattle.grib_stream.specs.Stream.{begins, Judgement, Message, Faulty}
 use Rattle.grib_stream.specs.Acts.{Act, World, DidFront, writes}
 use Rattle.grib_stream.specs.Outcomes.{is_cut_within, is_truncated, KeepsOrCuts, is_cut_short}
-use Rattle.grib_stream.specs.Task.{Given, Gives, Ends, Next, next_given, next_of, acts_of}
+use Rattle.grib_stream.specs.Task.{Task, Given, Gives, Ends, Next, next_given, next_of, acts_of}
 use Rattle.grib_stream.specs.Performed.{Performs, EndsWith, performed_of}
 use Rattle.grib_stream.specs.Hearing.{is_closed}
 use Rattle.grib_stream.specs.Soon.{IsPrompt, IsSoon, RefusesSoon, StandsAt}
@@ -32,7 +32,7 @@ use Rattle.grib_command.specs.declared.answered.Answered.TheVariants.{Whole, Kep
 use Rattle.grib_command.specs.Answering.{Answers, acts_given}
 use Rattle.grib_command.specs.Command.{Command, task, given, printing}
 use Rattle.grib_command.specs.Judging.{judge, judged, fields_of}
-use Rattle.grib_dispatch.specs.Hearing.{heard_of, judge_2, is_second, IsRefusedSoon, RefusesInTime}
+use Rattle.grib_dispatch.specs.Hearing.{heard_of, judge_2, is_second, hears_by, IsRefusedSoon, RefusesInTime}
 use Rattle.grib_dispatch.specs.HearingLaws.{not_one, both}
 use Rattle.grib_dispatch.specs.Lawful.{short_edition, same_edition, short_verdict, message_of, other}
 use Rattle.grib_command.specs.declared.ending.Ending.{Ending}
@@ -142,6 +142,11 @@ in_time first second ending outcome a b soon refusal is closed =
             bound_in_time refused.rest (length taken) refused.before k refused.place.begun refused.bound not_first shut;
       },
     )
+
+-- a command that hears messages of edition 2 hears them alone
+pub soon_heard : (hears : Bool) (own : Task) (outcome : Outcome) (a b : Option (List ℕ)) → hears ≡ true → RefusesSoon (hears_by hears) own outcome a b
+    → RefusesSoon is_second own outcome a b
+soon_heard hears own outcome a b is soon = subst (λ h. RefusesSoon (hears_by h) own outcome a b) is soon
 
 -- the end of a run keeps a refusal
 pub soon_kept : (command : Command) (outcome result : Outcome) (a b : Option (List ℕ)) → KeepsOrCuts outcome result → RefusesSoon is_second (task command) outcome a b

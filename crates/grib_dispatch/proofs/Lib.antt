@@ -1,3 +1,2 @@
 pub mod Editions
-pub mod Wanted
 pub mod HeardMessages

@@ -17,9 +17,7 @@ use Rattle.grib_stream.specs.Hearing.{is_closed}
 use Rattle.grib_stream.specs.Soon.{StandsAt}
 use Rattle.grib_command.specs.declared.answered.Answered.{Answered}
 use Rattle.grib_command.specs.declared.answered.Answered.TheVariants.{Whole, Kept, WriteFault, ShelfFault, Memory}
-use Rattle.grib_command.specs.declared.job.Job.{Job}
-use Rattle.grib_command.specs.declared.job.Job.TheVariants.{Check, List as Listing}
-use Rattle.grib_command.specs.Command.{kept_at}
+use Rattle.grib_command.specs.Command.{Command, kept_at}
 use Rattle.grib_command.specs.Judging.{judge, judged}
 
 -- what octets are as a message of edition 2
@@ -38,11 +36,13 @@ heard_of WriteFault place octets fields = Err outcomes.WriteFault
 heard_of ShelfFault place octets fields = Err outcomes.ShelfFault
 heard_of Memory place octets fields = Err outcomes.Memory
 
--- what holds of a job that hears messages of edition 2
-abbrev pub IfHears : Job → Type 0 → Type 0
-IfHears Check P = P
-IfHears Listing P = P
-IfHears job P = Unit {0}
+-- whether a message that begins with these eight octets is heard, by whether those of edition 2 are
+abbrev pub hears_by : Bool → List ℕ → Bool
+hears_by hears first = hears && is_second first
+
+-- what holds of a command that hears messages of edition 2
+abbrev pub IfHears : Command → Type 0 → Type 0
+IfHears command P = command.hears ≡ true → P
 
 -- Of these octets message n is refused. Where it is not of edition 1, they go on for no more than one read, 65536
 -- octets, behind the first of them by which it is.

@@ -5,10 +5,9 @@ use Rattle.std.proofs.lemmas.List.{take-append-le}
 use Rattle.std.specs.Str.{bytes_eq}
 use Rattle.grib_base.specs.Rows.{choose}
 use Rattle.grib2_sections.specs.Head.{indicator, edition}
-use Rattle.grib_stream.specs.Hearing.{judged_deaf}
 use Rattle.grib_command.specs.Judging.{judge, judged}
 use Rattle.grib_dispatch.specs.Lawful.{same_edition, short_edition, other}
-use Rattle.grib_dispatch.specs.Hearing.{judge_2, is_second}
+use Rattle.grib_dispatch.specs.Hearing.{judge_2, is_second, hears_by}
 
 pub both : (a b : Bool) → (a && b) ≡ true → (a ≡ true) × (b ≡ true)
 both true b is = (refl, is)
@@ -28,10 +27,8 @@ not_one octets more second =
     ap (λ n. n == 1) (whole ∙ (ap edition (sym front) ∙ two)))
     (cases_lt (length octets) 8)
 
-pub second_alike : (octets more : List ℕ) → is_second (take 8 (octets ++ more)) ≡ true
+pub alike : (hears : Bool) (octets more : List ℕ) → hears_by hears (take 8 (octets ++ more)) ≡ true
     → (is_second (take 8 (octets ++ more)) ≡ true) × (judge octets ≡ judge_2 octets)
-second_alike octets more second = (second, other octets (not_one octets more second))
-
--- where nothing is heard
-pub deaf_alike : (octets more : List ℕ) → false ≡ true → (true ≡ true) × (judge octets ≡ judged_deaf octets)
-deaf_alike octets more is = absurd (false≢true is)
+alike hears octets more heard =
+    let second = (both hears (is_second (take 8 (octets ++ more))) heard).1 in
+    (second, other octets (not_one octets more second))

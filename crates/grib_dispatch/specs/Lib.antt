@@ -2,5 +2,4 @@ pub mod Hearing
 pub mod Lawful
 pub mod HearingLaws
 pub mod Reading
-pub mod Passing
 pub mod Stated

@@ -12,7 +12,7 @@ use Rattle.grib1_sections.proofs.Fronts.{accepted_states as first_states}
 use Rattle.grib2_message.proofs.Fronts.{accepted_states}
 use Rattle.grib_stream.specs.Stream.{Message}
 use Rattle.grib_command.specs.Judging.{judge}
-use Rattle.grib_passing.specs.Steps.{States}
+use Rattle.grib_stream.specs.Texts.{States}
 use Rattle.grib_dispatch.specs.Lawful.{IsFirst, IsOther, message_judged, head_none, not_first}
 
 first_none : (head : Option Fault) (later : Unit {0} → Option Fault) (n total : ℕ) → verdict_by (or_else head later) n ≡ Accepted total → head ≡ None

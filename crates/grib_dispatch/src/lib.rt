@@ -4,11 +4,10 @@
 mod counting;
 mod hearing;
 mod held;
-mod passing;
 mod performing;
 mod reading;
 
-pub use hearing::Hearing;
+pub use hearing::SecondHearer;
 pub use held::answer_held;
 pub use performing::Answering;
 pub use reading::Held;

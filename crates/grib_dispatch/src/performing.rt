@@ -1,20 +1,16 @@
-//! A command as what answers the messages of an input.
-
-ghost use Rattle.std.specs.Prelude.{◌≡◌, true, false};
-ghost use Rattle.grib_stream.specs.Stream.{begins};
+//! A command as what answers the messages of an input, and says how it goes past what is refused or kept.
 
 use crate::counting::counted;
+use crate::hearing::{SecondHearer, heard};
 use crate::held::answer_held;
 use crate::reading::read_held;
-use grib_base::ReadFault;
-use grib_command::{Answered, Answerer};
+use grib_base::{Fault, ReadFault};
+use grib_command::{Answered, Answerer, copied_line, kept_line};
 use grib_io::{Shelf, Sink, Stop};
-use grib_stream::{Deaf, Kept, Outcome, Performed, Performer, Place, Totals, Whole};
-use grib2_sections::read_head;
-use std::alloc::Global;
-
-/// The least total length that a message may state, one of edition 1.
-const LEAST: u64 = 12;
+use grib_stream::{Extent, Kept, Outcome, Performed, Performer, Place, Totals, Whole};
+use grib_text::refused_line;
+use grib2_arrival::Arrival;
+use std::alloc::{AllocError, Global};
 
 /// What is to answer the messages of an input.
 #[derive(Debug, Drop)]
@@ -23,41 +19,37 @@ pub struct Answering<'a, C> {
 }
 
 impl<C: Answerer> Performer for Answering<'_, C> {
-    ghost use Rattle.std.specs.Prelude.{false};
     ghost use Rattle.grib_command.specs.Command as commands;
-    ghost use Rattle.grib_command.specs.Judging as judging;
+    ghost use Rattle.grib_command.specs.Texts as lines;
+    ghost use Rattle.grib_dispatch.specs.Hearing.{hears_by};
     ghost use Rattle.grib_dispatch.specs.Lawful as laws;
     ghost use Rattle.grib_dispatch.specs.HearingLaws as heard_laws;
+    ghost use Rattle.grib_dispatch.specs.Stated as stated_laws;
 
-    type Hearer = Deaf;
+    type Hearer = SecondHearer;
 
     ghost task = { λ answering. commands.task (C.definition answering.answerer.now) };
 
+    ghost texts = { λ answering. lines.texts };
+
     ghost uses_shelf = { λ answering. (C.definition answering.answerer.now).uses_shelf };
 
-    ghost hears = { λ answering first. false };
+    ghost hears = { λ answering. hears_by (C.definition answering.answerer.now).hears };
 
-    ghost stated = { λ answering. judging.stated };
+    ghost states = { λ answering octets total is. stated_laws.states octets total is };
 
     ghost lawful = { λ answering. laws.lawful (C.definition answering.answerer.now) (C.lawful answering.answerer.now) };
 
-    ghost alike = { λ answering. heard_laws.deaf_alike };
+    ghost alike = { λ answering. heard_laws.alike (C.definition answering.answerer.now).hears };
 
-    /// The stated total length, where it stands.
-    fn wanted(&self, octets: &[u8]) -> u64 {
-        match read_head(octets) {
-            Ok(head) => head.total,
-            Err(_) => LEAST,
+    fn is_heard(&self, octets: &[u8]) -> bool {
+        self.answerer.hears() && octets[..4] == [b'G', b'R', b'I', b'B'] && octets[7] == 2
+    }
+
+    fn hear(&self, alloc: Global) -> SecondHearer {
+        SecondHearer {
+            arrival: Arrival::new(alloc),
         }
-    }
-
-    /// No message is heard.
-    fn is_heard(&self, _octets: &[u8]) -> bool {
-        false
-    }
-
-    fn hear(&self, _alloc: Global) -> Deaf {
-        Deaf
     }
 
     fn perform<T: Sink, H: Shelf>(
@@ -85,15 +77,54 @@ impl<C: Answerer> Performer for Answering<'_, C> {
         }
     }
 
-    /// Nothing was heard, so that nothing is done.
+    /// Of a command that hears nothing nothing was heard, and nothing is done.
     fn perform_heard<T: Sink>(
         &self,
-        _alloc: Global,
-        _place: &Place,
-        _hearer: &Deaf,
-        _output: &mut T,
+        alloc: Global,
+        place: &Place,
+        hearer: &SecondHearer,
+        output: &mut T,
     ) -> Result<Whole, Outcome> {
-        Err(Outcome::Memory)
+        if !self.answerer.hears() {
+            return Err(Outcome::Memory);
+        }
+        let arrival = &hearer.arrival;
+        let octets = arrival.octets();
+        let fields = arrival.fields();
+        let answered = self.answerer.heard(alloc, place, arrival, output);
+        heard(answered, place, octets, fields)
+    }
+
+    fn whole(&self, alloc: Global, octets: &[u8]) -> Result<Extent, AllocError> {
+        match read_held(alloc, octets) {
+            Ok(held) => {
+                let message = counted(&held, 0);
+                Ok(Extent {
+                    octets: message.octets,
+                    fields: message.fields,
+                })
+            }
+            Err(ReadFault::Memory) => Err(AllocError),
+            Err(ReadFault::Refused(_)) => unreachable!(),
+        }
+    }
+
+    fn refused_line(
+        &self,
+        alloc: Global,
+        copied: bool,
+        place: &Place,
+        fault: &Fault,
+    ) -> Result<Vec<u8>, AllocError> {
+        if copied {
+            copied_line(alloc, place.message, place.before, fault)
+        } else {
+            refused_line(alloc, place.message, place.before, fault)
+        }
+    }
+
+    fn kept_line(&self, alloc: Global, place: &Place, kept: &Kept) -> Result<Vec<u8>, AllocError> {
+        kept_line(alloc, kept, place.before)
     }
 
     fn finish<T: Sink>(

@@ -9,6 +9,7 @@ use Rattle.grib_reasons.specs.declared.demotion.Demotion.{Demotion}
 use Rattle.grib_reasons.specs.declared.demotion.Demotion.TheVariants.{TooLong}
 use Rattle.grib2_message.specs.Fields.{field_count}
 use Rattle.grib2_message.specs.Message.{IsMessage}
+use Rattle.grib_params.specs.declared.matching.TableMatch.{TableMatch}
 use Rattle.grib_params.specs.Table.{Entries}
 use Rattle.grib_demote.specs.Losses.{first_of, field_losses}
 use Rattle.grib_demote.specs.Demoted.{demoted, first_loss, length_loss, or_later}
@@ -22,8 +23,8 @@ use Rattle.grib_edit.specs.FieldOctets.{twenty_each, texts_most}
 use Rattle.grib_command.specs.LawfulCommands.{unless_ends, unmapped}
 
 -- why field i is not demoted, if it is not
-abbrev pub field_cause : Entries → Bool → Bool → List ℕ → ℕ → Option Cause
-field_cause table keep_local any_earth message i = option_map (Demoted i) (first_loss table keep_local any_earth message i)
+abbrev pub field_cause : Entries → TableMatch → Bool → Bool → List ℕ → ℕ → Option Cause
+field_cause table matching keep_local any_earth message i = option_map (Demoted i) (first_loss table matching keep_local any_earth message i)
 
 -- the first cause of n fields, from field i on
 abbrev pub first_cause : (ℕ → Option Cause) → ℕ → ℕ → Option Cause
@@ -31,21 +32,22 @@ first_cause cause zero i = None
 first_cause cause (suc n) i = option_or (cause i) (first_cause cause n (i + 1))
 
 -- why a message is kept: the first field with a loss, and its first loss
-abbrev pub demoted_cause : Entries → Bool → Bool → List ℕ → Option Cause
-demoted_cause table keep_local any_earth message = first_cause (field_cause table keep_local any_earth message) (field_count message) 1
+abbrev pub demoted_cause : Entries → TableMatch → Bool → Bool → List ℕ → Option Cause
+demoted_cause table matching keep_local any_earth message = first_cause (field_cause table matching keep_local any_earth message) (field_count message) 1
 
 -- the messages of edition 1 of its fields, one after another
-abbrev pub demoted_fields : Entries → Bool → List ℕ → List ℕ
-demoted_fields table keep_local message = texts_from (demoted table keep_local message) (field_count message) 1
+abbrev pub demoted_fields : Entries → TableMatch → Bool → List ℕ → List ℕ
+demoted_fields table matching keep_local message = texts_from (demoted table matching keep_local message) (field_count message) 1
 
 -- The fields of a message of edition 2 are demoted, and a message of edition 1 is copied.
-abbrev pub demote_command : Bool → Bool → Entries → Command
-demote_command keep_local any_earth table = record {
+abbrev pub demote_command : TableMatch → Bool → Bool → Entries → Command
+demote_command matching keep_local any_earth table = record {
   first = λ place message. given_whole message;
   second = λ place message.
-      given_unless (demoted_cause table keep_local any_earth message) place.message (demoted_fields table keep_local message);
+      given_unless (demoted_cause table matching keep_local any_earth message) place.message (demoted_fields table matching keep_local message);
   ending = Written;
   uses_shelf = false;
+  hears = false;
 }
 
 -- ---- it is lawful
@@ -80,17 +82,17 @@ later_none : (first : Option Demotion) (later : Unit {0} → Option Demotion) �
 later_none None later none = none
 later_none (Some loss) later none = let no : ⊥ = cc in absurd no
 
-module _ (keep any : Bool) (table : Entries) where
-  pub few_octets : (message : List ℕ) (i : ℕ) → first_loss table keep any message i ≡ None → length (demoted table keep message i) ≤ 16777215
+module _ (matching : TableMatch) (keep any : Bool) (table : Entries) where
+  pub few_octets : (message : List ℕ) (i : ℕ) → first_loss table matching keep any message i ≡ None → length (demoted table matching keep message i) ≤ 16777215
   few_octets message i none =
-      fits_length (length (demoted table keep message i))
-      (later_none (first_of (field_losses table keep any message i)) (λ _. length_loss (length (demoted table keep message i))) none)
+      fits_length (length (demoted table matching keep message i))
+      (later_none (first_of (field_losses table matching keep any message i)) (λ _. length_loss (length (demoted table matching keep message i))) none)
 
-  few_fields : (message : List ℕ) → IsMessage message → demoted_cause table keep any message ≡ None → 20 * length (demoted_fields table keep message) ≤ MOST_OCTETS * length message
+  few_fields : (message : List ℕ) → IsMessage message → demoted_cause table matching keep any message ≡ None → 20 * length (demoted_fields table matching keep message) ≤ MOST_OCTETS * length message
   few_fields message h none =
-      let few = texts_most (demoted table keep message) (field_count message) 1
+      let few = texts_most (demoted table matching keep message) (field_count message) 1
       (λ i low high.
-      let own = few_octets message i (unmapped (Demoted i) (first_loss table keep any message i) (none_each (field_cause table keep any message) (field_count message) 1 none i low high)) in
+      let own = few_octets message i (unmapped (Demoted i) (first_loss table matching keep any message i) (none_each (field_cause table matching keep any message) (field_count message) 1 none i low high)) in
       omega arith) in
       omega (arith, twenty_each message h)
 
@@ -105,11 +107,11 @@ module _ (keep any : Bool) (table : Entries) where
   copied_ends : (message : List ℕ) (outcome : Outcome) → given_whole message ≡ Ends outcome → is_of_message outcome ≡ true
   copied_ends message outcome is = let no : ⊥ = cc in absurd no
 
-  pub demote_lawful : IsLawfulCommand (demote_command keep any table)
+  pub demote_lawful : IsLawfulCommand (demote_command matching keep any table)
   demote_lawful = record {
     few_first = λ place message acts written h is. copied_few message acts written is;
     few_second = λ place message acts written h is.
-        few_written (demoted_cause table keep any message) place.message (demoted_fields table keep message) message acts written (few_fields message h) is;
+        few_written (demoted_cause table matching keep any message) place.message (demoted_fields table matching keep message) message acts written (few_fields message h) is;
     ends_first = λ place message outcome is. copied_ends message outcome is;
-    ends_second = λ place message outcome is. unless_ends (demoted_cause table keep any message) place.message (demoted_fields table keep message) outcome is;
+    ends_second = λ place message outcome is. unless_ends (demoted_cause table matching keep any message) place.message (demoted_fields table matching keep message) outcome is;
   }

@@ -37,6 +37,7 @@ migrate_command keep_local table = record {
   second = λ place message. given_whole message;
   ending = Written;
   uses_shelf = false;
+  hears = false;
 }
 
 -- ---- it is lawful

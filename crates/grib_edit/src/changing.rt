@@ -11,6 +11,7 @@ use grib_command::{Answered, Ending, Writer};
 use grib_io::Sink;
 use grib_stream::{Cause, Place};
 use grib1_sections::Message1;
+use grib2_arrival::Arrival;
 use grib2_message::Message;
 use std::alloc::Global;
 
@@ -59,6 +60,21 @@ impl<C: Changer> Writer for Changing<C> {
         output: &mut T,
     ) -> Answered {
         self.0.change(alloc, message, output)
+    }
+
+    /// No message is heard.
+    fn hears(&self) -> bool {
+        false
+    }
+
+    fn heard<T: Sink>(
+        &self,
+        _alloc: Global,
+        _place: &Place,
+        _arrival: &Arrival,
+        _output: &mut T,
+    ) -> Answered {
+        Answered::Memory
     }
 
     fn ending(&self) -> Ending {

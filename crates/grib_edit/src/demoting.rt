@@ -6,41 +6,43 @@ ghost use Rattle.grib_demote.specs.Demoted.{demoted, first_loss};
 ghost use Rattle.grib_edit.specs.Unchanged.{answered_undemoted, IsKept};
 ghost use Rattle.grib_edit.specs.Demoting.{field_cause, demoted_cause, demoted_fields};
 
-use crate::tabling::TableWriter;
-use grib_command::{Answered, write_counted, written};
+use grib_command::{Answered, Ending, Writer, write_counted, written};
 use grib_demote::{DemoteFault, demote};
 use grib_io::Sink;
-use grib_params::Table;
-use grib_stream::Cause;
+use grib_params::{Table, TableMatch};
+use grib_stream::{Cause, Place};
 use grib1_sections::Message1;
+use grib2_arrival::Arrival;
 use grib2_message::Message;
 use std::alloc::Global;
 
 /// The command `demote`.
-#[derive(Clone, Copy, Debug)]
-pub struct Demoting {
+#[derive(Debug, Drop)]
+pub struct Demoting<'a> {
+    /// What the parameters of edition 1 are in edition 2.
+    pub table: &'a Table,
+    /// Which tables a record needs to have.
+    pub matching: TableMatch,
     /// Whether octets for the centre's own use are kept.
     pub keep_local: bool,
     /// Whether the shape of the earth is not told where edition 1 has no place for it.
     pub any_earth: bool,
 }
 
-impl TableWriter for Demoting {
+impl Writer for Demoting<'_> {
     ghost use Rattle.std.specs.Prelude.{refl};
     ghost use Rattle.grib_edit.specs.Demoting.{demote_command, demote_lawful};
 
-    ghost commands = { λ demoting. demote_command demoting.keep_local demoting.any_earth };
+    ghost definition = { λ demoting. demote_command demoting.matching demoting.keep_local demoting.any_earth demoting.table.now };
 
-    ghost lawful = { λ demoting table. demote_lawful demoting.keep_local demoting.any_earth table };
+    ghost lawful = { λ demoting. demote_lawful demoting.matching demoting.keep_local demoting.any_earth demoting.table.now };
 
-    ghost written = { λ demoting table. refl };
-
-    ghost unshelved = { λ demoting table. refl };
+    ghost unshelved = { λ demoting. refl };
 
     fn first<T: Sink>(
         &self,
         _alloc: Global,
-        _table: &Table,
+        _place: &Place,
         message: &Message1<'_>,
         output: &mut T,
     ) -> Answered {
@@ -50,14 +52,33 @@ impl TableWriter for Demoting {
     fn second<T: Sink>(
         &self,
         alloc: Global,
-        table: &Table,
+        _place: &Place,
         message: &Message<'_>,
         output: &mut T,
     ) -> Answered {
-        match demote_fields(alloc, message, table, *self) {
+        match demote_fields(alloc, message, self) {
             Ok(octets) => written(write_counted(output, octets.as_slice())),
             Err(answered) => answered,
         }
+    }
+
+    /// No message is heard.
+    fn hears(&self) -> bool {
+        false
+    }
+
+    fn heard<T: Sink>(
+        &self,
+        _alloc: Global,
+        _place: &Place,
+        _arrival: &Arrival,
+        _output: &mut T,
+    ) -> Answered {
+        Answered::Memory
+    }
+
+    fn ending(&self) -> Ending {
+        Ending::Written
     }
 }
 
@@ -65,18 +86,17 @@ impl TableWriter for Demoting {
 fn demote_fields(
     alloc: Global,
     message: &Message<'_>,
-    table: &Table,
-    demoting: Demoting,
+    demoting: &Demoting<'_>,
 ) -> Result<Vec<u8>, Answered>
     ensures { MatchResult result
-        (λ octets. (demoted_cause table.now demoting.keep_local demoting.any_earth message.now ≡ None)
-        × (octets.items ≡ demoted_fields table.now demoting.keep_local message.now))
-        (λ answered. IsKept (demoted_cause table.now demoting.keep_local demoting.any_earth message.now) answered) }
+        (λ octets. (demoted_cause demoting.now.table.now demoting.now.matching demoting.now.keep_local demoting.now.any_earth message.now ≡ None)
+        × (octets.items ≡ demoted_fields demoting.now.table.now demoting.now.matching demoting.now.keep_local message.now))
+        (λ answered. IsKept (demoted_cause demoting.now.table.now demoting.now.matching demoting.now.keep_local demoting.now.any_earth message.now) answered) }
 {
     let mut octets = Vec::new(alloc);
     let count = message.fields();
     for index in 0..count {
-        demote_field(alloc, message, index + 1, table, demoting, &mut octets)?;
+        demote_field(alloc, message, index + 1, demoting, &mut octets)?;
     }
     Ok(octets)
 }
@@ -86,20 +106,25 @@ fn demote_field(
     alloc: Global,
     message: &Message<'_>,
     field: u32,
-    table: &Table,
-    demoting: Demoting,
+    demoting: &Demoting<'_>,
     out: &mut Vec<u8>,
 ) -> Result<(), Answered>
     requires first { 1 ≤ field }
     requires last { field ≤ field_count message.now }
     ensures { MatchResult result
-        (λ _. (field_cause table.now demoting.keep_local demoting.any_earth message.now field ≡ None)
-        × (out.new.items ≡ out.old.items ++ demoted table.now demoting.keep_local message.now field))
-        (λ answered. IsKept (field_cause table.now demoting.keep_local demoting.any_earth message.now field) answered) }
+        (λ _. (field_cause demoting.now.table.now demoting.now.matching demoting.now.keep_local demoting.now.any_earth message.now field ≡ None)
+        × (out.new.items ≡ out.old.items ++ demoted demoting.now.table.now demoting.now.matching demoting.now.keep_local message.now field))
+        (λ answered. IsKept (field_cause demoting.now.table.now demoting.now.matching demoting.now.keep_local demoting.now.any_earth message.now field) answered) }
 {
-    let keep_local = demoting.keep_local;
-    let any_earth = demoting.any_earth;
-    match demote(alloc, message, field, table, keep_local, any_earth) {
+    match demote(
+        alloc,
+        message,
+        field,
+        demoting.table,
+        demoting.matching,
+        demoting.keep_local,
+        demoting.any_earth,
+    ) {
         Ok(octets) => match out.extend_from_slice(octets.as_slice()) {
             Ok(()) => Ok(()),
             Err(_) => Err(Answered::Memory),

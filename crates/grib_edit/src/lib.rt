@@ -11,7 +11,6 @@ mod rescanning;
 mod setting;
 mod shrinking;
 mod splitting;
-mod tabling;
 
 pub use changing::{Changer, Changing};
 pub use demoting::Demoting;
@@ -22,4 +21,3 @@ pub use rescanning::Rescanning;
 pub use setting::Setting;
 pub use shrinking::Shrinking;
 pub use splitting::Splitting;
-pub use tabling::{ByTable, TableWriter};

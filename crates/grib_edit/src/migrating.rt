@@ -4,44 +4,44 @@ ghost use Rattle.std.specs.Prelude.{◌≡◌, true};
 ghost use Rattle.grib_edit.specs.Unchanged.{answered_lost};
 ghost use Rattle.grib_edit.specs.Migrating.{are_octets};
 
-use crate::tabling::TableWriter;
-use grib_command::{Answered, write_counted, written};
+use grib_command::{Answered, Ending, Writer, write_counted, written};
 use grib_io::Sink;
 use grib_migrate::{MigrateFault, migrate};
 use grib_params::Table;
-use grib_stream::Cause;
+use grib_stream::{Cause, Place};
 use grib1_sections::Message1;
+use grib2_arrival::Arrival;
 use grib2_message::Message;
 use std::alloc::Global;
 
 /// The command `migrate`.
-#[derive(Clone, Copy, Debug)]
-pub struct Migrating {
+#[derive(Debug, Drop)]
+pub struct Migrating<'a> {
+    /// What the parameters of edition 1 are in edition 2.
+    pub table: &'a Table,
     /// Whether octets for the centre's own use are kept.
     pub keep_local: bool,
 }
 
-impl TableWriter for Migrating {
+impl Writer for Migrating<'_> {
     ghost use Rattle.std.specs.Prelude.{refl};
     ghost use Rattle.grib_edit.specs.Migrating.{migrate_command, migrate_lawful};
 
-    ghost commands = { λ migrating. migrate_command migrating.keep_local };
+    ghost definition = { λ migrating. migrate_command migrating.keep_local migrating.table.now };
 
-    ghost lawful = { λ migrating table. migrate_lawful migrating.keep_local table };
+    ghost lawful = { λ migrating. migrate_lawful migrating.keep_local migrating.table.now };
 
-    ghost written = { λ migrating table. refl };
-
-    ghost unshelved = { λ migrating table. refl };
+    ghost unshelved = { λ migrating. refl };
 
     fn first<T: Sink>(
         &self,
         alloc: Global,
-        table: &Table,
+        _place: &Place,
         message: &Message1<'_>,
         output: &mut T,
     ) -> Answered {
         has_octets(message);
-        match migrate(alloc, message, table, self.keep_local) {
+        match migrate(alloc, message, self.table, self.keep_local) {
             Ok(octets) => written(write_counted(output, octets.as_slice())),
             Err(fault) => kept_by(fault),
         }
@@ -50,11 +50,30 @@ impl TableWriter for Migrating {
     fn second<T: Sink>(
         &self,
         _alloc: Global,
-        _table: &Table,
+        _place: &Place,
         message: &Message<'_>,
         output: &mut T,
     ) -> Answered {
         written(write_counted(output, message.octets()))
+    }
+
+    /// No message is heard.
+    fn hears(&self) -> bool {
+        false
+    }
+
+    fn heard<T: Sink>(
+        &self,
+        _alloc: Global,
+        _place: &Place,
+        _arrival: &Arrival,
+        _output: &mut T,
+    ) -> Answered {
+        Answered::Memory
+    }
+
+    fn ending(&self) -> Ending {
+        Ending::Written
     }
 }
 

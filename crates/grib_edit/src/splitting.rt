@@ -17,6 +17,7 @@ use grib_io::{Shelf, Sink, Stop};
 use grib_select::single;
 use grib_stream::{Cause, Place};
 use grib1_sections::Message1;
+use grib2_arrival::Arrival;
 use grib2_message::Message;
 use std::alloc::{AllocError, Global};
 
@@ -54,6 +55,21 @@ impl Answerer for Splitting<'_> {
         shelf: &mut H,
     ) -> Answered {
         split(alloc, self.name, place.fields, message, shelf)
+    }
+
+    /// No message is heard.
+    fn hears(&self) -> bool {
+        false
+    }
+
+    fn heard<T: Sink>(
+        &self,
+        _alloc: Global,
+        _place: &Place,
+        _arrival: &Arrival,
+        _output: &mut T,
+    ) -> Answered {
+        Answered::Memory
     }
 
     fn ending(&self) -> Ending {

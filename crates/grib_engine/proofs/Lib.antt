@@ -1,5 +1,5 @@
+pub mod Broken
+pub mod Ended
+pub mod Messages
+pub mod Unread
 pub mod Made
-pub mod Tabled
-pub mod Past
-pub mod Counting
-pub mod Either

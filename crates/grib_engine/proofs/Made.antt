@@ -1,64 +1,83 @@
--- What is written of a message that is made.
-use Rattle.std.proofs.Common.{◌≡◌, ℕ, ◌≤◌, true, false, cond, Option, Some, None, List, [], ◌∷◌, length, nat_lt, refl, sym, ap, ◌∙◌, subst, inl, inr, append-nil, arith, ⊎_elim, ltb-true, map}
+-- What is written where no input is read, and of a message that is made.
+use Rattle.std.proofs.Common.{◌≡◌, ◌≢◌, ℕ, ◌≤◌, Bool, true, false, cond, Option, Some, None, Ok, Err, List, [], ◌∷◌, length, nat_lt, refl, sym, ap, ◌∙◌, subst, inl, arith, ⊎_elim, ltb-true, map}
+use Rattle.std.proofs.lemmas.Bool.{cases_Bool, false≢true}
+use Rattle.std.proofs.KnownBytes.{Appends-nil, Appends-kept}
+use Rattle.std.specs.declared.result.Result.{Result}
 use Rattle.std.specs.List.{range_with_len}
 use Rattle.std.specs.Io.KnownBytes.{Appends, Keeps}
-use Rattle.std.proofs.lemmas.Bool.{cases_Bool}
-use Rattle.grib_bits.specs.Octets.{octets}
 use Rattle.grib_base.specs.declared.limits.TheConstants.{MOST_OCTETS}
-use Rattle.grib_io.specs.Outside.{AppendsFront}
-use Rattle.grib_io.specs.Shelves.{Held as Names}
+use Rattle.grib_io.specs.Outside.{AppendsFront, Counted, Unfinished}
+use Rattle.grib_io.specs.declared.outside.Stop.{Stop}
 use Rattle.grib_packing.specs.declared.column.Column.{Column}
 use Rattle.grib_packing.specs.Misfits.{Target, first_misfit}
 use Rattle.grib_packed.specs.Written.{packed}
 use Rattle.grib2_message.specs.Fields.{field_count, column_of}
 use Rattle.grib2_message.specs.Assembled.{assembled}
 use Rattle.grib_repack.specs.Repacked.{OutputTooLong, kind_of, packed_field, packed_fields, repacked, field_misfit, or_later, misfit_among, length_misfit, repack_misfit}
-use Rattle.grib_stream.specs.Acts.{World, world, writes, Did}
-use Rattle.grib_stream.specs.Outcomes.{is_broken}
-use Rattle.grib_stream.specs.Run.{Gives}
+use Rattle.grib_stream.specs.Outcomes.{is_broken, is_cut_short}
 use Rattle.grib_stream.specs.declared.outcome.Outcome.{Outcome}
-use Rattle.grib_stream.specs.declared.outcome.Outcome.TheVariants.{Done, WriteFault}
-use Rattle.grib_stream.proofs.Worlds.{did_write, did_write_front, did_keep, did_still, front_whole, front_still, front_more}
-use Rattle.grib_run_spec.specs.Tasks.{writing}
-use Rattle.grib_command.specs.Outcomes.{NotesFront}
-use Rattle.grib_command.proofs.Outside.{front_of_nothing}
+use Rattle.grib_stream.specs.declared.outcome.Outcome.TheVariants.{Done, ReadFault, WriteFault, ShelfFault}
+use Rattle.grib_stream.proofs.Worlds.{did_write, did_write_front}
+use Rattle.grib_items.specs.declared.policy.Policy.{Policy}
+use Rattle.grib_items.proofs.Effects.{octets_none, octets_whole}
+use Rattle.grib_command.specs.Outcomes.{note_of, note_with}
+use Rattle.grib_command.specs.Pending.{Writes}
 use Rattle.grib_command.proofs.Noted.{OneOf}
+use Rattle.grib_run_spec.specs.Seen.{Seen}
+use Rattle.grib_run_spec.specs.Tasks.{Makes, writing}
+use Rattle.grib_engine.proofs.Ended.{Ran}
+use Rattle.grib_engine.proofs.Broken.{one_whole, one_early}
 
--- ---- octets that were written, and the end of the run
+-- ---- octets that were written and passed on, with this note
 
-written_then : (a b c : Option (List ℕ)) (names : Option Names) (octets : List ℕ) → Appends a b octets → Keeps b c
-    → Did (world a names) (world c names) (writes octets)
-written_then a b c names octets appended kept = did_still (world a names) (world b names) (world c names) (writes octets) (did_write a b names octets appended) (did_keep b c names kept)
+-- all was written, and passed on or not
+pub all_passed : {T : Type 0} (result : Result T Stop) (a b c : Option (List ℕ)) (octets : List ℕ) → Appends a b octets → Keeps b c → Writes result a c octets
+all_passed (Ok x) a b c octets appended kept =
+    let whole = Appends-kept a b c octets appended kept in record { whole = whole; front = octets_whole a c octets whole }
+all_passed (Err stop) a b c octets appended kept = record { whole = tt; front = octets_whole a c octets (Appends-kept a b c octets appended kept) }
 
-only_done : (result : Outcome) → OneOf Done result → is_broken result ≡ false → result ≡ Done
-only_done result (inl same) unbroken = same
-only_done result (inr (inl fault)) unbroken = let no : ⊥ = cc (ap is_broken fault) in absurd no
-only_done result (inr (inr memory)) unbroken = let no : ⊥ = cc (ap is_broken memory) in absurd no
+broken_note : (note : List ℕ) (own : Outcome) → is_broken own ≡ true → note_with note own ≡ note_of own
+broken_note note Done broken = absurd (false≢true broken)
+broken_note note other broken = refl
 
-pub gives_whole : (a b c : Option (List ℕ)) (octets note : List ℕ) (result : Outcome) → Appends a b octets → Keeps b c → OneOf Done result
-    → (names : Option Names) → Gives (writing octets note) result (world a names) (world c names)
-gives_whole a b c octets note result appended kept one names =
-    let did = written_then a b c names octets appended kept in
+not_early : (fault own : Outcome) → is_broken fault ≡ true → is_cut_short fault ≡ false → OneOf Done own → own ≢ fault
+not_early fault own broken uncut one is =
+    false≢true (ap is_broken (one_early fault Done own uncut one is) ∙ broken)
+
+-- what is seen of the output behind them
+abbrev pub written_to : Seen → Option (List ℕ) → ℕ → Bool → Seen
+written_to before output faults settled = record before { output = output; write_faults = faults; output_settled = settled }
+
+pub put_ran : (octets note : List ℕ) (policy : Policy) (own : Outcome) (before : Seen) (output : Option (List ℕ)) (faults : ℕ) (settled : Bool) → OneOf Done own
+    → (own ≡ Done → Appends before.output output octets) → AppendsFront before.output output octets
+    → (own ≡ WriteFault → Counted before.write_faults faults) → (own ≢ WriteFault → faults ≡ before.write_faults) → Unfinished before.output_settled settled
+    → Ran (Makes (writing octets note)) policy own (note_with note own) before (written_to before output faults settled)
+put_ran octets note policy own before output faults settled one whole front counted calm unfinished =
+    let done = λ (unbroken : is_broken own ≡ false). one_whole Done own one unbroken in
     record {
-      ends = only_done result one;
-      whole = λ unbroken. subst (Did (world a names) (world c names)) (sym (append-nil (writes octets))) did;
-      front = front_more (world a names) (world c names) (writes octets) [] (front_whole (world a names) (world c names) (writes octets) did);
+      answer = (
+        record {
+          ends = λ unbroken. (done unbroken, ap (note_with note) (done unbroken));
+          broke = broken_note note own;
+          whole = λ unbroken. record { did = did_write before.output output before.names octets (whole (done unbroken)); noted = Appends-nil before.notes };
+          front = record { did = did_write_front before.output output before.names octets front; noted = octets_none before.notes [] };
+        },
+        not_early ReadFault own refl refl one,
+      );
+      counts = record {
+        read = λ e. absurd (not_early ReadFault own refl refl one e);
+        read_calm = λ other. refl;
+        write = λ e. inl (counted e, refl);
+        output_calm = calm;
+        notes_calm = λ other. refl;
+        shelf = λ e. absurd (not_early ShelfFault own refl refl one e);
+        shelf_calm = λ other. refl;
+      };
+      unfinished = unfinished;
+      notes_unfinished = λ all. all;
+      unshelved = λ off. not_early ShelfFault own refl refl one;
+      table_stays = λ no. absurd (false≢true no);
     }
-
--- a run that broke, where a front was written
-pub gives_broken : (a b c : Option (List ℕ)) (octets note : List ℕ) (result : Outcome) → AppendsFront a b octets → Keeps b c → is_broken result ≡ true
-    → (names : Option Names) → Gives (writing octets note) result (world a names) (world c names)
-gives_broken a b c octets note result appended kept broken names = record {
-  ends = λ unbroken. let no : ⊥ = cc in absurd no;
-  whole = λ unbroken. let no : ⊥ = cc in absurd no;
-  front = front_more (world a names) (world c names) (writes octets) []
-      (front_still (world a names) (world b names) (world c names) (writes octets) (did_write_front a b names octets appended) (did_keep b c names kept));
-}
-
-pub broken_either : (outcome result : Outcome) → is_broken outcome ≡ true → OneOf outcome result → is_broken result ≡ true
-broken_either outcome result broken (inl same) = ap is_broken same ∙ broken
-broken_either outcome result broken (inr (inl fault)) = ap is_broken fault
-broken_either outcome result broken (inr (inr memory)) = ap is_broken memory
 
 -- ---- nothing of a message that is made is lost
 
@@ -95,14 +114,3 @@ nothing_lost target message column one is kind none few =
     let fields : misfit_among target message (range_with_len 1 (field_count message)) ≡ None =
     ap (λ n. misfit_among target message (range_with_len 1 n)) one ∙ ap (λ o. or_later o (λ _. None)) (field_fits target message column is none) in
     ap (λ o. or_later o (λ _. length_misfit (length (repacked target message)))) fields ∙ short_fits (length (repacked target message)) short
-
--- octets and a note that are equal
-pub gives_same : (octets octets_now note note_now : List ℕ) (result : Outcome) (a b : World) → octets ≡ octets_now → note ≡ note_now
-    → Gives (writing octets note) result a b → Gives (writing octets_now note_now) result a b
-gives_same octets octets_now note note_now result a b same_octets same_note gives =
-    subst (λ n. Gives (writing octets_now n) result a b) same_note (subst (λ o. Gives (writing o note) result a b) same_octets gives)
-
--- after a fault of writing nothing is noted
-pub front_at_fault : (a b : Option (List ℕ)) (note : List ℕ) → NotesFront a b note WriteFault → NotesFront a b note Done
-front_at_fault a b note (inl own) = inl (front_of_nothing a b note own)
-front_at_fault a b note (inr memory) = inr memory

@@ -10,8 +10,7 @@ ghost use Rattle.grib_run_spec.specs.Tasks.{IfReads, work_of};
 use grib_command::{Answered, ByOutput, Job};
 use grib_dispatch::{Held, answer_held};
 use grib_edit::{
-    ByTable, Changing, Demoting, Filtering, Migrating, Repacking, Rescanning, Setting, Shrinking,
-    Splitting,
+    Changing, Demoting, Filtering, Migrating, Repacking, Rescanning, Setting, Shrinking, Splitting,
 };
 use grib_io::{Shelf, Sink};
 use grib_params::Table;
@@ -156,24 +155,25 @@ pub fn answer_message<T: Sink, H: Shelf>(
         Job::Migrate { keep_local, .. } => match table {
             Some(table) => {
                 let keep_local = *keep_local;
-                let writer = &Migrating { keep_local };
-                let by_table = ByOutput(ByTable { writer, table });
-                answer_held(&by_table, alloc, place, held, output, shelf)
+                let migrating = ByOutput(Migrating { table, keep_local });
+                answer_held(&migrating, alloc, place, held, output, shelf)
             }
             None => Answered::Whole(0),
         },
         Job::Demote {
             keep_local,
             any_earth,
+            matching,
             ..
         } => match table {
             Some(table) => {
-                let writer = &Demoting {
+                let demoting = ByOutput(Demoting {
+                    table,
+                    matching: *matching,
                     keep_local: *keep_local,
                     any_earth: *any_earth,
-                };
-                let by_table = ByOutput(ByTable { writer, table });
-                answer_held(&by_table, alloc, place, held, output, shelf)
+                });
+                answer_held(&demoting, alloc, place, held, output, shelf)
             }
             None => Answered::Whole(0),
         },

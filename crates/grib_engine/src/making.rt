@@ -1,20 +1,22 @@
-//! The message that `make` writes.
+//! What is written where no input is read: a message that is made, or a page.
 
-ghost use Rattle.std.specs.Prelude.{◌≡◌, ◌≢◌, true, false, None, Option, IfOk};
-ghost use Rattle.grib_io.specs.Shelves.{Held as Names};
+ghost use Rattle.std.specs.Prelude.{◌≡◌, ◌≢◌, ◌⊎◌, ◌||◌, true, None, IfOk};
+ghost use Rattle.std.specs.Io.KnownBytes.{Appends};
 ghost use Rattle.grib2_message.specs.Message.{IsMessage};
+ghost use Rattle.grib_io.specs.Outside.{AppendsFront, Counted, Unfinished};
 ghost use Rattle.grib_synthetic.specs.Made.{made, MayBeMade};
 ghost use Rattle.grib_packing.specs.Misfits.{ToSimple};
 ghost use Rattle.grib_repack.specs.Faults.{target_of};
 ghost use Rattle.grib_repack.specs.Repacked.{repacked, repack_misfit};
-ghost use Rattle.grib_stream.specs.Acts.{world};
-ghost use Rattle.grib_stream.specs.Run.{Gives};
 ghost use Rattle.grib_stream.specs.declared.outcome.Outcome.TheVariants.{Done, Memory, WriteFault};
-ghost use Rattle.grib_command.specs.Closing.{EndsRun, StandsWhole};
+ghost use Rattle.grib_items.specs.declared.policy.Policy.{Policy};
 ghost use Rattle.grib_command.specs.Jobs.{is_target};
-ghost use Rattle.grib_command.specs.Outcomes.{note_of, note_with};
+ghost use Rattle.grib_command.specs.Pending.{WritesTo};
+ghost use Rattle.grib_run_spec.specs.Seen.{Seen};
+ghost use Rattle.grib_run_spec.specs.Serving.{Serves};
 ghost use Rattle.grib_run_spec.specs.Tasks as tasks;
-ghost use Rattle.grib_run_spec.specs.Tasks.{writing, made_answer};
+ghost use Rattle.grib_run_spec.specs.Tasks.{Makes, writing, made_answer};
+ghost use Rattle.grib_engine.specs.Beside.{beside};
 
 use crate::closing::close_with_note;
 use grib_base::ReadFault;
@@ -49,12 +51,10 @@ pub(crate) fn serve_made<T: Sink, N: Sink>(
 ) -> Outcome
     requires made { MayBeMade seed ni nj }
     requires target { is_target target ≡ true }
-    ensures runs { (names : Option Names) → Gives (made_answer seed ni nj target) result
-        (world (T.contents output.old) names) (world (T.contents output.new) names) }
-    ensures ends { EndsRun T.contents T.faults T.settled N.contents N.faults N.settled
-        Done (tasks.note_of_made seed ni nj target) result output.old output.new notes.old notes.new }
-    ensures memory_noted { T.takes_memory ≡ false → N.takes_memory ≡ false → result ≡ Memory
-        → StandsWhole T.settled N.contents N.settled (note_of Memory) output.new notes.old notes.new }
+    ensures { (rest : Seen) (policy : Policy)
+        → let see = beside rest T.contents T.faults T.settled N.contents N.faults N.settled in
+        Serves (T.takes_memory || N.takes_memory) (Makes (made_answer seed ni nj target)) policy result
+        (see output.old notes.old) (see output.new notes.new) }
 {
     match make(alloc, seed, ni, nj, target) {
         Ok(made) => write_noted(
@@ -76,18 +76,37 @@ pub(crate) fn write_noted<T: Sink, N: Sink>(
     output: &mut T,
     notes: &mut N,
 ) -> Outcome
-    ensures runs { (names : Option Names) → Gives (writing octets.now note.now) result
-        (world (T.contents output.old) names) (world (T.contents output.new) names) }
-    ensures ends { EndsRun T.contents T.faults T.settled N.contents N.faults N.settled
-        Done note.now result output.old output.new notes.old notes.new }
-    ensures whole { T.takes_memory ≡ false → N.takes_memory ≡ false → result ≢ WriteFault
-        → StandsWhole T.settled N.contents N.settled (note_with note.now result) output.new notes.old notes.new }
+    ensures { (rest : Seen) (policy : Policy)
+        → let see = beside rest T.contents T.faults T.settled N.contents N.faults N.settled in
+        Serves (T.takes_memory || N.takes_memory) (Makes (writing octets.now note.now)) policy result
+        (see output.old notes.old) (see output.new notes.new) }
 {
-    match write_whole(output, octets) {
-        Ok(()) => close_with_note(alloc, Outcome::Done, note, output, notes),
-        Err(Stop::Failed) => close_with_note(alloc, Outcome::WriteFault, note, output, notes),
-        Err(Stop::Memory) => close_with_note(alloc, Outcome::Memory, note, output, notes),
+    let outcome = put(octets, output);
+    close_with_note(alloc, outcome, note, output, notes)
+}
+
+/// Writes these octets and passes them on, and answers how the run ends then.
+fn put<T: Sink>(octets: &[u8], output: &mut T) -> Outcome
+    ensures one_of { (result ≡ Done) ⊎ ((result ≡ WriteFault) ⊎ (result ≡ Memory)) }
+    ensures whole { result ≡ Done → Appends (T.contents output.old) (T.contents output.new) octets.now }
+    ensures front { AppendsFront (T.contents output.old) (T.contents output.new) octets.now }
+    ensures counted { result ≡ WriteFault → Counted (T.faults output.old) (T.faults output.new) }
+    ensures calm { result ≢ WriteFault → T.faults output.new ≡ T.faults output.old }
+    ensures unfinished { Unfinished (T.settled output.old) (T.settled output.new) }
+{
+    match pass(octets, output) {
+        Ok(()) => Outcome::Done,
+        Err(Stop::Failed) => Outcome::WriteFault,
+        Err(Stop::Memory) => Outcome::Memory,
     }
+}
+
+/// Writes these octets and passes them on.
+fn pass<T: Sink>(octets: &[u8], output: &mut T) -> Result<(), Stop>
+    ensures { WritesTo T.contents T.faults T.settled result output.old output.new octets.now }
+{
+    write_whole(output, octets)?;
+    output.pass_on()
 }
 
 /// Makes a message and packs it anew. Nothing of it is lost, and it is not too long.

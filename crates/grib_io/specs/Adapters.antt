@@ -9,6 +9,8 @@ pub record CountedWriter (W : Type 0) : Type 0 where
   pub writer : W
   pub faults : ℕ
   pub settled : Bool
+  -- whether something was written that the writer was not yet made to pass on
+  pub held : Bool
 
 pub record CountedFolder (D : Type 0) : Type 0 where
   pub folder : D

@@ -1,6 +1,6 @@
 //! A reader and a writer of std as a source and a sink.
 
-ghost use Rattle.std.specs.Prelude.{◌≡◌, ◌<◌, true, false, IfErr, IfOk, MatchResult, length};
+ghost use Rattle.std.specs.Prelude.{◌≡◌, ◌<◌, true, false, ◌||◌, nat_lt, Ok, IfErr, IfOk, MatchResult, length};
 ghost use Rattle.std.specs.Io.{ReadsAtMost, WritesAtMost};
 ghost use Rattle.std.specs.Io.KnownBytes.{ReadConsumes, WriteAppends, Keeps};
 ghost use Rattle.grib_io.specs.Outside.{CountsFailure, CountsStop, CountsStops, Settles};
@@ -76,6 +76,8 @@ pub struct WriteSink<W> {
     writer: W,
     faults: u64,
     settled: bool,
+    /// Whether something was written that the writer was not yet made to pass on.
+    held: bool,
     /// The first error of the writer.
     error: Option<io::Error>,
 }
@@ -85,18 +87,19 @@ impl<W> Model for WriteSink<W> {
 
     ghost Value = { CountedWriter W };
 
-    ghost view = { λ sink. record { writer = sink.writer; faults = sink.faults; settled = sink.settled } };
+    ghost view = { λ sink. record { writer = sink.writer; faults = sink.faults; settled = sink.settled; held = sink.held } };
 }
 
 impl<W: Write> WriteSink<W> {
     /// A sink over this writer, settled and without a fault so far. It takes no memory.
     pub fn new(writer: W) -> WriteSink<W>
-        ensures { result ≡ record { writer = writer; faults = 0; settled = true } }
+        ensures { result ≡ record { writer = writer; faults = 0; settled = true; held = false } }
     {
         WriteSink {
             writer,
             faults: 0,
             settled: true,
+            held: false,
             error: None,
         }
     }
@@ -146,12 +149,38 @@ impl<W: Write> Sink for WriteSink<W> {
         ensures stop { IfErr result (λ stop. stop ≡ Stop.Failed) }
         ensures faults { MatchResult result (λ _. self.new.faults ≡ self.old.faults)
             (λ _. self.new.faults ≡ next_count self.old.faults) }
+        ensures held { MatchResult result (λ count. self.new.held ≡ (self.old.held || nat_lt 0 count))
+            (λ _. self.new.held ≡ self.old.held) }
     {
         match self.writer.write(piece) {
             Ok(0) if !piece.is_empty() => Err(self.fail()),
             Ok(count) => {
                 self.settled = self.settled && count == 0;
+                self.held = self.held || count > 0;
                 Ok(count)
+            }
+            Err(error) => Err(self.fail_by(error)),
+        }
+    }
+
+    fn pass_on(&mut self) -> Result<(), Stop>
+        ensures octets { Keeps (W.contents self.old.writer) (W.contents self.new.writer) }
+        ensures settled { self.new.settled ≡ self.old.settled }
+        ensures counted { CountsStops result self.old.faults self.new.faults }
+        ensures stop { IfErr result (λ stop. stop ≡ Stop.Failed) }
+        ensures faults { MatchResult result (λ _. self.new.faults ≡ self.old.faults)
+            (λ _. self.new.faults ≡ next_count self.old.faults) }
+        ensures held { MatchResult result (λ _. self.new.held ≡ false) (λ _. self.new.held ≡ self.old.held) }
+        // The writer is not called where nothing was written since it last passed on what it held.
+        ensures nothing { self.old.held ≡ false → (result ≡ Ok tt) × (self.new ≡ self.old) }
+    {
+        if !self.held {
+            return Ok(());
+        }
+        match self.writer.flush() {
+            Ok(()) => {
+                self.held = false;
+                Ok(())
             }
             Err(error) => Err(self.fail_by(error)),
         }
@@ -165,10 +194,12 @@ impl<W: Write> Sink for WriteSink<W> {
         ensures stop { IfErr result (λ stop. stop ≡ Stop.Failed) }
         ensures faults { MatchResult result (λ _. self.new.faults ≡ self.old.faults)
             (λ _. self.new.faults ≡ next_count self.old.faults) }
+        ensures held { MatchResult result (λ _. self.new.held ≡ false) (λ _. self.new.held ≡ self.old.held) }
     {
         match self.writer.flush() {
             Ok(()) => {
                 self.settled = true;
+                self.held = false;
                 Ok(())
             }
             Err(error) => Err(self.fail_by(error)),

@@ -115,6 +115,16 @@ impl Sink for CalmSink {
         Ok(self.storage.add(piece)?)
     }
 
+    fn pass_on(&mut self) -> Result<(), Stop>
+        ensures octets { Keeps (Some self.old.octets) (Some self.new.octets) }
+        ensures settled { self.new.settled ≡ self.old.settled }
+        ensures counted { CountsStops result 0 0 }
+        ensures answer { result ≡ Ok tt }
+        ensures sink { self.new ≡ self.old }
+    {
+        Ok(())
+    }
+
     fn finish(&mut self) -> Result<(), Stop>
         ensures octets { Keeps (Some self.old.octets) (Some self.new.octets) }
         ensures settled { MatchResult result (λ _. self.new.settled ≡ true)

@@ -1,6 +1,6 @@
 //! A sink in memory whose calls fail by their numbers.
 
-ghost use Rattle.std.specs.Prelude.{◌≡◌, ◌≤◌, ◌<◌, Some, min, [], true, IfErr, IfOk, MatchResult, is_err, length};
+ghost use Rattle.std.specs.Prelude.{◌≡◌, ◌≤◌, ◌<◌, Some, min, [], true, Ok, IfErr, IfOk, MatchResult, is_err, length};
 ghost use Rattle.std.specs.Io.{WritesAtMost};
 ghost use Rattle.std.specs.Io.KnownBytes.{WriteAppends, Keeps};
 ghost use Rattle.grib_io.specs.Outside.{CountsStops, Settles};
@@ -12,9 +12,9 @@ use crate::storage::Storage;
 use std::alloc::Global;
 use std::marker::Model;
 
-/// A sink that keeps its octets in memory. A write takes a piece at most, and a call fails exactly
-/// where its number, counted from 1 over all its calls, is among some. The calls after the first
-/// 2^64 - 1 have no number.
+/// A sink that keeps its octets in memory. A write takes a piece at most, and a call of `write` or `finish`
+/// fails exactly where its number, counted from 1 over all of these, is among some. Those after the first
+/// 2^64 - 1 have no number. It holds nothing back, so that `pass_on` does nothing.
 #[derive(Debug, Drop)]
 pub struct MemorySink {
     storage: Storage,
@@ -81,6 +81,16 @@ impl Sink for MemorySink {
     {
         self.calls.count()?;
         Ok(self.storage.add(piece)?)
+    }
+
+    fn pass_on(&mut self) -> Result<(), Stop>
+        ensures octets { Keeps (Some self.old.octets) (Some self.new.octets) }
+        ensures settled { self.new.settled ≡ self.old.settled }
+        ensures counted { CountsStops result self.old.calls.faults self.new.calls.faults }
+        ensures answer { result ≡ Ok tt }
+        ensures sink { self.new ≡ self.old }
+    {
+        Ok(())
     }
 
     fn finish(&mut self) -> Result<(), Stop>

@@ -99,6 +99,14 @@ pub trait Sink {
         ensures counted { CountsStops result (faults self.old) (faults self.new) }
         ensures memory { takes_memory ≡ false → IfErr result (λ stop. stop ≡ Stop.Failed) };
 
+    /// Passes on what a lower layer holds back, so that a reader behind it has it. It changes no contents, and
+    /// claims nothing of what is settled.
+    fn pass_on(&mut self) -> Result<(), Stop>
+        ensures octets { Keeps (contents self.old) (contents self.new) }
+        ensures settled { settled self.new ≡ settled self.old }
+        ensures counted { CountsStops result (faults self.old) (faults self.new) }
+        ensures memory { takes_memory ≡ false → IfErr result (λ stop. stop ≡ Stop.Failed) };
+
     /// Passes on what a lower layer holds back. It changes no contents.
     fn finish(&mut self) -> Result<(), Stop>
         ensures octets { Keeps (contents self.old) (contents self.new) }

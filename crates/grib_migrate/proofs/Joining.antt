@@ -10,22 +10,27 @@ use Rattle.grib_reasons.specs.declared.loss.Loss.{Loss}
 use Rattle.grib_migrate.specs.declared.loss.MigrateFault.{MigrateFault}
 use Rattle.grib_migrate.specs.declared.loss.MigrateFault.TheVariants.{Lost, Memory}
 use Rattle.grib_migrate.specs.Answered.{IsMigrateFault}
-use Rattle.grib_migrate.specs.Losses.{first_of, first_loss, front_losses, number_losses, coordinate_loss}
+use Rattle.grib_migrate.specs.Losses.{first_of, first_loss_with, chosen_losses, number_losses, coordinate_loss}
 use Rattle.std.proofs.lemmas.List.{length-append, length-drop}
-use Rattle.grib_bits.specs.Encoding.{octets_of, section_of}
+use Rattle.grib_bits.specs.Encoding.{octets_of, section_of, all_octets}
 use Rattle.grib_bits.proofs.Encoding.{length-octets_of}
+use Rattle.grib_params.specs.Surfaces.{SurfaceEntries}
 use Rattle.grib_params.specs.Table.{Entries}
 use Rattle.grib_params.specs.declared.row.Target.{Target}
 use Rattle.grib1_sections.specs.Acceptance.{identification, grid, bitmap, data_section, points_of, values_of}
 use Rattle.grib_migrate.specs.declared.checking.Product.{Product}
+use Rattle.grib_migrate.specs.declared.labels.Local.{Local}
+use Rattle.grib_migrate.specs.declared.labels.Local.TheVariants.{Refuse, Keep, Ecmwf}
+use Rattle.grib_migrate.specs.declared.labels.Member.{Member}
 use Rattle.grib_migrate.specs.declared.level.Surfaces.{Surfaces}
 use Rattle.grib_migrate.specs.declared.time.Unit.{Unit as UnitOfTime}
 use Rattle.grib_migrate.specs.Checked.{IsProduct}
 use Rattle.grib_migrate.specs.Held.{Holds}
-use Rattle.grib_migrate.specs.Source.{has_local, target_of, no_target}
-use Rattle.grib_migrate.specs.Levels.{surfaces_of}
+use Rattle.grib_migrate.specs.Source.{has_local, local_octets, no_target}
+use Rattle.grib_migrate.specs.Chosen.{named_in, surfaces_by, target_by}
+use Rattle.grib_migrate.specs.Labels.{has_labels, label_numbers, local_section_by, member_by}
 use Rattle.grib_migrate.specs.Times.{unit_of}
-use Rattle.grib_migrate.specs.Migrated.{local_section, front_sections, whole_message, migrated, no_unit, no_surfaces}
+use Rattle.grib_migrate.specs.Migrated.{front_sections, whole_message, migrated_with, no_unit, no_surfaces}
 
 second_lost : (g c r : Option Loss) (fault : MigrateFault) → g ≡ None → IsMigrateFault c fault → IsMigrateFault (first_of (g ∷ c ∷ r ∷ [])) fault
 second_lost g c r (Lost loss) none is = ap (λ o. first_of (o ∷ c ∷ r ∷ [])) none ∙ ap (λ o. first_of (None ∷ o ∷ r ∷ [])) is
@@ -76,12 +81,14 @@ length-section number contents =
 pub section_short : (number most : ℕ) (contents same : List ℕ) → contents ≡ same → length contents ≤ most → length (section_of number same) ≤ most + 5
 section_short number most contents same e few = omega (arith, length-section number same, ap length e, few)
 
-local_by : (b : Bool) (s1 : List ℕ) → length s1 < 2 ^ 24 → length (cond b (section_of 2 (drop 40 s1)) []) ≤ 2 ^ 25
-local_by true s1 few = omega (arith, length-section 2 (drop 40 s1), length-drop 40 s1, few)
-local_by false s1 few = omega arith
+local_by : (b : Bool) (contents : List ℕ) → length contents ≤ 2 ^ 24 → length (cond b (section_of 2 contents) []) ≤ 2 ^ 25
+local_by true contents few = omega (arith, length-section 2 contents, few)
+local_by false contents few = omega arith
 
-pub local_short : (keep : Bool) (s1 : List ℕ) → length s1 < 2 ^ 24 → length (local_section keep s1) ≤ 2 ^ 25
-local_short keep s1 few = local_by (keep && has_local s1) s1 few
+pub local_short : (local : Local) (s1 : List ℕ) → length s1 < 2 ^ 24 → length (local_section_by local s1) ≤ 2 ^ 25
+local_short Refuse s1 few = omega arith
+local_short Keep s1 few = local_by (has_local s1) (local_octets s1) (omega (arith, length-drop 40 s1, few))
+local_short Ecmwf s1 few = local_by (has_labels s1) (all_octets (label_numbers s1)) (omega arith)
 
 pub five_short : (s1 s2 s3 s4 s5 f : List ℕ) → f ≡ s1 ++ (s2 ++ (s3 ++ (s4 ++ s5))) → length s1 ≤ 100 + 5 → length s2 ≤ 2 ^ 25 → length s3 ≤ 131500 + 5 → length s4 ≤ 2000 + 5
     → length s5 ≤ 100 + 5 → length f ≤ 2 ^ 30
@@ -103,18 +110,18 @@ lost_behind [] ys e = refl
 lost_behind (Some x ∷ xs) ys e = cc
 lost_behind (None ∷ xs) ys e = lost_behind xs ys e
 
-module _ (table : Entries) (keep : Bool) (m s1 s2 s4 : List ℕ) (e1 : s1 ≡ identification m) (e2 : s2 ≡ grid m) (e4 : s4 ≡ data_section m) where
-  of_message : first_of (front_losses table keep s1 s2 ++ number_losses s2 s4) ≡ first_loss table keep m
+module _ (table : Entries) (tops : SurfaceEntries) (local : Local) (m s1 s2 s4 : List ℕ) (e1 : s1 ≡ identification m) (e2 : s2 ≡ grid m) (e4 : s4 ≡ data_section m) where
+  of_message : first_of (chosen_losses table tops local s1 s2 ++ number_losses s2 s4) ≡ first_loss_with table tops local m
   of_message =
-      ap (λ (x : List ℕ). first_of (front_losses table keep x s2 ++ number_losses s2 s4)) e1
-      ∙ ap (λ (x : List ℕ). first_of (front_losses table keep (identification m) x ++ number_losses x s4)) e2
-      ∙ ap (λ (x : List ℕ). first_of (front_losses table keep (identification m) (grid m) ++ number_losses (grid m) x)) e4
+      ap (λ (x : List ℕ). first_of (chosen_losses table tops local x s2 ++ number_losses s2 s4)) e1
+      ∙ ap (λ (x : List ℕ). first_of (chosen_losses table tops local (identification m) x ++ number_losses x s4)) e2
+      ∙ ap (λ (x : List ℕ). first_of (chosen_losses table tops local (identification m) (grid m) ++ number_losses (grid m) x)) e4
 
-  pub front_lost : (loss : Loss) → first_of (front_losses table keep s1 s2) ≡ Some loss → first_loss table keep m ≡ Some loss
-  front_lost loss e = sym of_message ∙ lost_before (front_losses table keep s1 s2) (number_losses s2 s4) loss e
+  pub front_lost : (loss : Loss) → first_of (chosen_losses table tops local s1 s2) ≡ Some loss → first_loss_with table tops local m ≡ Some loss
+  front_lost loss e = sym of_message ∙ lost_before (chosen_losses table tops local s1 s2) (number_losses s2 s4) loss e
 
-  pub numbers_lost : first_of (front_losses table keep s1 s2) ≡ None → first_of (number_losses s2 s4) ≡ first_loss table keep m
-  numbers_lost e = sym (lost_behind (front_losses table keep s1 s2) (number_losses s2 s4) e) ∙ of_message
+  pub numbers_lost : first_of (chosen_losses table tops local s1 s2) ≡ None → first_of (number_losses s2 s4) ≡ first_loss_with table tops local m
+  numbers_lost e = sym (lost_behind (chosen_losses table tops local s1 s2) (number_losses s2 s4) e) ∙ of_message
 
 -- what `?` carries out of a call
 pub loss_carried : {A : Type 0} (P : A → Type 0) (expected : Option Loss) (result : Result A MigrateFault) (loss : Loss)
@@ -137,36 +144,40 @@ holds_same a a' b b' o o' d d' points values e1 e2 e3 e4 holds =
     (subst (λ (x : Option (List ℕ)). Holds a' b' x d points values) (sym e3) (subst (λ (x : List ℕ). Holds a' b' o' x points values) (sym e4) holds)))
 
 -- a message by what Section 1 gives, and by the sections
-abbrev message_by : Bool → Target → UnitOfTime → Surfaces → List ℕ → List ℕ → Option (List ℕ) → List ℕ → ℕ → ℕ → List ℕ
-message_by keep target unit surfaces s1 s2 s3 s4 points values =
-    whole_message target.discipline (front_sections target unit surfaces keep s1 s2 s4 points values) s3 s4 points values
+abbrev message_by : Target → UnitOfTime → Surfaces → Option Member → List ℕ → List ℕ → List ℕ → Option (List ℕ) → List ℕ → ℕ → ℕ → List ℕ
+message_by target unit surfaces member own s1 s2 s3 s4 points values =
+    whole_message target.discipline (front_sections target unit surfaces member own s1 s2 s4 points values) s3 s4 points values
 
-abbrev from_sections : Entries → Bool → List ℕ → List ℕ → Option (List ℕ) → List ℕ → ℕ → ℕ → List ℕ
-from_sections table keep s1 s2 s3 s4 points values =
-    message_by keep (target_of table s1) (unwrap_or (unit_of s1) no_unit) (unwrap_or (surfaces_of s1) no_surfaces) s1 s2 s3 s4 points values
+abbrev from_sections : Entries → SurfaceEntries → Local → List ℕ → List ℕ → Option (List ℕ) → List ℕ → ℕ → ℕ → List ℕ
+from_sections table tops local s1 s2 s3 s4 points values =
+    message_by (unwrap_or (target_by table (named_in tops s1) s1) no_target) (unwrap_or (unit_of s1) no_unit) (unwrap_or (surfaces_by (named_in tops s1) s1) no_surfaces) (member_by local s1)
+    (local_section_by local s1) s1 s2 s3 s4 points values
 
-by_product : (table : Entries) (keep : Bool) (s1 s2 : List ℕ) (s3 : Option (List ℕ)) (s4 : List ℕ) (points values : ℕ) (p : Product) → IsProduct table s1 p
-    → message_by keep p.target p.unit p.surfaces s1 s2 s3 s4 points values ≡ from_sections table keep s1 s2 s3 s4 points values
-by_product table keep s1 s2 s3 s4 points values p is =
-    let target : target_of table s1 ≡ p.target = ap (λ o. unwrap_or o no_target) is.target in
+by_product : (table : Entries) (tops : SurfaceEntries) (local : Local) (s1 s2 : List ℕ) (s3 : Option (List ℕ)) (s4 : List ℕ) (points values : ℕ) (p : Product) → IsProduct table tops local s1 p
+    → message_by p.target p.unit p.surfaces p.member (local_section_by local s1) s1 s2 s3 s4 points values ≡ from_sections table tops local s1 s2 s3 s4 points values
+by_product table tops local s1 s2 s3 s4 points values p is =
+    let own = local_section_by local s1 in
+    let found = unwrap_or (surfaces_by (named_in tops s1) s1) no_surfaces in
+    let target : unwrap_or (target_by table (named_in tops s1) s1) no_target ≡ p.target = ap (λ o. unwrap_or o no_target) is.target in
     let unit : unwrap_or (unit_of s1) no_unit ≡ p.unit = ap (λ o. unwrap_or o no_unit) is.unit in
-    let surfaces : unwrap_or (surfaces_of s1) no_surfaces ≡ p.surfaces = ap (λ o. unwrap_or o no_surfaces) is.surfaces in
+    let surfaces : found ≡ p.surfaces = ap (λ o. unwrap_or o no_surfaces) is.surfaces_are in
     let whole =
-    ap (λ (t : Target). message_by keep t (unwrap_or (unit_of s1) no_unit) (unwrap_or (surfaces_of s1) no_surfaces) s1 s2 s3 s4 points values) target
-    ∙ ap (λ (u : UnitOfTime). message_by keep p.target u (unwrap_or (surfaces_of s1) no_surfaces) s1 s2 s3 s4 points values) unit
-    ∙ ap (λ (x : Surfaces). message_by keep p.target p.unit x s1 s2 s3 s4 points values) surfaces in
+    ap (λ (t : Target). message_by t (unwrap_or (unit_of s1) no_unit) found (member_by local s1) own s1 s2 s3 s4 points values) target
+    ∙ ap (λ (u : UnitOfTime). message_by p.target u found (member_by local s1) own s1 s2 s3 s4 points values) unit
+    ∙ ap (λ (x : Surfaces). message_by p.target p.unit x (member_by local s1) own s1 s2 s3 s4 points values) surfaces
+    ∙ ap (λ (x : Option Member). message_by p.target p.unit p.surfaces x own s1 s2 s3 s4 points values) (sym is.member) in
     sym whole
 
-pub migrated_by : (table : Entries) (keep : Bool) (m s1 s2 : List ℕ) (s3 : Option (List ℕ)) (s4 : List ℕ) (points values : ℕ) (p : Product) (front octets : List ℕ) → IsProduct table s1 p
-    → s1 ≡ identification m → s2 ≡ grid m → s3 ≡ bitmap m → s4 ≡ data_section m → points ≡ points_of m → values ≡ values_of m
-    → front ≡ front_sections p.target p.unit p.surfaces keep s1 s2 s4 points values → octets ≡ whole_message p.target.discipline front s3 s4 points values
-    → octets ≡ migrated table keep m
-migrated_by table keep m s1 s2 s3 s4 points values p front octets is e1 e2 e3 e4 e5 e6 front_is octets_are =
+pub migrated_whole : (table : Entries) (tops : SurfaceEntries) (local : Local) (m s1 s2 : List ℕ) (s3 : Option (List ℕ)) (s4 : List ℕ) (points values : ℕ) (p : Product) (front octets : List ℕ)
+    → IsProduct table tops local s1 p → s1 ≡ identification m → s2 ≡ grid m → s3 ≡ bitmap m → s4 ≡ data_section m → points ≡ points_of m → values ≡ values_of m
+    → front ≡ front_sections p.target p.unit p.surfaces p.member (local_section_by local s1) s1 s2 s4 points values → octets ≡ whole_message p.target.discipline front s3 s4 points values
+    → octets ≡ migrated_with table tops local m
+migrated_whole table tops local m s1 s2 s3 s4 points values p front octets is e1 e2 e3 e4 e5 e6 front_is octets_are =
     octets_are ∙ ap (λ (x : List ℕ). whole_message p.target.discipline x s3 s4 points values) front_is
-    ∙ by_product table keep s1 s2 s3 s4 points values p is
-    ∙ ap (λ (x : List ℕ). from_sections table keep x s2 s3 s4 points values) e1
-    ∙ ap (λ (x : List ℕ). from_sections table keep (identification m) x s3 s4 points values) e2
-    ∙ ap (λ (x : Option (List ℕ)). from_sections table keep (identification m) (grid m) x s4 points values) e3
-    ∙ ap (λ (x : List ℕ). from_sections table keep (identification m) (grid m) (bitmap m) x points values) e4
-    ∙ ap (λ (x : ℕ). from_sections table keep (identification m) (grid m) (bitmap m) (data_section m) x values) e5
-    ∙ ap (λ (x : ℕ). from_sections table keep (identification m) (grid m) (bitmap m) (data_section m) (points_of m) x) e6
+    ∙ by_product table tops local s1 s2 s3 s4 points values p is
+    ∙ ap (λ (x : List ℕ). from_sections table tops local x s2 s3 s4 points values) e1
+    ∙ ap (λ (x : List ℕ). from_sections table tops local (identification m) x s3 s4 points values) e2
+    ∙ ap (λ (x : Option (List ℕ)). from_sections table tops local (identification m) (grid m) x s4 points values) e3
+    ∙ ap (λ (x : List ℕ). from_sections table tops local (identification m) (grid m) (bitmap m) x points values) e4
+    ∙ ap (λ (x : ℕ). from_sections table tops local (identification m) (grid m) (bitmap m) (data_section m) x values) e5
+    ∙ ap (λ (x : ℕ). from_sections table tops local (identification m) (grid m) (bitmap m) (data_section m) (points_of m) x) e6

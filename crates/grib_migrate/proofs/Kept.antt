@@ -2,6 +2,7 @@
 use Rattle.std.proofs.Common.{◌≡◌, ℕ, ◌≤◌, ◌⊎◌, ◌&&◌, ◌||◌, Bool, true, false, not, Some, None, List, [], ◌∷◌, nat_lt, refl, sym, ap, ◌∙◌, inl, inr}
 use Rattle.std.specs.Prelude.{is_none}
 use Rattle.std.proofs.lemmas.Bool.{ltb-false}
+use Rattle.grib_params.specs.Surfaces.{SurfaceEntries}
 use Rattle.grib_params.specs.Table.{Entries}
 use Rattle.grib_params.specs.declared.row.Target.{Target}
 use Rattle.grib1_sections.specs.Keys.{key_in}
@@ -9,27 +10,25 @@ use Rattle.grib1_sections.specs.declared.key.Key1.TheVariants.{P1, P2, TimeRange
 use Rattle.grib_reasons.specs.declared.loss.Loss.TheVariants as losses
 use Rattle.grib_migrate.specs.declared.level.Surfaces.{Surfaces}
 use Rattle.grib_migrate.specs.declared.time.Unit.{Unit as UnitOfTime}
-use Rattle.grib_migrate.specs.Source.{target_in, has_local}
-use Rattle.grib_migrate.specs.Levels.{surfaces_of}
+use Rattle.grib_migrate.specs.declared.labels.Local.{Local}
+use Rattle.grib_migrate.specs.Chosen.{named_in, surfaces_by, target_by}
+use Rattle.grib_migrate.specs.Labels.{loses_local}
 use Rattle.grib_migrate.specs.Times.{unit_of, loses_range, is_instant, is_interval}
 use Rattle.grib_migrate.specs.Grids.{has_other_flags}
-use Rattle.grib_migrate.specs.Losses.{lost_where, first_of, front_losses, loses_date, loses_average}
+use Rattle.grib_migrate.specs.Losses.{lost_where, first_of, chosen_losses, loses_date, loses_average}
 
 eight : (a b c d e f g h : Bool) → a ≡ false → b ≡ false → c ≡ false → d ≡ false → e ≡ false → f ≡ false → g ≡ false → h ≡ false
     → first_of (lost_where a losses.Parameter ∷ lost_where b losses.LevelType ∷ lost_where c losses.TimeUnit ∷ lost_where d losses.TimeRange ∷ lost_where e losses.Date ∷ lost_where f losses.AverageCount
     ∷ lost_where g losses.LocalUse ∷ lost_where h losses.GridFlags ∷ []) ≡ None
 eight a b c d e f g h ea eb ec ed ee ef eg eh = rw (ea, eb, ec, ed, ee, ef, eg, eh) refl
 
-local_kept : (has keep : Bool) → ((has ≡ true) × (keep ≡ true)) ⊎ (has ≡ false) → (has && not keep) ≡ false
-local_kept has keep (inl both) = rw (both.0, both.1) refl
-local_kept has keep (inr none) = rw none refl
-
-pub nothing_lost : (table : Entries) (keep : Bool) (s1 s2 : List ℕ) (target : Target) (surfaces : Surfaces) (unit : UnitOfTime) → target_in table s1 ≡ Some target → surfaces_of s1 ≡ Some surfaces → unit_of s1 ≡ Some unit
-    → loses_range s1 ≡ false → loses_date s1 ≡ false → loses_average s1 ≡ false → ((has_local s1 ≡ true) × (keep ≡ true)) ⊎ (has_local s1 ≡ false) → has_other_flags s2 ≡ false
-    → first_of (front_losses table keep s1 s2) ≡ None
-nothing_lost table keep s1 s2 target surfaces unit t s u range date average local other =
-    eight (is_none (target_in table s1)) (is_none (surfaces_of s1)) (is_none (unit_of s1)) (loses_range s1) (loses_date s1) (loses_average s1) (has_local s1 && not keep) (has_other_flags s2)
-    (ap is_none t) (ap is_none s) (ap is_none u) range date average (local_kept (has_local s1) keep local) other
+pub nothing_lost : (table : Entries) (tops : SurfaceEntries) (local : Local) (s1 s2 : List ℕ) (target : Target) (surfaces : Surfaces) (unit : UnitOfTime)
+    → target_by table (named_in tops s1) s1 ≡ Some target → surfaces_by (named_in tops s1) s1 ≡ Some surfaces → unit_of s1 ≡ Some unit
+    → loses_range s1 ≡ false → loses_date s1 ≡ false → loses_average s1 ≡ false → loses_local local s1 ≡ false → has_other_flags s2 ≡ false
+    → first_of (chosen_losses table tops local s1 s2) ≡ None
+nothing_lost table tops local s1 s2 target surfaces unit t s u range date average own other =
+    eight (is_none (target_by table (named_in tops s1) s1)) (is_none (surfaces_by (named_in tops s1) s1)) (is_none (unit_of s1)) (loses_range s1) (loses_date s1) (loses_average s1) (loses_local local s1)
+    (has_other_flags s2) (ap is_none t) (ap is_none s) (ap is_none u) range date average own other
 
 ordered_by : (instant interval less : Bool) → (not (instant || interval) || (interval && less)) ≡ false → interval ≡ true → less ≡ false
 ordered_by true true less e is = e
@@ -41,7 +40,3 @@ pub ordered : (s1 : List ℕ) → loses_range s1 ≡ false → is_interval (key_
 ordered s1 e is =
     ltb-false (key_in s1 P2) (key_in s1 P1)
     (ordered_by (is_instant (key_in s1 TimeRange)) (is_interval (key_in s1 TimeRange)) (nat_lt (key_in s1 P2) (key_in s1 P1)) e is)
-
-pub kept_same : (r h k : Bool) → r ≡ h → ((r ≡ true) × (k ≡ true)) ⊎ (r ≡ false) → ((h ≡ true) × (k ≡ true)) ⊎ (h ≡ false)
-kept_same r h k e (inl both) = inl (sym e ∙ both.0, both.1)
-kept_same r h k e (inr none) = inr (sym e ∙ none)

@@ -9,3 +9,5 @@ pub mod Sections
 pub mod Kept
 pub mod Whole
 pub mod Joining
+pub mod Plain
+pub mod Labelling

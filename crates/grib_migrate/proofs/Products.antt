@@ -1,5 +1,5 @@
 -- Lemmas on the numbers of a product.
-use Rattle.std.proofs.Common.{◌≡◌, ℕ, ◌+◌, ◌-◌, ◌<◌, ◌≤◌, Bool, true, false, cond, Some, None, List, [], ◌∷◌, ◌++◌, length, take, drop, get_or, sym, ap, ◌∙◌, arith, append_assoc}
+use Rattle.std.proofs.Common.{◌≡◌, ℕ, ◌+◌, ◌-◌, ◌<◌, ◌≤◌, Bool, true, false, cond, Option, Some, None, List, [], ◌∷◌, ◌++◌, length, take, drop, get_or, sym, ap, ◌∙◌, arith, append_assoc}
 use Rattle.std.proofs.lemmas.List.{length-append, length-map, take_more}
 use Rattle.grib_params.specs.declared.row.Target.{Target}
 use Rattle.grib1_sections.specs.Keys.{key_in}
@@ -11,7 +11,9 @@ use Rattle.grib_migrate.specs.declared.time.Unit.{Unit as UnitOfTime}
 use Rattle.grib_bits.specs.Encoding.{all_octets}
 use Rattle.grib_migrate.specs.Times.{is_interval, statistic}
 use Rattle.grib_migrate.specs.Dates.{end_of}
-use Rattle.grib_migrate.specs.Products.{interval_numbers, end_numbers, instant_numbers, coordinate_numbers, product_octets}
+use Rattle.grib_migrate.specs.Products.{interval_numbers, end_numbers, instant_with, template_by, coordinate_numbers, product_octets_by}
+use Rattle.grib_migrate.specs.declared.labels.Member.{Member}
+use Rattle.grib_migrate.specs.Labels.{member_numbers}
 use Rattle.grib_reasons.specs.declared.loss.Loss.TheVariants.{Coordinate}
 use Rattle.grib_migrate.specs.Losses.{coordinate_loss, coordinate_loss_from}
 use Rattle.grib_migrate.specs.References.{binary32_of}
@@ -70,26 +72,36 @@ few_ends : (s1 : List ℕ) (unit : UnitOfTime) (b : Bool) → length (cond b (in
 few_ends s1 unit true = omega arith
 few_ends s1 unit false = omega arith
 
-pub product_whole : (target : Target) (s1 words : List ℕ) (unit : UnitOfTime) (surfaces : Surfaces) (a b c d : List ℕ) → length words ≤ 255 → a ≡ []
-    → b ≡ a ++ all_octets (instant_numbers target s1 unit surfaces (length words)) → c ≡ b ++ all_octets (end_numbers s1 unit) → d ≡ c ++ all_octets (coordinate_numbers words)
-    → (d ≡ product_octets target s1 words unit surfaces) × (length d ≤ 2000)
-product_whole target s1 words unit surfaces a b c d few e0 e1 e2 e3 =
-    let x = all_octets (instant_numbers target s1 unit surfaces (length words)) in
+few_members : (member : Option Member) → length (member_numbers member) ≤ 3
+few_members None = omega arith
+few_members (Some member) = omega arith
+
+pub product_whole : (member : Option Member) (target : Target) (s1 words : List ℕ) (unit : UnitOfTime) (surfaces : Surfaces) (a b c d e : List ℕ) → length words ≤ 255 → a ≡ []
+    → b ≡ a ++ all_octets (instant_with (template_by member s1) target s1 unit surfaces (length words)) → c ≡ b ++ all_octets (member_numbers member)
+    → d ≡ c ++ all_octets (end_numbers s1 unit) → e ≡ d ++ all_octets (coordinate_numbers words)
+    → (e ≡ product_octets_by member target s1 words unit surfaces) × (length e ≤ 2000)
+product_whole member target s1 words unit surfaces a b c d e few e0 e1 e2 e3 e4 =
+    let w = all_octets (instant_with (template_by member s1) target s1 unit surfaces (length words)) in
+    let x = all_octets (member_numbers member) in
     let y = all_octets (end_numbers s1 unit) in
     let z = all_octets (coordinate_numbers words) in
-    let b_is : b ≡ x = e1 ∙ ap (λ (zs : List ℕ). zs ++ x) e0 in
-    let c_is : c ≡ x ++ y = e2 ∙ ap (λ (zs : List ℕ). zs ++ y) b_is in
-    let whole : d ≡ x ++ (y ++ z) = e3 ∙ ap (λ (zs : List ℕ). zs ++ z) c_is ∙ append_assoc x y z in
+    let b_is : b ≡ w = e1 ∙ ap (λ (zs : List ℕ). zs ++ w) e0 in
+    let c_is : c ≡ w ++ x = e2 ∙ ap (λ (zs : List ℕ). zs ++ x) b_is in
+    let d_is : d ≡ w ++ (x ++ y) = e3 ∙ ap (λ (zs : List ℕ). zs ++ y) c_is ∙ append_assoc w x y in
+    let whole : e ≡ w ++ (x ++ (y ++ z)) = e4 ∙ ap (λ (zs : List ℕ). zs ++ z) d_is ∙ append_assoc w (x ++ y) z ∙ ap (λ (zs : List ℕ). w ++ zs) (append_assoc x y z) in
     let end_few = few_ends s1 unit (is_interval (key_in s1 TimeRange)) in (
       whole,
       omega (
         arith,
         ap length whole,
+        length-append w (x ++ (y ++ z)),
         length-append x (y ++ z),
         length-append y z,
-        length-all_octets (instant_numbers target s1 unit surfaces (length words)),
+        length-all_octets (instant_with (template_by member s1) target s1 unit surfaces (length words)),
+        length-all_octets (member_numbers member),
         length-all_octets (end_numbers s1 unit),
         length-all_octets (coordinate_numbers words),
+        few_members member,
         end_few,
         length-map words (λ word. Four (new_word word)),
       ),

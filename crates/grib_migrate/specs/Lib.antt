@@ -1,5 +1,7 @@
 pub mod Source
 pub mod Levels
+pub mod Chosen
+pub mod Labels
 pub mod Times
 pub mod Dates
 pub mod References

@@ -2,6 +2,8 @@
 -- own choice.
 use Rattle.std.specs.Prelude.{ℕ, ◌+◌, Bool, false, not, cond, ◌&&◌, ◌||◌, Option, Some, None, is_none, List, [], ◌∷◌, ◌++◌, nat_lt, ◌==◌}
 use Rattle.std.specs.Option.{option_map_or}
+use Rattle.grib_params.specs.declared.row.Target.{Target}
+use Rattle.grib_params.specs.Surfaces.{SurfaceEntries}
 use Rattle.grib_params.specs.Table.{Entries}
 use Rattle.grib1_sections.specs.Acceptance.{identification, grid, data_section}
 use Rattle.grib1_sections.specs.Coordinates.{coordinate_list}
@@ -9,8 +11,12 @@ use Rattle.grib1_sections.specs.Keys.{key_in}
 use Rattle.grib1_sections.specs.declared.key.Key1.TheVariants.{TimeRange, AverageCount, AverageMissing}
 use Rattle.grib_reasons.specs.declared.loss.Loss.{Loss}
 use Rattle.grib_reasons.specs.declared.loss.Loss.TheVariants as losses
+use Rattle.grib_migrate.specs.declared.labels.Local.{Local}
+use Rattle.grib_migrate.specs.declared.level.Surfaces.{Surfaces}
 use Rattle.grib_migrate.specs.Source.{target_in, has_local}
 use Rattle.grib_migrate.specs.Levels.{surfaces_of}
+use Rattle.grib_migrate.specs.Chosen.{named_in, surfaces_by, target_by}
+use Rattle.grib_migrate.specs.Labels.{loses_local}
 use Rattle.grib_migrate.specs.Times.{unit_of, is_instant, is_interval, loses_range}
 use Rattle.grib_migrate.specs.Dates.{reference_time, is_civil, end_of}
 use Rattle.grib_migrate.specs.Grids.{grid_loss, has_other_flags}
@@ -50,18 +56,29 @@ coordinate_loss words = coordinate_loss_from 1 words
 abbrev pub reference_loss : List ℕ → Option Loss
 reference_loss s4 = lost_where (is_none (binary32_of (reference s4))) losses.Reference
 
--- the losses of Section 1 and of the flags of Section 2
-abbrev pub front_losses : Entries → Bool → List ℕ → List ℕ → List (Option Loss)
-front_losses table keep_local s1 s2 =
-    lost_where (is_none (target_in table s1)) losses.Parameter
-    ∷ lost_where (is_none (surfaces_of s1)) losses.LevelType
+-- the losses of Section 1 and of the flags of Section 2, by its parameter and its surfaces, and by whether octets for
+-- local use are there and not written
+abbrev pub front_losses_by : Option Target → Option Surfaces → Bool → List ℕ → List ℕ → List (Option Loss)
+front_losses_by target surfaces loses_local s1 s2 =
+    lost_where (is_none target) losses.Parameter
+    ∷ lost_where (is_none surfaces) losses.LevelType
     ∷ lost_where (is_none (unit_of s1)) losses.TimeUnit
     ∷ lost_where (loses_range s1) losses.TimeRange
     ∷ lost_where (loses_date s1) losses.Date
     ∷ lost_where (loses_average s1) losses.AverageCount
-    ∷ lost_where (has_local s1 && not keep_local) losses.LocalUse
+    ∷ lost_where loses_local losses.LocalUse
     ∷ lost_where (has_other_flags s2) losses.GridFlags
     ∷ []
+
+-- by a parameter table alone, and by whether local use is kept
+abbrev pub front_losses : Entries → Bool → List ℕ → List ℕ → List (Option Loss)
+front_losses table keep_local s1 s2 = front_losses_by (target_in table s1) (surfaces_of s1) (has_local s1 && not keep_local) s1 s2
+
+-- by both tables, and by what is chosen of local use
+abbrev pub chosen_losses : Entries → SurfaceEntries → Local → List ℕ → List ℕ → List (Option Loss)
+chosen_losses table surfaces local s1 s2 =
+    let named = named_in surfaces s1 in
+    front_losses_by (target_by table named s1) (surfaces_by named s1) (loses_local local s1) s1 s2
 
 -- those of the numbers
 abbrev pub number_losses : List ℕ → List ℕ → List (Option Loss)
@@ -77,3 +94,10 @@ first_loss table keep_local message =
     let s1 = identification message in
     let s2 = grid message in
     first_of (front_losses table keep_local s1 s2 ++ number_losses s2 (data_section message))
+
+-- the first loss by both tables, and by what is chosen of local use
+abbrev pub first_loss_with : Entries → SurfaceEntries → Local → List ℕ → Option Loss
+first_loss_with table surfaces local message =
+    let s1 = identification message in
+    let s2 = grid message in
+    first_of (chosen_losses table surfaces local s1 s2 ++ number_losses s2 (data_section message))

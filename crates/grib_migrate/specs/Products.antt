@@ -1,7 +1,7 @@
 -- Products (WMO-No. 306, Volume I.2, FM 92 GRIB): Section 1 of edition 1 and the vertical coordinates of its
 -- Section 2 as Section 1 and as Section 4 of edition 2 with template 4.0, at a point in time, or 4.8, over an
--- interval, from octet 6 on.
-use Rattle.std.specs.Prelude.{ℕ, ◌-◌, cond, List, [], ◌∷◌, ◌++◌, map, length, ◌==◌}
+-- interval, or with 4.1 or 4.11, for a member of an ensemble, from octet 6 on.
+use Rattle.std.specs.Prelude.{ℕ, ◌-◌, cond, Option, Some, None, List, [], ◌∷◌, ◌++◌, map, length, ◌==◌}
 use Rattle.std.specs.Option.{option_map_or}
 use Rattle.grib_params.specs.declared.row.Target.{Target}
 use Rattle.grib1_sections.specs.Keys.{key_in}
@@ -9,6 +9,7 @@ use Rattle.grib1_sections.specs.declared.key.Key1.TheVariants.{Centre, SubCentre
 use Rattle.grib_bits.specs.declared.adding.Number.{Number}
 use Rattle.grib_bits.specs.declared.adding.Number.TheVariants.{One, Two, Four}
 use Rattle.grib_migrate.specs.declared.date.Moment.{Moment}
+use Rattle.grib_migrate.specs.declared.labels.Member.{Member}
 use Rattle.grib_migrate.specs.declared.level.Surface.{Surface}
 use Rattle.grib_migrate.specs.declared.level.Surfaces.{Surfaces}
 use Rattle.grib_migrate.specs.declared.time.Unit.{Unit as UnitOfTime}
@@ -16,6 +17,7 @@ use Rattle.grib_bits.specs.Encoding.{all_octets, missing_1, missing_2}
 use Rattle.grib_migrate.specs.Times.{is_interval, statistic, process_of, forecast_time}
 use Rattle.grib_migrate.specs.Dates.{reference_time, end_of}
 use Rattle.grib_migrate.specs.References.{binary32_of}
+use Rattle.grib_migrate.specs.Labels.{member_numbers}
 
 -- the significance of the reference time: the start of a forecast, else an analysis
 abbrev pub significance : List ℕ → ℕ
@@ -46,11 +48,16 @@ surface_numbers surface = One surface.kind ∷ One surface.scale_factor ∷ Four
 abbrev pub template_of : List ℕ → ℕ
 template_of s1 = cond (is_interval (key_in s1 TimeRange)) 8 0
 
--- Section 4, octets 6-34, with `count` coordinate values
-abbrev pub instant_numbers : Target → List ℕ → UnitOfTime → Surfaces → ℕ → List Number
-instant_numbers target s1 unit surfaces count =
+-- that of a member of an ensemble, where there is one
+abbrev pub template_by : Option Member → List ℕ → ℕ
+template_by None s1 = template_of s1
+template_by (Some member) s1 = cond (is_interval (key_in s1 TimeRange)) 11 1
+
+-- Section 4, octets 6-34, with this template and `count` coordinate values
+abbrev pub instant_with : ℕ → Target → List ℕ → UnitOfTime → Surfaces → ℕ → List Number
+instant_with template target s1 unit surfaces count =
     Two count  -- 6-7: the number of coordinate values
-    ∷ Two (template_of s1)  -- 8-9: the template
+    ∷ Two template  -- 8-9: the template
     ∷ One target.category  -- 10
     ∷ One target.number  -- 11
     ∷ One (process_of s1)  -- 12
@@ -61,7 +68,10 @@ instant_numbers target s1 unit surfaces count =
     ∷ Four (forecast_time s1)  -- 19-22
     ∷ surface_numbers surfaces.first ++ surface_numbers surfaces.second  -- 23-28, 29-34
 
--- octets 35-58 of template 4.8: the end, and one time range
+abbrev pub instant_numbers : Target → List ℕ → UnitOfTime → Surfaces → ℕ → List Number
+instant_numbers target s1 unit surfaces count = instant_with (template_of s1) target s1 unit surfaces count
+
+-- octets 35-58 of template 4.8, 38-61 of 4.11: the end, and one time range
 abbrev pub interval_numbers : List ℕ → UnitOfTime → List Number
 interval_numbers s1 unit =
     moment_numbers (end_of s1 unit.seconds)  -- 35-41
@@ -75,7 +85,7 @@ interval_numbers s1 unit =
     ∷ Four 0  -- 55-58: the increment
     ∷ [])
 
--- those of template 4.8, and none of template 4.0
+-- those over an interval, and none at a point in time
 abbrev pub end_numbers : List ℕ → UnitOfTime → List Number
 end_numbers s1 unit = cond (is_interval (key_in s1 TimeRange)) (interval_numbers s1 unit) []
 
@@ -83,9 +93,13 @@ end_numbers s1 unit = cond (is_interval (key_in s1 TimeRange)) (interval_numbers
 abbrev pub coordinate_numbers : List ℕ → List Number
 coordinate_numbers words = map (λ word. Four (option_map_or (λ w. w) (binary32_of word) 0)) words
 
--- octet 6 and further, with these words of the vertical coordinates
-abbrev pub product_octets : Target → List ℕ → List ℕ → UnitOfTime → Surfaces → List ℕ
-product_octets target s1 words unit surfaces =
-    all_octets (instant_numbers target s1 unit surfaces (length words))
+-- octet 6 and further, with these words of the vertical coordinates, of a member of an ensemble where there is one
+abbrev pub product_octets_by : Option Member → Target → List ℕ → List ℕ → UnitOfTime → Surfaces → List ℕ
+product_octets_by member target s1 words unit surfaces =
+    all_octets (instant_with (template_by member s1) target s1 unit surfaces (length words))
+    ++ (all_octets (member_numbers member)
     ++ (all_octets (end_numbers s1 unit)
-    ++ all_octets (coordinate_numbers words))
+    ++ all_octets (coordinate_numbers words)))
+
+abbrev pub product_octets : Target → List ℕ → List ℕ → UnitOfTime → Surfaces → List ℕ
+product_octets target s1 words unit surfaces = product_octets_by None target s1 words unit surfaces

@@ -4,7 +4,8 @@ ghost use Rattle.std.specs.Prelude.{◌≡◌, ◌≤◌, true, false, Some, Non
 ghost use Rattle.grib1_sections.specs.Keys.{key_in};
 ghost use Rattle.grib1_sections.specs.declared.key.Key1.TheVariants.{P1, P2, TimeRange};
 ghost use Rattle.grib_migrate.specs.Losses as losses;
-ghost use Rattle.grib_migrate.specs.Losses.{first_of, front_losses, loses_date};
+ghost use Rattle.grib_migrate.specs.Losses.{chosen_losses, first_of, loses_date};
+ghost use Rattle.grib_migrate.specs.Chosen as chosen;
 ghost use Rattle.grib_migrate.specs.Source as source;
 ghost use Rattle.grib_migrate.specs.Times as times;
 ghost use Rattle.grib_migrate.specs.Grids as grids;
@@ -12,16 +13,19 @@ ghost use Rattle.grib_migrate.specs.Checked.{IsProduct, end_in};
 
 use crate::Loss;
 use crate::date::{Moment, is_civil, later, reference_time};
-use crate::level::{Surfaces, surfaces_of};
+use crate::labels::{Local, Member, loses_local, member_of};
+use crate::level::{Surfaces, surfaces_named, surfaces_of};
 use crate::time::{Unit, is_instant, is_interval, loses_range, unit_of};
 use grib_bits::{u8_at, u16_at};
-use grib_params::{Table, Target};
+use grib_params::{SurfaceTable, SurfaceTarget, Table, Target};
 
 /// What Section 1 gives a product of edition 2.
 #[derive(Clone, Copy, Debug)]
 pub(crate) struct Product {
     pub target: Target,
     pub surfaces: Surfaces,
+    /// The member of an ensemble, where labels say so.
+    pub member: Option<Member>,
     pub unit: Unit,
     /// The end of the interval, for a time range from P1 to P2.
     pub end: Option<Moment>,
@@ -32,20 +36,22 @@ pub(crate) fn check(
     section1: &[u8],
     section2: &[u8],
     table: &Table,
-    keep_local: bool,
+    surfaces: &SurfaceTable,
+    local: Local,
 ) -> Result<Product, Loss>
     requires identification { 28 ≤ length section1.now }
     requires grid { 32 ≤ length section2.now }
     ensures { MatchResult result
-        (λ product. (first_of (front_losses table.now keep_local section1.now section2.now) ≡ None)
-        × IsProduct table.now section1.now product)
-        (λ loss. first_of (front_losses table.now keep_local section1.now section2.now)
+        (λ product. (first_of (chosen_losses table.now surfaces.now local section1.now section2.now) ≡ None)
+        × IsProduct table.now surfaces.now local section1.now product)
+        (λ loss. first_of (chosen_losses table.now surfaces.now local section1.now section2.now)
         ≡ Some loss) }
 {
-    let Some(target) = target_in(section1, table) else {
+    let named = named_in(section1, surfaces);
+    let Some(target) = target_by(section1, table, &named) else {
         return Err(Loss::Parameter);
     };
-    let Some(surfaces) = surfaces_of(section1) else {
+    let Some(surfaces) = surfaces_by(section1, &named) else {
         return Err(Loss::LevelType);
     };
     let Some(unit) = unit_of(section1) else {
@@ -58,26 +64,64 @@ pub(crate) fn check(
     if loses_average(section1) {
         return Err(Loss::AverageCount);
     }
-    if has_local(section1) && !keep_local {
+    if loses_local(section1, local) {
         return Err(Loss::LocalUse);
     }
     if has_other_flags(section2) {
         return Err(Loss::GridFlags);
     }
+    let member = member_of(section1, local);
     Ok(Product {
         target,
         surfaces,
+        member,
         unit,
         end,
     })
 }
 
-/// What the table has for this Section 1.
+/// What the table of surfaces has for this Section 1.
+fn named_in(section1: &[u8], surfaces: &SurfaceTable) -> Option<SurfaceTarget>
+    requires { 28 ≤ length section1.now }
+    ensures { result ≡ chosen.named_in surfaces.now section1.now }
+{
+    surfaces.lookup(
+        u8_at(section1, 5),
+        u8_at(section1, 4),
+        u8_at(section1, 9),
+        u8_at(section1, 10),
+        u16_at(section1, 11),
+    )
+}
+
+/// The parameter of edition 2, by what the table of surfaces has, else by the parameter table.
+fn target_by(section1: &[u8], table: &Table, named: &Option<SurfaceTarget>) -> Option<Target>
+    requires { 28 ≤ length section1.now }
+    ensures { result ≡ chosen.target_by table.now named.now section1.now }
+{
+    match named {
+        Some(named) => Some(named.target),
+        None => target_in(section1, table),
+    }
+}
+
+/// What the parameter table has for this Section 1.
 fn target_in(section1: &[u8], table: &Table) -> Option<Target>
     requires { 28 ≤ length section1.now }
     ensures { result ≡ source.target_in table.now section1.now }
 {
     table.lookup(u8_at(section1, 5), u8_at(section1, 4), u8_at(section1, 9))
+}
+
+/// The surfaces, by what the table of surfaces has, else by the type of level, if nothing of it is lost.
+fn surfaces_by(section1: &[u8], named: &Option<SurfaceTarget>) -> Option<Surfaces>
+    requires { 28 ≤ length section1.now }
+    ensures { result ≡ chosen.surfaces_by named.now section1.now }
+{
+    match named {
+        Some(named) => Some(surfaces_named(named)),
+        None => surfaces_of(section1),
+    }
 }
 
 /// The end of the interval, for a time range from P1 to P2, or the loss where a date is none of years 1 to
@@ -108,13 +152,6 @@ fn loses_average(section1: &[u8]) -> bool
     ensures { result ≡ losses.loses_average section1.now }
 {
     u16_at(section1, 22) > 1 || (u8_at(section1, 24) != 0 && is_instant(u8_at(section1, 21)))
-}
-
-/// Whether Section 1 has octets for the centre's own use.
-pub(crate) fn has_local(section1: &[u8]) -> bool
-    ensures { result ≡ source.has_local section1.now }
-{
-    section1.len() > 40
 }
 
 /// Whether a flag of the grid, or of its scanning mode, has no place.

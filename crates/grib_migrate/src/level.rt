@@ -1,9 +1,11 @@
 //! Levels as fixed surfaces.
 
 ghost use Rattle.std.specs.Prelude.{◌≡◌, ◌≤◌, ◌<◌, ◌^◌, length};
+ghost use Rattle.grib_migrate.specs.Chosen as chosen;
 ghost use Rattle.grib_migrate.specs.Levels as levels;
 
 use grib_bits::{u8_at, u16_at};
+use grib_params::SurfaceTarget;
 
 /// A fixed surface: its type (code table 4.5), and its value by a scale factor and a scaled value.
 #[derive(Clone, Copy, Debug)]
@@ -110,4 +112,11 @@ pub(crate) fn surfaces_of(section1: &[u8]) -> Option<Surfaces>
         u32::from(top),
         u32::from(bottom),
     )
+}
+
+/// The surface that a record of a table of surfaces has, without a second.
+pub(crate) fn surfaces_named(named: &SurfaceTarget) -> Surfaces
+    ensures { result ≡ chosen.named_surfaces named.now }
+{
+    one(valued(named.kind, named.scale_factor, named.scaled_value))
 }

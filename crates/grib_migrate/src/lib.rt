@@ -5,6 +5,7 @@
 mod checking;
 pub mod date;
 mod grid;
+mod labels;
 pub mod laws;
 mod level;
 mod loss;
@@ -18,7 +19,8 @@ mod values;
 
 pub use grib_reasons::Loss;
 pub use grid::true_latitude;
+pub use labels::{Local, Member};
 pub use level::{Surface, Surfaces, surfaces_at};
 pub use loss::MigrateFault;
-pub use migrating::migrate;
+pub use migrating::{migrate, migrate_with};
 pub use time::Unit;

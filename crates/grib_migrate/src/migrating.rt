@@ -2,9 +2,10 @@
 
 ghost use Rattle.std.specs.Prelude.{◌≡◌, ◌+◌, ◌*◌, ◌^◌, ◌≤◌, ◌<◌, None, true, length, MatchResult, IfOk, OnOk, ◌++◌, option_copied};
 ghost use Rattle.grib1_sections.specs.Coordinates.{coordinate_list};
-ghost use Rattle.grib_migrate.specs.Losses.{first_loss, first_of, number_losses};
+ghost use Rattle.grib_migrate.specs.Labels.{local_section_by};
+ghost use Rattle.grib_migrate.specs.Losses.{first_loss, first_loss_with, first_of, number_losses};
 ghost use Rattle.grib_migrate.specs.Migrated as spec;
-ghost use Rattle.grib_migrate.specs.Migrated.{migrated, bitmap_section, values_section};
+ghost use Rattle.grib_migrate.specs.Migrated.{migrated, migrated_with, bitmap_section, values_section};
 ghost use Rattle.grib1_sections.specs.Keys.{key_in};
 ghost use Rattle.grib1_sections.specs.Data.{bit_width};
 ghost use Rattle.grib1_sections.specs.Frame.{section_length};
@@ -15,14 +16,15 @@ ghost use Rattle.grib_migrate.specs.Held.{Holds, HoldsBits};
 ghost use Rattle.grib_migrate.specs.Answered.{IsMigrateFault};
 
 use crate::MigrateFault;
-use crate::checking::{Product, check, has_local};
+use crate::checking::{Product, check};
 use crate::grid::grid_octets;
+use crate::labels::{Local, add_local, kept_where};
 use crate::product::{identification_octets, product_octets};
 use crate::source::Source;
 use crate::values::{add_bitmap, add_data, data_bits, packing_octets};
 use grib_base::MOST_POINTS;
 use grib_bits::{add_section, u8_at};
-use grib_params::Table;
+use grib_params::{SurfaceTable, Table};
 use grib1_sections::Message1;
 use std::alloc::{AllocError, Global};
 
@@ -45,10 +47,33 @@ pub fn migrate(
         × (octets.items ≡ migrated table.now keep_local message.now))
         (IsMigrateFault (first_loss table.now keep_local message.now)) }
 {
+    let none = SurfaceTable::new(alloc);
+    migrate_with(alloc, message, table, &none, kept_where(keep_local))
+}
+
+/// As `migrate`, with two further choices. A parameter whose name says its level may be in a table of surfaces:
+/// where that has a record for the message, its parameter and its fixed surface are written, and the parameter
+/// table and the table of levels are not asked. `local` says what becomes of the octets for the centre's own use.
+///
+/// # Errors
+///
+/// The first thing of the message that would be lost, or there is no memory.
+pub fn migrate_with(
+    alloc: Global,
+    message: &Message1<'_>,
+    table: &Table,
+    surfaces: &SurfaceTable,
+    local: Local,
+) -> Result<Vec<u8>, MigrateFault>
+    ensures { MatchResult result
+        (λ octets. (first_loss_with table.now surfaces.now local message.now ≡ None)
+        × (octets.items ≡ migrated_with table.now surfaces.now local message.now))
+        (IsMigrateFault (first_loss_with table.now surfaces.now local message.now)) }
+{
     let source = Source::of(message);
-    let product = check(source.identification, source.grid, table, keep_local)?;
+    let product = check(source.identification, source.grid, table, surfaces, local)?;
     let coordinates = message.coordinates1(alloc)?;
-    let front = front_sections(alloc, &source, &product, coordinates.as_slice(), keep_local)?;
+    let front = front_sections(alloc, &source, &product, coordinates.as_slice(), local)?;
     Ok(whole_message(alloc, product.target.discipline, front.as_slice(), &source)?)
 }
 
@@ -58,7 +83,7 @@ fn front_sections(
     source: &Source<'_>,
     product: &Product,
     coordinates: &[u32],
-    keep_local: bool,
+    local: Local,
 ) -> Result<Vec<u8>, MigrateFault>
     requires holds { Holds source.now.identification.now source.now.grid.now
         (option_copied source.now.bitmap) source.now.numbers.now source.now.points source.now.values }
@@ -70,7 +95,8 @@ fn front_sections(
     ensures { MatchResult result
         (λ front. (first_of (number_losses source.now.grid.now source.now.numbers.now) ≡ None)
         × (front.items ≡ spec.front_sections product.now.target product.now.unit
-        product.now.surfaces keep_local source.now.identification.now source.now.grid.now
+        product.now.surfaces product.now.member (local_section_by local source.now.identification.now)
+        source.now.identification.now source.now.grid.now
         source.now.numbers.now source.now.points source.now.values)
         × (length front.items ≤ 2 ^ 30))
         (IsMigrateFault (first_of (number_losses source.now.grid.now source.now.numbers.now))) }
@@ -83,7 +109,7 @@ fn front_sections(
     let packing = packing_octets(alloc, section1, source.numbers, source.values)?;
     let mut front = Vec::new(alloc);
     add_section(1, identification.as_slice(), &mut front)?;
-    add_local(section1, keep_local, &mut front)?;
+    add_local(section1, local, &mut front)?;
     add_section(3, grid.as_slice(), &mut front)?;
     add_section(4, product.as_slice(), &mut front)?;
     add_section(5, packing.as_slice(), &mut front)?;
@@ -97,18 +123,6 @@ fn few_octets(section1: &[u8])
     ensures { length section1.now < 2 ^ 24 }
 {
     let _length = u8_at(section1, 1);
-}
-
-/// Adds Section 2, where the octets for the centre's own use are kept and there are any.
-fn add_local(section1: &[u8], keep_local: bool, out: &mut Vec<u8>) -> Result<(), AllocError>
-    requires long { 28 ≤ length section1.now }
-    requires stands { section_length section1.now ≡ length section1.now }
-    ensures { OnOk result (out.new.items ≡ out.old.items ++ spec.local_section keep_local section1.now) }
-{
-    if keep_local && has_local(section1) {
-        return add_section(2, &section1[40..], out);
-    }
-    Ok(())
 }
 
 /// The message with this discipline, these Sections 1 to 5, and the bitmap and the numbers of the source. Its

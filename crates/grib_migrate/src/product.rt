@@ -2,6 +2,7 @@
 
 ghost use Rattle.std.specs.Prelude.{◌≡◌, ◌≤◌, ◌<◌, ◌++◌, None, true, length, MatchResult, OnOk, IfOk};
 ghost use Rattle.grib_bits.specs.Encoding.{all_octets};
+ghost use Rattle.grib_migrate.specs.Labels.{member_numbers};
 ghost use Rattle.grib_migrate.specs.Products as products;
 ghost use Rattle.grib_migrate.specs.Losses.{coordinate_loss};
 ghost use Rattle.grib1_sections.specs.Keys.{key_in};
@@ -13,6 +14,7 @@ ghost use Rattle.grib_migrate.specs.Answered.{IsMigrateFault};
 
 use crate::checking::Product;
 use crate::date::{Moment, reference_time};
+use crate::labels::Member;
 use crate::reference::binary32_of;
 use crate::time::{forecast_time, is_interval, process_of, statistic};
 use crate::{Loss, MigrateFault};
@@ -70,26 +72,28 @@ pub(crate) fn product_octets(
         → key_in section1.now P1 ≤ key_in section1.now P2 }
     ensures { MatchResult result
         (λ octets. (coordinate_loss coordinates.now ≡ None) × (octets.items
-        ≡ products.product_octets product.now.target section1.now coordinates.now
+        ≡ products.product_octets_by product.now.member product.now.target section1.now coordinates.now
         product.now.unit product.now.surfaces) × (length octets.items ≤ 2000))
         (IsMigrateFault (coordinate_loss coordinates.now)) }
 {
     let mut octets = Vec::new(alloc);
     add_instant(section1, product, coordinates.len() as u32, &mut octets)?;
+    add_member(&product.member, &mut octets)?;
     add_end(section1, product, &mut octets)?;
     add_coordinates(coordinates, &mut octets)?;
     Ok(octets)
 }
 
-/// The product template: 4.8 over an interval, else 4.0.
-fn template_of(section1: &[u8]) -> u32
+/// The product template: 4.8 over an interval, else 4.0, and for a member of an ensemble 4.11 and 4.1.
+fn template_of(section1: &[u8], member: &Option<Member>) -> u32
     requires { 28 ≤ length section1.now }
-    ensures { result ≡ products.template_of section1.now }
+    ensures { result ≡ products.template_by member.now section1.now }
 {
-    if is_interval(u8_at(section1, 21)) {
-        8
-    } else {
-        0
+    match (member, is_interval(u8_at(section1, 21))) {
+        (None, false) => 0,
+        (None, true) => 8,
+        (Some(_), false) => 1,
+        (Some(_), true) => 11,
     }
 }
 
@@ -101,7 +105,8 @@ fn add_instant(
     out: &mut Vec<u8>,
 ) -> Result<(), AllocError>
     requires { 28 ≤ length section1.now }
-    ensures { OnOk result (out.new.items ≡ out.old.items ++ all_octets (products.instant_numbers
+    ensures { OnOk result (out.new.items ≡ out.old.items ++ all_octets (products.instant_with
+        (products.template_by product.now.member section1.now)
         product.now.target section1.now product.now.unit product.now.surfaces count)) }
 {
     let first = product.surfaces.first;
@@ -109,7 +114,7 @@ fn add_instant(
     add_numbers(
         &[
             Two(count),
-            Two(template_of(section1)),
+            Two(template_of(section1, &product.member)),
             One(product.target.category),
             One(product.target.number),
             One(process_of(section1)),
@@ -130,7 +135,17 @@ fn add_instant(
     )
 }
 
-/// Adds octets 35 to 58 of template 4.8, over an interval.
+/// Adds octets 35 to 37 of templates 4.1 and 4.11, for a member of an ensemble.
+fn add_member(member: &Option<Member>, out: &mut Vec<u8>) -> Result<(), AllocError>
+    ensures { OnOk result (out.new.items ≡ out.old.items ++ all_octets (member_numbers member.now)) }
+{
+    let Some(member) = member else {
+        return Ok(());
+    };
+    add_numbers(&[One(u8::MAX), One(member.number), One(member.size)], out)
+}
+
+/// Adds octets 35 to 58 of template 4.8, or 38 to 61 of template 4.11, over an interval.
 fn add_end(section1: &[u8], product: &Product, out: &mut Vec<u8>) -> Result<(), AllocError>
     requires long { 28 ≤ length section1.now }
     requires end { product.now.end ≡ end_in section1.now product.now.unit.seconds }
@@ -145,7 +160,7 @@ fn add_end(section1: &[u8], product: &Product, out: &mut Vec<u8>) -> Result<(), 
     add_interval(section1, product, &end, out)
 }
 
-/// Adds octets 35 to 58 of template 4.8, with the end of the interval.
+/// Adds these octets, with the end of the interval.
 fn add_interval(
     section1: &[u8],
     product: &Product,

@@ -7,3 +7,4 @@ pub mod Products
 pub mod Packings
 pub mod Meanings
 pub mod Migrated
+pub mod Labels

@@ -1,5 +1,5 @@
 -- Sections 1 and 4 as they are written pass their rows.
-use Rattle.std.proofs.Common.{◌≡◌, ℕ, ◌+◌, ◌*◌, ◌<◌, ◌≤◌, Bool, true, false, cond, None, List, [], ◌∷◌, ◌++◌, length, nat_lt, refl, ap, ◌∙◌, arith, le-ltb}
+use Rattle.std.proofs.Common.{◌≡◌, ℕ, ◌+◌, ◌*◌, ◌<◌, ◌≤◌, Bool, true, false, cond, Option, Some, None, List, [], ◌∷◌, ◌++◌, length, nat_lt, refl, ap, ◌∙◌, arith, le-ltb}
 use Rattle.grib_bits.specs.Octets.{StatesItself}
 use Rattle.grib_bits.specs.Encoding.{section_of, all_octets, missing_1, missing_2}
 use Rattle.grib_bits.proofs.Encoding.{num_on-octets_of, StatesItself-section_of}
@@ -10,12 +10,14 @@ use Rattle.grib2_sections.specs.Identification.{identification_rows}
 use Rattle.grib2_products.specs.Product.{product_rows, coordinate_count}
 use Rattle.grib1_sections.specs.Keys.{key_in}
 use Rattle.grib1_sections.specs.declared.key.Key1.TheVariants.{Process, TimeRange}
+use Rattle.grib_migrate.specs.declared.labels.Member.{Member}
 use Rattle.grib_migrate.specs.declared.level.Surfaces.{Surfaces}
 use Rattle.grib_migrate.specs.declared.time.Unit.{Unit as UnitOfTime}
 use Rattle.grib_bits.specs.declared.adding.Number.{Number}
 use Rattle.grib_bits.specs.declared.adding.Number.TheVariants.{One, Two, Four}
-use Rattle.grib_migrate.specs.Times.{is_interval, process_of, forecast_time}
-use Rattle.grib_migrate.specs.Products.{identification_numbers, interval_numbers, surface_numbers, coordinate_numbers, product_octets}
+use Rattle.grib_migrate.specs.Times.{is_interval}
+use Rattle.grib_migrate.specs.Labels.{member_numbers}
+use Rattle.grib_migrate.specs.Products.{identification_numbers, instant_with, template_by, interval_numbers, coordinate_numbers, product_octets_by}
 
 -- ---- Section 1
 
@@ -27,76 +29,94 @@ identification_itself target s1 = StatesItself-section_of 1 (all_octets (identif
 
 -- ---- Section 4
 
-abbrev instant_with : Bool → Target → List ℕ → UnitOfTime → Surfaces → ℕ → List Number
-instant_with interval target s1 unit surfaces count =
-    Two count ∷ Two (cond interval 8 0) ∷ One target.category ∷ One target.number ∷ One (process_of s1) ∷ One missing_1 ∷ One (key_in s1 Process) ∷ Two missing_2 ∷ One missing_1
-    ∷ One unit.code ∷ Four (forecast_time s1) ∷ surface_numbers surfaces.first ++ surface_numbers surfaces.second
+-- the template, and how many octets it has, by whether there is a member of an ensemble and an interval
+abbrev template_for : Bool → Option Member → ℕ
+template_for interval None = cond interval 8 0
+template_for interval (Some member) = cond interval 11 1
 
-abbrev product_with : Bool → Target → List ℕ → UnitOfTime → Surfaces → ℕ → List ℕ → List ℕ
-product_with interval target s1 unit surfaces count coordinates =
-    section_of 4 (all_octets (instant_with interval target s1 unit surfaces count) ++ (all_octets (cond interval (interval_numbers s1 unit) []) ++ coordinates))
+abbrev size_for : Bool → Option Member → ℕ
+size_for true None = 58
+size_for false None = 34
+size_for true (Some member) = 61
+size_for false (Some member) = 37
+
+abbrev product_with : Bool → Option Member → Target → List ℕ → UnitOfTime → Surfaces → ℕ → List ℕ → List ℕ
+product_with interval member target s1 unit surfaces count coordinates =
+    section_of 4 (all_octets (instant_with (template_for interval member) target s1 unit surfaces count)
+    ++ (all_octets (member_numbers member) ++ (all_octets (cond interval (interval_numbers s1 unit) []) ++ coordinates)))
 
 module _ (target : Target) (s1 : List ℕ) (unit : UnitOfTime) (surfaces : Surfaces) (count : ℕ) (coordinates : List ℕ) (few : count < 65536) (long : length coordinates ≡ 4 * count) where
-  count_stands : (interval : Bool) → coordinate_count (product_with interval target s1 unit surfaces count coordinates) ≡ count
-  count_stands interval = num_on-octets_of 2 count few
+  count_stands : (interval : Bool) (member : Option Member) → coordinate_count (product_with interval member target s1 unit surfaces count coordinates) ≡ count
+  count_stands interval member = num_on-octets_of 2 count few
 
-  length_instant : length (product_with false target s1 unit surfaces count coordinates) ≡ 34 + 4 * count
-  length_instant = omega (arith, long)
+  length_product : (interval : Bool) (member : Option Member) → length (product_with interval member target s1 unit surfaces count coordinates) ≡ size_for interval member + 4 * count
+  length_product false None = omega (arith, long)
+  length_product true None = omega (arith, long)
+  length_product false (Some member) = omega (arith, long)
+  length_product true (Some member) = omega (arith, long)
 
-  length_interval : length (product_with true target s1 unit surfaces count coordinates) ≡ 58 + 4 * count
-  length_interval = omega (arith, long)
-
-  pub with_passes : (interval : Bool) → first_fault (product_rows (product_with interval target s1 unit surfaces count coordinates) 1) ≡ None
-  with_passes false =
-      let s = product_with false target s1 unit surfaces count coordinates in
-      let l = length s in
-      none_from_passes (product_rows s 1) (
-        le-ltb l 9 (omega (arith, length_instant)),
-        (
-          refl,
-          (
-            refl,
-            (
-              le-ltb l 34 (omega (arith, length_instant)),
-              (ap (λ (n : ℕ). nat_lt l (34 + 4 * n)) (count_stands false) ∙ le-ltb l (34 + 4 * count) (omega (arith, length_instant)), tt),
-            ),
-          ),
-        ),
-      )
-  with_passes true =
-      let s = product_with true target s1 unit surfaces count coordinates in
-      let l = length s in
-      none_from_passes (product_rows s 1) (
-        le-ltb l 9 (omega (arith, length_interval)),
-        (
-          refl,
-          (
-            refl,
-            (
-              le-ltb l 46 (omega (arith, length_interval)),
-              (ap (λ (n : ℕ). nat_lt l (58 + 4 * n)) (count_stands true) ∙ le-ltb l (58 + 4 * count) (omega (arith, length_interval)), tt),
-            ),
-          ),
-        ),
+  passes_by : (interval : Bool) (member : Option Member) (least : ℕ) → least ≤ size_for interval member → 9 ≤ size_for interval member
+      → (let l = length (product_with interval member target s1 unit surfaces count coordinates) in
+      (nat_lt l 9 ≡ false) × (nat_lt l least ≡ false) × (nat_lt l (size_for interval member + 4 * coordinate_count (product_with interval member target s1 unit surfaces count coordinates)) ≡ false))
+  passes_by interval member least fits head =
+      let l = length (product_with interval member target s1 unit surfaces count coordinates) in
+      let known = length_product interval member in (
+        le-ltb l 9 (omega (arith, known, head)),
+        le-ltb l least (omega (arith, known, fits)),
+        ap (λ (n : ℕ). nat_lt l (size_for interval member + 4 * n)) (count_stands interval member) ∙ le-ltb l (size_for interval member + 4 * count) (omega (arith, known)),
       )
 
-  pub with_short : (interval : Bool) → length (product_with interval target s1 unit surfaces count coordinates) ≤ 58 + 4 * count
-  with_short false = omega (arith, length_instant)
-  with_short true = omega (arith, length_interval)
+  pub with_passes : (interval : Bool) (member : Option Member) → first_fault (product_rows (product_with interval member target s1 unit surfaces count coordinates) 1) ≡ None
+  with_passes false None =
+      let p = passes_by false None 34 (omega arith) (omega arith) in
+      none_from_passes (product_rows (product_with false None target s1 unit surfaces count coordinates) 1) (p.0, (refl, (refl, (p.1, (p.2, tt)))))
+  with_passes true None =
+      let p = passes_by true None 46 (omega arith) (omega arith) in
+      none_from_passes (product_rows (product_with true None target s1 unit surfaces count coordinates) 1) (p.0, (refl, (refl, (p.1, (p.2, tt)))))
+  with_passes false (Some member) =
+      let p = passes_by false (Some member) 37 (omega arith) (omega arith) in
+      none_from_passes (product_rows (product_with false (Some member) target s1 unit surfaces count coordinates) 1) (p.0, (refl, (refl, (p.1, (p.2, tt)))))
+  with_passes true (Some member) =
+      let p = passes_by true (Some member) 49 (omega arith) (omega arith) in
+      none_from_passes (product_rows (product_with true (Some member) target s1 unit surfaces count coordinates) 1) (p.0, (refl, (refl, (p.1, (p.2, tt)))))
+
+  pub with_short : (interval : Bool) (member : Option Member) → length (product_with interval member target s1 unit surfaces count coordinates) ≤ 61 + 4 * count
+  with_short false None = omega (arith, length_product false None)
+  with_short true None = omega (arith, length_product true None)
+  with_short false (Some member) = omega (arith, length_product false (Some member))
+  with_short true (Some member) = omega (arith, length_product true (Some member))
 
 length-coordinates : (words : List ℕ) → length (all_octets (coordinate_numbers words)) ≡ 4 * length words
 length-coordinates [] = refl
 length-coordinates (word ∷ words) = omega (arith, length-coordinates words)
 
-module _ (target : Target) (s1 words : List ℕ) (unit : UnitOfTime) (surfaces : Surfaces) (few : length words ≤ 255) where
-  pub product_passes : first_fault (product_rows (section_of 4 (product_octets target s1 words unit surfaces)) 1) ≡ None
+-- the template by what is known
+same_template : (member : Option Member) (s1 : List ℕ) → template_by member s1 ≡ template_for (is_interval (key_in s1 TimeRange)) member
+same_template None s1 = refl
+same_template (Some member) s1 = refl
+
+module _ (member : Option Member) (target : Target) (s1 words : List ℕ) (unit : UnitOfTime) (surfaces : Surfaces) (few : length words ≤ 255) where
+  abbrev written : List ℕ
+  written = section_of 4 (product_octets_by member target s1 words unit surfaces)
+
+  abbrev known : List ℕ
+  known = product_with (is_interval (key_in s1 TimeRange)) member target s1 unit surfaces (length words) (all_octets (coordinate_numbers words))
+
+  same_product : written ≡ known
+  same_product =
+      ap (λ (t : ℕ). section_of 4 (all_octets (instant_with t target s1 unit surfaces (length words))
+      ++ (all_octets (member_numbers member) ++ (all_octets (cond (is_interval (key_in s1 TimeRange)) (interval_numbers s1 unit) []) ++ all_octets (coordinate_numbers words)))))
+      (same_template member s1)
+
+  pub product_passes : first_fault (product_rows (section_of 4 (product_octets_by member target s1 words unit surfaces)) 1) ≡ None
   product_passes =
-      with_passes target s1 unit surfaces (length words) (all_octets (coordinate_numbers words)) (omega (arith, few)) (length-coordinates words) (is_interval (key_in s1 TimeRange))
+      ap (λ (s : List ℕ). first_fault (product_rows s 1)) same_product
+      ∙ with_passes target s1 unit surfaces (length words) (all_octets (coordinate_numbers words)) (omega (arith, few)) (length-coordinates words) (is_interval (key_in s1 TimeRange)) member
 
-  pub product_short : length (section_of 4 (product_octets target s1 words unit surfaces)) ≤ 1100
+  pub product_short : length (section_of 4 (product_octets_by member target s1 words unit surfaces)) ≤ 1100
   product_short =
-      let short = with_short target s1 unit surfaces (length words) (all_octets (coordinate_numbers words)) (omega (arith, few)) (length-coordinates words) (is_interval (key_in s1 TimeRange)) in
-      omega (arith, short, few)
+      let short = with_short target s1 unit surfaces (length words) (all_octets (coordinate_numbers words)) (omega (arith, few)) (length-coordinates words) (is_interval (key_in s1 TimeRange)) member in
+      omega (arith, ap length same_product, short, few)
 
-  pub product_itself : StatesItself 4 (section_of 4 (product_octets target s1 words unit surfaces))
-  product_itself = StatesItself-section_of 4 (product_octets target s1 words unit surfaces) (omega (arith, product_short))
+  pub product_itself : StatesItself 4 (section_of 4 (product_octets_by member target s1 words unit surfaces))
+  product_itself = StatesItself-section_of 4 (product_octets_by member target s1 words unit surfaces) (omega (arith, product_short))

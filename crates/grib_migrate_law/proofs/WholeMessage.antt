@@ -59,6 +59,9 @@ module _ (s1 s2 : List ℕ) (passes : FrontPasses s1 s2) where
       ∙ octets_same (placed_at 17 s1) [] 1 passes.itself_1.number_stands
   first_1 false = octets_same (placed_at 17 s1) [] 1 passes.itself_1.number_stands
 
+  first_2 : octets_in_force 2 (front_with true s1 s2) ≡ s2
+  first_2 = octets_same (placed_at (17 + length s1) s2) (placed_at 17 s1 ∷ []) 2 passes.itself_2.number_stands
+
   is_1 : IsSection [] 17 s1
   is_1 = record {
     length_stands = passes.itself_1.length_stands;
@@ -154,6 +157,11 @@ module _ (discipline : ℕ) (has : Bool) (s1 s2 s3 s4 s5 s6 s7 : List ℕ) (fron
   whole_identification =
       ap (octets_in_force 1) in_force ∙ front_stands (front_with has s1 s2) (start_with has s1 s2) s3 s4 s5 s6 s7 (front_first s1 s2 front has) parts 1 (omega arith)
       ∙ first_1 s1 s2 front has
+
+  pub whole_local : has ≡ true → part_octets m 1 2 ≡ s2
+  whole_local there =
+      ap (octets_in_force 2) in_force ∙ front_stands (front_with has s1 s2) (start_with has s1 s2) s3 s4 s5 s6 s7 (front_first s1 s2 front has) parts 2 (omega arith)
+      ∙ ap (λ (b : Bool). octets_in_force 2 (front_with b s1 s2)) there ∙ first_2 s1 s2 front
 
   pub whole_grid : part_octets m 1 3 ≡ s3
   whole_grid = ap (octets_in_force 3) in_force ∙ grid_stands (front_with has s1 s2) (start_with has s1 s2) s3 s4 s5 s6 s7 (front_first s1 s2 front has) parts

@@ -4,3 +4,6 @@ pub mod Meaning
 pub mod Rows
 pub mod Reading
 pub mod Spelling
+pub mod SurfaceRows
+pub mod TableReading
+pub mod SurfaceReading

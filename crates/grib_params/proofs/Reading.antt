@@ -1,7 +1,6 @@
 -- A text, read record by record.
 use Rattle.std.proofs.Common.{◌≡◌, ◌+◌, ◌<◌, ◌≤◌, ◌∙◌, ℕ, Bool, true, false, List, [], ◌∷◌, ◌++◌, Option, None, Some, length, suc, zero, refl, arith}
 use Rattle.std.specs.Prelude.{◌==◌, ◌||◌, ◌&&◌, if◌then◌else◌}
-use Rattle.std.proofs.lemmas.Bool.{le-ltb}
 use Rattle.csv.specs.Machine.{Read, start_field, ends_at_end, field_after, fields_after, in_field, is_end, next_record, step}
 use Rattle.csv.specs.Reading.{ReadRecord, Reached, default_config, records_from, source_of, strip_bom}
 use Rattle.csv.specs.declared.parser.Action.{Action}
@@ -9,10 +8,7 @@ use Rattle.csv.specs.declared.parser.State.{State}
 use Rattle.csv.specs.declared.parser.State.TheVariants as st
 use Rattle.csv.specs.declared.reader.Reader.{Reader}
 use Rattle.csv.proofs.ReadFacts.{rows-end, rows-more}
-use Rattle.std.specs.BTreeMap.{insert_entry}
-use Rattle.grib_params.specs.declared.row.Target.{Target}
-use Rattle.grib_params.specs.Fields.{Fields, Key, records_of, row_in}
-use Rattle.grib_params.specs.Table.{Duplicate, Entries, Good, Row, key_cmp, target_at, table_verdict, verdict_from, with_row}
+use Rattle.grib_params.specs.Fields.{Fields, records_of}
 use Rattle.grib_params.specs.declared.table.TheConstants.{MOST_OCTETS}
 
 -- where an octet ends a record, the end of the text would end none
@@ -93,8 +89,9 @@ unfolding records_from
 none_left zero s xs e = refl
 none_left (suc m) s xs e = rw e refl
 
--- where a reader stands whose records so far make a table
-pub record Standing {R : Type 0} (rem : R → Option (List ℕ)) (reader : Reader R) (text : List ℕ) (number : ℕ) (table : Entries) : Type 0 where
+-- Where a reader stands whose records so far make a table: what all records of a text make, `whole`, is what those
+-- that are left make of that table, by `from`
+pub record Standing {R T V : Type 0} (from : ℕ → T → List Fields → V) (whole : V) (rem : R → Option (List ℕ)) (reader : Reader R) (number : ℕ) (table : T) : Type 0 where
   pub left_over : List ℕ
   pub turns : ℕ
   pub config : reader.config ≡ default_config
@@ -102,7 +99,7 @@ pub record Standing {R : Type 0} (rem : R → Option (List ℕ)) (reader : Reade
   pub between : ends_at_end reader.state ≡ false
   pub enough : length left_over < turns
   pub counted : number + length left_over ≤ MOST_OCTETS
-  pub verdict : verdict_from 0 [] (records_of text) ≡ verdict_from number table (records_from default_config turns reader.state left_over)
+  pub verdict : whole ≡ from number table (records_from default_config turns reader.state left_over)
 
 stripped : (text : List ℕ) → length (strip_bom text) ≤ length text
 unfolding strip_bom
@@ -115,22 +112,8 @@ stripped (a ∷ b ∷ c ∷ rest) = by ((a == 239) && (b == 187) && (c == 191))
     by true = omega arith
     by false = omega arith
 
--- a reader at the start of a text
-pub begins : {R : Type 0} (rem : R → Option (List ℕ)) (reader : Reader R) (text : List ℕ) → length text ≤ MOST_OCTETS
-    → reader.config ≡ default_config → source_of rem reader ≡ Some (strip_bom text) → reader.state ≡ st.StartRecord → Standing rem reader text 0 []
-begins rem reader text small config source start = record {
-  left_over = strip_bom text;
-  turns = length (strip_bom text) + 1;
-  config = config;
-  source = source;
-  between = rw start refl;
-  enough = omega arith;
-  counted = omega (arith, stripped text);
-  verdict = rw start refl;
-}
-
 -- one record more, which has these fields
-pub record Stepped {R : Type 0} (rem : R → Option (List ℕ)) (reader : Reader R) (text : List ℕ) (number : ℕ) (table : Entries) (fields : Fields) : Type 0 where
+pub record Stepped {R T V : Type 0} (from : ℕ → T → List Fields → V) (whole : V) (rem : R → Option (List ℕ)) (reader : Reader R) (number : ℕ) (table : T) (fields : Fields) : Type 0 where
   pub left_over : List ℕ
   pub turns : ℕ
   pub config : reader.config ≡ default_config
@@ -138,69 +121,65 @@ pub record Stepped {R : Type 0} (rem : R → Option (List ℕ)) (reader : Reader
   pub between : ends_at_end reader.state ≡ false
   pub enough : length left_over < turns
   pub counted : number + 1 + length left_over ≤ MOST_OCTETS
-  pub verdict : verdict_from 0 [] (records_of text)
-      ≡ with_row (row_in fields) (number + 1) table (λ more. verdict_from (number + 1) more (records_from default_config turns reader.state left_over))
+  pub verdict : whole ≡ from number table (fields ∷ records_from default_config turns reader.state left_over)
 
-continued : (number : ℕ) (table : Entries) (turns m : ℕ) (s s2 : State) (xs ys : List ℕ) (fields : Fields) (p : Read)
-    → records_from default_config turns s xs ≡ p.0 ∷ records_from default_config m p.1 p.2 → fields ≡ p.0 → p.1 ≡ s2 → p.2 ≡ ys
-    → verdict_from number table (records_from default_config turns s xs)
-    ≡ with_row (row_in fields) (number + 1) table (λ more. verdict_from (number + 1) more (records_from default_config m s2 ys))
-continued number table turns m s s2 xs ys fields p e a b d = rw (e, a, ← b, ← d) refl
+module _ {R T V : Type 0} (from : ℕ → T → List Fields → V) (rem : R → Option (List ℕ)) where
+  -- a reader at the start of a text
+  pub begins : (table : T) (reader : Reader R) (text : List ℕ) → length text ≤ MOST_OCTETS
+      → reader.config ≡ default_config → source_of rem reader ≡ Some (strip_bom text) → reader.state ≡ st.StartRecord → Standing from (from 0 table (records_of text)) rem reader 0 table
+  begins table reader text small config source start = record {
+    left_over = strip_bom text;
+    turns = length (strip_bom text) + 1;
+    config = config;
+    source = source;
+    between = rw start refl;
+    enough = omega arith;
+    counted = omega (arith, stripped text);
+    verdict = rw start refl;
+  }
 
-pub stepped : {R : Type 0} (rem : R → Option (List ℕ)) (a b : Reader R) (text : List ℕ) (number : ℕ) (table : Entries) (fields : Fields)
-    → Standing rem a text number table → ReadRecord rem a b true fields → Stepped rem b text number table fields
-unfolding Reached
-stepped rem a b text number table fields at read =
-    let (rest, source, reached) = rows-more rem a b fields default_config a.state at.left_over at.left_over [] at.config at.source (refl, refl) read in
-    let (p, next, same, (state, over)) = reached in
-    let (m, turn, records) = unrolled at.turns a.state at.left_over p at.enough next in
-    let less = shorter a.state at.left_over p at.between next in
-    let (_, between) = leaves a.state [] [] at.left_over p next in
-    let short : length rest < length at.left_over = rw over at less in
-    record {
-      left_over = rest;
-      turns = m;
-      config = read.2 ∙ at.config;
-      source = source;
-      between = rw state at between;
-      enough = omega (arith, short, at.enough, turn);
-      counted = omega (arith, short, at.counted);
-      verdict = at.verdict ∙ continued number table at.turns m a.state b.state at.left_over rest fields p records same state over;
-    }
+  continued : (number : ℕ) (table : T) (turns m : ℕ) (s s2 : State) (xs ys : List ℕ) (fields : Fields) (p : Read)
+      → records_from default_config turns s xs ≡ p.0 ∷ records_from default_config m p.1 p.2 → fields ≡ p.0 → p.1 ≡ s2 → p.2 ≡ ys
+      → from number table (records_from default_config turns s xs) ≡ from number table (fields ∷ records_from default_config m s2 ys)
+  continued number table turns m s s2 xs ys fields p e a b d = rw (e, a, ← b, ← d) refl
 
--- a record that is no row
-pub refuses : {R : Type 0} (rem : R → Option (List ℕ)) (b : Reader R) (text : List ℕ) (number : ℕ) (table : Entries) (fields : Fields)
-    → Stepped rem b text number table fields → None ≡ row_in fields → verdict_from 0 [] (records_of text) ≡ Row (number + 1)
-refuses rem b text number table fields at none = at.verdict ∙ rw (← none) refl
+  pub stepped : (whole : V) (a b : Reader R) (number : ℕ) (table : T) (fields : Fields)
+      → Standing from whole rem a number table → ReadRecord rem a b true fields → Stepped from whole rem b number table fields
+  unfolding Reached
+  stepped whole a b number table fields at read =
+      let (rest, source, reached) = rows-more rem a b fields default_config a.state at.left_over at.left_over [] at.config at.source (refl, refl) read in
+      let (p, next, same, (state, over)) = reached in
+      let (m, turn, records) = unrolled at.turns a.state at.left_over p at.enough next in
+      let less = shorter a.state at.left_over p at.between next in
+      let (_, between) = leaves a.state [] [] at.left_over p next in
+      let short : length rest < length at.left_over = rw over at less in
+      record {
+        left_over = rest;
+        turns = m;
+        config = read.2 ∙ at.config;
+        source = source;
+        between = rw state at between;
+        enough = omega (arith, short, at.enough, turn);
+        counted = omega (arith, short, at.counted);
+        verdict = at.verdict ∙ continued number table at.turns m a.state b.state at.left_over rest fields p records same state over;
+      }
 
--- a record whose key is there
-pub repeats : {R : Type 0} (rem : R → Option (List ℕ)) (b : Reader R) (text : List ℕ) (number : ℕ) (table : Entries) (fields : Fields)
-    → Stepped rem b text number table fields → (row : Key × Target) (earlier : Target) → Some row ≡ row_in fields → Some earlier ≡ target_at table row.0
-    → verdict_from 0 [] (records_of text) ≡ Duplicate (number + 1)
-repeats rem b text number table fields at row earlier some there = at.verdict ∙ rw (← some, ← there) refl
+  -- the record joins the table
+  pub stands_on : (whole : V) (b : Reader R) (number : ℕ) (table more : T) (fields : Fields) → (at : Stepped from whole rem b number table fields)
+      → ((records : List Fields) → from number table (fields ∷ records) ≡ from (number + 1) more records) → Standing from whole rem b (number + 1) more
+  stands_on whole b number table more fields at joins = record {
+    left_over = at.left_over;
+    turns = at.turns;
+    config = at.config;
+    source = at.source;
+    between = at.between;
+    enough = at.enough;
+    counted = at.counted;
+    verdict = at.verdict ∙ joins (records_from default_config at.turns b.state at.left_over);
+  }
 
--- a record that joins the table
-pub joins : {R : Type 0} (rem : R → Option (List ℕ)) (b : Reader R) (text : List ℕ) (number : ℕ) (table : Entries) (fields : Fields)
-    → Stepped rem b text number table fields → (row : Key × Target) → Some row ≡ row_in fields → None ≡ target_at table row.0
-    → Standing rem b text (number + 1) (insert_entry key_cmp table row.0 row.1)
-joins rem b text number table fields at row some new = record {
-  left_over = at.left_over;
-  turns = at.turns;
-  config = at.config;
-  source = at.source;
-  between = at.between;
-  enough = at.enough;
-  counted = at.counted;
-  verdict = at.verdict ∙ rw (← some, ← new) refl;
-}
-
--- no record more
-pub ends : {R : Type 0} (rem : R → Option (List ℕ)) (a b : Reader R) (text : List ℕ) (number : ℕ) (table : Entries)
-    → Standing rem a text number table → ReadRecord rem a b false [] → verdict_from 0 [] (records_of text) ≡ Good table
-ends rem a b text number table at read =
-    let none = rows-end rem a b [] default_config at.left_over at.config at.source read in
-    at.verdict ∙ rw (none_left at.turns a.state at.left_over none) refl
-
--- the verdict on a text that is not too large is that on its records
-pub not_too_large : (text : List ℕ) → length text ≤ MOST_OCTETS → table_verdict text ≡ verdict_from 0 [] (records_of text)
-not_too_large text small = rw (le-ltb MOST_OCTETS (length text) small) refl
+  -- no record more
+  pub ended : (whole : V) (a b : Reader R) (number : ℕ) (table : T) → Standing from whole rem a number table → ReadRecord rem a b false [] → whole ≡ from number table []
+  ended whole a b number table at read =
+      let none = rows-end rem a b [] default_config at.left_over at.config at.source read in
+      at.verdict ∙ rw (none_left at.turns a.state at.left_over none) refl

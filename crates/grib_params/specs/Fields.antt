@@ -33,9 +33,19 @@ with_digit number digit = number * 10 + (digit - 48)
 abbrev pub decimal : Field → ℕ
 decimal digits = fold with_digit 0 digits
 
--- the number of a field, none where it does not spell one from 0 to 255
+-- the number of a field, none where it does not spell one below a limit
+abbrev pub number_below : ℕ → Field → Option ℕ
+number_below limit field = if is_number field && nat_lt (decimal field) limit then Some (decimal field) else None
+
+-- a number of one octet, of two octets and of four octets
 abbrev pub number_in : Field → Option ℕ
-number_in field = if is_number field && nat_lt (decimal field) 256 then Some (decimal field) else None
+number_in field = number_below 256 field
+
+abbrev pub short_number_in : Field → Option ℕ
+short_number_in field = number_below 65536 field
+
+abbrev pub long_number_in : Field → Option ℕ
+long_number_in field = number_below 4294967296 field
 
 -- the centre of a record: `*` stands for every centre, and is seen as none
 abbrev pub centre_in : Field → Option (Option ℕ)

@@ -1,3 +1,5 @@
 pub mod Fields
 pub mod Table
 pub mod Pairs
+pub mod SurfaceRows
+pub mod Surfaces

@@ -22,16 +22,34 @@ fn is_number(field: &[u8]) -> bool
     field[0] != b'0' || field.len() == 1
 }
 
-/// The number from 0 to 255 that a field spells; `None` where it spells none.
-pub(crate) fn number_in(field: &[u8]) -> Option<u8>
-    ensures { result ≡ fields.number_in field.now }
+/// The number from 0 to 4,294,967,295 that a field spells; `None` where it spells none.
+pub(crate) fn long_number_in(field: &[u8]) -> Option<u32>
+    ensures { result ≡ fields.long_number_in field.now }
 {
     if !is_number(field) {
         return None;
     }
-    let mut number: u8 = 0;
+    let mut number: u32 = 0;
     for octet in field {
-        number = number.checked_mul(10)?.checked_add(octet - b'0')?;
+        number = number
+            .checked_mul(10)?
+            .checked_add(u32::from(octet - b'0'))?;
     }
     Some(number)
+}
+
+/// The number from 0 to 255 that a field spells; `None` where it spells none.
+#[tactic(auto, using(crate::proofs::Numbers::none_shorter, crate::proofs::Numbers::shorter, crate::proofs::Numbers::not_shorter))]
+pub(crate) fn number_in(field: &[u8]) -> Option<u8>
+    ensures { result ≡ fields.number_in field.now }
+{
+    u8::try_from(long_number_in(field)?).ok()
+}
+
+/// The number from 0 to 65,535 that a field spells; `None` where it spells none.
+#[tactic(auto, using(crate::proofs::Numbers::none_shorter, crate::proofs::Numbers::shorter, crate::proofs::Numbers::not_shorter))]
+pub(crate) fn short_number_in(field: &[u8]) -> Option<u16>
+    ensures { result ≡ fields.short_number_in field.now }
+{
+    u16::try_from(long_number_in(field)?).ok()
 }

@@ -24,14 +24,14 @@ pub struct Target {
 }
 
 /// The number of the field at a place, counted from 0.
-fn number_at(given: &ByteRecord, place: usize) -> Option<u8>
+pub(crate) fn number_at(given: &ByteRecord, place: usize) -> Option<u8>
     ensures { result ≡ option_and_then fields.number_in (field_at (fields_of given.now) place) }
 {
     number_in(given.get(place)?)
 }
 
 /// The centre of a record, `None` for every centre.
-fn centre_of(given: &ByteRecord) -> Option<Option<u8>>
+pub(crate) fn centre_of(given: &ByteRecord) -> Option<Option<u8>>
     ensures { result ≡ option_and_then fields.centre_in (field_at (fields_of given.now) 0) }
 {
     let field = given.get(0)?;

@@ -6,6 +6,7 @@ ghost use Rattle.grib_params.specs.Pairs as pairs;
 ghost use Rattle.grib_params.specs.Pairs.{first_pair};
 
 use crate::fault::TableFault;
+use crate::matching::TableMatch;
 use crate::row::{Key, Target, row_of};
 use csv::{ErrorKind, ReaderBuilder};
 use std::alloc::Global;
@@ -86,41 +87,44 @@ impl Table {
         }
     }
 
-    /// The other way round: the first version and parameter, by version, then parameter, for which a look-up
-    /// with this centre finds this target. It takes no memory.
-    pub fn first_pair(&self, centre: u8, target: &Target) -> Option<(u8, u8)>
-        ensures { result ≡ first_pair self.now centre target.now }
+    /// The other way round: the first version and parameter, by version, then parameter, for which the table has
+    /// a record, and a look-up with this centre finds one, that stands for this parameter of edition 2. It takes
+    /// no memory.
+    pub fn first_pair(
+        &self,
+        matching: TableMatch,
+        centre: u8,
+        parameter: &Target,
+    ) -> Option<(u8, u8)>
+        ensures { result ≡ first_pair self.now matching centre parameter.now }
     {
         let mut first = None;
-        for (key, found) in &self.targets {
+        for (key, target) in &self.targets {
             let pair = (key.1, key.2);
-            if same_target(target, found) && self.has_target(centre, target, pair) {
+            if matching.matches(parameter, target)
+                && self.has_target(matching, centre, parameter, pair)
+            {
                 first = Some(earlier(first, pair));
             }
         }
         first
     }
 
-    /// Whether a look-up finds this target.
-    fn has_target(&self, centre: u8, target: &Target, pair: (u8, u8)) -> bool
-        ensures { result ≡ pairs.has_target self.now centre target.now pair }
+    /// Whether a look-up finds a target that stands for this parameter.
+    fn has_target(
+        &self,
+        matching: TableMatch,
+        centre: u8,
+        parameter: &Target,
+        pair: (u8, u8),
+    ) -> bool
+        ensures { result ≡ pairs.has_target self.now matching centre parameter.now pair }
     {
         match self.lookup(centre, pair.0, pair.1) {
-            Some(found) => same_target(target, &found),
+            Some(target) => matching.matches(parameter, &target),
             None => false,
         }
     }
-}
-
-/// Whether two targets are one.
-fn same_target(a: &Target, b: &Target) -> bool
-    ensures { result ≡ pairs.same_target a.now b.now }
-{
-    a.discipline == b.discipline
-        && a.category == b.category
-        && a.number == b.number
-        && a.master == b.master
-        && a.local == b.local
 }
 
 /// The earlier of two pairs, where there is one already.

@@ -78,6 +78,7 @@ value_command places = record {
       text_unless (cause_2 places message) place.message (texts_from (value_text places message place.message) (field_count message) 1);
   ending = Silent;
   uses_shelf = false;
+  hears = false;
 }
 
 -- ---- it is lawful

@@ -8,7 +8,7 @@ ghost use Rattle.grib2_message.specs.Fields.{field_count};
 ghost use Rattle.grib_text.specs.Lines as printed_lines;
 ghost use Rattle.grib_command.specs.Pending.{WritesTo};
 
-use grib_command::{Answered, Ending, Listener, Writer, printed, write_whole};
+use grib_command::{Answered, Ending, Writer, printed, write_whole};
 use grib_io::{Sink, Stop};
 use grib_stream::Place;
 use grib_text::check_line;
@@ -51,12 +51,10 @@ impl Writer for Checking {
         printed(write_second(alloc, place, message, output))
     }
 
-    fn ending(&self) -> Ending {
-        Ending::Total
+    fn hears(&self) -> bool {
+        true
     }
-}
 
-impl Listener for Checking {
     fn heard<T: Sink>(
         &self,
         alloc: Global,
@@ -65,6 +63,10 @@ impl Listener for Checking {
         output: &mut T,
     ) -> Answered {
         printed(write_heard(alloc, place, arrival, output))
+    }
+
+    fn ending(&self) -> Ending {
+        Ending::Total
     }
 }
 

@@ -13,6 +13,7 @@ use grib_io::{Sink, Stop};
 use grib_packing::Column;
 use grib_text::{list_line, list_line1, reference_line};
 use grib1_sections::Message1;
+use grib2_arrival::Arrival;
 use grib2_message::Message;
 use std::alloc::Global;
 
@@ -21,11 +22,14 @@ use std::alloc::Global;
 pub struct Dumping;
 
 impl Printer for Dumping {
+    ghost use Rattle.std.specs.Prelude.{false};
     ghost use Rattle.grib_report.specs.Dumping.{dump_text, dump_text_1};
 
     ghost first_text = { λ dumping. dump_text_1 };
 
     ghost field_text = { λ dumping. dump_text };
+
+    ghost hearing = { λ dumping. false };
 
     fn write_first<T: Sink>(
         &self,
@@ -62,6 +66,21 @@ impl Printer for Dumping {
         let reference = second_reference(&column);
         let listed = list_line(alloc, message, number, field)?;
         append_dump(alloc, listed.as_slice(), &reference, &column, lines, output)
+    }
+
+    /// No message is heard.
+    fn hears(&self) -> bool {
+        false
+    }
+
+    fn write_heard<T: Sink>(
+        &self,
+        _alloc: Global,
+        _number: u64,
+        _arrival: &Arrival,
+        _output: &mut T,
+    ) -> Result<(), Stop> {
+        Err(Stop::Memory)
     }
 }
 

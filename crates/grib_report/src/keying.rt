@@ -6,6 +6,7 @@ use grib_command::write_whole;
 use grib_io::{Sink, Stop};
 use grib_text::{keys_line, keys_line1};
 use grib1_sections::Message1;
+use grib2_arrival::Arrival;
 use grib2_message::Message;
 use std::alloc::Global;
 
@@ -14,11 +15,14 @@ use std::alloc::Global;
 pub struct Keying;
 
 impl Printer for Keying {
+    ghost use Rattle.std.specs.Prelude.{false};
     ghost use Rattle.grib_text.specs.KeyLines.{keys_line, keys_line1};
 
     ghost first_text = { λ keying. keys_line1 };
 
     ghost field_text = { λ keying. keys_line };
+
+    ghost hearing = { λ keying. false };
 
     fn write_first<T: Sink>(
         &self,
@@ -42,5 +46,20 @@ impl Printer for Keying {
     ) -> Result<(), Stop> {
         let line = keys_line(alloc, message, number, field)?;
         append_text(lines, line.as_slice(), output)
+    }
+
+    /// No message is heard.
+    fn hears(&self) -> bool {
+        false
+    }
+
+    fn write_heard<T: Sink>(
+        &self,
+        _alloc: Global,
+        _number: u64,
+        _arrival: &Arrival,
+        _output: &mut T,
+    ) -> Result<(), Stop> {
+        Err(Stop::Memory)
     }
 }

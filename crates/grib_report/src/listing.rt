@@ -7,13 +7,12 @@ ghost use Rattle.grib2_message.specs.Fields.{field_count};
 ghost use Rattle.grib2_arrival.specs.Heard.{Heard};
 ghost use Rattle.grib_text.specs.Lines.{list_line};
 ghost use Rattle.grib_command.specs.Command.{texts_from};
-ghost use Rattle.grib_command.specs.Pending.{WritesTo, WritesToAllBut};
+ghost use Rattle.grib_command.specs.Pending.{WritesToAllBut};
 
 use crate::points::{ROOM, append_text};
-use crate::printing::{Printer, Printing};
-use grib_command::{Answered, Listener, printed, write_whole};
+use crate::printing::Printer;
+use grib_command::write_whole;
 use grib_io::{Sink, Stop};
-use grib_stream::Place;
 use grib_text::{list_line, list_line1, summary_line};
 use grib1_sections::Message1;
 use grib2_arrival::Arrival;
@@ -27,10 +26,13 @@ pub struct Listing;
 impl Printer for Listing {
     ghost use Rattle.grib_text.specs.Lines.{list_line};
     ghost use Rattle.grib_text.specs.Lines1.{list_line1};
+    ghost use Rattle.std.specs.Prelude.{true};
 
     ghost first_text = { λ listing. list_line1 };
 
     ghost field_text = { λ listing. list_line };
+
+    ghost hearing = { λ listing. true };
 
     fn write_first<T: Sink>(
         &self,
@@ -55,36 +57,23 @@ impl Printer for Listing {
         let line = list_line(alloc, message, number, field)?;
         append_text(lines, line.as_slice(), output)
     }
-}
 
-impl Listener for Printing<Listing> {
-    fn heard<T: Sink>(
+    fn hears(&self) -> bool {
+        true
+    }
+
+    /// Writes the line of each field through one buffer.
+    fn write_heard<T: Sink>(
         &self,
         alloc: Global,
-        place: &Place,
+        number: u64,
         arrival: &Arrival,
         output: &mut T,
-    ) -> Answered {
-        printed(write_heard(alloc, place.message, arrival, output))
+    ) -> Result<(), Stop> {
+        let mut lines = Vec::with_capacity(alloc, ROOM)?;
+        append_heard(alloc, number, arrival, &mut lines, output)?;
+        write_whole(output, lines.as_slice())
     }
-}
-
-/// Writes the line of each field of the message with this number that was heard, through one buffer.
-fn write_heard<T: Sink>(
-    alloc: Global,
-    number: u64,
-    arrival: &Arrival,
-    output: &mut T,
-) -> Result<(), Stop>
-    requires whole { (octets : List ℕ) × Heard arrival.now octets
-        × (verdict_2 octets ≡ Accepted (length octets)) }
-    ensures { (octets : List ℕ) → Heard arrival.now octets → verdict_2 octets ≡ Accepted (length octets)
-        → WritesTo T.contents T.faults T.settled result output.old output.new
-        (texts_from (list_line octets number) (field_count octets) 1) }
-{
-    let mut lines = Vec::with_capacity(alloc, ROOM)?;
-    append_heard(alloc, number, arrival, &mut lines, output)?;
-    write_whole(output, lines.as_slice())
 }
 
 /// Appends the line of each field to the buffer.

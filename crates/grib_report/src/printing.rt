@@ -1,7 +1,11 @@
 //! Commands that print a text of each field.
 
-ghost use Rattle.std.specs.Prelude.{◌≤◌, ◌++◌, ℕ, List};
+ghost use Rattle.std.specs.Prelude.{◌≡◌, ◌≤◌, ◌++◌, ℕ, Bool, true, List, length};
+ghost use Rattle.grib2_sections.specs.Verdict.{Accepted};
+ghost use Rattle.grib2_message.specs.Acceptance.{verdict_2};
+ghost use Rattle.grib2_arrival.specs.Heard.{Heard};
 ghost use Rattle.grib2_message.specs.Fields.{field_count};
+ghost use Rattle.grib_command.specs.Command.{texts_from};
 ghost use Rattle.grib_command.specs.Pending.{WritesTo, WritesToAllBut};
 
 use crate::fields::{FieldPrinter, write_fields};
@@ -9,6 +13,7 @@ use grib_command::{Answered, Ending, Writer, printed};
 use grib_io::{Sink, Stop};
 use grib_stream::Place;
 use grib1_sections::Message1;
+use grib2_arrival::Arrival;
 use grib2_message::Message;
 use std::alloc::Global;
 
@@ -19,6 +24,9 @@ pub trait Printer {
 
     /// The text of a field, counted from 1, of the message of edition 2 with a number.
     ghost field_text: { Self → List ℕ → ℕ → ℕ → List ℕ };
+
+    /// Whether messages of edition 2 are printed by what was heard of them.
+    ghost hearing: { Self → Bool };
 
     /// Writes the text of the message of edition 1 with this number.
     fn write_first<T: Sink>(
@@ -46,6 +54,25 @@ pub trait Printer {
         requires last { field ≤ field_count message.now }
         ensures { WritesToAllBut T.contents T.faults T.settled result output.old output.new
             (lines.old.items ++ field_text self.now message.now number field) lines.new.items };
+
+    /// Whether messages of edition 2 are printed by what was heard of them.
+    fn hears(&self) -> bool
+        ensures { result ≡ hearing self.now };
+
+    /// Writes the text of each field of the message with this number that was heard. Where none is heard, nothing is said.
+    fn write_heard<T: Sink>(
+        &self,
+        alloc: Global,
+        number: u64,
+        arrival: &Arrival,
+        output: &mut T,
+    ) -> Result<(), Stop>
+        requires whole { (octets : List ℕ) × Heard arrival.now octets
+            × (verdict_2 octets ≡ Accepted (length octets)) }
+        ensures { hearing self.now ≡ true
+            → (octets : List ℕ) → Heard arrival.now octets → verdict_2 octets ≡ Accepted (length octets)
+            → WritesTo T.contents T.faults T.settled result output.old output.new
+            (texts_from (field_text self.now octets number) (field_count octets) 1) };
 }
 
 /// The command of what prints a text of each field.
@@ -55,11 +82,14 @@ pub struct Printing<P>(pub P);
 impl<P: Printer> Writer for Printing<P> {
     ghost use Rattle.std.specs.Prelude.{refl};
     ghost use Rattle.grib_command.specs.Command.{printing_fields};
-    ghost use Rattle.grib_command.specs.LawfulCommands.{fields_lawful};
+    ghost use Rattle.grib_command.specs.LawfulCommands.{fields_lawful, heard_lawful};
 
-    ghost definition = { λ printing. printing_fields (P.first_text printing.0) (P.field_text printing.0) };
+    ghost definition = { λ printing. record (printing_fields (P.first_text printing.0) (P.field_text printing.0)) {
+      hears = P.hearing printing.0;
+    } };
 
-    ghost lawful = { λ printing. fields_lawful (P.first_text printing.0) (P.field_text printing.0) };
+    ghost lawful = { λ printing. heard_lawful (printing_fields (P.first_text printing.0) (P.field_text printing.0))
+        (P.hearing printing.0) (fields_lawful (P.first_text printing.0) (P.field_text printing.0)) };
 
     ghost unshelved = { λ printing. refl };
 
@@ -81,6 +111,20 @@ impl<P: Printer> Writer for Printing<P> {
         output: &mut T,
     ) -> Answered {
         printed(write_fields(self, alloc, place.message, message, output))
+    }
+
+    fn hears(&self) -> bool {
+        self.0.hears()
+    }
+
+    fn heard<T: Sink>(
+        &self,
+        alloc: Global,
+        place: &Place,
+        arrival: &Arrival,
+        output: &mut T,
+    ) -> Answered {
+        printed(self.0.write_heard(alloc, place.message, arrival, output))
     }
 
     fn ending(&self) -> Ending {

@@ -15,6 +15,7 @@ use grib_dyadic::Dyadic;
 use grib_io::{Sink, Stop};
 use grib_text::{reference_line, stats_line};
 use grib1_sections::Message1;
+use grib2_arrival::Arrival;
 use grib2_message::Message;
 use std::alloc::{AllocError, Global};
 
@@ -23,11 +24,14 @@ use std::alloc::{AllocError, Global};
 pub struct Summing;
 
 impl Printer for Summing {
+    ghost use Rattle.std.specs.Prelude.{false};
     ghost use Rattle.grib_report.specs.Summing.{stats_text, stats_text_1};
 
     ghost first_text = { λ summing. stats_text_1 };
 
     ghost field_text = { λ summing. stats_text };
+
+    ghost hearing = { λ summing. false };
 
     fn write_first<T: Sink>(
         &self,
@@ -57,6 +61,21 @@ impl Printer for Summing {
         let reference = ieee_reference(scaling.reference);
         let text = sums_of(alloc, number, field, &summary, &reference, scaling)?;
         append_text(lines, text.as_slice(), output)
+    }
+
+    /// No message is heard.
+    fn hears(&self) -> bool {
+        false
+    }
+
+    fn write_heard<T: Sink>(
+        &self,
+        _alloc: Global,
+        _number: u64,
+        _arrival: &Arrival,
+        _output: &mut T,
+    ) -> Result<(), Stop> {
+        Err(Stop::Memory)
     }
 }
 

@@ -19,6 +19,7 @@ use grib_packing::Column;
 use grib_stream::{Cause, Place};
 use grib_text::{list_line, list_line1, reference_line};
 use grib1_sections::Message1;
+use grib2_arrival::Arrival;
 use grib2_message::Message;
 use std::alloc::{AllocError, Global};
 
@@ -65,6 +66,21 @@ impl Writer for Valuing {
             Ok(Some(cause)) => Answered::Kept(cause),
             Err(_) => Answered::Memory,
         }
+    }
+
+    /// No message is heard.
+    fn hears(&self) -> bool {
+        false
+    }
+
+    fn heard<T: Sink>(
+        &self,
+        _alloc: Global,
+        _place: &Place,
+        _arrival: &Arrival,
+        _output: &mut T,
+    ) -> Answered {
+        Answered::Memory
     }
 
     fn ending(&self) -> Ending {

@@ -1,77 +1,107 @@
--- The messages of an input are accepted, and what is written at its end.
-use Rattle.std.proofs.Common.{◌≡◌, ℕ, zero, suc, ◌+◌, ◌-◌, ◌<◌, ◌≤◌, ◌==◌, true, false, List, [], ◌∷◌, length, take, All, refl, sym, ap, ◌∙◌, subst, ⊎_elim}
-use Rattle.std.proofs.lemmas.Bool.{cases_Bool, cases_lt}
-use Rattle.std.proofs.lemmas.List.Elements.{All-nil, All-cons}
-use Rattle.grib2_sections.specs.Head.{edition}
+-- The items of an input, by the grammars and by what is an octet.
+use Rattle.std.proofs.Common.{◌≡◌, ℕ, ◌<◌, ◌==◌, Bool, true, false, List, length, take, drop, All, inl, inr, sym, ap, ◌∙◌, subst, ⊎_elim, arith}
+use Rattle.std.proofs.lemmas.Bool.{cases_Bool, false≢true}
+use Rattle.std.proofs.lemmas.List.Elements.{All-take, All-drop, All-weaker}
+use Rattle.grib_base.specs.declared.fault.Fault.{Fault}
 use Rattle.grib1_sections.specs.Message.{IsMessage1}
+use Rattle.grib2_sections.specs.Head.{edition}
+use Rattle.grib2_sections.specs.Verdict as verdicts
 use Rattle.grib2_message.specs.Message.{IsMessage}
-use Rattle.grib_stream.specs.Acts.{Act, writes}
-use Rattle.grib_stream.specs.Outcomes.{is_open}
-use Rattle.grib_stream.specs.Stream.{begins, Judgement, Message, Faulty, Found, End, Over, Refusing, stream_from, stream, on_judgement, followed_by, message_after}
-use Rattle.grib_stream.specs.Task.{Given, Gives, Ends}
-use Rattle.grib_stream.specs.declared.place.Totals.{Totals}
-use Rattle.grib_stream.specs.Answer.{Answer, after, on_given, answers, on_end, place_of, totals_of, at_limit, answer_of, answer_within}
-use Rattle.grib_stream.proofs.Exits.{within_short, within_long, closed_at_limit, open_at_limit}
-use Rattle.grib_stream.proofs.Streams.{stream_skip, stream_begun}
-use Rattle.grib_command.specs.Command.{Command, given, task}
-use Rattle.grib_command.specs.Endings.{ending_text}
-use Rattle.grib_command.specs.Judging.{judge, fields_of}
-use Rattle.grib_run_law.proofs.Keeping.{alone_other, alone_first}
+use Rattle.grib_stream.specs.Stream.{begins, Message, Faulty, Found}
+use Rattle.grib_items.specs.declared.policy.Policy.{Policy}
+use Rattle.grib_stream.specs.Task.{Task, IsLawful}
+use Rattle.grib_items.specs.Answer.{passes}
+use Rattle.grib_items.specs.Items.{Item, Accepted, Refused, items}
+use Rattle.grib_items.specs.Laws.{StandsIn}
+use Rattle.grib_command.specs.Command.{task}
+use Rattle.grib_command.specs.Judging.{judge}
+use Rattle.grib_report.specs.Checking.{check_command, check_lawful}
+use Rattle.grib_dispatch.specs.Lawful.{lawful, IsFirst, IsOther, message_judged, refusal_judged, not_first, least_message, there_message, edition_alone, message_alone, first_alone_message}
+use Rattle.grib_run_law.specs.Answered.{items_of}
+use Rattle.grib_run_law.specs.Complete.{IsInGrammar}
+use Rattle.grib_run_law.specs.Judged.{IsRefused, IsJudged}
+use Rattle.grib_run_law.specs.Same.{AreOctets}
+
+-- each item of octets stands in them
+abbrev pub ItemsStand : Type 0
+ItemsStand = (policy : Policy) (more : Bool) (octets : List ℕ) → All (StandsIn judge more octets) (items_of policy more octets).items
+
+-- as the law on items says of any task
+pub stands : ((task : Task) (passes more : Bool) (octets : List ℕ) → IsLawful task → All (StandsIn task.judge more octets) (items task.judge passes more octets).items) → ItemsStand
+stands law policy more octets = law (task check_command) (passes policy) more octets (lawful check_command check_lawful)
+
+-- ---- what is accepted stands alone
+
+alone_other : (rest : List ℕ) (total : ℕ) → begins rest ≡ true → judge rest ≡ Message total → (edition (take total rest) == 1) ≡ false → IsMessage (take total rest)
+alone_other rest total begun is not_one =
+    let least = least_message rest total is in
+    let same = ap (λ n. n == 1) (edition_alone rest total (omega arith) (there_message rest total is)) in
+    ⊎_elim
+    (λ (m : IsFirst rest (verdicts.Accepted total)). absurd (false≢true (sym not_one ∙ (same ∙ m.first_edition))))
+    (λ (m : IsOther rest (verdicts.Accepted total)). message_alone rest total begun m)
+    (message_judged rest total is)
+
+alone_first : (rest : List ℕ) (total : ℕ) → begins rest ≡ true → judge rest ≡ Message total → (edition (take total rest) == 1) ≡ true → IsMessage1 (take total rest)
+alone_first rest total begun is one =
+    let least = least_message rest total is in
+    let same = ap (λ n. n == 1) (edition_alone rest total (omega arith) (there_message rest total is)) in
+    ⊎_elim
+    (λ (m : IsFirst rest (verdicts.Accepted total)). first_alone_message rest total begun m)
+    (λ (m : IsOther rest (verdicts.Accepted total)). absurd (false≢true (sym m.other_edition ∙ (sym same ∙ one))))
+    (message_judged rest total is)
 
 -- a message of an input is in the grammar of its edition
 pub record IsAccepted (found : Found) : Type 0 where
   pub second : (edition found.octets == 1) ≡ false → IsMessage found.octets
   pub first : (edition found.octets == 1) ≡ true → IsMessage1 found.octets
 
-accepted_judged : (place skipped octet : ℕ) (octets : List ℕ) (j : Judgement) → begins (octet ∷ octets) ≡ true → judge (octet ∷ octets) ≡ j
-    → ((inside : ℕ) → All IsAccepted (stream_from judge inside (place + 1) skipped octets).messages)
-    → All IsAccepted (on_judgement j (λ total. followed_by (message_after place (take total (octet ∷ octets))) (stream_from judge (total - 1) (place + 1) skipped octets))).messages
-accepted_judged place skipped octet octets (Message total) begun is later =
-    All-cons IsAccepted (message_after place (take total (octet ∷ octets))) (stream_from judge (total - 1) (place + 1) skipped octets).messages
-    (record { second = alone_other (octet ∷ octets) total begun is; first = alone_first (octet ∷ octets) total begun is }) (later (total - 1))
-accepted_judged place skipped octet octets (Faulty fault) begun is later = All-nil IsAccepted
+accepted_here : (more : Bool) (input : List ℕ) (found : Found) → StandsIn judge more input (Accepted found) → IsAccepted found
+accepted_here more input found (begun, (is, octets)) = record {
+  second = subst (λ m. (edition m == 1) ≡ false → IsMessage m) octets (alone_other (drop found.before input) (length found.octets) begun is);
+  first = subst (λ m. (edition m == 1) ≡ true → IsMessage1 m) octets (alone_first (drop found.before input) (length found.octets) begun is);
+}
 
-pub accepted_all : (inside place skipped : ℕ) (octets : List ℕ) → All IsAccepted (stream_from judge inside place skipped octets).messages
-accepted_all zero place skipped [] = All-nil IsAccepted
-accepted_all (suc inside) place skipped [] = All-nil IsAccepted
-accepted_all (suc inside) place skipped (octet ∷ octets) = accepted_all inside (place + 1) skipped octets
-accepted_all zero place skipped (octet ∷ octets) =
+in_grammar : (found : Found) → IsAccepted found → IsInGrammar found.octets
+in_grammar found own = ⊎_elim (λ one. inl (own.first one)) (λ not_one. inr (own.second not_one)) (cases_Bool (edition found.octets == 1))
+
+-- ---- what is refused, by its edition
+
+pub is_refused : (octets : List ℕ) (fault : Fault) → begins octets ≡ true → judge octets ≡ Faulty fault → IsRefused fault octets
+is_refused octets fault begun is =
     ⊎_elim
-    (λ begun. subst (λ s. All IsAccepted s.messages) (sym (stream_begun judge place skipped octet octets begun))
-    (accepted_judged place skipped octet octets (judge (octet ∷ octets)) begun refl
-    (λ inside. accepted_all inside (place + 1) skipped octets)))
-    (λ none. subst (λ s. All IsAccepted s.messages) (sym (stream_skip judge place skipped octet octets none))
-    (accepted_all zero (place + 1) (skipped + 1) octets))
-    (cases_Bool (begins (octet ∷ octets)))
+    (λ (m : IsFirst octets (verdicts.Refused fault)). record { begun = begun; first = λ one. m.verdict_is; second = λ other. absurd (other m.edition_is) })
+    (λ (m : IsOther octets (verdicts.Refused fault)).
+    record { begun = begun; first = λ one. absurd (not_first octets m.other_edition one); second = λ other. m.verdict_is })
+    (refusal_judged octets fault is)
 
--- ---- a command that prints nothing at the end of the input
+judged_one : (more : Bool) (input : List ℕ) (item : Item) → StandsIn judge more input item → IsJudged more input item
+judged_one more input (Accepted found) (begun, (is, octets)) = (octets, in_grammar found (accepted_here more input found (begun, (is, octets))))
+judged_one more input (Refused refused) (begun, (is, by, octets)) = (octets, (is_refused (drop refused.before input) refused.fault begun is, by))
 
-module _ (command : Command) (none : (totals : Totals) → ending_text command.ending totals ≡ []) where
-  end_none : (m f w : ℕ) (end : End) → (on_end (task command) m f w end).ending ≡ []
-  end_none m f w (Over skipped) = ap writes (none (totals_of m f skipped w))
-  end_none m f w (Refusing fault) = refl
+pub judged_all : (more : Bool) (input : List ℕ) (items : List Item) → All (StandsIn judge more input) items → All (IsJudged more input) items
+judged_all more input items stand = All-weaker (StandsIn judge more input) (IsJudged more input) (judged_one more input) items stand
 
-  given_none : (g : Given) (next : List Act → ℕ → Answer) → ((acts : List Act) (more : ℕ) → (next acts more).ending ≡ [])
-      → (on_given (task command) g next).ending ≡ []
-  given_none (Gives acts written) next later = later acts written
-  given_none (Ends outcome) next later = refl
+-- ---- what holds of each message
 
-  endings_none : (m f w : ℕ) (founds : List Found) (end : End) → (answers (task command) m f w founds end).ending ≡ []
-  endings_none m f w [] end = end_none m f w end
-  endings_none m f w (found ∷ later) end =
-      given_none (given command (place_of m found.before f) found.octets)
-      (λ acts more. after acts (answers (task command) (m + 1) (f + fields_of found.octets) (w + more) later end))
-      (λ acts more. endings_none (m + 1) (f + fields_of found.octets) (w + more) later end)
+-- of the message of an item, where it is one
+abbrev pub OfMessage : (Found → Type 0) → Item → Type 0
+OfMessage P (Accepted found) = P found
+OfMessage P (Refused refused) = Unit {0}
 
-  limit_none : (a : Answer) → a.ending ≡ [] → (at_limit (task command) a).ending ≡ []
-  limit_none a is =
-      ⊎_elim (λ unclosed. ap (λ x. x.ending) (open_at_limit (task command) a unclosed))
-      (λ closed. ap (λ x. x.ending) (closed_at_limit (task command) a closed) ∙ is) (cases_Bool (is_open a.outcome))
+accepted_one : (more : Bool) (input : List ℕ) (item : Item) → StandsIn judge more input item → OfMessage IsAccepted item
+accepted_one more input (Accepted found) stands = accepted_here more input found stands
+accepted_one more input (Refused refused) stands = tt
 
-  pub no_ending : (limit : ℕ) (input : List ℕ) → (answer_within limit (task command) input).ending ≡ []
-  no_ending limit input =
-      ⊎_elim
-      (λ (long : limit < length input). ap (λ a. a.ending) (within_long (task command) limit input long)
-      ∙ limit_none (answer_of (task command) (take limit input)) (endings_none 0 0 0 (stream judge (take limit input)).messages (stream judge (take limit input)).end))
-      (λ (short : length input ≤ limit). ap (λ a. a.ending) (within_short (task command) limit input short) ∙ endings_none 0 0 0 (stream judge input).messages (stream judge input).end)
-      (cases_lt limit (length input))
+pub accepted_all : (more : Bool) (input : List ℕ) (items : List Item) → All (StandsIn judge more input) items → All (OfMessage IsAccepted) items
+accepted_all more input items stand = All-weaker (StandsIn judge more input) (OfMessage IsAccepted) (accepted_one more input) items stand
+
+abbrev pub IsOfOctets : Found → Type 0
+IsOfOctets found = AreOctets found.octets
+
+octets_one : (more : Bool) (input : List ℕ) → AreOctets input → (item : Item) → StandsIn judge more input item → OfMessage IsOfOctets item
+octets_one more input small (Accepted found) (begun, (is, octets)) =
+    subst AreOctets octets (All-take (λ octet. octet < 256) (length found.octets) (drop found.before input) (All-drop (λ octet. octet < 256) found.before input small))
+octets_one more input small (Refused refused) stands = tt
+
+pub octets_all : (more : Bool) (input : List ℕ) → AreOctets input → (items : List Item) → All (StandsIn judge more input) items → All (OfMessage IsOfOctets) items
+octets_all more input small items stand = All-weaker (StandsIn judge more input) (OfMessage IsOfOctets) (octets_one more input small) items stand

@@ -17,12 +17,13 @@ use Rattle.grib_stream.proofs.Streams.{stream_passed, stream_message, is_begun}
 use Rattle.grib_command.specs.declared.job.Job.{Job}
 use Rattle.grib_command.specs.declared.job.Job.TheVariants.{Check, List as Listing, Keys, Stats, Dump, Filter, Split, Set, Repack, RepackLeast, Rescan, Crop, Migrate, Demote, Make, Print}
 use Rattle.grib_command.specs.Command.{Command, given, task}
-use Rattle.grib_run_law.specs.Complete.{Piece, IsInGrammar, IsMadeOf, HasResult, HaveResults}
+use Rattle.grib_run_law.specs.Complete.{Piece, IsInGrammar, IsMadeOf, HaveResults}
+use Rattle.grib_run_law.specs.Written.{HasResult}
 use Rattle.grib_command.specs.Judging.{judged, judge, fields_of}
 use Rattle.grib_dispatch.specs.Lawful.{least_message, message_stays}
 use Rattle.grib_command.specs.Pages.{text_of}
 use Rattle.grib_run_spec.specs.Tasks as tasks
-use Rattle.grib_run_spec.specs.Tasks.{Work, Reads, Makes, ReadsTable, work_of, made_answer, writing, answer_by, answer_with}
+use Rattle.grib_run_spec.specs.Tasks.{Stated, Work, Reads, Makes, ReadsTable, work_of, made_answer, writing, answer_by, answer_with}
 
 -- ---- one message
 
@@ -66,7 +67,7 @@ given_done : (t : Task) (g : Given) (acts : List Act) (written : ℕ) (next : Li
 given_done t g acts written next is done = ap (λ x. (on_given t x next).outcome) is ∙ done
 
 module _ (command : Command) where
-  done_followed : (m f w : ℕ) (before : ℕ) (piece : Piece) (s : Stream) → HasResult command piece
+  done_followed : (m f w : ℕ) (before : ℕ) (piece : Piece) (s : Stream) → HasResult command piece.message
       → ((more : ℕ) → (answer_to (task command) (m + 1) (f + fields_of piece.message) (w + more) s).outcome ≡ Done)
       → (answer_to (task command) m f w (followed_by (message_after before piece.message) s)).outcome ≡ Done
   done_followed m f w before piece s has later =
@@ -74,7 +75,7 @@ module _ (command : Command) where
       given_done (task command) (given command (place_of m before f) piece.message) acts written
       (λ acts more. after acts (answer_to (task command) (m + 1) (f + fields_of piece.message) (w + more) s)) is (later written)
 
-  done_all : (pieces : List Piece) (input : List ℕ) → IsMadeOf pieces input → All (HasResult command) pieces → (m f w place skipped : ℕ)
+  done_all : (pieces : List Piece) (input : List ℕ) → IsMadeOf pieces input → All (λ (piece : Piece). HasResult command piece.message) pieces → (m f w place skipped : ℕ)
       → (answer_to (task command) m f w (stream_from judge 0 place skipped input)).outcome ≡ Done
   done_all [] input none has m f w place skipped =
       ap (λ s. (answer_to (task command) m f w s).outcome)
@@ -85,43 +86,43 @@ module _ (command : Command) where
       let fits : b ≤ length input = omega (arith, ap length is, length-append piece.between (piece.message ++ rest)) in
       ap (λ s. (answer_to (task command) m f w s).outcome)
       (one_piece place skipped piece.between piece.message rest input is (stream_passed judge place skipped b input fits none) grammar)
-      ∙ done_followed m f w (place + b) piece (stream_from judge 0 (place + b + length piece.message) (skipped + b) rest) (All-head (HasResult command) piece pieces has)
-      (λ more. done_all pieces rest later (All-tail (HasResult command) piece pieces has) (m + 1) (f + fields_of piece.message) (w + more) (place + b + length piece.message) (skipped + b))
+      ∙ done_followed m f w (place + b) piece (stream_from judge 0 (place + b + length piece.message) (skipped + b) rest) (All-head (λ (piece : Piece). HasResult command piece.message) piece pieces has)
+      (λ more. done_all pieces rest later (All-tail (λ (piece : Piece). HasResult command piece.message) piece pieces has) (m + 1) (f + fields_of piece.message) (w + more) (place + b + length piece.message) (skipped + b))
 
-  pub command_done : (pieces : List Piece) (input : List ℕ) → length input ≤ 2 ^ 40 → IsMadeOf pieces input → All (HasResult command) pieces
+  pub command_done : (pieces : List Piece) (input : List ℕ) → length input ≤ 2 ^ 40 → IsMadeOf pieces input → All (λ (piece : Piece). HasResult command piece.message) pieces
       → (answer_within (2 ^ 40) (task command) input).outcome ≡ Done
   command_done pieces input short made has =
       ap (λ a. a.outcome) (within_short (task command) (2 ^ 40) input short) ∙ done_all pieces input made has 0 0 0 0 0
 
 -- ---- a job
 
-made_done : (job : Job) (answer : Answer) → work_of job ≡ Makes answer → answer.outcome ≡ Done
-made_done Check answer is = let no : ⊥ = cc in absurd no
-made_done Listing answer is = let no : ⊥ = cc in absurd no
-made_done Keys answer is = let no : ⊥ = cc in absurd no
-made_done Stats answer is = let no : ⊥ = cc in absurd no
-made_done (Dump None) answer is = let no : ⊥ = cc in absurd no
-made_done (Dump (Some places)) answer is = let no : ⊥ = cc in absurd no
-made_done (Filter conditions) answer is = let no : ⊥ = cc in absurd no
-made_done (Split name) answer is = let no : ⊥ = cc in absurd no
-made_done (Set changes) answer is = let no : ⊥ = cc in absurd no
-made_done (Repack target) answer is = let no : ⊥ = cc in absurd no
-made_done RepackLeast answer is = let no : ⊥ = cc in absurd no
-made_done Rescan answer is = let no : ⊥ = cc in absurd no
-made_done (Crop area) answer is = let no : ⊥ = cc in absurd no
-made_done (Migrate params keep_local) answer is = let no : ⊥ = cc in absurd no
-made_done (Demote params keep_local any_earth) answer is = let no : ⊥ = cc in absurd no
-made_done (Make seed ni nj target) answer is =
-    let same : made_answer seed ni nj target ≡ answer = cc in
+made_done : (job : Job) (stated : Stated) → work_of job ≡ Makes stated → stated.outcome ≡ Done
+made_done Check stated is = let no : ⊥ = cc in absurd no
+made_done Listing stated is = let no : ⊥ = cc in absurd no
+made_done Keys stated is = let no : ⊥ = cc in absurd no
+made_done Stats stated is = let no : ⊥ = cc in absurd no
+made_done (Dump None) stated is = let no : ⊥ = cc in absurd no
+made_done (Dump (Some places)) stated is = let no : ⊥ = cc in absurd no
+made_done (Filter conditions) stated is = let no : ⊥ = cc in absurd no
+made_done (Split name) stated is = let no : ⊥ = cc in absurd no
+made_done (Set changes) stated is = let no : ⊥ = cc in absurd no
+made_done (Repack target) stated is = let no : ⊥ = cc in absurd no
+made_done RepackLeast stated is = let no : ⊥ = cc in absurd no
+made_done Rescan stated is = let no : ⊥ = cc in absurd no
+made_done (Crop area) stated is = let no : ⊥ = cc in absurd no
+made_done (Migrate params keep_local) stated is = let no : ⊥ = cc in absurd no
+made_done (Demote params keep_local any_earth matching) stated is = let no : ⊥ = cc in absurd no
+made_done (Make seed ni nj target) stated is =
+    let same : made_answer seed ni nj target ≡ stated = cc in
     sym (ap (λ a. a.outcome) same)
-made_done (Print page) answer is =
-    let same : writing (text_of page) [] ≡ answer = cc in
+made_done (Print page) stated is =
+    let same : writing (text_of page) [] ≡ stated = cc in
     sym (ap (λ a. a.outcome) same)
 
-work_done : (work : Work) (text : Option (List ℕ)) (pieces : List Piece) (input : List ℕ) → ((answer : Answer) → work ≡ Makes answer → answer.outcome ≡ Done)
+work_done : (work : Work) (text : Option (List ℕ)) (pieces : List Piece) (input : List ℕ) → ((stated : Stated) → work ≡ Makes stated → stated.outcome ≡ Done)
     → length input ≤ 2 ^ 40 → IsMadeOf pieces input → HaveResults work text pieces → (tasks.answer_to work text input).outcome ≡ Done
 work_done (Reads command) text pieces input makes short made has = command_done command pieces input short made has
-work_done (Makes answer) text pieces input makes short made has = makes answer refl
+work_done (Makes stated) text pieces input makes short made has = makes stated refl
 work_done (ReadsTable name commands) text pieces input makes short made (table, good, has) =
     ap (λ t. (answer_by t commands input).outcome) good ∙ command_done (commands table) pieces input short made has
 

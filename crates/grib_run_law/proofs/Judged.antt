@@ -1,64 +1,66 @@
 -- What a run refuses.
-use Rattle.std.proofs.Common.{◌≡◌, ℕ, zero, suc, ◌+◌, ◌-◌, ◌^◌, ◌<◌, ◌≤◌, ◌==◌, ◌⊎◌, inl, inr, Bool, true, false, Option, Some, None, IfSome, List, [], ◌∷◌, length, take, All, refl, sym, ap, ◌∙◌, arith, ⊎_elim}
-use Rattle.std.proofs.lemmas.Bool.{cases_Bool, cases_lt, false≢true}
-use Rattle.std.proofs.lemmas.List.{take_all}
-use Rattle.std.proofs.lemmas.List.Elements.{All-nil, All-cons, All-head, All-tail}
+use Rattle.std.proofs.Common.{◌≡◌, ℕ, zero, suc, ◌+◌, ◌-◌, ◌^◌, ◌≤◌, ◌==◌, ◌&&◌, Bool, true, false, cond, Option, Some, None, IfSome, List, [], ◌∷◌, length, take, drop, refl, sym, ap, ◌∙◌, subst, arith}
+use Rattle.std.proofs.lemmas.Bool.{false≢true}
+use Rattle.std.proofs.lemmas.List.{length-take}
 use Rattle.grib_base.specs.Rows.{choose}
 use Rattle.grib_base.specs.declared.fault.Fault.{Fault}
 use Rattle.grib_base.specs.declared.fault.Refusal.{Refusal}
 use Rattle.grib_reasons.specs.declared.cause.Cause.{Cause}
+use Rattle.grib_reasons.specs.declared.cause.Kept.{Kept}
 use Rattle.grib2_sections.specs.Head.{edition}
 use Rattle.grib_params.specs.Table.{Entries}
 use Rattle.grib_table.specs.Tabled.{Tabled, Good}
 use Rattle.grib_table.specs.Tabled as tables
+use Rattle.grib_least.specs.Least.{least}
+use Rattle.grib_reorder.specs.declared.edit.GridEdit.TheVariants as edits
 use Rattle.grib_stream.specs.declared.outcome.Outcome.{Outcome}
-use Rattle.grib_stream.specs.declared.outcome.Outcome.TheVariants.{Refused, InputTooLong}
+use Rattle.grib_stream.specs.declared.outcome.Outcome.TheVariants as outcomes
 use Rattle.grib_stream.specs.declared.place.Place.{Place}
-use Rattle.grib_stream.specs.Acts.{Act, World}
-use Rattle.grib_stream.specs.Answer.{Answer, after, on_given, on_end, answers, place_of, refusal_after, at_limit, answer_of, answer_within}
-use Rattle.grib_stream.specs.Outcomes.{is_open, is_broken}
-use Rattle.grib_stream.specs.Run.{Gives as RunGives, Runs}
-use Rattle.grib_stream.specs.Stream.{begins, Judgement, Message, Faulty, Found, End, Over, Refusing, Stream, stream_from, stream, on_judgement, followed_by, message_after}
+use Rattle.grib_stream.specs.Acts.{Act}
+use Rattle.grib_stream.specs.Answer.{refusal_after}
+use Rattle.grib_stream.specs.Outcomes.{is_broken, is_truncated}
+use Rattle.grib_stream.specs.Stream.{begins, Judgement, Message, Faulty, message_after}
 use Rattle.grib_stream.specs.Task.{Given, Gives, Ends}
-use Rattle.grib_stream.proofs.Exits.{within_short, within_long, closed_at_limit, open_at_limit}
-use Rattle.grib_stream.proofs.Streams.{stream_skip, stream_begun}
+use Rattle.grib_items.specs.declared.policy.Instead.{Instead}
+use Rattle.grib_items.specs.declared.policy.Policy.{Policy}
+use Rattle.grib_items.specs.Answer.{Counts, Answered, passes, no_counts, refused_instead, instead_of, kept_of, one_answered, one_kept, one_refused, place_by, on_outcome, on_given, on_end, on_comes, after, answers}
+use Rattle.grib_items.specs.Items.{Item, Accepted, Refused, End, Over, Refusing, Open, Items, passed_after, end_by, on_next, items_from}
+use Rattle.grib_items.specs.Next.{Unknown, Refuses, next_judged, next_passed, passed}
+use Rattle.grib_items.specs.Laws.{AreInOrder, item_before, item_size, is_refusal}
 use Rattle.grib_command.specs.declared.job.Job.{Job}
 use Rattle.grib_command.specs.declared.job.Job.TheVariants.{Check, List as Listing, Keys, Stats, Dump, Filter, Split, Set, Repack, RepackLeast, Rescan, Crop, Migrate, Demote, Make, Print}
 use Rattle.grib_command.specs.Command.{Command, given, given_unless, kept_at, task}
-use Rattle.grib_run_law.specs.Complete.{IsInGrammar}
-use Rattle.grib_run_law.specs.Judged.{IsRefusedIn, NamesRow, JudgesInput}
 use Rattle.grib_command.specs.Judging.{judge, fields_of}
+use Rattle.grib_command.specs.Texts.{texts}
 use Rattle.grib_report.specs.Checking.{check_command}
 use Rattle.grib_report.specs.Listing.{list_command}
 use Rattle.grib_report.specs.Keying.{keys_command}
 use Rattle.grib_report.specs.Summing.{stats_command}
 use Rattle.grib_report.specs.Dumping.{dump_command}
+use Rattle.grib_report.specs.Valuing.{text_unless, value_command}
 use Rattle.grib_edit.specs.Filtering.{filter_command}
+use Rattle.grib_edit.specs.Splitting.{split_command}
 use Rattle.grib_edit.specs.Setting.{set_command}
-use Rattle.grib_least.specs.Least.{least}
 use Rattle.grib_edit.specs.Least.{least_command}
 use Rattle.grib_edit.specs.Repacking.{repack_command}
 use Rattle.grib_edit.specs.Rescanning.{edit_command}
 use Rattle.grib_edit.specs.Migrating.{are_octets, migrate_command}
 use Rattle.grib_edit.specs.Demoting.{demote_command}
-use Rattle.grib_reorder.specs.declared.edit.GridEdit.TheVariants as edits
-use Rattle.grib_run_law.specs.Same.{messages_answered}
-use Rattle.grib_run_spec.specs.Serving.{RunsTabled, RunsWork, RunsJob}
-use Rattle.grib_edit.specs.Splitting.{split_command}
-use Rattle.grib_run_spec.specs.Tasks.{Work, Reads, Makes, ReadsTable, work_of, refused_answer}
-use Rattle.grib_report.specs.Valuing.{text_unless, value_command}
-use Rattle.grib_run_law.proofs.Accepting.{IsAccepted, accepted_all}
+use Rattle.grib_run_spec.specs.Seen.{Seen}
+use Rattle.grib_run_spec.specs.Serving.{Gives as RunGives, Reading, AtOnce, AnswersWork}
+use Rattle.grib_run_spec.specs.Stated.{IfTabled, outcome_by, stated_to}
+use Rattle.grib_run_spec.specs.Tasks.{Stated, Work, Reads, Makes, ReadsTable, work_of}
+use Rattle.grib_run_law.specs.Answered.{is_longer, items_of, items_answered}
+use Rattle.grib_run_law.specs.Judged.{IsRefused, messages_of, NamesRow, Judges}
+use Rattle.grib_run_law.proofs.Accepting.{ItemsStand, is_refused, judged_all}
+use Rattle.grib_run_law.proofs.Leaving.{each_some, stated_within}
 
 -- ---- no command refuses a message that is accepted
 
-abbrev pub is_refusal : Outcome → Bool
-is_refusal (Refused refusal) = true
-is_refusal outcome = false
-
-abbrev pub NeverRefuses : Command → Type 0
+abbrev NeverRefuses : Command → Type 0
 NeverRefuses command = (place : Place) (message : List ℕ) (outcome : Outcome) → given command place message ≡ Ends outcome → is_refusal outcome ≡ false
 
-abbrev pub NoneRefuses : Given → Type 0
+abbrev NoneRefuses : Given → Type 0
 NoneRefuses g = (outcome : Outcome) → g ≡ Ends outcome → is_refusal outcome ≡ false
 
 gives_never : (acts : List Act) (written : ℕ) → NoneRefuses (Gives acts written)
@@ -84,9 +86,9 @@ by_edition : (command : Command) → ((place : Place) (message : List ℕ) → N
 by_edition command first second place message =
     either_never (edition message == 1) (command.first place message) (command.second place message) (first place message) (second place message)
 
-abbrev pub NeverWork : Work → Type 0
+abbrev NeverWork : Work → Type 0
 NeverWork (Reads command) = NeverRefuses command
-NeverWork (Makes answer) = is_refusal answer.outcome ≡ false
+NeverWork (Makes stated) = is_refusal stated.outcome ≡ false
 NeverWork (ReadsTable name commands) = (table : Entries) → NeverRefuses (commands table)
 
 job_never : (job : Job) → NeverWork (work_of job)
@@ -105,141 +107,196 @@ job_never Rescan = by_edition (edit_command edits.Rescan) (λ place message. kep
 job_never (Crop area) = by_edition (edit_command (edits.Crop area)) (λ place message. kept_never _ _) (λ place message. unless_never _ _ _)
 job_never (Migrate params keep) = λ table.
     by_edition (migrate_command keep table) (λ place message. either_never (are_octets message) _ _ (unless_never _ _ _) (gives_never _ _)) (λ place message. gives_never _ _)
-job_never (Demote params keep any_earth) = λ table. by_edition (demote_command keep any_earth table) (λ place message. gives_never _ _) (λ place message. unless_never _ _ _)
+job_never (Demote params keep any_earth matching) = λ table. by_edition (demote_command matching keep any_earth table) (λ place message. gives_never _ _) (λ place message. unless_never _ _ _)
 job_never (Make seed ni nj target) = refl
 job_never (Print page) = refl
 
--- ---- so a refusal is of the end of the stream
+-- ---- so a refusal is of the end of the items
 
-pub record IsEnd (m : ℕ) (founds : List Found) (end : End) (refusal : Refusal) : Type 0 where
-  pub ends : end ≡ Refusing refusal.fault
-  pub number : refusal.message ≡ m + length founds + 1
+-- items behind this many messages end with this refusal
+record IsEnd (before : ℕ) (items : List Item) (end : End) (refusal : Refusal) : Type 0 where
+  ends : end ≡ Refusing refusal.fault
+  number : refusal.message ≡ before + length (messages_of items) + 1
 
-module _ (command : Command) (never : NeverRefuses command) where
-  end_refused : (m f w : ℕ) (end : End) (refusal : Refusal) → (on_end (task command) m f w end).outcome ≡ Refused refusal → IsEnd m [] end refusal
-  end_refused m f w (Over skipped) refusal is = let no : ⊥ = cc in absurd no
-  end_refused m f w (Refusing fault) refusal is =
-      let same : refusal_after m fault ≡ refusal = cc in
-      record { ends = ap (λ (r : Refusal). Refusing r.fault) same; number = let number : m + 1 ≡ refusal.message = ap (λ (r : Refusal). r.message) same in omega arith }
+by_counts : (plain : Bool) (refused kept : ℕ) (refusal : Refusal) → cond plain outcomes.Done (outcomes.Passed refused kept) ≡ outcomes.Refused refusal → ⊥
+by_counts true refused kept refusal is = cc
+by_counts false refused kept refusal is = cc
 
-  given_refused : (g : Given) (next : List Act → ℕ → Answer) (refusal : Refusal) → NoneRefuses g → (on_given (task command) g next).outcome ≡ Refused refusal
-      → (acts : List Act) × (written : ℕ) × ((next acts written).outcome ≡ Refused refusal)
-  given_refused (Gives acts written) next refusal none is = (acts, written, is)
-  given_refused (Ends outcome) next refusal none is = absurd (false≢true (sym (none outcome refl) ∙ ap is_refusal is))
+module _ (command : Command) (never : NeverRefuses command) (policy : Policy) where
+  end_refused : (counts : Counts) (end : End) (refusal : Refusal) → outcome_by (on_end (task command) counts end).result ≡ outcomes.Refused refusal → IsEnd counts.messages [] end refusal
+  end_refused counts (Over skipped) refusal is = absurd (by_counts _ counts.refused counts.kept refusal is)
+  end_refused counts (Refusing fault) refusal is =
+      let same : refusal_after counts.messages fault ≡ refusal = cc in
+      record { ends = ap (λ (r : Refusal). Refusing r.fault) same; number = let number : counts.messages + 1 ≡ refusal.message = ap (λ (r : Refusal). r.message) same in omega arith }
+  end_refused counts Open refusal is = let no : ⊥ = cc in absurd no
 
-  answers_refused : (m f w : ℕ) (founds : List Found) (end : End) (refusal : Refusal) → (answers (task command) m f w founds end).outcome ≡ Refused refusal
-      → IsEnd m founds end refusal
-  answers_refused m f w [] end refusal is = end_refused m f w end refusal is
-  answers_refused m f w (found ∷ later) end refusal is =
-      let place : Place = place_of m found.before f in
-      let (acts, written, rest) =
-      given_refused (given command place found.octets) (λ acts more. after acts (answers (task command) (m + 1) (f + fields_of found.octets) (w + more) later end)) refusal
+  -- the run goes on behind a message, which is counted
+  abbrev GoesOn : Counts → (Counts → Answered) → Refusal → Type 0
+  GoesOn counts next refusal = (later : Counts) × (later.messages ≡ counts.messages + 1) × (outcome_by (next later).result ≡ outcomes.Refused refusal)
+
+  outcome_refused : (instead : Option Instead) (kept : Option Kept) (counts : Counts) (place : Place) (fields : ℕ) (message : List ℕ) (outcome : Outcome) (next : Counts → Answered) (refusal : Refusal)
+      → is_refusal outcome ≡ false
+      → outcome_by (on_comes (on_outcome texts counts place fields message outcome instead kept) (λ done counts. after done (next counts))).result ≡ outcomes.Refused refusal
+      → GoesOn counts next refusal
+  outcome_refused None kept counts place fields message outcome next refusal none is = absurd (false≢true (sym none ∙ ap is_refusal is))
+  outcome_refused (Some instead) None counts place fields message outcome next refusal none is = absurd (false≢true (sym none ∙ ap is_refusal is))
+  outcome_refused (Some instead) (Some kept) counts place fields message outcome next refusal none is =
+      (one_kept counts fields (length (instead_of instead message)), refl, is)
+
+  given_refused : (g : Given) (counts : Counts) (place : Place) (fields : ℕ) (message : List ℕ) (next : Counts → Answered) (refusal : Refusal) → NoneRefuses g
+      → outcome_by (on_comes (on_given texts policy.kept counts place fields message g) (λ done counts. after done (next counts))).result ≡ outcomes.Refused refusal
+      → GoesOn counts next refusal
+  given_refused (Gives acts written) counts place fields message next refusal none is = (one_answered counts fields written, refl, is)
+  given_refused (Ends outcome) counts place fields message next refusal none is =
+      outcome_refused policy.kept (kept_of outcome) counts place fields message outcome next refusal (none outcome refl) is
+
+  answers_refused : (counts : Counts) (items : List Item) (end : End) (refusal : Refusal) → outcome_by (answers (task command) texts policy counts items end).result ≡ outcomes.Refused refusal
+      → IsEnd counts.messages items end refusal
+  answers_refused counts [] end refusal is = end_refused counts end refusal is
+  answers_refused counts (Accepted found ∷ items) end refusal is =
+      let place = place_by counts found.before in
+      let (later, one, rest) =
+      given_refused (given command place found.octets) counts place (fields_of found.octets) found.octets (λ counts. answers (task command) texts policy counts items end) refusal
       (never place found.octets) is in
-      let own = answers_refused (m + 1) (f + fields_of found.octets) (w + written) later end refusal rest in
-      record { ends = own.ends; number = omega (arith, own.number) }
-
-  limit_refused : (a : Answer) (refusal : Refusal) → (at_limit (task command) a).outcome ≡ Refused refusal → a.outcome ≡ Refused refusal
-  limit_refused a refusal is =
-      ⊎_elim
-      (λ (unclosed : is_open a.outcome ≡ true). let no : InputTooLong ≡ Refused refusal = sym (ap (λ x. x.outcome) (open_at_limit (task command) a unclosed)) ∙ is in absurd (let false_is : ⊥ = cc in false_is))
-      (λ (closed : is_open a.outcome ≡ false). sym (ap (λ x. x.outcome) (closed_at_limit (task command) a closed)) ∙ is)
-      (cases_Bool (is_open a.outcome))
-
-  within_refused : (limit : ℕ) (input : List ℕ) (refusal : Refusal) → (answer_within limit (task command) input).outcome ≡ Refused refusal
-      → (answer_of (task command) (take limit input)).outcome ≡ Refused refusal
-  within_refused limit input refusal is =
-      ⊎_elim
-      (λ (long : limit < length input). limit_refused (answer_of (task command) (take limit input)) refusal (sym (ap (λ a. a.outcome) (within_long (task command) limit input long)) ∙ is))
-      (λ (short : length input ≤ limit). ap (λ xs. (answer_of (task command) xs).outcome) (take_all limit input short)
-      ∙ (sym (ap (λ a. a.outcome) (within_short (task command) limit input short)) ∙ is))
-      (cases_lt limit (length input))
+      let own = answers_refused later items end refusal rest in
+      record { ends = own.ends; number = omega (arith, own.number, one) }
+  answers_refused counts (Refused refused ∷ items) end refusal is =
+      let own = answers_refused (one_refused counts (length (refused_instead policy.refused refused.octets))) items end refusal is in
+      record { ends = own.ends; number = own.number }
 
 -- ---- where it stands
 
-refused_behind : (fault : Fault) (octet : ℕ) (octets : List ℕ) → IsRefusedIn fault octets → IsRefusedIn fault (octet ∷ octets)
-refused_behind fault octet octets is = record {
-  front = octet ∷ is.front;
-  rest = is.rest;
-  parts = ap (λ xs. octet ∷ xs) is.parts;
-  begun = is.begun;
-  refused = is.refused;
+-- the octets behind some are refused, and these items end before them, of which the first begins behind this many
+record IsBehind (fault : Fault) (place inside : ℕ) (octets : List ℕ) (items : List Item) : Type 0 where
+  size : ℕ
+  order : AreInOrder (place + inside) items (place + size)
+  there : IsRefused fault (drop size octets)
+
+lower : (items : List Item) (p q end : ℕ) → q ≤ p → AreInOrder p items end → AreInOrder q items end
+lower [] p q end less order = omega (arith, less, order)
+lower (item ∷ later) p q end less order = (omega (arith, less, order.0), order.1)
+
+-- one octet more before them
+behind_one : (fault : Fault) (place inside from : ℕ) (octet : ℕ) (octets : List ℕ) (items : List Item) → from ≤ inside + 1 → IsBehind fault (place + 1) inside octets items
+    → IsBehind fault place from (octet ∷ octets) items
+behind_one fault place inside from octet octets items less behind =
+    let e : (place + 1) + behind.size ≡ place + suc behind.size = omega arith in
+    record {
+      size = suc behind.size;
+      order = subst (AreInOrder (place + from) items) e (lower items ((place + 1) + inside) (place + from) ((place + 1) + behind.size) (omega (arith, less)) behind.order);
+      there = behind.there;
+    }
+
+-- an item that begins here, and others behind it
+behind_item : (fault : Fault) (place inside : ℕ) (octets : List ℕ) (item : Item) (later : List Item) → item_before item ≡ place → item_size item ≤ inside → IsBehind fault place inside octets later
+    → IsBehind fault place 0 octets (item ∷ later)
+behind_item fault place inside octets item later here less behind = record {
+  size = behind.size;
+  order = (omega (arith, here), lower later (place + inside) (item_before item + item_size item) (place + behind.size) (omega (arith, here, less)) behind.order);
+  there = behind.there;
 }
 
-refused_judged : (place skipped octet : ℕ) (octets : List ℕ) (j : Judgement) (fault : Fault) → begins (octet ∷ octets) ≡ true → judge (octet ∷ octets) ≡ j
-    → ((inside : ℕ) → (stream_from judge inside (place + 1) skipped octets).end ≡ Refusing fault → IsRefusedIn fault octets)
-    → (on_judgement j (λ total. followed_by (message_after place (take total (octet ∷ octets))) (stream_from judge (total - 1) (place + 1) skipped octets))).end ≡ Refusing fault
-    → IsRefusedIn fault (octet ∷ octets)
-refused_judged place skipped octet octets (Message total) fault begun is later ends = refused_behind fault octet octets (later (total - 1) ends)
-refused_judged place skipped octet octets (Faulty own) fault begun is later ends =
-    let same : own ≡ fault = cc in
-    record { front = []; rest = octet ∷ octets; parts = refl; begun = begun; refused = is ∙ ap Faulty same }
+module _ (fault : Fault) (place skipped octet : ℕ) (octets : List ℕ) (go : ℕ → ℕ → Items) (later : (inside skipped : ℕ) → (go inside skipped).end ≡ Refusing fault → IsBehind fault (place + 1) inside octets (go inside skipped).items) where
+  behind_faulty : (waits passing : Bool) (own : Fault) (far : Option ℕ) → IsRefused own (octet ∷ octets)
+      → (on_next (cond waits Unknown (cond passing (next_passed own far) (Refuses own))) place skipped (octet ∷ octets) go).end ≡ Refusing fault
+      → IsBehind fault place 0 (octet ∷ octets) (on_next (cond waits Unknown (cond passing (next_passed own far) (Refuses own))) place skipped (octet ∷ octets) go).items
+  behind_faulty true passing own far refused is = let no : ⊥ = cc in absurd no
+  behind_faulty false false own far refused is =
+      let same : own ≡ fault = cc in
+      record { size = 0; order = omega arith; there = subst (λ f. IsRefused f (octet ∷ octets)) same refused }
+  behind_faulty false true own None refused is = let no : ⊥ = cc in absurd no
+  behind_faulty false true own (Some size) refused is =
+      let rest = later (size - 1) (skipped + size) is in
+      behind_item fault place (size - 1 + 1) (octet ∷ octets) (Refused (passed_after place own (take size (octet ∷ octets)))) _ refl (omega (arith, length-take size (octet ∷ octets)))
+      (behind_one fault place (size - 1) (size - 1 + 1) octet octets _ (omega arith) rest)
 
-pub refused_from : (inside place skipped : ℕ) (octets : List ℕ) (fault : Fault) → (stream_from judge inside place skipped octets).end ≡ Refusing fault → IsRefusedIn fault octets
-refused_from zero place skipped [] fault ends = let no : ⊥ = cc in absurd no
-refused_from (suc inside) place skipped [] fault ends = let no : ⊥ = cc in absurd no
-refused_from (suc inside) place skipped (octet ∷ octets) fault ends = refused_behind fault octet octets (refused_from inside (place + 1) skipped octets fault ends)
-refused_from zero place skipped (octet ∷ octets) fault ends =
-    ⊎_elim
-    (λ begun. refused_judged place skipped octet octets (judge (octet ∷ octets)) fault begun refl
-    (λ inside. refused_from inside (place + 1) skipped octets fault)
-    (sym (ap (λ (s : Stream). s.end) (stream_begun judge place skipped octet octets begun)) ∙ ends))
-    (λ none. refused_behind fault octet octets
-    (refused_from zero (place + 1) (skipped + 1) octets fault (sym (ap (λ (s : Stream). s.end) (stream_skip judge place skipped octet octets none)) ∙ ends)))
-    (cases_Bool (begins (octet ∷ octets)))
+  behind_judged : (passing more : Bool) (j : Judgement) → begins (octet ∷ octets) ≡ true → judge (octet ∷ octets) ≡ j
+      → (on_next (next_judged passing more (octet ∷ octets) j) place skipped (octet ∷ octets) go).end ≡ Refusing fault
+      → IsBehind fault place 0 (octet ∷ octets) (on_next (next_judged passing more (octet ∷ octets) j) place skipped (octet ∷ octets) go).items
+  behind_judged passing more (Message total) begun judged is =
+      behind_item fault place (total - 1 + 1) (octet ∷ octets) (Accepted (message_after place (take total (octet ∷ octets)))) _ refl (omega (arith, length-take total (octet ∷ octets)))
+      (behind_one fault place (total - 1) (total - 1 + 1) octet octets _ (omega arith) (later (total - 1) skipped is))
+  behind_judged passing more (Faulty own) begun judged is =
+      behind_faulty (more && is_truncated own.reason) passing own (passed more (octet ∷ octets)) (is_refused (octet ∷ octets) own begun judged) is
+
+behind_either : (b : Bool) (x y : Items) (fault : Fault) (place : ℕ) (octets : List ℕ) → (b ≡ true → x.end ≡ Refusing fault → IsBehind fault place 0 octets x.items)
+    → (y.end ≡ Refusing fault → IsBehind fault place 0 octets y.items) → (choose b (λ _. x) (λ _. y)).end ≡ Refusing fault → IsBehind fault place 0 octets (choose b (λ _. x) (λ _. y)).items
+behind_either true x y fault place octets first second is = first refl is
+behind_either false x y fault place octets first second is = second is
+
+behind_end : (b : Bool) (fault : Fault) (skipped : ℕ) → end_by b skipped ≡ Refusing fault → ⊥
+behind_end true fault skipped is = cc
+behind_end false fault skipped is = cc
+
+behind_from : (passing more : Bool) (inside place skipped : ℕ) (octets : List ℕ) (fault : Fault) → (items_from judge passing more inside place skipped octets).end ≡ Refusing fault
+    → IsBehind fault place inside octets (items_from judge passing more inside place skipped octets).items
+behind_from passing more zero place skipped [] fault is = absurd (behind_end more fault skipped is)
+behind_from passing more (suc inside) place skipped [] fault is = absurd (behind_end more fault skipped is)
+behind_from passing more (suc inside) place skipped (octet ∷ octets) fault is =
+    behind_one fault place inside (suc inside) octet octets _ (omega arith) (behind_from passing more inside (place + 1) skipped octets fault is)
+behind_from passing more zero place skipped (octet ∷ octets) fault is =
+    behind_either (begins (octet ∷ octets)) _ _ fault place (octet ∷ octets)
+    (λ begun ends. behind_judged fault place skipped octet octets (λ inside skipped. items_from judge passing more inside (place + 1) skipped octets)
+    (λ inside skipped ends. behind_from passing more inside (place + 1) skipped octets fault ends) passing more (judge (octet ∷ octets)) begun refl ends)
+    (λ ends. behind_one fault place 0 0 octet octets _ (omega arith) (behind_from passing more zero (place + 1) (skipped + 1) octets fault ends)) is
+
+from_nothing : (items : List Item) (size : ℕ) → AreInOrder (0 + 0) items (0 + size) → AreInOrder 0 items size
+from_nothing items size order = let e : 0 + size ≡ size = omega arith in subst (AreInOrder 0 items) e order
+
+refused_behind : (policy : Policy) (more : Bool) (octets : List ℕ) (fault : Fault) → (items_of policy more octets).end ≡ Refusing fault
+    → (before : ℕ) × AreInOrder 0 (items_of policy more octets).items before × IsRefused fault (drop before octets)
+refused_behind policy more octets fault is =
+    let behind = behind_from (passes policy) more 0 0 0 octets fault is in
+    (behind.size, from_nothing (items_of policy more octets).items behind.size behind.order, behind.there)
 
 -- ---- a run
 
-in_grammar : (found : Found) → IsAccepted found → IsInGrammar found.octets
-in_grammar found is =
-    ⊎_elim (λ one. inl (is.first one)) (λ not_one. inr (is.second not_one)) (cases_Bool (edition found.octets == 1))
+of_some : {X : Type 0} (P : X → Type 0) (x : Option X) → ((x : X) → P x) → IfSome x P
+of_some P None all = tt
+of_some P (Some x) all = all x
 
-all_in_grammar : (founds : List Found) → All IsAccepted founds → All (λ (found : Found). IsInGrammar found.octets) founds
-all_in_grammar [] all = All-nil (λ (found : Found). IsInGrammar found.octets)
-all_in_grammar (found ∷ later) all =
-    All-cons (λ (found : Found). IsInGrammar found.octets) found later (in_grammar found (All-head IsAccepted found later all)) (all_in_grammar later (All-tail IsAccepted found later all))
+module _ (stand : ItemsStand) where
+  row_number : (items : List Item) (end : End) (refusal : Refusal) → IsEnd 0 items end refusal → refusal.message ≡ length (messages_of items) + 1
+  row_number items end refusal own = let number : refusal.message ≡ 0 + length (messages_of items) + 1 = own.number in omega arith
 
-accepted_within : (input : List ℕ) → All (λ (found : Found). IsInGrammar found.octets) (messages_answered input)
-accepted_within input = all_in_grammar (messages_answered input) (accepted_all 0 0 0 (take (2 ^ 40) input))
+  names_row : (command : Command) → NeverRefuses command → (policy : Policy) (input : List ℕ) (refusal : Refusal)
+      → (stated_to command policy input).outcome ≡ outcomes.Refused refusal → NamesRow policy input refusal
+  names_row command never policy input refusal is =
+      let found = items_answered policy input in
+      let own = answers_refused command never policy no_counts found.items found.end refusal (sym (ap (λ stated. stated.outcome) (stated_within command policy input)) ∙ is) in
+      record {
+        ends = own.ends;
+        there = refused_behind policy (is_longer input) (take (2 ^ 40) input) refusal.fault own.ends;
+        number = row_number found.items found.end refusal own;
+      }
 
-judges : (outcome : Outcome) (input : List ℕ) → ((refusal : Refusal) → outcome ≡ Refused refusal → NamesRow refusal (take (2 ^ 40) input)) → JudgesInput outcome input
-judges outcome input refused = record { accepted = accepted_within input; refused = refused }
+  judges : (policy : Policy) (outcome : Outcome) (input : List ℕ) → ((refusal : Refusal) → outcome ≡ outcomes.Refused refusal → NamesRow policy input refusal) → Judges policy outcome input
+  judges policy outcome input row = record {
+    items = judged_all (is_longer input) (take (2 ^ 40) input) (items_answered policy input).items (stand policy (is_longer input) (take (2 ^ 40) input));
+    refusal = row;
+  }
 
-names_row : (command : Command) → NeverRefuses command → (input : List ℕ) (refusal : Refusal) → (answer_within (2 ^ 40) (task command) input).outcome ≡ Refused refusal
-    → NamesRow refusal (take (2 ^ 40) input)
-names_row command never input refusal is =
-    let found : Stream = stream judge (take (2 ^ 40) input) in
-    let own = answers_refused command never 0 0 0 found.messages found.end refusal (within_refused command never (2 ^ 40) input refusal is) in
-    let number : refusal.message ≡ 0 + length found.messages + 1 = own.number in
-    record { ends = own.ends; there = refused_from 0 0 0 (take (2 ^ 40) input) refusal.fault own.ends; number = omega arith }
+  reading_judges : (policy : Policy) (outcome : Outcome) (before now : Seen) (command : Command) → NeverRefuses command → Reading policy outcome before now command
+      → IfSome before.left (Judges policy outcome)
+  reading_judges policy outcome before now command never reading =
+      each_some (λ input. RunGives (stated_to command policy input) outcome before now) (Judges policy outcome) before.left
+      (λ input gives. judges policy outcome input (λ refusal is. names_row command never policy input refusal (sym (gives.ends (ap is_broken is)) ∙ is))) reading.gives
 
-unbroken : (outcome : Outcome) (refusal : Refusal) → outcome ≡ Refused refusal → is_broken outcome ≡ false
-unbroken outcome refusal is = ap is_broken is
+  at_once_judges : (policy : Policy) (outcome : Outcome) (before now : Seen) (stated : Stated) → is_refusal stated.outcome ≡ false → AtOnce outcome before now stated
+      → IfSome before.left (Judges policy outcome)
+  at_once_judges policy outcome before now stated never once =
+      of_some (Judges policy outcome) before.left
+      (λ input. judges policy outcome input (λ refusal is. absurd (false≢true (sym never ∙ ap is_refusal (sym (once.gives.ends (ap is_broken is)) ∙ is)))))
 
-command_judges : (command : Command) → NeverRefuses command → (outcome : Outcome) (left left_now : Option (List ℕ)) (before now : World)
-    → Runs (task command) (2 ^ 40) outcome left left_now before now → IfSome left (JudgesInput outcome)
-command_judges command never outcome None left_now before now runs = tt
-command_judges command never outcome (Some input) left_now before now runs =
-    let gives : RunGives (answer_within (2 ^ 40) (task command) input) outcome before now = runs.gives in
-    judges outcome input (λ refusal is. names_row command never input refusal (sym (gives.ends (unbroken outcome refusal is)) ∙ is))
+  tabled_judges : (policy : Policy) (outcome : Outcome) (before now : Seen) (commands : Entries → Command) → ((table : Entries) → NeverRefuses (commands table)) → (t : Tabled)
+      → IfTabled commands (Reading policy outcome before now) (AtOnce outcome before now) t → IfSome before.left (Judges policy outcome)
+  tabled_judges policy outcome before now commands never (Good table) answers = reading_judges policy outcome before now (commands table) (never table) answers
+  tabled_judges policy outcome before now commands never (tables.Refused refusal) answers = at_once_judges policy outcome before now _ refl answers
 
-answer_judges : (answer : Answer) → is_refusal answer.outcome ≡ false → (outcome : Outcome) (left : Option (List ℕ)) (before now : World)
-    → RunGives answer outcome before now → IfSome left (JudgesInput outcome)
-answer_judges answer never outcome None before now gives = tt
-answer_judges answer never outcome (Some input) before now gives =
-    judges outcome input (λ refusal is. absurd (false≢true (sym never ∙ ap is_refusal (sym (gives.ends (unbroken outcome refusal is)) ∙ is))))
+  work_judges : (work : Work) → NeverWork work → (policy : Policy) (outcome : Outcome) (before now : Seen) → AnswersWork work policy outcome before now → IfSome before.left (Judges policy outcome)
+  work_judges (Reads command) never policy outcome before now answers = reading_judges policy outcome before now command never answers
+  work_judges (Makes stated) never policy outcome before now answers = at_once_judges policy outcome before now stated never answers
+  work_judges (ReadsTable name commands) never policy outcome before now (text, stood, answers) = tabled_judges policy outcome before now commands never _ answers
 
-tabled_judges : (commands : Entries → Command) → ((table : Entries) → NeverRefuses (commands table)) → (t : Tabled) (outcome : Outcome) (left left_now : Option (List ℕ)) (before now : World)
-    → RunsTabled commands outcome left left_now before now t → IfSome left (JudgesInput outcome)
-tabled_judges commands never (Good table) outcome left left_now before now runs = command_judges (commands table) (never table) outcome left left_now before now runs
-tabled_judges commands never (tables.Refused refusal) outcome left left_now before now gives = answer_judges (refused_answer refusal) refl outcome left before now gives
-
-work_judges : (work : Work) → NeverWork work → (outcome : Outcome) (left left_now : Option (List ℕ)) (before now : World)
-    → RunsWork work outcome left left_now before now → IfSome left (JudgesInput outcome)
-work_judges (Reads command) never outcome left left_now before now runs = command_judges command never outcome left left_now before now runs
-work_judges (Makes answer) never outcome left left_now before now gives = answer_judges answer never outcome left before now gives
-work_judges (ReadsTable name commands) never outcome left left_now before now (text, stood, runs) =
-    tabled_judges commands never _ outcome left left_now before now runs
-
-pub job_judges : (job : Job) (outcome : Outcome) (left left_now : Option (List ℕ)) (before now : World)
-    → RunsJob job outcome left left_now before now → IfSome left (JudgesInput outcome)
-job_judges job outcome left left_now before now runs = work_judges (work_of job) (job_never job) outcome left left_now before now runs
+  pub job_judges : (job : Job) (policy : Policy) (outcome : Outcome) (before now : Seen) → AnswersWork (work_of job) policy outcome before now → IfSome before.left (Judges policy outcome)
+  job_judges job policy outcome before now answers = work_judges (work_of job) (job_never job) policy outcome before now answers

@@ -1,218 +1,177 @@
--- What a run leaves of what it writes for messages.
-use Rattle.std.proofs.Common.{◌≡◌, ℕ, ◌+◌, ◌^◌, ◌<◌, ◌≤◌, false, Some, None, IfSome, Bool, true, List, [], ◌++◌, length, map, take, refl, sym, ap, ◌∙◌, subst, arith, append-nil}
+-- What a run leaves.
+use Rattle.std.proofs.Common.{◌≡◌, ◌≢◌, ℕ, ◌^◌, ◌<◌, ◌≤◌, Bool, true, false, nat_lt, Option, Some, None, IfSome, List, length, take, refl, sym, ap, ◌∙◌, subst, arith, length-append, ltb-false}
+use Rattle.std.specs.Io.KnownBytes.{Appends, Consumes, IsAtEnd}
+use Rattle.std.proofs.lemmas.Bool.{false≢true}
+use Rattle.std.proofs.lemmas.List.{take_all, length-take}
 use Rattle.std.proofs.lemmas.List.Elements.{All-take}
-use Rattle.std.specs.List.{concat, flat_map}
-use Rattle.std.specs.declared.option.Option.{Option}
-use Rattle.std.specs.Io.KnownBytes.{Appends}
-use Rattle.grib_io.specs.Shelves.{Held}
+use Rattle.grib_base.specs.Rows.{choose}
 use Rattle.grib_keys.specs.declared.condition.Condition.{Condition}
 use Rattle.grib_params.specs.Table.{Entries}
 use Rattle.grib_repack.specs.declared.target.RepackTarget.{RepackTarget}
-use Rattle.grib_repack.specs.Faults.{target_of}
 use Rattle.grib_table.specs.Tabled.{Tabled, Good, Refused}
 use Rattle.grib_stream.specs.declared.outcome.Outcome.{Outcome}
-use Rattle.grib_stream.specs.Acts.{Act, World, world, written, Did, DidFront}
-use Rattle.grib_stream.specs.Answer.{answer_of, answer_within}
+use Rattle.grib_stream.specs.declared.outcome.Outcome.TheVariants.{InputTooLong}
+use Rattle.grib_stream.specs.Acts.{written, Did, DidFront}
 use Rattle.grib_stream.specs.Outcomes.{is_broken}
-use Rattle.grib_stream.specs.Run.{Gives, Runs}
-use Rattle.grib_stream.specs.Stream.{stream}
+use Rattle.grib_items.specs.declared.policy.Policy.{Policy}
+use Rattle.grib_items.specs.Laws.{is_whole}
+use Rattle.grib_items.specs.Run.{answer_of, answer_within}
+use Rattle.grib_items.specs.Steps.{Plan}
 use Rattle.grib_command.specs.declared.job.Job.{Job}
 use Rattle.grib_command.specs.declared.job.Job.TheVariants.{Check, List as Listing, Keys, Stats, Dump, Filter, Split, Set, Repack, RepackLeast, Rescan, Crop, Migrate, Demote, Make, Print}
-use Rattle.grib_command.specs.Command.{task}
-use Rattle.grib_edit.specs.Filtering.{filter_command, filter_lawful}
+use Rattle.grib_command.specs.Command.{Command}
 use Rattle.grib_command.specs.Jobs.{IsJob, CanChange, is_target}
-use Rattle.grib_command.specs.Judging.{judge}
-use Rattle.grib_run_law.specs.Leaving.{OfTaken, OfNames, LeavesNames, WritesSame, WritesMigrated, WritesSet, WritesPicked, IfGood, LeavesFields, LeavesParts}
-use Rattle.grib_edit.specs.Migrating.{migrate_command, migrate_lawful}
-use Rattle.grib_run_law.specs.Octets.{AreAllOctets, until_lost}
-use Rattle.grib_edit.specs.Repacking.{repack_command, repack_lawful}
-use Rattle.grib_run_law.specs.Same.{KeepsValues, before_kept, messages_answered}
-use Rattle.grib_run_law.specs.SameMigrated.{before_lost}
-use Rattle.grib_run_law.specs.SamePicked.{PicksFields}
-use Rattle.grib_run_law.specs.SameSet.{KeepsColumns, before_fault}
-use Rattle.grib_run_spec.specs.Serving.{RunsTabled, RunsJob}
-use Rattle.grib_edit.specs.Setting.{set_command, set_lawful}
+use Rattle.grib_edit.specs.Filtering.{filter_command}
+use Rattle.grib_edit.specs.Migrating.{migrate_command}
+use Rattle.grib_edit.specs.Repacking.{repack_command}
+use Rattle.grib_edit.specs.Setting.{set_command}
 use Rattle.grib_edit.specs.Splitting.{split_command}
-use Rattle.grib_run_law.specs.Standing.{all_parts, before_first, StandFirst, StandAll}
-use Rattle.grib_run_law.proofs.Accepting.{no_ending}
-use Rattle.grib_run_law.proofs.AllGiven.{done_whole, all_repacked, all_set, all_filtered, all_migrated}
-use Rattle.grib_run_law.proofs.OfOctets.{before_of_input, until_of_input}
-use Rattle.grib_run_law.proofs.Migrations.{output_of, migrated_written, migrated_same}
-use Rattle.grib_run_law.proofs.Standing.{first_stand, whole_stand, all_stand}
+use Rattle.grib_run_spec.specs.Seen.{Seen, world_of}
+use Rattle.grib_run_spec.specs.Serving.{Gives, Reading, AtOnce, AnswersWork}
+use Rattle.grib_run_spec.specs.Stated.{IfTabled, plan_by, stated_by, stated_to}
+use Rattle.grib_run_spec.specs.Tasks.{work_of}
+use Rattle.grib_run_law.specs.Answered.{is_longer, items_answered, items_of}
+use Rattle.grib_run_law.specs.Leaving.{AppendsItems, LeavesItems, IfGood, Leaves}
+use Rattle.grib_run_law.specs.Same.{SameValues, SameMigrated, SetsKeys, IsFiltered, AreOctets, IfOctets}
+use Rattle.grib_run_law.specs.Shelved.{PutsParts, LeavesNames}
+use Rattle.grib_run_law.specs.Written.{WritesItems, Writes, stated_of}
+use Rattle.grib_run_law.proofs.Accepting.{ItemsStand, octets_all}
+use Rattle.grib_run_law.proofs.Shelved.{stands_first, stands_all, read_all}
+use Rattle.grib_run_law.proofs.Writing.{writes_octets}
 
--- what was appended
-appended : (before now : World) (acts ending : List Act) (octets : List ℕ) → Did before now (acts ++ ending) → ending ≡ [] → written acts ≡ octets
-    → Appends before.output now.output octets
-appended before now acts ending octets did none is =
-    subst (Appends before.output now.output) (ap (λ e. written (acts ++ e)) none ∙ (ap written (append-nil acts) ∙ is)) did.output
+-- ---- the answer, as far as an input is answered
 
-repack_leaves : (target : RepackTarget) (outcome : Outcome) (left left_now : Option (List ℕ)) (before now : World)
-    → ((input : List ℕ) → AreAllOctets (before_kept (target_of target) (messages_answered input)) → KeepsValues target input)
-    → Runs (task (repack_command target)) (2 ^ 40) outcome left left_now before now → is_broken outcome ≡ false
-    → OfTaken left left_now (WritesSame (target_of target) outcome before.output now.output)
-repack_leaves target outcome left left_now before now keeps runs unbroken =
-    let (input, takes, took) = runs.taken in
-    let kept = keeps input (before_of_input (target_of target) input (All-take (λ octet. octet < 256) (2 ^ 40) input takes.small)) in
-    let gives : Gives (answer_within (2 ^ 40) (task (repack_command target)) input) outcome before now = took.answered in (
-      input,
-      takes,
-      record {
-        outputs = kept.outputs;
-        written = appended before now _ _ (concat kept.outputs) (gives.whole unbroken) (no_ending (repack_command target) (λ totals. refl) (2 ^ 40) input) kept.written_stands;
-        same = kept.same;
-        all = λ done.
-            let whole = done_whole (repack_command target) (repack_lawful target) (2 ^ 40) input (sym (gives.ends unbroken) ∙ done) in
-            ap (λ xs. before_kept (target_of target) (stream judge xs).messages) whole.short ∙ all_repacked target (stream judge input).messages whole.given_all;
-      },
-    )
+within_by : (b : Bool) (limit : ℕ) (plan : Plan) (input : List ℕ) → nat_lt limit (length input) ≡ b
+    → choose b (λ _. answer_of plan true (take limit input)) (λ _. answer_of plan false input) ≡ answer_of plan b (take limit input)
+within_by true limit plan input is = refl
+within_by false limit plan input is = ap (answer_of plan false) (sym (take_all limit input (ltb-false limit (length input) is)))
 
-set_leaves : (changes : List Condition) (outcome : Outcome) (left left_now : Option (List ℕ)) (before now : World) → CanChange changes
-    → ((input : List ℕ) → KeepsColumns changes input)
-    → Runs (task (set_command changes)) (2 ^ 40) outcome left left_now before now → is_broken outcome ≡ false
-    → IfSome left (WritesSet changes outcome before.output now.output)
-set_leaves changes outcome None left_now before now can keeps runs unbroken = tt
-set_leaves changes outcome (Some input) left_now before now can keeps runs unbroken =
-    let kept = keeps input in
-    let gives : Gives (answer_within (2 ^ 40) (task (set_command changes)) input) outcome before now = runs.gives in
+pub answer_by : (command : Command) (policy : Policy) (input : List ℕ)
+    → answer_within (2 ^ 40) (plan_by command policy) input ≡ answer_of (plan_by command policy) (is_longer input) (take (2 ^ 40) input)
+answer_by command policy input = within_by (is_longer input) (2 ^ 40) (plan_by command policy) input refl
+
+pub stated_within : (command : Command) (policy : Policy) (input : List ℕ) → stated_to command policy input ≡ stated_of command policy (is_longer input) (take (2 ^ 40) input)
+stated_within command policy input = ap (stated_by command.ending) (answer_by command policy input)
+
+-- ---- what is written
+
+pub each_some : {X : Type 0} (P Q : X → Type 0) (x : Option X) → ((x : X) → P x → Q x) → IfSome x P → IfSome x Q
+each_some P Q None all is = tt
+each_some P Q (Some x) all is = all x is
+
+each_both : {X : Type 0} (P Q R : X → Type 0) (x : Option X) → ((x : X) → P x → Q x → R x) → IfSome x P → IfSome x Q → IfSome x R
+each_both P Q R None all first second = tt
+each_both P Q R (Some x) all first second = all x first second
+
+-- an input of which no more is left is no longer than what was taken of it
+short_by : (left now : Option (List ℕ)) (taken : List ℕ) (Whole : Type 0) → Consumes left now taken → (Whole → IsAtEnd now) → (Whole → length taken ≤ 2 ^ 40)
+    → IfSome left (λ input. Whole → length input ≤ 2 ^ 40)
+short_by None now taken Whole consumed ended short = tt
+short_by (Some input) None taken Whole consumed ended short = absurd consumed
+short_by (Some input) (Some rest) taken Whole consumed ended short = λ whole.
+    omega (arith, short whole, ap length consumed, length-append taken rest, ap length (ended whole))
+
+not_long : (outcome : Outcome) → is_whole outcome ≡ true → outcome ≢ InputTooLong
+not_long outcome whole is = false≢true (sym (ap is_whole is) ∙ whole)
+
+appends : (Is : List ℕ → List ℕ → Type 0) (command : Command) (policy : Policy) (outcome : Outcome) (before now : Seen) (input : List ℕ) → is_broken outcome ≡ false
+    → Writes Is command policy (is_longer input) (take (2 ^ 40) input) → Gives (stated_to command policy input) outcome before now
+    → (is_whole outcome ≡ true → length input ≤ 2 ^ 40) → AppendsItems Is command policy outcome before now input
+appends Is command policy outcome before now input unbroken wrote gives whole =
+    let stated = stated_of command policy (is_longer input) (take (2 ^ 40) input) in
+    let same = stated_within command policy input in
     record {
-      outputs = kept.outputs;
-      written = appended before now _ _ (concat kept.outputs) (gives.whole unbroken) (no_ending (set_command changes) (λ totals. refl) (2 ^ 40) input) kept.written_stands;
-      same = kept.same;
-      all = λ done.
-          let whole = done_whole (set_command changes) (set_lawful changes can) (2 ^ 40) input (sym (gives.ends unbroken) ∙ done) in
-          ap (λ xs. before_fault changes (stream judge xs).messages) whole.short ∙ all_set changes (stream judge input).messages whole.given_all;
+      octets = written stated.acts;
+      appended = subst (λ acts. Appends before.output now.output (written acts)) (ap (λ s. s.acts) same) (gives.whole unbroken).did.output;
+      written = subst (λ o. WritesItems Is command policy o (items_answered policy input).items (written stated.acts)) (sym (gives.ends unbroken ∙ ap (λ s. s.outcome) same)) wrote;
+      whole = whole;
     }
 
-filter_leaves : (conditions : List Condition) (outcome : Outcome) (left left_now : Option (List ℕ)) (before now : World)
-    → ((input : List ℕ) → PicksFields conditions input)
-    → Runs (task (filter_command conditions)) (2 ^ 40) outcome left left_now before now → is_broken outcome ≡ false
-    → IfSome left (WritesPicked conditions outcome before.output now.output)
-filter_leaves conditions outcome None left_now before now keeps runs unbroken = tt
-filter_leaves conditions outcome (Some input) left_now before now keeps runs unbroken =
-    let kept = keeps input in
-    let gives : Gives (answer_within (2 ^ 40) (task (filter_command conditions)) input) outcome before now = runs.gives in
+leaves : (Told Is : List ℕ → List ℕ → Type 0) (command : Command) (policy : Policy) (outcome : Outcome) (before now : Seen)
+    → ((more : Bool) (octets : List ℕ) → Writes Told command policy more octets)
+    → ((more : Bool) (octets : List ℕ) → AreOctets octets → Writes Told command policy more octets → Writes Is command policy more octets)
+    → Reading policy outcome before now command → is_broken outcome ≡ false → LeavesItems Told Is command policy outcome before now
+leaves Told Is command policy outcome before now wrote of_octets reading unbroken =
+    let (taken, takes, took) = reading.taken in
+    let short : (is_whole outcome ≡ true → length taken ≤ 2 ^ 40) = λ whole. took.short unbroken (not_long outcome whole) in
+    let small = All-take (λ octet. octet < 256) (2 ^ 40) taken takes.small in
     record {
-      outputs = kept.outputs;
-      written = appended before now _ _ (flat_map concat kept.outputs) (gives.whole unbroken) (no_ending (filter_command conditions) (λ totals. refl) (2 ^ 40) input) kept.written_stands;
-      picked = kept.picked;
-      all = λ done.
-          let whole = done_whole (filter_command conditions) (filter_lawful conditions) (2 ^ 40) input (sym (gives.ends unbroken) ∙ done) in
-          ap (λ xs. before_first (stream judge xs).messages) whole.short ∙ all_filtered conditions (stream judge input).messages whole.given_all;
+      left = each_both (λ input. Gives (stated_to command policy input) outcome before now) (λ input. is_whole outcome ≡ true → length input ≤ 2 ^ 40)
+          (AppendsItems Told command policy outcome before now) before.left
+          (λ input gives whole. appends Told command policy outcome before now input unbroken (wrote (is_longer input) (take (2 ^ 40) input)) gives whole) reading.gives
+          (short_by before.left now.left taken (is_whole outcome ≡ true) takes.consumed reading.end short);
+      taken = (
+        taken,
+        takes,
+        appends Is command policy outcome before now taken unbroken (of_octets (is_longer taken) (take (2 ^ 40) taken) small (wrote (is_longer taken) (take (2 ^ 40) taken))) took.answered short,
+      );
     }
 
-migrate_leaves : (keep : Bool) (table : Entries) (outcome : Outcome) (left left_now : Option (List ℕ)) (before now : World)
-    → Runs (task (migrate_command keep table)) (2 ^ 40) outcome left left_now before now → is_broken outcome ≡ false
-    → OfTaken left left_now (WritesMigrated table keep outcome before.output now.output)
-migrate_leaves keep table outcome left left_now before now runs unbroken =
-    let (input, takes, took) = runs.taken in
-    let small = until_of_input table keep input (All-take (λ octet. octet < 256) (2 ^ 40) input takes.small) in
-    let gives : Gives (answer_within (2 ^ 40) (task (migrate_command keep table)) input) outcome before now = took.answered in (
-      input,
-      takes,
-      record {
-        outputs = map (output_of table keep) (before_lost table keep (messages_answered input));
-        written = appended before now _ _ _ (gives.whole unbroken) (no_ending (migrate_command keep table) (λ totals. refl) (2 ^ 40) input) (migrated_written table keep input small);
-        same = migrated_same table keep (2 ^ 40) input small;
-        all = λ done.
-            let whole = done_whole (migrate_command keep table) (migrate_lawful keep table) (2 ^ 40) input (sym (gives.ends unbroken) ∙ done) in
-            ap (λ xs. before_lost table keep (stream judge xs).messages) whole.short
-            ∙ all_migrated keep table (stream judge input).messages whole.given_all (subst (λ xs. AreAllOctets (until_lost table keep (stream judge xs).messages)) whole.short small);
-      },
-    )
+-- ---- what stands on a shelf
 
-tabled_leaves : (keep : Bool) (t : Tabled) (outcome : Outcome) (left left_now : Option (List ℕ)) (before now : World)
-    → RunsTabled (migrate_command keep) outcome left left_now before now t → is_broken outcome ≡ false
-    → IfGood (λ table. OfTaken left left_now (WritesMigrated table keep outcome before.output now.output)) t
-tabled_leaves keep (Good table) outcome left left_now before now runs unbroken = migrate_leaves keep table outcome left left_now before now runs unbroken
-tabled_leaves keep (Refused refusal) outcome left left_now before now runs unbroken = tt
+puts_parts : (out : List ℕ) (policy : Policy) (outcome : Outcome) (before now : Seen) (input : List ℕ) → Gives (stated_to (split_command out) policy input) outcome before now
+    → PutsParts out policy outcome before now input
+puts_parts out policy outcome before now input gives =
+    let command = split_command out in
+    let same = ap (λ s. s.acts) (stated_within command policy input) in
+    let short : length (take (2 ^ 40) input) < 2 ^ 64 = omega (arith, length-take (2 ^ 40) input) in
+    record {
+      first = stands_first out policy (is_longer input) (take (2 ^ 40) input) (world_of before) (world_of now) short (subst (DidFront (world_of before) (world_of now)) same gives.front);
+      whole = λ unbroken.
+          stands_all out policy (is_longer input) (take (2 ^ 40) input) (world_of before) (world_of now) short (subst (Did (world_of before) (world_of now)) same (gives.whole unbroken).did);
+    }
 
-pub fields_left : ((target : RepackTarget) (input : List ℕ) → is_target target ≡ true → AreAllOctets (before_kept (target_of target) (messages_answered input)) → KeepsValues target input)
-    → ((changes : List Condition) (input : List ℕ) → CanChange changes → KeepsColumns changes input)
-    → ((conditions : List Condition) (input : List ℕ) → PicksFields conditions input)
-    → (job : Job) (outcome : Outcome) (left left_now : Option (List ℕ)) (before now : World) → IsJob job
-    → RunsJob job outcome left left_now before now → is_broken outcome ≡ false → LeavesFields job outcome left left_now before now
-fields_left repacked set filtered Check outcome left left_now before now is runs unbroken = tt
-fields_left repacked set filtered Listing outcome left left_now before now is runs unbroken = tt
-fields_left repacked set filtered Keys outcome left left_now before now is runs unbroken = tt
-fields_left repacked set filtered Stats outcome left left_now before now is runs unbroken = tt
-fields_left repacked set filtered (Dump places) outcome left left_now before now is runs unbroken = tt
-fields_left repacked set filtered (Filter conditions) outcome left left_now before now is runs unbroken =
-    filter_leaves conditions outcome left left_now before now (filtered conditions) runs unbroken
-fields_left repacked set filtered (Split name) outcome left left_now before now is runs unbroken = tt
-fields_left repacked set filtered (Set changes) outcome left left_now before now is runs unbroken =
-    set_leaves changes outcome left left_now before now is.changes_stand (λ input. set changes input is.changes_stand) runs unbroken
-fields_left repacked set filtered (Repack target) outcome left left_now before now is runs unbroken =
-    repack_leaves target outcome left left_now before now (λ input small. repacked target input is.target_stands small) runs unbroken
-fields_left repacked set filtered RepackLeast outcome left left_now before now is runs unbroken = tt
-fields_left repacked set filtered Rescan outcome left left_now before now is runs unbroken = tt
-fields_left repacked set filtered (Crop area) outcome left left_now before now is runs unbroken = tt
-fields_left repacked set filtered (Migrate params keep) outcome left left_now before now is (text, stood, runs) unbroken =
-    (text, stood, tabled_leaves keep _ outcome left left_now before now runs unbroken)
-fields_left repacked set filtered (Demote params keep any_earth) outcome left left_now before now is runs unbroken = tt
-fields_left repacked set filtered (Make seed ni nj target) outcome left left_now before now is runs unbroken = tt
-fields_left repacked set filtered (Print page) outcome left left_now before now is runs unbroken = tt
-
--- ---- the names that `split` makes
-
--- a shelf that told its names tells them afterwards
-first_names : (out input : List ℕ) (output output_now : Option (List ℕ)) (names names_now : Option Held)
-    → DidFront (world output names) (world output_now names_now) ((answer_within (2 ^ 40) (task (split_command out)) input).acts ++ (answer_within (2 ^ 40) (task (split_command out)) input).ending)
-    → OfNames names names_now (λ held held_now. (count : ℕ) × StandFirst (all_parts out (take (2 ^ 40) input)) held held_now count)
-first_names out input output output_now None names_now did = tt
-first_names out input output output_now (Some held) None (front, rest, is, did) = did.names
-first_names out input output output_now (Some held) (Some held_now) did = first_stand out (2 ^ 40) input held held_now output output_now (omega arith) did
-
-whole_names : (out input : List ℕ) (output output_now : Option (List ℕ)) (names names_now : Option Held)
-    → Did (world output names) (world output_now names_now) ((answer_within (2 ^ 40) (task (split_command out)) input).acts ++ (answer_within (2 ^ 40) (task (split_command out)) input).ending)
-    → OfNames names names_now (StandAll (all_parts out (take (2 ^ 40) input)))
-whole_names out input output output_now None names_now did = tt
-whole_names out input output output_now (Some held) None did = did.names
-whole_names out input output output_now (Some held) (Some held_now) did = whole_stand out (2 ^ 40) input held held_now output output_now (omega arith) did
-
-taken_names : (out taken : List ℕ) (output output_now : Option (List ℕ)) (names names_now : Option Held) → length taken ≤ 2 ^ 40 + 1
-    → Did (world output names) (world output_now names_now) (answer_of (task (split_command out)) taken).acts → OfNames names names_now (StandAll (all_parts out taken))
-taken_names out taken output output_now None names_now few did = tt
-taken_names out taken output output_now (Some held) None few did = did.names
-taken_names out taken output output_now (Some held) (Some held_now) few did = all_stand out taken held held_now output output_now (omega arith) did
-
-split_first : (out : List ℕ) (outcome : Outcome) (left left_now : Option (List ℕ)) (before now : World)
-    → IfSome left (λ input. Gives (answer_within (2 ^ 40) (task (split_command out)) input) outcome before now)
-    → IfSome left (λ input. OfNames before.names now.names (λ held held_now. (count : ℕ) × StandFirst (all_parts out (take (2 ^ 40) input)) held held_now count))
-split_first out outcome None left_now before now gives = tt
-split_first out outcome (Some input) left_now before now gives = first_names out input before.output now.output before.names now.names gives.front
-
-split_whole : (out : List ℕ) (outcome : Outcome) (left left_now : Option (List ℕ)) (before now : World) → is_broken outcome ≡ false
-    → IfSome left (λ input. Gives (answer_within (2 ^ 40) (task (split_command out)) input) outcome before now)
-    → IfSome left (λ input. OfNames before.names now.names (StandAll (all_parts out (take (2 ^ 40) input))))
-split_whole out outcome None left_now before now unbroken gives = tt
-split_whole out outcome (Some input) left_now before now unbroken gives =
-    whole_names out input before.output now.output before.names now.names (gives.whole unbroken)
-
-split_leaves : (out : List ℕ) (outcome : Outcome) (left left_now : Option (List ℕ)) (before now : World)
-    → Runs (task (split_command out)) (2 ^ 40) outcome left left_now before now → LeavesNames out outcome left left_now before now
-split_leaves out outcome left left_now before now runs = record {
-  first = split_first out outcome left left_now before now runs.gives;
-  whole = λ unbroken. split_whole out outcome left left_now before now unbroken runs.gives;
-  read = λ fault.
-      let (taken, consumed, took) = runs.taken in
-      (taken, consumed, taken_names out taken before.output now.output before.names now.names took.most (took.read_fault fault));
+leaves_names : (out : List ℕ) (policy : Policy) (outcome : Outcome) (before now : Seen) → Reading policy outcome before now (split_command out) → LeavesNames out policy outcome before now
+leaves_names out policy outcome before now reading = record {
+  left = each_some (λ input. Gives (stated_to (split_command out) policy input) outcome before now) (PutsParts out policy outcome before now) before.left
+      (puts_parts out policy outcome before now) reading.gives;
+  taken =
+      let (taken, takes, took) = reading.taken in (
+        taken,
+        takes,
+        (
+          puts_parts out policy outcome before now taken took.answered,
+          λ fault. read_all out policy taken (world_of before) (world_of now) (omega (arith, took.most)) (took.read_fault fault).did,
+        ),
+      );
 }
 
-pub parts_left : (job : Job) (outcome : Outcome) (left left_now : Option (List ℕ)) (before now : World)
-    → RunsJob job outcome left left_now before now → LeavesParts job outcome left left_now before now
-parts_left Check outcome left left_now before now runs = tt
-parts_left Listing outcome left left_now before now runs = tt
-parts_left Keys outcome left left_now before now runs = tt
-parts_left Stats outcome left left_now before now runs = tt
-parts_left (Dump places) outcome left left_now before now runs = tt
-parts_left (Filter conditions) outcome left left_now before now runs = tt
-parts_left (Split name) outcome left left_now before now runs = split_leaves name outcome left left_now before now runs
-parts_left (Set changes) outcome left left_now before now runs = tt
-parts_left (Repack target) outcome left left_now before now runs = tt
-parts_left RepackLeast outcome left left_now before now runs = tt
-parts_left Rescan outcome left left_now before now runs = tt
-parts_left (Crop area) outcome left left_now before now runs = tt
-parts_left (Migrate params keep) outcome left left_now before now runs = tt
-parts_left (Demote params keep any_earth) outcome left left_now before now runs = tt
-parts_left (Make seed ni nj target) outcome left left_now before now runs = tt
-parts_left (Print page) outcome left left_now before now runs = tt
+-- ---- a job
+
+module _ (stand : ItemsStand) (repacked : (target : RepackTarget) (policy : Policy) (more : Bool) (octets : List ℕ) → is_target target ≡ true → Writes (IfOctets SameValues) (repack_command target) policy more octets) (migrated : (keep : Bool) (table : Entries) (policy : Policy) (more : Bool) (octets : List ℕ) → Writes (IfOctets SameMigrated) (migrate_command keep table) policy more octets) (set : (changes : List Condition) (policy : Policy) (more : Bool) (octets : List ℕ) → CanChange changes → Writes (SetsKeys changes) (set_command changes) policy more octets) (filtered : (conditions : List Condition) (policy : Policy) (more : Bool) (octets : List ℕ) → Writes (IsFiltered conditions) (filter_command conditions) policy more octets) where
+  of_octets : (Is : List ℕ → List ℕ → Type 0) (command : Command) (policy : Policy) (more : Bool) (octets : List ℕ) → AreOctets octets → Writes (IfOctets Is) command policy more octets
+      → Writes Is command policy more octets
+  of_octets Is command policy more octets small wrote =
+      writes_octets Is command policy more octets (octets_all more octets small (items_of policy more octets).items (stand policy more octets)) wrote
+
+  tabled : (keep : Bool) (policy : Policy) (outcome : Outcome) (before now : Seen) (t : Tabled)
+      → IfTabled (migrate_command keep) (Reading policy outcome before now) (AtOnce outcome before now) t → is_broken outcome ≡ false
+      → IfGood (λ table. LeavesItems (IfOctets SameMigrated) SameMigrated (migrate_command keep table) policy outcome before now) t
+  tabled keep policy outcome before now (Good table) reading unbroken =
+      leaves (IfOctets SameMigrated) SameMigrated (migrate_command keep table) policy outcome before now (migrated keep table policy) (of_octets SameMigrated (migrate_command keep table) policy)
+      reading unbroken
+  tabled keep policy outcome before now (Refused refusal) once unbroken = tt
+
+  pub job_leaves : (job : Job) (policy : Policy) (outcome : Outcome) (before now : Seen) → IsJob job → AnswersWork (work_of job) policy outcome before now → Leaves job policy outcome before now
+  job_leaves Check policy outcome before now is answers = tt
+  job_leaves Listing policy outcome before now is answers = tt
+  job_leaves Keys policy outcome before now is answers = tt
+  job_leaves Stats policy outcome before now is answers = tt
+  job_leaves (Dump places) policy outcome before now is answers = tt
+  job_leaves (Filter conditions) policy outcome before now is reading = λ unbroken.
+      leaves (IsFiltered conditions) (IsFiltered conditions) (filter_command conditions) policy outcome before now (filtered conditions policy) (λ more octets small wrote. wrote) reading unbroken
+  job_leaves (Split out) policy outcome before now is reading = leaves_names out policy outcome before now reading
+  job_leaves (Set changes) policy outcome before now is reading = λ unbroken.
+      leaves (SetsKeys changes) (SetsKeys changes) (set_command changes) policy outcome before now (λ more octets. set changes policy more octets is.changes_stand)
+      (λ more octets small wrote. wrote) reading unbroken
+  job_leaves (Repack target) policy outcome before now is reading = λ unbroken.
+      leaves (IfOctets SameValues) SameValues (repack_command target) policy outcome before now (λ more octets. repacked target policy more octets is.target_stands)
+      (of_octets SameValues (repack_command target) policy) reading unbroken
+  job_leaves RepackLeast policy outcome before now is answers = tt
+  job_leaves Rescan policy outcome before now is answers = tt
+  job_leaves (Crop area) policy outcome before now is answers = tt
+  job_leaves (Migrate params keep) policy outcome before now is (text, stood, answers) = λ unbroken.
+      (text, stood, tabled keep policy outcome before now _ answers unbroken)
+  job_leaves (Demote params keep any_earth matching) policy outcome before now is answers = tt
+  job_leaves (Make seed ni nj target) policy outcome before now is answers = tt
+  job_leaves (Print page) policy outcome before now is answers = tt

@@ -1,12 +1,12 @@
-pub mod Keeping
-pub mod Standing
-pub mod Migrations
-pub mod Cutting
-pub mod Accepting
-pub mod Settings
-pub mod Picking
-pub mod Complete
-pub mod OfOctets
-pub mod AllGiven
-pub mod Judged
-pub mod Leaving
+mod Alone
+mod Accepting
+mod Judged
+mod Each
+mod Picking
+mod Writing
+mod Standing
+mod Shelved
+mod Leaving
+mod Plain
+mod Cutting
+mod Complete

@@ -1,5 +1,5 @@
--- What is written of an input that is filtered, and put on the shelf of one that is split, field for field.
-use Rattle.std.proofs.Common.{◌≡◌, ℕ, zero, suc, ◌+◌, ◌^◌, ◌≤◌, ◌==◌, ◌&&◌, Bool, true, false, cond, List, [], ◌∷◌, ◌++◌, map, filter, take, All, refl, sym, ap, ◌∙◌, arith, append-nil}
+-- What is written of a message that is filtered, and put on the shelf of one that is split, field for field.
+use Rattle.std.proofs.Common.{◌≡◌, ℕ, zero, suc, ◌+◌, ◌≤◌, ◌==◌, ◌&&◌, Bool, true, false, cond, List, [], ◌∷◌, ◌++◌, map, filter, All, refl, sym, ap, ◌∙◌, arith, append-nil}
 use Rattle.std.specs.List.{concat, flat_map, list_all, range_with_len}
 use Rattle.std.proofs.lemmas.List.{map-append}
 use Rattle.std.proofs.lemmas.List.Elements.{All-nil, All-cons, All-head, All-tail, All-filter, All-append}
@@ -10,19 +10,14 @@ use Rattle.grib2_message.specs.Fields.{field_count, column_of}
 use Rattle.grib_keys.specs.declared.condition.Condition.{Condition}
 use Rattle.grib_select.specs.Single.{single_of}
 use Rattle.grib_select.specs.Values.{fulfils_all}
-use Rattle.grib_stream.specs.Acts.{Act, writes, written}
-use Rattle.grib_stream.specs.Stream.{Found, End, Over, Refusing, stream}
-use Rattle.grib_stream.specs.Task.{Task}
-use Rattle.grib_stream.specs.declared.place.Place.{Place}
-use Rattle.grib_stream.specs.Answer.{Answer, after, on_given, answers, on_end, place_of, answer_within}
-use Rattle.grib_command.specs.Command.{task, texts_from}
-use Rattle.grib_edit.specs.Filtering.{all_fulfil, single_if, filtered, filter_command}
-use Rattle.grib_command.specs.Judging.{judge}
+use Rattle.grib_items.specs.Items.{Item, Accepted, Refused}
+use Rattle.grib_command.specs.Command.{texts_from}
+use Rattle.grib_command.specs.Judging.{fields_of}
+use Rattle.grib_edit.specs.Filtering.{all_fulfil, single_if}
 use Rattle.grib_edit.specs.Parts.{Part, part_of, parts_of}
-use Rattle.grib_run_law.specs.SamePicked.{columns_of, IsPicked, AllPicked, IsAlone}
-use Rattle.grib_run_law.specs.Standing.{parts_within, before_first}
-use Rattle.grib_run_law.proofs.Accepting.{IsAccepted, accepted_all}
-use Rattle.grib_run_law.proofs.Keeping.{written_join, written_of, within_acts}
+use Rattle.grib_run_law.specs.Same.{columns_of, IsPicked}
+use Rattle.grib_run_law.specs.Shelved.{IsAlone, columns_here, parts_here, parts_among}
+use Rattle.grib_run_law.proofs.Accepting.{IsAccepted, OfMessage}
 
 -- what is said of a field that is cut out of a message
 pub record CutsOut (message : List ℕ) (i : ℕ) : Type 0 where
@@ -95,36 +90,35 @@ module _ (law : (message : List ℕ) (i : ℕ) → IsMessage message → 1 ≤ i
       All-cons IsAlone (part_of out before message i) (map (part_of out before message) fields) (record { accepted = cut.accepted; one_field = cut.one })
       (parts_alone out before message fields h (All-tail (IsField (field_count message)) i fields all))
 
-  chosen_alone : (out : List ℕ) (b : Bool) (before : ℕ) (found : Found) (rest : List Found) → (b ≡ false → IsMessage found.octets)
-      → All IsAlone (parts_within out (before + field_count found.octets) rest) → All IsAlone (parts_within out before (choose b (λ _. []) (λ _. found ∷ rest)))
-  chosen_alone out true before found rest accepted later = All-nil IsAlone
-  chosen_alone out false before found rest accepted later =
-      All-append IsAlone (parts_of out before found.octets) (parts_within out (before + field_count found.octets) rest)
-      (parts_alone out before found.octets (range_with_len 1 (field_count found.octets)) (accepted refl) (fields_of_message found.octets)) later
+  here_alone : (out : List ℕ) (b : Bool) (before : ℕ) (message : List ℕ) → (b ≡ false → IsMessage message)
+      → All IsAlone (choose b (λ _. []) (λ _. parts_of out before message))
+  here_alone out true before message accepted = All-nil IsAlone
+  here_alone out false before message accepted =
+      parts_alone out before message (range_with_len 1 (field_count message)) (accepted refl) (fields_of_message message)
 
-  pub all_alone : (out : List ℕ) (before : ℕ) (founds : List Found) → All IsAccepted founds → All IsAlone (parts_within out before (before_first founds))
+  pub all_alone : (out : List ℕ) (before : ℕ) (items : List Item) → All (OfMessage IsAccepted) items → All IsAlone (parts_among out before items)
   all_alone out before [] all = All-nil IsAlone
-  all_alone out before (found ∷ later) all =
-      chosen_alone out (edition found.octets == 1) before found (before_first later) (All-head IsAccepted found later all).second
-      (all_alone out (before + field_count found.octets) later (All-tail IsAccepted found later all))
+  all_alone out before (Refused refused ∷ later) all = all_alone out before later (All-tail (OfMessage IsAccepted) (Refused refused) later all)
+  all_alone out before (Accepted found ∷ later) all =
+      All-append IsAlone (parts_here out before found.octets) (parts_among out (before + fields_of found.octets) later)
+      (here_alone out (edition found.octets == 1) before found.octets (All-head (OfMessage IsAccepted) (Accepted found) later all).second)
+      (all_alone out (before + fields_of found.octets) later (All-tail (OfMessage IsAccepted) (Accepted found) later all))
 
-  chosen_columns : (out : List ℕ) (b : Bool) (before : ℕ) (found : Found) (rest : List Found) → (b ≡ false → IsMessage found.octets)
-      → map (λ (part : Part). column_of part.octets 1) (parts_within out (before + field_count found.octets) rest) ≡ flat_map (λ (f : Found). columns_of f.octets) rest
-      → map (λ (part : Part). column_of part.octets 1) (parts_within out before (choose b (λ _. []) (λ _. found ∷ rest)))
-      ≡ flat_map (λ (f : Found). columns_of f.octets) (choose b (λ _. []) (λ _. found ∷ rest))
-  chosen_columns out true before found rest accepted later = refl
-  chosen_columns out false before found rest accepted later =
-      map-append (λ (part : Part). column_of part.octets 1) (parts_of out before found.octets) (parts_within out (before + field_count found.octets) rest)
-      ∙ (ap (λ xs. xs ++ map (λ (part : Part). column_of part.octets 1) (parts_within out (before + field_count found.octets) rest))
-      (part_columns out before found.octets (range_with_len 1 (field_count found.octets)) (accepted refl) (fields_of_message found.octets))
-      ∙ ap (λ xs. columns_of found.octets ++ xs) later)
+  here_columns : (out : List ℕ) (b : Bool) (before : ℕ) (message : List ℕ) → (b ≡ false → IsMessage message)
+      → map (λ (part : Part). column_of part.octets 1) (choose b (λ _. []) (λ _. parts_of out before message)) ≡ choose b (λ _. []) (λ _. columns_of message)
+  here_columns out true before message accepted = refl
+  here_columns out false before message accepted =
+      part_columns out before message (range_with_len 1 (field_count message)) (accepted refl) (fields_of_message message)
 
-  pub all_columns : (out : List ℕ) (before : ℕ) (founds : List Found) → All IsAccepted founds
-      → map (λ (part : Part). column_of part.octets 1) (parts_within out before (before_first founds)) ≡ flat_map (λ (f : Found). columns_of f.octets) (before_first founds)
+  pub all_columns : (out : List ℕ) (before : ℕ) (items : List Item) → All (OfMessage IsAccepted) items
+      → map (λ (part : Part). column_of part.octets 1) (parts_among out before items) ≡ flat_map columns_here items
   all_columns out before [] all = refl
-  all_columns out before (found ∷ later) all =
-      chosen_columns out (edition found.octets == 1) before found (before_first later) (All-head IsAccepted found later all).second
-      (all_columns out (before + field_count found.octets) later (All-tail IsAccepted found later all))
+  all_columns out before (Refused refused ∷ later) all = all_columns out before later (All-tail (OfMessage IsAccepted) (Refused refused) later all)
+  all_columns out before (Accepted found ∷ later) all =
+      map-append (λ (part : Part). column_of part.octets 1) (parts_here out before found.octets) (parts_among out (before + fields_of found.octets) later)
+      ∙ (ap (λ xs. xs ++ map (λ (part : Part). column_of part.octets 1) (parts_among out (before + fields_of found.octets) later))
+      (here_columns out (edition found.octets == 1) before found.octets (All-head (OfMessage IsAccepted) (Accepted found) later all).second)
+      ∙ ap (λ xs. columns_here (Accepted found) ++ xs) (all_columns out (before + fields_of found.octets) later (All-tail (OfMessage IsAccepted) (Accepted found) later all)))
 
   -- ---- what is written of a message that is filtered
 
@@ -134,10 +128,6 @@ module _ (law : (message : List ℕ) (i : ℕ) → IsMessage message → 1 ≤ i
 
     abbrev pub picked_by : Bool → List ℕ → List (List ℕ)
     picked_by b message = choose b (λ _. message ∷ []) (λ _. map (single_of message) (fields_picked message))
-
-    -- the messages that are written of it
-    abbrev pub picked_of : Found → List (List ℕ)
-    picked_of found = picked_by (all_fulfil conditions found.octets) found.octets
 
     one_picked : (b : Bool) (message : List ℕ) (i : ℕ) (later : List ℕ)
         → choose b (λ _. single_of message i) (λ _. []) ++ concat (map (single_of message) later) ≡ concat (map (single_of message) (cond b (i ∷ later) later))
@@ -165,49 +155,3 @@ module _ (law : (message : List ℕ) (i : ℕ) → IsMessage message → 1 ≤ i
     picked_bool false message h is =
         let fields = All-filter (λ i. fulfils_all message i conditions) (IsField (field_count message)) (range_with_len 1 (field_count message)) (fields_of_message message) in
         record { accepted = cut_accepted message (fields_picked message) h fields; columns = cut_columns message (fields_picked message) h fields }
-
-    -- ---- and of an input
-
-    chosen : (b : Bool) (place : Place) (found : Found) (t : Task) (next : List Act → ℕ → Answer) (rest : List Found)
-        → ((acts : List Act) (more : ℕ) → written (next acts more).acts ≡ written acts ++ flat_map concat (map picked_of rest))
-        → written (on_given t (choose b (λ _. (filter_command conditions).first place found.octets) (λ _. (filter_command conditions).second place found.octets)) next).acts
-        ≡ flat_map concat (map picked_of (choose b (λ _. []) (λ _. found ∷ rest)))
-    chosen true place found t next rest goes = refl
-    chosen false place found t next rest goes =
-        goes (writes (filtered conditions found.octets)) _
-        ∙ ap (λ xs. xs ++ flat_map concat (map picked_of rest)) (written_of (filtered conditions found.octets) ∙ by_bool (all_fulfil conditions found.octets) found.octets)
-
-    at_end : (m f w : ℕ) (end : End) → written (on_end (task (filter_command conditions)) m f w end).acts ≡ []
-    at_end m f w (Over skipped) = refl
-    at_end m f w (Refusing fault) = refl
-
-    acts_are : (m f w : ℕ) (founds : List Found) (end : End)
-        → written (answers (task (filter_command conditions)) m f w founds end).acts ≡ flat_map concat (map picked_of (before_first founds))
-    acts_are m f w [] end = at_end m f w end
-    acts_are m f w (found ∷ later) end =
-        let t = task (filter_command conditions) in
-        chosen (edition found.octets == 1) (place_of m found.before f) found t
-        (λ acts more. after acts (answers t (m + 1) (f + t.fields found.octets) (w + more) later end)) (before_first later)
-        (λ acts more. written_join acts (answers t (m + 1) (f + t.fields found.octets) (w + more) later end).acts
-        ∙ ap (λ xs. written acts ++ xs) (acts_are (m + 1) (f + t.fields found.octets) (w + more) later end))
-
-    pub filter_written : (input : List ℕ)
-        → written (answer_within (2 ^ 40) (task (filter_command conditions)) input).acts ≡ flat_map concat (map picked_of (before_first (stream judge (take (2 ^ 40) input)).messages))
-    filter_written input =
-        let found = stream judge (take (2 ^ 40) input) in
-        ap written (within_acts (task (filter_command conditions)) (2 ^ 40) input) ∙ acts_are 0 0 0 found.messages found.end
-
-    chosen_picked : (b : Bool) (found : Found) (rest : List Found) → (b ≡ false → IsMessage found.octets) → AllPicked conditions rest (map picked_of rest)
-        → AllPicked conditions (choose b (λ _. []) (λ _. found ∷ rest)) (map picked_of (choose b (λ _. []) (λ _. found ∷ rest)))
-    chosen_picked true found rest accepted later = tt
-    chosen_picked false found rest accepted later = (picked_bool (all_fulfil conditions found.octets) found.octets (accepted refl) refl, later)
-
-    all_picked : (founds : List Found) → All IsAccepted founds → AllPicked conditions (before_first founds) (map picked_of (before_first founds))
-    all_picked [] all = tt
-    all_picked (found ∷ later) all =
-        chosen_picked (edition found.octets == 1) found (before_first later) (All-head IsAccepted found later all).second
-        (all_picked later (All-tail IsAccepted found later all))
-
-    pub filter_picked : (limit : ℕ) (input : List ℕ)
-        → AllPicked conditions (before_first (stream judge (take limit input)).messages) (map picked_of (before_first (stream judge (take limit input)).messages))
-    filter_picked limit input = all_picked (stream judge (take limit input)).messages (accepted_all 0 0 0 (take limit input))

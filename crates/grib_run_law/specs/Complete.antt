@@ -5,12 +5,9 @@ use Rattle.grib1_sections.specs.Message.{IsMessage1}
 use Rattle.grib2_message.specs.Message.{IsMessage}
 use Rattle.grib_params.specs.Table.{Entries}
 use Rattle.grib_table.specs.Tabled.{Good, tabled}
-use Rattle.grib_stream.specs.declared.place.Place.{Place}
-use Rattle.grib_stream.specs.Acts.{Act}
 use Rattle.grib_stream.specs.Searching.{Markless}
-use Rattle.grib_stream.specs.Task.{Gives}
-use Rattle.grib_command.specs.Command.{Command, given}
 use Rattle.grib_run_spec.specs.Tasks.{Work, Reads, Makes, ReadsTable}
+use Rattle.grib_run_law.specs.Written.{HasResult}
 
 -- a message, and the octets before it
 pub record Piece : Type 0 where
@@ -27,13 +24,9 @@ IsMadeOf [] input = Markless (length input) input
 IsMadeOf (piece ∷ pieces) input =
     (rest : List ℕ) × (input ≡ piece.between ++ (piece.message ++ rest)) × Markless (length piece.between) input × IsInGrammar piece.message × IsMadeOf pieces rest
 
--- a command has a result for a message, wherever it stands: no cause keeps it
-abbrev pub HasResult : Command → Piece → Type 0
-HasResult command piece = (place : Place) → (acts : List Act) × (written : ℕ) × (given command place piece.message ≡ Gives acts written)
-
 -- each message has a result, by the table where one is read, which is good
 abbrev pub HaveResults : Work → Option (List ℕ) → List Piece → Type 0
-HaveResults (Reads command) text pieces = All (HasResult command) pieces
-HaveResults (Makes answer) text pieces = Unit {0}
+HaveResults (Reads command) text pieces = All (λ piece. HasResult command piece.message) pieces
+HaveResults (Makes stated) text pieces = Unit {0}
 HaveResults (ReadsTable name commands) text pieces =
-    (table : Entries) × (tabled text ≡ Good table) × All (HasResult (commands table)) pieces
+    (table : Entries) × (tabled text ≡ Good table) × All (λ piece. HasResult (commands table) piece.message) pieces

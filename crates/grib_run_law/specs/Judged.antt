@@ -1,30 +1,49 @@
--- What the messages of an input are, and what a refusal is.
-use Rattle.std.specs.Prelude.{◌≡◌, ℕ, ◌+◌, ◌^◌, true, List, ◌++◌, length, take, All}
+-- What the items of an input are, and what a refusal is, by the grammars themselves.
+use Rattle.std.specs.Prelude.{◌≡◌, ◌≢◌, ℕ, ◌+◌, ◌^◌, Bool, true, List, [], ◌∷◌, Some, length, take, drop, All}
 use Rattle.grib_base.specs.declared.fault.Fault.{Fault}
 use Rattle.grib_base.specs.declared.fault.Refusal.{Refusal}
+use Rattle.grib2_sections.specs.Head.{edition}
+use Rattle.grib2_sections.specs.Verdict as verdicts
+use Rattle.grib2_message.specs.Acceptance.{verdict_2}
+use Rattle.grib1_sections.specs.Acceptance.{verdict_1}
 use Rattle.grib_stream.specs.declared.outcome.Outcome.{Outcome}
-use Rattle.grib_stream.specs.declared.outcome.Outcome.TheVariants.{Refused}
-use Rattle.grib_stream.specs.Stream.{Faulty, Refusing, begins, stream}
+use Rattle.grib_stream.specs.declared.outcome.Outcome.TheVariants as outcomes
+use Rattle.grib_stream.specs.Stream.{Found, begins}
+use Rattle.grib_items.specs.declared.policy.Policy.{Policy}
+use Rattle.grib_items.specs.Items.{Item, Accepted, Refused, Refusing}
+use Rattle.grib_items.specs.Laws.{AreInOrder}
+use Rattle.grib_items.specs.Next.{passed}
+use Rattle.grib_run_law.specs.Answered.{is_longer, items_answered}
 use Rattle.grib_run_law.specs.Complete.{IsInGrammar}
-use Rattle.grib_command.specs.Judging.{judge}
-use Rattle.grib_run_law.specs.Same.{messages_answered}
 
--- the octets of an input from some `GRIB` on are refused, by the first row that fails
-pub record IsRefusedIn (fault : Fault) (input : List ℕ) : Type 0 where
-  pub front : List ℕ
-  pub rest : List ℕ
-  pub parts : input ≡ front ++ rest
-  pub begun : begins rest ≡ true
-  pub refused : judge rest ≡ Faulty fault
+-- octets begin with `GRIB` and are refused with the fault of the first row of their edition that fails
+pub record IsRefused (fault : Fault) (octets : List ℕ) : Type 0 where
+  pub begun : begins octets ≡ true
+  pub first : edition octets ≡ 1 → verdict_1 octets ≡ verdicts.Refused fault
+  pub second : edition octets ≢ 1 → verdict_2 octets ≡ verdicts.Refused fault
 
--- a refusal is of the octets behind the last message, with the number after that of this message
-pub record NamesRow (refusal : Refusal) (input : List ℕ) : Type 0 where
-  pub ends : (stream judge input).end ≡ Refusing refusal.fault
-  pub there : IsRefusedIn refusal.fault input
-  pub number : refusal.message ≡ length (stream judge input).messages + 1
+-- What stands in an input at the place of an item. A message is in the grammar of its edition. Octets that are refused
+-- are passed by as many as they state.
+abbrev pub IsJudged : Bool → List ℕ → Item → Type 0
+IsJudged more input (Accepted found) = (take (length found.octets) (drop found.before input) ≡ found.octets) × IsInGrammar found.octets
+IsJudged more input (Refused refused) =
+    let rest = drop refused.before input in
+    (take (length refused.octets) rest ≡ refused.octets) × (IsRefused refused.fault rest × (passed more rest ≡ Some (length refused.octets)))
 
--- Each message of the input, as far as it is answered, is in the grammar of its edition, and a refusal names the
--- first row that fails.
-pub record JudgesInput (outcome : Outcome) (input : List ℕ) : Type 0 where
-  pub accepted : All (λ found. IsInGrammar found.octets) (messages_answered input)
-  pub refused : (refusal : Refusal) → outcome ≡ Refused refusal → NamesRow refusal (take (2 ^ 40) input)
+-- the messages among items
+abbrev pub messages_of : List Item → List Found
+messages_of [] = []
+messages_of (Accepted found ∷ later) = found ∷ messages_of later
+messages_of (Refused refused ∷ later) = messages_of later
+
+-- Octets behind the items are refused with the fault that a refusal names, and its number is the one after that of the last
+-- message.
+pub record NamesRow (policy : Policy) (input : List ℕ) (refusal : Refusal) : Type 0 where
+  pub ends : (items_answered policy input).end ≡ Refusing refusal.fault
+  pub there : (before : ℕ) × AreInOrder 0 (items_answered policy input).items before × IsRefused refusal.fault (drop before (take (2 ^ 40) input))
+  pub number : refusal.message ≡ length (messages_of (items_answered policy input).items) + 1
+
+-- Each item of an input, as far as it is answered, is judged by the grammars, and so is a refusal with which the run ends.
+pub record Judges (policy : Policy) (outcome : Outcome) (input : List ℕ) : Type 0 where
+  pub items : All (IsJudged (is_longer input) (take (2 ^ 40) input)) (items_answered policy input).items
+  pub refusal : (refusal : Refusal) → outcome ≡ outcomes.Refused refusal → NamesRow policy input refusal

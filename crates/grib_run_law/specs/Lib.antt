@@ -1,10 +1,9 @@
+pub mod Answered
 pub mod Each
 pub mod Same
-pub mod SameMigrated
-pub mod Octets
-pub mod SameSet
-pub mod SamePicked
 pub mod Complete
-pub mod Standing
 pub mod Judged
+pub mod Written
+pub mod Shelved
 pub mod Leaving
+pub mod Plain

@@ -1,51 +1,62 @@
--- What an answer to repacking has in common with its input: message for message, field for field and point for
--- point the same values.
-use Rattle.std.specs.Prelude.{◌≡◌, ℕ, ◌^◌, ◌≤◌, ◌==◌, Option, Some, None, List, [], ◌∷◌, take}
-use Rattle.std.specs.List.{concat}
-use Rattle.grib_base.specs.Rows.{choose}
-use Rattle.grib_packing.specs.Misfits.{Target}
+-- What the octets that a command writes for a message have in common with it.
+use Rattle.std.specs.Prelude.{◌≡◌, ◌≢◌, ℕ, ◌<◌, ◌≤◌, Some, List, map, filter, All, AllPairs}
+use Rattle.std.specs.List.{concat, flat_map, range_with_len}
+use Rattle.grib_dyadic.specs.Meaning.{SameMeaning}
+use Rattle.grib_packing.specs.declared.column.Column.{Column}
+use Rattle.grib1_sections.specs.Column.{meaning1_of}
 use Rattle.grib2_sections.specs.Head.{edition}
 use Rattle.grib2_message.specs.Message.{IsMessage}
-use Rattle.grib2_message.specs.Fields.{field_count, meaning_of}
-use Rattle.grib_repack.specs.declared.target.RepackTarget.{RepackTarget}
-use Rattle.grib_repack.specs.Faults.{target_of}
-use Rattle.grib_repack.specs.Repacked.{RepackMisfit, repack_misfit}
-use Rattle.grib_stream.specs.Acts.{written}
-use Rattle.grib_stream.specs.Stream.{Found, stream}
-use Rattle.grib_command.specs.declared.job.Job.TheVariants.{Repack}
-use Rattle.grib_command.specs.Judging.{judge}
-use Rattle.grib_run_spec.specs.Tasks.{answer}
+use Rattle.grib2_message.specs.Fields.{field_count, column_of, meaning_of}
+use Rattle.grib_keys.specs.declared.condition.Condition.{Condition}
+use Rattle.grib_select.specs.Values.{fulfils_all, key_value_of}
 
--- a message that is accepted and whose points mean what those of another message mean
+-- `repack`: a message that is accepted and whose points mean what those of the message mean
 pub record SameValues (message other : List ℕ) : Type 0 where
   pub accepted : IsMessage other
   pub fields : field_count other ≡ field_count message
   pub points : (i : ℕ) → 1 ≤ i → i ≤ field_count message → meaning_of other i ≡ meaning_of message i
 
--- as many messages, each with the values of the one at its place
-abbrev pub AllSame : List (List ℕ) → List (List ℕ) → Type 0
-AllSame [] [] = Unit {0}
-AllSame (message ∷ messages) (other ∷ others) = SameValues message other × AllSame messages others
-AllSame [] (other ∷ others) = ⊥
-AllSame (message ∷ messages) [] = ⊥
+-- `migrate`: an accepted message of edition 2, with one field whose points mean what those of a message of edition 1
+-- mean; for one of edition 2 it is that message
+pub record SameMigrated (message other : List ℕ) : Type 0 where
+  pub accepted : IsMessage other
+  pub one_field : edition message ≡ 1 → field_count other ≡ 1
+  pub points : edition message ≡ 1 → SameMeaning (meaning_of other 1) (meaning1_of message)
+  pub copied : edition message ≢ 1 → other ≡ message
 
-abbrev pub kept_then : Option RepackMisfit → List ℕ → List (List ℕ) → List (List ℕ)
-kept_then None message later = message ∷ later
-kept_then (Some misfit) message later = []
+-- `set`: an accepted message with the columns of the message. Where no key stands twice among the changes, each of its
+-- fields has the keys with their new values.
+pub record SetsKeys (changes : List Condition) (message other : List ℕ) : Type 0 where
+  pub accepted : IsMessage other
+  pub fields : field_count other ≡ field_count message
+  pub columns : (i : ℕ) → column_of other i ≡ column_of message i
+  pub values : AllPairs (λ a b. a.key ≢ b.key) changes → (i : ℕ) → 1 ≤ i → i ≤ field_count message
+      → All (λ c. key_value_of other i c.key ≡ Some c.value) changes
 
--- the messages before the first that is kept; each of edition 1 is
-abbrev pub before_kept : Target → List Found → List (List ℕ)
-before_kept target [] = []
-before_kept target (found ∷ later) =
-    choose (edition found.octets == 1) (λ _. [])
-    (λ _. kept_then (repack_misfit target found.octets) found.octets (before_kept target later))
+-- the columns of the fields of a message, one after another
+abbrev pub columns_of : List ℕ → List Column
+columns_of message = map (column_of message) (range_with_len 1 (field_count message))
 
--- the messages of an input, as far as it is answered
-abbrev pub messages_answered : List ℕ → List Found
-messages_answered input = (stream judge (take (2 ^ 40) input)).messages
+-- the columns of those of its fields that fulfil the conditions
+abbrev pub columns_picked : List Condition → List ℕ → List Column
+columns_picked conditions message =
+    map (column_of message) (filter (λ i. fulfils_all message i conditions) (range_with_len 1 (field_count message)))
 
--- What is written is one message for each message before the first that is kept, with the same values.
-pub record KeepsValues (target : RepackTarget) (input : List ℕ) : Type 0 where
-  pub outputs : List (List ℕ)
-  pub written_stands : written (answer (Repack target) input).acts ≡ concat outputs
-  pub same : AllSame (before_kept (target_of target) (messages_answered input)) outputs
+-- accepted messages, whose fields are those of a message that fulfil the conditions, each with its column
+pub record IsPicked (conditions : List Condition) (message : List ℕ) (others : List (List ℕ)) : Type 0 where
+  pub accepted : All IsMessage others
+  pub columns : flat_map columns_of others ≡ columns_picked conditions message
+
+-- `filter`: such messages, one after another
+abbrev pub IsFiltered : List Condition → List ℕ → List ℕ → Type 0
+IsFiltered conditions message octets = (others : List (List ℕ)) × (octets ≡ concat others) × IsPicked conditions message others
+
+-- ---- messages of octets
+
+-- numbers below 256, as the octets of every input are
+abbrev pub AreOctets : List ℕ → Type 0
+AreOctets octets = All (λ octet. octet < 256) octets
+
+-- this holds of what is written for a message, where that is of octets
+abbrev pub IfOctets : (List ℕ → List ℕ → Type 0) → List ℕ → List ℕ → Type 0
+IfOctets Is message octets = AreOctets message → Is message octets

@@ -1,4 +1,5 @@
-//! What holds of a whole run: what is answered keeps the values and the columns of the fields, and is in the grammar.
+//! What holds of a whole run, whatever it passes: what is written keeps the values and the columns of the fields, and what is
+//! answered is in the grammar.
 #![tactic(auto)]
 
 pub mod laws;

@@ -1,3 +1,4 @@
 pub mod Tasks
+pub mod Seen
+pub mod Stated
 pub mod Serving
-pub mod Passing

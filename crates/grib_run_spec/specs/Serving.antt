@@ -1,97 +1,117 @@
--- What a run of a job leaves of its input, its output, the names of its shelf and its notes. `make` reads no
--- input, and its answer rests on none. Where a job reads a table, its answer rests on what stands on the shelf under
--- the name of the table before the run; where the shelf does not tell it, on some text.
-use Rattle.std.specs.Prelude.{◌≡◌, ◌≢◌, ◌⊎◌, ◌<◌, ℕ, ◌^◌, Bool, true, false, List}
+-- What a run leaves of its devices, by the stated answer.
+use Rattle.std.specs.Prelude.{◌≡◌, ◌≢◌, ◌⊎◌, ℕ, ◌+◌, ◌^◌, ◌≤◌, Bool, true, false, List, [], ◌∷◌, ◌++◌, length, IfSome}
 use Rattle.std.specs.declared.option.Option.{Option}
-use Rattle.std.specs.Io.KnownBytes.{Appends}
-use Rattle.grib_io.specs.Outside.{Unfinished}
+use Rattle.std.specs.Io.KnownBytes.{Appends, IsAtEnd}
+use Rattle.std.specs.List.{concat}
+use Rattle.grib_io.specs.Outside.{AppendsFront, Rose}
 use Rattle.grib_io.specs.Shelves.{Held, Stays}
-use Rattle.grib_params.specs.Table.{Entries}
-use Rattle.grib_table.specs.Tabled.{Tabled, Good, Refused, tabled, Stood}
 use Rattle.grib_stream.specs.declared.outcome.Outcome.{Outcome}
-use Rattle.grib_stream.specs.declared.outcome.Outcome.TheVariants.{Done, TableRefused, ReadFault, WriteFault, ShelfFault, Memory}
-use Rattle.grib_stream.specs.Acts.{World, world}
-use Rattle.grib_stream.specs.Faults.{faults, CountsRun}
-use Rattle.grib_stream.specs.Outcomes.{is_cut_short}
-use Rattle.grib_stream.specs.Run.{Gives, Runs}
-use Rattle.grib_command.specs.declared.job.Job.{Job}
-use Rattle.grib_command.specs.Command.{Command, task}
-use Rattle.grib_command.specs.Outcomes.{note_of, note_with, NotesFront, NotesEnd, Noted, NotesRun}
-use Rattle.grib_run_spec.specs.Tasks.{Work, Reads, Makes, ReadsTable, work_of, reads_none, has_shelf, has_table, refused_answer}
+use Rattle.grib_stream.specs.declared.outcome.Outcome.TheVariants.{ReadFault, ShelfFault, Memory, InputTooLong}
+use Rattle.grib_stream.specs.Acts.{DidFront}
+use Rattle.grib_stream.specs.Faults.{Faults, CountsRun}
+use Rattle.grib_stream.specs.Outcomes.{is_broken, is_cut_short, KeepsOrCuts}
+use Rattle.grib_stream.specs.Reading.{Takes}
+use Rattle.grib_items.specs.declared.policy.Policy.{Policy}
+use Rattle.grib_items.specs.Deeds.{Done, deeds, then}
+use Rattle.grib_items.specs.Laws.{is_whole}
+use Rattle.grib_items.specs.Run.{answer_of}
+use Rattle.grib_command.specs.Command.{Command}
+use Rattle.grib_command.specs.Outcomes.{note_of}
+use Rattle.grib_run_spec.specs.Seen.{Seen, world_of, outside_of, faults_of, Settles}
+use Rattle.grib_run_spec.specs.Stated.{IfAsked, IfStated, deeds_of, plan_by, stated_to}
+use Rattle.grib_run_spec.specs.Tasks.{Stated, Work, has_shelf, has_table}
 
--- what was read as the table says this
-abbrev pub ByTable : Option Held → List ℕ → (Tabled → Type 0) → Type 0
-ByTable names name Is = (text : Option (List ℕ)) × Stood names name text × Is (tabled text)
+-- ---- what is noted
 
-abbrev pub RunsTabled : (Entries → Command) → Outcome → Option (List ℕ) → Option (List ℕ) → World → World → Tabled → Type 0
-RunsTabled commands outcome left left_now before now (Good table) = Runs (task (commands table)) (2 ^ 40) outcome left left_now before now
-RunsTabled commands outcome left left_now before now (Refused refusal) = Gives (refused_answer refusal) outcome before now
+-- this was noted behind some front of the lines
+abbrev pub NotedBehind : Stated → List ℕ → Option (List ℕ) → Option (List ℕ) → Type 0
+NotedBehind stated note before now = (front rest : List ℕ) × (concat stated.lines ≡ front ++ rest) × Appends before now (front ++ note)
 
-abbrev pub RunsWork : Work → Outcome → Option (List ℕ) → Option (List ℕ) → World → World → Type 0
-RunsWork (Reads command) outcome left left_now before now = Runs (task command) (2 ^ 40) outcome left left_now before now
-RunsWork (Makes answer) outcome left left_now before now = Gives answer outcome before now
-RunsWork (ReadsTable name commands) outcome left left_now before now =
-    ByTable before.names name (RunsTabled commands outcome left left_now before now)
+-- some front of this was noted behind some front of the lines
+abbrev pub NotedFrontBehind : Stated → List ℕ → Option (List ℕ) → Option (List ℕ) → Type 0
+NotedFrontBehind stated note before now = (front rest : List ℕ) × (concat stated.lines ≡ front ++ rest) × AppendsFront before now (front ++ note)
 
-abbrev pub RunsJob : Job → Outcome → Option (List ℕ) → Option (List ℕ) → World → World → Type 0
-RunsJob job = RunsWork (work_of job)
+-- A device or a lack of memory broke the run, which this tells, and some front of its note came behind some front of the
+-- lines.
+abbrev pub NotesBreak : (Outcome → Type 0) → Stated → Option (List ℕ) → Option (List ℕ) → Type 0
+NotesBreak Tells stated before now =
+    (broke : Outcome) × (is_broken broke ≡ true) × Tells broke × NotedFrontBehind stated (note_of broke) before now
 
--- the whole note was appended
-abbrev pub NotesTabled : (Entries → Command) → Option (List ℕ) → Outcome → Option (List ℕ) → Option (List ℕ) → Tabled → Type 0
-NotesTabled commands left outcome before now (Good table) = NotesEnd (task (commands table)) (2 ^ 40) left outcome before now
-NotesTabled commands left outcome before now (Refused refusal) = Appends before now (note_of outcome)
+-- some front of the lines and the note was noted, or the note on what broke the run behind some front of the lines
+abbrev pub NotesSome : (Outcome → Type 0) → Stated → Option (List ℕ) → Option (List ℕ) → Type 0
+NotesSome Tells stated before now = AppendsFront before now (concat (deeds_of stated).lines) ⊎ NotesBreak Tells stated before now
 
-abbrev pub NotesWork : Work → Option Held → Option (List ℕ) → Outcome → Option (List ℕ) → Option (List ℕ) → Type 0
-NotesWork (Reads command) names left outcome before now = NotesEnd (task command) (2 ^ 40) left outcome before now
-NotesWork (Makes answer) names left outcome before now = Appends before now (note_with answer.note outcome)
-NotesWork (ReadsTable name commands) names left outcome before now = ByTable names name (NotesTabled commands left outcome before now)
+-- what tells that a device broke: its count of faults rose
+abbrev pub IsCounted : Faults → Faults → Outcome → Type 0
+IsCounted before now ReadFault = Rose before.input now.input
+IsCounted before now ShelfFault = Rose before.shelf now.shelf
+IsCounted before now outcome = Unit {0}
 
-abbrev pub NotesJob : Job → Option Held → Option (List ℕ) → Outcome → Option (List ℕ) → Option (List ℕ) → Type 0
-NotesJob job = NotesWork (work_of job)
+-- ---- the answer
 
--- a front of a note was appended: of the answer, or of what came in its place
-abbrev pub NotesTabledFront : (Entries → Command) → Option (List ℕ) → ℕ → ℕ → ℕ → ℕ → Option (List ℕ) → Option (List ℕ) → Tabled → Type 0
-NotesTabledFront commands left faults faults_now shelf shelf_now before now (Good table) =
-    NotesRun (task (commands table)) (2 ^ 40) left faults faults_now shelf shelf_now before now
-NotesTabledFront commands left faults faults_now shelf shelf_now before now (Refused refusal) =
-    Noted before now (note_of (TableRefused refusal)) faults faults_now shelf shelf_now
+-- The outcome is that of the answer, and all was done and noted, unless a device or a lack of memory ended the run. Then
+-- some front of it was, and the note says what broke.
+pub record Gives (stated : Stated) (outcome : Outcome) (before now : Seen) : Type 0 where
+  pub ends : is_broken outcome ≡ false → outcome ≡ stated.outcome
+  pub whole : is_broken outcome ≡ false → Done (outside_of before) (outside_of now) (deeds_of stated)
+  pub front : DidFront (world_of before) (world_of now) stated.acts
+  pub noted_front : NotesSome (λ broke. KeepsOrCuts broke outcome) stated before.notes now.notes
+  pub noted : is_broken outcome ≡ true → is_cut_short outcome ≡ false → NotedBehind stated (note_of outcome) before.notes now.notes
 
-abbrev pub NotesWorkFront : Work → Option Held → Option (List ℕ) → ℕ → ℕ → ℕ → ℕ → Option (List ℕ) → Option (List ℕ) → Type 0
-NotesWorkFront (Reads command) names left faults faults_now shelf shelf_now before now =
-    NotesRun (task command) (2 ^ 40) left faults faults_now shelf shelf_now before now
-NotesWorkFront (Makes answer) names left faults faults_now shelf shelf_now before now = NotesFront before now answer.note Done
-NotesWorkFront (ReadsTable name commands) names left faults faults_now shelf shelf_now before now =
-    ByTable names name (NotesTabledFront commands left faults faults_now shelf shelf_now before now)
+-- These octets were taken: no more than are answered, and one where that shows that the input is too long. What was done
+-- and noted is the answer to them, whatever the input tells of itself. After a fault of the input it is what they give
+-- while more may follow, and the note on the fault.
+pub record Taken (command : Command) (policy : Policy) (taken : List ℕ) (outcome : Outcome) (before now : Seen) : Type 0 where
+  pub most : length taken ≤ 2 ^ 40 + 1
+  pub short : is_broken outcome ≡ false → outcome ≢ InputTooLong → length taken ≤ 2 ^ 40
+  pub long : outcome ≡ InputTooLong → length taken ≡ 2 ^ 40 + 1
+  pub answered : Gives (stated_to command policy taken) outcome before now
+  pub read_fault : outcome ≡ ReadFault → Done (outside_of before) (outside_of now) (then (answer_of (plan_by command policy) true taken).deeds (deeds [] (note_of ReadFault ∷ [])))
 
-abbrev pub NotesJobFront : Job → Option Held → Option (List ℕ) → ℕ → ℕ → ℕ → ℕ → Option (List ℕ) → Option (List ℕ) → Type 0
-NotesJobFront job = NotesWorkFront (work_of job)
+-- a command answers the input: by what was left of it, where that is told, and by what was taken
+pub record Reading (policy : Policy) (outcome : Outcome) (before now : Seen) (command : Command) : Type 0 where
+  pub gives : IfSome before.left (λ input. Gives (stated_to command policy input) outcome before now)
+  pub taken : (taken : List ℕ) × Takes before.left now.left taken × Taken command policy taken outcome before now
+  pub end : is_whole outcome ≡ true → IsAtEnd now.left
 
--- what holds where the table is refused
-abbrev pub IfRefused : Type 0 → Tabled → Type 0
-IfRefused P (Good table) = Unit {0}
-IfRefused P (Refused refusal) = P
+-- what is stated at once, whatever the input holds
+pub record AtOnce (outcome : Outcome) (before now : Seen) (stated : Stated) : Type 0 where
+  pub gives : Gives stated outcome before now
+  pub unread : outcome ≢ ReadFault
 
-abbrev pub RefusedWork : Work → Option Held → Type 0 → Type 0
-RefusedWork (Reads command) names P = Unit {0}
-RefusedWork (Makes answer) names P = Unit {0}
-RefusedWork (ReadsTable name commands) names P = ByTable names name (IfRefused P)
+-- what is asked was answered
+abbrev pub AnswersWork : Work → Policy → Outcome → Seen → Seen → Type 0
+AnswersWork work policy outcome before now = IfAsked work before.names (Reading policy outcome before now) (AtOnce outcome before now)
 
-abbrev pub RefusedJob : Job → Option Held → Type 0 → Type 0
-RefusedJob job = RefusedWork (work_of job)
+-- ---- a whole run
 
--- A whole run. A source, a sink and a shelf are seen by what they tell of their octets and names, by the counts of
--- their faults, and a sink by what is settled.
-pub record Serves {Source Output Notes Shelf : Type 0} (left : Source → Option (List ℕ)) (input_faults : Source → ℕ) (contents : Output → Option (List ℕ)) (output_faults : Output → ℕ) (settled : Output → Bool) (notes_contents : Notes → Option (List ℕ)) (notes_faults : Notes → ℕ) (notes_settled : Notes → Bool) (names : Shelf → Option Held) (shelf_faults : Shelf → ℕ) (work : Work) (outcome : Outcome) (input input_now : Source) (output output_now : Output) (notes notes_now : Notes) (shelf shelf_now : Shelf) : Type 0 where
-  pub runs : RunsWork work outcome (left input) (left input_now) (world (contents output) (names shelf)) (world (contents output_now) (names shelf_now))
-  pub noted : is_cut_short outcome ≡ false → NotesWork work (names shelf) (left input) outcome (notes_contents notes) (notes_contents notes_now)
-  pub noted_front : NotesWorkFront work (names shelf) (left input) (input_faults input) (input_faults input_now) (shelf_faults shelf) (shelf_faults shelf_now) (notes_contents notes) (notes_contents notes_now)
-  pub settles : is_cut_short outcome ≡ false → (settled output_now ≡ true) × (notes_settled notes_now ≡ true)
-  pub unfinished : output_faults output < output_faults output_now → Unfinished (notes_settled notes) (notes_settled notes_now)
-  pub output_unfinished : output_faults output < output_faults output_now → Unfinished (settled output) (settled output_now)
-  pub counts : CountsRun outcome (faults (input_faults input) (output_faults output) (notes_faults notes) (shelf_faults shelf)) (faults (input_faults input_now) (output_faults output_now) (notes_faults notes_now) (shelf_faults shelf_now))
-  pub made_input : reads_none work ≡ true → input_now ≡ input
-  pub made : reads_none work ≡ true → (outcome ≡ Done) ⊎ ((outcome ≡ WriteFault) ⊎ (outcome ≡ Memory))
-  pub shelf_stays : has_shelf work ≡ false → shelf_now ≡ shelf
+-- a note on what broke is noted only where the count of a device tells it
+abbrev pub NotesTold : Work → Policy → Seen → Seen → Type 0
+NotesTold work policy before now =
+    IfStated work policy before.names before.left (λ stated. NotesSome (IsCounted (faults_of before) (faults_of now)) stated before.notes now.notes)
+
+-- output and notes are brought to their end, with the note on memory behind some front of the lines
+abbrev pub Stands : Work → Policy → Seen → Seen → Type 0
+Stands work policy before now =
+    (now.output_settled ≡ true) × ((now.notes_settled ≡ true)
+    × IfStated work policy before.names before.left (λ stated. NotedBehind stated (note_of Memory) before.notes now.notes))
+
+-- what holds of the input where it is not read: nothing is to be read, or the table is refused
+abbrev pub IfUnread : Work → Option Held → Type 0 → Type 0
+IfUnread work names P = IfAsked work names (λ command. Unit {0}) (λ stated. P)
+
+-- A whole run of what is asked: whether one of its sinks may stop for memory.
+pub record Serves (takes_memory : Bool) (work : Work) (policy : Policy) (outcome : Outcome) (before now : Seen) : Type 0 where
+  -- what was done and noted, how the run ended, and how much of the input was taken
+  pub answer : AnswersWork work policy outcome before now
+  -- a note on what broke is noted only where the count of a device tells it
+  pub told : NotesTold work policy before now
+  -- output and notes are brought to their end
+  pub settled : Settles outcome before now
+  -- where neither sink takes memory, after a lack of memory too
+  pub stands : takes_memory ≡ false → outcome ≡ Memory → Stands work policy before now
+  -- the faults of the devices
+  pub counts : CountsRun outcome (faults_of before) (faults_of now)
+  -- a run that does not use the shelf does not end with a fault of it, and a table stays as it is
   pub unshelved : has_shelf work ≡ false → outcome ≢ ShelfFault
-  pub refused_input : RefusedWork work (names shelf) ((input_now ≡ input) × (outcome ≢ ReadFault))
-  pub shelf_kept : has_table work ≡ true → Stays (names shelf) (names shelf_now)
+  pub table_stays : has_table work ≡ true → Stays before.names now.names

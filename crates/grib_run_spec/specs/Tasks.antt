@@ -1,7 +1,8 @@
 -- What each job is, and the answer to it.
-use Rattle.std.specs.Prelude.{ℕ, ◌^◌, Bool, true, false, Option, Some, None, List, [], length}
-use Rattle.grib_stream.specs.Acts.{writes}
+use Rattle.std.specs.Prelude.{◌≡◌, ℕ, ◌^◌, Bool, true, false, Option, Some, None, List, [], length}
+use Rattle.grib_stream.specs.Acts.{Act, writes}
 use Rattle.grib_stream.specs.Answer.{Answer, answer_within}
+use Rattle.grib_stream.specs.declared.outcome.Outcome.{Outcome}
 use Rattle.grib_stream.specs.declared.outcome.Outcome.TheVariants.{Done, TableRefused}
 use Rattle.grib_repack.specs.declared.target.RepackTarget.{RepackTarget}
 use Rattle.grib_repack.specs.Faults.{target_of}
@@ -9,7 +10,6 @@ use Rattle.grib_repack.specs.Repacked.{repacked}
 use Rattle.grib_synthetic.specs.Points.{made_points}
 use Rattle.grib_synthetic.specs.Summary.{present_count, present_sum}
 use Rattle.grib_synthetic.specs.Made.{made}
-use Rattle.grib_reasons.specs.declared.table.TableRefusal.{TableRefusal}
 use Rattle.grib_params.specs.Table.{Entries}
 use Rattle.grib_table.specs.Tabled.{Tabled, Good, Refused, tabled}
 use Rattle.grib_command.specs.declared.job.Job.{Job}
@@ -34,9 +34,21 @@ use Rattle.grib_edit.specs.Splitting.{split_command}
 use Rattle.grib_report.specs.Summing.{stats_command}
 use Rattle.grib_report.specs.Valuing.{value_command}
 
+-- A stated answer: all that is done, the lines that are noted of what the run goes past, what is noted behind them, and how
+-- the run ends.
+pub record Stated : Type 0 where
+  pub acts : List Act
+  pub lines : List (List ℕ)
+  pub note : List ℕ
+  pub outcome : Outcome
+
 -- the answer that writes these octets and has this note
-abbrev pub writing : List ℕ → List ℕ → Answer
-writing octets note = record { acts = writes octets; ending = []; note = note; outcome = Done }
+abbrev pub writing : List ℕ → List ℕ → Stated
+writing octets note = record { acts = writes octets; lines = []; note = note; outcome = Done }
+
+-- the answer of a run that ends before it does anything
+abbrev pub ends_at_once : Outcome → Stated
+ends_at_once outcome = record { acts = []; lines = []; note = note_of outcome; outcome = outcome }
 
 -- the note on the message that `make` makes, and on what is written of it
 abbrev pub note_of_made : ℕ → ℕ → ℕ → RepackTarget → List ℕ
@@ -45,14 +57,14 @@ note_of_made seed ni nj target =
     made_note (length (made seed ni nj)) (length (repacked (target_of target) (made seed ni nj))) (present_count points) (present_sum points)
 
 -- the answer to `make`: the message that is made, with its field packed anew
-abbrev pub made_answer : ℕ → ℕ → ℕ → RepackTarget → Answer
+abbrev pub made_answer : ℕ → ℕ → ℕ → RepackTarget → Stated
 made_answer seed ni nj target = writing (repacked (target_of target) (made seed ni nj)) (note_of_made seed ni nj target)
 
 -- a job answers the messages of an input, or reads none and has one answer, or answers the messages by the table
 -- that stands on the shelf under a name
 pub data Work : Type 0 where
   Reads : Command → Work
-  Makes : Answer → Work
+  Makes : Stated → Work
   ReadsTable : List ℕ → (Entries → Command) → Work
 
 abbrev pub work_of : Job → Work
@@ -70,44 +82,50 @@ work_of RepackLeast = Reads least_command
 work_of Rescan = Reads (edit_command edits.Rescan)
 work_of (Crop area) = Reads (edit_command (edits.Crop area))
 work_of (Migrate params keep_local) = ReadsTable params (migrate_command keep_local)
-work_of (Demote params keep_local any_earth) = ReadsTable params (demote_command keep_local any_earth)
+work_of (Demote params keep_local any_earth matching) = ReadsTable params (demote_command matching keep_local any_earth)
 work_of (Make seed ni nj target) = Makes (made_answer seed ni nj target)
 work_of (Print page) = Makes (writing (text_of page) [])
 
 -- what holds of the command of a job that reads its input, by the table where it reads one
 abbrev pub IfReads : Work → Option Entries → (Command → Type 0) → Type 0
 IfReads (Reads command) table P = P command
-IfReads (Makes answer) table P = Unit {0}
+IfReads (Makes stated) table P = Unit {0}
 IfReads (ReadsTable name commands) None P = Unit {0}
 IfReads (ReadsTable name commands) (Some table) P = P (commands table)
 
 abbrev pub reads_none : Work → Bool
 reads_none (Reads command) = false
-reads_none (Makes answer) = true
+reads_none (Makes stated) = true
 reads_none (ReadsTable name commands) = false
 
 abbrev pub has_table : Work → Bool
 has_table (Reads command) = false
-has_table (Makes answer) = false
+has_table (Makes stated) = false
 has_table (ReadsTable name commands) = true
 
 abbrev pub has_shelf : Work → Bool
 has_shelf (Reads command) = command.uses_shelf
-has_shelf (Makes answer) = false
+has_shelf (Makes stated) = false
 has_shelf (ReadsTable name commands) = true
 
--- the answer where the table is refused; no input is read
-abbrev pub refused_answer : TableRefusal → Answer
-refused_answer refusal = record { acts = []; ending = []; note = note_of (TableRefused refusal); outcome = TableRefused refusal }
+-- what holds of a job that hears messages of edition 2
+abbrev pub IfHears : Job → Type 0 → Type 0
+IfHears job P = IfReads (work_of job) None (λ command. command.hears ≡ true → P)
+
+-- ---- where nothing is gone past
+
+-- a stated answer without lines
+abbrev pub plainly : Stated → Answer
+plainly stated = record { acts = stated.acts; ending = []; note = stated.note; outcome = stated.outcome }
 
 -- the answer by what stands under the name of the table
 abbrev pub answer_by : Tabled → (Entries → Command) → List ℕ → Answer
 answer_by (Good table) commands input = answer_within (2 ^ 40) (task (commands table)) input
-answer_by (Refused refusal) commands input = refused_answer refusal
+answer_by (Refused refusal) commands input = plainly (ends_at_once (TableRefused refusal))
 
 abbrev pub answer_to : Work → Option (List ℕ) → List ℕ → Answer
 answer_to (Reads command) text input = answer_within (2 ^ 40) (task command) input
-answer_to (Makes answer) text input = answer
+answer_to (Makes stated) text input = plainly stated
 answer_to (ReadsTable name commands) text input = answer_by (tabled text) commands input
 
 -- whether a job reads no input

@@ -3,12 +3,8 @@ pub mod Worlds
 pub mod Nexts
 pub mod Fronts
 pub mod Hearers
-pub mod SoFar
 pub mod Windows
 pub mod Exits
-pub mod Going
-pub mod Stopping
-pub mod Promptly
 pub mod Heard
 pub mod Within
 pub mod Cutting

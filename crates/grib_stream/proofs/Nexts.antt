@@ -1,18 +1,14 @@
--- What comes next, whatever follows.
-use Rattle.std.proofs.Common.{◌≡◌, ℕ, zero, suc, ◌+◌, ◌<◌, ◌≤◌, Bool, true, false, not, List, [], ◌++◌, length, take, drop, refl, sym, ap, ◌∙◌, subst, arith, length-drop, take-append-drop, ⊎_elim}
-use Rattle.std.proofs.lemmas.List.{take-append-le, drop_all}
-use Rattle.std.proofs.lemmas.Bool.{cases_lt}
+-- What comes next.
+use Rattle.std.proofs.Common.{◌≡◌, ◌≢◌, ℕ, Bool, true, false, not, List, ◌++◌, take, refl, sym, ap, ◌∙◌, subst}
+use Rattle.std.proofs.lemmas.List.{take-append-le}
 use Rattle.grib_base.specs.declared.fault.Fault.{Fault}
-use Rattle.grib_stream.specs.declared.outcome.Outcome.TheVariants.{Refused}
+use Rattle.grib_stream.specs.declared.outcome.Outcome.{Outcome}
 use Rattle.grib_stream.specs.declared.place.Place.{Place}
-use Rattle.grib_stream.specs.declared.place.Totals.{Totals}
-use Rattle.grib_stream.specs.Stream.{begins, Judgement, Message, Faulty, Refusing, stream_of}
-use Rattle.grib_stream.specs.Searching.{Markless}
+use Rattle.grib_stream.specs.Stream.{Judgement, Message, Faulty}
 use Rattle.grib_stream.specs.Acts.{Act}
-use Rattle.grib_stream.specs.Outcomes.{is_truncated}
+use Rattle.grib_stream.specs.Outcomes.{is_of_message}
 use Rattle.grib_stream.specs.Task.{Task, IsLawful, Given, Gives, Ends, Next, Whole, Refuses, Stops, next_given, next_judged, next_of}
-use Rattle.grib_stream.specs.Answer.{Answer, silent, done, after, totals_of, place_of, refusal_after, on_given, answer_to, answer_at}
-use Rattle.grib_stream.proofs.Streams.{stream_message, stream_refused, stream_passed, none_in_few}
+use Rattle.grib_stream.specs.Answer.{done}
 
 -- what comes next where a message is accepted
 abbrev pub next_whole : Task → Place → List ℕ → ℕ → Next
@@ -21,30 +17,9 @@ next_whole task place octets total = next_given (task.result place (take total o
 pub judged : (task : Task) (place : Place) (octets : List ℕ) (j : Judgement) → task.judge octets ≡ j → next_of task place octets ≡ next_judged j (next_whole task place octets)
 judged task place octets j is = ap (λ k. next_judged k (next_whole task place octets)) is
 
--- whether it stays, whatever follows
-abbrev pub is_final : Next → Bool
-is_final (Whole total fields written acts) = true
-is_final (Refuses fault) = not (is_truncated fault.reason)
-is_final (Stops outcome) = true
-
 pub not_true : (b : Bool) → not b ≡ true → b ≡ false
 not_true true e = sym e
 not_true false e = refl
-
-next_stays_by : (task : Task) → IsLawful task → (place : Place) (octets more : List ℕ) (n : Next) (j : Judgement) → task.judge octets ≡ j
-    → next_of task place octets ≡ n → is_final n ≡ true → next_of task place (octets ++ more) ≡ n
-next_stays_by task lawful place octets more n (Message total) so is final =
-    judged task place (octets ++ more) (Message total) (lawful.message_stays octets more total so)
-    ∙ (ap (λ message. next_given (task.result place message) total (task.fields message)) (take-append-le total octets more (lawful.there octets total so))
-    ∙ (sym (judged task place octets (Message total) so) ∙ is))
-next_stays_by task lawful place octets more n (Faulty fault) so is final =
-    let same : n ≡ Refuses fault = sym is ∙ judged task place octets (Faulty fault) so in
-    let closed : not (is_truncated fault.reason) ≡ true = subst (λ m. is_final m ≡ true) same final in
-    judged task place (octets ++ more) (Faulty fault) (lawful.refusal_stays octets more fault so (not_true (is_truncated fault.reason) closed)) ∙ sym same
-
-pub next_stays : (task : Task) → IsLawful task → (place : Place) (octets more : List ℕ) (n : Next) → next_of task place octets ≡ n → is_final n ≡ true
-    → next_of task place (octets ++ more) ≡ n
-next_stays task lawful place octets more n is final = next_stays_by task lawful place octets more n (task.judge octets) refl is final
 
 -- ---- a message that comes next
 
@@ -82,78 +57,58 @@ pub refuses_not_given : (g : Given) (total fields : ℕ) (fault : Fault) → nex
 refuses_not_given (Gives acts written) total fields fault is = cc
 refuses_not_given (Ends outcome) total fields fault is = cc
 
--- octets that are refused are fewer than their message has
-pub longer : (task : Task) → IsLawful task → (place : Place) (octets more : List ℕ) (fault : Fault) (total : ℕ) → next_of task place octets ≡ Refuses fault
-    → task.judge (octets ++ more) ≡ Message total → length octets < total
-longer task lawful place octets more fault total is later =
-    ⊎_elim (λ less. less)
-    (λ there.
-    let alone : task.judge (take total octets) ≡ Message total =
-    ap task.judge (sym (take-append-le total octets more there)) ∙ lawful.alone (octets ++ more) total later in
-    let here : task.judge octets ≡ Message total =
-    ap task.judge (sym (take-append-drop total octets)) ∙ lawful.message_stays (take total octets) (drop total octets) total alone in
-    absurd (refuses_not_given (task.result place (take total octets)) total (task.fields (take total octets)) fault (sym (judged task place octets (Message total) here) ∙ is)))
-    (cases_lt (length octets) total)
+-- what is refused is judged so
+refuses_by : (task : Task) (place : Place) (octets : List ℕ) (fault : Fault) (j : Judgement) → task.judge octets ≡ j → next_of task place octets ≡ Refuses fault
+    → task.judge octets ≡ Faulty fault
+refuses_by task place octets fault (Message total) so is =
+    absurd (refuses_not_given (task.result place (take total octets)) total (task.fields (take total octets)) fault (sym (judged task place octets (Message total) so) ∙ is))
+refuses_by task place octets fault (Faulty other) so is =
+    let same : Refuses other ≡ Refuses fault = sym (judged task place octets (Faulty other) so) ∙ is in
+    let one : other ≡ fault = cc in so ∙ ap Faulty one
 
--- ---- the answer, by what comes next
+pub refuses_judged : (task : Task) (place : Place) (octets : List ℕ) (fault : Fault) → next_of task place octets ≡ Refuses fault → task.judge octets ≡ Faulty fault
+refuses_judged task place octets fault is = refuses_by task place octets fault (task.judge octets) refl is
 
-abbrev pub next_here : Task → Totals → ℕ → List ℕ → Next
-next_here task totals place octets = next_of task (place_of totals.messages place totals.fields) octets
+-- what comes of a message stays, whatever follows
+pub message_stays_next : (task : Task) → IsLawful task → (place : Place) (octets more : List ℕ) (total : ℕ) → task.judge octets ≡ Message total
+    → next_of task place (octets ++ more) ≡ next_of task place octets
+message_stays_next task lawful place octets more total is =
+    judged task place (octets ++ more) (Message total) (lawful.message_stays octets more total is)
+    ∙ (ap (λ message. next_given (task.result place message) total (task.fields message)) (take-append-le total octets more (lawful.there octets total is))
+    ∙ sym (judged task place octets (Message total) is))
 
--- what was counted after a message with this many fields, for which this many octets were written
-abbrev pub counted : Totals → ℕ → ℕ → Totals
-counted totals fields written = totals_of (totals.messages + 1) (totals.fields + fields) totals.skipped (totals.written + written)
+-- ---- an outcome that comes next
 
-abbrev pub skipping : Totals → ℕ → Totals
-skipping totals n = totals_of totals.messages totals.fields (totals.skipped + n) totals.written
+given_stops : (task : Task) → IsLawful task → (place : Place) (message : List ℕ) (g : Given) (total fields : ℕ) (outcome : Outcome) → task.result place message ≡ g
+    → next_given g total fields ≡ Stops outcome → is_of_message outcome ≡ true
+given_stops task lawful place message (Gives acts written) total fields outcome is stops = let no : ⊥ = cc in absurd no
+given_stops task lawful place message (Ends other) total fields outcome is stops =
+    let same : other ≡ outcome = cc in
+    subst (λ o. is_of_message o ≡ true) same (lawful.ends_at_message place message other is)
 
-abbrev pub answer_by : Task → Totals → ℕ → List ℕ → Next → Answer
-answer_by task totals place octets (Whole total fields written acts) = after acts (answer_at task (counted totals fields written) (place + total) (drop total octets))
-answer_by task totals place octets (Refuses fault) = silent task (Refused (refusal_after totals.messages fault))
-answer_by task totals place octets (Stops outcome) = silent task outcome
+pub stops_by : (task : Task) → IsLawful task → (place : Place) (octets : List ℕ) (outcome : Outcome) (j : Judgement) → task.judge octets ≡ j
+    → next_of task place octets ≡ Stops outcome → is_of_message outcome ≡ true
+stops_by task lawful place octets outcome (Message total) so stops =
+    given_stops task lawful place (take total octets) (task.result place (take total octets)) total (task.fields (take total octets)) outcome refl
+    (sym (judged task place octets (Message total) so) ∙ stops)
+stops_by task lawful place octets outcome (Faulty fault) so stops =
+    let e : Refuses fault ≡ Stops outcome = sym (judged task place octets (Faulty fault) so) ∙ stops in let no : ⊥ = cc in absurd no
 
-by_given : (task : Task) (totals : Totals) (place : ℕ) (octets : List ℕ) (total fields : ℕ) (g : Given)
-    → on_given task g (λ acts written. after acts (answer_at task (counted totals fields written) (place + total) (drop total octets)))
-    ≡ answer_by task totals place octets (next_given g total fields)
-by_given task totals place octets total fields (Gives acts written) = refl
-by_given task totals place octets total fields (Ends outcome) = refl
+-- an outcome that the task gives for no message does not come next
+stops_given : (task : Task) (place : Place) (message : List ℕ) (g : Given) (total fields : ℕ) (outcome : Outcome) → task.result place message ≡ g
+    → next_given g total fields ≡ Stops outcome → task.result place message ≡ Ends outcome
+stops_given task place message (Gives acts written) total fields outcome is stops = let no : ⊥ = cc in absurd no
+stops_given task place message (Ends other) total fields outcome is stops = let same : other ≡ outcome = cc in is ∙ ap Ends same
 
-by_message : (task : Task) (totals : Totals) (place : ℕ) (octets : List ℕ) (total : ℕ) → 1 ≤ total → begins octets ≡ true → task.judge octets ≡ Message total
-    → answer_at task totals place octets ≡ answer_by task totals place octets (next_here task totals place octets)
-by_message task totals place octets zero some begun so = absurd (omega (arith, some))
-by_message task totals place octets (suc k) some begun so =
-    let here : Place = place_of totals.messages place totals.fields in
-    let message : List ℕ = take (suc k) octets in
-    ap (answer_to task totals.messages totals.fields totals.written) (stream_message task.judge place totals.skipped k octets begun so)
-    ∙ (by_given task totals place octets (suc k) (task.fields message) (task.result here message)
-    ∙ ap (answer_by task totals place octets) (sym (judged task here octets (Message (suc k)) so)))
+never_by : (task : Task) (place : Place) (octets : List ℕ) (outcome : Outcome) (j : Judgement) → task.judge octets ≡ j → next_of task place octets ≡ Stops outcome
+    → ((message : List ℕ) → task.result place message ≢ Ends outcome) → ⊥
+never_by task place octets outcome (Message total) so stops never =
+    never (take total octets)
+    (stops_given task place (take total octets) (task.result place (take total octets)) total (task.fields (take total octets)) outcome refl
+    (sym (judged task place octets (Message total) so) ∙ stops))
+never_by task place octets outcome (Faulty fault) so stops never =
+    let e : Refuses fault ≡ Stops outcome = sym (judged task place octets (Faulty fault) so) ∙ stops in cc
 
-by_judgement : (task : Task) → IsLawful task → (totals : Totals) (place : ℕ) (octets : List ℕ) → begins octets ≡ true → (j : Judgement) → task.judge octets ≡ j
-    → answer_at task totals place octets ≡ answer_by task totals place octets (next_here task totals place octets)
-by_judgement task lawful totals place octets begun (Message total) so =
-    let least : 4 ≤ total = lawful.least octets total so in by_message task totals place octets total (omega arith) begun so
-by_judgement task lawful totals place octets begun (Faulty fault) so =
-    let here : Place = place_of totals.messages place totals.fields in
-    ap (answer_to task totals.messages totals.fields totals.written)
-    (stream_refused task.judge place totals.skipped octets (Faulty fault) (stream_of [] (Refusing fault)) begun so (λ next. refl))
-    ∙ ap (answer_by task totals place octets) (sym (judged task here octets (Faulty fault) so))
-
-pub answer_next : (task : Task) → IsLawful task → (totals : Totals) (place : ℕ) (octets : List ℕ) → begins octets ≡ true
-    → answer_at task totals place octets ≡ answer_by task totals place octets (next_here task totals place octets)
-answer_next task lawful totals place octets begun = by_judgement task lawful totals place octets begun (task.judge octets) refl
-
--- octets that begin no message
-pub answer_passed : (task : Task) (totals : Totals) (place n : ℕ) (octets : List ℕ) → n ≤ length octets → Markless n octets
-    → answer_at task totals place octets ≡ answer_at task (skipping totals n) (place + n) (drop n octets)
-answer_passed task totals place n octets within markless =
-    ap (answer_to task totals.messages totals.fields totals.written) (stream_passed task.judge place totals.skipped n octets within markless)
-
--- so few that no message begins in them
-pub answer_few : (task : Task) (totals : Totals) (place : ℕ) (octets : List ℕ) → length octets < 4
-    → answer_at task totals place octets ≡ done task (skipping totals (length octets))
-answer_few task totals place octets few =
-    let markless : Markless (length octets) octets = record {
-      none = λ k low. none_in_few (drop k octets) (omega (arith, length-drop k octets));
-    } in
-    answer_passed task totals place (length octets) octets (omega arith) markless
-    ∙ ap (answer_at task (skipping totals (length octets)) (place + length octets)) (drop_all (length octets) octets (omega arith))
+pub stops_never : (task : Task) (place : Place) (octets : List ℕ) (outcome : Outcome) → next_of task place octets ≡ Stops outcome
+    → ((at : Place) (message : List ℕ) → task.result at message ≢ Ends outcome) → ⊥
+stops_never task place octets outcome stops never = never_by task place octets outcome (task.judge octets) refl stops (never place)

@@ -143,3 +143,6 @@ unmarked_some octets at found =
 
 pub marked_some : (octets : List ℕ) (at : ℕ) → FindsNeedle octets indicator 0 (Some at) → begins (drop at octets) ≡ true
 marked_some octets at found = is_begun (drop at octets) (OccursAt-part octets indicator at found.1)
+
+pub begun_stays : (octets more : List ℕ) → begins octets ≡ true → begins (octets ++ more) ≡ true
+begun_stays octets more begun = begins_stays octets more 0 (let long : 4 ≤ length octets = begins_long octets begun in omega arith) ∙ begun

@@ -8,7 +8,7 @@ use Rattle.grib_io.specs.Outside.{AppendsFront}
 use Rattle.grib_io.specs.Shelves.{Held}
 use Rattle.grib_stream.specs.Acts.{Act, Writes, Makes, Adds, written, held_after, writes, World, world, NamesDid, Did, DidFront}
 
-written-append : (xs ys : List Act) → written (xs ++ ys) ≡ written xs ++ written ys
+pub written-append : (xs ys : List Act) → written (xs ++ ys) ≡ written xs ++ written ys
 written-append [] ys = refl
 written-append (Writes octet ∷ xs) ys = ap (λ octets. octet ∷ octets) (written-append xs ys)
 written-append (Makes name ∷ xs) ys = written-append xs ys
@@ -60,7 +60,7 @@ front_still a b c xs (front, rest, is, did) then = (front, rest, is, did_still a
 
 -- ---- octets for the output alone
 
-written-writes : (octets : List ℕ) → written (writes octets) ≡ octets
+pub written-writes : (octets : List ℕ) → written (writes octets) ≡ octets
 written-writes [] = refl
 written-writes (octet ∷ octets) = ap (λ xs. octet ∷ xs) (written-writes octets)
 

@@ -1,5 +1,5 @@
 -- The counts of faults of the four objects of a run, before and after.
-use Rattle.std.specs.Prelude.{◌≡◌, ◌≢◌, ℕ, ◌<◌, ◌≤◌, ◌⊎◌}
+use Rattle.std.specs.Prelude.{◌≡◌, ℕ, ◌<◌, ◌≤◌, ◌⊎◌}
 use Rattle.grib_io.specs.Outside.{Rose, Counted}
 use Rattle.grib_stream.specs.declared.outcome.Outcome.{Outcome}
 use Rattle.grib_stream.specs.declared.outcome.Outcome.TheVariants.{ReadFault, WriteFault, ShelfFault}
@@ -13,16 +13,6 @@ pub record Faults : Type 0 where
 
 abbrev pub faults : ℕ → ℕ → ℕ → ℕ → Faults
 faults input output notes shelf = record { input = input; output = output; notes = notes; shelf = shelf }
-
--- Before the end of a run, exactly: the count of the object that failed, and of no other.
-pub record CountsOne (outcome : Outcome) (before now : Faults) : Type 0 where
-  pub read : outcome ≡ ReadFault → Counted before.input now.input
-  pub read_calm : outcome ≢ ReadFault → now.input ≡ before.input
-  pub write : outcome ≡ WriteFault → Counted before.output now.output
-  pub write_calm : outcome ≢ WriteFault → now.output ≡ before.output
-  pub notes_calm : now.notes ≡ before.notes
-  pub shelf : outcome ≡ ShelfFault → Counted before.shelf now.shelf
-  pub shelf_calm : outcome ≢ ShelfFault → now.shelf ≡ before.shelf
 
 -- one of two objects counted a fault, and the count of the other did not change
 abbrev pub OneCounted : ℕ → ℕ → ℕ → ℕ → Type 0

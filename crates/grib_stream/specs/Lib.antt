@@ -5,6 +5,7 @@ pub mod Searching
 pub mod Acts
 pub mod Outcomes
 pub mod Task
+pub mod Texts
 pub mod Answer
 pub mod Reading
 pub mod Rest
@@ -12,6 +13,5 @@ pub mod Performed
 pub mod Hearing
 pub mod Listening
 pub mod Soon
-pub mod Turning
 pub mod Faults
 pub mod Run

@@ -4,6 +4,7 @@ use Rattle.std.specs.declared.option.Option.{Option}
 use Rattle.std.specs.declared.result.Result.{Result}
 use Rattle.std.specs.Io.KnownBytes.{IsAtEnd}
 use Rattle.grib_base.specs.declared.fault.Fault.{Fault}
+use Rattle.grib_base.specs.declared.fault.Refusal.{Refusal}
 use Rattle.grib_stream.specs.declared.outcome.Outcome.{Outcome}
 use Rattle.grib_stream.specs.declared.outcome.Outcome.TheVariants.{Refused, ReadFault, Memory, InputTooLong}
 use Rattle.grib_stream.specs.declared.place.Place.{Place}
@@ -13,9 +14,12 @@ use Rattle.grib_stream.specs.Stream.{Message}
 use Rattle.grib_stream.specs.Acts.{World, Did}
 use Rattle.grib_stream.specs.Task.{Task, next_of}
 use Rattle.grib_stream.specs.Performed.{Performs, EndsWith}
-use Rattle.grib_stream.specs.Turning.{refusal_at}
 use Rattle.grib_stream.specs.Reading.{Takes}
 use Rattle.grib_stream.specs.Hearing.{Heeds, IsRefused, IsCutOff, IsNoMessage}
+
+-- a refusal of the message at a place
+abbrev pub refusal_at : Place → Fault → Refusal
+refusal_at place fault = record { message = place.message; fault = fault }
 
 -- octets that were heard are refused, whatever follows
 abbrev pub RefusesHeard : Task → Place → Outcome → List ℕ → Type 0

@@ -10,9 +10,3 @@ abbrev pub Stands : Rest → ℕ → ℕ → ℕ → Option (List ℕ) → Type 
 Stands Open wanted size left now = wanted ≤ size
 Stands Full wanted size left now = left ≡ 0
 Stands Ended wanted size left now = IsAtEnd now
-
--- whether more may be read, as a number
-abbrev pub turns_left : Rest → ℕ
-turns_left Open = 1
-turns_left Full = 0
-turns_left Ended = 0

@@ -1,13 +1,17 @@
 //! The octets that a message still wants are read.
 
-ghost use Rattle.std.specs.Prelude.{◌≡◌, ◌<◌, ◌≤◌, ◌+◌, ◌⊎◌, max, length, IfOk, OnErr};
-ghost use Rattle.grib_io.specs.Outside.{CountsStops};
+ghost use Rattle.std.specs.Prelude.{◌≡◌, ◌≢◌, ◌<◌, ◌≤◌, ◌+◌, ◌⊎◌, max, length, IfOk, IfErr, OnOk, OnErr};
+ghost use Rattle.grib_io.specs.Outside.{Counted, CountsStops};
 ghost use Rattle.grib_stream.specs.Reading.{Gathers, Probes};
 ghost use Rattle.grib_stream.specs.Rest.{Stands};
+ghost use Rattle.grib_stream.specs.declared.outcome.Outcome.TheVariants.{ReadFault, Memory};
 
 use crate::outcome::Outcome;
 use crate::window::{READ, Window, read_behind};
 use grib_io::{Source, Stop};
+
+/// The most octets of an input that are answered.
+pub const LIMIT: u64 = 1_099_511_627_776;
 
 /// What may still be read of an input.
 #[derive(Clone, Copy, Debug, PartialEq, Eq)]
@@ -62,6 +66,39 @@ fn room_for(wanted: usize, there: usize) -> usize
     ensures short { there + result ≤ max wanted 65536 }
 {
     (wanted.max(READ) - there).min(READ)
+}
+
+/// Reads as much as is wanted, as far as the input goes and as much may be taken.
+///
+/// # Errors
+///
+/// The input failed, or there is no memory: the outcome of the run.
+pub fn read_on<S: Source>(
+    window: &mut Window,
+    input: &mut S,
+    wanted: u64,
+    left: &mut u64,
+) -> Result<Rest, Outcome>
+    requires few { length window.old.octets < wanted }
+    ensures gathers { Gathers (S.left input.old) (S.left input.new) window.old.octets window.new.octets
+        left.old left.new }
+    ensures stands { IfOk result
+        (λ rest. Stands rest wanted (length window.new.octets) left.new (S.left input.new)) }
+    ensures few { OnErr result (length window.new.octets < wanted) }
+    ensures short { length window.new.octets ≤ max wanted 65536 }
+    ensures room { window.new.room ≤ max window.old.room (wanted + 65536) }
+    ensures one_of { IfErr result (λ outcome. (outcome ≡ ReadFault) ⊎ (outcome ≡ Memory)) }
+    ensures read_fault { IfErr result (λ outcome. outcome ≡ ReadFault
+        → Counted (S.faults input.old) (S.faults input.new)) }
+    ensures read_calm { IfErr result (λ outcome. outcome ≢ ReadFault
+        → S.faults input.new ≡ S.faults input.old) }
+    ensures calm { OnOk result (S.faults input.new ≡ S.faults input.old) }
+{
+    match gather(window, input, wanted as usize, left) {
+        Ok(rest) => Ok(rest),
+        Err(Stop::Failed) => Err(Outcome::ReadFault),
+        Err(Stop::Memory) => Err(Outcome::Memory),
+    }
 }
 
 /// Takes one octet more than is answered, which shows whether the input is too long.

@@ -5,8 +5,7 @@ ghost use Rattle.grib_io.specs.Outside.{Counted, CountsStops, Unfinished};
 ghost use Rattle.grib_io.specs.Shelves.{Held};
 ghost use Rattle.grib_stream.specs.Acts.{world};
 ghost use Rattle.grib_stream.specs.Hearing.{Listens};
-ghost use Rattle.grib_stream.specs.Listening.{AnswersHeard};
-ghost use Rattle.grib_stream.specs.Turning.{refusal_at};
+ghost use Rattle.grib_stream.specs.Listening.{AnswersHeard, refusal_at};
 ghost use Rattle.grib_stream.specs.declared.outcome.Outcome.TheVariants.{Refused, ReadFault, WriteFault, ShelfFault};
 
 use crate::gathering::{Rest, gather, probe};
@@ -72,7 +71,7 @@ pub(crate) fn listen<K: Performer, S: Source>(
 
 /// Hears the message with which the octets of the window begin, and answers it where it is whole. Else it
 /// answers how the run ends.
-pub(crate) fn answer_heard<K: Performer, S: Source, T: Sink>(
+pub fn answer_heard<K: Performer, S: Source, T: Sink>(
     performer: &K,
     alloc: Global,
     place: &Place,

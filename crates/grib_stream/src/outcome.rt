@@ -1,9 +1,10 @@
 //! How a run ends.
 
 ghost use Rattle.std.specs.Prelude.{◌≡◌};
+ghost use Rattle.grib_stream.specs.Outcomes as outcomes;
 ghost use Rattle.grib_stream.specs.Outcomes.{status_of};
 
-use grib_base::Refusal;
+use grib_base::{Fault, Reason, Refusal};
 use grib_reasons::{Kept, TableRefusal};
 
 /// How a run ends.
@@ -53,4 +54,11 @@ impl Outcome {
             Outcome::InputTooLong => 9,
         }
     }
+}
+
+/// Whether octets are refused only for their end, so that more of them may be accepted.
+pub fn is_truncated(fault: &Fault) -> bool
+    ensures { result ≡ outcomes.is_truncated fault.now.reason }
+{
+    matches!(fault.reason, Reason::Truncated)
 }

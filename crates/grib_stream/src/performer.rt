@@ -1,6 +1,6 @@
 //! What answers the messages of an input.
 
-ghost use Rattle.std.specs.Prelude.{◌≡◌, ◌≢◌, ℕ, ◌≤◌, ◌<◌, ◌+◌, ◌^◌, Bool, true, false, Option, List, [], ◌++◌, length, take, Err, OnOk, OnErr, IfErr};
+ghost use Rattle.std.specs.Prelude.{◌≡◌, ◌≢◌, ℕ, ◌≤◌, ◌<◌, ◌+◌, ◌^◌, Bool, true, false, Option, List, [], ◌++◌, length, take, Err, OnOk, OnErr, IfOk, IfErr};
 ghost use Rattle.grib_io.specs.Outside.{Counted, Unfinished};
 ghost use Rattle.grib_io.specs.Shelves.{Held};
 ghost use Rattle.grib_stream.specs.Stream.{begins, Message};
@@ -8,6 +8,7 @@ ghost use Rattle.grib_stream.specs.Acts.{world, Did, DidFront};
 ghost use Rattle.grib_stream.specs.Task.{Task, IsLawful, next_of};
 ghost use Rattle.grib_stream.specs.Outcomes.{is_cut_short};
 ghost use Rattle.grib_stream.specs.Performed.{Performs, performed_of};
+ghost use Rattle.grib_stream.specs.Texts.{Texts, States};
 ghost use Rattle.grib_stream.specs.declared.performer.Performed.TheVariants.{Ends};
 ghost use Rattle.grib_stream.specs.declared.outcome.Outcome.TheVariants.{WriteFault, ShelfFault};
 
@@ -16,7 +17,8 @@ use crate::outcome::Outcome;
 use crate::place::{Place, Totals};
 use grib_base::Fault;
 use grib_io::{Shelf, Sink};
-use std::alloc::Global;
+use grib_reasons::Kept;
+use std::alloc::{AllocError, Global};
 
 /// A message that was answered: its octets, its fields, and the octets of its result as far as they are
 /// counted.
@@ -25,6 +27,13 @@ pub struct Whole {
     pub octets: u64,
     pub fields: u64,
     pub written: u64,
+}
+
+/// The octets and the fields of a message.
+#[derive(Clone, Copy, Debug, PartialEq, Eq)]
+pub struct Extent {
+    pub octets: u64,
+    pub fields: u64,
 }
 
 /// What came of the octets from a `GRIB` on.
@@ -38,8 +47,8 @@ pub enum Performed {
     Ends(Outcome),
 }
 
-/// Answers the messages of an input, one after another. What is to be done is a `Task`, which a run knows
-/// only as far as its laws go.
+/// Answers the messages of an input, one after another, and tells what a run has to know to go past those that are
+/// refused or kept. What is to be done is a `Task`, which a run knows only as far as its laws go.
 pub trait Performer {
     ghost use Rattle.grib_stream.specs.Performed.{Performs, performed_of};
 
@@ -49,22 +58,14 @@ pub trait Performer {
     /// What is to be done.
     ghost task: { Self → Task };
 
+    /// The lines that are noted of what is refused or kept.
+    ghost texts: { Self → Texts };
+
     /// Whether the shelf is used. Else it stays as it is, and the run does not end with its fault.
     ghost uses_shelf: { Self → Bool };
 
     /// Whether a message that begins with these eight octets is heard, so that it need not be held whole.
     ghost hears: { Self → List ℕ → Bool };
-
-    /// The length that octets from a `GRIB` on state, as far as it stands in them.
-    ghost stated: { Self → List ℕ → ℕ };
-
-    /// How many octets a message has at least that begins with these, which begin with `GRIB`: as many as
-    /// it states.
-    fn wanted(&self, octets: &[u8]) -> u64
-        requires { begins octets.now ≡ true }
-        ensures stated { stated self.now octets.now ≤ result }
-        ensures least { (more : List ℕ) (total : ℕ) → (task self.now).judge (octets.now ++ more) ≡ Message total
-            → result ≤ total };
 
     /// Whether the message that begins with these octets is heard, of which there are eight at least.
     fn is_heard(&self, octets: &[u8]) -> bool
@@ -124,6 +125,27 @@ pub trait Performer {
         ensures unfinished { Unfinished (T.settled output.old) (T.settled output.new) }
         ensures unshelved { result ≢ Err ShelfFault };
 
+    /// The octets and the fields of the message that these octets begin with.
+    fn whole(&self, alloc: Global, octets: &[u8]) -> Result<Extent, AllocError>
+        requires begun { begins octets.now ≡ true }
+        requires accepted { (total : ℕ) × ((task self.now).judge octets.now ≡ Message total) }
+        ensures octets { IfOk result (λ extent. (task self.now).judge octets.now ≡ Message extent.octets) }
+        ensures fields { IfOk result (λ extent. (task self.now).fields (take extent.octets octets.now) ≡ extent.fields) };
+
+    /// The line that is noted of a refusal, whose octets are copied or not.
+    fn refused_line(
+        &self,
+        alloc: Global,
+        copied: bool,
+        place: &Place,
+        fault: &Fault,
+    ) -> Result<Vec<u8>, AllocError>
+        ensures { IfOk result (λ line. line.items ≡ (texts self.now).refused copied place.now fault.now) };
+
+    /// The line that is noted of a kept message.
+    fn kept_line(&self, alloc: Global, place: &Place, kept: &Kept) -> Result<Vec<u8>, AllocError>
+        ensures { IfOk result (λ line. line.items ≡ (texts self.now).kept place.now kept.now) };
+
     /// Does what is to be done at the end of the input, by the output alone.
     fn finish<T: Sink>(&self, alloc: Global, totals: &Totals, output: &mut T) -> Result<(), Outcome>
         ensures done { OnOk result ((names : Option Held) → Did (world (T.contents output.old) names)
@@ -137,6 +159,9 @@ pub trait Performer {
             → T.faults output.new ≡ T.faults output.old) }
         ensures calm { OnOk result (T.faults output.new ≡ T.faults output.old) }
         ensures unfinished { Unfinished (T.settled output.old) (T.settled output.new) };
+
+    /// An accepted length is the one that is stated.
+    ghost states: { (performer : Self) (octets : List ℕ) (total : ℕ) → (task performer).judge octets ≡ Message total → States octets total };
 
     ghost lawful: { (performer : Self) → IsLawful (task performer) };
 

@@ -17,13 +17,15 @@ grib set KEY=VALUE ..                             new values of keys\n\
 grib repack to=0|2|3|least [order=1|2]            fields packed anew\n\
 grib migrate params=FILE [local=keep]             edition 1 to edition 2\n\
 grib demote params=FILE [local=keep] [earth=any]  edition 2 to edition 1\n\
+grib demote .. [tables=any]                       by records of any tables\n\
 grib rescan                                       points in scanning mode 0\n\
 grib crop i0=N i1=N j0=N j1=N                     a box of each grid\n\
 grib make seed=N ni=N nj=N to=0|2|3 [order=1|2]   a message made from a number\n\
 grib help                                         this page\n\
 grib version                                      the version of this program\n\
 Beside these words, in any place:\n\
-check to crop  [refused=pass]                     on behind what is refused\n\
+check to stats [refused=pass]                     on behind what is refused\n\
+filter to crop [refused=copy|pass]                the same, or copied\n\
 filter to crop [kept=copy|pass], dump [kept=pass] on behind what is kept\n\
 Messages come from standard input and go to standard output. The pages: man grib\n\
 ";

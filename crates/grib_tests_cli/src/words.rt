@@ -38,7 +38,7 @@ fn command_of(asked: &Result<Job, JobFault>) -> &'static str {
 }
 
 // Lines that are read, each as the command that its first word names.
-const READ: [&str; 55] = [
+const READ: [&str; 57] = [
     // Each command has its name.
     "check",
     "list",
@@ -55,6 +55,8 @@ const READ: [&str; 55] = [
     "repack kept=copy to=2 refused=pass",
     "filter refused=pass centre=98",
     "dump kept=pass decimals=3",
+    "set centre=98 refused=copy kept=copy",
+    "demote tables=any params=t",
     // `dump` takes a number of decimals.
     "dump decimals=0",
     "dump decimals=18",
@@ -269,11 +271,12 @@ const UNREAD_PAGES: [(u64, &str); 8] = [
 ];
 
 /// Lines with words on what a run goes past that are not read.
-const UNREAD_PAST: [(u64, &str); 8] = [
+const UNREAD_PAST: [(u64, &str); 9] = [
     (1, "check refused=skip"),
     (2, "list refused=pass refused=pass"),
     // What keeps no message has no word on that, and `dump` copies none.
     (1, "keys kept=pass"),
+    (1, "stats refused=copy"),
     (2, "dump decimals=3 kept=copy"),
     (2, "rescan kept=copy kept=pass"),
     // A word on what is passed is no condition.

@@ -3,3 +3,5 @@
 
 #[cfg(test)]
 mod demotions;
+#[cfg(test)]
+mod tables;

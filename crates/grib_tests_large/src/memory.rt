@@ -34,6 +34,10 @@ impl Sink for Scarce {
         self.sink.write(piece)
     }
 
+    fn pass_on(&mut self) -> Result<(), Stop> {
+        self.sink.pass_on()
+    }
+
     fn finish(&mut self) -> Result<(), Stop> {
         self.finishes = self.finishes.saturating_add(1);
         self.sink.finish()

@@ -40,6 +40,26 @@ fn large_messages_that_are_refused_are_passed(rt: HostRuntime) -> Result<(), Fai
 }
 
 #[test]
+fn large_messages_that_are_refused_are_copied(rt: HostRuntime) -> Result<(), Fail> {
+    let mut refused = message(rt.alloc(), LARGE, &HOURS)?;
+    put(&mut refused, 50, &[0, 2]);
+    let octets = five_pairs(rt.alloc(), refused.as_slice())?;
+    let notes = "copied message 2 at 600443 octet 50 GridTemplate 2\n\
+                 copied message 3 at 1801329 octet 50 GridTemplate 2\n\
+                 copied message 4 at 3002215 octet 50 GridTemplate 2\n\
+                 copied message 5 at 4203101 octet 50 GridTemplate 2\n\
+                 copied message 6 at 5403987 octet 50 GridTemplate 2\n\
+                 messages 5 fields 25 written 6004430 refused 5 kept 0\n";
+    let packed = ran(rt.alloc(), "repack to=0 refused=copy", octets.as_slice())?;
+    let outcome = Outcome::Passed {
+        refused: 5,
+        kept: 0,
+    };
+    assert!(rt; packed.gave(outcome, octets.as_slice(), notes));
+    Ok(())
+}
+
+#[test]
 fn large_messages_that_are_kept_are_copied(rt: HostRuntime) -> Result<(), Fail> {
     // Of edition 1, of 120,084 octets each. A field that is picked is a message of 120,179 octets.
     let first = first(rt.alloc())?;

@@ -147,3 +147,45 @@ fn repack_copies_or_leaves_out_edition_1(rt: HostRuntime) -> Result<(), Fail> {
     );
     Ok(())
 }
+
+// Whether `filter` of the messages of 2024 copies what is refused: these octets and these notes.
+fn copies(alloc: Global, octets: &[u8], wanted: &[u8], notes: &str) -> Result<bool, AllocError> {
+    gives(
+        alloc,
+        "filter refused=copy year=2024",
+        octets,
+        passed(1, 0),
+        wanted,
+        notes,
+    )
+}
+
+// What has a stated end is copied, with what the filter has picked before and behind it; three octets between them are
+// not.
+#[test]
+fn refused_octets_are_copied_up_to_their_end(rt: HostRuntime) -> Result<(), Fail> {
+    let alloc = rt.alloc();
+    let refused = edited(alloc, &PLAIN, &[(154, 40)])?;
+    let mut octets = PLAIN.to_vec(alloc)?;
+    octets.extend_from_slice(b"abc")?;
+    octets.extend_from_slice(refused.as_slice())?;
+    octets.extend_from_slice(&PLAIN)?;
+    let mut wanted = PLAIN.to_vec(alloc)?;
+    wanted.extend_from_slice(refused.as_slice())?;
+    wanted.extend_from_slice(&PLAIN)?;
+    let notes = "copied message 2 at 186 octet 153 Jpeg2000 40\n\
+                 messages 2 fields 2 written 549 refused 1 kept 0\n";
+    assert!(rt; copies(alloc, octets.as_slice(), wanted.as_slice(), notes)?);
+    Ok(())
+}
+
+#[test]
+fn a_mark_alone_is_not_copied(rt: HostRuntime) -> Result<(), Fail> {
+    let alloc = rt.alloc();
+    let mut octets = b"GRIB\0\0\0".to_vec(alloc)?;
+    octets.extend_from_slice(&PLAIN)?;
+    let notes = "refused message 1 at 0 octet 8 Edition 71\n\
+                 messages 1 fields 1 written 183 refused 1 kept 0\n";
+    assert!(rt; copies(alloc, octets.as_slice(), &PLAIN, notes)?);
+    Ok(())
+}

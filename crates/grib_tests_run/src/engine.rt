@@ -7,9 +7,9 @@ use grib_engine::{
     Answering, ByOutput, Cause, Checking, Job, Kept, Outcome, Totals, close, close_with_note, serve,
 };
 use grib_io::{CalmSink, CalmSource, MemoryShelf, MemorySink, MemorySource, Sink};
+use grib_items::{ItemTotals, Policy, answer_items};
 use grib_keys::Key;
 use grib_samples::{PLAIN, TWO_FIELDS};
-use grib_stream::answer_within;
 use std::alloc::{AllocError, Global};
 use std::test::Fail;
 
@@ -84,23 +84,35 @@ fn pieces_of_any_size_give_the_same(rt: HostRuntime) -> Result<(), Fail> {
     Ok(())
 }
 
+/// Checks the messages of an input, of which this many octets are answered at most.
+fn check_within(
+    alloc: Global,
+    limit: u64,
+    input: &mut CalmSource,
+    output: &mut CalmSink,
+) -> Result<ItemTotals, Outcome>
+    requires { limit ≤ 2 ^ 40 }
+{
+    let answering = Answering {
+        answerer: &ByOutput(Checking),
+    };
+    let policy = Policy {
+        refused: None,
+        kept: None,
+    };
+    let mut notes = CalmSink::new(alloc, 100);
+    let mut shelf = MemoryShelf::new(alloc, Vec::new(alloc));
+    answer_items(
+        &answering, alloc, policy, limit, input, output, &mut notes, &mut shelf,
+    )
+}
+
 #[test]
 fn an_input_past_the_limit_is_answered_to_it(rt: HostRuntime) -> Result<(), Fail> {
     for limit in 0..445 {
         let mut input = CalmSource::new(stream(rt.alloc())?, 13);
         let mut output = CalmSink::new(rt.alloc(), 100);
-        let mut shelf = MemoryShelf::new(rt.alloc(), Vec::new(rt.alloc()));
-        let answering = Answering {
-            answerer: &ByOutput(Checking),
-        };
-        let outcome = answer_within(
-            &answering,
-            rt.alloc(),
-            limit,
-            &mut input,
-            &mut output,
-            &mut shelf,
-        );
+        let outcome = check_within(rt.alloc(), limit, &mut input, &mut output);
         assert!(rt; outcome == Err(Outcome::InputTooLong));
         assert!(rt; output.octets() == within(limit));
     }
@@ -111,23 +123,16 @@ fn an_input_past_the_limit_is_answered_to_it(rt: HostRuntime) -> Result<(), Fail
 fn an_input_as_long_as_the_limit_is_answered(rt: HostRuntime) -> Result<(), Fail> {
     let mut input = CalmSource::new(stream(rt.alloc())?, 13);
     let mut output = CalmSink::new(rt.alloc(), 100);
-    let mut shelf = MemoryShelf::new(rt.alloc(), Vec::new(rt.alloc()));
-    let answering = Answering {
-        answerer: &ByOutput(Checking),
-    };
-    let outcome = answer_within(
-        &answering,
-        rt.alloc(),
-        445,
-        &mut input,
-        &mut output,
-        &mut shelf,
-    );
-    let totals = Totals {
-        messages: 2,
-        fields: 3,
-        skipped: 10,
-        written: 0,
+    let outcome = check_within(rt.alloc(), 445, &mut input, &mut output);
+    let totals = ItemTotals {
+        counted: Totals {
+            messages: 2,
+            fields: 3,
+            skipped: 10,
+            written: 0,
+        },
+        refused: 0,
+        kept: 0,
     };
     assert!(rt; outcome == Ok(totals));
     assert!(rt; output.octets() == ALL);

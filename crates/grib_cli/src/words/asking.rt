@@ -12,6 +12,7 @@ use super::values::{key_value, number_of};
 use super::{JobFault, has_name, is_named};
 use grib_engine::{Area, Conditions, Job, Name, Page, RepackTarget};
 use grib_keys::{Condition, Key};
+use grib_params::TableMatch;
 use std::alloc::{AllocError, Global};
 
 /// The job of a command with these words behind it, which it reads.
@@ -49,11 +50,23 @@ pub(super) fn job_of_command(
             params: name_by(alloc, words, "params")?,
             keep_local: has_name(words, "local"),
             any_earth: has_name(words, "earth"),
+            matching: matching_of(words),
         }),
         Command::Rescan => Ok(Job::Rescan),
         Command::Crop => Ok(Job::Crop(area_of(words))),
         Command::Help => Ok(Job::Print(Page::Help)),
         Command::Version => Ok(Job::Print(Page::Version)),
+    }
+}
+
+/// Which tables a record of the parameter table may have.
+fn matching_of(words: &[String]) -> TableMatch
+    ensures { result ≡ asked.matching_of (map string_bytes words.now) }
+{
+    if has_name(words, "tables") {
+        TableMatch::Any
+    } else {
+        TableMatch::Same
     }
 }
 

@@ -17,25 +17,27 @@ returns-in_err-told c =
     let m = c.args.message.now in
     let i = c.args.field in
     let table = c.args.table.now in
+    let matching = c.args.matching in
     let is = c.of-parts.ensures in
     let parts = c.of-parts.result in
-    let xs = product_losses table (discipline m) (part_octets m i 1) (part_octets m i 3) (part_octets m i 4) in
-    let same = product_is table parts.discipline (discipline m) parts.identification.now (part_octets m i 1) parts.grid.now (part_octets m i 3) parts.product.now (part_octets m i 4) is.discipline is.identification is.grid is.product in
-    lost_carried _ (first_loss table c.args.keep_local c.args.any_earth m i) c.from_residual.result _ c.from_residual.ensures.1
-    (front_lost xs (shape_losses c.args.keep_local c.args.any_earth m i) (value_losses m i) (λ _. length_loss (length (demoted table c.args.keep_local m i))) _ (sym same ∙ c.in_err-told.ensures))
+    let xs = product_losses table matching (discipline m) (part_octets m i 1) (part_octets m i 3) (part_octets m i 4) in
+    let same = product_is table matching parts.discipline (discipline m) parts.identification.now (part_octets m i 1) parts.grid.now (part_octets m i 3) parts.product.now (part_octets m i 4) is.discipline is.identification is.grid is.product in
+    lost_carried _ (first_loss table matching c.args.keep_local c.args.any_earth m i) c.from_residual.result _ c.from_residual.ensures.1
+    (front_lost xs (shape_losses c.args.keep_local c.args.any_earth m i) (value_losses m i) (λ _. length_loss (length (demoted table matching c.args.keep_local m i))) _ (sym same ∙ c.in_err-told.ensures))
 
 pub returns-in_err-grid : goal.returns-in_err-grid
 returns-in_err-grid c =
     let m = c.args.message.now in
     let i = c.args.field in
     let table = c.args.table.now in
+    let matching = c.args.matching in
     let is = c.of-parts.ensures in
     let parts = c.of-parts.result in
-    let xs = product_losses table (discipline m) (part_octets m i 1) (part_octets m i 3) (part_octets m i 4) in
+    let xs = product_losses table matching (discipline m) (part_octets m i 1) (part_octets m i 3) (part_octets m i 4) in
     let ys = shape_losses c.args.keep_local c.args.any_earth m i in
-    let same = product_is table parts.discipline (discipline m) parts.identification.now (part_octets m i 1) parts.grid.now (part_octets m i 3) parts.product.now (part_octets m i 4) is.discipline is.identification is.grid is.product in
-    fault_carried _ (first_of ys) (first_loss table c.args.keep_local c.args.any_earth m i) c.from_residual-in_err-grid.result _ c.from_residual-in_err-grid.ensures.1
-    (λ (loss : Demotion) (e : first_of ys ≡ Some loss). middle_lost xs ys (value_losses m i) (λ _. length_loss (length (demoted table c.args.keep_local m i))) loss (sym same ∙ c.in_ok-told.ensures.0) e)
+    let same = product_is table matching parts.discipline (discipline m) parts.identification.now (part_octets m i 1) parts.grid.now (part_octets m i 3) parts.product.now (part_octets m i 4) is.discipline is.identification is.grid is.product in
+    fault_carried _ (first_of ys) (first_loss table matching c.args.keep_local c.args.any_earth m i) c.from_residual-in_err-grid.result _ c.from_residual-in_err-grid.ensures.1
+    (λ (loss : Demotion) (e : first_of ys ≡ Some loss). middle_lost xs ys (value_losses m i) (λ _. length_loss (length (demoted table matching c.args.keep_local m i))) loss (sym same ∙ c.in_ok-told.ensures.0) e)
     c.in_err-grid.ensures
 
 pub returns-in_err-packed : goal.returns-in_err-packed
@@ -43,14 +45,15 @@ returns-in_err-packed c =
     let m = c.args.message.now in
     let i = c.args.field in
     let table = c.args.table.now in
+    let matching = c.args.matching in
     let is = c.of-parts.ensures in
     let parts = c.of-parts.result in
-    let xs = product_losses table (discipline m) (part_octets m i 1) (part_octets m i 3) (part_octets m i 4) in
+    let xs = product_losses table matching (discipline m) (part_octets m i 1) (part_octets m i 3) (part_octets m i 4) in
     let ys = shape_losses c.args.keep_local c.args.any_earth m i in
     let zs = value_losses m i in
-    let same = product_is table parts.discipline (discipline m) parts.identification.now (part_octets m i 1) parts.grid.now (part_octets m i 3) parts.product.now (part_octets m i 4) is.discipline is.identification is.grid is.product in
-    fault_carried _ (first_of zs) (first_loss table c.args.keep_local c.args.any_earth m i) c.from_residual-in_err-packed.result _ c.from_residual-in_err-packed.ensures.1
-    (λ (loss : Demotion) (e : first_of zs ≡ Some loss). last_lost xs ys zs (λ _. length_loss (length (demoted table c.args.keep_local m i))) loss (sym same ∙ c.in_ok-told.ensures.0) c.in_ok-grid.ensures.0 e)
+    let same = product_is table matching parts.discipline (discipline m) parts.identification.now (part_octets m i 1) parts.grid.now (part_octets m i 3) parts.product.now (part_octets m i 4) is.discipline is.identification is.grid is.product in
+    fault_carried _ (first_of zs) (first_loss table matching c.args.keep_local c.args.any_earth m i) c.from_residual-in_err-packed.result _ c.from_residual-in_err-packed.ensures.1
+    (λ (loss : Demotion) (e : first_of zs ≡ Some loss). last_lost xs ys zs (λ _. length_loss (length (demoted table matching c.args.keep_local m i))) loss (sym same ∙ c.in_ok-told.ensures.0) c.in_ok-grid.ensures.0 e)
     c.in_err-packed.ensures
 
 pub returns-in_err-sections : goal.returns-in_err-sections
@@ -61,16 +64,17 @@ returns c =
     let m = c.args.message.now in
     let i = c.args.field in
     let table = c.args.table.now in
+    let matching = c.args.matching in
     let keep = c.args.keep_local in
     let is = c.of-parts.ensures in
     let parts = c.of-parts.result in
-    let xs = product_losses table (discipline m) (part_octets m i 1) (part_octets m i 3) (part_octets m i 4) in
+    let xs = product_losses table matching (discipline m) (part_octets m i 1) (part_octets m i 3) (part_octets m i 4) in
     let ys = shape_losses keep c.args.any_earth m i in
     let zs = value_losses m i in
-    let same = product_is table parts.discipline (discipline m) parts.identification.now (part_octets m i 1) parts.grid.now (part_octets m i 3) parts.product.now (part_octets m i 4) is.discipline is.identification is.grid is.product in
-    let nothing = none_lost xs ys zs (λ _. length_loss (length (demoted table keep m i))) (sym same ∙ c.in_ok-told.ensures.0) c.in_ok-grid.ensures.0 c.in_ok-packed.ensures.0 in
+    let same = product_is table matching parts.discipline (discipline m) parts.identification.now (part_octets m i 1) parts.grid.now (part_octets m i 3) parts.product.now (part_octets m i 4) is.discipline is.identification is.grid is.product in
+    let nothing = none_lost xs ys zs (λ _. length_loss (length (demoted table matching keep m i))) (sym same ∙ c.in_ok-told.ensures.0) c.in_ok-grid.ensures.0 c.in_ok-packed.ensures.0 in
     let points = c.u32_at-points.ensures ∙ ap grid_points is.grid in
-    let sections = sections_are table keep m i c.in_ok-told.told parts.discipline parts.identification.now parts.local.now parts.product.now parts.packing.now c.as_slice.result.now c.in_ok-packed.packed c.u32_at-points.result
+    let sections = sections_are table matching keep m i c.in_ok-told.told parts.discipline parts.identification.now parts.local.now parts.product.now parts.packing.now c.as_slice.result.now c.in_ok-packed.packed c.u32_at-points.result
     is.discipline is.identification is.local is.product is.packing c.in_ok-told.ensures.1 (c.as_slice.ensures.value ∙ c.in_ok-grid.ensures.1) c.in_ok-packed.ensures.1 points in
-    whole_carried (λ v. v.items) c.whole_message.result c.as_slice-2.result.now (demoted_sections table keep m i) (first_loss table keep c.args.any_earth m i)
+    whole_carried (λ v. v.items) c.whole_message.result c.as_slice-2.result.now (demoted_sections table matching keep m i) (first_loss table matching keep c.args.any_earth m i)
     (c.as_slice-2.ensures.value ∙ c.in_ok-sections.ensures ∙ sections) nothing c.whole_message.ensures

@@ -14,6 +14,6 @@ returns-in-Ok-extend_from_slice c = (
 
 pub returns : goal.returns
 returns c =
-    let loss = first_loss c.args.table.now c.args.demoting.keep_local c.args.demoting.any_earth c.args.message.now c.args.field in
-    subst (IsKept (field_cause c.args.table.now c.args.demoting.keep_local c.args.demoting.any_earth c.args.message.now c.args.field)) (sym c.kept_by.ensures)
+    let loss = first_loss c.args.demoting.now.table.now c.args.demoting.now.matching c.args.demoting.now.keep_local c.args.demoting.now.any_earth c.args.message.now c.args.field in
+    subst (IsKept (field_cause c.args.demoting.now.table.now c.args.demoting.now.matching c.args.demoting.now.keep_local c.args.demoting.now.any_earth c.args.message.now c.args.field)) (sym c.kept_by.ensures)
     (not_demoted c.args.field loss c.in-Err.fault c.in-Err.ensures)

@@ -7,6 +7,6 @@ use Rattle.grib_edit.proofs.demoting.demote_fields.Given as goal
 -- the fields so far have no cause, and were added
 abbrev pub invariant-loop-index : goal.invariant-loop-index
 invariant-loop-index l = record {
-  none : first_cause (field_cause l.table l.demoting.keep_local l.demoting.any_earth l.message) l.index 1 ≡ None;
-  added : l.octets.items ≡ texts_from (demoted l.table l.demoting.keep_local l.message) l.index 1;
+  none : first_cause (field_cause l.demoting.table.now l.demoting.matching l.demoting.keep_local l.demoting.any_earth l.message) l.index 1 ≡ None;
+  added : l.octets.items ≡ texts_from (demoted l.demoting.table.now l.demoting.matching l.demoting.keep_local l.message) l.index 1;
 }

@@ -2,9 +2,9 @@ use Rattle.std.proofs.Common.{◌≡◌, ℕ, List, ◌++◌, None, ap, ◌∙�
 use Rattle.grib_bits.specs.Encoding.{section_of, all_octets}
 use Rattle.grib_migrate.specs.Losses.{first_of, number_losses, coordinate_loss, reference_loss}
 use Rattle.grib_migrate.specs.Grids.{grid_loss, grid_octets}
-use Rattle.grib_migrate.specs.Products.{identification_numbers, product_octets}
+use Rattle.grib_migrate.specs.Products.{identification_numbers, product_octets_by}
 use Rattle.grib_migrate.specs.Values.{packing_numbers}
-use Rattle.grib_migrate.specs.Migrated.{local_section}
+use Rattle.grib_migrate.specs.Labels.{local_section_by}
 use Rattle.grib1_sections.specs.Coordinates.{coordinate_list}
 use Rattle.grib_migrate.proofs.Joining.{second_lost_at, third_lost, fault_carried, none_lost, five_joined, memory_lost, section_short, local_short, five_short}
 use Rattle.grib_migrate.proofs.migrating.front_sections.Goals as goal
@@ -47,11 +47,11 @@ returns c =
     let at_3 = c.add_section-2.new.out.items in
     let at_4 = c.add_section-3.new.out.items in
     let at_5 = c.add_section-4.new.out.items in
-    let words_are = ap (λ (words : List ℕ). product_octets p.target s1 words p.unit p.surfaces) c.requires.coordinates in
+    let words_are = ap (λ (words : List ℕ). product_octets_by p.member p.target s1 words p.unit p.surfaces) c.requires.coordinates in
     let x1 = section_of 1 (all_octets (identification_numbers p.target s1)) in
-    let x2 = local_section c.args.keep_local s1 in
+    let x2 = local_section_by c.args.local s1 in
     let x3 = section_of 3 (grid_octets s.points s.grid.now) in
-    let x4 = section_of 4 (product_octets p.target s1 (coordinate_list s.grid.now) p.unit p.surfaces) in
+    let x4 = section_of 4 (product_octets_by p.member p.target s1 (coordinate_list s.grid.now) p.unit p.surfaces) in
     let x5 = section_of 5 (all_octets (packing_numbers s1 s.numbers.now s.values)) in
     let joined : at_5 ≡ x1 ++ (x2 ++ (x3 ++ (x4 ++ x5))) =
     five_joined x1 x2 x3 x4 x5 at_0 at_1 at_2 at_3 at_4 at_5 c.new-front.ensures.items
@@ -63,8 +63,8 @@ returns c =
     let brief : length at_5 ≤ 2 ^ 30 =
     five_short x1 x2 x3 x4 x5 at_5 joined
     (section_short 1 100 c.in_ok-identification.identification.items (all_octets (identification_numbers p.target s1)) c.in_ok-identification.ensures.octets c.in_ok-identification.ensures.few)
-    (local_short c.args.keep_local s1 c.few_octets.ensures)
+    (local_short c.args.local s1 c.few_octets.ensures)
     (section_short 3 131500 c.in_ok-grid.grid.items (grid_octets s.points s.grid.now) c.in_ok-grid.ensures.octets.1 c.in_ok-grid.ensures.octets.2)
-    (section_short 4 2000 _ (product_octets p.target s1 (coordinate_list s.grid.now) p.unit p.surfaces) (c.in_ok-product.ensures.1 ∙ words_are) c.in_ok-product.ensures.2)
+    (section_short 4 2000 _ (product_octets_by p.member p.target s1 (coordinate_list s.grid.now) p.unit p.surfaces) (c.in_ok-product.ensures.1 ∙ words_are) c.in_ok-product.ensures.2)
     (section_short 5 100 _ (all_octets (packing_numbers s1 s.numbers.now s.values)) c.in_ok-packing.ensures.1 c.in_ok-packing.ensures.2) in
     (none, joined, brief)

@@ -1,8 +1,8 @@
-use Rattle.grib_run_law.proofs.Leaving.{fields_left, parts_left}
+use Rattle.grib_run_law.proofs.Accepting.{stands}
+use Rattle.grib_run_law.proofs.Leaving.{job_leaves}
 use Rattle.grib_run_law.proofs.laws.what_a_run_leaves.Goals as goal
 
 pub returns : goal.returns
-returns c = record {
-  fields = fields_left c.what_is_answered_keeps_each_value.ensures c.what_is_set_keeps_each_field.ensures c.what_is_filtered_keeps_each_column.ensures;
-  parts = parts_left;
-}
+returns c =
+    job_leaves (stands c.items_stand.ensures.items) c.what_is_repacked_keeps_each_value.ensures c.what_is_migrated_keeps_each_value.ensures c.what_is_set_keeps_each_field.ensures
+    c.what_is_filtered_keeps_each_column.ensures

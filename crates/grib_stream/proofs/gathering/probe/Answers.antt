@@ -1,4 +1,4 @@
-use Rattle.std.proofs.Common.{◌≡◌, ◌+◌, Err, length, take, inl, refl, arith, length-take-le}
+use Rattle.std.proofs.Common.{◌≡◌, ◌+◌, length, take, inl, refl, arith, length-take-le}
 use Rattle.grib_stream.proofs.gathering.probe.Goals as goal
 
 pub returns-in-Ok : goal.returns-in-Ok

@@ -1,4 +1,4 @@
-use Rattle.std.proofs.Common.{◌+◌, ◌<◌, take, sym, subst, arith}
+use Rattle.std.proofs.Common.{◌+◌, ◌<◌, sym, subst, arith}
 use Rattle.std.proofs.lemmas.List.Elements.{All-from_get_or, All-take, All-drop}
 use Rattle.std.specs.Io.KnownBytes.{Consumes}
 use Rattle.grib_stream.proofs.Windows.{behind_read}

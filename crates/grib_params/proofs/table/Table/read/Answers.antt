@@ -1,6 +1,8 @@
-use Rattle.std.proofs.Common.{Bor, List, ℕ, ◌∙◌, refl, sym, inl, inr, Some, arith}
+use Rattle.std.proofs.Common.{Bor, List, ℕ, [], ◌∙◌, refl, sym, inl, inr, Some, arith}
 use Rattle.csv.specs.Records.{fields_of}
-use Rattle.grib_params.proofs.Reading.{begins, ends, joins, not_too_large, refuses, repeats, stepped}
+use Rattle.grib_params.specs.Table.{verdict_from}
+use Rattle.grib_params.proofs.Reading.{begins, stepped}
+use Rattle.grib_params.proofs.TableReading.{ends, joins, not_too_large, refuses, repeats, whole}
 use Rattle.grib_params.proofs.table.Table.read.Goals as goal
 
 pub loop-record-init : goal.loop-record-init
@@ -20,38 +22,38 @@ loop-record-init c =
       ready = inr (inr (named, made.headers));
       flexible = any;
       left = left;
-      stands = begins (λ (s : Bor (List ℕ)). Some s.now) c.from_reader.result c.args.text.now (omega arith) (config ∙ c.new.ensures.config) made.source made.state;
+      stands = begins verdict_from (λ (s : Bor (List ℕ)). Some s.now) [] c.from_reader.result c.args.text.now (omega arith) (config ∙ c.new.ensures.config) made.source made.state;
     })
 
 pub returns-in_default-row_of : goal.returns-in_default-row_of
 returns-in_default-row_of c =
     let inv = c.loop-record.invariant in
     let s = rw (c.in-Some.is, c.in-Ok.is) at ((c.next.ensures.steps inv.left inv.trim).0 inv.ready) in
-    let at = stepped (λ (s : Bor (List ℕ)). Some s.now) c.loop-record.record-iterator.rdr c.next.new.self.rdr c.args.text.now c.loop-record.number c.loop-record.targets.entries (fields_of c.in-Ok.record) inv.stands s.0 in
+    let at = stepped verdict_from (λ (s : Bor (List ℕ)). Some s.now) (whole c.args.text.now) c.loop-record.record-iterator.rdr c.next.new.self.rdr c.loop-record.number c.loop-record.targets.entries (fields_of c.in-Ok.record) inv.stands s.0 in
     not_too_large c.args.text.now (omega arith)
-    ∙ refuses (λ (s : Bor (List ℕ)). Some s.now) c.next.new.self.rdr c.args.text.now c.loop-record.number c.loop-record.targets.entries (fields_of c.in-Ok.record) at c.in_default-row_of.ensures
+    ∙ refuses (λ (s : Bor (List ℕ)). Some s.now) c.args.text.now c.loop-record.number c.loop-record.targets.entries c.next.new.self.rdr (fields_of c.in-Ok.record) at c.in_default-row_of.ensures
 
 pub returns-in-Ok-Some : goal.returns-in-Ok-Some
 returns-in-Ok-Some c =
     let inv = c.loop-record.invariant in
     let s = rw (c.in-Some.is, c.in-Ok.is) at ((c.next.ensures.steps inv.left inv.trim).0 inv.ready) in
-    let at = stepped (λ (s : Bor (List ℕ)). Some s.now) c.loop-record.record-iterator.rdr c.next.new.self.rdr c.args.text.now c.loop-record.number c.loop-record.targets.entries (fields_of c.in-Ok.record) inv.stands s.0 in
+    let at = stepped verdict_from (λ (s : Bor (List ℕ)). Some s.now) (whole c.args.text.now) c.loop-record.record-iterator.rdr c.next.new.self.rdr c.loop-record.number c.loop-record.targets.entries (fields_of c.in-Ok.record) inv.stands s.0 in
     not_too_large c.args.text.now (omega arith)
-    ∙ repeats (λ (s : Bor (List ℕ)). Some s.now) c.next.new.self.rdr c.args.text.now c.loop-record.number c.loop-record.targets.entries (fields_of c.in-Ok.record) at
+    ∙ repeats (λ (s : Bor (List ℕ)). Some s.now) c.args.text.now c.loop-record.number c.loop-record.targets.entries c.next.new.self.rdr (fields_of c.in-Ok.record) at
     (c.in-Some-row_of.key, c.in-Some-row_of.target) c.in-Ok-Some.field-0-0 c.in-Some-row_of.ensures (sym c.in-Ok-Some.field-0-is ∙ c.in-Ok-Some.ensures.old)
 
 pub loop-record-preserved : goal.loop-record-preserved
 loop-record-preserved c =
     let inv = c.loop-record.invariant in
     let s = rw (c.in-Some.is, c.in-Ok.is) at ((c.next.ensures.steps inv.left inv.trim).0 inv.ready) in
-    let at = stepped (λ (s : Bor (List ℕ)). Some s.now) c.loop-record.record-iterator.rdr c.next.new.self.rdr c.args.text.now c.loop-record.number c.loop-record.targets.entries (fields_of c.in-Ok.record) inv.stands s.0 in
+    let at = stepped verdict_from (λ (s : Bor (List ℕ)). Some s.now) (whole c.args.text.now) c.loop-record.record-iterator.rdr c.next.new.self.rdr c.loop-record.number c.loop-record.targets.entries (fields_of c.in-Ok.record) inv.stands s.0 in
     let any = rw (c.in-Some.is, c.in-Ok.is) at (c.next.ensures.steps inv.left inv.trim).3 in
     record {
       trim = s.0.3 ∙ inv.trim;
       ready = inl s.1;
       flexible = any ∙ inv.flexible;
       left = s.2;
-      stands = rw c.in-Ok-None.ensures.entries (joins (λ (s : Bor (List ℕ)). Some s.now) c.next.new.self.rdr c.args.text.now c.loop-record.number c.loop-record.targets.entries (fields_of c.in-Ok.record) at
+      stands = rw c.in-Ok-None.ensures.entries (joins (λ (s : Bor (List ℕ)). Some s.now) c.args.text.now c.loop-record.number c.loop-record.targets.entries c.next.new.self.rdr (fields_of c.in-Ok.record) at
           (c.in-Some-row_of.key, c.in-Some-row_of.target) c.in-Some-row_of.ensures (sym c.in-Ok-None.field-0-is ∙ c.in-Ok-None.ensures.old));
     }
 
@@ -60,4 +62,4 @@ returns c =
     let inv = c.loop-record.invariant in
     let s = rw c.in-None.is at ((c.next.ensures.steps inv.left inv.trim).0 inv.ready) in
     not_too_large c.args.text.now (omega arith)
-    ∙ ends (λ (s : Bor (List ℕ)). Some s.now) c.loop-record.record-iterator.rdr c.next.new.self.rdr c.args.text.now c.loop-record.number c.loop-record.targets.entries inv.stands s
+    ∙ ends (λ (s : Bor (List ℕ)). Some s.now) c.args.text.now c.loop-record.number c.loop-record.targets.entries c.loop-record.record-iterator.rdr c.next.new.self.rdr inv.stands s

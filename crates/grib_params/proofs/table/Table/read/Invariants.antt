@@ -1,7 +1,7 @@
 use Rattle.std.proofs.Common.{◌≡◌, ◌<◌, Some, true}
 use Rattle.csv.specs.Reading.{Ready}
 use Rattle.csv.specs.declared.reader.Trim.TheVariants as trim
-use Rattle.grib_params.proofs.Reading.{Standing}
+use Rattle.grib_params.proofs.TableReading.{Stands}
 use Rattle.grib_params.proofs.table.Table.read.Given as goal
 
 abbrev pub invariant-loop-record : goal.invariant-loop-record
@@ -10,5 +10,5 @@ invariant-loop-record l = record {
   ready : Ready l.record-iterator.rdr;
   flexible : l.record-iterator.rdr.flexible ≡ true;
   left : 0 < l.record-iterator.left;
-  stands : Standing (λ s. Some s.now) l.record-iterator.rdr l.fn.text l.number l.targets.entries;
+  stands : Stands (λ s. Some s.now) l.record-iterator.rdr l.fn.text l.number l.targets.entries;
 }

@@ -1,0 +1,30 @@
+//! What the words ask the run to do with what it cannot answer.
+
+ghost use Rattle.std.specs.Prelude.{◌≡◌, map, string_bytes};
+ghost use Rattle.grib_cli.specs.Words as asked;
+
+use super::has_word;
+use grib_items::{Instead, Policy};
+
+/// What the words ask to be written instead of octets that are refused, and instead of messages that are kept.
+pub fn policy_of(words: &[String]) -> Policy
+    ensures { result ≡ asked.policy_of (map string_bytes words.now) }
+{
+    Policy {
+        refused: instead_by(words, "refused=copy", "refused=pass"),
+        kept: instead_by(words, "kept=copy", "kept=pass"),
+    }
+}
+
+/// What is written instead where one of these two is among the words.
+fn instead_by(words: &[String], copied: &str, passed: &str) -> Option<Instead>
+    ensures { result ≡ asked.instead_by copied.now passed.now (map string_bytes words.now) }
+{
+    if has_word(words, copied) {
+        Some(Instead::Copy)
+    } else if has_word(words, passed) {
+        Some(Instead::Pass)
+    } else {
+        None
+    }
+}

@@ -1,0 +1,261 @@
+-- A run by a table that was read before any input, or that was not read.
+use Rattle.std.proofs.Common.{◌≡◌, ◌≢◌, ℕ, Bool, true, false, IfSome, Option, Some, None, Ok, Err, List, [], ◌∷◌, refl, sym, ap, ◌∙◌, subst, arith}
+use Rattle.std.proofs.lemmas.Bool.{false≢true}
+use Rattle.std.proofs.KnownBytes.{Appends-nil}
+use Rattle.grib_io.specs.Shelves.{Held, Stays}
+use Rattle.grib_params.specs.Table.{Entries}
+use Rattle.grib_table.specs.declared.stop.TableStop.{TableStop}
+use Rattle.grib_table.specs.declared.stop.TableStop.TheVariants as stops
+use Rattle.grib_table.specs.Tabled.{Tabled, Good, Refused, tabled, Stood, CountsTableStop}
+use Rattle.grib_table.specs.Tabled as tables
+use Rattle.grib_stream.specs.declared.outcome.Outcome.{Outcome}
+use Rattle.grib_stream.specs.declared.outcome.Outcome.TheVariants.{ReadFault, WriteFault, ShelfFault, Memory, TableRefused}
+use Rattle.grib_stream.specs.Acts.{world, Did}
+use Rattle.grib_stream.specs.Outcomes.{is_broken}
+use Rattle.grib_stream.proofs.Windows.{takes_none}
+use Rattle.grib_stream.proofs.Worlds.{did_none, front_after}
+use Rattle.grib_items.specs.declared.policy.Policy.{Policy}
+use Rattle.grib_items.specs.Deeds.{deeds, no_deeds, then, Done}
+use Rattle.grib_items.specs.Run.{answer_of, CountsOne}
+use Rattle.grib_items.proofs.Effects.{done_then, front_whole, front_of_nothing}
+use Rattle.grib_command.specs.Command.{Command}
+use Rattle.grib_command.specs.Outcomes.{note_of}
+use Rattle.grib_run_spec.specs.Seen.{Seen, world_of, outside_of, faults_of}
+use Rattle.grib_run_spec.specs.Stated.{IfTabled, IfAsked, deeds_of, plan_by, stated_to}
+use Rattle.grib_run_spec.specs.Serving.{NotedBehind, NotesSome, IsCounted, Gives, Reading, AtOnce, Serves, IfUnread}
+use Rattle.grib_run_spec.specs.Tasks.{Stated, Work, Reads, Makes, ReadsTable, ends_at_once}
+use Rattle.grib_engine.specs.Untabled.{outcome_untabled}
+use Rattle.grib_engine.proofs.Broken.{broken_early}
+use Rattle.grib_engine.proofs.Ended.{Reached, Answers, States, Ran, if_told}
+
+any_told : {P : List ℕ → Type 0} (left : Option (List ℕ)) → ((input : List ℕ) → P input) → IfSome left P
+any_told None held = tt
+any_told (Some input) held = held input
+
+-- some text stands under the name, where the shelf tells it
+stands : (names : Option Held) (name : List ℕ) → (text : Option (List ℕ)) × Stood names name text
+stands None name = (None, tt)
+stands (Some held) name = (held name, refl)
+
+-- a shelf that keeps what it holds
+did_stays : (output : Option (List ℕ)) (names names_now : Option Held) → Stays names names_now → Did (world output names) (world output names_now) []
+did_stays output None now stays = record { output = (did_none (world output None)).output; names = tt }
+did_stays output (Some before) None stays = absurd stays
+did_stays output (Some before) (Some now) stays = record { output = (did_none (world output (Some before))).output; names = stays }
+
+-- the same devices, with another shelf
+abbrev pub shelved : Seen → Option Held → ℕ → Seen
+shelved before names faults = record before { names = names; shelf_faults = faults }
+
+stays_same : (names : Option Held) → Stays names names
+stays_same None = tt
+stays_same (Some held) = λ name. refl
+
+-- nothing was done, and the shelf keeps what it holds
+module _ (policy : Policy) (before : Seen) (names : Option Held) (faults : ℕ) (stays : Stays before.names names) where
+  abbrev same : Seen
+  same = shelved before names faults
+
+  did_nothing : Done (outside_of before) (outside_of same) no_deeds
+  did_nothing = record { did = did_stays before.output before.names names stays; noted = Appends-nil before.notes }
+
+  -- a device or a lack of memory ends the run
+  broken : (own : Outcome) → is_broken own ≡ true → (stated : Stated) → Reached stated own (note_of own) before same
+  broken own is stated = record {
+    ends = λ unbroken. absurd (false≢true (sym unbroken ∙ is));
+    broke = λ e. refl;
+    whole = λ unbroken. absurd (false≢true (sym unbroken ∙ is));
+    front = front_of_nothing (outside_of before) (outside_of same) (deeds stated.acts stated.lines)
+        (front_whole (outside_of before) (outside_of same) no_deeds did_nothing);
+  }
+
+  broken_reading : (own : Outcome) → is_broken own ≡ true → own ≢ ReadFault → (command : Command) → Answers policy own (note_of own) before same command
+  broken_reading own is other command = record {
+    gives = any_told before.left (λ input. broken own is (stated_to command policy input));
+    taken = (
+      [],
+      takes_none before.left,
+      record {
+        most = omega arith;
+        short = λ unbroken not_long. omega arith;
+        long = λ e. absurd (false≢true (sym (ap is_broken e) ∙ is));
+        answered = broken own is (stated_to command policy []);
+        read_fault = λ e. absurd (other e);
+      },
+    );
+    end = λ whole. absurd (false≢true (sym (broken_early own is) ∙ whole));
+  }
+
+  broken_tabled : (own : Outcome) → is_broken own ≡ true → own ≢ ReadFault → (commands : Entries → Command) (t : Tabled)
+      → IfTabled commands (Answers policy own (note_of own) before same) (States own (note_of own) before same) t
+  broken_tabled own is other commands (Good table) = broken_reading own is other (commands table)
+  broken_tabled own is other commands (Refused refusal) = (broken own is (ends_at_once (TableRefused refusal)), other)
+
+  broken_asked : (own : Outcome) → is_broken own ≡ true → own ≢ ReadFault → (work : Work)
+      → IfAsked work before.names (Answers policy own (note_of own) before same) (States own (note_of own) before same)
+  broken_asked own is other (Reads command) = broken_reading own is other command
+  broken_asked own is other (Makes stated) = (broken own is stated, other)
+  broken_asked own is other (ReadsTable name commands) =
+      let stand = stands before.names name in (stand.0, stand.1, broken_tabled own is other commands (tabled stand.0))
+
+  -- what is stated at once
+  at_once : (own : Outcome) → is_broken own ≡ false → Reached (ends_at_once own) own (note_of own) before same
+  at_once own unbroken = record {
+    ends = λ is. (refl, refl);
+    broke = λ is. refl;
+    whole = λ is. did_nothing;
+    front = front_whole (outside_of before) (outside_of same) no_deeds did_nothing;
+  }
+
+  calm : (own : Outcome) → own ≢ ReadFault → own ≢ WriteFault → own ≢ ShelfFault → faults ≡ before.shelf_faults → CountsOne own (faults_of before) (faults_of same)
+  calm own no_read no_write no_shelf is = record {
+    read = λ e. absurd (no_read e);
+    read_calm = λ other. refl;
+    write = λ e. absurd (no_write e);
+    output_calm = λ other. refl;
+    notes_calm = λ other. refl;
+    shelf = λ e. absurd (no_shelf e);
+    shelf_calm = λ other. is;
+  }
+
+  -- ---- the table was not read, or is none
+
+  stopped : (stop : TableStop) → CountsTableStop stop before.shelf_faults faults → CountsOne (outcome_untabled stop) (faults_of before) (faults_of same)
+  stopped (stops.Refused refusal) counts = calm (TableRefused refusal) (λ e. cc) (λ e. cc) (λ e. cc) counts
+  stopped stops.Memory counts = calm Memory (λ e. cc) (λ e. cc) (λ e. cc) counts
+  stopped stops.ShelfFault counts = record {
+    read = λ e. cc;
+    read_calm = λ other. refl;
+    write = λ e. cc;
+    output_calm = λ other. refl;
+    notes_calm = λ other. refl;
+    shelf = λ e. counts;
+    shelf_calm = λ other. absurd (other refl);
+  }
+
+  untabled_asked : (name : List ℕ) (commands : Entries → Command) (stop : TableStop) → tables.ReadsTable (Err stop) before.names name
+      → IfAsked (ReadsTable name commands) before.names (Answers policy (outcome_untabled stop) (note_of (outcome_untabled stop)) before same)
+      (States (outcome_untabled stop) (note_of (outcome_untabled stop)) before same)
+  untabled_asked name commands (stops.Refused refusal) (text, stood, is) =
+      let own = TableRefused refusal in
+      (text, stood, subst (IfTabled commands (Answers policy own (note_of own) before same) (States own (note_of own) before same)) (sym is) (at_once own refl, λ e. cc))
+  untabled_asked name commands stops.ShelfFault read = broken_asked ShelfFault refl (λ e. cc) (ReadsTable name commands)
+  untabled_asked name commands stops.Memory read = broken_asked Memory refl (λ e. cc) (ReadsTable name commands)
+
+  pub untabled : (name called : List ℕ) (commands : Entries → Command) (stop : TableStop) (own : Outcome) → own ≡ outcome_untabled stop → called ≡ name
+      → tables.ReadsTable (Err stop) before.names called → CountsTableStop stop before.shelf_faults faults → Ran (ReadsTable name commands) policy own (note_of own) before same
+  untabled name called commands stop own is its_name read counts = subst (λ o. Ran (ReadsTable name commands) policy o (note_of o) before same) (sym is) record {
+    answer = untabled_asked name commands stop (subst (tables.ReadsTable (Err stop) before.names) its_name read);
+    counts = stopped stop counts;
+    unfinished = λ all. all;
+    notes_unfinished = λ all. all;
+    unshelved = λ off. absurd (false≢true (sym off));
+    table_stays = λ on. stays;
+  }
+
+-- ---- where nothing is done at all
+
+pub without_memory : (work : Work) (policy : Policy) (before : Seen) → Ran work policy Memory (note_of Memory) before before
+without_memory work policy before =
+    let stays = stays_same before.names in
+    record {
+      answer = broken_asked policy before before.names before.shelf_faults stays Memory refl (λ e. cc) work;
+      counts = calm policy before before.names before.shelf_faults stays Memory (λ e. cc) (λ e. cc) (λ e. cc) refl;
+      unfinished = λ all. all;
+      notes_unfinished = λ all. all;
+      unshelved = λ off. λ e. cc;
+      table_stays = λ on. stays;
+    }
+
+unbroken_not : (fault own : Outcome) → is_broken fault ≡ true → is_broken own ≡ false → own ≢ fault
+unbroken_not fault own broken unbroken is = false≢true (sym unbroken ∙ (ap is_broken is ∙ broken))
+
+pub ended_at_once : (own : Outcome) (policy : Policy) (before : Seen) → is_broken own ≡ false → Ran (Makes (ends_at_once own)) policy own (note_of own) before before
+ended_at_once own policy before unbroken =
+    let stays = stays_same before.names in
+    let not = λ (fault : Outcome) (broken : is_broken fault ≡ true). unbroken_not fault own broken unbroken in
+    record {
+      answer = (at_once policy before before.names before.shelf_faults stays own unbroken, not ReadFault refl);
+      counts = calm policy before before.names before.shelf_faults stays own (not ReadFault refl) (not WriteFault refl) (not ShelfFault refl) refl;
+      unfinished = λ all. all;
+      notes_unfinished = λ all. all;
+      unshelved = λ off. not ShelfFault refl;
+      table_stays = λ no. absurd (false≢true no);
+    }
+
+-- ---- by a table that was read
+
+module _ (takes_memory : Bool) (name : List ℕ) (commands : Entries → Command) (policy : Policy) (outcome : Outcome) (before now : Seen) (names : Option Held) (stays : Stays before.names names) where
+  abbrev mid : Seen
+  mid = shelved before names before.shelf_faults
+
+  did : Done (outside_of before) (outside_of mid) no_deeds
+  did = did_nothing policy before names before.shelf_faults stays
+
+  gives_after : (stated : Stated) → Gives stated outcome mid now → Gives stated outcome before now
+  gives_after stated gives = record {
+    ends = gives.ends;
+    whole = λ unbroken. done_then (outside_of before) (outside_of mid) (outside_of now) no_deeds (deeds_of stated) did (gives.whole unbroken);
+    front = front_after (world_of before) (world_of mid) (world_of now) [] stated.acts did.did gives.front;
+    noted_front = gives.noted_front;
+    noted = gives.noted;
+  }
+
+  reading_after : (command : Command) → Reading policy outcome mid now command → Reading policy outcome before now command
+  reading_after command reading =
+      let taken = reading.taken.2 in
+      record {
+        gives = if_told before.left (λ input. gives_after (stated_to command policy input)) reading.gives;
+        taken = (
+          reading.taken.0,
+          reading.taken.1,
+          record {
+            most = taken.most;
+            short = taken.short;
+            long = taken.long;
+            answered = gives_after (stated_to command policy reading.taken.0) taken.answered;
+            read_fault = λ is. done_then (outside_of before) (outside_of mid) (outside_of now) no_deeds
+                (then (answer_of (plan_by command policy) true reading.taken.0).deeds (deeds [] (note_of ReadFault ∷ []))) did (taken.read_fault is);
+          },
+        );
+        end = reading.end;
+      }
+
+  pub by_table : (table : Entries) (called : List ℕ) (faults : ℕ) → called ≡ name → tables.ReadsTable (Ok table) before.names called → faults ≡ before.shelf_faults → now.names ≡ names
+      → Serves takes_memory (Reads (commands table)) policy outcome (shelved before names faults) now → Serves takes_memory (ReadsTable name commands) policy outcome before now
+  by_table table called faults its_name (text, stood_as, is) same kept ran_so =
+      let stood = subst (λ n. Stood before.names n text) its_name stood_as in
+      let ran = subst (λ n. Serves takes_memory (Reads (commands table)) policy outcome (shelved before names n) now) same ran_so in
+      let tells = λ (Holds : Stated → Type 0) (holds : IfSome before.left (λ input. Holds (stated_to (commands table) policy input))).
+      subst (IfTabled commands (λ command. IfSome before.left (λ input. Holds (stated_to command policy input))) Holds) (sym is) holds in
+      record {
+        answer = (
+          text,
+          stood,
+          subst (IfTabled commands (Reading policy outcome before now) (AtOnce outcome before now)) (sym is) (reading_after (commands table) ran.answer),
+        );
+        told = (text, stood, tells (λ stated. NotesSome (IsCounted (faults_of before) (faults_of now)) stated before.notes now.notes) ran.told);
+        settled = record { settles = ran.settled.settles; unfinished = ran.settled.unfinished; output_unfinished = ran.settled.output_unfinished };
+        stands = λ off e.
+            let stood_then = ran.stands off e in
+            (stood_then.0, (stood_then.1.0, (text, stood, tells (λ stated. NotedBehind stated (note_of Memory) before.notes now.notes) stood_then.1.1)));
+        counts = ran.counts;
+        unshelved = λ off. absurd (false≢true (sym off));
+        table_stays = λ on. subst (Stays before.names) (sym kept) stays;
+      }
+
+-- ---- the input
+
+if_unread : (commands : Entries → Command) (P : Type 0) (t : Tabled) → P → IfTabled commands (λ command. Unit {0}) (λ stated. P) t
+if_unread commands P (Good table) held = tt
+if_unread commands P (Refused refusal) held = held
+
+-- no input was read
+pub left_alone : (name : List ℕ) (commands : Entries → Command) (names : Option Held) (P : Type 0) → P → IfUnread (ReadsTable name commands) names P
+left_alone name commands names P held = let stand = stands names name in (stand.0, stand.1, if_unread commands P (tabled stand.0) held)
+
+-- the table is good, so that nothing is claimed
+pub left_open : (name called : List ℕ) (commands : Entries → Command) (names : Option Held) (P : Type 0) (table : Entries) → called ≡ name → tables.ReadsTable (Ok table) names called
+    → IfUnread (ReadsTable name commands) names P
+left_open name called commands names P table its_name (text, stood, is) =
+    (text, subst (λ n. Stood names n text) its_name stood, subst (IfTabled commands (λ command. Unit {0}) (λ stated. P)) (sym is) tt)

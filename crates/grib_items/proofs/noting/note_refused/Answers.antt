@@ -1,0 +1,4 @@
+use Rattle.grib_items.proofs.noting.note_refused.Goals as goal
+
+pub returns-clause-writes : goal.returns-clause-writes
+returns-clause-writes g c = c.note_line.ensures.writes _ c.refused_line.ensures

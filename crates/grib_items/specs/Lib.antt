@@ -1,0 +1,10 @@
+pub mod Next
+pub mod Items
+pub mod Deeds
+pub mod Answer
+pub mod Laws
+pub mod Steps
+pub mod Turning
+pub mod Writing
+pub mod Run
+pub mod Reading

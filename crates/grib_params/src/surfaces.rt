@@ -1,0 +1,114 @@
+//! A table of surfaces, read from a text and looked up.
+
+ghost use Rattle.std.specs.Prelude.{◌≡◌, [], MatchResult};
+ghost use Rattle.grib_params.specs.Surfaces.{Good, IsSurfaceFault, surface_in, surface_under, surface_verdict};
+
+use crate::fault::TableFault;
+use crate::row::Key;
+use crate::surface_row::{SurfaceKey, SurfaceTarget, surface_row_of};
+use crate::table::MOST_OCTETS;
+use csv::{ErrorKind, ReaderBuilder};
+use std::alloc::Global;
+use std::collections::BTreeMap;
+use std::marker::Model;
+
+/// Which parameter of edition 2 at which fixed surface stands for a parameter of edition 1 whose name says
+/// its level. A contract sees the targets with their keys.
+#[derive(Debug, Drop)]
+pub struct SurfaceTable {
+    targets: BTreeMap<SurfaceKey, SurfaceTarget>,
+}
+
+impl Model for SurfaceTable {
+    ghost use Rattle.grib_params.specs.Surfaces.{SurfaceEntries};
+
+    ghost Value = { SurfaceEntries };
+
+    ghost view = { λ a. a.targets.entries };
+}
+
+impl SurfaceTable {
+    /// A table that has nothing. It takes no memory.
+    pub fn new(alloc: Global) -> SurfaceTable
+        ensures { result ≡ [] }
+    {
+        SurfaceTable {
+            targets: BTreeMap::new(alloc),
+        }
+    }
+
+    /// Reads a table from its text: one record a line, `centre,version,parameter,levelType,level,discipline,
+    /// category,number,master,local,surface1,scale1,value1`, with no header row. Centre and level may be `*`,
+    /// for every one; scale1 and value1 `-`, for a missing one. The level is a number from 0 to 65,535 and the
+    /// value one from 0 to 4,294,967,295, each other a number from 0 to 255. Empty lines are no records.
+    ///
+    /// # Errors
+    ///
+    /// The text is too large; a record is no row, or has the first five fields of an earlier one (the first
+    /// record at fault, by its number from 1); or there is no memory.
+    pub fn read(alloc: Global, text: &[u8]) -> Result<SurfaceTable, TableFault>
+        ensures { MatchResult result
+            (λ table. surface_verdict text.now ≡ Good table) (IsSurfaceFault (surface_verdict text.now)) }
+    {
+        if text.len() > MOST_OCTETS {
+            return Err(TableFault::TooLarge);
+        }
+        let records = ReaderBuilder::new()
+            .has_headers(false)
+            .flexible(true)
+            .from_reader(alloc, text)
+            .into_byte_records();
+        let mut targets = BTreeMap::new(alloc);
+        let mut number: u64 = 0;
+        for record in records {
+            number += 1;
+            let record = match record {
+                Ok(record) => record,
+                Err(error) => {
+                    // Octets in memory are read, and a record may have any length: what is left is memory.
+                    let is_uneven = matches!(error.kind(), ErrorKind::UnequalLengths { .. });
+                    prove!(!is_uneven);
+                    return Err(TableFault::Memory);
+                }
+            };
+            let Some((key, target)) = surface_row_of(&record) else {
+                return Err(TableFault::Row(number));
+            };
+            match targets.insert(key, target) {
+                Ok(None) => {}
+                Ok(Some(_)) => return Err(TableFault::Duplicate(number)),
+                Err(_) => return Err(TableFault::Memory),
+            }
+        }
+        Ok(SurfaceTable { targets })
+    }
+
+    /// The target of a message with this centre, version, parameter, type of level and level: of the record
+    /// with its centre and its level; else with its centre and `*` for the level; else with `*` for the centre
+    /// and its level; else with `*` for both; else `None`. It takes no memory.
+    pub fn lookup(
+        &self,
+        centre: u8,
+        version: u8,
+        parameter: u8,
+        level_type: u8,
+        level: u16,
+    ) -> Option<SurfaceTarget>
+        ensures { result ≡ surface_in self.now centre version parameter level_type level }
+    {
+        match self.under((Some(centre), version, parameter), level_type, level) {
+            Some(target) => Some(target),
+            None => self.under((None, version, parameter), level_type, level),
+        }
+    }
+
+    /// The target of the record with this level, else of the one with `*` for it.
+    fn under(&self, key: Key, level_type: u8, level: u16) -> Option<SurfaceTarget>
+        ensures { result ≡ surface_under self.now key level_type level }
+    {
+        match self.targets.get(&(key, level_type, Some(level))) {
+            Some(target) => Some(*target),
+            None => self.targets.get(&(key, level_type, None)).copied(),
+        }
+    }
+}

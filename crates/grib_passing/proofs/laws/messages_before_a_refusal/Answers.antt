@@ -1,5 +1,0 @@
-use Rattle.grib_passing.proofs.Orders.{messages_first}
-use Rattle.grib_passing.proofs.laws.messages_before_a_refusal.Goals as goal
-
-pub returns : goal.returns
-returns c = messages_first

@@ -1,5 +1,0 @@
-pub mod Judging
-pub mod Items
-pub mod Each
-pub mod Leaving
-pub mod Shelved

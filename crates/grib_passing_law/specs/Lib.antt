@@ -1,4 +1,0 @@
-pub mod Judged
-pub mod Written
-pub mod Leaving
-pub mod Shelved

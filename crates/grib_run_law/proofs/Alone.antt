@@ -1,0 +1,90 @@
+-- Commands whose results do not hang on the place of a message, but for the number of one that is kept.
+use Rattle.std.proofs.Common.{◌≡◌, ◌⊎◌, inl, inr, ℕ, Bool, true, false, Option, Some, None, option_map, List, [], ◌==◌, length, refl, sym, ap, ◌∙◌}
+use Rattle.grib_base.specs.Rows.{choose}
+use Rattle.grib2_sections.specs.Head.{edition}
+use Rattle.grib_reasons.specs.declared.cause.Cause.{Cause}
+use Rattle.grib_reasons.specs.declared.cause.Cause.TheVariants.{EditionOne, Lost}
+use Rattle.grib_keys.specs.declared.condition.Condition.{Condition}
+use Rattle.grib_params.specs.Table.{Entries}
+use Rattle.grib_migrate.specs.Losses.{first_loss}
+use Rattle.grib_migrate.specs.Migrated.{migrated}
+use Rattle.grib_stream.specs.declared.outcome.Outcome.{Outcome}
+use Rattle.grib_stream.specs.declared.place.Place.{Place}
+use Rattle.grib_stream.specs.Acts.{Act, writes}
+use Rattle.grib_stream.specs.Cutting.{StandsAlone, renumbered}
+use Rattle.grib_stream.specs.Task.{Given, Gives, Ends}
+use Rattle.grib_command.specs.Command.{Command, given, given_unless, given_whole, kept_at, changing_unless, task}
+use Rattle.grib_params.specs.declared.matching.TableMatch.{TableMatch}
+use Rattle.grib_edit.specs.Demoting.{demoted_cause, demoted_fields, demote_command}
+use Rattle.grib_edit.specs.Filtering.{filtered, filter_command}
+use Rattle.grib_edit.specs.Migrating.{are_octets, migrate_command}
+
+-- what is given at each place is the same, or the message is kept there by the same cause
+abbrev pub IsFixed : (Place → Given) → Type 0
+IsFixed given =
+    ((acts : List Act) × (written : ℕ) × ((place : Place) → given place ≡ Gives acts written))
+    ⊎ ((cause : Cause) × ((place : Place) → given place ≡ Ends (kept_at place.message cause)))
+
+gives_fixed : (acts : List Act) (written : ℕ) → IsFixed (λ place. Gives acts written)
+gives_fixed acts written = inl (acts, written, λ place. refl)
+
+kept_fixed : (cause : Cause) → IsFixed (λ place. Ends (kept_at place.message cause))
+kept_fixed cause = inr (cause, λ place. refl)
+
+unless_fixed : (cause : Option Cause) (octets : List ℕ) → IsFixed (λ place. given_unless cause place.message octets)
+unless_fixed None octets = gives_fixed (writes octets) (length octets)
+unless_fixed (Some cause) octets = kept_fixed cause
+
+either_fixed : (b : Bool) (first second : Place → Given) → IsFixed first → IsFixed second → IsFixed (λ place. choose b (λ _. first place) (λ _. second place))
+either_fixed true first second one two = one
+either_fixed false first second one two = two
+
+-- a command is so for every message
+abbrev pub Fixed : Command → Type 0
+Fixed command = (message : List ℕ) → IsFixed (λ place. given command place message)
+
+by_edition : (command : Command) → ((message : List ℕ) → IsFixed (λ place. command.first place message))
+    → ((message : List ℕ) → IsFixed (λ place. command.second place message)) → Fixed command
+by_edition command first second message =
+    either_fixed (edition message == 1) (λ place. command.first place message) (λ place. command.second place message) (first message) (second message)
+
+pub changing_fixed : (cause : List ℕ → Option Cause) (octets : List ℕ → List ℕ) → Fixed (changing_unless cause octets)
+changing_fixed cause octets = by_edition (changing_unless cause octets) (λ message. kept_fixed EditionOne) (λ message. unless_fixed (cause message) (octets message))
+
+whole_fixed : (octets : List ℕ) → IsFixed (λ place. given_whole octets)
+whole_fixed octets = gives_fixed (writes octets) (length octets)
+
+pub filter_fixed : (conditions : List Condition) → Fixed (filter_command conditions)
+filter_fixed conditions = by_edition (filter_command conditions) (λ message. kept_fixed EditionOne) (λ message. whole_fixed (filtered conditions message))
+
+pub migrate_fixed : (keep : Bool) (table : Entries) → Fixed (migrate_command keep table)
+migrate_fixed keep table =
+    by_edition (migrate_command keep table)
+    (λ message.
+    either_fixed (are_octets message) (λ place. given_unless (option_map Lost (first_loss table keep message)) place.message (migrated table keep message)) (λ place. Gives [] 0)
+    (unless_fixed (option_map Lost (first_loss table keep message)) (migrated table keep message)) (gives_fixed [] 0))
+    whole_fixed
+
+pub demote_fixed : (matching : TableMatch) (keep any : Bool) (table : Entries) → Fixed (demote_command matching keep any table)
+demote_fixed matching keep any table =
+    by_edition (demote_command matching keep any table) whole_fixed (λ message. unless_fixed (demoted_cause table matching keep any message) (demoted_fields table matching keep message))
+
+-- ---- so each message is answered by itself
+
+gives_again : (given : Place → Given) → IsFixed given → (place other : Place) (acts : List Act) (written : ℕ) → given place ≡ Gives acts written → given other ≡ Gives acts written
+gives_again given (inl (own, count, always)) place other acts written is = always other ∙ (sym (always place) ∙ is)
+gives_again given (inr (cause, always)) place other acts written is = let kept = always place in let no : ⊥ = cc in absurd no
+
+ends_again : (given : Place → Given) → IsFixed given → (place other : Place) (outcome : Outcome) → given place ≡ Ends outcome
+    → given other ≡ Ends (renumbered (λ number. other.message) outcome)
+ends_again given (inl (own, count, always)) place other outcome is = let gives = always place in let no : ⊥ = cc in absurd no
+ends_again given (inr (cause, always)) place other outcome is =
+    let kept = always place in
+    let same : kept_at place.message cause ≡ outcome = cc in
+    always other ∙ ap (λ o. Ends (renumbered (λ number. other.message) o)) same
+
+pub stands_alone : (command : Command) → Fixed command → StandsAlone (task command)
+stands_alone command fixed = record {
+  gives = λ place other message acts written is. gives_again (λ place. given command place message) (fixed message) place other acts written is;
+  ends = λ place other message outcome is. ends_again (λ place. given command place message) (fixed message) place other outcome is;
+}

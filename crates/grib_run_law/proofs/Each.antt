@@ -1,0 +1,198 @@
+-- What each command writes for one message.
+use Rattle.std.proofs.Common.{◌≡◌, ◌≢◌, ℕ, ◌<◌, ◌==◌, ◌&&◌, Bool, true, false, cond, is_none, Option, Some, None, option_map, ◌≤◌, List, [], ◌∷◌, ◌++◌, All, refl, sym, ap, ◌∙◌, subst, ⊎_elim, lt-ltb, eqb-true}
+use Rattle.std.specs.List.{range_with_len}
+use Rattle.std.proofs.lemmas.Bool.{cases_Bool, false≢true, eq-eqb}
+use Rattle.std.proofs.lemmas.List.Elements.{All-head, All-tail}
+use Rattle.grib_base.specs.Rows.{choose}
+use Rattle.grib_reasons.specs.declared.cause.Cause.{Cause}
+use Rattle.grib_reasons.specs.declared.cause.Cause.TheVariants.{Lost}
+use Rattle.grib_keys.specs.declared.condition.Condition.{Condition}
+use Rattle.grib_keys.specs.declared.key.Key.{Key}
+use Rattle.grib_select.specs.declared.changing.SetFault.{SetFault}
+use Rattle.grib_select.specs.declared.changing.SetFault.TheVariants.{KeyRange, KeyAbsent, Memory}
+use Rattle.grib_select.specs.Changed.{new_number, with_keys, first_without, change_fault, or_later, set_fault}
+use Rattle.grib_select.specs.Values.{key_value_of}
+use Rattle.grib2_sections.specs.Head.{edition}
+use Rattle.grib2_message.specs.Message.{IsMessage}
+use Rattle.grib2_message.specs.Fields.{field_count}
+use Rattle.grib_packing.specs.Written.{IsTarget}
+use Rattle.grib_params.specs.Table.{Entries}
+use Rattle.grib_migrate.specs.Losses.{first_loss}
+use Rattle.grib_migrate.specs.Migrated.{migrated}
+use Rattle.grib_migrate_law.specs.Source.{MayBeMigrated}
+use Rattle.grib_migrate_law.proofs.Migrated.{migrated_is_message, migrated_one_field, migrated_meaning}
+use Rattle.grib_repack.specs.declared.target.RepackTarget.{RepackTarget}
+use Rattle.grib_repack.specs.Faults.{target_of}
+use Rattle.grib_repack.specs.Repacked.{MayBeRepacked, repacked, repack_misfit}
+use Rattle.grib_stream.specs.declared.place.Place.{Place}
+use Rattle.grib_stream.specs.Acts.{Act, Writes, Makes, Adds, writes, written}
+use Rattle.grib_stream.specs.Stream.{Found}
+use Rattle.grib_stream.specs.Task.{Gives}
+use Rattle.grib_command.specs.Command.{Command, given, given_unless}
+use Rattle.grib_edit.specs.Filtering.{filtered, filter_command, all_fulfil}
+use Rattle.grib_edit.specs.Migrating.{are_octets, migrate_command}
+use Rattle.grib_edit.specs.Repacking.{cause_of, repack_command}
+use Rattle.grib_edit.specs.Setting.{set_cause, set_command}
+use Rattle.grib_run_law.specs.Same.{SameValues, SameMigrated, SetsKeys, IsFiltered, IfOctets}
+use Rattle.grib_run_law.proofs.Accepting.{IsAccepted}
+use Rattle.grib_run_law.proofs.Picking.{CutsOut, picked_by, by_bool, picked_bool}
+
+-- ---- what acts write
+
+pub written_join : (xs ys : List Act) → written (xs ++ ys) ≡ written xs ++ written ys
+written_join [] ys = refl
+written_join (Writes octet ∷ xs) ys = ap (λ octets. octet ∷ octets) (written_join xs ys)
+written_join (Makes name ∷ xs) ys = written_join xs ys
+written_join (Adds name octet ∷ xs) ys = written_join xs ys
+
+pub written_of : (octets : List ℕ) → written (writes octets) ≡ octets
+written_of [] = refl
+written_of (octet ∷ octets) = ap (λ xs. octet ∷ xs) (written_of octets)
+
+-- the octets that a result writes
+wrote : (octets : List ℕ) (count : ℕ) (acts : List Act) (more : ℕ) → Gives (writes octets) count ≡ Gives acts more → octets ≡ written acts
+wrote octets count acts more is = let same : writes octets ≡ acts = cc in sym (written_of octets) ∙ ap written same
+
+-- where no cause keeps a message, its result is this
+unless_wrote : (cause : Option Cause) (m : ℕ) (octets : List ℕ) (acts : List Act) (more : ℕ) → given_unless cause m octets ≡ Gives acts more → (cause ≡ None) × (octets ≡ written acts)
+unless_wrote None m octets acts more is = (refl, wrote octets _ acts more is)
+unless_wrote (Some cause) m octets acts more is = let no : ⊥ = cc in absurd no
+
+unmapped : {X Y : Type 0} (f : X → Y) (x : Option X) → option_map f x ≡ None → x ≡ None
+unmapped f None is = refl
+unmapped f (Some x) is = let no : ⊥ = cc in absurd no
+
+-- what a command writes for each message of which it has a result
+abbrev pub WritesEach : (List ℕ → List ℕ → Type 0) → Command → Type 0
+WritesEach Is command = (place : Place) (found : Found) (acts : List Act) (more : ℕ) → IsAccepted found → given command place found.octets ≡ Gives acts more
+    → Is found.octets (written acts)
+
+-- ---- `repack`
+
+module _ (target : RepackTarget) (law : (message : List ℕ) → MayBeRepacked (target_of target) message → SameValues message (repacked (target_of target) message)) (stands : IsTarget (target_of target)) where
+  repack_by : (b : Bool) (place : Place) (found : Found) (acts : List Act) (more : ℕ) → IsAccepted found → (edition found.octets == 1) ≡ b
+      → choose b (λ _. (repack_command target).first place found.octets) (λ _. (repack_command target).second place found.octets) ≡ Gives acts more
+      → IfOctets SameValues found.octets (written acts)
+  repack_by true place found acts more accepted one is = let no : ⊥ = cc in absurd no
+  repack_by false place found acts more accepted not_one is = λ small.
+      let (none, same) = unless_wrote (option_map cause_of (repack_misfit (target_of target) found.octets)) place.message (repacked (target_of target) found.octets) acts more is in
+      subst (SameValues found.octets) same
+      (law found.octets
+      (record { accepted = accepted.second not_one; are_octets = small; target_stands = stands; fits = unmapped cause_of (repack_misfit (target_of target) found.octets) none }))
+
+  pub repack_each : WritesEach (IfOctets SameValues) (repack_command target)
+  repack_each place found acts more accepted is = repack_by (edition found.octets == 1) place found acts more accepted refl is
+
+-- ---- `migrate`
+
+are_small : (xs : List ℕ) → All (λ octet. octet < 256) xs → are_octets xs ≡ true
+are_small [] all = refl
+are_small (x ∷ xs) all =
+    ap (λ b. b && are_octets xs) (lt-ltb x 256 (All-head (λ octet. octet < 256) x xs all)) ∙ are_small xs (All-tail (λ octet. octet < 256) x xs all)
+
+module _ (keep : Bool) (table : Entries) where
+  own_first : (message : List ℕ) → (edition message == 1) ≡ true → MayBeMigrated table keep message → SameMigrated message (migrated table keep message)
+  own_first message one may = record {
+    accepted = migrated_is_message table keep message may;
+    one_field = λ e. migrated_one_field table keep message may;
+    points = λ e. migrated_meaning table keep message may;
+    copied = λ other. absurd (other (eqb-true (edition message) 1 one));
+  }
+
+  own_other : (message : List ℕ) → (edition message == 1) ≡ false → IsMessage message → SameMigrated message message
+  own_other message not_one accepted =
+      let never : (edition message ≡ 1 → ⊥) = λ e. false≢true (sym not_one ∙ eq-eqb (edition message) 1 e) in
+      record { accepted = accepted; one_field = λ e. absurd (never e); points = λ e. absurd (never e); copied = λ other. refl }
+
+  migrate_first : (b : Bool) (m : ℕ) (found : Found) (acts : List Act) (more : ℕ) → IsAccepted found → All (λ octet. octet < 256) found.octets → (edition found.octets == 1) ≡ true → b ≡ true
+      → choose b (λ _. given_unless (option_map Lost (first_loss table keep found.octets)) m (migrated table keep found.octets)) (λ _. Gives [] 0) ≡ Gives acts more
+      → SameMigrated found.octets (written acts)
+  migrate_first false m found acts more accepted small one are is = let no : ⊥ = cc in absurd no
+  migrate_first true m found acts more accepted small one are is =
+      let (none, same) = unless_wrote (option_map Lost (first_loss table keep found.octets)) m (migrated table keep found.octets) acts more is in
+      subst (SameMigrated found.octets) same
+      (own_first found.octets one (record { accepted = accepted.first one; small = small; kept = unmapped Lost (first_loss table keep found.octets) none }))
+
+  migrate_by : (b : Bool) (place : Place) (found : Found) (acts : List Act) (more : ℕ) → IsAccepted found → (edition found.octets == 1) ≡ b
+      → choose b (λ _. (migrate_command keep table).first place found.octets) (λ _. (migrate_command keep table).second place found.octets) ≡ Gives acts more
+      → IfOctets SameMigrated found.octets (written acts)
+  migrate_by true place found acts more accepted one is = λ small. migrate_first (are_octets found.octets) place.message found acts more accepted small one (are_small found.octets small) is
+  migrate_by false place found acts more accepted not_one is = λ small.
+      subst (SameMigrated found.octets) (wrote found.octets _ acts more is) (own_other found.octets not_one (accepted.second not_one))
+
+  pub migrate_each : WritesEach (IfOctets SameMigrated) (migrate_command keep table)
+  migrate_each place found acts more accepted is = migrate_by (edition found.octets == 1) place found acts more accepted refl is
+
+-- ---- `set`
+
+-- no change is at fault for lack of memory
+without_key : (message : List ℕ) (key : Key) (fields : List ℕ) → first_without message key fields ≢ Some Memory
+without_key message key [] is = let no : ⊥ = cc in absurd no
+without_key message key (i ∷ fields) is =
+    ⊎_elim
+    (λ (lacks : is_none (key_value_of message i key) ≡ true).
+    let own : first_without message key (i ∷ fields) ≡ Some (KeyAbsent i key) = ap (λ b. cond b (Some (KeyAbsent i key)) (first_without message key fields)) lacks in
+    let no : ⊥ = cc in absurd no)
+    (λ (has : is_none (key_value_of message i key) ≡ false).
+    let later : first_without message key (i ∷ fields) ≡ first_without message key fields = ap (λ b. cond b (Some (KeyAbsent i key)) (first_without message key fields)) has in
+    without_key message key fields (sym later ∙ is))
+    (cases_Bool (is_none (key_value_of message i key)))
+
+of_change : (message : List ℕ) (change : Condition) → change_fault message change ≢ Some Memory
+of_change message change is =
+    let fields = range_with_len 1 (field_count message) in
+    ⊎_elim
+    (λ (large : is_none (new_number change) ≡ true).
+    let own : change_fault message change ≡ Some (KeyRange change.key) =
+    ap (λ b. choose b (λ _. Some (KeyRange change.key)) (λ _. first_without message change.key fields)) large in
+    let no : ⊥ = cc in absurd no)
+    (λ (fits : is_none (new_number change) ≡ false).
+    let own : change_fault message change ≡ first_without message change.key fields =
+    ap (λ b. choose b (λ _. Some (KeyRange change.key)) (λ _. first_without message change.key fields)) fits in
+    without_key message change.key fields (sym own ∙ is))
+    (cases_Bool (is_none (new_number change)))
+
+of_first : (first : Option SetFault) (later : Unit {0} → Option SetFault) → first ≢ Some Memory → later tt ≢ Some Memory → or_later first later ≢ Some Memory
+of_first None later own rest is = rest is
+of_first (Some fault) later own rest is = own is
+
+never_memory : (message : List ℕ) (changes : List Condition) → set_fault message changes ≢ Some Memory
+never_memory message [] is = let no : ⊥ = cc in absurd no
+never_memory message (change ∷ changes) is =
+    of_first (change_fault message change) (λ _. set_fault message changes) (of_change message change) (never_memory message changes) is
+
+no_fault : (fault : Option SetFault) → fault ≢ Some Memory → set_cause fault ≡ None → fault ≡ None
+no_fault None never none = refl
+no_fault (Some (KeyRange key)) never none = let no : ⊥ = cc in absurd no
+no_fault (Some (KeyAbsent field key)) never none = let no : ⊥ = cc in absurd no
+no_fault (Some Memory) never none = absurd (never refl)
+
+module _ (changes : List Condition) (law : (message : List ℕ) → IsMessage message → set_fault message changes ≡ None → SetsKeys changes message (with_keys message changes)) where
+  set_by : (b : Bool) (place : Place) (found : Found) (acts : List Act) (more : ℕ) → IsAccepted found → (edition found.octets == 1) ≡ b
+      → choose b (λ _. (set_command changes).first place found.octets) (λ _. (set_command changes).second place found.octets) ≡ Gives acts more
+      → SetsKeys changes found.octets (written acts)
+  set_by true place found acts more accepted one is = let no : ⊥ = cc in absurd no
+  set_by false place found acts more accepted not_one is =
+      let (none, same) = unless_wrote (set_cause (set_fault found.octets changes)) place.message (with_keys found.octets changes) acts more is in
+      subst (SetsKeys changes found.octets) same
+      (law found.octets (accepted.second not_one) (no_fault (set_fault found.octets changes) (never_memory found.octets changes) none))
+
+  pub set_each : WritesEach (SetsKeys changes) (set_command changes)
+  set_each place found acts more accepted is = set_by (edition found.octets == 1) place found acts more accepted refl is
+
+-- ---- `filter`
+
+module _ (law : (message : List ℕ) (i : ℕ) → IsMessage message → 1 ≤ i → i ≤ field_count message → CutsOut message i) (conditions : List Condition) where
+  filter_by : (b : Bool) (place : Place) (found : Found) (acts : List Act) (more : ℕ) → IsAccepted found → (edition found.octets == 1) ≡ b
+      → choose b (λ _. (filter_command conditions).first place found.octets) (λ _. (filter_command conditions).second place found.octets) ≡ Gives acts more
+      → IsFiltered conditions found.octets (written acts)
+  filter_by true place found acts more accepted one is = let no : ⊥ = cc in absurd no
+  filter_by false place found acts more accepted not_one is =
+      let b = all_fulfil conditions found.octets in (
+        picked_by law conditions b found.octets,
+        sym (wrote (filtered conditions found.octets) _ acts more is) ∙ by_bool law conditions b found.octets,
+        picked_bool law conditions b found.octets (accepted.second not_one) refl,
+      )
+
+  pub filter_each : WritesEach (IsFiltered conditions) (filter_command conditions)
+  filter_each place found acts more accepted is = filter_by (edition found.octets == 1) place found acts more accepted refl is

@@ -1,0 +1,344 @@
+-- What `split` puts on a shelf.
+use Rattle.std.proofs.Common.{◌≡◌, ◌≢◌, ℕ, zero, suc, ◌+◌, ◌-◌, ◌^◌, ◌<◌, ◌≤◌, ◌==◌, ◌&&◌, Bool, true, false, cond, unwrap_or, Option, Some, None, All, List, [], ◌∷◌, ◌++◌, length, map, take, refl, sym, ap, ◌∙◌, subst, arith, append-nil}
+use Rattle.std.specs.List.{range_with_len}
+use Rattle.std.specs.Str.{bytes_eq}
+use Rattle.std.proofs.lemmas.List.Concat.{flat_map-append}
+use Rattle.std.proofs.lemmas.List.Elements.{All-nil, All-cons, All-head, All-tail}
+use Rattle.grib_base.specs.declared.fault.Fault.{Fault}
+use Rattle.grib_base.specs.Rows.{choose}
+use Rattle.grib_reasons.specs.declared.cause.Cause.TheVariants.{EditionOne}
+use Rattle.grib_io.specs.Shelves.{Held}
+use Rattle.grib2_sections.specs.Head.{edition}
+use Rattle.grib2_message.specs.Message.{IsMessage}
+use Rattle.grib2_message.specs.Fields.{field_count}
+use Rattle.grib_stream.specs.Acts.{Act, Writes, Makes, Adds, World, world, writes, held_after, Did, DidFront}
+use Rattle.grib_stream.specs.Outcomes.{is_truncated}
+use Rattle.grib_stream.specs.Stream.{Found, Judgement, Message, Faulty, begins}
+use Rattle.grib_items.specs.declared.policy.Instead.{Instead}
+use Rattle.grib_items.specs.declared.policy.Policy.{Policy}
+use Rattle.grib_items.specs.Answer.{Counts, Answered, passes, no_counts, instead_of, is_copied, refused_instead, one_answered, one_kept, one_refused, place_by, on_given, on_comes, after, answers}
+use Rattle.grib_items.specs.Deeds.{Deeds, deeds}
+use Rattle.grib_items.specs.Items.{Passed, Item, Accepted, Refused, End, Over, Refusing, Open, Items, items_from, on_next}
+use Rattle.grib_items.specs.Run.{answer_of}
+use Rattle.grib_items.specs.Next.{Unknown, Refuses, next_judged, next_passed, passed}
+use Rattle.grib_command.specs.Command.{task}
+use Rattle.grib_command.specs.Judging.{judge, fields_of}
+use Rattle.grib_command.specs.Texts.{texts}
+use Rattle.grib_edit.specs.Parts.{Part, part_name, part_of, parts_of, adds, puts, puts_all, octets_within}
+use Rattle.grib_edit.specs.Splitting.{split_command, split_lawful}
+use Rattle.grib_dispatch.specs.Lawful.{lawful, fields_other}
+use Rattle.grib_run_spec.specs.Stated.{plan_by}
+use Rattle.grib_run_law.specs.Answered.{items_of}
+use Rattle.grib_run_law.specs.Shelved.{OfNames, before_first_kept, reached, parts_here, parts_among, items_reached, parts_within, SplitsFields, StandFirst, StandAll}
+use Rattle.grib_run_law.specs.Written.{stated_of}
+use Rattle.grib_run_law.proofs.Accepting.{IsAccepted, OfMessage}
+use Rattle.grib_run_law.proofs.Picking.{CutsOut, all_alone, all_columns}
+use Rattle.grib_run_law.proofs.Standing.{Distinct, stand_first, stand_all, same_number}
+
+-- ---- the acts that touch names
+
+abbrev on_names : List Act → List Act
+on_names [] = []
+on_names (Writes octet ∷ acts) = on_names acts
+on_names (Makes name ∷ acts) = Makes name ∷ on_names acts
+on_names (Adds name octet ∷ acts) = Adds name octet ∷ on_names acts
+
+on_names-append : (xs ys : List Act) → on_names (xs ++ ys) ≡ on_names xs ++ on_names ys
+on_names-append [] ys = refl
+on_names-append (Writes octet ∷ xs) ys = on_names-append xs ys
+on_names-append (Makes name ∷ xs) ys = ap (λ acts. Makes name ∷ acts) (on_names-append xs ys)
+on_names-append (Adds name octet ∷ xs) ys = ap (λ acts. Adds name octet ∷ acts) (on_names-append xs ys)
+
+-- what is written does not change what stands under a name
+held_alike : (name : List ℕ) (held : Option (List ℕ)) (acts : List Act) → held_after name held acts ≡ held_after name held (on_names acts)
+held_alike name held [] = refl
+held_alike name held (Writes octet ∷ acts) = held_alike name held acts
+held_alike name held (Makes other ∷ acts) = held_alike name (cond (bytes_eq other name) (Some []) held) acts
+held_alike name held (Adds other octet ∷ acts) = held_alike name (cond (bytes_eq other name) (Some (unwrap_or held [] ++ octet ∷ [])) held) acts
+
+none_written : (octets : List ℕ) → on_names (writes octets) ≡ []
+none_written [] = refl
+none_written (octet ∷ octets) = none_written octets
+
+all_adds : (name octets : List ℕ) → on_names (adds name octets) ≡ adds name octets
+all_adds name [] = refl
+all_adds name (octet ∷ octets) = ap (λ acts. Adds name octet ∷ acts) (all_adds name octets)
+
+all_puts : (parts : List Part) → on_names (puts_all parts) ≡ puts_all parts
+all_puts [] = refl
+all_puts (p ∷ parts) =
+    on_names-append (puts p) (puts_all parts)
+    ∙ (ap (λ acts. (Makes p.name ∷ acts) ++ on_names (puts_all parts)) (all_adds p.name p.octets) ∙ ap (λ acts. puts p ++ acts) (all_puts parts))
+
+-- ---- what stands on a shelf that tells its names
+
+names_first : (parts : List Part) → Distinct parts → (acts : List Act) → on_names acts ≡ puts_all parts → (output output_now : Option (List ℕ)) (names names_now : Option Held)
+    → DidFront (world output names) (world output_now names_now) acts → OfNames names names_now (λ held held_now. (count : ℕ) × StandFirst parts held held_now count)
+names_first parts distinct acts are output output_now None names_now did = tt
+names_first parts distinct acts are output output_now (Some held) None (front, rest, is, did) = did.names
+names_first parts distinct acts are output output_now (Some held) (Some held_now) (front, rest, is, did) =
+    stand_first parts distinct (on_names front) (on_names rest) (sym are ∙ (ap on_names is ∙ on_names-append front rest)) held held_now
+    (λ name. did.names name ∙ held_alike name (held name) front)
+
+names_all : (parts : List Part) → Distinct parts → (acts : List Act) → on_names acts ≡ puts_all parts → (output output_now : Option (List ℕ)) (names names_now : Option Held)
+    → Did (world output names) (world output_now names_now) acts → OfNames names names_now (StandAll parts)
+names_all parts distinct acts are output output_now None names_now did = tt
+names_all parts distinct acts are output output_now (Some held) None did = did.names
+names_all parts distinct acts are output output_now (Some held) (Some held_now) did =
+    stand_all parts distinct held held_now (λ name. did.names name ∙ (held_alike name (held name) acts ∙ ap (held_after name (held name)) are))
+
+-- ---- what an answer does to names
+
+-- it puts these parts, and nothing is done at its end
+record Puts (parts : List Part) (answer : Answered) : Type 0 where
+  acts : on_names answer.deeds.acts ≡ puts_all parts
+  ending : answer.ending ≡ []
+
+puts_then : (here rest : List Part) (done : Deeds) (later : Answered) → on_names done.acts ≡ puts_all here → Puts rest later → Puts (here ++ rest) (after done later)
+puts_then here rest done later own more = record {
+  acts = on_names-append done.acts later.deeds.acts
+      ∙ (ap (λ acts. acts ++ on_names later.deeds.acts) own ∙ (ap (λ acts. puts_all here ++ acts) more.acts ∙ sym (flat_map-append puts here rest)));
+  ending = more.ending;
+}
+
+-- the parts of a message, by its edition, and then others
+here_is : (out : List ℕ) (before : ℕ) (message : List ℕ) (rest : List Part) (b : Bool) → (edition message == 1) ≡ b
+    → choose b (λ _. []) (λ _. parts_of out before message) ++ rest ≡ parts_here out before message ++ rest
+here_is out before message rest b is = ap (λ c. choose c (λ _. []) (λ _. parts_of out before message) ++ rest) (sym is)
+
+module _ (out : List ℕ) (policy : Policy) where
+  -- where a message of edition 2 is the next
+  other_then : (counts : Counts) (found : Found) (reached_later : List Item) (later : Counts → Answered) → (edition found.octets == 1) ≡ false
+      → ((counts : Counts) → Puts (parts_among out counts.fields reached_later) (later counts))
+      → Puts (parts_among out counts.fields (Accepted found ∷ reached_later))
+      (after (deeds (puts_all (parts_of out counts.fields found.octets)) []) (later (one_answered counts (fields_of found.octets) (octets_within (parts_of out counts.fields found.octets)))))
+  other_then counts found reached_later later is rest =
+      let next = one_answered counts (fields_of found.octets) (octets_within (parts_of out counts.fields found.octets)) in
+      subst (λ parts. Puts parts (after (deeds (puts_all (parts_of out counts.fields found.octets)) []) (later next)))
+      (here_is out counts.fields found.octets (parts_among out (counts.fields + fields_of found.octets) reached_later) false is)
+      (puts_then (parts_of out counts.fields found.octets) (parts_among out (counts.fields + fields_of found.octets) reached_later)
+      (deeds (puts_all (parts_of out counts.fields found.octets)) []) (later next) (all_puts (parts_of out counts.fields found.octets)) (rest next))
+
+  message_then : (instead : Option Instead) (b : Bool) (counts : Counts) (found : Found) (items : List Item) (later : Counts → Answered) → (edition found.octets == 1) ≡ b
+      → ((counts : Counts) → Puts (parts_among out counts.fields (reached instead items)) (later counts))
+      → Puts (parts_among out counts.fields (reached instead (Accepted found ∷ items)))
+      (on_comes
+      (on_given texts instead counts (place_by counts found.before) (fields_of found.octets) found.octets
+      (choose b (λ _. (split_command out).first (place_by counts found.before) found.octets) (λ _. (split_command out).second (place_by counts found.before) found.octets)))
+      (λ done counts. after done (later counts)))
+  message_then None true counts found items later is rest = record {
+    acts = ap (λ b. puts_all (parts_among out counts.fields (choose b (λ _. []) (λ _. Accepted found ∷ before_first_kept items)))) (sym is);
+    ending = refl;
+  }
+  message_then None false counts found items later is rest =
+      subst (λ b. Puts (parts_among out counts.fields (choose b (λ _. []) (λ _. Accepted found ∷ before_first_kept items)))
+      (after (deeds (puts_all (parts_of out counts.fields found.octets)) []) (later (one_answered counts (fields_of found.octets) (octets_within (parts_of out counts.fields found.octets))))))
+      (sym is) (other_then counts found (before_first_kept items) later is rest)
+  message_then (Some instead) true counts found items later is rest =
+      let next = one_kept counts (fields_of found.octets) (length (instead_of instead found.octets)) in
+      let line = texts.kept (place_by counts found.before) (record { message = (place_by counts found.before).message; cause = EditionOne }) in
+      subst (λ parts. Puts parts (after (deeds (writes (instead_of instead found.octets)) (line ∷ [])) (later next)))
+      (here_is out counts.fields found.octets (parts_among out (counts.fields + fields_of found.octets) items) true is)
+      (puts_then [] (parts_among out (counts.fields + fields_of found.octets) items) (deeds (writes (instead_of instead found.octets)) (line ∷ [])) (later next)
+      (none_written (instead_of instead found.octets)) (rest next))
+  message_then (Some instead) false counts found items later is rest = other_then counts found items later is rest
+
+  -- a refusal has no part
+  refused_then : (before : ℕ) (instead : Option Instead) (refused : Passed) (items : List Item)
+      → parts_among out before (reached instead items) ≡ parts_among out before (reached instead (Refused refused ∷ items))
+  refused_then before None refused items = refl
+  refused_then before (Some instead) refused items = refl
+
+  none_reached : (before : ℕ) (instead : Option Instead) → [] ≡ puts_all (parts_among out before (reached instead []))
+  none_reached before None = refl
+  none_reached before (Some instead) = refl
+
+  acts_among : (counts : Counts) (items : List Item) (end : End) → Puts (parts_among out counts.fields (reached policy.kept items)) (answers (task (split_command out)) texts policy counts items end)
+  acts_among counts [] (Over skipped) = record { acts = none_reached counts.fields policy.kept; ending = refl }
+  acts_among counts [] (Refusing fault) = record { acts = none_reached counts.fields policy.kept; ending = refl }
+  acts_among counts [] Open = record { acts = none_reached counts.fields policy.kept; ending = refl }
+  acts_among counts (Accepted found ∷ items) end =
+      message_then policy.kept (edition found.octets == 1) counts found items (λ counts. answers (task (split_command out)) texts policy counts items end) refl
+      (λ counts. acts_among counts items end)
+  acts_among counts (Refused refused ∷ items) end =
+      let octets = refused_instead policy.refused refused.octets in
+      let next = one_refused counts (length octets) in
+      let line = texts.refused (is_copied policy.refused refused.octets) (place_by counts refused.before) refused.fault in
+      subst (λ parts. Puts parts (after (deeds (writes octets) (line ∷ [])) (answers (task (split_command out)) texts policy next items end)))
+      (refused_then counts.fields policy.kept refused items)
+      (puts_then [] (parts_among out counts.fields (reached policy.kept items)) (deeds (writes octets) (line ∷ [])) (answers (task (split_command out)) texts policy next items end)
+      (none_written octets) (acts_among next items end))
+
+  -- what is done for octets of which more may follow, before their end
+  acts_read : (octets : List ℕ) → on_names ((answer_of (plan_by (split_command out) policy) true octets).deeds.acts ++ []) ≡ puts_all (parts_within out policy true octets)
+  acts_read octets =
+      let found = items_of policy true octets in
+      ap on_names (append-nil (answers (task (split_command out)) texts policy no_counts found.items found.end).deeds.acts) ∙ (acts_among no_counts found.items found.end).acts
+
+  -- what is done for octets, of which more may follow or not
+  acts_done : (more : Bool) (octets : List ℕ) → on_names (stated_of (split_command out) policy more octets).acts ≡ puts_all (parts_within out policy more octets)
+  acts_done more octets =
+      let found = items_of policy more octets in
+      let answer = answers (task (split_command out)) texts policy no_counts found.items found.end in
+      let own = acts_among no_counts found.items found.end in
+      ap (λ ending. on_names (answer.deeds.acts ++ ending)) own.ending ∙ (ap on_names (append-nil answer.deeds.acts) ∙ own.acts)
+
+-- ---- the names of the parts differ
+
+fields_among : List Item → ℕ
+fields_among [] = 0
+fields_among (Accepted found ∷ later) = fields_of found.octets + fields_among later
+fields_among (Refused refused ∷ later) = fields_among later
+
+-- the parts of some fields of a message, and then others
+apart_then : (out : List ℕ) (a before : ℕ) (message : List ℕ) (i n : ℕ) (rest : List Part) → a < before + i → before + (i + n) ≤ 2 ^ 64
+    → All (λ (q : Part). q.name ≢ part_name out a) rest → All (λ (q : Part). q.name ≢ part_name out a) (map (part_of out before message) (range_with_len i n) ++ rest)
+apart_then out a before message i zero rest low few others = others
+apart_then out a before message i (suc n) rest low few others =
+    All-cons (λ (q : Part). q.name ≢ part_name out a) (part_of out before message i) (map (part_of out before message) (range_with_len (i + 1) n) ++ rest)
+    (λ is. absurd (let same = same_number out (before + i) a (omega arith) (omega arith) is in omega arith))
+    (apart_then out a before message (i + 1) n rest (omega arith) (omega arith) others)
+
+distinct_then : (out : List ℕ) (before : ℕ) (message : List ℕ) (i n : ℕ) (rest : List Part) → before + (i + n) ≤ 2 ^ 64
+    → ((a : ℕ) → a < before + (i + n) → All (λ (q : Part). q.name ≢ part_name out a) rest) → Distinct rest → Distinct (map (part_of out before message) (range_with_len i n) ++ rest)
+distinct_then out before message i zero rest few others distinct = distinct
+distinct_then out before message i (suc n) rest few others distinct = (
+  apart_then out (before + i) before message (i + 1) n rest (omega arith) (omega arith) (others (before + i) (omega arith)),
+  distinct_then out before message (i + 1) n rest (omega arith) (λ a low. others a (omega arith)) distinct,
+)
+
+-- the parts of a message, by its edition
+apart_here : (out : List ℕ) (a before : ℕ) (message : List ℕ) (rest : List Part) → a ≤ before → before + fields_of message < 2 ^ 64
+    → (b : Bool) → (edition message == 1) ≡ b
+    → All (λ (q : Part). q.name ≢ part_name out a) rest → All (λ (q : Part). q.name ≢ part_name out a) (choose b (λ _. []) (λ _. parts_of out before message) ++ rest)
+apart_here out a before message rest low few true is others = others
+apart_here out a before message rest low few false is others =
+    let same : fields_of message ≡ field_count message = fields_other message is in
+    apart_then out a before message 1 (field_count message) rest (omega arith) (omega arith) others
+
+distinct_here : (out : List ℕ) (before : ℕ) (message : List ℕ) (rest : List Part) → before + fields_of message < 2 ^ 64
+    → (b : Bool) → (edition message == 1) ≡ b
+    → ((a : ℕ) → a ≤ before + fields_of message → All (λ (q : Part). q.name ≢ part_name out a) rest) → Distinct rest → Distinct (choose b (λ _. []) (λ _. parts_of out before message) ++ rest)
+distinct_here out before message rest few true is others distinct = distinct
+distinct_here out before message rest few false is others distinct =
+    let same : fields_of message ≡ field_count message = fields_other message is in
+    distinct_then out before message 1 (field_count message) rest (omega arith) (λ a low. others a (omega arith)) distinct
+
+-- no part of these items has the name of a number that is not above those before them
+apart_among : (out : List ℕ) (a before : ℕ) (items : List Item) → a ≤ before → before + fields_among items < 2 ^ 64
+    → All (λ (q : Part). q.name ≢ part_name out a) (parts_among out before items)
+unfolding fields_among
+apart_among out a before [] low few = All-nil (λ (q : Part). q.name ≢ part_name out a)
+apart_among out a before (Accepted found ∷ later) low few =
+    apart_here out a before found.octets (parts_among out (before + fields_of found.octets) later) low (omega arith) (edition found.octets == 1) refl
+    (apart_among out a (before + fields_of found.octets) later (omega arith) (omega arith))
+apart_among out a before (Refused refused ∷ later) low few = apart_among out a before later low few
+
+distinct_among : (out : List ℕ) (before : ℕ) (items : List Item) → before + fields_among items < 2 ^ 64 → Distinct (parts_among out before items)
+unfolding fields_among
+distinct_among out before [] few = tt
+distinct_among out before (Accepted found ∷ later) few =
+    distinct_here out before found.octets (parts_among out (before + fields_of found.octets) later) (omega arith) (edition found.octets == 1) refl
+    (λ a low. apart_among out a (before + fields_of found.octets) later low (omega arith))
+    (distinct_among out (before + fields_of found.octets) later (omega arith))
+distinct_among out before (Refused refused ∷ later) few = distinct_among out before later few
+
+-- ---- an input has no more fields than octets
+
+few_choice : (b : Bool) (found : Found) (items : List Item) → fields_among (before_first_kept items) ≤ fields_among items
+    → fields_among (choose b (λ _. []) (λ _. Accepted found ∷ before_first_kept items)) ≤ fields_among (Accepted found ∷ items)
+unfolding fields_among
+few_choice true found items few = omega arith
+few_choice false found items few = omega arith
+
+few_first : (items : List Item) → fields_among (before_first_kept items) ≤ fields_among items
+unfolding fields_among
+few_first [] = omega arith
+few_first (Accepted found ∷ items) = few_choice (edition found.octets == 1) found items (few_first items)
+few_first (Refused refused ∷ items) = few_first items
+
+few_reached : (instead : Option Instead) (items : List Item) → fields_among (reached instead items) ≤ fields_among items
+few_reached None items = few_first items
+few_reached (Some instead) items = omega arith
+
+module _ (place skipped n : ℕ) (octets : List ℕ) (size : n + 1 ≡ length octets) (go : ℕ → ℕ → Items) (later : (inside skipped : ℕ) → fields_among (go inside skipped).items ≤ n - inside) where
+  few_refused : (waits passes : Bool) (fault : Fault) (far : Option ℕ)
+      → fields_among (on_next (cond waits Unknown (cond passes (next_passed fault far) (Refuses fault))) place skipped octets go).items ≤ length octets
+  unfolding fields_among
+  few_refused true passes fault far = omega arith
+  few_refused false false fault far = omega arith
+  few_refused false true fault None = omega arith
+  few_refused false true fault (Some octets_passed) = omega (arith, later (octets_passed - 1) (skipped + octets_passed), size)
+
+  few_judged : (passes more : Bool) (j : Judgement) → judge octets ≡ j → fields_among (on_next (next_judged passes more octets j) place skipped octets go).items ≤ length octets
+  unfolding fields_among
+  few_judged passes more (Message total) is =
+      let law = lawful (split_command []) (split_lawful []) in
+      let few : fields_of (take total octets) ≤ total = law.few_fields octets total is in
+      let least : 4 ≤ total = law.least octets total is in
+      let there : total ≤ length octets = law.there octets total is in
+      let rest : fields_among (go (total - 1) skipped).items ≤ n - (total - 1) = later (total - 1) skipped in
+      omega (arith, size)
+  few_judged passes more (Faulty fault) is = few_refused (more && is_truncated fault.reason) passes fault (passed more octets)
+
+few_begun : (b : Bool) (x y : Items) (n : ℕ) → (b ≡ true → fields_among x.items ≤ n) → fields_among y.items ≤ n → fields_among (choose b (λ _. x) (λ _. y)).items ≤ n
+few_begun true x y n first second = first refl
+few_begun false x y n first second = second
+
+few_from : (passes more : Bool) (inside place skipped : ℕ) (octets : List ℕ) → fields_among (items_from judge passes more inside place skipped octets).items ≤ length octets - inside
+unfolding fields_among
+few_from passes more zero place skipped [] = omega arith
+few_from passes more (suc inside) place skipped [] = omega arith
+few_from passes more (suc inside) place skipped (octet ∷ octets) = let few = few_from passes more inside (place + 1) skipped octets in omega arith
+few_from passes more zero place skipped (octet ∷ octets) =
+    few_begun (begins (octet ∷ octets)) _ _ (length (octet ∷ octets) - 0)
+    (λ begun. let few = few_judged place skipped (length octets) (octet ∷ octets) (omega arith) (λ inside skipped. items_from judge passes more inside (place + 1) skipped octets)
+    (λ inside skipped. few_from passes more inside (place + 1) skipped octets) passes more (judge (octet ∷ octets)) refl in omega arith)
+    (let few = few_from passes more zero (place + 1) (skipped + 1) octets in omega arith)
+
+distinct : (out : List ℕ) (policy : Policy) (more : Bool) (input : List ℕ) → length input < 2 ^ 64 → Distinct (parts_within out policy more input)
+distinct out policy more input short =
+    let found : List Item = (items_of policy more input).items in
+    let few : fields_among found ≤ length input - 0 = few_from (passes policy) more 0 0 0 input in
+    let fewer : fields_among (reached policy.kept found) ≤ fields_among found = few_reached policy.kept found in
+    distinct_among out 0 (reached policy.kept found) (omega arith)
+
+-- ---- the shelf
+
+pub stands_first : (out : List ℕ) (policy : Policy) (more : Bool) (octets : List ℕ) (before now : World) → length octets < 2 ^ 64
+    → DidFront before now (stated_of (split_command out) policy more octets).acts
+    → OfNames before.names now.names (λ held held_now. (count : ℕ) × StandFirst (parts_within out policy more octets) held held_now count)
+stands_first out policy more octets before now short did =
+    names_first (parts_within out policy more octets) (distinct out policy more octets short) _ (acts_done out policy more octets) before.output now.output before.names now.names did
+
+pub stands_all : (out : List ℕ) (policy : Policy) (more : Bool) (octets : List ℕ) (before now : World) → length octets < 2 ^ 64
+    → Did before now (stated_of (split_command out) policy more octets).acts → OfNames before.names now.names (StandAll (parts_within out policy more octets))
+stands_all out policy more octets before now short did =
+    names_all (parts_within out policy more octets) (distinct out policy more octets short) _ (acts_done out policy more octets) before.output now.output before.names now.names did
+
+pub read_all : (out : List ℕ) (policy : Policy) (octets : List ℕ) (before now : World) → length octets < 2 ^ 64
+    → Did before now ((answer_of (plan_by (split_command out) policy) true octets).deeds.acts ++ []) → OfNames before.names now.names (StandAll (parts_within out policy true octets))
+read_all out policy octets before now short did =
+    names_all (parts_within out policy true octets) (distinct out policy true octets short) _ (acts_read out policy octets) before.output now.output before.names now.names did
+
+-- ---- the fields of the parts
+
+reached_chosen : (P : Item → Type 0) (b : Bool) (found : Found) (items : List Item) → P (Accepted found) → All P items → All P (choose b (λ _. []) (λ _. Accepted found ∷ items))
+reached_chosen P true found items own all = All-nil P
+reached_chosen P false found items own all = All-cons P (Accepted found) items own all
+
+before_all : (P : Item → Type 0) (items : List Item) → All P items → All P (before_first_kept items)
+before_all P [] all = All-nil P
+before_all P (Refused refused ∷ items) all = All-cons P (Refused refused) (before_first_kept items) (All-head P (Refused refused) items all) (before_all P items (All-tail P (Refused refused) items all))
+before_all P (Accepted found ∷ items) all =
+    reached_chosen P (edition found.octets == 1) found (before_first_kept items) (All-head P (Accepted found) items all) (before_all P items (All-tail P (Accepted found) items all))
+
+reached_all : (P : Item → Type 0) (instead : Option Instead) (items : List Item) → All P items → All P (reached instead items)
+reached_all P None items all = before_all P items all
+reached_all P (Some instead) items all = all
+
+pub splits : ((message : List ℕ) (i : ℕ) → IsMessage message → 1 ≤ i → i ≤ field_count message → CutsOut message i) → (out : List ℕ) (policy : Policy) (more : Bool) (octets : List ℕ)
+    → All (OfMessage IsAccepted) (items_of policy more octets).items → SplitsFields out policy more octets
+splits law out policy more octets accepted =
+    let all = reached_all (OfMessage IsAccepted) policy.kept (items_of policy more octets).items accepted in
+    record { alone = all_alone law out 0 (items_reached policy more octets) all; columns = all_columns law out 0 (items_reached policy more octets) all }

@@ -1,0 +1,111 @@
+-- What `split` leaves on a shelf, wherever its run ends. Of a device that does not tell what it holds, nothing is said.
+use Rattle.std.specs.Prelude.{◌≡◌, ◌≢◌, ℕ, ◌+◌, ◌^◌, ◌==◌, ◌⊎◌, Bool, true, false, Some, None, List, [], ◌∷◌, ◌++◌, map, take, drop, All, IfSome}
+use Rattle.std.specs.List.{flat_map}
+use Rattle.std.specs.declared.option.Option.{Option}
+use Rattle.grib_base.specs.Rows.{choose}
+use Rattle.grib_io.specs.Shelves.{Held}
+use Rattle.grib_packing.specs.declared.column.Column.{Column}
+use Rattle.grib2_sections.specs.Head.{edition}
+use Rattle.grib2_message.specs.Message.{IsMessage}
+use Rattle.grib2_message.specs.Fields.{field_count, column_of}
+use Rattle.grib_stream.specs.declared.outcome.Outcome.{Outcome}
+use Rattle.grib_stream.specs.declared.outcome.Outcome.TheVariants.{ReadFault}
+use Rattle.grib_stream.specs.Outcomes.{is_broken}
+use Rattle.grib_items.specs.declared.policy.Instead.{Instead}
+use Rattle.grib_items.specs.declared.policy.Policy.{Policy}
+use Rattle.grib_items.specs.Items.{Item, Accepted, Refused}
+use Rattle.grib_command.specs.Judging.{fields_of}
+use Rattle.grib_edit.specs.Parts.{Part, parts_of}
+use Rattle.grib_run_spec.specs.Seen.{Seen}
+use Rattle.grib_run_law.specs.Answered.{items_of, is_longer, OfTaken}
+use Rattle.grib_run_law.specs.Same.{columns_of}
+
+-- ---- the parts of an input
+
+-- the items before the first message of edition 1, which is kept
+abbrev pub before_first_kept : List Item → List Item
+before_first_kept [] = []
+before_first_kept (Refused refused ∷ later) = Refused refused ∷ before_first_kept later
+before_first_kept (Accepted found ∷ later) = choose (edition found.octets == 1) (λ _. []) (λ _. Accepted found ∷ before_first_kept later)
+
+-- The items that are answered: all of them where something is written instead of a kept message, and else those before
+-- the first that is kept.
+abbrev pub reached : Option Instead → List Item → List Item
+reached None items = before_first_kept items
+reached (Some instead) items = items
+
+-- the parts of a message, before which the input has this many fields: one of edition 1 has none
+abbrev pub parts_here : List ℕ → ℕ → List ℕ → List Part
+parts_here out before message = choose (edition message == 1) (λ _. []) (λ _. parts_of out before message)
+
+-- The parts of the messages among these items, before which the input has this many fields. A message of edition 1 has
+-- no part, but its field counts; what is refused has neither.
+abbrev pub parts_among : List ℕ → ℕ → List Item → List Part
+parts_among out before [] = []
+parts_among out before (Refused refused ∷ later) = parts_among out before later
+parts_among out before (Accepted found ∷ later) =
+    parts_here out before found.octets ++ parts_among out (before + fields_of found.octets) later
+
+-- the items of octets that are answered, where more octets may follow or not
+abbrev pub items_reached : Policy → Bool → List ℕ → List Item
+items_reached policy more octets = reached policy.kept (items_of policy more octets).items
+
+-- the parts of their messages
+abbrev pub parts_within : List ℕ → Policy → Bool → List ℕ → List Part
+parts_within out policy more octets = parts_among out 0 (items_reached policy more octets)
+
+-- those of an input, as far as it is answered
+abbrev pub parts_answered : List ℕ → Policy → List ℕ → List Part
+parts_answered out policy input = parts_within out policy (is_longer input) (take (2 ^ 40) input)
+
+-- a part is an accepted message of one field
+pub record IsAlone (part : Part) : Type 0 where
+  pub accepted : IsMessage part.octets
+  pub one_field : field_count part.octets ≡ 1
+
+-- the columns of the fields that have parts
+abbrev pub columns_here : Item → List Column
+columns_here (Accepted found) = choose (edition found.octets == 1) (λ _. []) (λ _. columns_of found.octets)
+columns_here (Refused refused) = []
+
+-- the parts are the fields in their order, each as an accepted message of its own with its column
+pub record SplitsFields (out : List ℕ) (policy : Policy) (more : Bool) (octets : List ℕ) : Type 0 where
+  pub alone : All IsAlone (parts_within out policy more octets)
+  pub columns : map (λ part. column_of part.octets 1) (parts_within out policy more octets) ≡ flat_map columns_here (items_reached policy more octets)
+
+-- ---- how they stand
+
+-- what stands under the name of a part that may be begun: what stood there, or some first octets of the part
+abbrev pub MayBeBegun : Part → Option (List ℕ) → Option (List ℕ) → Type 0
+MayBeBegun part before now = (now ≡ before) ⊎ ((front rest : List ℕ) × (part.octets ≡ front ++ rest) × (now ≡ Some front))
+
+-- This many first parts stand whole under their names, and the next may be begun. Each other name has what it had.
+pub record StandFirst (parts : List Part) (before now : Held) (count : ℕ) : Type 0 where
+  pub whole : All (λ part. now part.name ≡ Some part.octets) (take count parts)
+  pub next : (part : Part) (later : List Part) → drop count parts ≡ part ∷ later → MayBeBegun part (before part.name) (now part.name)
+  pub others : (name : List ℕ) → All (λ part. part.name ≢ name) (take (count + 1) parts) → now name ≡ before name
+
+-- all parts stand whole under their names, and each other name has what it had
+pub record StandAll (parts : List Part) (before now : Held) : Type 0 where
+  pub whole : All (λ part. now part.name ≡ Some part.octets) parts
+  pub others : (name : List ℕ) → All (λ part. part.name ≢ name) parts → now name ≡ before name
+
+-- ---- what a run leaves
+
+-- what holds of the names of a shelf before and after, where it tells them
+abbrev pub OfNames : Option Held → Option Held → (Held → Held → Type 0) → Type 0
+OfNames None now P = Unit {0}
+OfNames (Some before) None P = ⊥
+OfNames (Some before) (Some now) P = P before now
+
+-- Of the parts of an input some number of first ones stand, and all where neither a device nor memory ended the run.
+pub record PutsParts (out : List ℕ) (policy : Policy) (outcome : Outcome) (before now : Seen) (input : List ℕ) : Type 0 where
+  pub first : OfNames before.names now.names (λ held held_now. (count : ℕ) × StandFirst (parts_answered out policy input) held held_now count)
+  pub whole : is_broken outcome ≡ false → OfNames before.names now.names (StandAll (parts_answered out policy input))
+
+-- So by what was left of the input, where that is told, and by the octets that were taken. After a fault of the
+-- input all parts stand that these have while more may follow.
+pub record LeavesNames (out : List ℕ) (policy : Policy) (outcome : Outcome) (before now : Seen) : Type 0 where
+  pub left : IfSome before.left (PutsParts out policy outcome before now)
+  pub taken : OfTaken before now (λ taken. PutsParts out policy outcome before now taken
+      × (outcome ≡ ReadFault → OfNames before.names now.names (StandAll (parts_within out policy true taken))))
