@@ -78,6 +78,8 @@ files() {
 644 CHANGELOG.md share/doc/grib/CHANGELOG.md
 644 params/README.md share/doc/grib/params/README.md
 644 params/names.txt share/doc/grib/params/names.txt
+644 params/surfaces.csv share/doc/grib/params/surfaces.csv
+644 params/surfaces.txt share/doc/grib/params/surfaces.txt
 644 examples/four-points.grib2 share/doc/grib/examples/four-points.grib2
 644 examples/south-north.grib2 share/doc/grib/examples/south-north.grib2
 644 examples/two-fields.grib2 share/doc/grib/examples/two-fields.grib2

@@ -30,7 +30,7 @@ WORDS = {
     "check": [], "list": [], "stats": [], "dump": ["decimals=2"], "filter": ["centre=98"], "set": ["centre=98"],
     "split": ["out=/nonexistent/part"], "repack": ["to=3", "order=1"], "rescan": [], "crop": ["i0=0", "i1=0", "j0=0", "j1=0"],
     "migrate": ["params=/nonexistent/table", "local=keep"],
-    "demote": ["params=/nonexistent/table", "local=keep", "earth=any"], "keys": [], "help": [], "version": [],
+    "demote": ["params=/nonexistent/table", "local=keep", "earth=any", "tables=any"], "keys": [], "help": [], "version": [],
     "make": ["seed=1", "ni=1", "nj=1", "to=3", "order=2"],
 }
 # `refused=` and `kept=`, of the commands that have them.
@@ -201,7 +201,7 @@ def main():
     commands = [re.match(r"[a-z]+", plain(line)).group() for line in re.findall(r"^\.TP\n(.*)\n", section(page, "COMMANDS"), re.M)]
     hold(commands and set(commands) == set(WORDS), f"commands of the page: {commands}")
     hold(set(completed("grib ")) == set(commands), "commands of the completion")
-    helped = re.findall(r"^grib (\w+) ", printed(program, "help"), re.M)
+    helped = dict.fromkeys(re.findall(r"^grib (\w+) ", printed(program, "help"), re.M))
     hold(sorted(helped) == sorted(commands), f"commands of help: {helped}")
     hold(f'"{printed(program, "version").strip()}"' in re.search(r"^\.TH.*", page, re.M).group(), "version of the page")
     for word in ("help", "version"):

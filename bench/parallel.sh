@@ -71,24 +71,53 @@ alike "words without a reading" 4 "$twice" set points=3
 alike "a value that does not fit" 4 "$twice" set month=256
 alike "a message that has no such key" 4 "$twice" set ensembleNumber=1
 # Two hosts: a command in place of ssh runs what it is given in a folder of its own.
-if command -v rsync >/dev/null; then
-  mkdir "$work/home"
-  cat >"$work/ssh" <<SSH
+mkdir "$work/home" "$work/there"
+cat >"$work/ssh" <<SSH
 #!/usr/bin/env bash
 while [[ \$1 == -* ]]; do case \$1 in -[lpoi]) shift 2 ;; *) shift ;; esac; done
+host=\$1
 shift
-[[ \$1 != -- ]] || shift
-cd "$work/home" && HOME=$work/home exec bash -c "\$*"
+[[ \$host != absent ]] || exit 255
+echo "a greeting of the host" >&2
+cd "$work/home" && HOME=$work/home TMPDIR=$work/there exec bash -c "\$*"
 SSH
-  chmod +x "$work/ssh"
-  export GRIB_HOSTS=first,second PARALLEL_SSH=$work/ssh
-  alike "set, two hosts" 2 "$file" set centre=98
-  alike "set, two hosts, damaged" 1 "$work/mixed" set centre=98
-  unset GRIB_HOSTS PARALLEL_SSH
-  stayed=$(find "$work/home" -type f -not -path "*/.parallel/*/setpgrp_func" -not -path "*/.parallel/*/linelen")
-  [[ -z $stayed ]] || { echo "files stayed on a host: $stayed" >&2; failed=1; }
+chmod +x "$work/ssh"
+table=$top/params/standard.csv
+# What each of two hosts is to do, under the names that stand in GRIB_HOSTS.
+on_hosts() { # WHAT
+  alike "$1: set" 2 "$file" set centre=98
+  alike "$1: set, damaged" 1 "$work/mixed" set centre=98
+  alike "$1: filter, cut" 2 "$work/cut" filter centre=7 surface1=100
+  alike "$1: nothing" 2 "$work/nothing" set centre=98
+  alike "$1: migrate" 1 /usr/share/doc/python-grib-doc/examples/regular_latlon_surface.grib1 migrate params="$table" local=keep
+  alike "$1: demote" 2 "$file" demote params="$table" earth=any
+  alike "$1: a value that does not fit" 2 "$twice" set month=256
+}
+PARALLEL_SSH=$work/ssh GRIB_HOSTS=first,me@second:2222 on_hosts "two hosts"
+PARALLEL_SSH=$work/ssh GRIB_HOSTS=first,: alike "a host and this machine: migrate" 1 "$work/mixed" migrate params="$table"
+PARALLEL_SSH=$work/ssh GRIB_HOSTS=absent,first alike "a host that is not there, and one that is" 1 "$twice" set centre=98
+stayed=$(find "$work/home" "$work/there" -type f)
+[[ -z $stayed ]] || { echo "files stayed on a host: $stayed" >&2; failed=1; }
+# This machine by ssh, where a server for it is installed.
+sshd=$(PATH=$PATH:/usr/sbin type -P sshd) || sshd=''
+server=''
+if [[ -n $sshd ]]; then
+  mkdir "$work/keys"
+  ssh-keygen -q -t ed25519 -N '' -f "$work/keys/host"
+  ssh-keygen -q -t ed25519 -N '' -f "$work/keys/user"
+  port=$((20000 + RANDOM % 10000))
+  printf '%s\n' "Port $port" "ListenAddress 127.0.0.1" "HostKey $work/keys/host" "AuthorizedKeysFile $work/keys/user.pub" "PidFile none" \
+    "StrictModes no" "UsePAM no" "MaxStartups 200" "PermitRootLogin yes" >"$work/keys/conf"
+  [[ $(id -u) != 0 ]] || mkdir -p /run/sshd
+  "$sshd" -D -f "$work/keys/conf" 2>"$work/keys/log" &
+  server=$!
+  trap 'kill "$server" 2>/dev/null; rm -rf "$work"' EXIT
+  by_ssh="ssh -q -i $work/keys/user -p $port -o StrictHostKeyChecking=no -o UserKnownHostsFile=/dev/null 127.0.0.1"
+  for ((n = 0; n < 100; n++)); do ${by_ssh} true 2>/dev/null && break; sleep 0.1; done
+  GRIB_HOSTS=$by_ssh on_hosts "by ssh"
+  GRIB_HOSTS=$by_ssh alike "by ssh: ten times gfs.grb" 2 "$ten" set centre=98
 else
-  echo "hosts: not tried, rsync is not in PATH"
+  echo "hosts by ssh: not tried, sshd is not here"
 fi
 # From a pipe, to a full device, and without GNU parallel.
 "$GRIB" filter centre=7 <"$file" >"$work/one.out" 2>/dev/null
@@ -240,5 +269,11 @@ for _ in 1 2 3; do
   elapsed one >>"$work/one.times"
   elapsed four >>"$work/four.times"
 done
+if [[ -n $server ]]; then
+  by_host() { GRIB_HOSTS=$by_ssh "$top/grib-parallel" 2 set centre=98 <"$ten"; }
+  for _ in 1 2 3; do elapsed by_host >>"$work/host.times"; done
+  awk -v octets="$(wc -c <"$ten")" -v seconds="$(least "$work/host.times")" \
+    'BEGIN { printf "set of ten times gfs.grb by ssh on this machine, two jobs: %.1f MB/s\n", octets / seconds / 1e6 }'
+fi
 awk -v one="$(least "$work/one.times")" -v four="$(least "$work/four.times")" \
   'BEGIN { printf "repack of ten times gfs.grb, four jobs: %.2f times as fast as one run\n", one / four }'
