@@ -492,7 +492,7 @@ def hold_note(words, plain, checked, accepted, written):
 
 
 def has_passing(runner):
-    """Whether the program has words on what a run goes past."""
+    """Whether the program has arguments on what a run carries on after."""
     if not hasattr(runner, "passing"):
         runner.passing = runner.run(["check", "refused=pass"], b"").status == 0
     return runner.passing
@@ -694,12 +694,12 @@ def hold_written(runner, words, data, plain, accepted, parts):
 
 
 def hold_way(words, data, plain, other, way, parts, other_parts):
-    """A run in another way answers as the plain one, or says what failed, with a front of the output."""
+    """A run in another way answers as the plain one, or says what failed, with a prefix of the output."""
     if way in ("directory", "closed input") and words and words[0] != "make" and plain.status != 1:
         hold((other.status, other.output, other.note) == (5, b"", b"read fault\n"), "a directory", words, other.status, other.note)
         return
     same = (other.status, other.note) == (plain.status, plain.note)
-    hold(plain.output.startswith(other.output), "no front of the output", words, way)
+    hold(plain.output.startswith(other.output), "no prefix of the output", words, way)
     if way in ("closed notes", "full notes"):
         hold(other.status == (6 if plain.note else plain.status) and other.note == b"", way, words, other.status, other.note)
         hold(plain.note or other.output == plain.output, "other output " + way, words)

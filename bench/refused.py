@@ -7,8 +7,8 @@ Every command runs on the messages of docs/WORKED.md, and on messages of some th
 memory, to see how many calls for memory there are, and then once for each of them, with that one refused (`most` of
 them, spread evenly, where there are more; bench/refused.c is loaded in front of the C library). A run that is refused
 memory has to answer what the whole run answers, or to end with status 8 and the note `memory`, the note being empty
-where not even the words were there; what it wrote has to be a front of the answer, and what `split` put on the shelf a
-front of each file. Prints the number of runs and what differs. Needs gcc and Linux."""
+where not even the arguments were there; what it wrote has to be a prefix of the result, and what `split` wrote a prefix
+of each file. Prints the number of runs and what differs. Needs gcc and Linux."""
 import os
 import shutil
 import subprocess
@@ -45,11 +45,11 @@ def wrong_in(whole, status, output, note, files):
     if status != 8 or note not in (b"memory\n", b""):
         return f"status {status} with the note {note!r}"
     if not whole[1].startswith(output):
-        return "no front of the output"
+        return "no prefix of the output"
     if note == b"" and (output or files):
         return "no note, and yet something was written"
     if any(name not in whole[3] or not whole[3][name].startswith(octets) for name, octets in files.items()):
-        return "no front of a file"
+        return "no prefix of a file"
     return None
 
 
