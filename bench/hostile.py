@@ -372,14 +372,18 @@ def key_words(draw, can_set, pool):
         value = draw.choice((0, 1, 2, 7, 98, 100, 103, 255, 256, 2024, 50_000, -1, -90, "missing", 65_536, 2**32 - 1))
         if KEYS[key][1] and KEYS[key][0] in starts and draw.random() < 0.7:
             value = key_value(message, starts, key)
-        words.append(f"{key}={value}")
+        mark = ""
+        if not can_set and draw.random() < 0.3:
+            value = draw.choice((f"{value},missing", f"7,{value},98", f"-5..-1,{value}", "..255,missing", "0..", "0..255,300..65536"))
+            mark = draw.choice(("", "", "!"))
+        words.append(f"{key}{mark}={value}")
     return words
 
 
 def wrong_words(draw):
     return draw.choice(([], ["--list"], ["check", "x"], ["dump", "dump"], ["filter"], ["filter", "centre"], ["set", "points=3"],
                         ["set", "centre=98", "centre=98"], ["repack", "to=1"], ["repack", "to=3"], ["repack", "to=03"], ["split", "out="],
-                        ["filter", "centre=1e3"], ["filter", f"year={2**63}"], ["filter", "year=-0"], ["make", "seed=1"], ["Check"],
+                        ["filter", "centre=1e3"], ["filter", "centre=7,,98"], ["filter", "centre=98..7"], ["filter", f"year={2**63}"], ["filter", "year=-0"], ["make", "seed=1"], ["Check"],
                         ["make", f"seed={2**31}", "ni=1", "nj=1", "to=0"], ["repack", "to=2", "order=1"], ["check", ""], [""],
                         ["check", "refused=skip"], ["list", "kept=pass"], ["dump", "kept=copy"], ["filter", "refused=pass"]))
 

@@ -10,7 +10,7 @@ use Rattle.std.proofs.lemmas.List.Sums.{split_at_first, passes_at_first}
 use Rattle.std.proofs.lemmas.Slice.Eq.{bytes_eq-Decides}
 use Rattle.grib_keys.specs.declared.key.Key.{Key}
 use Rattle.grib_keys.specs.declared.condition.Value.{Value}
-use Rattle.grib_keys.specs.declared.condition.Condition.{Condition}
+use Rattle.grib_keys.specs.declared.condition.Change.{Change}
 use Rattle.grib_keys.specs.Keys.{key_named, can_set}
 use Rattle.grib_synthetic.specs.Made.{MayBeMade}
 use Rattle.grib_repack.specs.declared.target.RepackTarget.{RepackTarget}
@@ -23,11 +23,11 @@ use Rattle.grib_cli.specs.declared.words.command.Command.{Command}
 use Rattle.grib_cli.specs.declared.words.command.Command.TheVariants as the
 use Rattle.grib_cli.specs.declared.words.command.Command.TheVariants.{Dump, Filter, Split, Set, Repack, Migrate, Demote, Crop, Make}
 use Rattle.grib_cli.specs.Values.{number, is_number, is_between, key_value}
-use Rattle.grib_cli.specs.Reading.{is, is_equals, has_equals, name_in, value_in, is_key_to_set, is_key_value, entries, takes, is_named, has_name, has_word, is_read, read_count, has_target, is_side, in_order, has_sides, number_if_given, is_complete, command_named, reading_of, reading, value_of, number_of}
-use Rattle.grib_cli.specs.Words.{SidesStand, target_of, condition, conditions_of, job_of_command, job_of_reading, IsUnlessMemory, IsAsked}
+use Rattle.grib_cli.specs.Reading.{is, is_equals, has_equals, name_in, value_in, is_key_to_set, is_key_value, entries, takes, is_named, has_name, has_word, may_repeat, is_read, read_count, has_target, is_side, in_order, has_sides, number_if_given, is_complete, command_named, reading_of, reading, value_of, number_of}
+use Rattle.grib_cli.specs.Words.{SidesStand, target_of, change, changes_of, job_of_command, job_of_reading, IsUnlessMemory, IsAsked}
 
 -- the key of a change can be set
-abbrev CanBeSet : Condition → Type 0
+abbrev CanBeSet : Change → Type 0
 CanBeSet change = IsTrue (can_set change.key)
 
 -- ---- tests
@@ -81,7 +81,8 @@ first_read false n m l e = absurd (omega arith)
 
 taken_when_read : (command : Command) (earlier : List (List ℕ)) (word : List ℕ) → is_read command earlier word ≡ true → taken command word ≡ true
 taken_when_read command earlier word read =
-    (both (taken command word) (not (has_name (name_in word) earlier)) (both (has_equals word) (taken command word && not (has_name (name_in word) earlier)) read).1).0
+    let once = may_repeat command (name_in word) || not (has_name (name_in word) earlier) in
+    (both (taken command word) once (both (has_equals word) (taken command word && once) read).1).0
 
 all_taken : (command : Command) (earlier words : List (List ℕ)) → read_count command earlier words ≡ length earlier + length words → list_all (taken command) words ≡ true
 all_taken command earlier [] e = refl
@@ -335,11 +336,11 @@ decimals_few words read =
 no_changes : All CanBeSet []
 no_changes = All-nil CanBeSet
 
-change_can : (key : Option Key) (value : Option Value) (changes : List Condition) → option_map_or can_set key false ≡ true → All CanBeSet changes
-    → All CanBeSet (cons_option (option_and_then (λ key. option_map (condition key) value) key) changes)
+change_can : (key : Option Key) (value : Option Value) (changes : List Change) → option_map_or can_set key false ≡ true → All CanBeSet changes
+    → All CanBeSet (cons_option (option_and_then (λ key. option_map (change key) value) key) changes)
 change_can None value changes can all = absurd (false≢true can)
 change_can (Some key) None changes can all = all
-change_can (Some key) (Some value) changes can all = All-cons CanBeSet (condition key value) changes can all
+change_can (Some key) (Some value) changes can all = All-cons CanBeSet (change key value) changes can all
 
 -- the name of a word that is read is that of a key that can be set, or of none
 key_can : (name value : List ℕ) → takes (entries Set) name value ≡ true → (is_key_to_set name ≡ true) ⊎ (key_named name ≡ None)
@@ -351,17 +352,17 @@ key_can name value h =
     (either (is (codes "refused") name && (is (codes "copy") value || is (codes "pass") value)) ((is (codes "kept") name && (is (codes "copy") value || is (codes "pass") value)) || false) past))
     (either (is_key_to_set name && is_key_value value) ((is (codes "refused") name && (is (codes "copy") value || is (codes "pass") value)) || ((is (codes "kept") name && (is (codes "copy") value || is (codes "pass") value)) || false)) h)
 
-keyless_can : (key : Option Key) (value : Option Value) (changes : List Condition) → key ≡ None → All CanBeSet changes
-    → All CanBeSet (cons_option (option_and_then (λ key. option_map (condition key) value) key) changes)
+keyless_can : (key : Option Key) (value : Option Value) (changes : List Change) → key ≡ None → All CanBeSet changes
+    → All CanBeSet (cons_option (option_and_then (λ key. option_map (change key) value) key) changes)
 keyless_can None value changes none all = all
 keyless_can (Some key) value changes none all = let no : ⊥ = cc in absurd no
 
-changes_can : (words : List (List ℕ)) → list_all (taken Set) words ≡ true → All CanBeSet (conditions_of words)
+changes_can : (words : List (List ℕ)) → list_all (taken Set) words ≡ true → All CanBeSet (changes_of words)
 changes_can [] all = no_changes
 changes_can (word ∷ later) all =
     let parts = both (taken Set word) (list_all (taken Set) later) all in
-    ⊎_elim (λ can. change_can (key_named (name_in word)) (key_value (value_in word)) (conditions_of later) can (changes_can later parts.1))
-    (λ none. keyless_can (key_named (name_in word)) (key_value (value_in word)) (conditions_of later) none (changes_can later parts.1))
+    ⊎_elim (λ can. change_can (key_named (name_in word)) (key_value (value_in word)) (changes_of later) can (changes_can later parts.1))
+    (λ none. keyless_can (key_named (name_in word)) (key_value (value_in word)) (changes_of later) none (changes_can later parts.1))
     (key_can (name_in word) (value_in word) parts.0)
 
 -- ---- the job

@@ -4,4 +4,5 @@ mod Counts
 mod Promised
 mod Asked
 pub mod Printed
+mod Single
 mod Helped

@@ -8,8 +8,8 @@ use Rattle.grib_keys.specs.declared.condition.Value.{Value}
 use Rattle.grib_keys.specs.Keys.{key_named}
 use Rattle.grib_cli.specs.declared.words.command.Command.{Command}
 use Rattle.grib_cli.specs.Values.{key_value}
-use Rattle.grib_cli.specs.Reading.{is_equals, has_equals, name_in, value_in, is_named, is_on_key, is_read}
-use Rattle.grib_cli.specs.Words.{condition, condition_of}
+use Rattle.grib_cli.specs.Reading.{is_equals, has_equals, name_in, value_in, is_named, is_on_key, is_asking, is_read, asked_key, is_marked}
+use Rattle.grib_cli.specs.Words.{change, change_of, wanted, wanted_of}
 
 pub list_any-map : {X Y : Type 0} (p : Y → Bool) (f : X → Y) (xs : List X) → list_any p (map f xs) ≡ list_any (λ x. p (f x)) xs
 list_any-map p f [] = refl
@@ -19,7 +19,7 @@ at_first : (b : Bool) (n len : ℕ) (later : Bool) → cond (not b) (1 + n) 0 �
 at_first true n len later e next = absurd (omega (arith, e))
 at_first false n len later e next = next (omega (arith, e))
 
-no_place : (p : ℕ → Bool) (xs : List ℕ) → position_or_len p xs ≡ length xs → list_any p xs ≡ false
+pub no_place : (p : ℕ → Bool) (xs : List ℕ) → position_or_len p xs ≡ length xs → list_any p xs ≡ false
 no_place p [] e = refl
 no_place p (x ∷ xs) e = at_first (p x) (position_or_len p xs) (length xs) (list_any p xs) (omega (arith, e)) (no_place p xs)
 
@@ -33,24 +33,34 @@ unnamed name word e = rw (lacks_equals word e) refl
 pub keyless : (word : List ℕ) → position_or_len is_equals word ≡ length word → false ≡ is_on_key word
 keyless word e = rw (lacks_equals word e) refl
 
+pub unasking : (word : List ℕ) → position_or_len is_equals word ≡ length word → false ≡ is_asking word
+unasking word e = rw (lacks_equals word e) refl
+
 pub unread : (command : Command) (earlier : List (List ℕ)) (word : List ℕ) → position_or_len is_equals word ≡ length word → false ≡ is_read command earlier word
 unread command earlier word e = rw (lacks_equals word e) refl
 
--- ---- conditions
+-- ---- changes
 
 no_value : (word : List ℕ) → position_or_len is_equals word ≡ length word → value_in word ≡ []
 no_value word e = drop_all (position_or_len is_equals word + 1) word (omega (arith, e))
 
-none_without : (key : Option Key) → option_and_then (λ key. option_map (condition key) (key_value [])) key ≡ None
+none_without : (key : Option Key) → option_and_then (λ key. option_map (change key) (key_value [])) key ≡ None
 none_without None = refl
 none_without (Some key) = refl
 
-pub unconditioned : (word : List ℕ) → position_or_len is_equals word ≡ length word → None ≡ condition_of word
-unconditioned word e = rw (no_value word e) (sym (none_without (key_named (name_in word))))
+pub no_change : (word : List ℕ) → position_or_len is_equals word ≡ length word → None ≡ change_of word
+no_change word e = rw (no_value word e) (sym (none_without (key_named (name_in word))))
 
-pub conditioned : (word : List ℕ) (key : Key) (value : Value) → key_named (name_in word) ≡ Some key → key_value (value_in word) ≡ Some value
-    → Some (condition key value) ≡ condition_of word
-conditioned word key value named valued = rw (named, valued) refl
+pub change_read : (word : List ℕ) (key : Key) (value : Value) → key_named (name_in word) ≡ Some key → key_value (value_in word) ≡ Some value
+    → Some (change key value) ≡ change_of word
+change_read word key value named valued = rw (named, valued) refl
+
+nothing_without : (key : Option Key) (marked : Bool) → option_and_then (λ key. option_map (wanted marked key) None) key ≡ None
+nothing_without None marked = refl
+nothing_without (Some key) marked = refl
+
+pub nothing_asked : (word : List ℕ) → position_or_len is_equals word ≡ length word → None ≡ wanted_of word
+nothing_asked word e = rw (no_value word e) (sym (nothing_without (asked_key (name_in word)) (is_marked (name_in word))))
 
 pub filter_map-map : {X Y Z : Type 0} (h : Y → Option Z) (f : X → Y) (xs : List X) → filter_map h (map f xs) ≡ filter_map (λ x. h (f x)) xs
 filter_map-map h f [] = refl

@@ -1,13 +1,15 @@
--- A key with a value, as it is printed, reads to the condition.
+-- A key with a value, as it is printed, reads to the change, and as a condition to what the field fulfils.
 use Rattle.std.proofs.Common.{◌≡◌, ℕ, zero, suc, ◌-◌, ◌^◌, ◌<◌, ◌≤◌, Bool, true, false, cond, ◌&&◌, ◌||◌, nat_le, ℤ, pos, negsuc, neg_ℤ, nat_abs, Option, Some, None, List, [], ◌∷◌, ◌++◌, length, codes, refl, ap, ap₂, ◌∙◌, rules, arith, tests}
 use Rattle.std.specs.Prelude.{option_map, get_or}
 use Rattle.std.specs.Fmt.{decimal, signed_decimal}
-use Rattle.std.specs.Option.{option_and_then, option_or}
+use Rattle.std.specs.List.{cons_option}
+use Rattle.std.specs.Option.{option_and_then, option_or, option_map_or}
 use Rattle.std.specs.Str.{bytes_eq, all_ascii_digits}
 use Rattle.std.specs.Cmp.Derive.{both_true}
 use Rattle.std.proofs.lemmas.Fmt.{decimal_digit, decimal_nonempty, first_decimal, digits_decimal, digits_value-decimal}
 use Rattle.std.specs.Prelude.{All}
-use Rattle.grib_keys.specs.declared.condition.Condition.{Condition}
+use Rattle.grib_keys.specs.declared.wanted.Choice.TheVariants.{One}
+use Rattle.grib_keys.specs.declared.wanted.Wanted.{Wanted}
 use Rattle.grib_keys.specs.declared.key.Key.{Key}
 use Rattle.grib_keys.specs.declared.key.Key.TheVariants.{Discipline}
 use Rattle.grib_keys.specs.declared.condition.Value.{Value}
@@ -16,10 +18,12 @@ use Rattle.grib_keys.specs.Keys.{name_of, key_named}
 use Rattle.grib_keys.specs.Words.{value_text, word_of}
 use Rattle.grib_cli.specs.Values.{number, begins_from_one, is_number, is_between, from_zero, below_zero, key_value}
 use Rattle.grib_cli.specs.Reading.{name_in, value_in}
-use Rattle.grib_cli.specs.Words.{condition, condition_of, conditions_of}
+use Rattle.grib_cli.specs.Words.{change, change_of, test_of, wanted, wanted_of, conditions_of}
+use Rattle.grib_cli.proofs.Single.{asks_the_value}
 use Rattle.grib_select.specs.Bounds.{IsWithin64}
 use Rattle.grib_select.specs.Values.{key_value_of, fulfils_all}
-use Rattle.grib_select.proofs.Asked.{asked_decides}
+use Rattle.grib_keys.specs.Wanted.{same_value, holds}
+use Rattle.grib_keys.proofs.Chosen.{same_decides}
 use Rattle.grib_select.proofs.Bounded.{values_within}
 use Rattle.grib2_message.specs.Fields.{field_count}
 use Rattle.grib2_message.specs.Message.{IsMessage}
@@ -86,24 +90,27 @@ text_is_read : (key : Key) (text : List ℕ) → value_in (name_of key ++ codes 
 text_is_read Discipline text = refl
 text_is_read key text = refl
 
-pub word_is_read : (key : Key) (value : Value) → IsWithin64 value → condition_of (word_of (condition key value)) ≡ Some (condition key value)
+pub word_is_read : (key : Key) (value : Value) → IsWithin64 value → change_of (word_of (change key value)) ≡ Some (change key value)
 word_is_read key value low =
-    ap (option_and_then (λ k. option_map (condition k) (key_value (value_in (word_of (condition key value)))))) (name_is_read key (value_text value))
-    ∙ ap (λ (text : List ℕ). option_map (condition key) (key_value text)) (text_is_read key (value_text value))
-    ∙ ap (option_map (condition key)) (value_is_read value low)
+    ap (option_and_then (λ k. option_map (change k) (key_value (value_in (word_of (change key value)))))) (name_is_read key (value_text value))
+    ∙ ap (λ (text : List ℕ). option_map (change key) (key_value text)) (text_is_read key (value_text value))
+    ∙ ap (option_map (change key)) (value_is_read value low)
 
 -- ---- the field that it was printed of
 
-one_holds : (P : Condition → Type 0) (c : Condition) → P c → All P (c ∷ [])
-one_holds P c h zero d low = h
-one_holds P c h (suc k) d low = absurd (omega arith)
+one_asked : (m : List ℕ) (i : ℕ) (key : Key) (value : Value) → key_value_of m i key ≡ Some value
+    → fulfils_all m i (wanted false key (One value ∷ []) ∷ []) ≡ true
+one_asked m i key value has =
+    let same : same_value value value ≡ true = (same_decides value value).1 refl in
+    ap (λ (o : Option Value). option_map_or (holds (test_of false (One value ∷ []))) o false && true) has ∙ ap (λ (b : Bool). (b || false) && true) same
+
+one_condition : (word : List ℕ) (w : Wanted) → wanted_of word ≡ Some w → conditions_of (word ∷ []) ≡ w ∷ []
+one_condition word w e = ap (λ (o : Option Wanted). cons_option o []) e
 
 pub word_picks : (m : List ℕ) (i : ℕ) (key : Key) (value : Value) → IsMessage m → All (λ octet. octet < 256) m → 1 ≤ i → i ≤ field_count m
-    → key_value_of m i key ≡ Some value → fulfils_all m i (conditions_of (word_of (condition key value) ∷ [])) ≡ true
+    → key_value_of m i key ≡ Some value → fulfils_all m i (conditions_of (word_of (change key value) ∷ [])) ≡ true
 word_picks m i key value h small low high has =
-    let c = condition key value in
-    let read : conditions_of (word_of c ∷ []) ≡ c ∷ [] = single (word_is_read key value (values_within m i key value h small low high has)) in
-    ap (fulfils_all m i) read ∙ (asked_decides m i (c ∷ [])).1 (one_holds (λ d. key_value_of m i d.key ≡ Some d.value) c has)
-  where
-    single : condition_of (word_of (condition key value)) ≡ Some (condition key value) → conditions_of (word_of (condition key value) ∷ []) ≡ condition key value ∷ []
-    single e = rw e refl
+    let word = word_of (change key value) in
+    let read = word_is_read key value (values_within m i key value h small low high has) in
+    let asks = one_condition word (wanted false key (One value ∷ [])) (asks_the_value word (change key value) read) in
+    ap (fulfils_all m i) asks ∙ one_asked m i key value has

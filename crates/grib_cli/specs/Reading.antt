@@ -1,13 +1,15 @@
 -- How the words of a command line are read. Word 0 is the command; each later word is `name=value`, split
 -- at its first `=`. Each command has its names, each name the rule of its value.
-use Rattle.std.specs.Prelude.{ℕ, Bool, true, false, cond, not, ◌&&◌, ◌||◌, ◌==◌, nat_le, ◌+◌, Option, Some, None, is_some, List, [], ◌∷◌, ◌++◌, length, codes, Result, Ok, Err}
+use Rattle.std.specs.Prelude.{ℕ, Bool, true, false, cond, not, ◌&&◌, ◌||◌, ◌==◌, nat_le, ◌+◌, ◌-◌, Option, Some, None, is_some, List, [], ◌∷◌, ◌++◌, length, get_or, take, codes, Result, Ok, Err}
 use Rattle.std.specs.List.{find, list_any, before_first, after_first}
 use Rattle.std.specs.Option.{option_map_or}
 use Rattle.std.specs.Str.{bytes_eq}
+use Rattle.grib_keys.specs.declared.key.Key.{Key}
 use Rattle.grib_keys.specs.Keys.{key_named, can_set}
 use Rattle.grib_cli.specs.declared.words.command.Command.{Command}
 use Rattle.grib_cli.specs.declared.words.command.Command.TheVariants as the
 use Rattle.grib_cli.specs.declared.words.command.Command.TheVariants.{Check, Keys, Stats, Dump, Filter, Split, Set, Repack, Migrate, Demote, Rescan, Crop, Make, Help, Version}
+use Rattle.grib_cli.specs.Choices.{is_test}
 use Rattle.grib_cli.specs.Values.{number, is_not_empty, is_between, key_value}
 
 -- whether a text is this one
@@ -37,6 +39,19 @@ entry is_name rule = record { is_name = is_name; rule = rule }
 
 abbrev pub is_key : List ℕ → Bool
 is_key name = is_some (key_named name)
+
+-- a name of `filter`: that of a key, with a `!` behind it where other values are asked for than those that follow
+abbrev pub is_marked : List ℕ → Bool
+is_marked name = get_or name (length name - 1) 0 == 33
+
+abbrev pub unmarked : List ℕ → List ℕ
+unmarked name = cond (is_marked name) (take (length name - 1) name) name
+
+abbrev pub asked_key : List ℕ → Option Key
+asked_key name = key_named (unmarked name)
+
+abbrev pub is_asked : List ℕ → Bool
+is_asked name = is_some (asked_key name)
 
 abbrev pub is_key_to_set : List ℕ → Bool
 is_key_to_set name = option_map_or can_set (key_named name) false
@@ -153,6 +168,13 @@ is_on_key word = has_equals word && is_key (name_in word)
 abbrev pub has_key : List (List ℕ) → Bool
 has_key words = list_any is_on_key words
 
+-- or that there is one that asks of a key
+abbrev pub is_asking : List ℕ → Bool
+is_asking word = has_equals word && is_asked (name_in word)
+
+abbrev pub has_asking : List (List ℕ) → Bool
+has_asking words = list_any is_asking words
+
 -- a command's name, the names of its own words with the rules of their values, and what is asked of all its words
 pub record Row : Type 0 where
   pub name : List ℕ
@@ -168,7 +190,7 @@ row_of the.List = row (codes "list") [] nothing
 row_of Keys = row (codes "keys") [] nothing
 row_of Stats = row (codes "stats") [] nothing
 row_of Dump = row (codes "dump") (entry (is (codes "decimals")) (is_between 0 18) ∷ []) nothing
-row_of Filter = row (codes "filter") (entry is_key is_key_value ∷ []) has_key
+row_of Filter = row (codes "filter") (entry is_asked is_test ∷ []) has_asking
 row_of Split = row (codes "split") (entry (is (codes "out")) is_not_empty ∷ []) (has_name (codes "out"))
 row_of Set = row (codes "set") (entry is_key_to_set is_key_value ∷ []) has_key
 row_of Repack = row (codes "repack") repack_entries has_target
@@ -212,10 +234,18 @@ entries command = own_entries command ++ policy_entries command
 abbrev pub is_complete : Command → List (List ℕ) → Bool
 is_complete command words = (row_of command).is_complete words
 
--- whether a word is read: it has a `=`, the command has its name with its value, and no earlier word has its name
+-- whether several words may have this name: those of `filter` that ask of a key, all of which have to hold
+abbrev pub may_repeat : Command → List ℕ → Bool
+may_repeat Filter name = is_asked name
+may_repeat command name = false
+
+-- whether a word is read: it has a `=`, the command has its name with its value, and no earlier word has its name, unless
+-- several may have it
 abbrev pub is_read : Command → List (List ℕ) → List ℕ → Bool
 is_read command earlier word =
-    has_equals word && (takes (entries command) (name_in word) (value_in word) && not (has_name (name_in word) earlier))
+    has_equals word
+    && (takes (entries command) (name_in word) (value_in word)
+    && (may_repeat command (name_in word) || not (has_name (name_in word) earlier)))
 
 -- how many of the words are read, from the first on
 abbrev pub read_count : Command → List (List ℕ) → List (List ℕ) → ℕ

@@ -38,7 +38,10 @@ abbrev pub below_zero : List ℕ → Option ℤ
 below_zero text =
     cond ((get_or text 0 0 == 45) && is_between 1 (2 ^ 63) (drop 1 text)) (Some (neg_ℤ (pos (number (drop 1 text))))) None
 
+-- a number with sign
+abbrev pub signed_number : List ℕ → Option ℤ
+signed_number text = option_or (from_zero text) (below_zero text)
+
 -- the value of a key: `missing`, or a number with sign
 abbrev pub key_value : List ℕ → Option Value
-key_value text =
-    cond (bytes_eq text (codes "missing")) (Some Missing) (option_map Number (option_or (from_zero text) (below_zero text)))
+key_value text = cond (bytes_eq text (codes "missing")) (Some Missing) (option_map Number (signed_number text))

@@ -4,7 +4,11 @@ use Rattle.std.specs.List.{filter_map}
 use Rattle.std.specs.Option.{option_and_then}
 use Rattle.grib_keys.specs.declared.key.Key.{Key}
 use Rattle.grib_keys.specs.declared.condition.Value.{Value}
-use Rattle.grib_keys.specs.declared.condition.Condition.{Condition}
+use Rattle.grib_keys.specs.declared.condition.Change.{Change}
+use Rattle.grib_keys.specs.declared.wanted.Choice.{Choice}
+use Rattle.grib_keys.specs.declared.wanted.Test.{Test}
+use Rattle.grib_keys.specs.declared.wanted.Test.TheVariants.{Among, Outside}
+use Rattle.grib_keys.specs.declared.wanted.Wanted.{Wanted}
 use Rattle.grib_keys.specs.Keys.{key_named}
 use Rattle.grib_params.specs.declared.matching.TableMatch.{TableMatch}
 use Rattle.grib_params.specs.declared.matching.TableMatch.TheVariants.{Any, Same}
@@ -20,13 +24,14 @@ use Rattle.grib_cli.specs.declared.words.JobFault.{JobFault}
 use Rattle.grib_cli.specs.declared.words.JobFault.TheVariants.{Usage, Memory}
 use Rattle.grib_cli.specs.declared.words.command.Command.{Command}
 use Rattle.grib_cli.specs.declared.words.command.Command.TheVariants as commands
+use Rattle.grib_cli.specs.Choices.{choices_of}
 use Rattle.grib_cli.specs.Values.{is_between, key_value}
 use Rattle.grib_items.specs.declared.policy.Instead.{Instead}
 use Rattle.grib_items.specs.declared.policy.Instead.TheVariants.{Copy, Pass}
 use Rattle.grib_items.specs.declared.policy.Policy.{Policy}
 use Rattle.grib_run_spec.specs.Tasks as tasks
 use Rattle.grib_run_spec.specs.Tasks.{Work, Makes, ends_at_once}
-use Rattle.grib_cli.specs.Reading.{is, name_in, value_in, value_of, number_of, number_if_given, has_name, has_word, reading}
+use Rattle.grib_cli.specs.Reading.{is, is_marked, asked_key, name_in, value_in, value_of, number_of, number_if_given, has_name, has_word, reading}
 
 -- what `to` and `order` ask for
 abbrev pub target_of : List (List ℕ) → RepackTarget
@@ -54,17 +59,33 @@ area_of words = record {
   j1 = number_of (codes "j1") words;
 }
 
-abbrev pub condition : Key → Value → Condition
-condition key value = record { key = key; value = value }
+abbrev pub change : Key → Value → Change
+change key value = record { key = key; value = value }
 
 -- the key of a word's name with the value that the word gives it, none where there is no such key or no value
-abbrev pub condition_of : List ℕ → Option Condition
-condition_of word =
-    option_and_then (λ key. option_map (condition key) (key_value (value_in word))) (key_named (name_in word))
+abbrev pub change_of : List ℕ → Option Change
+change_of word =
+    option_and_then (λ key. option_map (change key) (key_value (value_in word))) (key_named (name_in word))
+
+-- the changes of the words, in their order
+abbrev pub changes_of : List (List ℕ) → List Change
+changes_of words = filter_map change_of words
+
+-- that a value is one of these, or, by a `!` behind the name, none of them
+abbrev pub test_of : Bool → List Choice → Test
+test_of is_marked choices = cond is_marked (Outside choices) (Among choices)
+
+abbrev pub wanted : Bool → Key → List Choice → Wanted
+wanted is_marked key choices = record { key = key; test = test_of is_marked choices }
+
+-- the key that a word asks of, with what it asks, none where there is no such key or the word has no such values
+abbrev pub wanted_of : List ℕ → Option Wanted
+wanted_of word =
+    option_and_then (λ key. option_map (wanted (is_marked (name_in word)) key) (choices_of (value_in word))) (asked_key (name_in word))
 
 -- the conditions of the words, in their order
-abbrev pub conditions_of : List (List ℕ) → List Condition
-conditions_of words = filter_map condition_of words
+abbrev pub conditions_of : List (List ℕ) → List Wanted
+conditions_of words = filter_map wanted_of words
 
 -- which tables a record of the parameter table may have
 abbrev pub matching_of : List (List ℕ) → TableMatch
@@ -79,7 +100,7 @@ job_of_command commands.Stats words = Ok jobs.Stats
 job_of_command commands.Dump words = Ok (jobs.Dump (number_if_given (codes "decimals") words))
 job_of_command commands.Filter words = Ok (jobs.Filter (conditions_of words))
 job_of_command commands.Split words = Ok (jobs.Split (value_of (codes "out") words))
-job_of_command commands.Set words = Ok (jobs.Set (conditions_of words))
+job_of_command commands.Set words = Ok (jobs.Set (changes_of words))
 job_of_command commands.Repack words = Ok (repack_of words)
 job_of_command commands.Migrate words = Ok (jobs.Migrate (value_of (codes "params") words) (has_name (codes "local") words))
 job_of_command commands.Demote words =

@@ -14,15 +14,19 @@ use std::alloc::{AllocError, Global};
 use thiserror::Error;
 
 mod asking;
+mod choices;
 mod command;
 pub mod laws;
 mod policy;
 mod values;
+mod wanted;
 
 use asking::{job_of_command, number_by};
+use choices::is_test;
 pub use command::Command;
 pub use policy::policy_of;
 use values::{is_between, key_value};
+use wanted::asked_key;
 
 /// Why the words ask for no job.
 #[derive(Clone, Copy, Debug, PartialEq, Eq, Error)]
@@ -89,14 +93,23 @@ fn read_count(command: Command, words: &[String]) -> usize
 }
 
 /// Whether a word behind these is read: it has a `=`, the command has its name with its value, and none
-/// of the earlier words has its name.
+/// of the earlier words has its name, unless several may have it.
 fn is_read(command: Command, earlier: &[String], word: &str) -> bool
     ensures { result ≡ grammar.is_read command (map string_bytes earlier.now) word.now }
 {
     match word.split_once('=') {
-        Some((name, value)) => takes(command, name, value) && !has_name(earlier, name),
+        Some((name, value)) => {
+            takes(command, name, value) && (may_repeat(command, name) || !has_name(earlier, name))
+        }
         None => false,
     }
+}
+
+/// Whether several words may have this name: those of `filter` that ask of a key.
+fn may_repeat(command: Command, name: &str) -> bool
+    ensures { result ≡ grammar.may_repeat command name.now }
+{
+    command == Command::Filter && asked_key(name).is_some()
 }
 
 /// Whether one of the words has this name.
@@ -159,7 +172,7 @@ fn takes_own(command: Command, name: &str, value: &str) -> bool
         | Command::Help
         | Command::Version => false,
         Command::Dump => name == "decimals" && is_between(value, 0, 18),
-        Command::Filter => Key::of(name).is_some() && key_value(value).is_some(),
+        Command::Filter => asked_key(name).is_some() && is_test(value),
         Command::Set => is_key_to_set(name) && key_value(value).is_some(),
         Command::Split => name == "out" && !value.is_empty(),
         Command::Repack => takes_target(name, value) || (name == "to" && value == "least"),
@@ -224,7 +237,8 @@ fn is_complete(command: Command, words: &[String]) -> bool
         | Command::Rescan
         | Command::Help
         | Command::Version => true,
-        Command::Filter | Command::Set => has_key(words),
+        Command::Filter => has_asking(words),
+        Command::Set => has_key(words),
         Command::Split => has_name(words, "out"),
         Command::Repack => has_target(words),
         Command::Migrate | Command::Demote => has_name(words, "params"),
@@ -251,6 +265,23 @@ fn is_on_key(word: &str) -> bool
 {
     match word.split_once('=') {
         Some((name, _)) => Key::of(name).is_some(),
+        None => false,
+    }
+}
+
+/// Whether one of the words asks of a key.
+fn has_asking(words: &[String]) -> bool
+    ensures { result ≡ grammar.has_asking (map string_bytes words.now) }
+{
+    words.iter().any(|word| is_asking(word.as_str()))
+}
+
+/// Whether a word asks of a key.
+fn is_asking(word: &str) -> bool
+    ensures { result ≡ grammar.is_asking word.now }
+{
+    match word.split_once('=') {
+        Some((name, _)) => asked_key(name).is_some(),
         None => false,
     }
 }

@@ -1,6 +1,6 @@
 -- Which jobs there are.
 use Rattle.std.specs.Prelude.{◌≡◌, ◌≤◌, Some, Bool, true, ◌||◌, ◌==◌, List, [], All, IsTrue}
-use Rattle.grib_keys.specs.declared.condition.Condition.{Condition}
+use Rattle.grib_keys.specs.declared.condition.Change.{Change}
 use Rattle.grib_keys.specs.Keys.{can_set}
 use Rattle.grib_repack.specs.declared.target.RepackTarget.{RepackTarget}
 use Rattle.grib_repack.specs.declared.target.RepackTarget.TheVariants.{Simple, Complex, Spatial}
@@ -36,12 +36,12 @@ HasPlaces (Dump (Some places)) = places ≤ 18
 HasPlaces job = Unit {0}
 
 -- the new values of keys that a job gives
-abbrev pub changes_of : Job → List Condition
+abbrev pub changes_of : Job → List Change
 changes_of (Set changes) = changes
 changes_of job = []
 
 -- each of these keys can be set
-abbrev pub CanChange : List Condition → Type 0
+abbrev pub CanChange : List Change → Type 0
 CanChange changes = All (λ c. IsTrue (can_set c.key)) changes
 
 -- the jobs that there are

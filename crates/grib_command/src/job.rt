@@ -6,10 +6,13 @@ use grib_base::List;
 use grib_params::TableMatch;
 use grib_repack::RepackTarget;
 use grib_rescan::Area;
-use grib_select::Condition;
+use grib_select::{Change, Wanted};
 
-/// Keys with the values that they have, or are to have.
-pub type Conditions = List<Condition>;
+/// Keys with what is asked of their values.
+pub type Conditions = List<Wanted>;
+
+/// Keys with the values that they are to have.
+pub type Changes = List<Change>;
 
 /// What is to be done with the messages of an input, or without one.
 #[derive(Debug, Drop)]
@@ -34,7 +37,7 @@ pub enum Job {
     /// Each field as a message of its own, on the shelf under this name with its number behind a `.`.
     Split(Name),
     /// Each message with new values of some keys.
-    Set(Conditions),
+    Set(Changes),
     /// Each message with its fields packed anew.
     Repack(RepackTarget),
     /// Each message with each of its fields in the packing that takes the fewest octets, or as it is.

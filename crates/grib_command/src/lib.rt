@@ -13,7 +13,7 @@ mod writing;
 pub use answered::{Answered, printed, written};
 pub use answerer::{Answerer, ByOutput, Writer};
 pub use ending::Ending;
-pub use job::{Conditions, Job};
+pub use job::{Changes, Conditions, Job};
 pub use name::Name;
 pub use notes::{
     copied_line, kept_line, kept_note, made_note, passed_note, table_note, usage_note,

@@ -10,7 +10,7 @@ use Rattle.grib_edit.specs.Fronts.{IsFront}
 use Rattle.grib_io.specs.Outside.{AppendsFront}
 use Rattle.grib_base.specs.Rows.{choose}
 use Rattle.grib_base.specs.declared.limits.TheConstants.{MOST_OCTETS}
-use Rattle.grib_keys.specs.declared.condition.Condition.{Condition}
+use Rattle.grib_keys.specs.declared.wanted.Wanted.{Wanted}
 use Rattle.grib_select.specs.Values.{fulfils_all}
 use Rattle.grib_select.specs.Single.{single_of}
 use Rattle.grib2_message.specs.Fields.{field_count}
@@ -21,17 +21,17 @@ use Rattle.grib_command.proofs.Outside.{front_more}
 use Rattle.grib_command.proofs.Passing.{texts_more, texts_join}
 
 -- whether n fields from field i on fulfil the conditions
-abbrev pub all_from : List Condition → List ℕ → ℕ → ℕ → Bool
+abbrev pub all_from : List Wanted → List ℕ → ℕ → ℕ → Bool
 all_from conditions message i n = list_all (λ j. fulfils_all message j conditions) (range_with_len i n)
 
-each_on : (conditions : List Condition) (message : List ℕ) (i n : ℕ) → ((j : ℕ) → i ≤ j → j < i + n → fulfils_all message j conditions ≡ true)
+each_on : (conditions : List Wanted) (message : List ℕ) (i n : ℕ) → ((j : ℕ) → i ≤ j → j < i + n → fulfils_all message j conditions ≡ true)
     → all_from conditions message i n ≡ true
 each_on conditions message i zero each = refl
 each_on conditions message i (suc n) each =
     ap (λ b. b && all_from conditions message (i + 1) n) (each i (omega arith) (omega arith))
     ∙ each_on conditions message (i + 1) n (λ j low high. each j (omega arith) (omega arith))
 
-one_off : (conditions : List Condition) (message : List ℕ) (i n j : ℕ) → i ≤ j → j < i + n → fulfils_all message j conditions ≡ false
+one_off : (conditions : List Wanted) (message : List ℕ) (i n j : ℕ) → i ≤ j → j < i + n → fulfils_all message j conditions ≡ false
     → all_from conditions message i n ≡ false
 one_off conditions message i zero j low high off = absurd (omega arith)
 one_off conditions message i (suc n) j low high off =
@@ -42,18 +42,18 @@ one_off conditions message i (suc n) j low high off =
     (cases_eq i j)
 
 -- where all fields fulfil the conditions, and where one does not
-pub front_whole : (conditions : List Condition) (message : List ℕ) (front : ℕ) → IsFront conditions message front → field_count message ≤ front
+pub front_whole : (conditions : List Wanted) (message : List ℕ) (front : ℕ) → IsFront conditions message front → field_count message ≤ front
     → all_fulfil conditions message ≡ true
 front_whole conditions message front is all =
     each_on conditions message 1 (field_count message) (λ j low high. is.fulfil j low (omega arith))
 
-pub front_short : (conditions : List Condition) (message : List ℕ) (front : ℕ) → IsFront conditions message front → front < field_count message
+pub front_short : (conditions : List Wanted) (message : List ℕ) (front : ℕ) → IsFront conditions message front → front < field_count message
     → all_fulfil conditions message ≡ false
 front_short conditions message front is less =
     one_off conditions message 1 (field_count message) (front + 1) (omega arith) (omega arith) (is.next less)
 
 -- one field more
-pub front_one_more : (conditions : List Condition) (message : List ℕ) (n field : ℕ) → field ≡ n + 1
+pub front_one_more : (conditions : List Wanted) (message : List ℕ) (n field : ℕ) → field ≡ n + 1
     → ((j : ℕ) → 1 ≤ j → j ≤ n → fulfils_all message j conditions ≡ true) → fulfils_all message field conditions ≡ true
     → (j : ℕ) → 1 ≤ j → j ≤ n + 1 → fulfils_all message j conditions ≡ true
 front_one_more conditions message n field is before here j low high =
@@ -63,14 +63,14 @@ front_one_more conditions message n field is before here j low high =
     (cases_eq j field)
 
 -- whether a field is written
-pub is_single : (conditions : List Condition) (message : List ℕ) (i : ℕ) → fulfils_all message i conditions ≡ true → single_if conditions message i ≡ single_of message i
+pub is_single : (conditions : List Wanted) (message : List ℕ) (i : ℕ) → fulfils_all message i conditions ≡ true → single_if conditions message i ≡ single_of message i
 is_single conditions message i here = ap (λ b. choose b (λ _. single_of message i) (λ _. [])) here
 
 -- whether the message is written whole
-pub is_whole : (conditions : List Condition) (message : List ℕ) → all_fulfil conditions message ≡ true → filtered conditions message ≡ message
+pub is_whole : (conditions : List Wanted) (message : List ℕ) → all_fulfil conditions message ≡ true → filtered conditions message ≡ message
 is_whole conditions message all = ap (λ b. choose b (λ _. message) (λ _. texts_from (single_if conditions message) (field_count message) 1)) all
 
-pub is_parted : (conditions : List Condition) (message : List ℕ) → all_fulfil conditions message ≡ false
+pub is_parted : (conditions : List Wanted) (message : List ℕ) → all_fulfil conditions message ≡ false
     → filtered conditions message ≡ texts_from (single_if conditions message) (field_count message) 1
 is_parted conditions message some = ap (λ b. choose b (λ _. message) (λ _. texts_from (single_if conditions message) (field_count message) 1)) some
 

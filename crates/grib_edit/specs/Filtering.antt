@@ -6,7 +6,7 @@ use Rattle.grib_base.specs.Rows.{choose}
 use Rattle.grib_base.specs.declared.limits.TheConstants.{MOST_OCTETS}
 use Rattle.grib2_message.specs.Fields.{field_count}
 use Rattle.grib2_message.specs.Message.{IsMessage}
-use Rattle.grib_keys.specs.declared.condition.Condition.{Condition}
+use Rattle.grib_keys.specs.declared.wanted.Wanted.{Wanted}
 use Rattle.grib_select.specs.Values.{fulfils_all}
 use Rattle.grib_select.specs.Single.{single_of}
 use Rattle.grib_stream.specs.declared.outcome.Outcome.{Outcome}
@@ -18,25 +18,25 @@ use Rattle.grib_edit.specs.FieldOctets.{twenty_each, single_most, texts_most}
 use Rattle.grib_command.specs.LawfulCommands.{changing_lawful}
 
 -- whether each field of a message has every key with its value
-abbrev pub all_fulfil : List Condition → List ℕ → Bool
+abbrev pub all_fulfil : List Wanted → List ℕ → Bool
 all_fulfil conditions message = list_all (λ i. fulfils_all message i conditions) (range_with_len 1 (field_count message))
 
 -- field i as a message of its own, where it has every key with its value
-abbrev pub single_if : List Condition → List ℕ → ℕ → List ℕ
+abbrev pub single_if : List Wanted → List ℕ → ℕ → List ℕ
 single_if conditions message i = choose (fulfils_all message i conditions) (λ _. single_of message i) (λ _. [])
 
 -- the message itself, where each of its fields fulfils the conditions, else those that do, one after another
-abbrev pub filtered : List Condition → List ℕ → List ℕ
+abbrev pub filtered : List Wanted → List ℕ → List ℕ
 filtered conditions message =
     choose (all_fulfil conditions message) (λ _. message)
     (λ _. texts_from (single_if conditions message) (field_count message) 1)
 
-abbrev pub filter_command : List Condition → Command
+abbrev pub filter_command : List Wanted → Command
 filter_command conditions = changing (λ place message. given_whole (filtered conditions message))
 
 -- ---- it is lawful
 
-few_if : (conditions : List Condition) (message : List ℕ) (i : ℕ) → IsMessage message → 1 ≤ i → i ≤ field_count message
+few_if : (conditions : List Wanted) (message : List ℕ) (i : ℕ) → IsMessage message → 1 ≤ i → i ≤ field_count message
     → length (single_if conditions message i) ≤ MOST_OCTETS
 few_if conditions message i h low high =
     ⊎_elim
@@ -45,7 +45,7 @@ few_if conditions message i h low high =
     (λ not. (let is : length (single_if conditions message i) ≡ 0 = ap (λ b. length (choose b (λ _. single_of message i) (λ _. []))) not in omega arith))
     (cases_Bool (fulfils_all message i conditions))
 
-few_filtered : (conditions : List Condition) (message : List ℕ) → IsMessage message → 20 * length (filtered conditions message) ≤ MOST_OCTETS * length message
+few_filtered : (conditions : List Wanted) (message : List ℕ) → IsMessage message → 20 * length (filtered conditions message) ≤ MOST_OCTETS * length message
 few_filtered conditions message h =
     let some : List ℕ = texts_from (single_if conditions message) (field_count message) 1 in
     ⊎_elim
@@ -55,7 +55,7 @@ few_filtered conditions message h =
     omega (arith, twenty_each message h)))
     (cases_Bool (all_fulfil conditions message))
 
-few_written : (conditions : List Condition) (message : List ℕ) (acts : List Act) (written : ℕ) → IsMessage message
+few_written : (conditions : List Wanted) (message : List ℕ) (acts : List Act) (written : ℕ) → IsMessage message
     → given_whole (filtered conditions message) ≡ Gives acts written → 20 * written ≤ MOST_OCTETS * length message
 few_written conditions message acts written h is =
     let few = few_filtered conditions message h in
@@ -65,7 +65,7 @@ few_written conditions message acts written h is =
 goes_on : (octets : List ℕ) (outcome : Outcome) → given_whole octets ≡ Ends outcome → is_of_message outcome ≡ true
 goes_on octets outcome is = let no : ⊥ = cc in absurd no
 
-pub filter_lawful : (conditions : List Condition) → IsLawfulCommand (filter_command conditions)
+pub filter_lawful : (conditions : List Wanted) → IsLawfulCommand (filter_command conditions)
 filter_lawful conditions =
     changing_lawful _ (λ place message acts written h is. few_written conditions message acts written h is)
     (λ place message outcome is. goes_on (filtered conditions message) outcome is)

@@ -1,7 +1,7 @@
 -- `set`: each message with new values of some keys.
 use Rattle.std.proofs.Common.{Option, Some, None, List, All, IsTrue}
 use Rattle.grib2_message.proofs.Parted.{message_most}
-use Rattle.grib_keys.specs.declared.condition.Condition.{Condition}
+use Rattle.grib_keys.specs.declared.condition.Change.{Change}
 use Rattle.grib_keys.specs.Keys.{can_set}
 use Rattle.grib_select.specs.Changed.{with_keys, set_fault}
 use Rattle.grib_select.specs.declared.changing.SetFault.{SetFault}
@@ -19,11 +19,11 @@ set_cause (Some (KeyRange key)) = Some (causes.KeyRange key)
 set_cause (Some (KeyAbsent field key)) = Some (causes.KeyAbsent field key)
 set_cause (Some Memory) = None
 
-abbrev pub set_command : List Condition → Command
+abbrev pub set_command : List Change → Command
 set_command changes = changing_unless (λ message. set_cause (set_fault message changes)) (λ message. with_keys message changes)
 
 -- ---- it is lawful
 
-pub set_lawful : (changes : List Condition) → All (λ c. IsTrue (can_set c.key)) changes → IsLawfulCommand (set_command changes)
+pub set_lawful : (changes : List Change) → All (λ c. IsTrue (can_set c.key)) changes → IsLawfulCommand (set_command changes)
 set_lawful changes can =
     unless_lawful _ _ (λ message h none. message_most (with_keys message changes) (changed_accepted message changes h (can_be_set changes can)))

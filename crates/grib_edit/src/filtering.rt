@@ -13,15 +13,15 @@ use crate::changing::Changer;
 use grib_base::MOST_OCTETS;
 use grib_command::{Answered, write_counted, written};
 use grib_io::{Sink, Stop};
-use grib_select::{Condition, matches, single};
+use grib_select::{Wanted, matches, single};
 use grib2_message::Message;
 use std::alloc::Global;
 
 /// The command `filter`.
 #[derive(Debug, Drop)]
 pub struct Filtering<'a> {
-    /// The keys with the values that are asked for.
-    pub conditions: &'a [Condition],
+    /// The keys with what is asked of their values.
+    pub conditions: &'a [Wanted],
 }
 
 impl Changer for Filtering<'_> {
@@ -40,7 +40,7 @@ impl Changer for Filtering<'_> {
 /// message of its own. It answers how many octets it wrote. Each field is matched once.
 fn write_filtered<T: Sink>(
     alloc: Global,
-    conditions: &[Condition],
+    conditions: &[Wanted],
     message: &Message<'_>,
     output: &mut T,
 ) -> Result<u64, Stop>
@@ -57,7 +57,7 @@ fn write_filtered<T: Sink>(
 }
 
 /// How many fields fulfil the conditions before the first that does not.
-fn matching_front(message: &Message<'_>, conditions: &[Condition]) -> u32
+fn matching_front(message: &Message<'_>, conditions: &[Wanted]) -> u32
     ensures { IsFront conditions.now message.now result }
 {
     let count = message.fields();
@@ -73,7 +73,7 @@ fn matching_front(message: &Message<'_>, conditions: &[Condition]) -> u32
 /// held at a time.
 fn write_matching<T: Sink>(
     alloc: Global,
-    conditions: &[Condition],
+    conditions: &[Wanted],
     message: &Message<'_>,
     front: u32,
     output: &mut T,
@@ -96,7 +96,7 @@ fn write_matching<T: Sink>(
 /// Writes a field as a message of its own where it fulfils the conditions.
 fn write_if_matching<T: Sink>(
     alloc: Global,
-    conditions: &[Condition],
+    conditions: &[Wanted],
     message: &Message<'_>,
     front: u32,
     field: u32,
@@ -119,7 +119,7 @@ fn write_if_matching<T: Sink>(
 }
 
 /// Whether a field fulfils the conditions, as this many first ones do and not the next.
-fn is_matching(conditions: &[Condition], message: &Message<'_>, front: u32, field: u32) -> bool
+fn is_matching(conditions: &[Wanted], message: &Message<'_>, front: u32, field: u32) -> bool
     requires front { IsFront conditions.now message.now front }
     requires first { 1 ≤ field }
     requires last { field ≤ field_count message.now }

@@ -7,7 +7,7 @@ ghost use Rattle.grib_command.specs.Jobs.{CanChange};
 use crate::changing::Changer;
 use grib_command::{Answered, write_counted, written};
 use grib_io::Sink;
-use grib_select::{Condition, SetFault, set_keys};
+use grib_select::{Change, SetFault, set_keys};
 use grib_stream::Cause;
 use grib2_message::Message;
 use std::alloc::Global;
@@ -16,7 +16,7 @@ use std::alloc::Global;
 #[derive(Debug, Drop)]
 pub struct Setting<'a> {
     /// The keys with their new values.
-    pub changes: &'a [Condition],
+    pub changes: &'a [Change],
     pub ghost changes_stand: { CanChange changes.now },
 }
 

@@ -10,12 +10,14 @@ mod serving;
 
 pub use answering::answer_message;
 pub use closing::{close, close_with_note};
-pub use grib_command::{Answered, Answerer, ByOutput, Conditions, Ending, Job, Name, Page};
+pub use grib_command::{
+    Answered, Answerer, ByOutput, Changes, Conditions, Ending, Job, Name, Page,
+};
 pub use grib_dispatch::{Answering, Held};
 pub use grib_items::{Instead, Policy};
 pub use grib_repack::RepackTarget;
 pub use grib_report::Checking;
 pub use grib_rescan::Area;
-pub use grib_select::{Condition, Key, Value};
+pub use grib_select::{Change, Choice, Choices, Key, Test, Value, Wanted};
 pub use grib_stream::{Cause, Kept, Outcome, Place, Totals};
 pub use serving::{end_at_once, end_without_memory, serve, serve_under};

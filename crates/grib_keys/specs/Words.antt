@@ -3,7 +3,7 @@ use Rattle.std.specs.Prelude.{ℕ, List, ◌++◌, codes}
 use Rattle.std.specs.Fmt.{signed_decimal}
 use Rattle.grib_keys.specs.declared.condition.Value.{Value}
 use Rattle.grib_keys.specs.declared.condition.Value.TheVariants.{Number, Missing}
-use Rattle.grib_keys.specs.declared.condition.Condition.{Condition}
+use Rattle.grib_keys.specs.declared.condition.Change.{Change}
 use Rattle.grib_keys.specs.Keys.{name_of}
 
 -- a number, with `-` where it is negative, or `missing`
@@ -11,5 +11,5 @@ abbrev pub value_text : Value → List ℕ
 value_text (Number x) = signed_decimal x
 value_text Missing = codes "missing"
 
-abbrev pub word_of : Condition → List ℕ
-word_of condition = name_of condition.key ++ codes "=" ++ value_text condition.value
+abbrev pub word_of : Change → List ℕ
+word_of change = name_of change.key ++ codes "=" ++ value_text change.value

@@ -1,4 +1,4 @@
-//! What a key is asked to be, or to become.
+//! The value that a key has, or is to have.
 
 ghost use Rattle.std.specs.Prelude.{Some};
 ghost use Rattle.grib_keys.specs.Words.{value_text, word_of};
@@ -13,9 +13,9 @@ pub enum Value {
     Missing,
 }
 
-/// A key with a value, as `centre=98`.
+/// A key with a value, as `centre=98`: one that it has, or is to have.
 #[derive(Clone, Copy, Debug, PartialEq, Eq)]
-pub struct Condition {
+pub struct Change {
     pub key: Key,
     pub value: Value,
 }
@@ -31,11 +31,11 @@ impl fmt::Display for Value {
     }
 }
 
-impl fmt::Display for Condition {
-    ghost output = { λ condition. Some (word_of condition) };
+impl fmt::Display for Change {
+    ghost output = { λ change. Some (word_of change) };
 
     fn fmt<W: fmt::Write>(&self, f: &mut fmt::Formatter<W>) -> fmt::Result {
-        let Condition { key, value } = *self;
+        let Change { key, value } = *self;
         write!(f, "{key}={value}")
     }
 }

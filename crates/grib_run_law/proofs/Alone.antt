@@ -4,7 +4,7 @@ use Rattle.grib_base.specs.Rows.{choose}
 use Rattle.grib2_sections.specs.Head.{edition}
 use Rattle.grib_reasons.specs.declared.cause.Cause.{Cause}
 use Rattle.grib_reasons.specs.declared.cause.Cause.TheVariants.{EditionOne, Lost}
-use Rattle.grib_keys.specs.declared.condition.Condition.{Condition}
+use Rattle.grib_keys.specs.declared.wanted.Wanted.{Wanted}
 use Rattle.grib_params.specs.Table.{Entries}
 use Rattle.grib_migrate.specs.Losses.{first_loss}
 use Rattle.grib_migrate.specs.Migrated.{migrated}
@@ -54,7 +54,7 @@ changing_fixed cause octets = by_edition (changing_unless cause octets) (λ mess
 whole_fixed : (octets : List ℕ) → IsFixed (λ place. given_whole octets)
 whole_fixed octets = gives_fixed (writes octets) (length octets)
 
-pub filter_fixed : (conditions : List Condition) → Fixed (filter_command conditions)
+pub filter_fixed : (conditions : List Wanted) → Fixed (filter_command conditions)
 filter_fixed conditions = by_edition (filter_command conditions) (λ message. kept_fixed EditionOne) (λ message. whole_fixed (filtered conditions message))
 
 pub migrate_fixed : (keep : Bool) (table : Entries) → Fixed (migrate_command keep table)

@@ -6,7 +6,8 @@ use Rattle.std.proofs.lemmas.List.Elements.{All-head, All-tail}
 use Rattle.grib_base.specs.Rows.{choose}
 use Rattle.grib_reasons.specs.declared.cause.Cause.{Cause}
 use Rattle.grib_reasons.specs.declared.cause.Cause.TheVariants.{Lost}
-use Rattle.grib_keys.specs.declared.condition.Condition.{Condition}
+use Rattle.grib_keys.specs.declared.condition.Change.{Change}
+use Rattle.grib_keys.specs.declared.wanted.Wanted.{Wanted}
 use Rattle.grib_keys.specs.declared.key.Key.{Key}
 use Rattle.grib_select.specs.declared.changing.SetFault.{SetFault}
 use Rattle.grib_select.specs.declared.changing.SetFault.TheVariants.{KeyRange, KeyAbsent, Memory}
@@ -138,7 +139,7 @@ without_key message key (i ∷ fields) is =
     without_key message key fields (sym later ∙ is))
     (cases_Bool (is_none (key_value_of message i key)))
 
-of_change : (message : List ℕ) (change : Condition) → change_fault message change ≢ Some Memory
+of_change : (message : List ℕ) (change : Change) → change_fault message change ≢ Some Memory
 of_change message change is =
     let fields = range_with_len 1 (field_count message) in
     ⊎_elim
@@ -156,7 +157,7 @@ of_first : (first : Option SetFault) (later : Unit {0} → Option SetFault) → 
 of_first None later own rest is = rest is
 of_first (Some fault) later own rest is = own is
 
-never_memory : (message : List ℕ) (changes : List Condition) → set_fault message changes ≢ Some Memory
+never_memory : (message : List ℕ) (changes : List Change) → set_fault message changes ≢ Some Memory
 never_memory message [] is = let no : ⊥ = cc in absurd no
 never_memory message (change ∷ changes) is =
     of_first (change_fault message change) (λ _. set_fault message changes) (of_change message change) (never_memory message changes) is
@@ -167,7 +168,7 @@ no_fault (Some (KeyRange key)) never none = let no : ⊥ = cc in absurd no
 no_fault (Some (KeyAbsent field key)) never none = let no : ⊥ = cc in absurd no
 no_fault (Some Memory) never none = absurd (never refl)
 
-module _ (changes : List Condition) (law : (message : List ℕ) → IsMessage message → set_fault message changes ≡ None → SetsKeys changes message (with_keys message changes)) where
+module _ (changes : List Change) (law : (message : List ℕ) → IsMessage message → set_fault message changes ≡ None → SetsKeys changes message (with_keys message changes)) where
   set_by : (b : Bool) (place : Place) (found : Found) (acts : List Act) (more : ℕ) → IsAccepted found → (edition found.octets == 1) ≡ b
       → choose b (λ _. (set_command changes).first place found.octets) (λ _. (set_command changes).second place found.octets) ≡ Gives acts more
       → SetsKeys changes found.octets (written acts)
@@ -182,7 +183,7 @@ module _ (changes : List Condition) (law : (message : List ℕ) → IsMessage me
 
 -- ---- `filter`
 
-module _ (law : (message : List ℕ) (i : ℕ) → IsMessage message → 1 ≤ i → i ≤ field_count message → CutsOut message i) (conditions : List Condition) where
+module _ (law : (message : List ℕ) (i : ℕ) → IsMessage message → 1 ≤ i → i ≤ field_count message → CutsOut message i) (conditions : List Wanted) where
   filter_by : (b : Bool) (place : Place) (found : Found) (acts : List Act) (more : ℕ) → IsAccepted found → (edition found.octets == 1) ≡ b
       → choose b (λ _. (filter_command conditions).first place found.octets) (λ _. (filter_command conditions).second place found.octets) ≡ Gives acts more
       → IsFiltered conditions found.octets (written acts)

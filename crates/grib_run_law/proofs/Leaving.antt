@@ -5,7 +5,8 @@ use Rattle.std.proofs.lemmas.Bool.{false≢true}
 use Rattle.std.proofs.lemmas.List.{take_all, length-take}
 use Rattle.std.proofs.lemmas.List.Elements.{All-take}
 use Rattle.grib_base.specs.Rows.{choose}
-use Rattle.grib_keys.specs.declared.condition.Condition.{Condition}
+use Rattle.grib_keys.specs.declared.condition.Change.{Change}
+use Rattle.grib_keys.specs.declared.wanted.Wanted.{Wanted}
 use Rattle.grib_params.specs.Table.{Entries}
 use Rattle.grib_repack.specs.declared.target.RepackTarget.{RepackTarget}
 use Rattle.grib_table.specs.Tabled.{Tabled, Good, Refused}
@@ -138,7 +139,7 @@ leaves_names out policy outcome before now reading = record {
 
 -- ---- a job
 
-module _ (stand : ItemsStand) (repacked : (target : RepackTarget) (policy : Policy) (more : Bool) (octets : List ℕ) → is_target target ≡ true → Writes (IfOctets SameValues) (repack_command target) policy more octets) (migrated : (keep : Bool) (table : Entries) (policy : Policy) (more : Bool) (octets : List ℕ) → Writes (IfOctets SameMigrated) (migrate_command keep table) policy more octets) (set : (changes : List Condition) (policy : Policy) (more : Bool) (octets : List ℕ) → CanChange changes → Writes (SetsKeys changes) (set_command changes) policy more octets) (filtered : (conditions : List Condition) (policy : Policy) (more : Bool) (octets : List ℕ) → Writes (IsFiltered conditions) (filter_command conditions) policy more octets) where
+module _ (stand : ItemsStand) (repacked : (target : RepackTarget) (policy : Policy) (more : Bool) (octets : List ℕ) → is_target target ≡ true → Writes (IfOctets SameValues) (repack_command target) policy more octets) (migrated : (keep : Bool) (table : Entries) (policy : Policy) (more : Bool) (octets : List ℕ) → Writes (IfOctets SameMigrated) (migrate_command keep table) policy more octets) (set : (changes : List Change) (policy : Policy) (more : Bool) (octets : List ℕ) → CanChange changes → Writes (SetsKeys changes) (set_command changes) policy more octets) (filtered : (conditions : List Wanted) (policy : Policy) (more : Bool) (octets : List ℕ) → Writes (IsFiltered conditions) (filter_command conditions) policy more octets) where
   of_octets : (Is : List ℕ → List ℕ → Type 0) (command : Command) (policy : Policy) (more : Bool) (octets : List ℕ) → AreOctets octets → Writes (IfOctets Is) command policy more octets
       → Writes Is command policy more octets
   of_octets Is command policy more octets small wrote =

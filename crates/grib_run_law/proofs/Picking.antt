@@ -7,7 +7,7 @@ use Rattle.grib_base.specs.Rows.{choose}
 use Rattle.grib2_sections.specs.Head.{edition}
 use Rattle.grib2_message.specs.Message.{IsMessage}
 use Rattle.grib2_message.specs.Fields.{field_count, column_of}
-use Rattle.grib_keys.specs.declared.condition.Condition.{Condition}
+use Rattle.grib_keys.specs.declared.wanted.Wanted.{Wanted}
 use Rattle.grib_select.specs.Single.{single_of}
 use Rattle.grib_select.specs.Values.{fulfils_all}
 use Rattle.grib_items.specs.Items.{Item, Accepted, Refused}
@@ -122,7 +122,7 @@ module _ (law : (message : List ℕ) (i : ℕ) → IsMessage message → 1 ≤ i
 
   -- ---- what is written of a message that is filtered
 
-  module _ (conditions : List Condition) where
+  module _ (conditions : List Wanted) where
     abbrev pub fields_picked : List ℕ → List ℕ
     fields_picked message = filter (λ i. fulfils_all message i conditions) (range_with_len 1 (field_count message))
 

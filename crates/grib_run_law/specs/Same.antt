@@ -7,7 +7,8 @@ use Rattle.grib1_sections.specs.Column.{meaning1_of}
 use Rattle.grib2_sections.specs.Head.{edition}
 use Rattle.grib2_message.specs.Message.{IsMessage}
 use Rattle.grib2_message.specs.Fields.{field_count, column_of, meaning_of}
-use Rattle.grib_keys.specs.declared.condition.Condition.{Condition}
+use Rattle.grib_keys.specs.declared.condition.Change.{Change}
+use Rattle.grib_keys.specs.declared.wanted.Wanted.{Wanted}
 use Rattle.grib_select.specs.Values.{fulfils_all, key_value_of}
 
 -- `repack`: a message that is accepted and whose points mean what those of the message mean
@@ -26,7 +27,7 @@ pub record SameMigrated (message other : List ℕ) : Type 0 where
 
 -- `set`: an accepted message with the columns of the message. Where no key stands twice among the changes, each of its
 -- fields has the keys with their new values.
-pub record SetsKeys (changes : List Condition) (message other : List ℕ) : Type 0 where
+pub record SetsKeys (changes : List Change) (message other : List ℕ) : Type 0 where
   pub accepted : IsMessage other
   pub fields : field_count other ≡ field_count message
   pub columns : (i : ℕ) → column_of other i ≡ column_of message i
@@ -38,17 +39,17 @@ abbrev pub columns_of : List ℕ → List Column
 columns_of message = map (column_of message) (range_with_len 1 (field_count message))
 
 -- the columns of those of its fields that fulfil the conditions
-abbrev pub columns_picked : List Condition → List ℕ → List Column
+abbrev pub columns_picked : List Wanted → List ℕ → List Column
 columns_picked conditions message =
     map (column_of message) (filter (λ i. fulfils_all message i conditions) (range_with_len 1 (field_count message)))
 
 -- accepted messages, whose fields are those of a message that fulfil the conditions, each with its column
-pub record IsPicked (conditions : List Condition) (message : List ℕ) (others : List (List ℕ)) : Type 0 where
+pub record IsPicked (conditions : List Wanted) (message : List ℕ) (others : List (List ℕ)) : Type 0 where
   pub accepted : All IsMessage others
   pub columns : flat_map columns_of others ≡ columns_picked conditions message
 
 -- `filter`: such messages, one after another
-abbrev pub IsFiltered : List Condition → List ℕ → List ℕ → Type 0
+abbrev pub IsFiltered : List Wanted → List ℕ → List ℕ → Type 0
 IsFiltered conditions message octets = (others : List (List ℕ)) × (octets ≡ concat others) × IsPicked conditions message others
 
 -- ---- messages of octets

@@ -2,7 +2,8 @@
 
 ghost use Rattle.std.specs.Prelude.{◌≡◌, ◌<◌, ◌≤◌, ◌++◌, ◌^◌, ℕ, Bool, true, IfSome, List, length};
 ghost use Rattle.std.specs.declared.option.Option.{Option};
-ghost use Rattle.grib_keys.specs.declared.condition.Condition.{Condition};
+ghost use Rattle.grib_keys.specs.declared.condition.Change.{Change};
+ghost use Rattle.grib_keys.specs.declared.wanted.Wanted.{Wanted};
 ghost use Rattle.grib_params.specs.Table.{Entries};
 ghost use Rattle.grib_repack.specs.declared.target.RepackTarget.{RepackTarget};
 ghost use Rattle.grib_stream.specs.declared.outcome.Outcome.{Outcome};
@@ -60,7 +61,7 @@ pub fn what_is_migrated_keeps_each_value()
 /// What `set` writes is so a message with the same columns. Where no key stands twice among the changes, its fields have the
 /// keys with their new values.
 pub fn what_is_set_keeps_each_field()
-    ensures { (changes : List Condition) (policy : Policy) (more : Bool) (octets : List ℕ) → CanChange changes
+    ensures { (changes : List Change) (policy : Policy) (more : Bool) (octets : List ℕ) → CanChange changes
         → Writes (SetsKeys changes) (set_command changes) policy more octets }
 {
     items_stand();
@@ -69,7 +70,7 @@ pub fn what_is_set_keeps_each_field()
 
 /// What `filter` writes are so the fields that fulfil the conditions, each with its column.
 pub fn what_is_filtered_keeps_each_column()
-    ensures { (conditions : List Condition) (policy : Policy) (more : Bool) (octets : List ℕ)
+    ensures { (conditions : List Wanted) (policy : Policy) (more : Bool) (octets : List ℕ)
         → Writes (IsFiltered conditions) (filter_command conditions) policy more octets }
 {
     items_stand();

@@ -8,7 +8,7 @@ use Rattle.grib_bits.specs.Encoding.{octets_of}
 use Rattle.grib_bits.proofs.Encoding.{length-octets_of}
 use Rattle.grib_keys.specs.declared.key.Key.{Key}
 use Rattle.grib_keys.specs.declared.key.Key.TheVariants.{Discipline, Scanning, La1, Lo1, EnsembleType, EnsembleNumber, EnsembleMembers, EndYear, EndMonth, EndDay, EndHour, EndMinute, EndSecond, RangeProcess, RangeIncrementType, RangeUnit, RangeLength}
-use Rattle.grib_keys.specs.declared.condition.Condition.{Condition}
+use Rattle.grib_keys.specs.declared.condition.Change.{Change}
 use Rattle.grib_keys.specs.declared.table.Layout.{Layout}
 use Rattle.grib_keys.specs.declared.table.Octets.{Octets}
 use Rattle.grib2_products.specs.Product.{time_ranges}
@@ -303,7 +303,7 @@ module _ (number : ℕ) (s : List ℕ) (p : Octets) (xs : List ℕ) (within : Is
       }
 
 -- a change
-number_alike : (number : ℕ) (s : List ℕ) (change : Condition) (o : Option Octets) → IsReady number s → (row_of change.key).section ≡ number → can_set change.key ≡ true
+number_alike : (number : ℕ) (s : List ℕ) (change : Change) (o : Option Octets) → IsReady number s → (row_of change.key).section ≡ number → can_set change.key ≡ true
     → (row_of change.key).place (layout_of number s) ≡ o → AreAlike number s (put_number change s o)
 number_alike number s change None r section settable place = alike_self number s
 number_alike number s change (Some p) r section settable place =
@@ -312,16 +312,16 @@ number_alike number s change (Some p) r section settable place =
     (r.clear change.key p section settable place)
 
 -- where the key stands in the section, and where not
-pub with_key_here : (change : Condition) (number : ℕ) (s : List ℕ) → (row_of change.key).section ≡ number
+pub with_key_here : (change : Change) (number : ℕ) (s : List ℕ) → (row_of change.key).section ≡ number
     → with_key change number s ≡ put_number change s ((row_of change.key).place (layout_of number s))
 with_key_here change number s section =
     ap (λ (b : Bool). choose b (λ _. put_number change s ((row_of change.key).place (layout_of number s))) (λ _. s)) (eq-eqb (row_of change.key).section number section)
 
-pub with_key_other : (change : Condition) (number : ℕ) (s : List ℕ) → (row_of change.key).section ≢ number → with_key change number s ≡ s
+pub with_key_other : (change : Change) (number : ℕ) (s : List ℕ) → (row_of change.key).section ≢ number → with_key change number s ≡ s
 with_key_other change number s other =
     ap (λ (b : Bool). choose b (λ _. put_number change s ((row_of change.key).place (layout_of number s))) (λ _. s)) (ne_eqb (row_of change.key).section number other)
 
-pub key_alike : (number : ℕ) (s : List ℕ) (change : Condition) → IsReady number s → can_set change.key ≡ true → AreAlike number s (with_key change number s)
+pub key_alike : (number : ℕ) (s : List ℕ) (change : Change) → IsReady number s → can_set change.key ≡ true → AreAlike number s (with_key change number s)
 key_alike number s change r settable = elim (cases_eq (row_of change.key).section number) [
   | inl section ↦
       subst (λ (t : List ℕ). AreAlike number s t) (sym (with_key_here change number s section))
@@ -330,11 +330,11 @@ key_alike number s change r settable = elim (cases_eq (row_of change.key).sectio
 ]
 
 -- all changes
-abbrev pub CanBeSet : List Condition → Type 0
+abbrev pub CanBeSet : List Change → Type 0
 CanBeSet [] = Unit {0}
 CanBeSet (change ∷ changes) = (can_set change.key ≡ true) × CanBeSet changes
 
-pub changes_alike : (changes : List Condition) (number : ℕ) (s : List ℕ) → IsReady number s → CanBeSet changes → AreAlike number s (with_changes changes number s)
+pub changes_alike : (changes : List Change) (number : ℕ) (s : List ℕ) → IsReady number s → CanBeSet changes → AreAlike number s (with_changes changes number s)
 changes_alike [] number s r settable = alike_self number s
 changes_alike (change ∷ changes) number s r settable =
     let first = key_alike number s change r settable.0 in
@@ -342,7 +342,7 @@ changes_alike (change ∷ changes) number s r settable =
     (changes_alike changes number (with_key change number s) (ready_stays number s (with_key change number s) first r) settable.1)
 
 -- no key that can be set stands in Sections 2, 5, 6 and 7
-pub changes_none : (changes : List Condition) (number : ℕ) (s : List ℕ) → CanBeSet changes → ((key : Key) → can_set key ≡ true → (row_of key).section ≢ number)
+pub changes_none : (changes : List Change) (number : ℕ) (s : List ℕ) → CanBeSet changes → ((key : Key) → can_set key ≡ true → (row_of key).section ≢ number)
     → with_changes changes number s ≡ s
 changes_none [] number s settable none = refl
 changes_none (change ∷ changes) number s settable none =
@@ -373,7 +373,7 @@ elsewhere_tells number key e settable same =
     let told : not true ≡ true = sym (ap₂ (λ (b c : Bool). not b || not c) settable (eq-eqb (row_of key).section number same)) ∙ e in
     absurd (cc)
 
-pub unchanged : (changes : List Condition) (number : ℕ) (s : List ℕ) → CanBeSet changes → (number ≡ 2) ⊎ ((number ≡ 5) ⊎ ((number ≡ 6) ⊎ (number ≡ 7)))
+pub unchanged : (changes : List Change) (number : ℕ) (s : List ℕ) → CanBeSet changes → (number ≡ 2) ⊎ ((number ≡ 5) ⊎ ((number ≡ 6) ⊎ (number ≡ 7)))
     → with_changes changes number s ≡ s
 unchanged changes number s settable one =
     changes_none changes number s settable (λ key set. elim one [

@@ -23,7 +23,7 @@ use Rattle.grib2_message.proofs.Parted.{Parted, message_parted, message_states, 
 use Rattle.grib2_message.proofs.Placing.{placed_from}
 use Rattle.grib2_message.proofs.Sound.{fault_of, earlier_own, earlier_kept, earlier_not_own, mask_here, mask_kept}
 use Rattle.grib2_message.proofs.Whole.{octets_of_front, sections_alone}
-use Rattle.grib_keys.specs.declared.condition.Condition.{Condition}
+use Rattle.grib_keys.specs.declared.condition.Change.{Change}
 use Rattle.grib_keys.specs.Keys.{can_set}
 use Rattle.grib_select.specs.Changed.{with_changes, changed, with_keys}
 use Rattle.grib_select.proofs.Composed.{message_in_grammar, message_most}
@@ -33,7 +33,7 @@ use Rattle.grib_select.proofs.Stand.{is_fixed, AreAlike, alike_octets, alike_ide
 use Rattle.grib_select.proofs.Within.{has_keys, head_within}
 
 -- the changes can be made
-pub can_be_set : (changes : List Condition) → All (λ c. IsTrue (can_set c.key)) changes → CanBeSet changes
+pub can_be_set : (changes : List Change) → All (λ c. IsTrue (can_set c.key)) changes → CanBeSet changes
 can_be_set [] h = tt
 can_be_set (change ∷ changes) h = (h 0 change (omega arith), can_be_set changes (All-tail (λ c. IsTrue (can_set c.key)) change changes h))
 
@@ -178,7 +178,7 @@ module _ (before others : List Placed) (q : ℕ) (s t : List ℕ) (is : IsSectio
       }
 
 -- a section with changes fits it
-changed_fits : (changes : List Condition) (before : List Placed) (q : ℕ) (s : List ℕ) → CanBeSet changes → IsSection before q s → Fits (placed_at q s) (placed_at q (changed changes s))
+changed_fits : (changes : List Change) (before : List Placed) (q : ℕ) (s : List ℕ) → CanBeSet changes → IsSection before q s → Fits (placed_at q s) (placed_at q (changed changes s))
 changed_fits changes before q s set is =
     let n = section_number s in
     let range = in_range (last_number before) n (follows_tells (last_number before) n is.follows) in
@@ -191,12 +191,12 @@ changed_fits changes before q s set is =
 
 -- ---- all sections
 
-pub record Rebuilt (changes : List Condition) (others : List Placed) (q p : ℕ) (sections : List (List ℕ)) : Type 0 where
+pub record Rebuilt (changes : List Change) (others : List Placed) (q p : ℕ) (sections : List (List ℕ)) : Type 0 where
   pub follow : AreSections others p (map (changed changes) sections)
   pub along : Along Fits (placed_from q sections) (placed_from p (map (changed changes) sections))
   pub long : length (concat (map (changed changes) sections)) ≡ length (concat sections)
 
-pub rebuilt : (changes : List Condition) (sections : List (List ℕ)) (before others : List Placed) (q : ℕ) → CanBeSet changes → AreSections before q sections → Along Fits before others
+pub rebuilt : (changes : List Change) (sections : List (List ℕ)) (before others : List Placed) (q : ℕ) → CanBeSet changes → AreSections before q sections → Along Fits before others
     → Rebuilt changes others q q sections
 rebuilt changes [] before others q set follow along = record { follow = ap may_end (last_along Fits fits_number before others along) ∙ follow; along = tt; long = refl }
 rebuilt changes (s ∷ sections) before others q set follow along =
@@ -212,19 +212,19 @@ rebuilt changes (s ∷ sections) before others q set follow along =
     }
 
 -- the places of the sections count nothing
-changed_placed : (changes : List Condition) (q : ℕ) (sections : List (List ℕ)) → map (λ p. changed changes p.octets) (placed_from q sections) ≡ map (changed changes) sections
+changed_placed : (changes : List Change) (q : ℕ) (sections : List (List ℕ)) → map (λ p. changed changes p.octets) (placed_from q sections) ≡ map (changed changes) sections
 changed_placed changes q [] = refl
 changed_placed changes q (s ∷ sections) = ap (λ xs. changed changes s ∷ xs) (changed_placed changes (q + length s) sections)
 
 -- a section with its changes
-pub record IsChanged (changes : List Condition) (s t : Placed) : Type 0 where
+pub record IsChanged (changes : List Change) (s t : Placed) : Type 0 where
   pub numbered : section_number t.octets ≡ section_number s.octets
   pub is : t.octets ≡ changed changes s.octets
 
-pub changed_number : (changes : List Condition) (s t : Placed) → IsChanged changes s t → section_number t.octets ≡ section_number s.octets
+pub changed_number : (changes : List Change) (s t : Placed) → IsChanged changes s t → section_number t.octets ≡ section_number s.octets
 changed_number changes s t h = h.numbered
 
-changed_each : (changes : List Condition) (q p : ℕ) (sections : List (List ℕ)) → Along Fits (placed_from q sections) (placed_from p (map (changed changes) sections))
+changed_each : (changes : List Change) (q p : ℕ) (sections : List (List ℕ)) → Along Fits (placed_from q sections) (placed_from p (map (changed changes) sections))
     → Along (IsChanged changes) (placed_from q sections) (placed_from p (map (changed changes) sections))
 changed_each changes q p [] h = tt
 changed_each changes q p (s ∷ sections) h =
@@ -232,7 +232,7 @@ changed_each changes q p (s ∷ sections) h =
 
 -- ---- the message
 
-module _ (m : List ℕ) (changes : List Condition) (h : IsMessage m) (set : CanBeSet changes) where
+module _ (m : List ℕ) (changes : List Change) (h : IsMessage m) (set : CanBeSet changes) where
   old : Parted m [] 17 (length m)
   old = message_parted m h
 

@@ -9,7 +9,7 @@ use Rattle.grib_bits.proofs.Encoding.{length-octets_of, num_on-octets_of, bits-o
 use Rattle.grib_keys.specs.declared.key.Key.{Key}
 use Rattle.grib_keys.specs.declared.condition.Value.{Value}
 use Rattle.grib_keys.specs.declared.condition.Value.TheVariants.{Number, Missing}
-use Rattle.grib_keys.specs.declared.condition.Condition.{Condition}
+use Rattle.grib_keys.specs.declared.condition.Change.{Change}
 use Rattle.grib_keys.specs.declared.table.Octets.{Octets}
 use Rattle.grib_keys.specs.declared.table.Kind.{Kind}
 use Rattle.grib_keys.specs.Keys.{row_of, can_set}
@@ -24,18 +24,18 @@ use Rattle.grib_select.proofs.Puts.{put-before, put-behind, put-here}
 -- ---- the octets of a key
 
 -- no change is one of the key
-abbrev pub NoneOf : Key → List Condition → Type 0
+abbrev pub NoneOf : Key → List Change → Type 0
 NoneOf key [] = Unit {0}
 NoneOf key (change ∷ changes) = (key ≢ change.key) × NoneOf key changes
 
 -- each key stands once
-abbrev pub StandOnce : List Condition → Type 0
+abbrev pub StandOnce : List Change → Type 0
 StandOnce [] = Unit {0}
 StandOnce (change ∷ changes) = NoneOf change.key changes × StandOnce changes
 
 module _ (n : ℕ) (key : Key) (set : can_set key ≡ true) (section : (row_of key).section ≡ n) where
   -- a change at the place of another key
-  other_place : (s : List ℕ) (p : Octets) (change : Condition) (o : Option Octets) → IsReady n s → (row_of key).place (layout_of n s) ≡ Some p → key ≢ change.key
+  other_place : (s : List ℕ) (p : Octets) (change : Change) (o : Option Octets) → IsReady n s → (row_of key).place (layout_of n s) ≡ Some p → key ≢ change.key
       → can_set change.key ≡ true → (row_of change.key).section ≡ n → (row_of change.key).place (layout_of n s) ≡ o
       → octet_list (put_number change s o) p.first p.last ≡ octet_list s p.first p.last
   other_place s p change None r here differ also sec there = refl
@@ -49,7 +49,7 @@ module _ (n : ℕ) (key : Key) (set : can_set key ≡ true) (section : (row_of k
         | inr behind ↦ put-behind s q.first xs its.low (omega (arith, its.high, its.some, its.low)) p.first p.last (omega (arith, its.some, its.low))
       ]
 
-  one_keeps : (s : List ℕ) (p : Octets) (change : Condition) → IsReady n s → (row_of key).place (layout_of n s) ≡ Some p → key ≢ change.key → can_set change.key ≡ true
+  one_keeps : (s : List ℕ) (p : Octets) (change : Change) → IsReady n s → (row_of key).place (layout_of n s) ≡ Some p → key ≢ change.key → can_set change.key ≡ true
       → octet_list (with_key change n s) p.first p.last ≡ octet_list s p.first p.last
   one_keeps s p change r here differ also = elim (cases_eq (row_of change.key).section n) [
     | inl sec ↦
@@ -59,7 +59,7 @@ module _ (n : ℕ) (key : Key) (set : can_set key ≡ true) (section : (row_of k
   ]
 
   -- changes of other keys leave them
-  others_keep : (changes : List Condition) (s : List ℕ) (p : Octets) → IsReady n s → (row_of key).place (layout_of n s) ≡ Some p → NoneOf key changes → CanBeSet changes
+  others_keep : (changes : List Change) (s : List ℕ) (p : Octets) → IsReady n s → (row_of key).place (layout_of n s) ≡ Some p → NoneOf key changes → CanBeSet changes
       → octet_list (with_changes changes n s) p.first p.last ≡ octet_list s p.first p.last
   others_keep [] s p r here none also = refl
   others_keep (change ∷ changes) s p r here none also =
@@ -69,7 +69,7 @@ module _ (n : ℕ) (key : Key) (set : can_set key ≡ true) (section : (row_of k
       ∙ one_keeps s p change r here none.0 also.0
 
 -- the change of the key itself
-own_place : (n : ℕ) (s : List ℕ) (p : Octets) (change : Condition) → IsReady n s → (row_of change.key).section ≡ n → (row_of change.key).place (layout_of n s) ≡ Some p
+own_place : (n : ℕ) (s : List ℕ) (p : Octets) (change : Change) → IsReady n s → (row_of change.key).section ≡ n → (row_of change.key).place (layout_of n s) ≡ Some p
     → octet_list (with_key change n s) p.first p.last ≡ octets_of (octet_count p) (unwrap_or (new_number change) 0)
 own_place n s p change r section here =
     let its = r.within change.key p section here in
@@ -79,22 +79,22 @@ own_place n s p change r section here =
     ∙ put-here s p.first xs its.low (omega (arith, its.high, its.some, its.low)) p.last (omega (arith, its.some, its.low))
 
 -- what is so of each change
-abbrev pub EachChange : (Condition → Type 0) → List Condition → Type 0
+abbrev pub EachChange : (Change → Type 0) → List Change → Type 0
 EachChange P [] = Unit {0}
 EachChange P (change ∷ changes) = P change × EachChange P changes
 
 -- the key of a change has its new octets in a section
-abbrev pub HasOctets : ℕ → List ℕ → List ℕ → Condition → Type 0
+abbrev pub HasOctets : ℕ → List ℕ → List ℕ → Change → Type 0
 HasOctets n s t change =
     (p : Octets) → (row_of change.key).section ≡ n → (row_of change.key).place (layout_of n s) ≡ Some p
     → octet_list t p.first p.last ≡ octets_of (octet_count p) (unwrap_or (new_number change) 0)
 
-each_like : (n : ℕ) (s t u : List ℕ) (changes : List Condition) → layout_of n t ≡ layout_of n s → EachChange (HasOctets n t u) changes → EachChange (HasOctets n s u) changes
+each_like : (n : ℕ) (s t u : List ℕ) (changes : List Change) → layout_of n t ≡ layout_of n s → EachChange (HasOctets n t u) changes → EachChange (HasOctets n s u) changes
 each_like n s t u [] same h = tt
 each_like n s t u (change ∷ changes) same h =
     (λ p section here. h.0 p section (ap (row_of change.key).place same ∙ here), each_like n s t u changes same h.1)
 
-pub all_have : (changes : List Condition) (n : ℕ) (s : List ℕ) → IsReady n s → CanBeSet changes → StandOnce changes → EachChange (HasOctets n s (with_changes changes n s)) changes
+pub all_have : (changes : List Change) (n : ℕ) (s : List ℕ) → IsReady n s → CanBeSet changes → StandOnce changes → EachChange (HasOctets n s (with_changes changes n s)) changes
 all_have [] n s r set once = tt
 all_have (change ∷ changes) n s r set once =
     let alike = key_alike n s change r set.0 in
@@ -189,7 +189,7 @@ module _ (kind : Kind) (t : List ℕ) (p : Octets) (raw : ℕ) (some : 1 ≤ oct
       told.0 (ap (is_all_ones n) number ∙ ones)
 
 -- a key that was set has its value in a section
-pub value_told : (n : ℕ) (s t : List ℕ) (change : Condition) (raw : ℕ) (p : Octets) → (row_of change.key).section ≡ n → layout_of n t ≡ layout_of n s
+pub value_told : (n : ℕ) (s t : List ℕ) (change : Change) (raw : ℕ) (p : Octets) → (row_of change.key).section ≡ n → layout_of n t ≡ layout_of n s
     → (row_of change.key).place (layout_of n s) ≡ Some p → HasShape change.key (layout_of n s) p → HasOctets n s t change → new_number change ≡ Some raw
     → value_in change.key t ≡ Some change.value
 value_told n s t change raw p section template here shape has new =

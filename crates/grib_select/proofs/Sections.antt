@@ -17,7 +17,7 @@ use Rattle.grib2_message.specs.Acceptance.{section_fault}
 use Rattle.grib2_message.proofs.Sound.{none_located, fault_of}
 use Rattle.grib_keys.specs.declared.key.Key.{Key}
 use Rattle.grib_keys.specs.declared.key.Key.TheVariants.{Discipline}
-use Rattle.grib_keys.specs.declared.condition.Condition.{Condition}
+use Rattle.grib_keys.specs.declared.condition.Change.{Change}
 use Rattle.grib_keys.specs.Keys.{row_of}
 use Rattle.grib_keys.specs.declared.table.Octets.{Octets}
 use Rattle.grib_select.specs.Values.{layout_of, octet_count, HasKeys, IsWithin}
@@ -77,7 +77,7 @@ section_keys before p n is low high none =
 
 -- ---- a change as it is written
 
-pub put_is : (change : Condition) (number : ℕ) (s : List ℕ) (p : Octets) (ys : List ℕ) → (row_of change.key).section ≡ number
+pub put_is : (change : Change) (number : ℕ) (s : List ℕ) (p : Octets) (ys : List ℕ) → (row_of change.key).section ≡ number
     → Some p ≡ (row_of change.key).place (layout_of (row_of change.key).section s) → IsWithin (length s) p
     → ys ≡ octets_of (octet_count p) (unwrap_or (new_number change) 0) ++ drop (octet_count p) (take (length s - (p.first - 1)) (drop (p.first - 1) s))
     → put_mid (p.first - 1) (length s - (p.first - 1)) s ys ≡ with_key change number s
@@ -112,7 +112,7 @@ write_more out now t rest last whole is e =
     ∙ e
 
 -- the next section with its changes
-pub changed_next : (changes : List Condition) (left rest : List Placed) (start number : ℕ) (s : List ℕ) → left ≡ placed_at start s ∷ rest → section_number s ≡ number
+pub changed_next : (changes : List Change) (left rest : List Placed) (start number : ℕ) (s : List ℕ) → left ≡ placed_at start s ∷ rest → section_number s ≡ number
     → concat (map (λ p. changed changes p.octets) left) ≡ with_changes changes number s ++ concat (map (λ p. changed changes p.octets) rest)
 changed_next changes left rest start number s are is =
     ap (λ (xs : List Placed). concat (map (λ p. changed changes p.octets) xs)) are

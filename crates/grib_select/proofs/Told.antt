@@ -10,7 +10,7 @@ use Rattle.grib2_message.proofs.Along.{octets_along}
 use Rattle.grib2_message.proofs.Parted.{message_least}
 use Rattle.grib_keys.specs.declared.key.Key.{Key}
 use Rattle.grib_keys.specs.declared.key.Key.TheVariants.{Discipline}
-use Rattle.grib_keys.specs.declared.condition.Condition.{Condition}
+use Rattle.grib_keys.specs.declared.condition.Change.{Change}
 use Rattle.grib_keys.specs.declared.condition.Value.{Value}
 use Rattle.grib_keys.specs.declared.table.Octets.{Octets}
 use Rattle.grib_keys.specs.Keys.{row_of}
@@ -26,7 +26,7 @@ use Rattle.grib_select.proofs.Within.{part_keys, has_keys, head_within, and_firs
 
 -- ---- what it says that no change is at fault
 
-pub each_at : (P : Condition → Type 0) (changes : List Condition) → EachChange P changes → (k : ℕ) (d : Condition) → k < length changes → P (get_or changes k d)
+pub each_at : (P : Change → Type 0) (changes : List Change) → EachChange P changes → (k : ℕ) (d : Change) → k < length changes → P (get_or changes k d)
 each_at P [] h k d low = absurd (omega arith)
 each_at P (change ∷ changes) h zero d low = h.0
 each_at P (change ∷ changes) h (suc k) d low = each_at P changes h.1 k d (omega arith)
@@ -35,7 +35,7 @@ later_none : (o : Option SetFault) (later : Unit {0} → Option SetFault) → or
 later_none (Some fault) later e = absurd (cc)
 later_none None later e = (refl, e)
 
-no_fault : (m : List ℕ) (changes : List Condition) → set_fault m changes ≡ None → EachChange (λ c. change_fault m c ≡ None) changes
+no_fault : (m : List ℕ) (changes : List Change) → set_fault m changes ≡ None → EachChange (λ c. change_fault m c ≡ None) changes
 no_fault m [] e = tt
 no_fault m (change ∷ changes) e =
     let both = later_none (change_fault m change) (λ _. set_fault m changes) e in
@@ -54,12 +54,12 @@ all_there m key (suc n) a e i low high =
       | inr other ↦ all_there m key n (a + 1) told.1 i (omega arith) (omega arith)
     ]
 
-pub record CanBeMade (m : List ℕ) (change : Condition) : Type 0 where
+pub record CanBeMade (m : List ℕ) (change : Change) : Type 0 where
   pub raw : ℕ
   pub number : new_number change ≡ Some raw
   pub there : (i : ℕ) → 1 ≤ i → i ≤ field_count m → is_none (key_value_of m i change.key) ≡ false
 
-can_be_made : (m : List ℕ) (change : Condition) → change_fault m change ≡ None → CanBeMade m change
+can_be_made : (m : List ℕ) (change : Change) → change_fault m change ≡ None → CanBeMade m change
 can_be_made m change e = go (new_number change) refl e where
   go : (o : Option ℕ) → new_number change ≡ o
       → choose (is_none o) (λ _. Some (KeyRange change.key)) (λ _. first_without m change.key (range_with_len 1 (field_count m))) ≡ None → CanBeMade m change
@@ -68,11 +68,11 @@ can_be_made m change e = go (new_number change) refl e where
 
 -- ---- the keys that can be set stand once
 
-none_of : (key : Key) (changes : List Condition) → ((k : ℕ) (d : Condition) → k < length changes → key ≢ (get_or changes k d).key) → NoneOf key changes
+none_of : (key : Key) (changes : List Change) → ((k : ℕ) (d : Change) → k < length changes → key ≢ (get_or changes k d).key) → NoneOf key changes
 none_of key [] h = tt
 none_of key (change ∷ changes) h = (h 0 change (omega arith), none_of key changes (λ k d low. h (suc k) d (omega arith)))
 
-pub stand_once : (changes : List Condition) → AllPairs (λ a b. a.key ≢ b.key) changes → StandOnce changes
+pub stand_once : (changes : List Change) → AllPairs (λ a b. a.key ≢ b.key) changes → StandOnce changes
 stand_once [] h = tt
 stand_once (change ∷ changes) h =
     (none_of change.key changes (λ k d low. h 0 (suc k) d (omega arith) (omega arith)), stand_once changes (λ i j d less low. h (suc i) (suc j) d (omega arith) (omega arith)))
@@ -88,11 +88,11 @@ not_there false e = refl
 
 -- ---- a section of a field with its changes
 
-pub record Changed (m : List ℕ) (changes : List Condition) (i n : ℕ) : Type 0 where
+pub record Changed (m : List ℕ) (changes : List Change) (i n : ℕ) : Type 0 where
   pub is : key_section (with_keys m changes) i n ≡ with_changes changes n (key_section m i n)
   pub ready : IsReady n (key_section m i n)
 
-module _ (m : List ℕ) (changes : List Condition) (h : IsMessage m) (set : CanBeSet changes) (i : ℕ) (low : 1 ≤ i) (high : i ≤ field_count m) where
+module _ (m : List ℕ) (changes : List Change) (h : IsMessage m) (set : CanBeSet changes) (i : ℕ) (low : 1 ≤ i) (high : i ≤ field_count m) where
   passes : FieldPasses m i
   passes =
       let up = field_up_to m i h low high in
@@ -152,7 +152,7 @@ module _ (m : List ℕ) (changes : List Condition) (h : IsMessage m) (set : CanB
   placed key f (Some p) e = (p, refl)
 
   -- a change that can be made, with its octets
-  one_told : (change : Condition) → CanBeMade m change
+  one_told : (change : Change) → CanBeMade m change
       → HasOctets (row_of change.key).section (key_section m i (row_of change.key).section) (with_changes changes (row_of change.key).section (key_section m i (row_of change.key).section)) change
       → key_value_of (with_keys m changes) i change.key ≡ Some change.value
   one_told change made has =

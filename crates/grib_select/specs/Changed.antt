@@ -10,7 +10,7 @@ use Rattle.grib2_sections.specs.Head.{end_mark}
 use Rattle.grib_keys.specs.declared.key.Key.{Key}
 use Rattle.grib_keys.specs.declared.condition.Value.{Value}
 use Rattle.grib_keys.specs.declared.condition.Value.TheVariants.{Number, Missing}
-use Rattle.grib_keys.specs.declared.condition.Condition.{Condition}
+use Rattle.grib_keys.specs.declared.condition.Change.{Change}
 use Rattle.grib_keys.specs.declared.table.Octets.{Octets}
 use Rattle.grib_keys.specs.declared.table.Kind.{Kind}
 use Rattle.grib_keys.specs.Keys.{row_of, full_layout}
@@ -52,7 +52,7 @@ number_for kind n (Number x) = unless_missing kind.may_be_missing n (number_of k
 number_for kind n Missing = missing_number kind n
 
 -- the number that the octets of the key are to make
-abbrev pub new_number : Condition → Option ℕ
+abbrev pub new_number : Change → Option ℕ
 new_number change = number_for (row_of change.key).kind (key_octets change.key) change.value
 
 -- a section with these octets from octet `first` on, counted from 1
@@ -60,26 +60,26 @@ abbrev pub put : List ℕ → ℕ → List ℕ → List ℕ
 put s first octets = take (first - 1) s ++ (octets ++ drop (first - 1 + length octets) s)
 
 -- a section with the new number of a key, if it has the place of the key
-abbrev pub put_number : Condition → List ℕ → Option Octets → List ℕ
+abbrev pub put_number : Change → List ℕ → Option Octets → List ℕ
 put_number change s None = s
 put_number change s (Some place) = put s place.first (octets_of (octet_count place) (unwrap_or (new_number change) 0))
 
 -- a section with this number and the new number of the key, where the key stands in it
-abbrev pub with_key : Condition → ℕ → List ℕ → List ℕ
+abbrev pub with_key : Change → ℕ → List ℕ → List ℕ
 with_key change number s =
     let row = row_of change.key in
     choose (row.section == number) (λ _. put_number change s (row.place (layout_of number s))) (λ _. s)
 
-abbrev pub with_changes : List Condition → ℕ → List ℕ → List ℕ
+abbrev pub with_changes : List Change → ℕ → List ℕ → List ℕ
 with_changes [] number s = s
 with_changes (change ∷ changes) number s = with_changes changes number (with_key change number s)
 
 -- a section after Section 0 with all changes
-abbrev pub changed : List Condition → List ℕ → List ℕ
+abbrev pub changed : List Change → List ℕ → List ℕ
 changed changes s = with_changes changes (section_number s) s
 
 -- the message with all changes
-abbrev pub with_keys : List ℕ → List Condition → List ℕ
+abbrev pub with_keys : List ℕ → List Change → List ℕ
 with_keys message changes =
     with_changes changes 0 (take 16 message) ++ (concat (map (λ s. changed changes s.octets) (sections_of message)) ++ end_mark)
 
@@ -89,7 +89,7 @@ first_without message key [] = None
 first_without message key (i ∷ fields) = cond (is_none (key_value_of message i key)) (Some (KeyAbsent i key)) (first_without message key fields)
 
 -- why a change cannot be made: the value does not fit, or else a field lacks the key
-abbrev pub change_fault : List ℕ → Condition → Option SetFault
+abbrev pub change_fault : List ℕ → Change → Option SetFault
 change_fault message change =
     choose (is_none (new_number change)) (λ _. Some (KeyRange change.key))
     (λ _. first_without message change.key (range_with_len 1 (field_count message)))
@@ -100,7 +100,7 @@ or_later (Some fault) later = Some fault
 or_later None later = later tt
 
 -- why the first change at fault cannot be made
-abbrev pub set_fault : List ℕ → List Condition → Option SetFault
+abbrev pub set_fault : List ℕ → List Change → Option SetFault
 set_fault message [] = None
 set_fault message (change ∷ changes) = or_later (change_fault message change) (λ _. set_fault message changes)
 

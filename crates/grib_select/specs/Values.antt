@@ -1,18 +1,19 @@
 -- The values of the keys of a field (WMO-No. 306, Volume I.2, FM 92 GRIB edition 2): numbers in the sections
 -- that are in force for it, at the places that the table of keys gives.
-use Rattle.std.specs.Prelude.{◌≡◌, ℕ, ◌+◌, ◌-◌, ◌^◌, ◌≤◌, cond, ◌&&◌, ◌==◌, Bool, true, false, Option, Some, None, option_map, List, take, length, pos}
+use Rattle.std.specs.Prelude.{◌≡◌, ℕ, ◌+◌, ◌-◌, ◌^◌, ◌≤◌, cond, ◌&&◌, ◌==◌, Bool, false, Option, Some, option_map, IsSomeAnd, List, take, length, pos}
 use Rattle.std.specs.List.{list_all}
-use Rattle.std.specs.Ordering.{int_eq}
+use Rattle.std.specs.Option.{option_map_or}
 use Rattle.grib_bits.specs.Octets.{octets, signed_octets}
 use Rattle.grib_base.specs.Rows.{choose}
 use Rattle.grib_keys.specs.declared.key.Key.{Key}
 use Rattle.grib_keys.specs.declared.condition.Value.{Value}
 use Rattle.grib_keys.specs.declared.condition.Value.TheVariants.{Number, Missing}
-use Rattle.grib_keys.specs.declared.condition.Condition.{Condition}
+use Rattle.grib_keys.specs.declared.wanted.Wanted.{Wanted}
 use Rattle.grib_keys.specs.declared.table.Layout.{Layout}
 use Rattle.grib_keys.specs.declared.table.Octets.{Octets}
 use Rattle.grib_keys.specs.declared.table.Kind.{Kind}
 use Rattle.grib_keys.specs.Keys.{row_of}
+use Rattle.grib_keys.specs.Wanted.{Holds, holds}
 use Rattle.grib2_products.specs.Product.{time_ranges}
 use Rattle.grib2_message.specs.Fields.{part_octets}
 
@@ -63,24 +64,16 @@ value_in key s =
 abbrev pub key_value_of : List ℕ → ℕ → Key → Option Value
 key_value_of message i key = value_in key (key_section message i (row_of key).section)
 
--- whether two values are the same
-abbrev pub same_value : Value → Value → Bool
-same_value (Number x) (Number y) = int_eq x y
-same_value (Number x) Missing = false
-same_value Missing (Number y) = false
-same_value Missing Missing = true
+-- field i has the key with a value of which holds what is asked
+abbrev pub Fulfils : List ℕ → ℕ → Wanted → Type 0
+Fulfils message i wanted = IsSomeAnd (key_value_of message i wanted.key) (Holds wanted.test)
 
--- whether there is a value, and it is this one
-abbrev pub is_value : Option Value → Value → Bool
-is_value None asked = false
-is_value (Some value) asked = same_value value asked
+-- the same as a test
+abbrev pub fulfils : List ℕ → ℕ → Wanted → Bool
+fulfils message i wanted = option_map_or (holds wanted.test) (key_value_of message i wanted.key) false
 
--- whether field i has the key with this value
-abbrev pub fulfils : List ℕ → ℕ → Condition → Bool
-fulfils message i condition = is_value (key_value_of message i condition.key) condition.value
-
--- whether field i has every key with its value
-abbrev pub fulfils_all : List ℕ → ℕ → List Condition → Bool
+-- whether field i fulfils all conditions
+abbrev pub fulfils_all : List ℕ → ℕ → List Wanted → Bool
 fulfils_all message i conditions = list_all (fulfils message i) conditions
 
 -- a place within the first l octets of a section, of 1 to 4 octets

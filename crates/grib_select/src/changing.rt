@@ -12,7 +12,7 @@ use crate::number::new_number;
 use crate::value::{key_value, place_in};
 use byteorder::{BigEndian, ByteOrder};
 use grib_base::Section;
-use grib_keys::{Condition, Key};
+use grib_keys::{Change, Key};
 use grib2_message::Message;
 use grib2_sections::Frame;
 use std::alloc::{AllocError, Global};
@@ -50,7 +50,7 @@ impl From<AllocError> for SetFault {
 pub fn set_keys(
     alloc: Global,
     message: &Message<'_>,
-    changes: &[Condition],
+    changes: &[Change],
 ) -> Result<Vec<u8>, SetFault>
     requires { All (λ c. IsTrue (can_set c.key)) changes.now }
     ensures { MatchResult result
@@ -63,7 +63,7 @@ pub fn set_keys(
 }
 
 /// Refuses the first change at fault.
-fn check_changes(message: &Message<'_>, changes: &[Condition]) -> Result<(), SetFault>
+fn check_changes(message: &Message<'_>, changes: &[Change]) -> Result<(), SetFault>
     ensures { MatchResult result (λ _. set_fault message.now changes.now ≡ None)
         (λ fault. set_fault message.now changes.now ≡ Some fault) }
 {
@@ -74,7 +74,7 @@ fn check_changes(message: &Message<'_>, changes: &[Condition]) -> Result<(), Set
 }
 
 /// Refuses a change whose value does not fit, or whose key a field lacks.
-fn check_change(message: &Message<'_>, change: &Condition) -> Result<(), SetFault>
+fn check_change(message: &Message<'_>, change: &Change) -> Result<(), SetFault>
     ensures { MatchResult result (λ _. change_fault message.now change.now ≡ None)
         (λ fault. change_fault message.now change.now ≡ Some fault) }
 {
@@ -94,7 +94,7 @@ fn check_change(message: &Message<'_>, change: &Condition) -> Result<(), SetFaul
 fn write_changed(
     alloc: Global,
     message: &Message<'_>,
-    changes: &[Condition],
+    changes: &[Change],
 ) -> Result<Vec<u8>, AllocError>
     requires settable { All (λ c. IsTrue (can_set c.key)) changes.now }
     requires fit { set_fault message.now changes.now ≡ None }
@@ -129,7 +129,7 @@ fn next_section<'a>(frame: &mut Frame, octets: &'a [u8]) -> Option<Section<'a>>
 fn append_changed(
     section: &[u8],
     number: u8,
-    changes: &[Condition],
+    changes: &[Change],
     out: &mut Vec<u8>,
 ) -> Result<(), AllocError>
     requires settable { All (λ c. IsTrue (can_set c.key)) changes.now }
@@ -143,7 +143,7 @@ fn append_changed(
 }
 
 /// Makes these changes in a section with this number.
-fn change_section(section: &mut [u8], number: u8, changes: &[Condition])
+fn change_section(section: &mut [u8], number: u8, changes: &[Change])
     requires settable { All (λ c. IsTrue (can_set c.key)) changes.now }
     requires keys { HasKeys number section.old }
     ensures { section.new ≡ with_changes changes.now number section.old }
@@ -154,7 +154,7 @@ fn change_section(section: &mut [u8], number: u8, changes: &[Condition])
 }
 
 /// Makes a change in a section with this number, if the key stands in it.
-fn change_key(section: &mut [u8], number: u8, change: &Condition)
+fn change_key(section: &mut [u8], number: u8, change: &Change)
     requires settable { IsTrue (can_set change.now.key) }
     requires keys { HasKeys number section.old }
     ensures changed { section.new ≡ with_key change.now number section.old }

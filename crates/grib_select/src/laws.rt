@@ -3,7 +3,7 @@
 ghost use Rattle.std.specs.Prelude.{◌≡◌, ◌≢◌, ℕ, ◌≤◌, ◌<◌, List, None, Some, All, AllPairs, IsTrue};
 ghost use Rattle.grib2_message.specs.Fields.{field_count, column_of};
 ghost use Rattle.grib2_message.specs.Message.{IsMessage};
-ghost use Rattle.grib_keys.specs.declared.condition.Condition.{Condition};
+ghost use Rattle.grib_keys.specs.declared.condition.Change.{Change};
 ghost use Rattle.grib_keys.specs.declared.condition.Value.{Value};
 ghost use Rattle.grib_keys.specs.declared.key.Key.{Key};
 ghost use Rattle.grib_keys.specs.Keys.{can_set};
@@ -26,15 +26,15 @@ pub fn what_is_cut_out_keeps_its_column()
 /// fields, each with the same column. Where no change is at fault and no key stands twice, each field has the
 /// keys with their new values.
 pub fn what_is_set_keeps_each_column()
-    ensures accepted { (message : List ℕ) (changes : List Condition) → IsMessage message
+    ensures accepted { (message : List ℕ) (changes : List Change) → IsMessage message
         → All (λ c. IsTrue (can_set c.key)) changes → IsMessage (with_keys message changes) }
-    ensures fields { (message : List ℕ) (changes : List Condition) → IsMessage message
+    ensures fields { (message : List ℕ) (changes : List Change) → IsMessage message
         → All (λ c. IsTrue (can_set c.key)) changes
         → field_count (with_keys message changes) ≡ field_count message }
-    ensures columns { (message : List ℕ) (changes : List Condition) (i : ℕ) → IsMessage message
+    ensures columns { (message : List ℕ) (changes : List Change) (i : ℕ) → IsMessage message
         → All (λ c. IsTrue (can_set c.key)) changes
         → column_of (with_keys message changes) i ≡ column_of message i }
-    ensures values { (message : List ℕ) (changes : List Condition) (i : ℕ) → IsMessage message
+    ensures values { (message : List ℕ) (changes : List Change) (i : ℕ) → IsMessage message
         → All (λ c. IsTrue (can_set c.key)) changes → AllPairs (λ a b. a.key ≢ b.key) changes
         → set_fault message changes ≡ None → 1 ≤ i → i ≤ field_count message
         → All (λ c. key_value_of (with_keys message changes) i c.key ≡ Some c.value) changes }

@@ -11,6 +11,6 @@ mod value;
 
 pub use changing::{SetFault, set_keys};
 pub use cutting::single;
-pub use grib_keys::{Condition, Key, Value};
+pub use grib_keys::{Change, Choice, Choices, Key, Test, Value, Wanted};
 pub use matching::matches;
 pub use value::key_value;

@@ -6,10 +6,10 @@ ghost use Rattle.grib_select.specs.Changed as definitions;
 ghost use Rattle.grib_select.specs.Changed.{key_octets};
 
 use grib_bits::raw_of;
-use grib_keys::{Condition, Key, Kind, Layout, Value};
+use grib_keys::{Change, Key, Kind, Layout, Value};
 
 /// The number that the octets of the key are to make, `None` where the value does not fit.
-pub(crate) fn new_number(change: &Condition) -> Option<u64>
+pub(crate) fn new_number(change: &Change) -> Option<u64>
     ensures number { result ≡ definitions.new_number change.now }
     ensures fits { IfSome result (λ raw. raw < 256 ^ key_octets change.now.key) }
 {

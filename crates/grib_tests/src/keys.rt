@@ -1,6 +1,6 @@
 //! The names of the keys, out and back.
 
-use grib_keys::{Condition, Key, Value};
+use grib_keys::{Change, Key, Value};
 use std::test::Fail;
 
 // The names in the order of their places, and whether the key can be set.
@@ -91,24 +91,24 @@ fn other_names_are_no_keys(rt: HostRuntime) -> Result<(), Fail> {
 }
 
 #[test]
-fn conditions_are_compared_by_key_and_value(rt: HostRuntime) -> Result<(), Fail> {
-    let condition = Condition {
+fn changes_are_compared_by_key_and_value(rt: HostRuntime) -> Result<(), Fail> {
+    let change = Change {
         key: Key::Centre,
         value: Value::Number(98),
     };
-    assert!(rt; condition == Condition { ..condition });
+    assert!(rt; change == Change { ..change });
     assert!(rt;
-        condition
-            != Condition {
+        change
+            != Change {
                 key: Key::Year,
-                ..condition
+                ..change
             }
     );
     assert!(rt;
-        condition
-            != Condition {
+        change
+            != Change {
                 value: Value::Missing,
-                ..condition
+                ..change
             }
     );
     Ok(())

@@ -238,6 +238,48 @@ fn octets_that_are_not_there_refuse(rt: HostRuntime) -> Result<(), Fail> {
     Ok(())
 }
 
+// Conditions on two messages: the first as it is, the second 9 hours ahead and of centre 7.
+const PICKED: [(&str, bool, bool); 12] = [
+    ("filter forecastTime=9,6", true, true),
+    ("filter forecastTime=5,6,7", true, false),
+    ("filter forecastTime=7..9", false, true),
+    ("filter forecastTime=..6", true, false),
+    ("filter forecastTime=6..8,10..", true, false),
+    ("filter forecastTime!=6", false, true),
+    ("filter forecastTime!=0..24", false, false),
+    (
+        "filter centre!=7 forecastTime=0..24 centre=7..98",
+        true,
+        false,
+    ),
+    ("filter surface2Value=0,missing", true, true),
+    ("filter surface2Value=0..", false, false),
+    ("filter surface2Value!=0..", true, true),
+    // A field that has no such key fulfils nothing.
+    ("filter ensembleNumber!=1", false, false),
+];
+
+#[test]
+fn fields_are_picked_by_lists_and_ranges(rt: HostRuntime) -> Result<(), Fail> {
+    let other = edited(rt.alloc(), &PLAIN, &[(23, 7), (131, 9)])?;
+    let mut both = PLAIN.to_vec(rt.alloc())?;
+    both.extend_from_slice(other.as_slice())?;
+    for (words, first, second) in PICKED {
+        let mut wanted = Vec::new(rt.alloc());
+        if first {
+            wanted.extend_from_slice(&PLAIN)?;
+        }
+        if second {
+            wanted.extend_from_slice(other.as_slice())?;
+        }
+        let written = wanted.len();
+        let note = format!(in rt.alloc(); "messages 2 fields 2 written {written}\n")?;
+        let picked = run_over(rt.alloc(), words, both.as_slice(), 50, CALM)?;
+        assert!(rt; picked.gave(Outcome::Done, wanted.as_slice(), note.as_str()));
+    }
+    Ok(())
+}
+
 #[test]
 fn words_without_a_reading(rt: HostRuntime) -> Result<(), Fail> {
     for (words, word) in [
@@ -248,6 +290,8 @@ fn words_without_a_reading(rt: HostRuntime) -> Result<(), Fail> {
         ("repack to=1", 1),
         ("repack to=3", 2),
         ("filter centre=98 level=500", 2),
+        ("filter centre=98 forecastTime=24..0", 2),
+        ("filter centre=98,,7", 1),
         ("set points=3", 1),
         ("set year=2025 month=013", 2),
         ("split", 1),

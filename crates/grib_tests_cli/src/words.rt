@@ -38,7 +38,7 @@ fn command_of(asked: &Result<Job, JobFault>) -> &'static str {
 }
 
 // Lines that are read, each as the command that its first word names.
-const READ: [&str; 57] = [
+const READ: [&str; 71] = [
     // Each command has its name.
     "check",
     "list",
@@ -65,6 +65,21 @@ const READ: [&str; 57] = [
     "filter forecastTime=6 centre=98 bits=8",
     "filter surface1Value=missing",
     "filter surface2=missing rangeLength=6",
+    // A condition has a list of values and ranges, and may stand beside others on its key.
+    "filter surface1Value=50000,85000",
+    "filter surface1Value=missing,0,-1",
+    "filter centre=98,98",
+    "filter forecastTime=0..24",
+    "filter forecastTime=-6..-6",
+    "filter forecastTime=..0",
+    "filter forecastTime=-1..",
+    "filter forecastTime=-9223372036854775808..9223372036854775807",
+    "filter forecastTime=..0,6,12..18,missing,24..",
+    "filter centre!=98",
+    "filter surface1Value!=missing,1..2",
+    "filter centre=98 centre=98",
+    "filter centre!=7 refused=pass centre!=8 centre=98 centre=0..",
+    "filter centre=98 year=2024 centre=99",
     // `set` takes keys that can be set.
     "set month=256",
     "set la1=-5 surface1=missing",
@@ -112,7 +127,7 @@ const READ: [&str; 57] = [
 ];
 
 // Lines that are not, with the place of the first word that is not read.
-const UNREAD: [(u64, &str); 130] = [
+const UNREAD: [(u64, &str); 152] = [
     // Others have none.
     (0, ""),
     (0, "Check"),
@@ -144,10 +159,8 @@ const UNREAD: [(u64, &str); 130] = [
     (1, "filter =98"),
     (1, "filter to=0"),
     (1, "filter centre= year=2025"),
-    (2, "filter centre=98 centre=98"),
     (2, "filter centre=98 unknown=1 other"),
     (2, "filter centre=98 year"),
-    (3, "filter centre=98 year=2024 centre=99"),
     // `set` takes keys that can be set.
     (1, "set"),
     (1, "set points=3"),
@@ -176,6 +189,32 @@ const UNREAD: [(u64, &str); 130] = [
     (1, "filter year=Missing"),
     (1, "filter year=missing1"),
     (1, "filter year=٣"),
+    // Each element of a list is a value or a range, whose ends are numbers, the first not above the last.
+    (1, "filter year=,"),
+    (1, "filter year=1,"),
+    (1, "filter year=,1"),
+    (1, "filter year=1,,2"),
+    (1, "filter year=1, 2"),
+    (1, "filter year=1,x"),
+    (2, "filter centre=98 year=1,01"),
+    (1, "filter year=.."),
+    (1, "filter year=1.2"),
+    (1, "filter year=1."),
+    (1, "filter year=1...2"),
+    (1, "filter year=1..2..3"),
+    (1, "filter year=2..1"),
+    (1, "filter year=-1..-2"),
+    (1, "filter year=0..missing"),
+    (1, "filter year=missing.."),
+    (1, "filter year=0..9223372036854775808"),
+    // A `!` stands once, behind the name of a key.
+    (1, "filter year!"),
+    (1, "filter year!="),
+    (1, "filter year!!=1"),
+    (1, "filter !year=1"),
+    (1, "filter !=1"),
+    (1, "filter kept!=pass"),
+    (3, "filter kept=pass year=1 kept=pass"),
     // `split` takes a text that is not empty.
     (1, "split"),
     (1, "split out"),

@@ -27,6 +27,21 @@ fn a_field_of_each_large_message_is_picked(rt: HostRuntime) -> Result<(), Fail> 
 }
 
 #[test]
+fn some_fields_of_each_large_message_are_picked(rt: HostRuntime) -> Result<(), Fail> {
+    let octets = five(rt.alloc())?;
+    let mut some = Vec::new(rt.alloc());
+    for hours in [7, 8, 10] {
+        some.extend_from_slice(message(rt.alloc(), LARGE, &[hours])?.as_slice())?;
+    }
+    let wanted = five_times(rt.alloc(), some.as_slice())?;
+    let conditions = "filter forecastTime=10,7..8 centre!=7 forecastTime!=..6";
+    let picked = ran(rt.alloc(), conditions, octets.as_slice())?;
+    let note = "messages 5 fields 25 written 1802685\n";
+    assert!(rt; picked.gave(Outcome::Done, wanted.as_slice(), note));
+    Ok(())
+}
+
+#[test]
 fn whole_large_messages_are_picked(rt: HostRuntime) -> Result<(), Fail> {
     let octets = five(rt.alloc())?;
     let picked = ran(rt.alloc(), "filter centre=98", octets.as_slice())?;

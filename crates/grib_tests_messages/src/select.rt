@@ -4,7 +4,10 @@ use crate::worked::{
     FIRST_VALUES, FOUR_NUMBERS, FOUR_VALUES, GRID, IDENTIFICATION, NO_BITMAP, OWN_BITMAP, PLAIN,
     PRODUCT, SECOND_VALUES, THREE_NUMBERS, TWO_FIELDS, edited, message_of, read,
 };
-use grib_select::{Condition, Key, SetFault, Value, key_value, matches, set_keys, single};
+use grib_select::{
+    Change, Choice, Choices, Key, SetFault, Test, Value, Wanted, key_value, matches, set_keys,
+    single,
+};
 use grib2_message::Message;
 use std::alloc::{AllocError, Global};
 use std::test::Fail;
@@ -66,7 +69,7 @@ fn changed(
     if !key.can_set() {
         return Err(SetFault::Memory);
     }
-    set_keys(alloc, message, &[Condition { key, value }])
+    set_keys(alloc, message, &[Change { key, value }])
 }
 
 #[test]
@@ -104,32 +107,104 @@ fn a_sign_and_all_ones_are_told(rt: HostRuntime) -> Result<(), Fail> {
     Ok(())
 }
 
+/// That a key has one of these values.
+fn among(alloc: Global, key: Key, choices: &[Choice]) -> Result<Wanted, AllocError> {
+    let choices = Choices::of(choices.to_vec(alloc)?);
+    Ok(Wanted {
+        key,
+        test: Test::Among(choices),
+    })
+}
+
+/// That a key has a value, and none of these.
+fn outside(alloc: Global, key: Key, choices: &[Choice]) -> Result<Wanted, AllocError> {
+    let choices = Choices::of(choices.to_vec(alloc)?);
+    Ok(Wanted {
+        key,
+        test: Test::Outside(choices),
+    })
+}
+
 #[test]
 fn all_conditions_are_asked(rt: HostRuntime) -> Result<(), Fail> {
     let Ok(message) = read(rt.alloc(), &PLAIN) else {
         return Err(Fail::from("refused"));
     };
     assert_eq!(rt; message.fields(), 1);
-    let ahead = Condition {
-        key: Key::ForecastTime,
-        value: Value::Number(6),
-    };
-    let late = Condition {
-        key: Key::ForecastTime,
-        value: Value::Number(9),
-    };
-    let centre = Condition {
-        key: Key::Centre,
-        value: Value::Number(98),
-    };
-    let member = Condition {
-        key: Key::EnsembleNumber,
-        value: Value::Missing,
-    };
-    assert!(rt; matches(&message, 1, &[ahead, centre]));
-    assert!(rt; !matches(&message, 1, &[centre, late]));
-    assert!(rt; !matches(&message, 1, &[member]));
+    let six = [Choice::One(Value::Number(6))];
+    let nine = [Choice::One(Value::Number(9))];
+    let centre = [Choice::One(Value::Number(98))];
+    let missing = [Choice::One(Value::Missing)];
+    let both = [
+        among(rt.alloc(), Key::ForecastTime, &six)?,
+        among(rt.alloc(), Key::Centre, &centre)?,
+    ];
+    let late = [
+        among(rt.alloc(), Key::Centre, &centre)?,
+        among(rt.alloc(), Key::ForecastTime, &nine)?,
+    ];
+    let member = [among(rt.alloc(), Key::EnsembleNumber, &missing)?];
+    assert!(rt; matches(&message, 1, &both));
+    assert!(rt; !matches(&message, 1, &late));
+    assert!(rt; !matches(&message, 1, &member));
     assert!(rt; matches(&message, 1, &[]));
+    Ok(())
+}
+
+/// Whether the field 6 hours ahead, whose second surface has no value, fulfils this.
+fn is_fulfilled(alloc: Global, condition: Wanted) -> Result<bool, Fail> {
+    let Ok(message) = read(alloc, &PLAIN) else {
+        return Err(Fail::from("refused"));
+    };
+    if message.fields() == 0 {
+        return Err(Fail::from("no field"));
+    }
+    Ok(matches(&message, 1, &[condition]))
+}
+
+#[test]
+fn lists_and_ranges_are_asked(rt: HostRuntime) -> Result<(), Fail> {
+    let alloc = rt.alloc();
+    let fulfilled = [
+        (Key::ForecastTime, Choice::Between { least: 6, most: 6 }),
+        (
+            Key::ForecastTime,
+            Choice::Between {
+                least: -1,
+                most: 24,
+            },
+        ),
+        (Key::ForecastTime, Choice::From(6)),
+        (Key::ForecastTime, Choice::UpTo(6)),
+        (Key::Surface2Value, Choice::One(Value::Missing)),
+    ];
+    for (key, choice) in fulfilled {
+        let other = Choice::One(Value::Number(1));
+        assert!(rt; is_fulfilled(alloc, among(alloc, key, &[other, choice])?)?);
+        assert!(rt; !is_fulfilled(alloc, outside(alloc, key, &[other, choice])?)?);
+    }
+    let unfulfilled = [
+        (Key::ForecastTime, Choice::Between { least: 7, most: 24 }),
+        (Key::ForecastTime, Choice::Between { least: 0, most: 5 }),
+        (Key::ForecastTime, Choice::From(7)),
+        (Key::ForecastTime, Choice::UpTo(5)),
+        // A missing value is no number.
+        (Key::Surface2Value, Choice::From(i64::MIN)),
+        (Key::Surface2Value, Choice::UpTo(i64::MAX)),
+    ];
+    for (key, choice) in unfulfilled {
+        assert!(rt; !is_fulfilled(alloc, among(alloc, key, &[choice])?)?);
+        assert!(rt; is_fulfilled(alloc, outside(alloc, key, &[choice])?)?);
+    }
+    Ok(())
+}
+
+#[test]
+fn a_key_that_is_not_there_fulfils_nothing(rt: HostRuntime) -> Result<(), Fail> {
+    let alloc = rt.alloc();
+    let member = Choice::One(Value::Number(1));
+    assert!(rt; !is_fulfilled(alloc, among(alloc, Key::EnsembleNumber, &[member])?)?);
+    assert!(rt; !is_fulfilled(alloc, outside(alloc, Key::EnsembleNumber, &[member])?)?);
     Ok(())
 }
 
@@ -245,11 +320,11 @@ fn every_product_is_changed(rt: HostRuntime) -> Result<(), Fail> {
         return Err(Fail::from("refused"));
     };
     let changes = [
-        Condition {
+        Change {
             key: Key::Generator,
             value: Value::Number(7),
         },
-        Condition {
+        Change {
             key: Key::Scanning,
             value: Value::Number(0x40),
         },

@@ -3,20 +3,20 @@ use Rattle.std.specs.Prelude.{ℕ, Option, Some, None, List, [], ◌∷◌, ◌+
 use Rattle.std.specs.Fmt.{decimal, signed_decimal}
 use Rattle.grib_keys.specs.declared.key.Key.{Key}
 use Rattle.grib_keys.specs.declared.condition.Value.{Value}
-use Rattle.grib_keys.specs.declared.condition.Condition.{Condition}
+use Rattle.grib_keys.specs.declared.condition.Change.{Change}
 use Rattle.grib_keys.specs.Keys.{keys}
 use Rattle.grib_keys.specs.Words.{word_of}
 use Rattle.grib_select.specs.Values.{key_value_of}
 use Rattle.grib1_sections.specs.declared.key.Key1.{Key1}
 use Rattle.grib_text.specs.Names1.{name1_of, keys1, number1_of}
 
-abbrev pub condition : Key → Value → Condition
-condition key value = record { key = key; value = value }
+abbrev pub change : Key → Value → Change
+change key value = record { key = key; value = value }
 
 -- the word of a key behind a space, nothing where the key has no value
 abbrev pub word_text : Key → Option Value → List ℕ
 word_text key None = []
-word_text key (Some value) = codes " " ++ word_of (condition key value)
+word_text key (Some value) = codes " " ++ word_of (change key value)
 
 -- the words of some keys of field i
 abbrev pub words_text : List ℕ → ℕ → List Key → List ℕ

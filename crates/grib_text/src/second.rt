@@ -5,7 +5,7 @@ ghost use Rattle.grib2_message.specs.Fields.{field_count};
 ghost use Rattle.grib_keys.specs.Keys.{keys};
 ghost use Rattle.grib_text.specs.KeyLines as lines;
 
-use grib_keys::{Condition, Key, Value};
+use grib_keys::{Change, Key, Value};
 use grib_select::key_value;
 use grib2_message::Message;
 use std::alloc::{AllocError, Global};
@@ -45,7 +45,7 @@ fn write_word(line: &mut String, key: Key, value: Option<Value>) -> Result<(), A
     ensures { OnOk result (string_bytes line.new ≡ string_bytes line.old ++ lines.word_text key value) }
 {
     match value {
-        Some(value) => write!(line, " {}", Condition { key, value }),
+        Some(value) => write!(line, " {}", Change { key, value }),
         None => Ok(()),
     }
 }

@@ -9,9 +9,10 @@ ghost use Rattle.std.specs.declared.option.Option.TheVariants.{Some};
 
 use super::command::Command;
 use super::values::{key_value, number_of};
+use super::wanted::conditions_of;
 use super::{JobFault, has_name, is_named};
-use grib_engine::{Area, Conditions, Job, Name, Page, RepackTarget};
-use grib_keys::{Condition, Key};
+use grib_engine::{Area, Changes, Conditions, Job, Name, Page, RepackTarget};
+use grib_keys::{Change, Key};
 use grib_params::TableMatch;
 use std::alloc::{AllocError, Global};
 
@@ -34,7 +35,7 @@ pub(super) fn job_of_command(
         }),
         Command::Filter => Ok(Job::Filter(Conditions::of(conditions_of(alloc, words)?))),
         Command::Split => Ok(Job::Split(name_by(alloc, words, "out")?)),
-        Command::Set => Ok(Job::Set(Conditions::of(conditions_of(alloc, words)?))),
+        Command::Set => Ok(Job::Set(Changes::of(changes_of(alloc, words)?))),
         Command::Repack => Ok(repack_of(words)),
         Command::Make => Ok(Job::Make {
             seed: number_by(words, "seed"),
@@ -70,24 +71,24 @@ fn matching_of(words: &[String]) -> TableMatch
     }
 }
 
-/// The conditions of the words, in their order.
-fn conditions_of(alloc: Global, words: &[String]) -> Result<Vec<Condition>, AllocError>
-    ensures { IfOk result (λ v. v.items ≡ asked.conditions_of (map string_bytes words.now)) }
+/// The changes of the words, in their order.
+fn changes_of(alloc: Global, words: &[String]) -> Result<Vec<Change>, AllocError>
+    ensures { IfOk result (λ v. v.items ≡ asked.changes_of (map string_bytes words.now)) }
 {
     words
         .iter()
-        .filter_map(|word| condition_of(word.as_str()))
+        .filter_map(|word| change_of(word.as_str()))
         .collect(alloc)
 }
 
 /// The key of a word's name with the value that the word gives it, if there is such a key and it is a value.
-fn condition_of(word: &str) -> Option<Condition>
-    ensures { result ≡ asked.condition_of word.now }
+fn change_of(word: &str) -> Option<Change>
+    ensures { result ≡ asked.change_of word.now }
 {
     let (name, value) = word.split_once('=')?;
     let key = Key::of(name)?;
     let value = key_value(value)?;
-    Some(Condition { key, value })
+    Some(Change { key, value })
 }
 
 /// The value of the word that has this name, as a name on a shelf.

@@ -1,9 +1,13 @@
 //! The definition of the reading, tried on command lines, and on what `keys` prints.
 
-ghost use Rattle.std.specs.Prelude.{◌≡◌, ◌≤◌, ◌<◌, ℕ, true, List, [], ◌∷◌, All, codes, Some, Ok, Err};
+ghost use Rattle.std.specs.Prelude.{◌≡◌, ◌≤◌, ◌<◌, ℕ, true, false, List, [], ◌∷◌, All, codes, pos, neg_ℤ, Some, None, Ok, Err};
 ghost use Rattle.std.specs.List.{list_any};
 ghost use Rattle.grib_keys.specs.declared.key.Key.{Key};
+ghost use Rattle.grib_keys.specs.declared.key.Key.TheVariants.{Centre, ForecastTime, Surface1Value};
 ghost use Rattle.grib_keys.specs.declared.condition.Value.{Value};
+ghost use Rattle.grib_keys.specs.declared.condition.Value.TheVariants.{Number, Missing};
+ghost use Rattle.grib_keys.specs.declared.condition.Change.{Change};
+ghost use Rattle.grib_keys.specs.declared.wanted.Choice.TheVariants.{One, Between, From, UpTo};
 ghost use Rattle.grib_keys.specs.Words.{word_of};
 ghost use Rattle.grib2_message.specs.Fields.{field_count};
 ghost use Rattle.grib2_message.specs.Message.{IsMessage};
@@ -14,7 +18,7 @@ ghost use Rattle.grib_cli.specs.declared.words.command.Command.{Command};
 ghost use Rattle.grib_cli.specs.declared.words.command.Command.TheVariants.{Dump, Filter, Repack, Migrate, Demote, Help, Version};
 ghost use Rattle.grib_cli.specs.HelpLines.{is_line_on};
 ghost use Rattle.grib_cli.specs.Reading.{reading};
-ghost use Rattle.grib_cli.specs.Words.{condition, condition_of, conditions_of};
+ghost use Rattle.grib_cli.specs.Words.{change, change_of, wanted, wanted_of, conditions_of};
 
 /// Command lines that have no reading, with the place of the first word that is not read.
 pub fn unread_lines()
@@ -40,6 +44,18 @@ pub fn unread_lines()
     ensures no_key { reading (codes "filter" ∷ codes "refused=pass" ∷ []) ≡ Err 2 }
     ensures no_key_set { reading (codes "set" ∷ codes "kept=copy" ∷ codes "refused=pass" ∷ []) ≡ Err 3 }
     ensures made_past { reading (codes "make" ∷ codes "refused=pass" ∷ []) ≡ Err 1 }
+    ensures wrong_order { reading (codes "filter" ∷ codes "centre=98" ∷ codes "forecastTime=6..-6" ∷ []) ≡ Err 2 }
+    ensures no_ends { reading (codes "filter" ∷ codes "forecastTime=.." ∷ []) ≡ Err 1 }
+    ensures missing_end { reading (codes "filter" ∷ codes "surface1Value=0..missing" ∷ []) ≡ Err 1 }
+    ensures empty_element { reading (codes "filter" ∷ codes "centre=7,,98" ∷ []) ≡ Err 1 }
+    ensures empty_last { reading (codes "filter" ∷ codes "centre=7," ∷ []) ≡ Err 1 }
+    ensures wrong_element { reading (codes "filter" ∷ codes "centre=7,x" ∷ []) ≡ Err 1 }
+    ensures no_key_but { reading (codes "filter" ∷ codes "refused!=pass" ∷ []) ≡ Err 1 }
+    ensures list_set { reading (codes "set" ∷ codes "centre=7,98" ∷ []) ≡ Err 1 }
+    ensures range_set { reading (codes "set" ∷ codes "centre=7..98" ∷ []) ≡ Err 1 }
+    ensures but_set { reading (codes "set" ∷ codes "centre!=7" ∷ []) ≡ Err 1 }
+    ensures set_again { reading (codes "set" ∷ codes "centre=7" ∷ codes "centre=98" ∷ []) ≡ Err 2 }
+    ensures refused_once { reading (codes "filter" ∷ codes "refused=pass" ∷ codes "centre=7" ∷ codes "refused=copy" ∷ []) ≡ Err 3 }
 {}
 
 /// Command lines that are read.
@@ -55,6 +71,26 @@ pub fn read_lines()
     ensures version { reading (codes "version" ∷ []) ≡ Ok Version }
     ensures dashed_help { reading (codes "--help" ∷ []) ≡ Ok Help }
     ensures dashed_version { reading (codes "--version" ∷ []) ≡ Ok Version }
+    ensures asked_again { reading (codes "filter" ∷ codes "centre=7,98" ∷ codes "centre!=7" ∷ codes "centre=0.." ∷ []) ≡ Ok Filter }
+    ensures asked_not { reading (codes "filter" ∷ codes "kept=pass" ∷ codes "surface1Value!=missing" ∷ []) ≡ Ok Filter }
+{}
+
+/// What words of `filter` ask.
+pub fn wanted_words()
+    ensures list { wanted_of (codes "surface1Value=50000,missing")
+        ≡ Some (wanted false Surface1Value (One (Number (pos 50000)) ∷ One Missing ∷ [])) }
+    ensures range { wanted_of (codes "forecastTime=-6..24")
+        ≡ Some (wanted false ForecastTime (Between (neg_ℤ (pos 6)) (pos 24) ∷ [])) }
+    ensures open { wanted_of (codes "forecastTime=..0,12..") ≡ Some (wanted false ForecastTime (UpTo (pos 0) ∷ From (pos 12) ∷ [])) }
+    ensures others { wanted_of (codes "centre!=7") ≡ Some (wanted true Centre (One (Number (pos 7)) ∷ [])) }
+    ensures marked_twice { wanted_of (codes "centre!!=7") ≡ None }
+    ensures three_dots { wanted_of (codes "forecastTime=0...6") ≡ None }
+{}
+
+/// A word that gives a key a value asks, as a condition, for this value.
+pub fn one_value_is_asked()
+    ensures { (word : List ℕ) (c : Change) → change_of word ≡ Some c
+        → wanted_of word ≡ Some (wanted false c.key (One c.value ∷ [])) }
 {}
 
 /// `help` has a line on each command: it begins with `grib` and the name of the command.
@@ -67,9 +103,9 @@ pub fn help_has_a_line_on_each_command()
 /// the field.
 pub fn printed_words_pick_their_field()
     ensures read { (key : Key) (value : Value) → IsWithin64 value
-        → condition_of (word_of (condition key value)) ≡ Some (condition key value) }
+        → change_of (word_of (change key value)) ≡ Some (change key value) }
     ensures picked { (message : List ℕ) (i : ℕ) (key : Key) (value : Value) → IsMessage message
         → All (λ octet. octet < 256) message → 1 ≤ i → i ≤ field_count message
         → key_value_of message i key ≡ Some value
-        → fulfils_all message i (conditions_of (word_of (condition key value) ∷ [])) ≡ true }
+        → fulfils_all message i (conditions_of (word_of (change key value) ∷ [])) ≡ true }
 {}

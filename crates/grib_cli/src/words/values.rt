@@ -1,7 +1,7 @@
 //! The values of the words: numbers, and the values of keys.
 
 ghost use Rattle.std.specs.Prelude.{◌≡◌, ◌<◌, ◌^◌, ◌&&◌, ◌==◌, get_or, drop, nat_lt, cond, Some, None};
-ghost use Rattle.grib_cli.specs.Values.{begins_from_one, is_number, number, is_between, from_zero, below_zero, key_value};
+ghost use Rattle.grib_cli.specs.Values.{begins_from_one, is_number, number, is_between, from_zero, below_zero, signed_number, key_value};
 
 use grib_keys::Value;
 
@@ -44,7 +44,7 @@ pub fn is_between(text: &str, least: u64, most: u64) -> bool
     }
 }
 
-/// The number that a text writes, where 64 bits with sign hold it.
+/// The number that a text writes without sign, where 64 bits with sign hold it.
 fn from_zero(text: &str) -> Option<i64>
     ensures { result ≡ from_zero text.now }
 {
@@ -68,6 +68,13 @@ fn below_zero(text: &str) -> Option<i64>
     }
 }
 
+/// The number that a text writes, where 64 bits with sign hold it.
+pub fn signed_number(text: &str) -> Option<i64>
+    ensures { result ≡ signed_number text.now }
+{
+    from_zero(text).or(below_zero(text))
+}
+
 /// The value of a key that a text writes: `missing`, or a number within 64 bits with sign.
 pub fn key_value(text: &str) -> Option<Value>
     ensures { result ≡ key_value text.now }
@@ -75,7 +82,7 @@ pub fn key_value(text: &str) -> Option<Value>
     if text == "missing" {
         return Some(Value::Missing);
     }
-    match from_zero(text).or(below_zero(text)) {
+    match signed_number(text) {
         Some(number) => Some(Value::Number(number)),
         None => None,
     }

@@ -5,7 +5,9 @@ ghost use Rattle.grib_keys.specs.Keys.{can_set};
 ghost use Rattle.grib_command.specs.Jobs.{IsJob};
 
 use grib_base::List;
-use grib_engine::{Cause, Condition, Job, Kept, Key, Outcome, Value, serve};
+use grib_engine::{
+    Cause, Change, Choice, Choices, Job, Kept, Key, Outcome, Test, Value, Wanted, serve,
+};
 use grib_io::{CalmSink, CalmSource, MemoryShelf};
 use grib_samples::{PLAIN, TWO_FIELDS, edited};
 use std::alloc::{AllocError, Global};
@@ -46,17 +48,13 @@ fn run(alloc: Global, job: &Job, octets: &[u8]) -> Result<Ran, AllocError>
 
 /// What is written of the fields this many hours ahead, of month 1.
 fn filter(alloc: Global, hours: i64, octets: &[u8]) -> Result<Ran, AllocError> {
-    let conditions = [
-        Condition {
-            key: Key::Month,
-            value: Value::Number(1),
-        },
-        Condition {
-            key: Key::ForecastTime,
-            value: Value::Number(hours),
-        },
-    ];
-    let job = Job::Filter(List::of(conditions.to_vec(alloc)?));
+    let mut conditions = Vec::new(alloc);
+    for (key, number) in [(Key::Month, 1), (Key::ForecastTime, hours)] {
+        let choices = [Choice::One(Value::Number(number))].to_vec(alloc)?;
+        let test = Test::Among(Choices::of(choices));
+        conditions.push(Wanted { key, test })?;
+    }
+    let job = Job::Filter(List::of(conditions));
     run(alloc, &job, octets)
 }
 
@@ -64,7 +62,7 @@ fn filter(alloc: Global, hours: i64, octets: &[u8]) -> Result<Ran, AllocError> {
 fn set(alloc: Global, key: Key, number: i64, octets: &[u8]) -> Result<Ran, AllocError>
     requires { can_set key ≡ true }
 {
-    let change = Condition {
+    let change = Change {
         key,
         value: Value::Number(number),
     };

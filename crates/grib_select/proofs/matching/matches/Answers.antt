@@ -1,8 +1,18 @@
-use Rattle.std.proofs.Common.{◌≡◌, refl, ap, ◌∙◌, drop, []}
+use Rattle.std.proofs.Common.{◌≡◌, refl, sym, ap, ◌∙◌, subst, drop, []}
 use Rattle.std.proofs.lemmas.List.{drop_all}
-use Rattle.grib_select.specs.Values.{fulfils_all}
-use Rattle.grib_select.proofs.Asked.{asked_decides}
+use Rattle.grib_select.specs.Values.{Fulfils, fulfils_all}
+use Rattle.grib_select.proofs.Asked.{one_decides, asked_decides}
 use Rattle.grib_select.proofs.matching.matches.Goals as goal
+
+pub returns-then-not-is_fulfilled-clause-exactly : goal.returns-then-not-is_fulfilled-clause-exactly
+returns-then-not-is_fulfilled-clause-exactly c =
+    let m = c.args.message.now in
+    let i = c.args.field in
+    let condition = c.condition-item.result in (
+      λ e. (let no : ⊥ = cc in absurd no),
+      λ all. sym (sym c.is_fulfilled.ensures ∙ c.if-not-is_fulfilled.true)
+          ∙ (one_decides m i condition).1 (subst (Fulfils m i) (sym c.condition-item.is) (all c.loop-condition.condition-index condition c.loop-condition-test.true)),
+    )
 
 pub returns-clause-exactly : goal.returns-clause-exactly
 returns-clause-exactly c =

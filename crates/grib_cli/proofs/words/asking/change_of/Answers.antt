@@ -5,17 +5,17 @@ use Rattle.grib_keys.specs.declared.key.Key.{Key}
 use Rattle.grib_keys.specs.Keys.{key_named}
 use Rattle.grib_cli.specs.Values.{key_value}
 use Rattle.grib_cli.specs.Reading.{name_in, value_in}
-use Rattle.grib_cli.specs.Words.{condition, condition_of}
-use Rattle.grib_cli.proofs.Parts.{unconditioned, conditioned}
-use Rattle.grib_cli.proofs.words.asking.condition_of.Goals as goal
+use Rattle.grib_cli.specs.Words.{change, change_of}
+use Rattle.grib_cli.proofs.Parts.{no_change, change_read}
+use Rattle.grib_cli.proofs.words.asking.change_of.Goals as goal
 
 pub returns-in_err-name : goal.returns-in_err-name
-returns-in_err-name c = c.from_residual.ensures ∙ unconditioned c.args.word.now (c.in_err-name.ensures.byte (lit< tt) (λ w o found. found))
+returns-in_err-name c = c.from_residual.ensures ∙ no_change c.args.word.now (c.in_err-name.ensures.byte (lit< tt) (λ w o found. found))
 
 -- a key without a value
-unvalued : (word : List ℕ) (key : Key) → key_named (name_in word) ≡ Some key → key_value (value_in word) ≡ None → None ≡ condition_of word
+unvalued : (word : List ℕ) (key : Key) → key_named (name_in word) ≡ Some key → key_value (value_in word) ≡ None → None ≡ change_of word
 unvalued word key named none =
-    sym (ap (option_and_then (λ k. option_map (condition k) (key_value (value_in word)))) named ∙ ap (option_map (condition key)) none)
+    sym (ap (option_and_then (λ k. option_map (change k) (key_value (value_in word)))) named ∙ ap (option_map (change key)) none)
 
 pub returns-in_err-value : goal.returns-in_err-value
 returns-in_err-value c =
@@ -31,4 +31,4 @@ returns c =
     let value : c.in_ok-name.value.now ≡ value_in c.args.word.now = search (rules, tests) in
     let named : key_named (name_in c.args.word.now) ≡ Some c.in_ok-key.key = ap key_named (sym name) ∙ (sym c.of.ensures ∙ c.in_ok-key.was) in
     let valued : key_value (value_in c.args.word.now) ≡ Some c.in_ok-value.value = ap key_value (sym value) ∙ (sym c.key_value.ensures ∙ c.in_ok-value.was) in
-    conditioned c.args.word.now c.in_ok-key.key c.in_ok-value.value named valued
+    change_read c.args.word.now c.in_ok-key.key c.in_ok-value.value named valued

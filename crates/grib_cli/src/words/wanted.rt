@@ -1,0 +1,74 @@
+//! What the words of `filter` ask of keys.
+
+ghost use Rattle.std.specs.Prelude.{◌≡◌, map, string_bytes, IfOk};
+ghost use Rattle.grib_cli.specs.Reading as grammar;
+ghost use Rattle.grib_cli.specs.Words as asked;
+
+use super::choices::choices_of;
+use grib_keys::{Choices, Key, Test, Wanted};
+use std::alloc::{AllocError, Global};
+
+/// The conditions of the words, in their order.
+pub fn conditions_of(alloc: Global, words: &[String]) -> Result<Vec<Wanted>, AllocError>
+    ensures { IfOk result (λ v. v.items ≡ asked.conditions_of (map string_bytes words.now)) }
+{
+    let mut conditions = Vec::new(alloc);
+    for word in words {
+        if let Some(condition) = wanted_of(alloc, word.as_str())? {
+            conditions.push(condition)?;
+        }
+    }
+    Ok(conditions)
+}
+
+/// The key that a word asks of, with what it asks, if there is such a key and the word has such values.
+fn wanted_of(alloc: Global, word: &str) -> Result<Option<Wanted>, AllocError>
+    ensures { IfOk result (λ found. found ≡ asked.wanted_of word.now) }
+{
+    let Some((name, values)) = word.split_once('=') else {
+        return Ok(None);
+    };
+    let Some(key) = asked_key(name) else {
+        return Ok(None);
+    };
+    let Some(choices) = choices_of(alloc, values)? else {
+        return Ok(None);
+    };
+    let test = test_of(is_marked(name), choices);
+    Ok(Some(Wanted { key, test }))
+}
+
+/// That a value is one of these, or none of them.
+fn test_of(is_marked: bool, choices: Choices) -> Test
+    ensures { result ≡ asked.test_of is_marked choices }
+{
+    if is_marked {
+        Test::Outside(choices)
+    } else {
+        Test::Among(choices)
+    }
+}
+
+/// The key that a name asks of.
+pub fn asked_key(name: &str) -> Option<Key>
+    ensures { result ≡ grammar.asked_key name.now }
+{
+    Key::of(unmarked(name))
+}
+
+/// Whether a `!` stands behind a name: other values are asked for than those that follow.
+fn is_marked(name: &str) -> bool
+    ensures { result ≡ grammar.is_marked name.now }
+{
+    matches!(name.as_bytes(), [.., b'!'])
+}
+
+/// A name without the `!` behind it.
+fn unmarked(name: &str) -> &str
+    ensures { result.now ≡ grammar.unmarked name.now }
+{
+    match name.strip_suffix('!') {
+        Some(front) => front,
+        None => name,
+    }
+}
