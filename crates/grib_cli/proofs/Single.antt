@@ -1,6 +1,6 @@
 -- A word that gives a key a value has neither a list nor a range nor a mark: as a condition it asks for this value.
-use Rattle.std.proofs.Common.{◌≡◌, ◌⊎◌, ℕ, ◌-◌, ◌^◌, Bool, true, false, cond, ◌&&◌, ◌||◌, ◌==◌, ℤ, Option, Some, None, option_map, List, [], ◌∷◌, get_or, drop, codes, refl, sym, ap, ◌∙◌, subst, All, inl, inr, rules, arith, tests, ⊎_elim}
-use Rattle.std.specs.List.{list_any, find, slice_split}
+use Rattle.std.proofs.Common.{◌≡◌, ◌⊎◌, ℕ, ◌-◌, ◌^◌, Bool, true, false, cond, ◌&&◌, ◌==◌, ℤ, Option, Some, None, option_map, List, [], ◌∷◌, get_or, drop, codes, refl, sym, ap, ◌∙◌, subst, All, inl, inr, rules, arith, tests, ⊎_elim}
+use Rattle.std.specs.List.{list_any, find}
 use Rattle.std.specs.Option.{option_and_then, option_or}
 use Rattle.std.specs.Str.{bytes_eq, all_ascii_digits}
 use Rattle.std.specs.Char.{is_ascii_digit}
@@ -12,7 +12,7 @@ use Rattle.std.proofs.lemmas.Slice.Eq.{bytes_eq-Decides}
 use Rattle.grib_keys.specs.declared.key.Key.{Key}
 use Rattle.grib_keys.specs.declared.key.Key.TheVariants.{Discipline}
 use Rattle.grib_keys.specs.declared.condition.Value.{Value}
-use Rattle.grib_keys.specs.declared.condition.Value.TheVariants.{Number, Missing}
+use Rattle.grib_keys.specs.declared.condition.Value.TheVariants.{Number}
 use Rattle.grib_keys.specs.declared.condition.Change.{Change}
 use Rattle.grib_keys.specs.declared.wanted.Choice.TheVariants.{One}
 use Rattle.grib_keys.specs.Keys.{name_of, keys, key_named}

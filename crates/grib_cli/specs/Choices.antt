@@ -1,5 +1,5 @@
 -- The values that a word of `filter` asks for: a list of values and ranges, with `,` between them.
-use Rattle.std.specs.Prelude.{ℕ, ◌-◌, Bool, cond, ◌==◌, int_le, ℤ, Option, Some, None, is_some, option_map, List, length, get_or, drop}
+use Rattle.std.specs.Prelude.{ℕ, Bool, cond, ◌==◌, int_le, ℤ, Option, Some, None, is_some, option_map, List, length, get_or, drop}
 use Rattle.std.specs.List.{list_any, list_all, filter_map, before_first, after_first, slice_split}
 use Rattle.std.specs.Option.{option_and_then}
 use Rattle.grib_keys.specs.declared.wanted.Choice.{Choice}

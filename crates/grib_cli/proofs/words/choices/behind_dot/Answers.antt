@@ -1,4 +1,4 @@
-use Rattle.std.proofs.Common.{◌≡◌, ◌≢◌, ℕ, ◌==◌, Bool, true, false, Option, Some, None, option_map, MatchOption, List, [], ◌∷◌, refl, sym, ap, subst, lit<, Bor, ⊎_elim, eqb-true}
+use Rattle.std.proofs.Common.{◌≡◌, ◌≢◌, ℕ, ◌==◌, true, false, Option, Some, None, option_map, MatchOption, List, [], ◌∷◌, refl, sym, ap, subst, lit<, Bor, ⊎_elim, eqb-true}
 use Rattle.std.proofs.lemmas.Bool.{cases_Bool}
 use Rattle.std.proofs.lemmas.Str.Pattern.{strip_prefix_char}
 use Rattle.grib_cli.specs.Choices.{behind_dot}
