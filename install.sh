@@ -62,6 +62,7 @@ files() {
 644 docs/grib.1 share/man/man1/grib.1
 644 share/bash-completion/completions/grib share/bash-completion/completions/grib
 644 params/standard.csv share/grib/params/standard.csv
+644 params/surfaces.csv share/grib/params/surfaces.csv
 755 install.sh share/grib/install.sh
 644 README.md share/doc/grib/README.md
 644 docs/GUIDE.md share/doc/grib/docs/GUIDE.md
@@ -78,7 +79,6 @@ files() {
 644 CHANGELOG.md share/doc/grib/CHANGELOG.md
 644 params/README.md share/doc/grib/params/README.md
 644 params/names.txt share/doc/grib/params/names.txt
-644 params/surfaces.csv share/doc/grib/params/surfaces.csv
 644 params/surfaces.txt share/doc/grib/params/surfaces.txt
 644 examples/four-points.grib2 share/doc/grib/examples/four-points.grib2
 644 examples/south-north.grib2 share/doc/grib/examples/south-north.grib2
@@ -91,6 +91,7 @@ links() {
 grib.1 share/man/man1/grib-parallel.1
 grib share/bash-completion/completions/grib-parallel
 ../../../grib/params/standard.csv share/doc/grib/params/standard.csv
+../../../grib/params/surfaces.csv share/doc/grib/params/surfaces.csv
 LINKS
 }
 # The places of files that an earlier install.sh put, which left no list.

@@ -402,7 +402,8 @@ def command_of(draw, has, pool):
         i0, j0 = draw.choice((0, 0, 1)), draw.choice((0, 0, 2))
         return ["crop", f"i0={i0}", f"i1={i0 + draw.choice((0, 1, 9))}", f"j0={j0}", f"j1={j0 + draw.choice((0, 1, 9))}"]
     if name == "migrate":
-        return ["migrate", f"params={top}/params/standard.csv"] + draw.choice(([], ["local=keep"]))
+        surfaces = draw.choice(([], [f"surfaces={top}/params/surfaces.csv"]))
+        return ["migrate", f"params={top}/params/standard.csv"] + surfaces + draw.choice(([], ["local=keep"], ["local=ecmwf"]))
     if name == "demote":
         return ["demote", f"params={top}/params/standard.csv"] + draw.choice(([], ["local=keep"], ["earth=any"], ["earth=any", "local=keep"]))
     if name == "make":

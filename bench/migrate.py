@@ -3,11 +3,12 @@
 migrate.py PROGRAM FILE..
 
 Needs grib_get and grib_get_data of ecCodes (Debian: libeccodes-tools). Each message is handed to PROGRAM by itself.
-Its parameter table is params/standard.csv and, for each parameter of the files that has no row there, a row of some
-parameter, so that a message is only kept for another loss; octets for local use are kept. Of what is written ecCodes
-has to read the same value, or missing mark, at each point, and the same date, time, level and step. PROGRAM has to
-check it as one message of edition 2 with one field. Prints a line for each file: what was migrated, which losses were
-named, what was refused, and what differs."""
+First it is migrated by the shipped tables alone, params/standard.csv and params/surfaces.csv, and counted if that
+succeeds. Then the parameter table is params/standard.csv and, for each parameter of the files that has no row there, a
+row of some parameter, so that a message is only kept for another loss; octets for local use are kept. Of what is written
+then ecCodes has to read the same value, or missing mark, at each point, and the same date, time, level and step. PROGRAM
+has to check it as one message of edition 2 with one field. Prints a line for each file: what was migrated, which losses
+were named, what was refused, and what differs."""
 import collections
 import os
 import subprocess
@@ -50,8 +51,15 @@ def eccodes_keys(message):
     return dict(zip(KEYS.split(","), run.stdout.decode().split()))
 
 
+def by_shipped(program, message):
+    """Whether a message is migrated by the shipped tables alone."""
+    words = [f"params={top}/params/standard.csv", f"surfaces={top}/params/surfaces.csv", "local=keep"]
+    return subprocess.run([program, "migrate"] + words, input=message, capture_output=True).returncode == 0
+
+
 def compared(program, work, message, counts):
     """Counts what comes of a message."""
+    counts["migrated by the shipped tables alone"] += by_shipped(program, message)
     run = subprocess.run([program, "migrate", "params=table", "local=keep"], input=message, capture_output=True, cwd=work)
     note = run.stderr.decode().split()
     if run.returncode != 0:

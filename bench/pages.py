@@ -29,7 +29,7 @@ top = os.path.dirname(os.path.dirname(os.path.abspath(__file__)))
 WORDS = {
     "check": [], "list": [], "stats": [], "dump": ["decimals=2"], "filter": ["centre=98"], "set": ["centre=98"],
     "split": ["out=/nonexistent/part"], "repack": ["to=3", "order=1"], "rescan": [], "crop": ["i0=0", "i1=0", "j0=0", "j1=0"],
-    "migrate": ["params=/nonexistent/table", "local=keep"],
+    "migrate": ["params=/nonexistent/table", "surfaces=/nonexistent/surfaces", "local=ecmwf"],
     "demote": ["params=/nonexistent/table", "local=keep", "earth=any", "tables=any"], "keys": [], "help": [], "version": [],
     "make": ["seed=1", "ni=1", "nj=1", "to=3", "order=2"],
 }

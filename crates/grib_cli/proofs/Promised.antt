@@ -12,7 +12,7 @@ use Rattle.grib_dispatch.specs.Hearing.{RefusesInTime}
 use Rattle.grib_run_spec.specs.Seen.{Seen}
 use Rattle.grib_run_spec.specs.Serving.{AnswersWork, IfUnread, Serves}
 use Rattle.grib_run_spec.specs.Tasks as tasks
-use Rattle.grib_run_spec.specs.Tasks.{IfHears, IfReads, Work, Reads, Makes, ReadsTable}
+use Rattle.grib_run_spec.specs.Tasks.{IfHears, IfReads, Work, Reads, Makes, ReadsTables}
 use Rattle.grib_run_law.specs.Judged.{Judges}
 use Rattle.grib_run_law.specs.Leaving.{Leaves}
 use Rattle.grib_cli.specs.Answers.{Answers}
@@ -80,7 +80,7 @@ words_stand words = read_job words (reading words) refl
 hears_any : (work : Work) (P : Type 0) → P → IfReads work None (λ command. command.hears ≡ true → P)
 hears_any (Reads command) P held = λ hears. held
 hears_any (Makes stated) P held = tt
-hears_any (ReadsTable name commands) P held = tt
+hears_any (ReadsTables params surfaces commands) P held = tt
 
 pub soon_never : (asked : Result Job JobFault) (outcome : Outcome) (left left_now : Option (List ℕ)) → (outcome ≡ outcomes.Memory) ⊎ (outcome ≡ outcomes.WriteFault)
     → IfOk asked (λ job. IfHears job (RefusesInTime outcome left left_now))
@@ -94,4 +94,4 @@ soon_never (Err fault) outcome left left_now one = tt
 pub unread_any : (work : Work) (names : Option Held) (P : Type 0) → P → IfUnread work names P
 unread_any (Reads command) names P held = tt
 unread_any (Makes stated) names P held = held
-unread_any (ReadsTable name commands) names P held = left_alone name commands names P held
+unread_any (ReadsTables params surfaces commands) names P held = left_alone params surfaces commands names P held

@@ -129,6 +129,10 @@ number_of name words = number (value_of name words)
 abbrev pub number_if_given : List ℕ → List (List ℕ) → Option ℕ
 number_if_given name words = cond (has_name name words) (Some (number_of name words)) None
 
+-- the value of the word of this name, none where no word has it
+abbrev pub value_if_given : List ℕ → List (List ℕ) → Option (List ℕ)
+value_if_given name words = cond (has_name name words) (Some (value_of name words)) None
+
 -- the number of one name is at most that of the other
 abbrev pub in_order : List ℕ → List ℕ → List (List ℕ) → Bool
 in_order least most words = nat_le (number_of least words) (number_of most words)
@@ -173,7 +177,9 @@ row_of Split = row (codes "split") (entry (is (codes "out")) is_not_empty ∷ []
 row_of Set = row (codes "set") (entry is_key_to_set is_key_value ∷ []) has_key
 row_of Repack = row (codes "repack") repack_entries has_target
 row_of Migrate =
-    row (codes "migrate") (entry (is (codes "params")) is_not_empty ∷ entry (is (codes "local")) (is (codes "keep")) ∷ [])
+    row (codes "migrate")
+    (entry (is (codes "params")) is_not_empty ∷ entry (is (codes "surfaces")) is_not_empty
+    ∷ entry (is (codes "local")) (λ value. is (codes "keep") value || is (codes "ecmwf") value) ∷ [])
     (has_name (codes "params"))
 row_of Demote =
     row (codes "demote")

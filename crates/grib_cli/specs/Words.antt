@@ -6,6 +6,8 @@ use Rattle.grib_keys.specs.declared.key.Key.{Key}
 use Rattle.grib_keys.specs.declared.condition.Value.{Value}
 use Rattle.grib_keys.specs.declared.condition.Condition.{Condition}
 use Rattle.grib_keys.specs.Keys.{key_named}
+use Rattle.grib_migrate.specs.declared.labels.Local.{Local}
+use Rattle.grib_migrate.specs.declared.labels.Local.TheVariants.{Refuse, Keep, Ecmwf}
 use Rattle.grib_params.specs.declared.matching.TableMatch.{TableMatch}
 use Rattle.grib_params.specs.declared.matching.TableMatch.TheVariants.{Any, Same}
 use Rattle.grib_stream.specs.declared.outcome.Outcome.{Outcome}
@@ -26,7 +28,7 @@ use Rattle.grib_items.specs.declared.policy.Instead.TheVariants.{Copy, Pass}
 use Rattle.grib_items.specs.declared.policy.Policy.{Policy}
 use Rattle.grib_run_spec.specs.Tasks as tasks
 use Rattle.grib_run_spec.specs.Tasks.{Work, Makes, ends_at_once}
-use Rattle.grib_cli.specs.Reading.{is, name_in, value_in, value_of, number_of, number_if_given, has_name, has_word, reading}
+use Rattle.grib_cli.specs.Reading.{is, name_in, value_in, value_of, value_if_given, number_of, number_if_given, has_name, has_word, reading}
 
 -- what `to` and `order` ask for
 abbrev pub target_of : List (List ℕ) → RepackTarget
@@ -70,6 +72,12 @@ conditions_of words = filter_map condition_of words
 abbrev pub matching_of : List (List ℕ) → TableMatch
 matching_of words = cond (has_name (codes "tables") words) Any Same
 
+-- what becomes of octets for local use, by the value of `local`
+abbrev pub local_of : List (List ℕ) → Local
+local_of words =
+    let local = value_of (codes "local") words in
+    cond (is (codes "keep") local) Keep (cond (is (codes "ecmwf") local) Ecmwf Refuse)
+
 -- the job of a command with these words behind it
 abbrev pub job_of_command : Command → List (List ℕ) → Result Job JobFault
 job_of_command commands.Check words = Ok jobs.Check
@@ -81,7 +89,8 @@ job_of_command commands.Filter words = Ok (jobs.Filter (conditions_of words))
 job_of_command commands.Split words = Ok (jobs.Split (value_of (codes "out") words))
 job_of_command commands.Set words = Ok (jobs.Set (conditions_of words))
 job_of_command commands.Repack words = Ok (repack_of words)
-job_of_command commands.Migrate words = Ok (jobs.Migrate (value_of (codes "params") words) (has_name (codes "local") words))
+job_of_command commands.Migrate words =
+    Ok (jobs.Migrate (value_of (codes "params") words) (value_if_given (codes "surfaces") words) (local_of words))
 job_of_command commands.Demote words =
     Ok (jobs.Demote (value_of (codes "params") words) (has_name (codes "local") words) (has_name (codes "earth") words) (matching_of words))
 job_of_command commands.Rescan words = Ok jobs.Rescan

@@ -15,7 +15,7 @@ use std::alloc::Global;
 
 /// Does what the words ask for with the messages of `input`, or without it: writes the answer to `output`
 /// and notes how the run ended. The answer is a function of the words, the input and, for `migrate` and `demote`,
-/// the table that stands on the shelf; it does not depend on how the input comes in pieces. `split`, `migrate` and
+/// the tables that stand on the shelf; it does not depend on how the input comes in pieces. `split`, `migrate` and
 /// `demote` alone use the shelf, and of these only `split` changes it.
 pub fn run<S: Source, T: Sink, N: Sink, H: Shelf>(
     alloc: Global,

@@ -164,7 +164,8 @@ fn takes_own(command: Command, name: &str, value: &str) -> bool
         Command::Split => name == "out" && !value.is_empty(),
         Command::Repack => takes_target(name, value) || (name == "to" && value == "least"),
         Command::Migrate => {
-            (name == "params" && !value.is_empty()) || (name == "local" && value == "keep")
+            (matches!(name, "params" | "surfaces") && !value.is_empty())
+                || (name == "local" && matches!(value, "keep" | "ecmwf"))
         }
         Command::Demote => {
             (name == "params" && !value.is_empty())

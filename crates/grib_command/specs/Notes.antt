@@ -10,6 +10,7 @@ use Rattle.grib_reasons.specs.declared.cause.Cause.TheVariants.{EditionOne, Seco
 use Rattle.grib_reasons.specs.Losses as losses
 use Rattle.grib_reasons.specs.Demotions as demotions
 use Rattle.grib_reasons.specs.declared.table.TableRefusal.{TableRefusal}
+use Rattle.grib_reasons.specs.declared.table.TableRefusal.TheVariants.{Absent, TooLarge, Row, Duplicate}
 use Rattle.grib_reasons.specs.Tables.{table_text}
 
 -- what is kept, by a cause of this name at a point of a field
@@ -75,6 +76,13 @@ passed_note refused kept = codes "refused " ++ decimal refused ++ codes " kept "
 -- the parameter table is refused, and by what
 abbrev pub table_note : TableRefusal → List ℕ
 table_note refusal = table_text refusal ++ 10 ∷ []
+
+-- the table of surfaces is refused, and by what
+abbrev pub surfaces_note : TableRefusal → List ℕ
+surfaces_note Absent = codes "surfaces absent\n"
+surfaces_note TooLarge = codes "surfaces too large\n"
+surfaces_note (Row number) = codes "surfaces row " ++ decimal number ++ 10 ∷ []
+surfaces_note (Duplicate number) = codes "surfaces duplicate " ++ decimal number ++ 10 ∷ []
 
 -- the messages and fields of an input that was read to its end, and the octets of their results
 abbrev pub written_note : Totals → List ℕ

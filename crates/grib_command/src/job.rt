@@ -3,6 +3,7 @@
 use crate::name::Name;
 use crate::page::Page;
 use grib_base::List;
+use grib_migrate::Local;
 use grib_params::TableMatch;
 use grib_repack::RepackTarget;
 use grib_rescan::Area;
@@ -43,12 +44,14 @@ pub enum Job {
     Rescan,
     /// Each message with a box of its grids alone.
     Crop(Area),
-    /// Each message of edition 1 as one of edition 2, by the table that stands on the shelf under this name, and
+    /// Each message of edition 1 as one of edition 2, by the tables that stand on the shelf under these names, and
     /// each message of edition 2 as it is.
     Migrate {
         params: Name,
-        /// Whether octets for the centre's own use are kept.
-        keep_local: bool,
+        /// The table of surfaces, where one is asked for.
+        surfaces: Option<Name>,
+        /// What becomes of the octets for the centre's own use.
+        local: Local,
     },
     /// Each field of a message of edition 2 as a message of edition 1, by the table that stands on the shelf under
     /// this name, and each message of edition 1 as it is.

@@ -211,6 +211,26 @@ pub fn table_note(alloc: Global, refusal: &TableRefusal) -> Result<Vec<u8>, Allo
     Ok(note.into_bytes())
 }
 
+/// The note on a table of surfaces that is refused.
+pub fn surfaces_note(alloc: Global, refusal: &TableRefusal) -> Result<Vec<u8>, AllocError>
+    ensures { IfOk result (λ note. note.items ≡ notes.surfaces_note refusal.now) }
+{
+    let note = surfaces_text(alloc, refusal)?;
+    Ok(note.into_bytes())
+}
+
+/// Why a table of surfaces is refused.
+fn surfaces_text(alloc: Global, refusal: &TableRefusal) -> Result<String, AllocError>
+    ensures { IfOk result (λ text. string_bytes text ≡ notes.surfaces_note refusal.now) }
+{
+    match *refusal {
+        TableRefusal::Absent => format!(in alloc; "surfaces absent\n"),
+        TableRefusal::TooLarge => format!(in alloc; "surfaces too large\n"),
+        TableRefusal::Row(number) => format!(in alloc; "surfaces row {number}\n"),
+        TableRefusal::Duplicate(number) => format!(in alloc; "surfaces duplicate {number}\n"),
+    }
+}
+
 /// The note on an input that was read to its end, with all of its messages changed.
 pub(crate) fn written_note(alloc: Global, totals: &Totals) -> Result<Vec<u8>, AllocError>
     ensures { IfOk result (λ note. note.items ≡ notes.written_note totals.now) }

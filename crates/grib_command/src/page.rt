@@ -22,7 +22,8 @@ grib filter KEY=VALUE ..                          fields that have these values\
 grib split out=NAME                               fields as files NAME.1, NAME.2\n\
 grib set KEY=VALUE ..                             new values of keys\n\
 grib repack to=0|2|3|least [order=1|2]            fields packed anew\n\
-grib migrate params=FILE [local=keep]             edition 1 to edition 2\n\
+grib migrate params=FILE [local=keep|ecmwf]       edition 1 to edition 2\n\
+grib migrate .. [surfaces=FILE]                   names that say their level\n\
 grib demote params=FILE [local=keep] [earth=any]  edition 2 to edition 1\n\
 grib demote .. [tables=any]                       by records of any tables\n\
 grib rescan                                       points in scanning mode 0\n\

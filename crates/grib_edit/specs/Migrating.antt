@@ -1,4 +1,4 @@
--- `migrate`: each message of edition 1 as one of edition 2, by the rows of a parameter table.
+-- `migrate`: each message of edition 1 as one of edition 2, by the rows of a parameter table and of a table of surfaces.
 use Rattle.std.proofs.Common.{◌≡◌, ℕ, ◌+◌, ◌-◌, ◌*◌, ◌<◌, ◌≤◌, Bool, true, false, ◌&&◌, nat_lt, None, option_map, List, [], ◌∷◌, length, drop, All, refl, sym, ap, arith, ⊎_elim, ltb-true, length-take, length-drop}
 use Rattle.std.proofs.lemmas.Bool.{cases_Bool}
 use Rattle.std.proofs.lemmas.List.Elements.{All-nil, All-cons}
@@ -10,10 +10,12 @@ use Rattle.grib1_sections.specs.Acceptance.{identification}
 use Rattle.grib1_sections.specs.Message.{IsMessage1}
 use Rattle.grib1_sections.proofs.Joined.{message_sections_pass}
 use Rattle.grib2_message.proofs.Parted.{message_most}
+use Rattle.grib_params.specs.Surfaces.{SurfaceEntries}
 use Rattle.grib_params.specs.Table.{Entries}
-use Rattle.grib_migrate.specs.Losses.{first_loss}
-use Rattle.grib_migrate.specs.Migrated.{migrated}
-use Rattle.grib_migrate_law.proofs.Migrated.{migrated_is_message}
+use Rattle.grib_migrate.specs.declared.labels.Local.{Local}
+use Rattle.grib_migrate.specs.Losses.{first_loss_with}
+use Rattle.grib_migrate.specs.Migrated.{migrated_with}
+use Rattle.grib_migrate_law.proofs.Migrated.{chosen_is_message}
 use Rattle.grib_stream.specs.declared.outcome.Outcome.{Outcome}
 use Rattle.grib_stream.specs.Acts.{Act}
 use Rattle.grib_stream.specs.Outcomes.{is_of_message}
@@ -28,11 +30,11 @@ are_octets [] = true
 are_octets (octet ∷ octets) = nat_lt octet 256 && are_octets octets
 
 -- A message of edition 1 is migrated, and one of edition 2 is copied. Of what are no octets nothing is written.
-abbrev pub migrate_command : Bool → Entries → Command
-migrate_command keep_local table = record {
+abbrev pub migrate_command : Local → Entries → SurfaceEntries → Command
+migrate_command local table surfaces = record {
   first = λ place message.
       choose (are_octets message)
-      (λ _. given_unless (option_map Lost (first_loss table keep_local message)) place.message (migrated table keep_local message))
+      (λ _. given_unless (option_map Lost (first_loss_with table surfaces local message)) place.message (migrated_with table surfaces local message))
       (λ _. Gives [] 0);
   second = λ place message. given_whole message;
   ending = Written;
@@ -65,38 +67,38 @@ first_least m h =
     let most : length (identification m) ≤ length m = piece_short m 9 (9 - 1 + octets m 9 (9 + 2)) in
     omega arith
 
-module _ (keep : Bool) (table : Entries) where
+module _ (local : Local) (table : Entries) (surfaces : SurfaceEntries) where
   chosen_few : (m : ℕ) (message : List ℕ) (acts : List Act) (written : ℕ) → IsMessage1 message
-      → choose (are_octets message) (λ _. given_unless (option_map Lost (first_loss table keep message)) m (migrated table keep message)) (λ _. Gives [] 0) ≡ Gives acts written
+      → choose (are_octets message) (λ _. given_unless (option_map Lost (first_loss_with table surfaces local message)) m (migrated_with table surfaces local message)) (λ _. Gives [] 0) ≡ Gives acts written
       → 20 * written ≤ MOST_OCTETS * length message
   chosen_few m message acts written h is =
       ⊎_elim
       (λ (yes : are_octets message ≡ true).
-      let own = ap (λ b. choose b (λ _. given_unless (option_map Lost (first_loss table keep message)) m (migrated table keep message)) (λ _. Gives [] 0)) (sym yes) in
-      let gives : given_unless (option_map Lost (first_loss table keep message)) m (migrated table keep message) ≡ Gives acts written = cc in
-      let few : (option_map Lost (first_loss table keep message) ≡ None → length (migrated table keep message) ≤ MOST_OCTETS) =
-      λ none. message_most (migrated table keep message)
-      (migrated_is_message table keep message (record { accepted = h; small = all_octets message yes; kept = unmapped Lost (first_loss table keep message) none })) in
-      let most = unless_few (option_map Lost (first_loss table keep message)) m (migrated table keep message) acts written few gives in
+      let own = ap (λ b. choose b (λ _. given_unless (option_map Lost (first_loss_with table surfaces local message)) m (migrated_with table surfaces local message)) (λ _. Gives [] 0)) (sym yes) in
+      let gives : given_unless (option_map Lost (first_loss_with table surfaces local message)) m (migrated_with table surfaces local message) ≡ Gives acts written = cc in
+      let few : (option_map Lost (first_loss_with table surfaces local message) ≡ None → length (migrated_with table surfaces local message) ≤ MOST_OCTETS) =
+      λ none. message_most (migrated_with table surfaces local message)
+      (chosen_is_message table surfaces local message (record { accepted = h; small = all_octets message yes; kept = unmapped Lost (first_loss_with table surfaces local message) none })) in
+      let most = unless_few (option_map Lost (first_loss_with table surfaces local message)) m (migrated_with table surfaces local message) acts written few gives in
       omega (arith, first_least message h))
       (λ (no : are_octets message ≡ false).
-      let own = ap (λ b. choose b (λ _. given_unless (option_map Lost (first_loss table keep message)) m (migrated table keep message)) (λ _. Gives [] 0)) (sym no) in
+      let own = ap (λ b. choose b (λ _. given_unless (option_map Lost (first_loss_with table surfaces local message)) m (migrated_with table surfaces local message)) (λ _. Gives [] 0)) (sym no) in
       let none : Gives [] 0 ≡ Gives acts written = cc in
       let zero_written : 0 ≡ written = cc in
       omega arith)
       (cases_Bool (are_octets message))
 
   chosen_ends : (m : ℕ) (message : List ℕ) (outcome : Outcome)
-      → choose (are_octets message) (λ _. given_unless (option_map Lost (first_loss table keep message)) m (migrated table keep message)) (λ _. Gives [] 0) ≡ Ends outcome
+      → choose (are_octets message) (λ _. given_unless (option_map Lost (first_loss_with table surfaces local message)) m (migrated_with table surfaces local message)) (λ _. Gives [] 0) ≡ Ends outcome
       → is_of_message outcome ≡ true
   chosen_ends m message outcome is =
       ⊎_elim
       (λ (yes : are_octets message ≡ true).
-      let own = ap (λ b. choose b (λ _. given_unless (option_map Lost (first_loss table keep message)) m (migrated table keep message)) (λ _. Gives [] 0)) (sym yes) in
-      let ends : given_unless (option_map Lost (first_loss table keep message)) m (migrated table keep message) ≡ Ends outcome = cc in
-      unless_ends (option_map Lost (first_loss table keep message)) m (migrated table keep message) outcome ends)
+      let own = ap (λ b. choose b (λ _. given_unless (option_map Lost (first_loss_with table surfaces local message)) m (migrated_with table surfaces local message)) (λ _. Gives [] 0)) (sym yes) in
+      let ends : given_unless (option_map Lost (first_loss_with table surfaces local message)) m (migrated_with table surfaces local message) ≡ Ends outcome = cc in
+      unless_ends (option_map Lost (first_loss_with table surfaces local message)) m (migrated_with table surfaces local message) outcome ends)
       (λ (no : are_octets message ≡ false).
-      let own = ap (λ b. choose b (λ _. given_unless (option_map Lost (first_loss table keep message)) m (migrated table keep message)) (λ _. Gives [] 0)) (sym no) in
+      let own = ap (λ b. choose b (λ _. given_unless (option_map Lost (first_loss_with table surfaces local message)) m (migrated_with table surfaces local message)) (λ _. Gives [] 0)) (sym no) in
       let none : Gives [] 0 ≡ Ends outcome = cc in
       let false_ends : ⊥ = cc in absurd false_ends)
       (cases_Bool (are_octets message))
@@ -107,7 +109,7 @@ module _ (keep : Bool) (table : Entries) where
   copied_ends : (message : List ℕ) (outcome : Outcome) → given_whole message ≡ Ends outcome → is_of_message outcome ≡ true
   copied_ends message outcome is = let no : ⊥ = cc in absurd no
 
-  pub migrate_lawful : IsLawfulCommand (migrate_command keep table)
+  pub migrate_lawful : IsLawfulCommand (migrate_command local table surfaces)
   migrate_lawful = record {
     few_first = λ place message acts written h is. chosen_few place.message message acts written h is;
     few_second = λ place message acts written h is. copied_few message acts written is;

@@ -6,8 +6,8 @@ ghost use Rattle.grib_edit.specs.Migrating.{are_octets};
 
 use grib_command::{Answered, Ending, Writer, write_counted, written};
 use grib_io::Sink;
-use grib_migrate::{MigrateFault, migrate};
-use grib_params::Table;
+use grib_migrate::{Local, MigrateFault, migrate_with};
+use grib_params::{SurfaceTable, Table};
 use grib_stream::{Cause, Place};
 use grib1_sections::Message1;
 use grib2_arrival::Arrival;
@@ -19,17 +19,19 @@ use std::alloc::Global;
 pub struct Migrating<'a> {
     /// What the parameters of edition 1 are in edition 2.
     pub table: &'a Table,
-    /// Whether octets for the centre's own use are kept.
-    pub keep_local: bool,
+    /// What those are, with their surfaces, whose name says their level.
+    pub surfaces: &'a SurfaceTable,
+    /// What becomes of the octets for the centre's own use.
+    pub local: Local,
 }
 
 impl Writer for Migrating<'_> {
     ghost use Rattle.std.specs.Prelude.{refl};
     ghost use Rattle.grib_edit.specs.Migrating.{migrate_command, migrate_lawful};
 
-    ghost definition = { λ migrating. migrate_command migrating.keep_local migrating.table.now };
+    ghost definition = { λ migrating. migrate_command migrating.local migrating.table.now migrating.surfaces.now };
 
-    ghost lawful = { λ migrating. migrate_lawful migrating.keep_local migrating.table.now };
+    ghost lawful = { λ migrating. migrate_lawful migrating.local migrating.table.now migrating.surfaces.now };
 
     ghost unshelved = { λ migrating. refl };
 
@@ -41,7 +43,7 @@ impl Writer for Migrating<'_> {
         output: &mut T,
     ) -> Answered {
         has_octets(message);
-        match migrate(alloc, message, self.table, self.keep_local) {
+        match migrate_with(alloc, message, self.table, self.surfaces, self.local) {
             Ok(octets) => written(write_counted(output, octets.as_slice())),
             Err(fault) => kept_by(fault),
         }

@@ -8,8 +8,8 @@ use Rattle.std.specs.List.{concat}
 use Rattle.std.proofs.KnownBytes.{Appends-trans}
 use Rattle.grib_io.specs.Outside.{AppendsFront, Unfinished}
 use Rattle.grib_io.specs.Shelves.{Held, Stays}
-use Rattle.grib_params.specs.Table.{Entries}
-use Rattle.grib_table.specs.Tabled.{Tabled, Good, Refused, tabled}
+use Rattle.grib_table.specs.declared.both.Tables.{Tables}
+use Rattle.grib_table.specs.Both.{Both, BothGood, ParametersRefused, SurfacesRefused, both}
 use Rattle.grib_stream.specs.declared.outcome.Outcome.{Outcome}
 use Rattle.grib_stream.specs.declared.outcome.Outcome.TheVariants.{ReadFault, WriteFault, ShelfFault, Memory, InputTooLong}
 use Rattle.grib_stream.specs.Acts.{Did}
@@ -30,7 +30,7 @@ use Rattle.grib_command.proofs.Noted.{OneOf, keeps_or_cuts, no_shelf_fault, ends
 use Rattle.grib_run_spec.specs.Seen.{Seen, world_of, outside_of, faults_of, Settles}
 use Rattle.grib_run_spec.specs.Stated.{IfTabled, IfAsked, IfStated, deeds_of, plan_by, stated_to}
 use Rattle.grib_run_spec.specs.Serving.{NotedBehind, NotedFrontBehind, NotesSome, IsCounted, Gives, Reading, AtOnce, Serves}
-use Rattle.grib_run_spec.specs.Tasks.{Stated, Work, Reads, Makes, ReadsTable, has_shelf, has_table}
+use Rattle.grib_run_spec.specs.Tasks.{Stated, Work, Reads, Makes, ReadsTables, has_shelf, has_table}
 use Rattle.grib_engine.specs.Beside.{beside}
 use Rattle.grib_engine.proofs.Broken.{whole_unbroken, uncut_of, one_uncut, one_whole, one_early, write_or_not, read_or_not, shelf_or_not}
 
@@ -276,16 +276,17 @@ pub if_told : {P Q : List ℕ → Type 0} (left : Option (List ℕ)) → ((input
 if_told None map held = tt
 if_told (Some input) map held = map input held
 
-if_tabled : (commands : Entries → Command) (P Q : Command → Type 0) (A B : Stated → Type 0) → ((command : Command) → P command → Q command) → ((stated : Stated) → A stated → B stated) → (t : Tabled)
+if_tabled : (commands : Tables → Command) (P Q : Command → Type 0) (A B : Stated → Type 0) → ((command : Command) → P command → Q command) → ((stated : Stated) → A stated → B stated) → (t : Both)
     → IfTabled commands P A t → IfTabled commands Q B t
-if_tabled commands P Q A B map at_once (Good table) held = map (commands table) held
-if_tabled commands P Q A B map at_once (Refused refusal) held = at_once _ held
+if_tabled commands P Q A B map at_once (BothGood tables) held = map (commands tables) held
+if_tabled commands P Q A B map at_once (ParametersRefused refusal) held = at_once _ held
+if_tabled commands P Q A B map at_once (SurfacesRefused refusal) held = at_once _ held
 
 if_asked : (work : Work) (names : Option Held) (P Q : Command → Type 0) (A B : Stated → Type 0) → ((command : Command) → P command → Q command) → ((stated : Stated) → A stated → B stated)
     → IfAsked work names P A → IfAsked work names Q B
 if_asked (Reads command) names P Q A B map at_once held = map command held
 if_asked (Makes stated) names P Q A B map at_once held = at_once stated held
-if_asked (ReadsTable name commands) names P Q A B map at_once (text, stood, held) = (text, stood, if_tabled commands P Q A B map at_once (tabled text) held)
+if_asked (ReadsTables params surfaces commands) names P Q A B map at_once (texts, stood, held) = (texts, stood, if_tabled commands P Q A B map at_once (both surfaces texts) held)
 
 module _ (takes_memory : Bool) (policy : Policy) (own : Outcome) (note : List ℕ) (outcome : Outcome) (before mid now : Seen) (ended : Ended takes_memory own note outcome mid now) where
   -- what holds of each answer, by what was done of it

@@ -1,15 +1,16 @@
--- A run by a table that was read before any input, or that was not read.
+-- A run by tables that were read before any input, or that were not read.
 use Rattle.std.proofs.Common.{◌≡◌, ◌≢◌, ℕ, Bool, true, false, IfSome, Option, Some, None, Ok, Err, List, [], ◌∷◌, refl, sym, ap, ◌∙◌, subst, arith}
 use Rattle.std.proofs.lemmas.Bool.{false≢true}
 use Rattle.std.proofs.KnownBytes.{Appends-nil}
 use Rattle.grib_io.specs.Shelves.{Held, Stays}
-use Rattle.grib_params.specs.Table.{Entries}
-use Rattle.grib_table.specs.declared.stop.TableStop.{TableStop}
-use Rattle.grib_table.specs.declared.stop.TableStop.TheVariants as stops
-use Rattle.grib_table.specs.Tabled.{Tabled, Good, Refused, tabled, Stood, CountsTableStop}
-use Rattle.grib_table.specs.Tabled as tables
+use Rattle.grib_table.specs.declared.both.Tables.{Tables}
+use Rattle.grib_table.specs.declared.stop.TablesStop.{TablesStop}
+use Rattle.grib_table.specs.declared.stop.TablesStop.TheVariants as stops
+use Rattle.grib_table.specs.Both.{Both, BothGood, ParametersRefused, SurfacesRefused, Texts, both, BothStood, StoodWhere, CountsTablesStop}
+use Rattle.grib_table.specs.Both as reads
 use Rattle.grib_stream.specs.declared.outcome.Outcome.{Outcome}
-use Rattle.grib_stream.specs.declared.outcome.Outcome.TheVariants.{ReadFault, WriteFault, ShelfFault, Memory, TableRefused}
+use Rattle.grib_stream.specs.declared.outcome.Outcome.TheVariants as outcomes
+use Rattle.grib_stream.specs.declared.outcome.Outcome.TheVariants.{ReadFault, WriteFault, ShelfFault, Memory}
 use Rattle.grib_stream.specs.Acts.{world, Did}
 use Rattle.grib_stream.specs.Outcomes.{is_broken}
 use Rattle.grib_stream.proofs.Windows.{takes_none}
@@ -23,7 +24,7 @@ use Rattle.grib_command.specs.Outcomes.{note_of}
 use Rattle.grib_run_spec.specs.Seen.{Seen, world_of, outside_of, faults_of}
 use Rattle.grib_run_spec.specs.Stated.{IfTabled, IfAsked, deeds_of, plan_by, stated_to}
 use Rattle.grib_run_spec.specs.Serving.{NotedBehind, NotesSome, IsCounted, Gives, Reading, AtOnce, Serves, IfUnread}
-use Rattle.grib_run_spec.specs.Tasks.{Stated, Work, Reads, Makes, ReadsTable, ends_at_once}
+use Rattle.grib_run_spec.specs.Tasks.{Stated, Work, Reads, Makes, ReadsTables, ends_at_once}
 use Rattle.grib_engine.specs.Untabled.{outcome_untabled}
 use Rattle.grib_engine.proofs.Broken.{broken_early}
 use Rattle.grib_engine.proofs.Ended.{Reached, Answers, States, Ran, if_told}
@@ -32,10 +33,17 @@ any_told : {P : List ℕ → Type 0} (left : Option (List ℕ)) → ((input : Li
 any_told None held = tt
 any_told (Some input) held = held input
 
--- some text stands under the name, where the shelf tells it
-stands : (names : Option Held) (name : List ℕ) → (text : Option (List ℕ)) × Stood names name text
-stands None name = (None, tt)
-stands (Some held) name = (held name, refl)
+-- some texts stand under the names, where the shelf tells them
+stands_where : (names : Option Held) (name : Option (List ℕ)) → (text : Option (List ℕ)) × StoodWhere names name text
+stands_where names None = (None, tt)
+stands_where None (Some name) = (None, tt)
+stands_where (Some held) (Some name) = (held name, refl)
+
+stands : (names : Option Held) (params : List ℕ) (surfaces : Option (List ℕ)) → (texts : Texts) × BothStood names params surfaces texts
+stands names params surfaces =
+    let first = stands_where names (Some params) in
+    let second = stands_where names surfaces in
+    (record { parameters = first.0; surfaces = second.0 }, (first.1, second.1))
 
 -- a shelf that keeps what it holds
 did_stays : (output : Option (List ℕ)) (names names_now : Option Held) → Stays names names_now → Did (world output names) (world output names_now) []
@@ -86,17 +94,18 @@ module _ (policy : Policy) (before : Seen) (names : Option Held) (faults : ℕ) 
     end = λ whole. absurd (false≢true (sym (broken_early own is) ∙ whole));
   }
 
-  broken_tabled : (own : Outcome) → is_broken own ≡ true → own ≢ ReadFault → (commands : Entries → Command) (t : Tabled)
+  broken_tabled : (own : Outcome) → is_broken own ≡ true → own ≢ ReadFault → (commands : Tables → Command) (t : Both)
       → IfTabled commands (Answers policy own (note_of own) before same) (States own (note_of own) before same) t
-  broken_tabled own is other commands (Good table) = broken_reading own is other (commands table)
-  broken_tabled own is other commands (Refused refusal) = (broken own is (ends_at_once (TableRefused refusal)), other)
+  broken_tabled own is other commands (BothGood tables) = broken_reading own is other (commands tables)
+  broken_tabled own is other commands (ParametersRefused refusal) = (broken own is (ends_at_once (outcomes.TableRefused refusal)), other)
+  broken_tabled own is other commands (SurfacesRefused refusal) = (broken own is (ends_at_once (outcomes.SurfacesRefused refusal)), other)
 
   broken_asked : (own : Outcome) → is_broken own ≡ true → own ≢ ReadFault → (work : Work)
       → IfAsked work before.names (Answers policy own (note_of own) before same) (States own (note_of own) before same)
   broken_asked own is other (Reads command) = broken_reading own is other command
   broken_asked own is other (Makes stated) = (broken own is stated, other)
-  broken_asked own is other (ReadsTable name commands) =
-      let stand = stands before.names name in (stand.0, stand.1, broken_tabled own is other commands (tabled stand.0))
+  broken_asked own is other (ReadsTables params surfaces commands) =
+      let stand = stands before.names params surfaces in (stand.0, stand.1, broken_tabled own is other commands (both surfaces stand.0))
 
   -- what is stated at once
   at_once : (own : Outcome) → is_broken own ≡ false → Reached (ends_at_once own) own (note_of own) before same
@@ -118,10 +127,11 @@ module _ (policy : Policy) (before : Seen) (names : Option Held) (faults : ℕ) 
     shelf_calm = λ other. is;
   }
 
-  -- ---- the table was not read, or is none
+  -- ---- the tables were not read, or are none
 
-  stopped : (stop : TableStop) → CountsTableStop stop before.shelf_faults faults → CountsOne (outcome_untabled stop) (faults_of before) (faults_of same)
-  stopped (stops.Refused refusal) counts = calm (TableRefused refusal) (λ e. cc) (λ e. cc) (λ e. cc) counts
+  stopped : (stop : TablesStop) → CountsTablesStop stop before.shelf_faults faults → CountsOne (outcome_untabled stop) (faults_of before) (faults_of same)
+  stopped (stops.Refused refusal) counts = calm (outcomes.TableRefused refusal) (λ e. cc) (λ e. cc) (λ e. cc) counts
+  stopped (stops.SurfacesRefused refusal) counts = calm (outcomes.SurfacesRefused refusal) (λ e. cc) (λ e. cc) (λ e. cc) counts
   stopped stops.Memory counts = calm Memory (λ e. cc) (λ e. cc) (λ e. cc) counts
   stopped stops.ShelfFault counts = record {
     read = λ e. cc;
@@ -133,19 +143,28 @@ module _ (policy : Policy) (before : Seen) (names : Option Held) (faults : ℕ) 
     shelf_calm = λ other. absurd (other refl);
   }
 
-  untabled_asked : (name : List ℕ) (commands : Entries → Command) (stop : TableStop) → tables.ReadsTable (Err stop) before.names name
-      → IfAsked (ReadsTable name commands) before.names (Answers policy (outcome_untabled stop) (note_of (outcome_untabled stop)) before same)
-      (States (outcome_untabled stop) (note_of (outcome_untabled stop)) before same)
-  untabled_asked name commands (stops.Refused refusal) (text, stood, is) =
-      let own = TableRefused refusal in
-      (text, stood, subst (IfTabled commands (Answers policy own (note_of own) before same) (States own (note_of own) before same)) (sym is) (at_once own refl, λ e. cc))
-  untabled_asked name commands stops.ShelfFault read = broken_asked ShelfFault refl (λ e. cc) (ReadsTable name commands)
-  untabled_asked name commands stops.Memory read = broken_asked Memory refl (λ e. cc) (ReadsTable name commands)
+  refused_asked : (params : List ℕ) (surfaces : Option (List ℕ)) (commands : Tables → Command) (own : Outcome) (what : Both)
+      → IfTabled commands (Answers policy own (note_of own) before same) (States own (note_of own) before same) what → reads.StandsAs before.names params surfaces what
+      → IfAsked (ReadsTables params surfaces commands) before.names (Answers policy own (note_of own) before same) (States own (note_of own) before same)
+  refused_asked params surfaces commands own what states (texts, stood, is) =
+      (texts, stood, subst (IfTabled commands (Answers policy own (note_of own) before same) (States own (note_of own) before same)) (sym is) states)
 
-  pub untabled : (name called : List ℕ) (commands : Entries → Command) (stop : TableStop) (own : Outcome) → own ≡ outcome_untabled stop → called ≡ name
-      → tables.ReadsTable (Err stop) before.names called → CountsTableStop stop before.shelf_faults faults → Ran (ReadsTable name commands) policy own (note_of own) before same
-  untabled name called commands stop own is its_name read counts = subst (λ o. Ran (ReadsTable name commands) policy o (note_of o) before same) (sym is) record {
-    answer = untabled_asked name commands stop (subst (tables.ReadsTable (Err stop) before.names) its_name read);
+  untabled_asked : (params : List ℕ) (surfaces : Option (List ℕ)) (commands : Tables → Command) (stop : TablesStop) → reads.ReadsTables (Err stop) before.names params surfaces
+      → IfAsked (ReadsTables params surfaces commands) before.names (Answers policy (outcome_untabled stop) (note_of (outcome_untabled stop)) before same)
+      (States (outcome_untabled stop) (note_of (outcome_untabled stop)) before same)
+  untabled_asked params surfaces commands (stops.Refused refusal) read =
+      let own = outcomes.TableRefused refusal in
+      refused_asked params surfaces commands own (ParametersRefused refusal) (at_once own refl, λ e. cc) read
+  untabled_asked params surfaces commands (stops.SurfacesRefused refusal) read =
+      let own = outcomes.SurfacesRefused refusal in
+      refused_asked params surfaces commands own (SurfacesRefused refusal) (at_once own refl, λ e. cc) read
+  untabled_asked params surfaces commands stops.ShelfFault read = broken_asked ShelfFault refl (λ e. cc) (ReadsTables params surfaces commands)
+  untabled_asked params surfaces commands stops.Memory read = broken_asked Memory refl (λ e. cc) (ReadsTables params surfaces commands)
+
+  pub untabled : (params : List ℕ) (surfaces : Option (List ℕ)) (commands : Tables → Command) (stop : TablesStop) (own : Outcome) → own ≡ outcome_untabled stop
+      → reads.ReadsTables (Err stop) before.names params surfaces → CountsTablesStop stop before.shelf_faults faults → Ran (ReadsTables params surfaces commands) policy own (note_of own) before same
+  untabled params surfaces commands stop own is read counts = subst (λ o. Ran (ReadsTables params surfaces commands) policy o (note_of o) before same) (sym is) record {
+    answer = untabled_asked params surfaces commands stop read;
     counts = stopped stop counts;
     unfinished = λ all. all;
     notes_unfinished = λ all. all;
@@ -183,9 +202,9 @@ ended_at_once own policy before unbroken =
       table_stays = λ no. absurd (false≢true no);
     }
 
--- ---- by a table that was read
+-- ---- by tables that were read
 
-module _ (takes_memory : Bool) (name : List ℕ) (commands : Entries → Command) (policy : Policy) (outcome : Outcome) (before now : Seen) (names : Option Held) (stays : Stays before.names names) where
+module _ (takes_memory : Bool) (params : List ℕ) (surfaces : Option (List ℕ)) (commands : Tables → Command) (policy : Policy) (outcome : Outcome) (before now : Seen) (names : Option Held) (stays : Stays before.names names) where
   abbrev mid : Seen
   mid = shelved before names before.shelf_faults
 
@@ -221,24 +240,23 @@ module _ (takes_memory : Bool) (name : List ℕ) (commands : Entries → Command
         end = reading.end;
       }
 
-  pub by_table : (table : Entries) (called : List ℕ) (faults : ℕ) → called ≡ name → tables.ReadsTable (Ok table) before.names called → faults ≡ before.shelf_faults → now.names ≡ names
-      → Serves takes_memory (Reads (commands table)) policy outcome (shelved before names faults) now → Serves takes_memory (ReadsTable name commands) policy outcome before now
-  by_table table called faults its_name (text, stood_as, is) same kept ran_so =
-      let stood = subst (λ n. Stood before.names n text) its_name stood_as in
-      let ran = subst (λ n. Serves takes_memory (Reads (commands table)) policy outcome (shelved before names n) now) same ran_so in
-      let tells = λ (Holds : Stated → Type 0) (holds : IfSome before.left (λ input. Holds (stated_to (commands table) policy input))).
+  pub by_tables : (read : Tables) (faults : ℕ) → reads.ReadsTables (Ok read) before.names params surfaces → faults ≡ before.shelf_faults → now.names ≡ names
+      → Serves takes_memory (Reads (commands read)) policy outcome (shelved before names faults) now → Serves takes_memory (ReadsTables params surfaces commands) policy outcome before now
+  by_tables read faults (texts, stood, is) same kept ran_so =
+      let ran = subst (λ n. Serves takes_memory (Reads (commands read)) policy outcome (shelved before names n) now) same ran_so in
+      let tells = λ (Holds : Stated → Type 0) (holds : IfSome before.left (λ input. Holds (stated_to (commands read) policy input))).
       subst (IfTabled commands (λ command. IfSome before.left (λ input. Holds (stated_to command policy input))) Holds) (sym is) holds in
       record {
         answer = (
-          text,
+          texts,
           stood,
-          subst (IfTabled commands (Reading policy outcome before now) (AtOnce outcome before now)) (sym is) (reading_after (commands table) ran.answer),
+          subst (IfTabled commands (Reading policy outcome before now) (AtOnce outcome before now)) (sym is) (reading_after (commands read) ran.answer),
         );
-        told = (text, stood, tells (λ stated. NotesSome (IsCounted (faults_of before) (faults_of now)) stated before.notes now.notes) ran.told);
+        told = (texts, stood, tells (λ stated. NotesSome (IsCounted (faults_of before) (faults_of now)) stated before.notes now.notes) ran.told);
         settled = record { settles = ran.settled.settles; unfinished = ran.settled.unfinished; output_unfinished = ran.settled.output_unfinished };
         stands = λ off e.
             let stood_then = ran.stands off e in
-            (stood_then.0, (stood_then.1.0, (text, stood, tells (λ stated. NotedBehind stated (note_of Memory) before.notes now.notes) stood_then.1.1)));
+            (stood_then.0, (stood_then.1.0, (texts, stood, tells (λ stated. NotedBehind stated (note_of Memory) before.notes now.notes) stood_then.1.1)));
         counts = ran.counts;
         unshelved = λ off. absurd (false≢true (sym off));
         table_stays = λ on. subst (Stays before.names) (sym kept) stays;
@@ -246,16 +264,17 @@ module _ (takes_memory : Bool) (name : List ℕ) (commands : Entries → Command
 
 -- ---- the input
 
-if_unread : (commands : Entries → Command) (P : Type 0) (t : Tabled) → P → IfTabled commands (λ command. Unit {0}) (λ stated. P) t
-if_unread commands P (Good table) held = tt
-if_unread commands P (Refused refusal) held = held
+if_unread : (commands : Tables → Command) (P : Type 0) (t : Both) → P → IfTabled commands (λ command. Unit {0}) (λ stated. P) t
+if_unread commands P (BothGood tables) held = tt
+if_unread commands P (ParametersRefused refusal) held = held
+if_unread commands P (SurfacesRefused refusal) held = held
 
 -- no input was read
-pub left_alone : (name : List ℕ) (commands : Entries → Command) (names : Option Held) (P : Type 0) → P → IfUnread (ReadsTable name commands) names P
-left_alone name commands names P held = let stand = stands names name in (stand.0, stand.1, if_unread commands P (tabled stand.0) held)
+pub left_alone : (params : List ℕ) (surfaces : Option (List ℕ)) (commands : Tables → Command) (names : Option Held) (P : Type 0) → P → IfUnread (ReadsTables params surfaces commands) names P
+left_alone params surfaces commands names P held = let stand = stands names params surfaces in (stand.0, stand.1, if_unread commands P (both surfaces stand.0) held)
 
--- the table is good, so that nothing is claimed
-pub left_open : (name called : List ℕ) (commands : Entries → Command) (names : Option Held) (P : Type 0) (table : Entries) → called ≡ name → tables.ReadsTable (Ok table) names called
-    → IfUnread (ReadsTable name commands) names P
-left_open name called commands names P table its_name (text, stood, is) =
-    (text, subst (λ n. Stood names n text) its_name stood, subst (IfTabled commands (λ command. Unit {0}) (λ stated. P)) (sym is) tt)
+-- the tables are good, so that nothing is claimed
+pub left_open : (params : List ℕ) (surfaces : Option (List ℕ)) (commands : Tables → Command) (names : Option Held) (P : Type 0) (read : Tables) → reads.ReadsTables (Ok read) names params surfaces
+    → IfUnread (ReadsTables params surfaces commands) names P
+left_open params surfaces commands names P read (texts, stood, is) =
+    (texts, stood, subst (IfTabled commands (λ command. Unit {0}) (λ stated. P)) (sym is) tt)

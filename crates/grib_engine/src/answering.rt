@@ -13,20 +13,19 @@ use grib_edit::{
     Changing, Demoting, Filtering, Migrating, Repacking, Rescanning, Setting, Shrinking, Splitting,
 };
 use grib_io::{Shelf, Sink};
-use grib_params::Table;
 use grib_reorder::GridEdit;
 use grib_report::{Checking, Dumping, Keying, Listing, Printing, Summing, Valuing};
 use grib_stream::Place;
+use grib_table::Tables;
 use std::alloc::Global;
 
 /// Does what the job says of a message at this place; `make` says nothing of messages. After a fault or
 /// without memory some front of its result was done. `split` leaves the output as it was, and every other
-/// job the shelf. Nothing is said of a job that
-/// reads a table where none is given.
+/// job the shelf. Nothing is said of a job that reads tables where none are given.
 pub fn answer_message<T: Sink, H: Shelf>(
     alloc: Global,
     job: &Job,
-    table: Option<&Table>,
+    tables: Option<&Tables>,
     place: &Place,
     held: &Held<'_>,
     output: &mut T,
@@ -34,7 +33,7 @@ pub fn answer_message<T: Sink, H: Shelf>(
 ) -> Answered
     requires job { IsJob job.now }
     requires fields { place.now.fields ≤ 2 ^ 41 }
-    ensures { IfReads (work_of job.now) (option_copied table.entry) (λ command.
+    ensures { IfReads (work_of job.now) (option_copied tables.entry) (λ command.
         AnswersMessage T.contents T.faults T.settled H.contents H.faults
         result place.now.message (given command place.now (held_octets held.now)) command.uses_shelf
         output.old output.new shelf.old shelf.new) }
@@ -152,10 +151,13 @@ pub fn answer_message<T: Sink, H: Shelf>(
                 shelf,
             )
         }
-        Job::Migrate { keep_local, .. } => match table {
-            Some(table) => {
-                let keep_local = *keep_local;
-                let migrating = ByOutput(Migrating { table, keep_local });
+        Job::Migrate { local, .. } => match tables {
+            Some(tables) => {
+                let migrating = ByOutput(Migrating {
+                    table: &tables.parameters,
+                    surfaces: &tables.surfaces,
+                    local: *local,
+                });
                 answer_held(&migrating, alloc, place, held, output, shelf)
             }
             None => Answered::Whole(0),
@@ -165,10 +167,10 @@ pub fn answer_message<T: Sink, H: Shelf>(
             any_earth,
             matching,
             ..
-        } => match table {
-            Some(table) => {
+        } => match tables {
+            Some(tables) => {
                 let demoting = ByOutput(Demoting {
-                    table,
+                    table: &tables.parameters,
                     matching: *matching,
                     keep_local: *keep_local,
                     any_earth: *any_earth,

@@ -8,7 +8,7 @@ ghost use Rattle.grib_command.specs.Outcomes.{note_with};
 ghost use Rattle.grib_command.specs.Pending.{Writes};
 ghost use Rattle.grib_stream.specs.declared.outcome.Outcome.TheVariants.{WriteFault};
 
-use grib_command::{kept_note, passed_note, table_note, usage_note, write_whole};
+use grib_command::{kept_note, passed_note, surfaces_note, table_note, usage_note, write_whole};
 use grib_io::{Sink, Stop};
 use grib_stream::Outcome;
 use grib_text::refusal_note;
@@ -77,6 +77,10 @@ pub fn close_with_note<T: Sink, N: Sink>(
             Err(_) => close(Outcome::Memory, b"memory\n", output, notes),
         },
         Outcome::TableRefused(refusal) => match table_note(alloc, &refusal) {
+            Ok(note) => close(outcome, note.as_slice(), output, notes),
+            Err(_) => close(Outcome::Memory, b"memory\n", output, notes),
+        },
+        Outcome::SurfacesRefused(refusal) => match surfaces_note(alloc, &refusal) {
             Ok(note) => close(outcome, note.as_slice(), output, notes),
             Err(_) => close(Outcome::Memory, b"memory\n", output, notes),
         },

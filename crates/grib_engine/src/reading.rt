@@ -1,15 +1,16 @@
-//! A run that reads its input: the messages are answered by a command, which may want a table.
+//! A run that reads its input: the messages are answered by a command, which may want tables.
 
-ghost use Rattle.std.specs.Prelude.{◌≡◌, ◌||◌, true, false};
+ghost use Rattle.std.specs.Prelude.{◌≡◌, ◌||◌, true, false, None};
 ghost use Rattle.grib_stream.specs.Soon.{RefusesSoon};
 ghost use Rattle.grib_items.specs.Laws.{nothing};
 ghost use Rattle.grib_command.specs.Command.{task};
 ghost use Rattle.grib_dispatch.specs.Hearing.{is_second};
-ghost use Rattle.grib_edit.specs.Demoting.{demote_command};
-ghost use Rattle.grib_edit.specs.Migrating.{migrate_command};
+ghost use Rattle.grib_io.specs.Shelves.{Stays};
 ghost use Rattle.grib_run_spec.specs.Seen.{seen};
 ghost use Rattle.grib_run_spec.specs.Serving.{Serves, IfUnread};
-ghost use Rattle.grib_run_spec.specs.Tasks.{Reads, ReadsTable};
+ghost use Rattle.grib_run_spec.specs.Tasks.{Reads, ReadsTables as AsksTables, demoting, migrating};
+ghost use Rattle.grib_table.specs.Both as both;
+ghost use Rattle.grib_table.specs.Both.{CountsTables};
 ghost use Rattle.grib_engine.specs.Untabled.{outcome_untabled};
 
 use crate::closing::close_with_note;
@@ -19,9 +20,10 @@ use grib_dispatch::Answering;
 use grib_edit::{Demoting, Migrating};
 use grib_io::{Shelf, Sink, Source};
 use grib_items::{Policy, answer_items};
+use grib_migrate::Local;
 use grib_params::TableMatch;
 use grib_stream::{LIMIT, Outcome};
-use grib_table::{TableStop, read_table};
+use grib_table::{Tables, TablesStop, read_tables};
 use std::alloc::Global;
 
 /// Answers the messages of the input, and notes how the run ended.
@@ -50,11 +52,12 @@ pub(crate) fn serve_messages<C: Answerer, S: Source, T: Sink, N: Sink, H: Shelf>
     }
 }
 
-/// Reads the table under this name, and writes the messages of the input by it in edition 2.
+/// Reads the tables under these names, and writes the messages of the input by them in edition 2.
 pub(crate) fn serve_migrated<S: Source, T: Sink, N: Sink, H: Shelf>(
     alloc: Global,
     params: &Name,
-    keep_local: bool,
+    surfaces: &Option<Name>,
+    local: Local,
     policy: Policy,
     input: &mut S,
     output: &mut T,
@@ -62,16 +65,17 @@ pub(crate) fn serve_migrated<S: Source, T: Sink, N: Sink, H: Shelf>(
     shelf: &mut H,
 ) -> Outcome
     ensures serves { let see = seen S.left S.faults T.contents T.faults T.settled N.contents N.faults N.settled H.contents H.faults in
-        Serves (T.takes_memory || N.takes_memory) (ReadsTable params.now (migrate_command keep_local)) policy result
+        Serves (T.takes_memory || N.takes_memory) (AsksTables params.now surfaces.now (migrating local)) policy result
         (see input.old output.old notes.old shelf.old) (see input.new output.new notes.new shelf.new) }
-    ensures unread { IfUnread (ReadsTable params.now (migrate_command keep_local)) (H.contents shelf.old)
+    ensures unread { IfUnread (AsksTables params.now surfaces.now (migrating local)) (H.contents shelf.old)
         (input.new ≡ input.old) }
 {
-    match read_table(alloc, params.as_str(), shelf) {
-        Ok(table) => {
+    match tables_named(alloc, params, surfaces, shelf) {
+        Ok(tables) => {
             let migrating = ByOutput(Migrating {
-                table: &table,
-                keep_local,
+                table: &tables.parameters,
+                surfaces: &tables.surfaces,
+                local,
             });
             serve_messages(&migrating, alloc, policy, input, output, notes, shelf)
         }
@@ -79,7 +83,7 @@ pub(crate) fn serve_migrated<S: Source, T: Sink, N: Sink, H: Shelf>(
     }
 }
 
-/// Reads the table under this name, and writes the messages of the input by it in edition 1.
+/// Reads the parameter table under this name, and writes the messages of the input by it in edition 1.
 pub(crate) fn serve_demoted<S: Source, T: Sink, N: Sink, H: Shelf>(
     alloc: Global,
     params: &Name,
@@ -93,15 +97,15 @@ pub(crate) fn serve_demoted<S: Source, T: Sink, N: Sink, H: Shelf>(
     shelf: &mut H,
 ) -> Outcome
     ensures serves { let see = seen S.left S.faults T.contents T.faults T.settled N.contents N.faults N.settled H.contents H.faults in
-        Serves (T.takes_memory || N.takes_memory) (ReadsTable params.now (demote_command matching keep_local any_earth)) policy result
+        Serves (T.takes_memory || N.takes_memory) (AsksTables params.now None (demoting matching keep_local any_earth)) policy result
         (see input.old output.old notes.old shelf.old) (see input.new output.new notes.new shelf.new) }
-    ensures unread { IfUnread (ReadsTable params.now (demote_command matching keep_local any_earth)) (H.contents shelf.old)
+    ensures unread { IfUnread (AsksTables params.now None (demoting matching keep_local any_earth)) (H.contents shelf.old)
         (input.new ≡ input.old) }
 {
-    match read_table(alloc, params.as_str(), shelf) {
-        Ok(table) => {
+    match tables_named(alloc, params, &None, shelf) {
+        Ok(tables) => {
             let demoting = ByOutput(Demoting {
-                table: &table,
+                table: &tables.parameters,
                 matching,
                 keep_local,
                 any_earth,
@@ -112,13 +116,31 @@ pub(crate) fn serve_demoted<S: Source, T: Sink, N: Sink, H: Shelf>(
     }
 }
 
-/// How a run ends that has no table to answer by.
-fn untabled(stop: TableStop) -> Outcome
+/// Reads the tables under these names.
+fn tables_named<H: Shelf>(
+    alloc: Global,
+    params: &Name,
+    surfaces: &Option<Name>,
+    shelf: &mut H,
+) -> Result<Tables, TablesStop>
+    ensures read { both.ReadsTables result (H.contents shelf.old) params.now surfaces.now }
+    ensures kept { Stays (H.contents shelf.old) (H.contents shelf.new) }
+    ensures counted { CountsTables result (H.faults shelf.old) (H.faults shelf.new) }
+{
+    match surfaces {
+        Some(surfaces) => read_tables(alloc, params.as_str(), Some(surfaces.as_str()), shelf),
+        None => read_tables(alloc, params.as_str(), None, shelf),
+    }
+}
+
+/// How a run ends that has no tables to answer by.
+fn untabled(stop: TablesStop) -> Outcome
     ensures { result ≡ outcome_untabled stop }
 {
     match stop {
-        TableStop::Refused(refusal) => Outcome::TableRefused(refusal),
-        TableStop::ShelfFault => Outcome::ShelfFault,
-        TableStop::Memory => Outcome::Memory,
+        TablesStop::Refused(refusal) => Outcome::TableRefused(refusal),
+        TablesStop::SurfacesRefused(refusal) => Outcome::SurfacesRefused(refusal),
+        TablesStop::ShelfFault => Outcome::ShelfFault,
+        TablesStop::Memory => Outcome::Memory,
     }
 }

@@ -24,9 +24,9 @@ use grib_stream::Outcome;
 use std::alloc::Global;
 
 /// Writes the answer to the job to `output`, and notes how the run ended. The answer is a function of the job, the
-/// input and, for `migrate` and `demote`, the table that stands on the shelf; it does not depend on how the input comes
+/// input and, for `migrate` and `demote`, the tables that stand on the shelf; it does not depend on how the input comes
 /// in pieces. The run ends at the first octets that are refused, and at the first message that is kept. `make` and the
-/// pages read no input. `split` puts fields on the shelf, `migrate` and `demote` read their table there before any
+/// pages read no input. `split` puts fields on the shelf, `migrate` and `demote` read their tables there before any
 /// input, and no other job uses the shelf. What is refused by `check` or `list` is refused in time.
 pub fn serve<S: Source, T: Sink, N: Sink, H: Shelf>(
     alloc: Global,
@@ -130,18 +130,13 @@ pub fn serve_under<S: Source, T: Sink, N: Sink, H: Shelf>(
             let cropping = ByOutput(Changing(Rescanning { edit }));
             serve_messages(&cropping, alloc, policy, input, output, notes, shelf)
         }
-        Job::Migrate { params, keep_local } => {
-            serve_migrated(
-                alloc,
-                params,
-                *keep_local,
-                policy,
-                input,
-                output,
-                notes,
-                shelf,
-            )
-        }
+        Job::Migrate {
+            params,
+            surfaces,
+            local,
+        } => serve_migrated(
+            alloc, params, surfaces, *local, policy, input, output, notes, shelf,
+        ),
         Job::Demote {
             params,
             keep_local,

@@ -128,6 +128,7 @@ unkept (outcomes.Usage word) is = refl
 unkept (outcomes.Refused refusal) is = refl
 unkept (outcomes.Kept kept) is = let no : ⊥ = cc in absurd no
 unkept (outcomes.TableRefused refusal) is = refl
+unkept (outcomes.SurfacesRefused refusal) is = refl
 unkept outcomes.ReadFault is = refl
 unkept outcomes.WriteFault is = refl
 unkept outcomes.ShelfFault is = refl

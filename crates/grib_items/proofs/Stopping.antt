@@ -3,7 +3,7 @@ use Rattle.std.proofs.Common.{◌≡◌, ◌≢◌, ℕ, Bool, true, false, cond
 use Rattle.grib_base.specs.declared.fault.Fault.{Fault}
 use Rattle.grib_reasons.specs.declared.cause.Kept.{Kept as KeptMessage}
 use Rattle.grib_stream.specs.declared.outcome.Outcome.{Outcome}
-use Rattle.grib_stream.specs.declared.outcome.Outcome.TheVariants.{Done as Finished, Passed, Usage, Refused, Kept, TableRefused, ReadFault, WriteFault, ShelfFault, Memory, InputTooLong}
+use Rattle.grib_stream.specs.declared.outcome.Outcome.TheVariants.{Done as Finished, Passed, Usage, Refused, Kept, TableRefused, SurfacesRefused, ReadFault, WriteFault, ShelfFault, Memory, InputTooLong}
 use Rattle.grib_stream.specs.declared.place.Place.{Place}
 use Rattle.grib_stream.specs.Stream.{Judgement, Message, Faulty}
 use Rattle.grib_stream.specs.Outcomes.{is_broken, is_truncated, is_of_message}
@@ -31,6 +31,7 @@ message_before_end (Usage word) is = refl
 message_before_end (Refused refusal) is = refl
 message_before_end (Kept kept) is = refl
 message_before_end (TableRefused refusal) is = refl
+message_before_end (SurfacesRefused refusal) is = refl
 message_before_end ReadFault is = refl
 message_before_end WriteFault is = refl
 message_before_end ShelfFault is = refl
@@ -45,6 +46,7 @@ broken_before_end (Usage word) is = refl
 broken_before_end (Refused refusal) is = refl
 broken_before_end (Kept kept) is = refl
 broken_before_end (TableRefused refusal) is = refl
+broken_before_end (SurfacesRefused refusal) is = refl
 broken_before_end ReadFault is = refl
 broken_before_end WriteFault is = refl
 broken_before_end ShelfFault is = refl

@@ -2,7 +2,7 @@
 use Rattle.std.specs.Prelude.{◌≡◌, ℕ, ◌+◌, ◌≤◌, ◌==◌, cond, ◌++◌, Bool, true, false, List, [], ◌∷◌, length, take, drop, Some, None, Ok, Err}
 use Rattle.std.specs.declared.result.Result.{Result}
 use Rattle.grib_stream.specs.declared.outcome.Outcome.{Outcome}
-use Rattle.grib_stream.specs.declared.outcome.Outcome.TheVariants.{Done, Passed, Usage, Refused as Refusal, Kept, TableRefused, ReadFault, WriteFault, ShelfFault, Memory, InputTooLong}
+use Rattle.grib_stream.specs.declared.outcome.Outcome.TheVariants.{Done, Passed, Usage, Refused as Refusal, Kept, TableRefused, SurfacesRefused, ReadFault, WriteFault, ShelfFault, Memory, InputTooLong}
 use Rattle.grib_stream.specs.declared.place.Place.{Place}
 use Rattle.grib_base.specs.Rows.{refusal}
 use Rattle.grib_base.specs.declared.fault.Reason.TheVariants.{Edition}
@@ -35,6 +35,7 @@ is_whole (Usage word) = false
 is_whole (Refusal refusal) = false
 is_whole (Kept kept) = false
 is_whole (TableRefused refusal) = false
+is_whole (SurfacesRefused refusal) = false
 is_whole ReadFault = false
 is_whole WriteFault = false
 is_whole ShelfFault = false

@@ -5,9 +5,11 @@ use Rattle.grib2_sections.specs.Head.{edition}
 use Rattle.grib_reasons.specs.declared.cause.Cause.{Cause}
 use Rattle.grib_reasons.specs.declared.cause.Cause.TheVariants.{EditionOne, Lost}
 use Rattle.grib_keys.specs.declared.condition.Condition.{Condition}
+use Rattle.grib_params.specs.Surfaces.{SurfaceEntries}
 use Rattle.grib_params.specs.Table.{Entries}
-use Rattle.grib_migrate.specs.Losses.{first_loss}
-use Rattle.grib_migrate.specs.Migrated.{migrated}
+use Rattle.grib_migrate.specs.declared.labels.Local.{Local}
+use Rattle.grib_migrate.specs.Losses.{first_loss_with}
+use Rattle.grib_migrate.specs.Migrated.{migrated_with}
 use Rattle.grib_stream.specs.declared.outcome.Outcome.{Outcome}
 use Rattle.grib_stream.specs.declared.place.Place.{Place}
 use Rattle.grib_stream.specs.Acts.{Act, writes}
@@ -57,12 +59,12 @@ whole_fixed octets = gives_fixed (writes octets) (length octets)
 pub filter_fixed : (conditions : List Condition) → Fixed (filter_command conditions)
 filter_fixed conditions = by_edition (filter_command conditions) (λ message. kept_fixed EditionOne) (λ message. whole_fixed (filtered conditions message))
 
-pub migrate_fixed : (keep : Bool) (table : Entries) → Fixed (migrate_command keep table)
-migrate_fixed keep table =
-    by_edition (migrate_command keep table)
+pub migrate_fixed : (local : Local) (table : Entries) (surfaces : SurfaceEntries) → Fixed (migrate_command local table surfaces)
+migrate_fixed local table surfaces =
+    by_edition (migrate_command local table surfaces)
     (λ message.
-    either_fixed (are_octets message) (λ place. given_unless (option_map Lost (first_loss table keep message)) place.message (migrated table keep message)) (λ place. Gives [] 0)
-    (unless_fixed (option_map Lost (first_loss table keep message)) (migrated table keep message)) (gives_fixed [] 0))
+    either_fixed (are_octets message) (λ place. given_unless (option_map Lost (first_loss_with table surfaces local message)) place.message (migrated_with table surfaces local message)) (λ place. Gives [] 0)
+    (unless_fixed (option_map Lost (first_loss_with table surfaces local message)) (migrated_with table surfaces local message)) (gives_fixed [] 0))
     whole_fixed
 
 pub demote_fixed : (matching : TableMatch) (keep any : Bool) (table : Entries) → Fixed (demote_command matching keep any table)

@@ -1,6 +1,5 @@
 -- The answer to an input whose messages are all in the grammar and all answered.
 use Rattle.std.proofs.Common.{◌≡◌, ℕ, suc, ◌+◌, ◌-◌, ◌^◌, ◌≤◌, ◌==◌, inl, inr, true, Some, None, List, [], ◌∷◌, ◌++◌, length, take, drop, All, refl, sym, ap, ◌∙◌, arith, length-append}
-use Rattle.std.specs.declared.option.Option.{Option}
 use Rattle.std.proofs.Math.Seq.{take-append_seam, drop-append_seam}
 use Rattle.std.proofs.lemmas.List.{take-append-le, drop_all}
 use Rattle.std.proofs.lemmas.List.Elements.{All-head, All-tail}
@@ -23,7 +22,8 @@ use Rattle.grib_command.specs.Judging.{judged, judge, fields_of}
 use Rattle.grib_dispatch.specs.Lawful.{least_message, message_stays}
 use Rattle.grib_command.specs.Pages.{text_of}
 use Rattle.grib_run_spec.specs.Tasks as tasks
-use Rattle.grib_run_spec.specs.Tasks.{Stated, Work, Reads, Makes, ReadsTable, work_of, made_answer, writing, answer_by, answer_with}
+use Rattle.grib_table.specs.Both.{Texts}
+use Rattle.grib_run_spec.specs.Tasks.{Stated, Work, Reads, Makes, ReadsTables, work_of, made_answer, writing, answer_by, answer_with}
 
 -- ---- one message
 
@@ -110,7 +110,7 @@ made_done (Repack target) stated is = let no : ⊥ = cc in absurd no
 made_done RepackLeast stated is = let no : ⊥ = cc in absurd no
 made_done Rescan stated is = let no : ⊥ = cc in absurd no
 made_done (Crop area) stated is = let no : ⊥ = cc in absurd no
-made_done (Migrate params keep_local) stated is = let no : ⊥ = cc in absurd no
+made_done (Migrate params surfaces local) stated is = let no : ⊥ = cc in absurd no
 made_done (Demote params keep_local any_earth matching) stated is = let no : ⊥ = cc in absurd no
 made_done (Make seed ni nj target) stated is =
     let same : made_answer seed ni nj target ≡ stated = cc in
@@ -119,13 +119,13 @@ made_done (Print page) stated is =
     let same : writing (text_of page) [] ≡ stated = cc in
     sym (ap (λ a. a.outcome) same)
 
-work_done : (work : Work) (text : Option (List ℕ)) (pieces : List Piece) (input : List ℕ) → ((stated : Stated) → work ≡ Makes stated → stated.outcome ≡ Done)
-    → length input ≤ 2 ^ 40 → IsMadeOf pieces input → HaveResults work text pieces → (tasks.answer_to work text input).outcome ≡ Done
-work_done (Reads command) text pieces input makes short made has = command_done command pieces input short made has
-work_done (Makes stated) text pieces input makes short made has = makes stated refl
-work_done (ReadsTable name commands) text pieces input makes short made (table, good, has) =
-    ap (λ t. (answer_by t commands input).outcome) good ∙ command_done (commands table) pieces input short made has
+work_done : (work : Work) (texts : Texts) (pieces : List Piece) (input : List ℕ) → ((stated : Stated) → work ≡ Makes stated → stated.outcome ≡ Done)
+    → length input ≤ 2 ^ 40 → IsMadeOf pieces input → HaveResults work texts pieces → (tasks.answer_to work texts input).outcome ≡ Done
+work_done (Reads command) texts pieces input makes short made has = command_done command pieces input short made has
+work_done (Makes stated) texts pieces input makes short made has = makes stated refl
+work_done (ReadsTables params surfaces commands) texts pieces input makes short made (tables, good, has) =
+    ap (λ t. (answer_by t commands input).outcome) good ∙ command_done (commands tables) pieces input short made has
 
-pub job_done : (job : Job) (text : Option (List ℕ)) (pieces : List Piece) (input : List ℕ) → length input ≤ 2 ^ 40 → IsMadeOf pieces input
-    → HaveResults (work_of job) text pieces → (answer_with job text input).outcome ≡ Done
-job_done job text pieces input short made has = work_done (work_of job) text pieces input (made_done job) short made has
+pub job_done : (job : Job) (texts : Texts) (pieces : List Piece) (input : List ℕ) → length input ≤ 2 ^ 40 → IsMadeOf pieces input
+    → HaveResults (work_of job) texts pieces → (answer_with job texts input).outcome ≡ Done
+job_done job texts pieces input short made has = work_done (work_of job) texts pieces input (made_done job) short made has

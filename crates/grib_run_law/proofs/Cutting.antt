@@ -2,7 +2,7 @@
 use Rattle.std.proofs.Common.{◌≡◌, ℕ, ◌^◌, ◌≤◌, Bool, true, Option, None, List, ◌++◌, length, sym, ap, ◌∙◌, arith, length-append}
 use Rattle.std.proofs.lemmas.Bool.{false≢true}
 use Rattle.grib_reasons.specs.declared.cause.Cause.{Cause}
-use Rattle.grib_table.specs.Tabled.{Tabled, Good, Refused, tabled}
+use Rattle.grib_table.specs.Both.{Both, BothGood, ParametersRefused, SurfacesRefused, Texts, both}
 use Rattle.grib_reorder.specs.declared.edit.GridEdit.TheVariants as edits
 use Rattle.grib_stream.specs.declared.outcome.Outcome.TheVariants.{Done}
 use Rattle.grib_stream.specs.Acts.{written}
@@ -21,15 +21,16 @@ use Rattle.grib_edit.specs.Filtering.{filter_command, filter_lawful}
 use Rattle.grib_command.specs.Jobs.{IsJob}
 use Rattle.grib_command.specs.Judging.{judge}
 use Rattle.grib_dispatch.specs.Lawful.{lawful}
-use Rattle.grib_edit.specs.Migrating.{migrate_command, migrate_lawful}
+use Rattle.grib_migrate.specs.declared.labels.Local.{Local}
+use Rattle.grib_edit.specs.Migrating.{migrate_lawful}
 use Rattle.grib_params.specs.declared.matching.TableMatch.{TableMatch}
-use Rattle.grib_edit.specs.Demoting.{demote_command, demote_lawful}
+use Rattle.grib_edit.specs.Demoting.{demote_lawful}
 use Rattle.grib_least.specs.Least.{least}
 use Rattle.grib_edit.specs.Least.{least_lawful}
 use Rattle.grib_edit.specs.Repacking.{repack_lawful}
 use Rattle.grib_edit.specs.Rescanning.{edit_lawful}
 use Rattle.grib_edit.specs.Setting.{set_lawful}
-use Rattle.grib_run_spec.specs.Tasks.{answer_by, answer_with}
+use Rattle.grib_run_spec.specs.Tasks.{answer_by, answer_with, demoting, migrating}
 
 -- ---- what is written of the parts
 
@@ -63,41 +64,45 @@ module _ (limit : ℕ) (front rest : List ℕ) (fits : length (front ++ rest) �
       → AsWritten (answer_within limit (task (changing_unless cause octets)))
   unless_parts cause octets law = written_parts (changing_unless cause octets) (lawful (changing_unless cause octets) law) (stands_alone (changing_unless cause octets) (changing_fixed cause octets))
 
--- a table that is refused ends the run before its input
-migrate_parts : (keep : Bool) (t : Tabled) (front rest : List ℕ) → length (front ++ rest) ≤ 2 ^ 40 → EndsAtMessage judge front
-    → (answer_by t (migrate_command keep) front).outcome ≡ Done
-    → WrittenAsParts (answer_by t (migrate_command keep) (front ++ rest)) (answer_by t (migrate_command keep) front) (answer_by t (migrate_command keep) rest)
+-- tables that are refused end the run before its input
+migrate_parts : (local : Local) (t : Both) (front rest : List ℕ) → length (front ++ rest) ≤ 2 ^ 40 → EndsAtMessage judge front
+    → (answer_by t (migrating local) front).outcome ≡ Done
+    → WrittenAsParts (answer_by t (migrating local) (front ++ rest)) (answer_by t (migrating local) front) (answer_by t (migrating local) rest)
     (message_count judge front)
-migrate_parts keep (Good table) front rest fits ends done =
-    written_parts (2 ^ 40) front rest fits ends (migrate_command keep table) (lawful (migrate_command keep table) (migrate_lawful keep table)) (stands_alone (migrate_command keep table) (migrate_fixed keep table)) done
-migrate_parts keep (Refused refusal) front rest fits ends done = let no : ⊥ = cc in absurd no
+migrate_parts local (BothGood tables) front rest fits ends done =
+    let command = migrating local tables in
+    written_parts (2 ^ 40) front rest fits ends command (lawful command (migrate_lawful local tables.parameters tables.surfaces)) (stands_alone command (migrate_fixed local tables.parameters tables.surfaces)) done
+migrate_parts local (ParametersRefused refusal) front rest fits ends done = let no : ⊥ = cc in absurd no
+migrate_parts local (SurfacesRefused refusal) front rest fits ends done = let no : ⊥ = cc in absurd no
 
-demote_parts : (matching : TableMatch) (keep any : Bool) (t : Tabled) (front rest : List ℕ) → length (front ++ rest) ≤ 2 ^ 40 → EndsAtMessage judge front
-    → (answer_by t (demote_command matching keep any) front).outcome ≡ Done
-    → WrittenAsParts (answer_by t (demote_command matching keep any) (front ++ rest)) (answer_by t (demote_command matching keep any) front) (answer_by t (demote_command matching keep any) rest)
+demote_parts : (matching : TableMatch) (keep any : Bool) (t : Both) (front rest : List ℕ) → length (front ++ rest) ≤ 2 ^ 40 → EndsAtMessage judge front
+    → (answer_by t (demoting matching keep any) front).outcome ≡ Done
+    → WrittenAsParts (answer_by t (demoting matching keep any) (front ++ rest)) (answer_by t (demoting matching keep any) front) (answer_by t (demoting matching keep any) rest)
     (message_count judge front)
-demote_parts matching keep any (Good table) front rest fits ends done =
-    written_parts (2 ^ 40) front rest fits ends (demote_command matching keep any table) (lawful (demote_command matching keep any table) (demote_lawful matching keep any table)) (stands_alone (demote_command matching keep any table) (demote_fixed matching keep any table)) done
-demote_parts matching keep any (Refused refusal) front rest fits ends done = let no : ⊥ = cc in absurd no
+demote_parts matching keep any (BothGood tables) front rest fits ends done =
+    let command = demoting matching keep any tables in
+    written_parts (2 ^ 40) front rest fits ends command (lawful command (demote_lawful matching keep any tables.parameters)) (stands_alone command (demote_fixed matching keep any tables.parameters)) done
+demote_parts matching keep any (ParametersRefused refusal) front rest fits ends done = let no : ⊥ = cc in absurd no
+demote_parts matching keep any (SurfacesRefused refusal) front rest fits ends done = let no : ⊥ = cc in absurd no
 
-pub job_parts : (job : Job) (text : Option (List ℕ)) (front rest : List ℕ) → IsJob job → writes_each job ≡ true → length (front ++ rest) ≤ 2 ^ 40 → EndsAtMessage judge front
-    → (answer_with job text front).outcome ≡ Done
-    → WrittenAsParts (answer_with job text (front ++ rest)) (answer_with job text front) (answer_with job text rest) (message_count judge front)
-job_parts (Filter conditions) text front rest is each fits ends done =
+pub job_parts : (job : Job) (texts : Texts) (front rest : List ℕ) → IsJob job → writes_each job ≡ true → length (front ++ rest) ≤ 2 ^ 40 → EndsAtMessage judge front
+    → (answer_with job texts front).outcome ≡ Done
+    → WrittenAsParts (answer_with job texts (front ++ rest)) (answer_with job texts front) (answer_with job texts rest) (message_count judge front)
+job_parts (Filter conditions) texts front rest is each fits ends done =
     written_parts (2 ^ 40) front rest fits ends (filter_command conditions) (lawful (filter_command conditions) (filter_lawful conditions)) (stands_alone (filter_command conditions) (filter_fixed conditions)) done
-job_parts (Set changes) text front rest is each fits ends done =
+job_parts (Set changes) texts front rest is each fits ends done =
     unless_parts (2 ^ 40) front rest fits ends _ _ (set_lawful changes is.changes_stand) done
-job_parts (Repack target) text front rest is each fits ends done = unless_parts (2 ^ 40) front rest fits ends _ _ (repack_lawful target) done
-job_parts RepackLeast text front rest is each fits ends done = unless_parts (2 ^ 40) front rest fits ends (λ message. None) least least_lawful done
-job_parts Rescan text front rest is each fits ends done = unless_parts (2 ^ 40) front rest fits ends _ _ (edit_lawful edits.Rescan) done
-job_parts (Crop area) text front rest is each fits ends done = unless_parts (2 ^ 40) front rest fits ends _ _ (edit_lawful (edits.Crop area)) done
-job_parts (Migrate params keep_local) text front rest is each fits ends done = migrate_parts keep_local (tabled text) front rest fits ends done
-job_parts (Demote params keep_local any_earth matching) text front rest is each fits ends done = demote_parts matching keep_local any_earth (tabled text) front rest fits ends done
-job_parts Check text front rest is each fits ends done = absurd (false≢true each)
-job_parts Listing text front rest is each fits ends done = absurd (false≢true each)
-job_parts Keys text front rest is each fits ends done = absurd (false≢true each)
-job_parts Stats text front rest is each fits ends done = absurd (false≢true each)
-job_parts (Dump decimals) text front rest is each fits ends done = absurd (false≢true each)
-job_parts (Split name) text front rest is each fits ends done = absurd (false≢true each)
-job_parts (Make seed ni nj target) text front rest is each fits ends done = absurd (false≢true each)
-job_parts (Print page) text front rest is each fits ends done = absurd (false≢true each)
+job_parts (Repack target) texts front rest is each fits ends done = unless_parts (2 ^ 40) front rest fits ends _ _ (repack_lawful target) done
+job_parts RepackLeast texts front rest is each fits ends done = unless_parts (2 ^ 40) front rest fits ends (λ message. None) least least_lawful done
+job_parts Rescan texts front rest is each fits ends done = unless_parts (2 ^ 40) front rest fits ends _ _ (edit_lawful edits.Rescan) done
+job_parts (Crop area) texts front rest is each fits ends done = unless_parts (2 ^ 40) front rest fits ends _ _ (edit_lawful (edits.Crop area)) done
+job_parts (Migrate params surfaces local) texts front rest is each fits ends done = migrate_parts local (both surfaces texts) front rest fits ends done
+job_parts (Demote params keep_local any_earth matching) texts front rest is each fits ends done = demote_parts matching keep_local any_earth (both None texts) front rest fits ends done
+job_parts Check texts front rest is each fits ends done = absurd (false≢true each)
+job_parts Listing texts front rest is each fits ends done = absurd (false≢true each)
+job_parts Keys texts front rest is each fits ends done = absurd (false≢true each)
+job_parts Stats texts front rest is each fits ends done = absurd (false≢true each)
+job_parts (Dump decimals) texts front rest is each fits ends done = absurd (false≢true each)
+job_parts (Split name) texts front rest is each fits ends done = absurd (false≢true each)
+job_parts (Make seed ni nj target) texts front rest is each fits ends done = absurd (false≢true each)
+job_parts (Print page) texts front rest is each fits ends done = absurd (false≢true each)

@@ -16,11 +16,13 @@ use Rattle.grib2_sections.specs.Head.{edition}
 use Rattle.grib2_message.specs.Message.{IsMessage}
 use Rattle.grib2_message.specs.Fields.{field_count}
 use Rattle.grib_packing.specs.Written.{IsTarget}
+use Rattle.grib_params.specs.Surfaces.{SurfaceEntries}
 use Rattle.grib_params.specs.Table.{Entries}
-use Rattle.grib_migrate.specs.Losses.{first_loss}
-use Rattle.grib_migrate.specs.Migrated.{migrated}
-use Rattle.grib_migrate_law.specs.Source.{MayBeMigrated}
-use Rattle.grib_migrate_law.proofs.Migrated.{migrated_is_message, migrated_one_field, migrated_meaning}
+use Rattle.grib_migrate.specs.declared.labels.Local.{Local}
+use Rattle.grib_migrate.specs.Losses.{first_loss_with}
+use Rattle.grib_migrate.specs.Migrated.{migrated_with}
+use Rattle.grib_migrate_law.specs.Source.{MayBeMigratedWith}
+use Rattle.grib_migrate_law.proofs.Migrated.{chosen_is_message, chosen_one_field, chosen_meaning}
 use Rattle.grib_repack.specs.declared.target.RepackTarget.{RepackTarget}
 use Rattle.grib_repack.specs.Faults.{target_of}
 use Rattle.grib_repack.specs.Repacked.{MayBeRepacked, repacked, repack_misfit}
@@ -90,12 +92,12 @@ are_small [] all = refl
 are_small (x ∷ xs) all =
     ap (λ b. b && are_octets xs) (lt-ltb x 256 (All-head (λ octet. octet < 256) x xs all)) ∙ are_small xs (All-tail (λ octet. octet < 256) x xs all)
 
-module _ (keep : Bool) (table : Entries) where
-  own_first : (message : List ℕ) → (edition message == 1) ≡ true → MayBeMigrated table keep message → SameMigrated message (migrated table keep message)
+module _ (local : Local) (table : Entries) (surfaces : SurfaceEntries) where
+  own_first : (message : List ℕ) → (edition message == 1) ≡ true → MayBeMigratedWith table surfaces local message → SameMigrated message (migrated_with table surfaces local message)
   own_first message one may = record {
-    accepted = migrated_is_message table keep message may;
-    one_field = λ e. migrated_one_field table keep message may;
-    points = λ e. migrated_meaning table keep message may;
+    accepted = chosen_is_message table surfaces local message may;
+    one_field = λ e. chosen_one_field table surfaces local message may;
+    points = λ e. chosen_meaning table surfaces local message may;
     copied = λ other. absurd (other (eqb-true (edition message) 1 one));
   }
 
@@ -105,22 +107,22 @@ module _ (keep : Bool) (table : Entries) where
       record { accepted = accepted; one_field = λ e. absurd (never e); points = λ e. absurd (never e); copied = λ other. refl }
 
   migrate_first : (b : Bool) (m : ℕ) (found : Found) (acts : List Act) (more : ℕ) → IsAccepted found → All (λ octet. octet < 256) found.octets → (edition found.octets == 1) ≡ true → b ≡ true
-      → choose b (λ _. given_unless (option_map Lost (first_loss table keep found.octets)) m (migrated table keep found.octets)) (λ _. Gives [] 0) ≡ Gives acts more
+      → choose b (λ _. given_unless (option_map Lost (first_loss_with table surfaces local found.octets)) m (migrated_with table surfaces local found.octets)) (λ _. Gives [] 0) ≡ Gives acts more
       → SameMigrated found.octets (written acts)
   migrate_first false m found acts more accepted small one are is = let no : ⊥ = cc in absurd no
   migrate_first true m found acts more accepted small one are is =
-      let (none, same) = unless_wrote (option_map Lost (first_loss table keep found.octets)) m (migrated table keep found.octets) acts more is in
+      let (none, same) = unless_wrote (option_map Lost (first_loss_with table surfaces local found.octets)) m (migrated_with table surfaces local found.octets) acts more is in
       subst (SameMigrated found.octets) same
-      (own_first found.octets one (record { accepted = accepted.first one; small = small; kept = unmapped Lost (first_loss table keep found.octets) none }))
+      (own_first found.octets one (record { accepted = accepted.first one; small = small; kept = unmapped Lost (first_loss_with table surfaces local found.octets) none }))
 
   migrate_by : (b : Bool) (place : Place) (found : Found) (acts : List Act) (more : ℕ) → IsAccepted found → (edition found.octets == 1) ≡ b
-      → choose b (λ _. (migrate_command keep table).first place found.octets) (λ _. (migrate_command keep table).second place found.octets) ≡ Gives acts more
+      → choose b (λ _. (migrate_command local table surfaces).first place found.octets) (λ _. (migrate_command local table surfaces).second place found.octets) ≡ Gives acts more
       → IfOctets SameMigrated found.octets (written acts)
   migrate_by true place found acts more accepted one is = λ small. migrate_first (are_octets found.octets) place.message found acts more accepted small one (are_small found.octets small) is
   migrate_by false place found acts more accepted not_one is = λ small.
       subst (SameMigrated found.octets) (wrote found.octets _ acts more is) (own_other found.octets not_one (accepted.second not_one))
 
-  pub migrate_each : WritesEach (IfOctets SameMigrated) (migrate_command keep table)
+  pub migrate_each : WritesEach (IfOctets SameMigrated) (migrate_command local table surfaces)
   migrate_each place found acts more accepted is = migrate_by (edition found.octets == 1) place found acts more accepted refl is
 
 -- ---- `set`

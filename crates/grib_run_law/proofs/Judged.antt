@@ -8,9 +8,8 @@ use Rattle.grib_base.specs.declared.fault.Refusal.{Refusal}
 use Rattle.grib_reasons.specs.declared.cause.Cause.{Cause}
 use Rattle.grib_reasons.specs.declared.cause.Kept.{Kept}
 use Rattle.grib2_sections.specs.Head.{edition}
-use Rattle.grib_params.specs.Table.{Entries}
-use Rattle.grib_table.specs.Tabled.{Tabled, Good}
-use Rattle.grib_table.specs.Tabled as tables
+use Rattle.grib_table.specs.declared.both.Tables.{Tables}
+use Rattle.grib_table.specs.Both.{Both, BothGood, ParametersRefused, SurfacesRefused}
 use Rattle.grib_least.specs.Least.{least}
 use Rattle.grib_reorder.specs.declared.edit.GridEdit.TheVariants as edits
 use Rattle.grib_stream.specs.declared.outcome.Outcome.{Outcome}
@@ -49,7 +48,7 @@ use Rattle.grib_edit.specs.Demoting.{demote_command}
 use Rattle.grib_run_spec.specs.Seen.{Seen}
 use Rattle.grib_run_spec.specs.Serving.{Gives as RunGives, Reading, AtOnce, AnswersWork}
 use Rattle.grib_run_spec.specs.Stated.{IfTabled, outcome_by, stated_to}
-use Rattle.grib_run_spec.specs.Tasks.{Stated, Work, Reads, Makes, ReadsTable, work_of}
+use Rattle.grib_run_spec.specs.Tasks.{Stated, Work, Reads, Makes, ReadsTables, work_of}
 use Rattle.grib_run_law.specs.Answered.{is_longer, items_of, items_answered}
 use Rattle.grib_run_law.specs.Judged.{IsRefused, messages_of, NamesRow, Judges}
 use Rattle.grib_run_law.proofs.Accepting.{ItemsStand, is_refused, judged_all}
@@ -89,7 +88,7 @@ by_edition command first second place message =
 abbrev NeverWork : Work → Type 0
 NeverWork (Reads command) = NeverRefuses command
 NeverWork (Makes stated) = is_refusal stated.outcome ≡ false
-NeverWork (ReadsTable name commands) = (table : Entries) → NeverRefuses (commands table)
+NeverWork (ReadsTables params surfaces commands) = (tables : Tables) → NeverRefuses (commands tables)
 
 job_never : (job : Job) → NeverWork (work_of job)
 job_never Check = by_edition check_command (λ place message. gives_never _ _) (λ place message. gives_never _ _)
@@ -105,9 +104,9 @@ job_never (Repack target) = by_edition (repack_command target) (λ place message
 job_never RepackLeast = by_edition least_command (λ place message. kept_never _ _) (λ place message. unless_never None place.message (least message))
 job_never Rescan = by_edition (edit_command edits.Rescan) (λ place message. kept_never _ _) (λ place message. unless_never _ _ _)
 job_never (Crop area) = by_edition (edit_command (edits.Crop area)) (λ place message. kept_never _ _) (λ place message. unless_never _ _ _)
-job_never (Migrate params keep) = λ table.
-    by_edition (migrate_command keep table) (λ place message. either_never (are_octets message) _ _ (unless_never _ _ _) (gives_never _ _)) (λ place message. gives_never _ _)
-job_never (Demote params keep any_earth matching) = λ table. by_edition (demote_command matching keep any_earth table) (λ place message. gives_never _ _) (λ place message. unless_never _ _ _)
+job_never (Migrate params surfaces local) = λ tables.
+    by_edition (migrate_command local tables.parameters tables.surfaces) (λ place message. either_never (are_octets message) _ _ (unless_never _ _ _) (gives_never _ _)) (λ place message. gives_never _ _)
+job_never (Demote params keep any_earth matching) = λ tables. by_edition (demote_command matching keep any_earth tables.parameters) (λ place message. gives_never _ _) (λ place message. unless_never _ _ _)
 job_never (Make seed ni nj target) = refl
 job_never (Print page) = refl
 
@@ -288,15 +287,16 @@ module _ (stand : ItemsStand) where
       of_some (Judges policy outcome) before.left
       (λ input. judges policy outcome input (λ refusal is. absurd (false≢true (sym never ∙ ap is_refusal (sym (once.gives.ends (ap is_broken is)) ∙ is)))))
 
-  tabled_judges : (policy : Policy) (outcome : Outcome) (before now : Seen) (commands : Entries → Command) → ((table : Entries) → NeverRefuses (commands table)) → (t : Tabled)
+  tabled_judges : (policy : Policy) (outcome : Outcome) (before now : Seen) (commands : Tables → Command) → ((tables : Tables) → NeverRefuses (commands tables)) → (t : Both)
       → IfTabled commands (Reading policy outcome before now) (AtOnce outcome before now) t → IfSome before.left (Judges policy outcome)
-  tabled_judges policy outcome before now commands never (Good table) answers = reading_judges policy outcome before now (commands table) (never table) answers
-  tabled_judges policy outcome before now commands never (tables.Refused refusal) answers = at_once_judges policy outcome before now _ refl answers
+  tabled_judges policy outcome before now commands never (BothGood tables) answers = reading_judges policy outcome before now (commands tables) (never tables) answers
+  tabled_judges policy outcome before now commands never (ParametersRefused refusal) answers = at_once_judges policy outcome before now _ refl answers
+  tabled_judges policy outcome before now commands never (SurfacesRefused refusal) answers = at_once_judges policy outcome before now _ refl answers
 
   work_judges : (work : Work) → NeverWork work → (policy : Policy) (outcome : Outcome) (before now : Seen) → AnswersWork work policy outcome before now → IfSome before.left (Judges policy outcome)
   work_judges (Reads command) never policy outcome before now answers = reading_judges policy outcome before now command never answers
   work_judges (Makes stated) never policy outcome before now answers = at_once_judges policy outcome before now stated never answers
-  work_judges (ReadsTable name commands) never policy outcome before now (text, stood, answers) = tabled_judges policy outcome before now commands never _ answers
+  work_judges (ReadsTables params surfaces commands) never policy outcome before now (texts, stood, answers) = tabled_judges policy outcome before now commands never _ answers
 
   pub job_judges : (job : Job) (policy : Policy) (outcome : Outcome) (before now : Seen) → AnswersWork (work_of job) policy outcome before now → IfSome before.left (Judges policy outcome)
   job_judges job policy outcome before now answers = work_judges (work_of job) (job_never job) policy outcome before now answers

@@ -8,7 +8,9 @@ use Rattle.grib_base.specs.Rows.{choose}
 use Rattle.grib_keys.specs.declared.condition.Condition.{Condition}
 use Rattle.grib_params.specs.Table.{Entries}
 use Rattle.grib_repack.specs.declared.target.RepackTarget.{RepackTarget}
-use Rattle.grib_table.specs.Tabled.{Tabled, Good, Refused}
+use Rattle.grib_migrate.specs.declared.labels.Local.{Local}
+use Rattle.grib_params.specs.Surfaces.{SurfaceEntries}
+use Rattle.grib_table.specs.Both.{Both, BothGood, ParametersRefused, SurfacesRefused}
 use Rattle.grib_stream.specs.declared.outcome.Outcome.{Outcome}
 use Rattle.grib_stream.specs.declared.outcome.Outcome.TheVariants.{InputTooLong}
 use Rattle.grib_stream.specs.Acts.{written, Did, DidFront}
@@ -29,7 +31,7 @@ use Rattle.grib_edit.specs.Splitting.{split_command}
 use Rattle.grib_run_spec.specs.Seen.{Seen, world_of}
 use Rattle.grib_run_spec.specs.Serving.{Gives, Reading, AtOnce, AnswersWork}
 use Rattle.grib_run_spec.specs.Stated.{IfTabled, plan_by, stated_by, stated_to}
-use Rattle.grib_run_spec.specs.Tasks.{work_of}
+use Rattle.grib_run_spec.specs.Tasks.{migrating, work_of}
 use Rattle.grib_run_law.specs.Answered.{is_longer, items_answered, items_of}
 use Rattle.grib_run_law.specs.Leaving.{AppendsItems, LeavesItems, IfGood, Leaves}
 use Rattle.grib_run_law.specs.Same.{SameValues, SameMigrated, SetsKeys, IsFiltered, AreOctets, IfOctets}
@@ -138,19 +140,20 @@ leaves_names out policy outcome before now reading = record {
 
 -- ---- a job
 
-module _ (stand : ItemsStand) (repacked : (target : RepackTarget) (policy : Policy) (more : Bool) (octets : List ℕ) → is_target target ≡ true → Writes (IfOctets SameValues) (repack_command target) policy more octets) (migrated : (keep : Bool) (table : Entries) (policy : Policy) (more : Bool) (octets : List ℕ) → Writes (IfOctets SameMigrated) (migrate_command keep table) policy more octets) (set : (changes : List Condition) (policy : Policy) (more : Bool) (octets : List ℕ) → CanChange changes → Writes (SetsKeys changes) (set_command changes) policy more octets) (filtered : (conditions : List Condition) (policy : Policy) (more : Bool) (octets : List ℕ) → Writes (IsFiltered conditions) (filter_command conditions) policy more octets) where
+module _ (stand : ItemsStand) (repacked : (target : RepackTarget) (policy : Policy) (more : Bool) (octets : List ℕ) → is_target target ≡ true → Writes (IfOctets SameValues) (repack_command target) policy more octets) (migrated : (local : Local) (table : Entries) (surfaces : SurfaceEntries) (policy : Policy) (more : Bool) (octets : List ℕ) → Writes (IfOctets SameMigrated) (migrate_command local table surfaces) policy more octets) (set : (changes : List Condition) (policy : Policy) (more : Bool) (octets : List ℕ) → CanChange changes → Writes (SetsKeys changes) (set_command changes) policy more octets) (filtered : (conditions : List Condition) (policy : Policy) (more : Bool) (octets : List ℕ) → Writes (IsFiltered conditions) (filter_command conditions) policy more octets) where
   of_octets : (Is : List ℕ → List ℕ → Type 0) (command : Command) (policy : Policy) (more : Bool) (octets : List ℕ) → AreOctets octets → Writes (IfOctets Is) command policy more octets
       → Writes Is command policy more octets
   of_octets Is command policy more octets small wrote =
       writes_octets Is command policy more octets (octets_all more octets small (items_of policy more octets).items (stand policy more octets)) wrote
 
-  tabled : (keep : Bool) (policy : Policy) (outcome : Outcome) (before now : Seen) (t : Tabled)
-      → IfTabled (migrate_command keep) (Reading policy outcome before now) (AtOnce outcome before now) t → is_broken outcome ≡ false
-      → IfGood (λ table. LeavesItems (IfOctets SameMigrated) SameMigrated (migrate_command keep table) policy outcome before now) t
-  tabled keep policy outcome before now (Good table) reading unbroken =
-      leaves (IfOctets SameMigrated) SameMigrated (migrate_command keep table) policy outcome before now (migrated keep table policy) (of_octets SameMigrated (migrate_command keep table) policy)
-      reading unbroken
-  tabled keep policy outcome before now (Refused refusal) once unbroken = tt
+  tabled : (local : Local) (policy : Policy) (outcome : Outcome) (before now : Seen) (t : Both)
+      → IfTabled (migrating local) (Reading policy outcome before now) (AtOnce outcome before now) t → is_broken outcome ≡ false
+      → IfGood (λ tables. LeavesItems (IfOctets SameMigrated) SameMigrated (migrating local tables) policy outcome before now) t
+  tabled local policy outcome before now (BothGood tables) reading unbroken =
+      leaves (IfOctets SameMigrated) SameMigrated (migrating local tables) policy outcome before now (migrated local tables.parameters tables.surfaces policy)
+      (of_octets SameMigrated (migrating local tables) policy) reading unbroken
+  tabled local policy outcome before now (ParametersRefused refusal) once unbroken = tt
+  tabled local policy outcome before now (SurfacesRefused refusal) once unbroken = tt
 
   pub job_leaves : (job : Job) (policy : Policy) (outcome : Outcome) (before now : Seen) → IsJob job → AnswersWork (work_of job) policy outcome before now → Leaves job policy outcome before now
   job_leaves Check policy outcome before now is answers = tt
@@ -170,8 +173,8 @@ module _ (stand : ItemsStand) (repacked : (target : RepackTarget) (policy : Poli
   job_leaves RepackLeast policy outcome before now is answers = tt
   job_leaves Rescan policy outcome before now is answers = tt
   job_leaves (Crop area) policy outcome before now is answers = tt
-  job_leaves (Migrate params keep) policy outcome before now is (text, stood, answers) = λ unbroken.
-      (text, stood, tabled keep policy outcome before now _ answers unbroken)
+  job_leaves (Migrate params surfaces local) policy outcome before now is (texts, stood, answers) = λ unbroken.
+      (texts, stood, tabled local policy outcome before now _ answers unbroken)
   job_leaves (Demote params keep any_earth matching) policy outcome before now is answers = tt
   job_leaves (Make seed ni nj target) policy outcome before now is answers = tt
   job_leaves (Print page) policy outcome before now is answers = tt

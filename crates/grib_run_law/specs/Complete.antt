@@ -1,12 +1,11 @@
 -- Inputs whose messages are all in the grammar and all answered.
 use Rattle.std.specs.Prelude.{◌≡◌, ◌⊎◌, ℕ, List, [], ◌∷◌, ◌++◌, length, All}
-use Rattle.std.specs.declared.option.Option.{Option}
 use Rattle.grib1_sections.specs.Message.{IsMessage1}
 use Rattle.grib2_message.specs.Message.{IsMessage}
-use Rattle.grib_params.specs.Table.{Entries}
-use Rattle.grib_table.specs.Tabled.{Good, tabled}
+use Rattle.grib_table.specs.declared.both.Tables.{Tables}
+use Rattle.grib_table.specs.Both.{BothGood, Texts, both}
 use Rattle.grib_stream.specs.Searching.{Markless}
-use Rattle.grib_run_spec.specs.Tasks.{Work, Reads, Makes, ReadsTable}
+use Rattle.grib_run_spec.specs.Tasks.{Work, Reads, Makes, ReadsTables}
 use Rattle.grib_run_law.specs.Written.{HasResult}
 
 -- a message, and the octets before it
@@ -24,9 +23,9 @@ IsMadeOf [] input = Markless (length input) input
 IsMadeOf (piece ∷ pieces) input =
     (rest : List ℕ) × (input ≡ piece.between ++ (piece.message ++ rest)) × Markless (length piece.between) input × IsInGrammar piece.message × IsMadeOf pieces rest
 
--- each message has a result, by the table where one is read, which is good
-abbrev pub HaveResults : Work → Option (List ℕ) → List Piece → Type 0
-HaveResults (Reads command) text pieces = All (λ piece. HasResult command piece.message) pieces
-HaveResults (Makes stated) text pieces = Unit {0}
-HaveResults (ReadsTable name commands) text pieces =
-    (table : Entries) × (tabled text ≡ Good table) × All (λ piece. HasResult (commands table) piece.message) pieces
+-- each message has a result, by the tables where they are read, which are good
+abbrev pub HaveResults : Work → Texts → List Piece → Type 0
+HaveResults (Reads command) texts pieces = All (λ piece. HasResult command piece.message) pieces
+HaveResults (Makes stated) texts pieces = Unit {0}
+HaveResults (ReadsTables params surfaces commands) texts pieces =
+    (tables : Tables) × (both surfaces texts ≡ BothGood tables) × All (λ piece. HasResult (commands tables) piece.message) pieces

@@ -10,6 +10,6 @@ writes_each (Repack target) = true
 writes_each RepackLeast = true
 writes_each Rescan = true
 writes_each (Crop area) = true
-writes_each (Migrate params keep_local) = true
+writes_each (Migrate params surfaces local) = true
 writes_each (Demote params keep_local any_earth matching) = true
 writes_each job = false

@@ -1,8 +1,8 @@
 -- What a run leaves, in the sentences of its users. Of a device that does not tell what it holds, nothing is said.
 use Rattle.std.specs.Prelude.{◌≡◌, ℕ, ◌^◌, ◌≤◌, true, false, List, length, IfSome}
 use Rattle.std.specs.Io.KnownBytes.{Appends}
-use Rattle.grib_params.specs.Table.{Entries}
-use Rattle.grib_table.specs.Tabled.{Tabled, Good, Refused}
+use Rattle.grib_table.specs.declared.both.Tables.{Tables}
+use Rattle.grib_table.specs.Both.{Both, BothGood, ParametersRefused, SurfacesRefused}
 use Rattle.grib_stream.specs.declared.outcome.Outcome.{Outcome}
 use Rattle.grib_stream.specs.Outcomes.{is_broken}
 use Rattle.grib_items.specs.declared.policy.Policy.{Policy}
@@ -11,11 +11,11 @@ use Rattle.grib_command.specs.declared.job.Job.{Job}
 use Rattle.grib_command.specs.declared.job.Job.TheVariants.{Filter, Split, Set, Repack, Migrate}
 use Rattle.grib_command.specs.Command.{Command}
 use Rattle.grib_edit.specs.Filtering.{filter_command}
-use Rattle.grib_edit.specs.Migrating.{migrate_command}
 use Rattle.grib_edit.specs.Repacking.{repack_command}
 use Rattle.grib_edit.specs.Setting.{set_command}
 use Rattle.grib_run_spec.specs.Seen.{Seen}
-use Rattle.grib_run_spec.specs.Stated.{ByTable}
+use Rattle.grib_run_spec.specs.Stated.{ByTables}
+use Rattle.grib_run_spec.specs.Tasks.{migrating}
 use Rattle.grib_run_law.specs.Answered.{items_answered, OfTaken}
 use Rattle.grib_run_law.specs.Same.{SameValues, SameMigrated, SetsKeys, IsFiltered, IfOctets}
 use Rattle.grib_run_law.specs.Shelved.{LeavesNames}
@@ -35,10 +35,11 @@ pub record LeavesItems (Told Is : List ℕ → List ℕ → Type 0) (command : C
   pub left : IfSome before.left (AppendsItems Told command policy outcome before now)
   pub taken : OfTaken before now (AppendsItems Is command policy outcome before now)
 
--- what holds by a table that is good
-abbrev pub IfGood : (Entries → Type 0) → Tabled → Type 0
-IfGood P (Good table) = P table
-IfGood P (Refused refusal) = Unit {0}
+-- what holds by tables that are good
+abbrev pub IfGood : (Tables → Type 0) → Both → Type 0
+IfGood P (BothGood tables) = P tables
+IfGood P (ParametersRefused refusal) = Unit {0}
+IfGood P (SurfacesRefused refusal) = Unit {0}
 
 -- What is written for messages where neither a device nor memory ended the run, and for `split` what stands on the shelf,
 -- however it ended. `repack` and `migrate` read numbers: by what an input tells this is said of messages whose octets are
@@ -53,9 +54,9 @@ Leaves (Set changes) policy outcome before now =
 Leaves (Repack target) policy outcome before now =
     is_broken outcome ≡ false
     → LeavesItems (IfOctets SameValues) SameValues (repack_command target) policy outcome before now
-Leaves (Migrate params keep_local) policy outcome before now =
+Leaves (Migrate params surfaces local) policy outcome before now =
     is_broken outcome ≡ false
-    → ByTable before.names params
-    (IfGood (λ table. LeavesItems (IfOctets SameMigrated) SameMigrated (migrate_command keep_local table) policy outcome before now))
+    → ByTables before.names params surfaces
+    (IfGood (λ tables. LeavesItems (IfOctets SameMigrated) SameMigrated (migrating local tables) policy outcome before now))
 Leaves (Split out) policy outcome before now = LeavesNames out policy outcome before now
 Leaves job policy outcome before now = Unit {0}

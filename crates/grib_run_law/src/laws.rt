@@ -1,10 +1,12 @@
 //! Laws over the definitions.
 
 ghost use Rattle.std.specs.Prelude.{◌≡◌, ◌<◌, ◌≤◌, ◌++◌, ◌^◌, ℕ, Bool, true, IfSome, List, length};
-ghost use Rattle.std.specs.declared.option.Option.{Option};
 ghost use Rattle.grib_keys.specs.declared.condition.Condition.{Condition};
+ghost use Rattle.grib_migrate.specs.declared.labels.Local.{Local};
+ghost use Rattle.grib_params.specs.Surfaces.{SurfaceEntries};
 ghost use Rattle.grib_params.specs.Table.{Entries};
 ghost use Rattle.grib_repack.specs.declared.target.RepackTarget.{RepackTarget};
+ghost use Rattle.grib_table.specs.Both.{Texts};
 ghost use Rattle.grib_stream.specs.declared.outcome.Outcome.{Outcome};
 ghost use Rattle.grib_stream.specs.declared.outcome.Outcome.TheVariants.{Done};
 ghost use Rattle.grib_stream.specs.Acts.{World, written, Did, DidFront};
@@ -49,10 +51,10 @@ pub fn what_is_repacked_keeps_each_value()
     what_is_packed_anew_keeps_each_value();
 }
 
-/// What `migrate` writes, by a table, is so a message of edition 2 whose points mean the same.
+/// What `migrate` writes, by a parameter table, a table of surfaces and what is chosen of local use, is so a message of edition 2 whose points mean the same.
 pub fn what_is_migrated_keeps_each_value()
-    ensures { (keep_local : Bool) (table : Entries) (policy : Policy) (more : Bool) (octets : List ℕ)
-        → Writes (IfOctets SameMigrated) (migrate_command keep_local table) policy more octets }
+    ensures { (local : Local) (table : Entries) (surfaces : SurfaceEntries) (policy : Policy) (more : Bool) (octets : List ℕ)
+        → Writes (IfOctets SameMigrated) (migrate_command local table surfaces) policy more octets }
 {
     items_stand();
 }
@@ -133,25 +135,25 @@ pub fn what_passes_nothing_answers_a_stream()
 
 /// Where an input is cut at the end of one of its messages, and all messages before it are answered, then `filter`,
 /// `set`, `repack`, `rescan`, `crop`, `migrate` and `demote` write of the whole what they write of the parts, one
-/// after the other, whatever stands on the shelf under the name of the table. The whole ends as the second part
+/// after the other, whatever stands on the shelf under the names of the tables. The whole ends as the second part
 /// does, up to the numbers of messages. Nothing is passed.
 pub fn parts_are_written_one_after_the_other()
-    ensures octets { (job : Job) (text : Option (List ℕ)) (front rest : List ℕ) → IsJob job → writes_each job ≡ true
+    ensures octets { (job : Job) (texts : Texts) (front rest : List ℕ) → IsJob job → writes_each job ≡ true
         → length (front ++ rest) ≤ 2 ^ 40 → EndsAtMessage judge front
-        → (answer_with job text front).outcome ≡ Done
-        → written (answer_with job text (front ++ rest)).acts
-        ≡ written (answer_with job text front).acts ++ written (answer_with job text rest).acts }
-    ensures outcome { (job : Job) (text : Option (List ℕ)) (front rest : List ℕ) → IsJob job → writes_each job ≡ true
+        → (answer_with job texts front).outcome ≡ Done
+        → written (answer_with job texts (front ++ rest)).acts
+        ≡ written (answer_with job texts front).acts ++ written (answer_with job texts rest).acts }
+    ensures outcome { (job : Job) (texts : Texts) (front rest : List ℕ) → IsJob job → writes_each job ≡ true
         → length (front ++ rest) ≤ 2 ^ 40 → EndsAtMessage judge front
-        → (answer_with job text front).outcome ≡ Done
-        → (answer_with job text (front ++ rest)).outcome
-        ≡ later_by (message_count judge front) (answer_with job text rest).outcome }
+        → (answer_with job texts front).outcome ≡ Done
+        → (answer_with job texts (front ++ rest)).outcome
+        ≡ later_by (message_count judge front) (answer_with job texts rest).outcome }
 {}
 
 /// Where an input of at most 2 ^ 40 octets consists of messages of the grammar, with octets between them in which
-/// none begins, where no cause keeps any of them, and where the table, if the job reads one, is good, the run is
+/// none begins, where no cause keeps any of them, and where the tables, if the job reads any, are good, the run is
 /// done.
 pub fn what_can_be_answered_is_done()
-    ensures { (job : Job) (text : Option (List ℕ)) (pieces : List Piece) (input : List ℕ) → length input ≤ 2 ^ 40
-        → IsMadeOf pieces input → HaveResults (work_of job) text pieces → (answer_with job text input).outcome ≡ Done }
+    ensures { (job : Job) (texts : Texts) (pieces : List Piece) (input : List ℕ) → length input ≤ 2 ^ 40
+        → IsMadeOf pieces input → HaveResults (work_of job) texts pieces → (answer_with job texts input).outcome ≡ Done }
 {}

@@ -1,13 +1,14 @@
--- The stated answer to what a run is asked: a function of what is asked, of the policy, of the input, and of the table that
--- stands on the shelf where one is read.
+-- The stated answer to what a run is asked: a function of what is asked, of the policy, of the input, and of the tables that
+-- stand on the shelf where they are read.
 use Rattle.std.specs.Prelude.{ℕ, ◌^◌, ◌==◌, ◌&&◌, Bool, cond, List, [], ◌∷◌, ◌++◌, Ok, Err, IfSome}
 use Rattle.std.specs.declared.option.Option.{Option}
 use Rattle.std.specs.declared.result.Result.{Result}
 use Rattle.grib_io.specs.Shelves.{Held}
-use Rattle.grib_params.specs.Table.{Entries}
-use Rattle.grib_table.specs.Tabled.{Tabled, Good, Refused, tabled, Stood}
+use Rattle.grib_table.specs.declared.both.Tables.{Tables}
+use Rattle.grib_table.specs.Both.{Both, BothGood, ParametersRefused, SurfacesRefused, Texts, both, BothStood}
 use Rattle.grib_stream.specs.declared.outcome.Outcome.{Outcome}
-use Rattle.grib_stream.specs.declared.outcome.Outcome.TheVariants.{Done, Passed, TableRefused}
+use Rattle.grib_stream.specs.declared.outcome.Outcome.TheVariants as outcomes
+use Rattle.grib_stream.specs.declared.outcome.Outcome.TheVariants.{Done, Passed}
 use Rattle.grib_items.specs.declared.policy.Policy.{Policy}
 use Rattle.grib_items.specs.declared.policy.ItemTotals.{ItemTotals}
 use Rattle.grib_items.specs.Deeds.{Deeds, deeds}
@@ -18,7 +19,7 @@ use Rattle.grib_command.specs.declared.ending.Ending.{Ending}
 use Rattle.grib_command.specs.Command.{Command, task}
 use Rattle.grib_command.specs.Endings.{ending_note, passed_ending_note}
 use Rattle.grib_command.specs.Texts.{texts}
-use Rattle.grib_run_spec.specs.Tasks.{Stated, Work, Reads, Makes, ReadsTable, ends_at_once}
+use Rattle.grib_run_spec.specs.Tasks.{Stated, Work, Reads, Makes, ReadsTables, ends_at_once}
 
 -- ---- by what came of the items of an input
 
@@ -60,19 +61,20 @@ stated_to command policy input = stated_by command.ending (answer_within (2 ^ 40
 
 -- ---- of what is asked
 
--- what was read as the table says this; where the shelf does not tell it, some text
-abbrev pub ByTable : Option Held → List ℕ → (Tabled → Type 0) → Type 0
-ByTable names name Is = (text : Option (List ℕ)) × Stood names name text × Is (tabled text)
+-- what was read as the tables says this; where the shelf does not tell it, some texts
+abbrev pub ByTables : Option Held → List ℕ → Option (List ℕ) → (Both → Type 0) → Type 0
+ByTables names params surfaces Is = (read : Texts) × BothStood names params surfaces read × Is (both surfaces read)
 
--- what holds of the command of what is asked, by the table where one is read and is good; else of what is stated at once
-abbrev pub IfTabled : (Entries → Command) → (Command → Type 0) → (Stated → Type 0) → Tabled → Type 0
-IfTabled commands Reading AtOnce (Good table) = Reading (commands table)
-IfTabled commands Reading AtOnce (Refused refusal) = AtOnce (ends_at_once (TableRefused refusal))
+-- what holds of the command of what is asked, by the tables where they are read and are good; else of what is stated at once
+abbrev pub IfTabled : (Tables → Command) → (Command → Type 0) → (Stated → Type 0) → Both → Type 0
+IfTabled commands Reading AtOnce (BothGood tables) = Reading (commands tables)
+IfTabled commands Reading AtOnce (ParametersRefused refusal) = AtOnce (ends_at_once (outcomes.TableRefused refusal))
+IfTabled commands Reading AtOnce (SurfacesRefused refusal) = AtOnce (ends_at_once (outcomes.SurfacesRefused refusal))
 
 abbrev pub IfAsked : Work → Option Held → (Command → Type 0) → (Stated → Type 0) → Type 0
 IfAsked (Reads command) names Reading AtOnce = Reading command
 IfAsked (Makes stated) names Reading AtOnce = AtOnce stated
-IfAsked (ReadsTable name commands) names Reading AtOnce = ByTable names name (IfTabled commands Reading AtOnce)
+IfAsked (ReadsTables params surfaces commands) names Reading AtOnce = ByTables names params surfaces (IfTabled commands Reading AtOnce)
 
 -- what holds of the answer, where the input tells what is left of it
 abbrev pub IfStated : Work → Policy → Option Held → Option (List ℕ) → (Stated → Type 0) → Type 0

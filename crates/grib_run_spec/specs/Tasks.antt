@@ -3,15 +3,18 @@ use Rattle.std.specs.Prelude.{◌≡◌, ℕ, ◌^◌, Bool, true, false, Option
 use Rattle.grib_stream.specs.Acts.{Act, writes}
 use Rattle.grib_stream.specs.Answer.{Answer, answer_within}
 use Rattle.grib_stream.specs.declared.outcome.Outcome.{Outcome}
-use Rattle.grib_stream.specs.declared.outcome.Outcome.TheVariants.{Done, TableRefused}
+use Rattle.grib_stream.specs.declared.outcome.Outcome.TheVariants as outcomes
+use Rattle.grib_stream.specs.declared.outcome.Outcome.TheVariants.{Done}
 use Rattle.grib_repack.specs.declared.target.RepackTarget.{RepackTarget}
 use Rattle.grib_repack.specs.Faults.{target_of}
 use Rattle.grib_repack.specs.Repacked.{repacked}
 use Rattle.grib_synthetic.specs.Points.{made_points}
 use Rattle.grib_synthetic.specs.Summary.{present_count, present_sum}
 use Rattle.grib_synthetic.specs.Made.{made}
-use Rattle.grib_params.specs.Table.{Entries}
-use Rattle.grib_table.specs.Tabled.{Tabled, Good, Refused, tabled}
+use Rattle.grib_migrate.specs.declared.labels.Local.{Local}
+use Rattle.grib_params.specs.declared.matching.TableMatch.{TableMatch}
+use Rattle.grib_table.specs.declared.both.Tables.{Tables}
+use Rattle.grib_table.specs.Both.{Both, BothGood, ParametersRefused, SurfacesRefused, Texts, both, no_texts}
 use Rattle.grib_command.specs.declared.job.Job.{Job}
 use Rattle.grib_command.specs.declared.job.Job.TheVariants.{Check, List as Listing, Keys, Stats, Dump, Filter, Split, Set, Repack, RepackLeast, Rescan, Crop, Migrate, Demote, Make, Print}
 use Rattle.grib_report.specs.Checking.{check_command}
@@ -60,12 +63,20 @@ note_of_made seed ni nj target =
 abbrev pub made_answer : ℕ → ℕ → ℕ → RepackTarget → Stated
 made_answer seed ni nj target = writing (repacked (target_of target) (made seed ni nj)) (note_of_made seed ni nj target)
 
--- a job answers the messages of an input, or reads none and has one answer, or answers the messages by the table
--- that stands on the shelf under a name
+-- a job answers the messages of an input, or reads none and has one answer, or answers the messages by the tables
+-- that stand on the shelf under the name of the parameter table and under that of the table of surfaces, where one is
+-- asked for
 pub data Work : Type 0 where
   Reads : Command → Work
   Makes : Stated → Work
-  ReadsTable : List ℕ → (Entries → Command) → Work
+  ReadsTables : List ℕ → Option (List ℕ) → (Tables → Command) → Work
+
+-- the commands that the tables give
+abbrev pub migrating : Local → Tables → Command
+migrating local tables = migrate_command local tables.parameters tables.surfaces
+
+abbrev pub demoting : TableMatch → Bool → Bool → Tables → Command
+demoting matching keep_local any_earth tables = demote_command matching keep_local any_earth tables.parameters
 
 abbrev pub work_of : Job → Work
 work_of Check = Reads check_command
@@ -81,32 +92,32 @@ work_of (Repack target) = Reads (repack_command target)
 work_of RepackLeast = Reads least_command
 work_of Rescan = Reads (edit_command edits.Rescan)
 work_of (Crop area) = Reads (edit_command (edits.Crop area))
-work_of (Migrate params keep_local) = ReadsTable params (migrate_command keep_local)
-work_of (Demote params keep_local any_earth matching) = ReadsTable params (demote_command matching keep_local any_earth)
+work_of (Migrate params surfaces local) = ReadsTables params surfaces (migrating local)
+work_of (Demote params keep_local any_earth matching) = ReadsTables params None (demoting matching keep_local any_earth)
 work_of (Make seed ni nj target) = Makes (made_answer seed ni nj target)
 work_of (Print page) = Makes (writing (text_of page) [])
 
--- what holds of the command of a job that reads its input, by the table where it reads one
-abbrev pub IfReads : Work → Option Entries → (Command → Type 0) → Type 0
-IfReads (Reads command) table P = P command
-IfReads (Makes stated) table P = Unit {0}
-IfReads (ReadsTable name commands) None P = Unit {0}
-IfReads (ReadsTable name commands) (Some table) P = P (commands table)
+-- what holds of the command of a job that reads its input, by the tables where it reads them
+abbrev pub IfReads : Work → Option Tables → (Command → Type 0) → Type 0
+IfReads (Reads command) tables P = P command
+IfReads (Makes stated) tables P = Unit {0}
+IfReads (ReadsTables params surfaces commands) None P = Unit {0}
+IfReads (ReadsTables params surfaces commands) (Some tables) P = P (commands tables)
 
 abbrev pub reads_none : Work → Bool
 reads_none (Reads command) = false
 reads_none (Makes stated) = true
-reads_none (ReadsTable name commands) = false
+reads_none (ReadsTables params surfaces commands) = false
 
 abbrev pub has_table : Work → Bool
 has_table (Reads command) = false
 has_table (Makes stated) = false
-has_table (ReadsTable name commands) = true
+has_table (ReadsTables params surfaces commands) = true
 
 abbrev pub has_shelf : Work → Bool
 has_shelf (Reads command) = command.uses_shelf
 has_shelf (Makes stated) = false
-has_shelf (ReadsTable name commands) = true
+has_shelf (ReadsTables params surfaces commands) = true
 
 -- what holds of a job that hears messages of edition 2
 abbrev pub IfHears : Job → Type 0 → Type 0
@@ -118,15 +129,16 @@ IfHears job P = IfReads (work_of job) None (λ command. command.hears ≡ true �
 abbrev pub plainly : Stated → Answer
 plainly stated = record { acts = stated.acts; ending = []; note = stated.note; outcome = stated.outcome }
 
--- the answer by what stands under the name of the table
-abbrev pub answer_by : Tabled → (Entries → Command) → List ℕ → Answer
-answer_by (Good table) commands input = answer_within (2 ^ 40) (task (commands table)) input
-answer_by (Refused refusal) commands input = plainly (ends_at_once (TableRefused refusal))
+-- the answer by what stands under the names of the tables
+abbrev pub answer_by : Both → (Tables → Command) → List ℕ → Answer
+answer_by (BothGood tables) commands input = answer_within (2 ^ 40) (task (commands tables)) input
+answer_by (ParametersRefused refusal) commands input = plainly (ends_at_once (outcomes.TableRefused refusal))
+answer_by (SurfacesRefused refusal) commands input = plainly (ends_at_once (outcomes.SurfacesRefused refusal))
 
-abbrev pub answer_to : Work → Option (List ℕ) → List ℕ → Answer
-answer_to (Reads command) text input = answer_within (2 ^ 40) (task command) input
-answer_to (Makes stated) text input = plainly stated
-answer_to (ReadsTable name commands) text input = answer_by (tabled text) commands input
+abbrev pub answer_to : Work → Texts → List ℕ → Answer
+answer_to (Reads command) texts input = answer_within (2 ^ 40) (task command) input
+answer_to (Makes stated) texts input = plainly stated
+answer_to (ReadsTables params surfaces commands) texts input = answer_by (both surfaces texts) commands input
 
 -- whether a job reads no input
 abbrev pub makes : Job → Bool
@@ -141,11 +153,11 @@ reads_table job = has_table (work_of job)
 abbrev pub uses_shelf : Job → Bool
 uses_shelf job = has_shelf (work_of job)
 
--- the answer to a job, by what stands on the shelf under the name of its table, if it has one, and by the input;
+-- the answer to a job, by what stands on the shelf under the names of its tables, if it has any, and by the input;
 -- `make` reads none
-abbrev pub answer_with : Job → Option (List ℕ) → List ℕ → Answer
-answer_with job text input = answer_to (work_of job) text input
+abbrev pub answer_with : Job → Texts → List ℕ → Answer
+answer_with job texts input = answer_to (work_of job) texts input
 
 -- the answer to a job that reads no table
 abbrev pub answer : Job → List ℕ → Answer
-answer job input = answer_with job None input
+answer job input = answer_with job no_texts input

@@ -3,7 +3,7 @@ use Rattle.std.specs.Prelude.{◌≡◌, ◌⊎◌, ℕ, ◌==◌, Bool, true, f
 use Rattle.grib_base.specs.declared.fault.Reason.{Reason}
 use Rattle.grib_base.specs.declared.fault.Reason.TheVariants.{Truncated}
 use Rattle.grib_stream.specs.declared.outcome.Outcome.{Outcome}
-use Rattle.grib_stream.specs.declared.outcome.Outcome.TheVariants.{Done, Passed, Usage, Refused, Kept, TableRefused, ReadFault, WriteFault, ShelfFault, Memory, InputTooLong}
+use Rattle.grib_stream.specs.declared.outcome.Outcome.TheVariants.{Done, Passed, Usage, Refused, Kept, TableRefused, SurfacesRefused, ReadFault, WriteFault, ShelfFault, Memory, InputTooLong}
 
 -- the exit status
 abbrev pub status_of : Outcome → ℕ
@@ -13,6 +13,7 @@ status_of (Usage word) = 1
 status_of (Refused refusal) = 2
 status_of (Kept kept) = 3
 status_of (TableRefused refusal) = 4
+status_of (SurfacesRefused refusal) = 4
 status_of ReadFault = 5
 status_of WriteFault = 6
 status_of ShelfFault = 7
@@ -27,6 +28,7 @@ is_broken (Usage word) = false
 is_broken (Refused refusal) = false
 is_broken (Kept kept) = false
 is_broken (TableRefused refusal) = false
+is_broken (SurfacesRefused refusal) = false
 is_broken ReadFault = true
 is_broken WriteFault = true
 is_broken ShelfFault = true
@@ -41,6 +43,7 @@ is_cut_short (Usage word) = false
 is_cut_short (Refused refusal) = false
 is_cut_short (Kept kept) = false
 is_cut_short (TableRefused refusal) = false
+is_cut_short (SurfacesRefused refusal) = false
 is_cut_short ReadFault = false
 is_cut_short WriteFault = true
 is_cut_short ShelfFault = false
@@ -56,6 +59,7 @@ is_cut_within (Usage word) = false
 is_cut_within (Refused refusal) = false
 is_cut_within (Kept kept) = false
 is_cut_within (TableRefused refusal) = false
+is_cut_within (SurfacesRefused refusal) = false
 is_cut_within ReadFault = false
 is_cut_within WriteFault = true
 is_cut_within ShelfFault = true
@@ -75,6 +79,7 @@ is_open (Usage word) = false
 is_open (Refused refusal) = is_truncated refusal.fault.reason
 is_open (Kept kept) = false
 is_open (TableRefused refusal) = false
+is_open (SurfacesRefused refusal) = false
 is_open ReadFault = false
 is_open WriteFault = false
 is_open ShelfFault = false
@@ -89,6 +94,7 @@ is_of_message (Usage word) = false
 is_of_message (Refused refusal) = not (is_truncated refusal.fault.reason)
 is_of_message (Kept kept) = true
 is_of_message (TableRefused refusal) = false
+is_of_message (SurfacesRefused refusal) = false
 is_of_message ReadFault = false
 is_of_message WriteFault = false
 is_of_message ShelfFault = false

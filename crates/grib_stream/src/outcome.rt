@@ -23,6 +23,8 @@ pub enum Outcome {
     Kept(Kept),
     /// The parameter table is refused. No input was read.
     TableRefused(TableRefusal),
+    /// The table of surfaces is refused. No input was read.
+    SurfacesRefused(TableRefusal),
     /// The input failed.
     ReadFault,
     /// The output or the notes failed.
@@ -46,7 +48,7 @@ impl Outcome {
             Outcome::Usage(_) => 1,
             Outcome::Refused(_) => 2,
             Outcome::Kept(_) => 3,
-            Outcome::TableRefused(_) => 4,
+            Outcome::TableRefused(_) | Outcome::SurfacesRefused(_) => 4,
             Outcome::ReadFault => 5,
             Outcome::WriteFault => 6,
             Outcome::ShelfFault => 7,

@@ -1,2 +1,3 @@
 pub mod Fronts
-pub mod Tables
+pub mod TableReading
+pub mod BothTables

@@ -1,4 +1,4 @@
--- What stands on a shelf under a name as a parameter table.
+-- What stands on a shelf under a name as a table: as a parameter table, or as a table of surfaces.
 use Rattle.std.specs.Prelude.{◌≡◌, ℕ, List, Option, Some, None, Ok, Err}
 use Rattle.std.specs.declared.result.Result.{Result}
 use Rattle.grib_reasons.specs.declared.table.TableRefusal.{TableRefusal}
@@ -11,25 +11,40 @@ use Rattle.grib_params.specs.declared.fault.TableFault.{TableFault}
 use Rattle.grib_params.specs.declared.fault.TableFault.TheVariants as faults
 use Rattle.grib_params.specs.Table as verdicts
 use Rattle.grib_params.specs.Table.{Entries, Verdict, table_verdict}
+use Rattle.grib_params.specs.Surfaces as surfaces
+use Rattle.grib_params.specs.Surfaces.{SurfaceEntries, SurfaceVerdict, surface_verdict}
 use Rattle.grib_table.specs.declared.stop.TableStop.{TableStop}
 use Rattle.grib_table.specs.declared.stop.TableStop.TheVariants.{Refused as Refuses, ShelfFault, Memory}
 
 -- a table, or why there is none
-pub data Tabled : Type 0 where
-  Good : Entries → Tabled
-  Refused : TableRefusal → Tabled
+pub data Tabled (T : Type 0) : Type 0 where
+  Good : T → Tabled T
+  Refused : TableRefusal → Tabled T
 
 -- what the verdict on a text makes of it
-abbrev pub tabled_by : Verdict → Tabled
+abbrev pub tabled_by : Verdict → Tabled Entries
 tabled_by verdicts.TooLarge = Refused refusals.TooLarge
 tabled_by (verdicts.Row number) = Refused (refusals.Row number)
 tabled_by (verdicts.Duplicate number) = Refused (refusals.Duplicate number)
 tabled_by (verdicts.Good table) = Good table
 
+abbrev pub surfaces_by : SurfaceVerdict → Tabled SurfaceEntries
+surfaces_by surfaces.TooLarge = Refused refusals.TooLarge
+surfaces_by (surfaces.Row number) = Refused (refusals.Row number)
+surfaces_by (surfaces.Duplicate number) = Refused (refusals.Duplicate number)
+surfaces_by (surfaces.Good table) = Good table
+
+-- a text as a parameter table, and as a table of surfaces
+abbrev pub parameters_of : List ℕ → Tabled Entries
+parameters_of text = tabled_by (table_verdict text)
+
+abbrev pub surfaces_of : List ℕ → Tabled SurfaceEntries
+surfaces_of text = surfaces_by (surface_verdict text)
+
 -- what stands under a name, None where the name is absent
-abbrev pub tabled : Option (List ℕ) → Tabled
-tabled None = Refused refusals.Absent
-tabled (Some text) = tabled_by (table_verdict text)
+abbrev pub tabled : {T : Type 0} → (List ℕ → Tabled T) → Option (List ℕ) → Tabled T
+tabled table_of None = Refused refusals.Absent
+tabled table_of (Some text) = table_of text
 
 -- what stands under the name, where the shelf tells it
 abbrev pub Stood : Option Held → List ℕ → Option (List ℕ) → Type 0
@@ -37,11 +52,11 @@ Stood None name text = Unit {0}
 Stood (Some held) name text = text ≡ held name
 
 -- What was read as the table stands under the name, or was refused as what stands there.
-abbrev pub ReadsTable : Result Entries TableStop → Option Held → List ℕ → Type 0
-ReadsTable (Ok table) shelf name = (text : Option (List ℕ)) × Stood shelf name text × (tabled text ≡ Good table)
-ReadsTable (Err (Refuses refusal)) shelf name = (text : Option (List ℕ)) × Stood shelf name text × (tabled text ≡ Refused refusal)
-ReadsTable (Err ShelfFault) shelf name = Unit {0}
-ReadsTable (Err Memory) shelf name = Unit {0}
+abbrev pub ReadsTable : {T : Type 0} → (List ℕ → Tabled T) → Result T TableStop → Option Held → List ℕ → Type 0
+ReadsTable table_of (Ok table) shelf name = (text : Option (List ℕ)) × Stood shelf name text × (tabled table_of text ≡ Good table)
+ReadsTable table_of (Err (Refuses refusal)) shelf name = (text : Option (List ℕ)) × Stood shelf name text × (tabled table_of text ≡ Refused refusal)
+ReadsTable table_of (Err ShelfFault) shelf name = Unit {0}
+ReadsTable table_of (Err Memory) shelf name = Unit {0}
 
 -- the count of the shelf's faults: one more where the shelf failed
 abbrev pub CountsTableStop : TableStop → ℕ → ℕ → Type 0

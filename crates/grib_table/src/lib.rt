@@ -1,8 +1,9 @@
-//! The parameter table that stands on a shelf under a name.
+//! The tables that stand on a shelf under their names: a parameter table, and a table of surfaces.
 #![tactic(auto)]
 
+mod both;
 mod reading;
 mod stop;
 
-pub use reading::read_table;
-pub use stop::TableStop;
+pub use both::{Tables, read_tables};
+pub use stop::TablesStop;

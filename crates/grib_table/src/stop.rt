@@ -2,6 +2,7 @@
 
 ghost use Rattle.std.specs.Prelude.{◌≡◌};
 ghost use Rattle.grib_table.specs.Tabled.{stop_of_fault, stop_of_shelf};
+ghost use Rattle.grib_table.specs.Both.{parameters_stop};
 ghost use Rattle.grib_table.specs.declared.stop.TableStop.TheVariants.{Memory};
 
 use grib_io::ShelfStop;
@@ -52,6 +53,35 @@ impl From<TableFault> for TableStop {
             TableFault::Row(number) => TableStop::Refused(TableRefusal::Row(number)),
             TableFault::Duplicate(number) => TableStop::Refused(TableRefusal::Duplicate(number)),
             TableFault::Memory => TableStop::Memory,
+        }
+    }
+}
+
+/// Why no tables are read.
+#[derive(Clone, Copy, Debug, PartialEq, Eq, Error)]
+pub enum TablesStop {
+    /// The name of the parameter table is absent, or what stands under it is no table.
+    #[error("{0}")]
+    Refused(TableRefusal),
+    /// The name of the table of surfaces is absent, or what stands under it is no table.
+    #[error("surfaces: {0}")]
+    SurfacesRefused(TableRefusal),
+    /// The shelf failed.
+    #[error("shelf fault")]
+    ShelfFault,
+    /// There is no memory.
+    #[error("out of memory")]
+    Memory,
+}
+
+impl From<TableStop> for TablesStop {
+    ghost from_gives = { λ table stop. stop ≡ parameters_stop table };
+
+    fn from(stop: TableStop) -> TablesStop {
+        match stop {
+            TableStop::Refused(refusal) => TablesStop::Refused(refusal),
+            TableStop::ShelfFault => TablesStop::ShelfFault,
+            TableStop::Memory => TablesStop::Memory,
         }
     }
 }

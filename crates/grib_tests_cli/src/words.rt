@@ -87,10 +87,13 @@ const READ: [&str; 57] = [
     "repack to=3 order=2",
     "repack order=2 to=3",
     "repack to=least",
-    // `migrate` takes a table, and may keep local octets.
+    // `migrate` takes one table or two, and may write local octets as they are or as edition 2 has them.
     "migrate params=t",
     "migrate params=t local=keep",
     "migrate local=keep params==t",
+    "migrate params=t local=ecmwf",
+    "migrate params=t surfaces=s",
+    "migrate surfaces==s local=ecmwf params=s",
     // `demote` takes a table, may keep local octets, and may take any earth.
     "demote params=t",
     "demote params=t earth=any",
@@ -201,13 +204,20 @@ const UNREAD: [(u64, &str); 130] = [
     (3, "repack to=2 order=2"),
     (3, "repack order=1 to=2"),
     (3, "repack to=3 order=1 order=1"),
-    // `migrate` takes a table, and may keep local octets.
+    // `migrate` takes one table or two, and may write local octets as they are or as edition 2 has them.
     (1, "migrate"),
     (1, "migrate params="),
     (1, "migrate local=drop params=t"),
     (1, "migrate local= params=t"),
     (2, "migrate local=keep"),
     (2, "migrate params=t local=keeps"),
+    (2, "migrate params=t local=ecmwf2"),
+    (3, "migrate params=t local=keep local=ecmwf"),
+    (1, "migrate surfaces= params=t"),
+    (2, "migrate surfaces=s"),
+    (3, "migrate params=t surfaces=s surfaces=s"),
+    (2, "demote params=t surfaces=s"),
+    (2, "demote params=t local=ecmwf"),
     (2, "migrate params=t params=t"),
     (2, "migrate params=t earth=any"),
     // `demote` takes a table, may keep local octets, and may take any earth.

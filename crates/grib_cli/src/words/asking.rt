@@ -12,6 +12,7 @@ use super::values::{key_value, number_of};
 use super::{JobFault, has_name, is_named};
 use grib_engine::{Area, Conditions, Job, Name, Page, RepackTarget};
 use grib_keys::{Condition, Key};
+use grib_migrate::Local;
 use grib_params::TableMatch;
 use std::alloc::{AllocError, Global};
 
@@ -44,7 +45,8 @@ pub(super) fn job_of_command(
         }),
         Command::Migrate => Ok(Job::Migrate {
             params: name_by(alloc, words, "params")?,
-            keep_local: has_name(words, "local"),
+            surfaces: name_if_given(alloc, words, "surfaces")?,
+            local: local_of(words),
         }),
         Command::Demote => Ok(Job::Demote {
             params: name_by(alloc, words, "params")?,
@@ -67,6 +69,17 @@ fn matching_of(words: &[String]) -> TableMatch
         TableMatch::Any
     } else {
         TableMatch::Same
+    }
+}
+
+/// What becomes of octets for local use.
+fn local_of(words: &[String]) -> Local
+    ensures { result ≡ asked.local_of (map string_bytes words.now) }
+{
+    match value_of(words, "local") {
+        "keep" => Local::Keep,
+        "ecmwf" => Local::Ecmwf,
+        _ => Local::Refuse,
     }
 }
 
@@ -95,6 +108,17 @@ fn name_by(alloc: Global, words: &[String], name: &str) -> Result<Name, AllocErr
     ensures { IfOk result (λ found. found ≡ grammar.value_of name.now (map string_bytes words.now)) }
 {
     Ok(Name::of(String::from_str(alloc, value_of(words, name))?))
+}
+
+/// The value of the word that has this name, as a name on a shelf, where there is one.
+fn name_if_given(alloc: Global, words: &[String], name: &str) -> Result<Option<Name>, AllocError>
+    ensures { IfOk result (λ found. found ≡ grammar.value_if_given name.now (map string_bytes words.now)) }
+{
+    if has_name(words, name) {
+        Ok(Some(name_by(alloc, words, name)?))
+    } else {
+        Ok(None)
+    }
 }
 
 /// The job of `repack` with these words.

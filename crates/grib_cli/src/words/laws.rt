@@ -31,6 +31,10 @@ pub fn unread_lines()
     ensures help_on_one { reading (codes "help" ∷ codes "list" ∷ []) ≡ Err 1 }
     ensures short_dash { reading (codes "-help" ∷ []) ≡ Err 0 }
     ensures dashed_command { reading (codes "--list" ∷ []) ≡ Err 0 }
+    ensures other_local { reading (codes "migrate" ∷ codes "params=t" ∷ codes "local=wmo" ∷ []) ≡ Err 2 }
+    ensures no_surfaces { reading (codes "migrate" ∷ codes "params=t" ∷ codes "surfaces=" ∷ []) ≡ Err 2 }
+    ensures surfaces_alone { reading (codes "migrate" ∷ codes "surfaces=s" ∷ []) ≡ Err 2 }
+    ensures demoted_surfaces { reading (codes "demote" ∷ codes "params=t" ∷ codes "surfaces=s" ∷ []) ≡ Err 2 }
     ensures one_earth { reading (codes "demote" ∷ codes "params=t" ∷ codes "earth=2" ∷ []) ≡ Err 2 }
     ensures refused_skip { reading (codes "check" ∷ codes "refused=skip" ∷ []) ≡ Err 1 }
     ensures refused_again { reading (codes "list" ∷ codes "refused=pass" ∷ codes "refused=pass" ∷ []) ≡ Err 2 }
@@ -46,6 +50,7 @@ pub fn unread_lines()
 pub fn read_lines()
     ensures order { reading (codes "repack" ∷ codes "order=2" ∷ codes "to=3" ∷ []) ≡ Ok Repack }
     ensures equals { reading (codes "migrate" ∷ codes "params==" ∷ codes "local=keep" ∷ []) ≡ Ok Migrate }
+    ensures surfaces { reading (codes "migrate" ∷ codes "surfaces=s" ∷ codes "local=ecmwf" ∷ codes "params=t" ∷ []) ≡ Ok Migrate }
     ensures least { reading (codes "repack" ∷ codes "to=least" ∷ []) ≡ Ok Repack }
     ensures demotion { reading (codes "demote" ∷ codes "earth=any" ∷ codes "params=t" ∷ []) ≡ Ok Demote }
     ensures past_first { reading (codes "repack" ∷ codes "kept=copy" ∷ codes "to=2" ∷ codes "refused=pass" ∷ []) ≡ Ok Repack }

@@ -1,5 +1,5 @@
 use Rattle.std.proofs.Common.{refl, sym, ap, ◌∙◌}
-use Rattle.grib_stream.specs.declared.outcome.Outcome.TheVariants.{Kept, Memory, Passed, Refused, TableRefused, Usage}
+use Rattle.grib_stream.specs.declared.outcome.Outcome.TheVariants.{Kept, Memory, Passed, Refused, SurfacesRefused, TableRefused, Usage}
 use Rattle.grib_command.specs.Outcomes.{note_with}
 use Rattle.grib_command.proofs.Noted.{ends_by, stands_by}
 use Rattle.grib_engine.proofs.closing.close_with_note.Goals as goal
@@ -23,6 +23,11 @@ pub returns-in-Ok-table_note-clause-ends : goal.returns-in-Ok-table_note-clause-
 returns-in-Ok-table_note-clause-ends g c =
     ends_by g.T.Sink.contents g.T.Sink.faults g.T.Sink.settled g.N.Sink.contents g.N.Sink.faults g.N.Sink.settled _ _ _ _ c.args.outcome (TableRefused c.in-TableRefused.refusal) c.args.done.now _
     c.close-in-Ok-table_note.result (sym c.in-TableRefused.is) (c.as_slice-in-Ok-table_note.ensures.value ∙ c.in-Ok-table_note.ensures) c.close-in-Ok-table_note.ensures.closes
+
+pub returns-in-Ok-surfaces_note-clause-ends : goal.returns-in-Ok-surfaces_note-clause-ends
+returns-in-Ok-surfaces_note-clause-ends g c =
+    ends_by g.T.Sink.contents g.T.Sink.faults g.T.Sink.settled g.N.Sink.contents g.N.Sink.faults g.N.Sink.settled _ _ _ _ c.args.outcome (SurfacesRefused c.in-SurfacesRefused.refusal) c.args.done.now _
+    c.close-in-Ok-surfaces_note.result (sym c.in-SurfacesRefused.is) (c.as_slice-in-Ok-surfaces_note.ensures.value ∙ c.in-Ok-surfaces_note.ensures) c.close-in-Ok-surfaces_note.ensures.closes
 
 pub returns-in-Ok-passed_note-clause-ends : goal.returns-in-Ok-passed_note-clause-ends
 returns-in-Ok-passed_note-clause-ends g c =
@@ -80,9 +85,17 @@ pub returns-in-Ok-table_note-clause-whole : goal.returns-in-Ok-table_note-clause
 returns-in-Ok-table_note-clause-whole g c = λ off notes_off.
     stands_by g.T.Sink.settled g.N.Sink.contents g.N.Sink.settled c.close-in-Ok-table_note.new.output c.args.notes.now c.close-in-Ok-table_note.new.notes c.args.done.now _ (TableRefused c.in-TableRefused.refusal) c.close-in-Ok-table_note.result (c.as_slice-in-Ok-table_note.ensures.value ∙ c.in-Ok-table_note.ensures) (c.close-in-Ok-table_note.ensures.whole off notes_off)
 
+pub returns-in-Ok-surfaces_note-clause-whole : goal.returns-in-Ok-surfaces_note-clause-whole
+returns-in-Ok-surfaces_note-clause-whole g c = λ off notes_off.
+    stands_by g.T.Sink.settled g.N.Sink.contents g.N.Sink.settled c.close-in-Ok-surfaces_note.new.output c.args.notes.now c.close-in-Ok-surfaces_note.new.notes c.args.done.now _ (SurfacesRefused c.in-SurfacesRefused.refusal) c.close-in-Ok-surfaces_note.result (c.as_slice-in-Ok-surfaces_note.ensures.value ∙ c.in-Ok-surfaces_note.ensures) (c.close-in-Ok-surfaces_note.ensures.whole off notes_off)
+
 pub returns-in-Err-table_note-clause-whole : goal.returns-in-Err-table_note-clause-whole
 returns-in-Err-table_note-clause-whole g c = λ off notes_off.
     stands_by g.T.Sink.settled g.N.Sink.contents g.N.Sink.settled c.close-in-Err-table_note.new.output c.args.notes.now c.close-in-Err-table_note.new.notes c.args.done.now _ Memory c.close-in-Err-table_note.result refl (c.close-in-Err-table_note.ensures.whole off notes_off)
+
+pub returns-in-Err-surfaces_note-clause-whole : goal.returns-in-Err-surfaces_note-clause-whole
+returns-in-Err-surfaces_note-clause-whole g c = λ off notes_off.
+    stands_by g.T.Sink.settled g.N.Sink.contents g.N.Sink.settled c.close-in-Err-surfaces_note.new.output c.args.notes.now c.close-in-Err-surfaces_note.new.notes c.args.done.now _ Memory c.close-in-Err-surfaces_note.result refl (c.close-in-Err-surfaces_note.ensures.whole off notes_off)
 
 pub returns-in-Done-clause-whole : goal.returns-in-Done-clause-whole
 returns-in-Done-clause-whole g c = λ off notes_off.

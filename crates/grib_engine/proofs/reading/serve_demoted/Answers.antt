@@ -1,38 +1,37 @@
-use Rattle.std.proofs.Common.{◌≡◌, ◌||◌, refl, ap}
+use Rattle.std.proofs.Common.{◌≡◌, ◌||◌, None, refl, ap}
 use Rattle.grib_command.specs.Outcomes.{note_of}
-use Rattle.grib_edit.specs.Demoting.{demote_command}
 use Rattle.grib_run_spec.specs.Seen.{seen}
-use Rattle.grib_run_spec.specs.Tasks.{ReadsTable}
+use Rattle.grib_run_spec.specs.Tasks.{ReadsTables, demoting}
 use Rattle.grib_engine.proofs.Broken.{own_note}
 use Rattle.grib_engine.proofs.Ended.{served}
-use Rattle.grib_engine.proofs.Unread.{untabled, by_table, left_alone, left_open}
+use Rattle.grib_engine.proofs.Unread.{untabled, by_tables, left_alone, left_open}
 use Rattle.grib_engine.proofs.reading.serve_demoted.Goals as goal
 
 pub returns-in-Ok-clause-serves : goal.returns-in-Ok-clause-serves
 returns-in-Ok-clause-serves g c =
     let see = seen g.S.Source.left g.S.Source.faults g.T.Sink.contents g.T.Sink.faults g.T.Sink.settled g.N.Sink.contents g.N.Sink.faults g.N.Sink.settled g.H.Shelf.contents g.H.Shelf.faults in
     let now = see c.serve_messages.new.input c.serve_messages.new.output c.serve_messages.new.notes c.serve_messages.new.shelf in
-    by_table (g.T.Sink.takes_memory || g.N.Sink.takes_memory) c.args.params.now (demote_command c.args.matching c.args.keep_local c.args.any_earth) c.args.policy c.serve_messages.result
-    (see c.args.input.now c.args.output.now c.args.notes.now c.args.shelf.now) now (g.H.Shelf.contents c.read_table.new.shelf) c.in-Ok.ensures.kept
-    c.in-Ok.table c.as_str.result.now (g.H.Shelf.faults c.read_table.new.shelf) c.as_str.ensures c.in-Ok.ensures.read c.in-Ok.ensures.counted
+    by_tables (g.T.Sink.takes_memory || g.N.Sink.takes_memory) c.args.params.now None (demoting c.args.matching c.args.keep_local c.args.any_earth) c.args.policy c.serve_messages.result
+    (see c.args.input.now c.args.output.now c.args.notes.now c.args.shelf.now) now (g.H.Shelf.contents c.tables_named.new.shelf) c.in-Ok.ensures.kept
+    c.in-Ok.tables (g.H.Shelf.faults c.tables_named.new.shelf) c.in-Ok.ensures.read c.in-Ok.ensures.counted
     (ap g.H.Shelf.contents (c.serve_messages.ensures.unused refl)) c.serve_messages.ensures.serves
 
 pub returns-in-Ok-clause-unread : goal.returns-in-Ok-clause-unread
 returns-in-Ok-clause-unread g c =
-    left_open c.args.params.now c.as_str.result.now (demote_command c.args.matching c.args.keep_local c.args.any_earth) (g.H.Shelf.contents c.args.shelf.now) (c.serve_messages.new.input ≡ c.args.input.now) c.in-Ok.table c.as_str.ensures c.in-Ok.ensures.read
+    left_open c.args.params.now None (demoting c.args.matching c.args.keep_local c.args.any_earth) (g.H.Shelf.contents c.args.shelf.now) (c.serve_messages.new.input ≡ c.args.input.now) c.in-Ok.tables c.in-Ok.ensures.read
 
 pub returns-in-Err-clause-serves : goal.returns-in-Err-clause-serves
 returns-in-Err-clause-serves g c =
     let see = seen g.S.Source.left g.S.Source.faults g.T.Sink.contents g.T.Sink.faults g.T.Sink.settled g.N.Sink.contents g.N.Sink.faults g.N.Sink.settled g.H.Shelf.contents g.H.Shelf.faults c.args.input.now c.args.output.now c.args.notes.now in
     let before = see c.args.shelf.now in
-    let mid = see c.read_table.new.shelf in
+    let mid = see c.tables_named.new.shelf in
     let own = c.untabled.result in
-    let commands = demote_command c.args.matching c.args.keep_local c.args.any_earth in
+    let commands = demoting c.args.matching c.args.keep_local c.args.any_earth in
     let closed = c.close_with_note.ensures in
-    served g.T.Sink.takes_memory g.N.Sink.takes_memory before mid (ReadsTable c.args.params.now commands) c.args.policy (note_of own) (own_note own)
+    served g.T.Sink.takes_memory g.N.Sink.takes_memory before mid (ReadsTables c.args.params.now None commands) c.args.policy (note_of own) (own_note own)
     closed.ends closed.output_kept closed.after_fault closed.whole
-    (untabled c.args.policy before mid.names mid.shelf_faults c.in-Err.ensures.kept c.args.params.now c.as_str.result.now commands c.in-Err.stop own c.untabled.ensures c.as_str.ensures c.in-Err.ensures.read c.in-Err.ensures.counted)
+    (untabled c.args.policy before mid.names mid.shelf_faults c.in-Err.ensures.kept c.args.params.now None commands c.in-Err.stop own c.untabled.ensures c.in-Err.ensures.read c.in-Err.ensures.counted)
 
 pub returns-in-Err-clause-unread : goal.returns-in-Err-clause-unread
 returns-in-Err-clause-unread g c =
-    left_alone c.args.params.now (demote_command c.args.matching c.args.keep_local c.args.any_earth) (g.H.Shelf.contents c.args.shelf.now) (c.args.input.now ≡ c.args.input.now) refl
+    left_alone c.args.params.now None (demoting c.args.matching c.args.keep_local c.args.any_earth) (g.H.Shelf.contents c.args.shelf.now) (c.args.input.now ≡ c.args.input.now) refl

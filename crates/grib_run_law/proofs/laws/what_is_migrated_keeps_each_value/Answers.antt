@@ -9,6 +9,6 @@ use Rattle.grib_run_law.proofs.Writing.{writes_items}
 use Rattle.grib_run_law.proofs.laws.what_is_migrated_keeps_each_value.Goals as goal
 
 pub returns : goal.returns
-returns c = λ keep table policy more octets.
-    writes_items (IfOctets SameMigrated) (migrate_command keep table) policy (λ totals. refl) (migrate_fixed keep table) (migrate_each keep table) more octets
+returns c = λ local table surfaces policy more octets.
+    writes_items (IfOctets SameMigrated) (migrate_command local table surfaces) policy (λ totals. refl) (migrate_fixed local table surfaces) (migrate_each local table surfaces) more octets
     (accepted_all more octets (items_of policy more octets).items (stands c.items_stand.ensures.items policy more octets))
