@@ -296,7 +296,7 @@ module _ (stand : ItemsStand) where
   work_judges : (work : Work) → NeverWork work → (policy : Policy) (outcome : Outcome) (before now : Seen) → AnswersWork work policy outcome before now → IfSome before.left (Judges policy outcome)
   work_judges (Reads command) never policy outcome before now answers = reading_judges policy outcome before now command never answers
   work_judges (Makes stated) never policy outcome before now answers = at_once_judges policy outcome before now stated never answers
-  work_judges (ReadsTables params surfaces commands) never policy outcome before now (texts, stood, answers) = tabled_judges policy outcome before now commands never _ answers
+  work_judges (ReadsTables params surfaces commands) never policy outcome before now (read, stood, answers) = tabled_judges policy outcome before now commands never _ answers
 
   pub job_judges : (job : Job) (policy : Policy) (outcome : Outcome) (before now : Seen) → AnswersWork (work_of job) policy outcome before now → IfSome before.left (Judges policy outcome)
   job_judges job policy outcome before now answers = work_judges (work_of job) (job_never job) policy outcome before now answers
