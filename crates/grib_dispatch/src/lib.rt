@@ -10,4 +10,4 @@ mod reading;
 pub use hearing::SecondHearer;
 pub use held::answer_held;
 pub use performing::Answering;
-pub use reading::Held;
+pub use reading::{Held, read_held};

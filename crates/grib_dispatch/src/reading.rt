@@ -23,7 +23,11 @@ pub enum Held<'a> {
 }
 
 /// Reads the message that these octets begin with, which begin with `GRIB`.
-pub(crate) fn read_held<'a>(alloc: Global, octets: &'a [u8]) -> Result<Held<'a>, ReadFault>
+///
+/// # Errors
+///
+/// The message is refused, at an octet of it and with a reason, or there is no memory.
+pub fn read_held<'a>(alloc: Global, octets: &'a [u8]) -> Result<Held<'a>, ReadFault>
     requires { begins octets.now ≡ true }
     ensures { MatchResult result (Holds octets.now) (IsUnread octets.now) }
 {

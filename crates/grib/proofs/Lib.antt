@@ -1,0 +1,4 @@
+mod Held
+mod Marks
+mod Steps
+mod Texts
