@@ -2,7 +2,9 @@
 #![tactic(auto)]
 
 pub mod laws;
+mod nearest;
 mod table;
 mod topic;
 
+pub use nearest::{nearest_command, nearest_key};
 pub use topic::told_of;
