@@ -5,3 +5,4 @@ mod Promised
 mod Asked
 pub mod Printed
 mod Helped
+mod Told

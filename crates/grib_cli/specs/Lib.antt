@@ -1,5 +1,6 @@
 pub mod Words
 pub mod Values
 pub mod Reading
+pub mod Helping
 pub mod HelpLines
 pub mod Answers
