@@ -8,10 +8,10 @@ use Rattle.grib_cli.proofs.telling.tell.Goals as goal
 
 pub returns : goal.returns
 returns g c = λ policy.
-    let see = λ output notes. seen g.S.Source.left g.S.Source.faults g.T.Sink.contents g.T.Sink.faults g.T.Sink.settled g.N.Sink.contents g.N.Sink.faults g.N.Sink.settled g.H.Shelf.contents g.H.Shelf.faults
-    c.args.input.now output notes c.args.shelf.now in
-    let before = see c.args.output.now c.args.notes.now in
-    let mid = see c.put-outcome.new.output c.args.notes.now in
+    let before = seen g.S.Source.left g.S.Source.faults g.T.Sink.contents g.T.Sink.faults g.T.Sink.settled g.N.Sink.contents g.N.Sink.faults g.N.Sink.settled g.H.Shelf.contents g.H.Shelf.faults
+    c.args.input.now c.args.output.now c.args.notes.now c.args.shelf.now in
+    let mid = seen g.S.Source.left g.S.Source.faults g.T.Sink.contents g.T.Sink.faults g.T.Sink.settled g.N.Sink.contents g.N.Sink.faults g.N.Sink.settled g.H.Shelf.contents g.H.Shelf.faults
+    c.args.input.now c.put-outcome.new.output c.args.notes.now c.args.shelf.now in
     let put = c.put-outcome.ensures in
     let closed = c.close_with_note.ensures in
     served g.T.Sink.takes_memory g.N.Sink.takes_memory before before (Makes (writing c.args.text.now [])) policy (note_with [] c.put-outcome.result) refl
