@@ -4,3 +4,5 @@ pub mod Nearness
 pub mod Settling
 pub mod Fractions
 pub mod Numbers
+pub mod Parts
+pub mod Words

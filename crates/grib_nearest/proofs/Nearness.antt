@@ -1,7 +1,7 @@
 -- The word that is worked out is nearest to the number, and no other is.
-use Rattle.std.proofs.Common.{◌≡◌, ◌≢◌, ℕ, zero, suc, ◌+◌, ◌-◌, ◌*◌, ◌/◌, ◌%◌, ◌^◌, ◌<◌, ◌≤◌, ◌⊎◌, inl, inr, min, refl, sym, ap, subst, ◌∙◌, arith}
+use Rattle.std.proofs.Common.{◌≡◌, ℕ, ◌+◌, ◌-◌, ◌*◌, ◌/◌, ◌%◌, ◌^◌, ◌<◌, ◌≤◌, inl, inr, sym, ap, subst, ◌∙◌, arith}
 use Rattle.std.proofs.Math.Nat.{mul-le-mul_right, mul-lt-mul_of_pos_right, mul_assoc, mul_comm}
-use Rattle.std.proofs.lemmas.Nat.{pow_pos, mod_below, div-add-mod', pow-add}
+use Rattle.std.proofs.lemmas.Nat.{mod_below, div-add-mod', pow-add}
 use Rattle.std.proofs.lemmas.Bool.{cases_lt}
 use lib.Ieee.{Format, prec, low}
 use Rattle.core.proofs.dec2flt.Patterns.{shape}

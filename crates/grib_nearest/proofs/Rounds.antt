@@ -1,16 +1,15 @@
 -- The word that is worked out, and the rounding of the machine's operations.
-use Rattle.std.proofs.Common.{◌≡◌, ℕ, zero, suc, ◌+◌, ◌-◌, ◌*◌, ◌/◌, ◌%◌, ◌^◌, ◌<◌, ◌≤◌, inl, inr, cond, nat_lt, min, false, T, not, refl, sym, ap, subst, ◌∙◌, arith}
+use Rattle.std.proofs.Common.{◌≡◌, ℕ, ◌+◌, ◌-◌, ◌*◌, ◌/◌, ◌%◌, ◌^◌, ◌<◌, ◌≤◌, inl, inr, false, T, not, sym, ap, subst, ◌∙◌, arith}
 use Rattle.std.proofs.Math.Nat.{mul-pos}
 use Rattle.std.proofs.lemmas.Nat.{pow_pos, pow-add, mod_below, div-add-mod', le-div}
 use Rattle.std.proofs.lemmas.Bool.{cases_lt}
 use Rattle.std.proofs.lemmas.Bool.Decides.{nat_tests}
 use native.Mathlib.Nat.{div-div-eq-div-mul}
-use lib.Ieee.{Format, prec, emax, low, hid, ones, top, size, round, units, of_bits, to_bits, nan_bits, is_nan}
+use lib.Ieee.{Format, prec, low, hid, top, size, round, units, of_bits, to_bits, is_nan}
 use lib.Ieee.Bits.{to_bits-of_bits, nan_bits_is}
 use lib.Ieee.Digits.{size_reaches}
 use lib.Ieee.Fits.{round_is, kept-lt, nearest-le}
 use lib.Ieee.Nearest.{closest, nearest-ge}
-use Prim.Native.Nat.compare
 use Prim.Native.Nat.{compare}
 use Rattle.core.specs.Dec2flt.Rounding.{IsNearestBits, scaled_bits}
 use Rattle.core.proofs.num.Patterns.{up_to_infinity}

@@ -1,5 +1,5 @@
 -- From the first digits of a number to its word.
-use Rattle.std.proofs.Common.{◌≡◌, ℕ, ◌+◌, ◌-◌, ◌*◌, ◌/◌, ◌%◌, ◌^◌, ◌<◌, ◌≤◌, inl, inr, Bool, true, false, ℤ, pos, ◌+ℤ◌, ◌-ℤ◌, ◌≤ℤ◌, refl, sym, ap, subst, ◌∙◌, arith}
+use Rattle.std.proofs.Common.{◌≡◌, ℕ, ◌+◌, ◌-◌, ◌*◌, ◌/◌, ◌%◌, ◌^◌, ◌<◌, ◌≤◌, inl, inr, Bool, true, false, ℤ, pos, ◌+ℤ◌, ◌-ℤ◌, ◌≤ℤ◌, sym, ap, subst, ◌∙◌, arith}
 use Rattle.std.proofs.Math.Nat.{mul-le-mul_right, mul-lt-mul_of_pos_right, le_of_mul-le-mul_right, mul-pos, pow-le-pow_right, mul_assoc}
 use Rattle.std.proofs.lemmas.Nat.{pow_pos, pow-add, mod_below, div-add-mod', shr_below, le-div, one_shl}
 use Rattle.std.proofs.lemmas.Bool.{cases_lt, cases_Bool}
@@ -11,8 +11,9 @@ use Rattle.core.specs.Dec2flt.Rounding.{scaled_bits, IsJustAbove, IsSignificand}
 use Rattle.core.proofs.dec2flt.Patterns.{shape}
 use Rattle.core.proofs.dec2flt.RoundingLemmas.{nearest_below, nearest_tie, nearest_above}
 use Rattle.grib_dyadic.specs.Length.{IsLength}
-use Rattle.grib_nearest.specs.Leading.{IsFloor, IsLeading}
-use Rattle.grib_nearest.specs.Nearest.{field_unit, nearest_word}
+use Rattle.grib_long.specs.Floor.{IsFloor}
+use Rattle.grib_nearest.specs.Leading.{IsLeading}
+use Rattle.grib_nearest.specs.Nearest.{nearest_word}
 use Rattle.grib_nearest.proofs.Rounds.{rounds_to}
 
 -- Of steps of 2 ^ exponent with so many digits, `cut` digits are dropped: what is kept counts 2 ^ (field - low). It has `prec`

@@ -1,12 +1,11 @@
 -- What words stand for, in units of the least number above 0: the numbers rise with the words.
-use Rattle.std.proofs.Common.{◌≡◌, ℕ, zero, suc, ◌+◌, ◌-◌, ◌*◌, ◌/◌, ◌%◌, ◌^◌, ◌<◌, ◌≤◌, inl, inr, cond, ◌==◌, refl, sym, ap, subst, ◌∙◌, arith}
-use Rattle.std.proofs.Math.Nat.{mul-le-mul_right, mul_assoc, mul-lt-mul_of_pos_right, pow-suc}
+use Rattle.std.proofs.Common.{◌≡◌, ℕ, zero, suc, ◌+◌, ◌-◌, ◌*◌, ◌/◌, ◌%◌, ◌^◌, ◌<◌, ◌≤◌, inl, inr, cond, ◌==◌, ap, ◌∙◌, arith}
+use Rattle.std.proofs.Math.Nat.{mul-le-mul_right, pow-suc}
 use Rattle.std.proofs.lemmas.Nat.{pow_pos, mod_below, div-add-mod'}
 use Rattle.std.proofs.lemmas.Bool.{cases_lt}
 use borrow.Author.Tests.{ne_eqb}
 use lib.Arith.{digits_div, digits_mod}
 use lib.Ieee.{Format, prec}
-use Rattle.core.proofs.dec2flt.Patterns.{shape}
 use Rattle.grib_nearest.specs.Nearest.{field_unit, units_of}
 
 pub unit_some : (f : Format) → 0 < field_unit f

@@ -3,3 +3,4 @@ pub mod Formats
 pub mod Leading
 pub mod Values
 pub mod Fractions
+pub mod Numbers

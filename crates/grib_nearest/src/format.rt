@@ -8,7 +8,7 @@ ghost use Rattle.grib_nearest.specs.Values.{signed_word};
 
 /// A binary interchange format (IEEE 754-2019, table 3.5).
 #[derive(Clone, Copy, Debug, PartialEq, Eq)]
-pub(crate) enum Format {
+pub enum Format {
     Binary32,
     Binary64,
 }

@@ -42,7 +42,7 @@ pub fn binary32(number: i128, exponent: i32, divisor: u128) -> u32
 
 /// The word of the format that is nearest to `number * 2 ^ exponent / divisor`.
 #[inline]
-fn word(format: Format, number: i128, exponent: i32, divisor: u128) -> u64
+pub(crate) fn word(format: Format, number: i128, exponent: i32, divisor: u128) -> u64
     requires few { nat_abs number < 2 ^ 126 }
     requires exponent { nat_abs exponent ≤ 2 ^ 20 }
     requires some { 0 < divisor }

@@ -38,7 +38,7 @@ fn command_of(asked: &Result<Job, JobFault>) -> &'static str {
 }
 
 // Lines that are read, each as the command that its first word names.
-const READ: [&str; 71] = [
+const READ: [&str; 74] = [
     // Each command has its name.
     "check",
     "list",
@@ -130,7 +130,7 @@ const READ: [&str; 71] = [
 ];
 
 // Lines that are not, with the place of the first word that is not read.
-const UNREAD: [(u64, &str); 152] = [
+const UNREAD: [(u64, &str); 159] = [
     // Others have none.
     (0, ""),
     (0, "Check"),

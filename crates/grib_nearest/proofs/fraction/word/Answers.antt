@@ -1,9 +1,6 @@
-use Rattle.std.proofs.Common.{◌≡◌, ◌<◌, ◌+◌, ℕ, true, nat_abs, FitsSigned, to_z, of_z, to_z-of_z, sym, ap, ◌∙◌, arith, rules}
+use Rattle.std.proofs.Common.{◌≡◌, ◌+◌, true, nat_abs, to_z-of_z, ap, ◌∙◌, arith}
 use Rattle.std.proofs.lemmas.Int.{ints}
-use Rattle.std.specs.Int.{w32, w128, is_negative}
 use Rattle.grib_nearest.specs.Formats.{format_of}
-use Rattle.grib_nearest.specs.Fractions.{numerator_at, denominator_at}
-use Rattle.grib_nearest.specs.Nearest.{nearest_word}
 use Rattle.grib_nearest.specs.Values.{signed_word}
 use Rattle.grib_nearest.proofs.Numbers.{zero_signed, plus_signed, minus_signed, denominator_some, infinity_below}
 use Rattle.grib_nearest.proofs.fraction.word.Goals as goal

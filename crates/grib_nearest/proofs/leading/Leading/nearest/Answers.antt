@@ -1,4 +1,4 @@
-use Rattle.std.proofs.Common.{◌≡◌, ℕ, ◌+◌, ◌-◌, ◌*◌, ◌%◌, ◌^◌, ◌≤◌, ◌+ℤ◌, ◌-ℤ◌, ◌≤ℤ◌, ℤ, pos, FitsSigned, to_z-of_z, sym, ap, ◌∙◌, arith, rules}
+use Rattle.std.proofs.Common.{◌≡◌, ℕ, ◌+ℤ◌, ◌-ℤ◌, ℤ, pos, FitsSigned, to_z-of_z, ◌∙◌, arith, rules}
 use Rattle.std.specs.Int.{w32, int_max}
 use Rattle.std.specs.Float.Ieee.{Format, prec, low}
 use Rattle.grib_nearest.specs.Formats.{format_of}
