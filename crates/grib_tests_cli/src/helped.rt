@@ -56,7 +56,7 @@ const WORDS_AT_FAULT: [(&str, &str); 12] = [
     ),
     (
         "help filter centre=kwbc",
-        "word 1 \"centre=kwbc\": centre is a value, a list as 1,2 or a range as 0..24; a value is a whole number without zeros before it, or missing\n",
+        "word 1 \"centre=kwbc\": centre is a whole number without zeros before it, as 98, 0 or -5, or missing\n",
     ),
     (
         "help filter centre",
