@@ -6,4 +6,3 @@ mod Asked
 pub mod Printed
 mod Single
 mod Helped
-mod Told
