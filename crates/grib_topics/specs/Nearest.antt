@@ -1,0 +1,42 @@
+-- The name that is nearest to a word.
+use Rattle.std.specs.Prelude.{ℕ, ◌&&◌, cond, nat_lt, nat_eq, List, [], length, map, drop}
+use Rattle.std.specs.List.{fold}
+use Rattle.std.specs.Str.{chars}
+use Rattle.std.specs.Char.{to_ascii_lowercase}
+use Rattle.strsim.specs.Edits.{levenshtein_row}
+use Rattle.grib_topics.specs.Topics as topics
+use Rattle.grib_topics.specs.Topics.{command_texts, key_texts}
+
+abbrev pub first_word : List ℕ → List ℕ
+first_word text = topics.first_word text
+
+-- how many letters are to be changed, put in or left out, whatever their case
+abbrev pub changes : List ℕ → List ℕ → ℕ
+changes word name =
+    let here = chars (map to_ascii_lowercase word) in
+    let there = chars (map to_ascii_lowercase name) in
+    levenshtein_row nat_eq here there (length there)
+
+-- a name, and how many letters a word differs from it
+pub record Seen : Type 0 where
+  pub name : List ℕ
+  pub changes : ℕ
+
+abbrev pub seen : List ℕ → ℕ → Seen
+seen name changes = record { name = name; changes = changes }
+
+-- the nearer one of two names: the first where they are as near, or where as many letters change as the second has
+abbrev pub nearer : List ℕ → Seen → List ℕ → Seen
+nearer word best name =
+    let count = changes word name in
+    cond (nat_lt count best.changes && nat_lt count (length name)) (seen name count) best
+
+-- the first word of one of these texts that is nearest to a word, where no more than three letters change
+abbrev pub nearest : List ℕ → List (List ℕ) → List ℕ
+nearest word texts = (fold (nearer word) (seen [] 4) (map first_word texts)).name
+
+abbrev pub nearest_key : List ℕ → List ℕ
+nearest_key word = nearest word (drop 1 key_texts)
+
+abbrev pub nearest_command : List ℕ → List ℕ
+nearest_command word = nearest word command_texts

@@ -1,0 +1,81 @@
+//! The name that is nearest to a word.
+
+ghost use Rattle.std.specs.Prelude.{◌≡◌, IfOk, map};
+ghost use Rattle.grib_topics.specs.Nearest as near;
+
+use crate::table::{COMMANDS, KEYS};
+use std::alloc::{AllocError, Global};
+use strsim::levenshtein;
+
+/// A name, and by how many letters a word differs from it.
+#[derive(Clone, Copy, Debug)]
+struct Near<'a> {
+    name: &'a str,
+    changes: usize,
+}
+
+/// The name of the key that is nearest to a word, by the fewest letters that are to be changed, put in or left out,
+/// whatever their case: no more than three, and fewer than the name has. It is empty where no name is so near. Of
+/// several names as near it is the first. The only error is that there is no memory.
+pub fn nearest_key(alloc: Global, word: &str) -> Result<&'static str, AllocError>
+    ensures { IfOk result (λ name. name.now ≡ near.nearest_key word.now) }
+{
+    nearest(alloc, word, &KEYS[1..])
+}
+
+/// The name of the command that is nearest to a word, as `nearest_key` has it of keys.
+pub fn nearest_command(alloc: Global, word: &str) -> Result<&'static str, AllocError>
+    ensures { IfOk result (λ name. name.now ≡ near.nearest_command word.now) }
+{
+    nearest(alloc, word, &COMMANDS)
+}
+
+/// The first word of one of the texts that is nearest to a word.
+fn nearest<'a>(alloc: Global, word: &str, texts: &[&'a str]) -> Result<&'a str, AllocError>
+    ensures { IfOk result (λ name. name.now ≡ near.nearest word.now (map (λ t. t.now) texts.now)) }
+{
+    let mut best = Near {
+        name: "",
+        changes: 4,
+    };
+    for text in texts {
+        best = nearer(alloc, word, best, first_word(text))?;
+    }
+    Ok(best.name)
+}
+
+/// The one of two names that is nearer to a word; the first one where they are as near.
+fn nearer<'a>(
+    alloc: Global,
+    word: &str,
+    best: Near<'a>,
+    name: &'a str,
+) -> Result<Near<'a>, AllocError>
+    ensures { IfOk result (λ found. near.seen found.name.now found.changes ≡ near.nearer word.now (near.seen best.entry.name.now best.entry.changes) name.now) }
+{
+    let changes = changes(alloc, word, name)?;
+    if changes < best.changes && changes < name.len() {
+        Ok(Near { name, changes })
+    } else {
+        Ok(best)
+    }
+}
+
+/// How many letters are to be changed, put in or left out, whatever their case.
+fn changes(alloc: Global, word: &str, name: &str) -> Result<usize, AllocError>
+    ensures { IfOk result (λ count. count ≡ near.changes word.now name.now) }
+{
+    let word = word.to_ascii_lowercase(alloc)?;
+    let name = name.to_ascii_lowercase(alloc)?;
+    levenshtein(alloc, word.as_str(), name.as_str())
+}
+
+/// What stands before the first blank of a text.
+fn first_word(text: &str) -> &str
+    ensures { result.now ≡ near.first_word text.now }
+{
+    match text.split_once(' ') {
+        Some((first, _)) => first,
+        None => text,
+    }
+}
