@@ -83,13 +83,13 @@ fn large_messages_come_whole(rt: HostRuntime) -> Result<(), Fail> {
     for _ in 0..6 {
         octets.extend_from_slice(made.as_slice())?;
     }
-    let mut count = 0;
+    let mut count: u64 = 0;
     let mut values: u64 = 0;
     for message in messages(alloc, &octets) {
         let Ok(message) = message else {
             return Err(Fail::from("refused"));
         };
-        count += 1;
+        count = count.saturating_add(1);
         assert!(rt; message.octets() == made.as_slice());
         for field in message.fields() {
             values = values.saturating_add(field.values(alloc)?.count() as u64);
