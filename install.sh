@@ -72,6 +72,7 @@ files() {
 644 docs/GUARANTEES.md share/doc/grib/docs/GUARANTEES.md
 644 docs/MEASURING.md share/doc/grib/docs/MEASURING.md
 644 docs/HISTORY.md share/doc/grib/docs/HISTORY.md
+644 docs/LIBRARY.md share/doc/grib/docs/LIBRARY.md
 644 docs/ARCHITECTURE.md share/doc/grib/docs/ARCHITECTURE.md
 644 docs/DEFINITIONS.md share/doc/grib/docs/DEFINITIONS.md
 644 docs/DECISIONS.md share/doc/grib/docs/DECISIONS.md
