@@ -1,16 +1,16 @@
 //! Copies the temperatures at 500 hPa of standard input to standard output, each as a message of its own.
 #![tactic(auto)]
 
-use grib::{Key, KeyValue, messages};
+use grib::{Field, Key, KeyValue, messages};
 use std::io::{Read, Write};
 
-/// Category 0, number 0 (temperature) at 50,000 (type of surface 100: Pa).
-const WANTED: [(Key, i64); 4] = [
-    (Key::Category, 0),
-    (Key::Number, 0),
-    (Key::Surface1, 100),
-    (Key::Surface1Value, 50_000),
-];
+/// Whether a field has category 0 and number 0 (temperature) at 50,000 Pa (type of surface 100).
+fn is_wanted(field: &Field<'_, '_>) -> bool {
+    field.key(Key::Category) == Some(KeyValue::Number(0))
+        && field.key(Key::Number) == Some(KeyValue::Number(0))
+        && field.key(Key::Surface1) == Some(KeyValue::Number(100))
+        && field.key(Key::Surface1Value) == Some(KeyValue::Number(50_000))
+}
 
 fn main(rt: HostRuntime) -> anyhow::Result<()> {
     let alloc = rt.alloc();
@@ -19,9 +19,7 @@ fn main(rt: HostRuntime) -> anyhow::Result<()> {
     for message in messages(alloc, &octets) {
         let message = message?;
         for field in message.fields() {
-            if WANTED.iter().all(|&(key, number)| field.key(key)
-                == Some(KeyValue::Number(number)))
-            {
+            if is_wanted(&field) {
                 rt.stdout().write_all(&field.extract(alloc)?)?;
             }
         }
