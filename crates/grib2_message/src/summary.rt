@@ -2,16 +2,17 @@
 
 ghost use Rattle.std.specs.Prelude.{◌≡◌, ◌≢◌, ◌≤◌, ℕ, List, [], ◌∷◌, None, length};
 ghost use Rattle.grib_base.specs.Rows.{first_fault_at};
+ghost use Rattle.grib_base.specs.declared.profile.Profile.{Profile};
 ghost use Rattle.grib_bits.specs.Octets.{octets as number_at};
-ghost use Rattle.grib_packing.specs.Packing.{packing_template, bit_width, value_count};
+ghost use Rattle.grib_packing.specs.Packing.{packing_template, value_count};
 ghost use Rattle.grib2_grids.specs.Grid.{grid_points, grid_template};
 ghost use Rattle.grib2_products.specs.Product.{product_template};
 ghost use Rattle.grib2_sections.specs.Frame.{Placed, placed_at};
 ghost use Rattle.grib2_sections.specs.Identification.{identification_rows};
-ghost use Rattle.grib2_message.specs.Acceptance.{section_fault};
+ghost use Rattle.grib2_message.specs.Acceptance.{section_fault_under};
 ghost use Rattle.grib2_message.specs.Fields.{field_count, part_octets};
 ghost use Rattle.grib2_message.specs.Message.{FieldPasses};
-ghost use Rattle.grib2_message.specs.Summary.{identification_of, summary_in_force, summary_of};
+ghost use Rattle.grib2_message.specs.Summary.{bits_of_packing, identification_of, instant_octets, summary_in_force, summary_of};
 
 use crate::Message;
 use grib_base::Section;
@@ -97,7 +98,7 @@ impl FieldSummary {
 
     /// What describes a field after the next section, which no row refused.
     pub fn with_section(self, section: &Section<'_>) -> FieldSummary
-        requires accepted { (before : List Placed) × (section_fault before
+        requires accepted { (profile : Profile) × (before : List Placed) × (section_fault_under profile before
             (placed_at section.now.start section.now.octets.now) ≡ None) }
         ensures { (discipline : ℕ) (before : List Placed) → self ≡ summary_in_force discipline before
             → result ≡ summary_in_force discipline (placed_at section.now.start section.now.octets.now ∷ before) }
