@@ -5,7 +5,7 @@ pub mod Left
 pub mod Fields
 pub mod Sections
 pub mod Packings
-pub mod Opaque
+pub mod OpaquePackings
 pub mod Masks
 pub mod Below
 pub mod Ends
