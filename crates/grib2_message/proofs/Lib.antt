@@ -8,7 +8,6 @@ pub mod Fronts
 pub mod Holding
 pub mod Latest
 pub mod Joined
-pub mod Lengths
 pub mod Masks
 pub mod Order
 pub mod Parted

@@ -115,7 +115,7 @@ impl InForce {
     /// Goes past a Section 7, which no row refused: a field ends.
     pub fn end_field(&mut self)
         requires few { (before : List Placed) × HasInForce before self.old }
-        ensures { (before : List Placed) (s : Placed) → HasInForce before self.old
+        ensures force { (before : List Placed) (s : Placed) → HasInForce before self.old
             → section_number s.octets ≡ 7 → IsTrue (may_follow (last_number before) 7)
             → section_fault_under self.old.profile before s ≡ None → HasInForce (s ∷ before) self.new }
         ensures profile { self.new.profile ≡ self.old.profile }

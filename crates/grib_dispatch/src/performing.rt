@@ -4,7 +4,7 @@ use crate::counting::counted;
 use crate::hearing::{SecondHearer, heard};
 use crate::held::answer_held;
 use crate::reading::read_held;
-use grib_base::{Fault, ReadFault};
+use grib_base::{Fault, Profile, ReadFault};
 use grib_command::{Answered, Answerer, copied_line, kept_line};
 use grib_io::{Shelf, Sink, Stop};
 use grib_stream::{Extent, Kept, Outcome, Performed, Performer, Place, Totals, Whole};
@@ -48,7 +48,7 @@ impl<C: Answerer> Performer for Answering<'_, C> {
 
     fn hear(&self, alloc: Global) -> SecondHearer {
         SecondHearer {
-            arrival: Arrival::new(alloc),
+            arrival: Arrival::new(alloc, Profile::Stated),
         }
     }
 

@@ -8,7 +8,7 @@ pub with_identification-requires : goal.with_identification-requires
 with_identification-requires c =
     let section = c.args.section.now in
     let r = c.requires.accepted in
-    record { accepted = sym (fault_by_number r.0 (placed_at section.start section.octets.now) section.number section.itself.number_stands 1 c.in-1.is) ∙ r.1 }
+    record { accepted = sym (fault_by_number r.1 (placed_at section.start section.octets.now) section.number section.itself.number_stands r.0 1 c.in-1.is) ∙ r.2 }
 
 pub returns-in-1 : goal.returns-in-1
 returns-in-1 c = λ d before is.
