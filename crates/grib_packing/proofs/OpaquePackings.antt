@@ -1,15 +1,15 @@
 -- Lemmas on opaque packings, and on a Section 5 under a profile.
-use Rattle.std.proofs.Common.{◌≡◌, ℕ, ◌<◌, ◌≤◌, Bool, true, false, not, cond, ◌||◌, ◌==◌, unwrap_or, Option, Some, None, List, [], refl, sym, ap, ◌∙◌, arith, length}
-use Rattle.std.proofs.lemmas.Bool.{ltb-false, lt-ltb, not-false}
+use Rattle.std.proofs.Common.{◌≡◌, ℕ, ◌<◌, ◌≤◌, Bool, true, false, not, cond, ◌||◌, ◌==◌, unwrap_or, nat_lt, Option, Some, None, List, [], refl, ap, ◌∙◌, arith, length}
+use Rattle.std.proofs.lemmas.Bool.{ltb-false, lt-ltb}
 use Rattle.grib_base.specs.declared.fault.Fault.{Fault}
 use Rattle.grib_base.specs.declared.fault.Reason.TheVariants.{SectionLength}
 use Rattle.grib_base.specs.declared.profile.Profile.{Profile}
 use Rattle.grib_base.specs.declared.profile.Profile.TheVariants.{Stated, Open}
-use Rattle.grib_base.specs.Rows.{choose, first_fault, refusal}
+use Rattle.grib_base.specs.Rows.{Row, choose, first_fault, or_then, refusal}
 use Rattle.grib_base.proofs.Passing.{passes_from_none}
 use Rattle.grib_packing.specs.Entries.{PackingTemplate, simple_packing, complex_packing, unlisted_packing, is_packing, packing_of, is_opaque_packing, opaque_packing_rows, packing_rows, packing_fault, packing_fault_under, data_fault, entries_of}
 use Rattle.grib_packing.specs.Packing.{packing_template, value_count}
-use Rattle.grib_packing.proofs.Packings.{PackingPasses, packing_passes, packing_shared}
+use Rattle.grib_packing.proofs.Packings.{packing_passes, packing_shared}
 
 -- ---- a template that is not in the list
 
@@ -51,12 +51,17 @@ accepted_under profile s points none = known_under profile s points (accepted_kn
 pub opaque_under : (s : List ℕ) (points : ℕ) → is_opaque_packing s ≡ true → packing_fault_under Open s points ≡ first_fault (opaque_packing_rows s points)
 opaque_under s points opaque = ap (λ (b : Bool). choose b (λ _. first_fault (opaque_packing_rows s points)) (λ _. packing_fault s points)) opaque
 
--- a section without a template is refused alike
+same_first : (b : Bool) (fault : Fault) (rest more : Option Fault) (later : Unit {0} → List Row) → b ≡ true → cond b (Some fault) rest ≡ or_then (cond b (Some fault) more) later
+same_first true fault rest more later is = refl
+same_first false fault rest more later is = cc
+
+-- a section that is too short for a template is refused alike
 pub short_under : (profile : Profile) (s : List ℕ) (points : ℕ) → length s < 11 → packing_fault_under profile s points ≡ packing_fault s points
 short_under Stated s points short = refl
-short_under Open s points short = goal where
-  goal : packing_fault_under Open s points ≡ packing_fault s points
-  goal = ?
+short_under Open s points short = by_choice (is_opaque_packing s) where
+  by_choice : (b : Bool) → choose b (λ _. first_fault (opaque_packing_rows s points)) (λ _. packing_fault s points) ≡ packing_fault s points
+  by_choice true = same_first (nat_lt (length s) 11) (refusal 1 SectionLength (length s)) _ _ _ (lt-ltb (length s) 11 short)
+  by_choice false = refl
 
 -- what is known of a Section 5 that is accepted under a profile
 pub record PassesUnder (s : List ℕ) (points : ℕ) : Type 0 where

@@ -1,9 +1,10 @@
 //! What Section 5 says of a field, where its packing may be opaque.
 
-ghost use Rattle.std.specs.Prelude.{◌≡◌, ◌&&◌, ℕ, List, length, nat_le, true, None, Some, MatchOption, MatchResult};
+ghost use Rattle.std.specs.Prelude.{◌≡◌, ℕ, List, true, false, None, Some, MatchOption, MatchResult};
+ghost use Rattle.grib_base.specs.declared.profile.Profile.TheVariants.{Open};
 ghost use Rattle.grib_base.specs.Faults.{AreTried};
 ghost use Rattle.grib_base.specs.Rows.{located};
-ghost use Rattle.grib_packing.specs.Entries.{data_fault, is_opaque_packing, packing_fault_under};
+ghost use Rattle.grib_packing.specs.Entries.{data_fault, is_opaque_packing, packing_fault, packing_fault_under};
 ghost use Rattle.grib_packing.specs.Packing.{value_count};
 ghost use Rattle.grib_packings.specs.Field.{IsDataOf, Represents};
 
@@ -39,7 +40,7 @@ impl DataRepresentation {
             (λ fault. located section5.now.start (packing_fault_under profile section5.now.octets.now points)
             ≡ Some fault) }
     {
-        if profile == Profile::Open && names_opaque(section5.octets) {
+        if is_taken_opaque(profile, section5.octets) {
             return Ok(DataRepresentation::Opaque(read_opaque(section5, points)?));
         }
         Ok(DataRepresentation::Read(Representation::read(
@@ -86,9 +87,15 @@ impl DataRepresentation {
     }
 }
 
-/// Whether a Section 5 has a template at all, and it is that of an opaque packing.
-fn names_opaque(octets: &[u8]) -> bool
-    ensures { result ≡ (nat_le 11 (length octets.now) && is_opaque_packing octets.now) }
+/// Whether a Section 5, by its octets, is one whose template is not asked for under a profile. One that is too short for
+/// a template is not.
+fn is_taken_opaque(profile: Profile, octets: &[u8]) -> bool
+    ensures opaque { result ≡ true → (profile ≡ Open) × (is_opaque_packing octets.now ≡ true) }
+    ensures known { result ≡ false → (points : ℕ)
+        → packing_fault_under profile octets.now points ≡ packing_fault octets.now points }
 {
-    octets.len() >= 11 && is_opaque(octets)
+    match profile {
+        Profile::Stated => false,
+        Profile::Open => octets.len() >= 11 && is_opaque(octets),
+    }
 }
