@@ -9,6 +9,7 @@ pub mod Holding
 pub mod Latest
 pub mod Joined
 pub mod Masks
+pub mod Opened
 pub mod Order
 pub mod Parted
 pub mod Parts

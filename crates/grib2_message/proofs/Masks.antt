@@ -8,7 +8,7 @@ use Rattle.grib_base.specs.declared.profile.Profile.{Profile}
 use Rattle.grib_base.specs.Rows.{first_fault}
 use Rattle.grib2_grids.specs.Grid.{grid_points}
 use Rattle.grib2_grids.specs.Opaque.{grid_rows_under}
-use Rattle.grib2_grids.proofs.Under.{point_bounds}
+use Rattle.grib2_grids.proofs.Under.{grid_point_bounds}
 use Rattle.grib_bitmap.specs.Mask.{bitmap_indicator, bitmap_rows, mask_of, own_mask, present_count}
 use Rattle.grib_packing.specs.declared.column.Point.{Point}
 use Rattle.grib_packing.specs.Column.{points_with_mask}
@@ -147,7 +147,7 @@ module _ (m : List ℕ) (before : List Placed) (places : Places) (h : IsField m 
 
 -- the number of points of a grid that is accepted
 pub points_bounds : (profile : Profile) (s : List ℕ) → first_fault (grid_rows_under profile s) ≡ None → (1 ≤ grid_points s) × (grid_points s ≤ 33554432)
-points_bounds profile s none = point_bounds profile s none
+points_bounds profile s none = grid_point_bounds profile s none
 
 -- a column has a point for each bit of its mask
 pub points_of_mask : (presence : List Bool) (entries : List Point) → length (points_with_mask presence entries) ≡ length presence

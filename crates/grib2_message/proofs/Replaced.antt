@@ -11,7 +11,7 @@ use Rattle.grib2_sections.specs.Frame.{Placed, placed_at, section_number, may_en
 use Rattle.grib2_sections.specs.Identification.{identification_rows}
 use Rattle.grib2_grids.specs.Grid.{grid_points}
 use Rattle.grib2_grids.specs.Opaque.{grid_rows_under}
-use Rattle.grib2_grids.proofs.Under.{header_length}
+use Rattle.grib2_grids.proofs.Under.{grid_header_length}
 use Rattle.grib2_products.specs.Opaque.{product_rows_under}
 use Rattle.grib_bitmap.specs.Mask.{bitmap_indicator, bitmap_rows, mask_of}
 use Rattle.grib_packing.specs.Packing.{value_count}
@@ -59,7 +59,7 @@ grid_in_force grid before others h some =
 -- where no row refused a section, there is one after Section 3
 pub some_grid : (profile : Profile) (before : List Placed) → AreSound profile before → 3 ≤ last_number before → 1 ≤ length (octets_in_force 3 before)
 some_grid profile before sound low =
-    let long : 14 ≤ length (octets_in_force 3 before) = header_length profile (octets_in_force 3 before) (sound.grid low) in
+    let long : 14 ≤ length (octets_in_force 3 before) = grid_header_length profile (octets_in_force 3 before) (sound.grid low) in
     omega (arith, long)
 
 pub points_new : (profile : Profile) (grid : List ℕ → List ℕ) (before others : List Placed) → Along (Fits grid) before others → AreSound profile before → 3 ≤ last_number before

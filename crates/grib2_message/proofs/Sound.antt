@@ -10,6 +10,7 @@ use Rattle.grib2_sections.specs.Identification.{identification_rows}
 use Rattle.grib2_grids.specs.Grid.{grid_points}
 use Rattle.grib2_grids.specs.Opaque.{grid_rows_under}
 use Rattle.grib2_products.specs.Opaque.{product_rows_under}
+use Rattle.grib2_products.proofs.Under.{product_first, product_few}
 use Rattle.grib_bitmap.specs.Mask.{bitmap_indicator, bitmap_rows, mask_of, own_mask}
 use Rattle.grib_packing.specs.Packing.{value_count}
 use Rattle.grib_packing.specs.Entries.{packing_fault_under, data_fault}
@@ -85,12 +86,6 @@ module _ (s : Placed) (before : List Placed) where
       ∙ ap (λ (b : Bool). cond b 1 0 + section_count k before) (ne_eqb (section_number s.octets) k ne)
       ∙ zero-add (section_count k before)
 
--- a product that is accepted anywhere would be the first of its message
-as_first : (profile : Profile) (s : List ℕ) (n : ℕ) → first_fault (product_rows_under profile s n) ≡ None → first_fault (product_rows_under profile s 1) ≡ None
-as_first profile s n none =
-    let p = passes_from_none (product_rows_under profile s n) none in
-    none_from_passes (product_rows_under profile s 1) (p.0, (refl, p.1.1))
-
 -- ---- the parts
 
 module _ (profile : Profile) (s : Placed) (before : List Placed) (h : AreSound profile before) (f : Follows (last_number before) (section_number s.octets)) (accepted : section_fault_under profile before s ≡ None) where
@@ -136,7 +131,7 @@ module _ (profile : Profile) (s : Placed) (before : List Placed) (h : AreSound p
   product_after high = elim (cases_eq (section_number s.octets) 4) [
     | inl same ↦
         ap (λ (x : List ℕ). first_fault (product_rows_under profile x 1)) (octets_same s before 4 same)
-        ∙ as_first profile s.octets (section_count 4 before + 1)
+        ∙ product_first profile s.octets (section_count 4 before + 1)
         (none_located s.start (first_fault (product_rows_under profile s.octets (section_count 4 before + 1))) (accepted_as 4 same))
     | inr other ↦
         ap (λ (x : List ℕ). first_fault (product_rows_under profile x 1)) (octets_other s before 4 other)
@@ -221,8 +216,7 @@ module _ (profile : Profile) (s : Placed) (before : List Placed) (h : AreSound p
   few_after : section_count 4 (s ∷ before) ≤ 4096
   few_after = elim (cases_eq (section_number s.octets) 4) [
     | inl same ↦
-        let rows = passes_from_none (product_rows_under profile s.octets (section_count 4 before + 1)) (none_located s.start _ (accepted_as 4 same)) in
-        let ne : section_count 4 before + 1 ≢ 4097 = eqb-false (section_count 4 before + 1) 4097 rows.1.0 in
+        let ne = product_few profile s.octets (section_count 4 before + 1) (none_located s.start _ (accepted_as 4 same)) in
         let count = count_same s before 4 same in
         let few : section_count 4 before ≤ 4096 = h.few in
         let other : section_count 4 before ≢ 4096 = λ e. ne (omega arith) in

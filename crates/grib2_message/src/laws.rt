@@ -4,10 +4,11 @@ ghost use Rattle.std.specs.Prelude.{◌≡◌, ◌≢◌, ℕ, ◌+◌, ◌<◌,
 ghost use Rattle.grib_base.specs.declared.fault.Fault.{Fault};
 ghost use Rattle.grib_base.specs.declared.fault.Reason.TheVariants.{Truncated};
 ghost use Rattle.grib_base.specs.declared.profile.Profile.{Profile};
+ghost use Rattle.grib_base.specs.declared.profile.Profile.TheVariants.{Stated, Open};
 ghost use Rattle.grib2_sections.specs.Head.{indicator, edition, total_length};
 ghost use Rattle.grib2_sections.specs.Verdict.{Accepted, Refused};
 ghost use Rattle.grib2_message.specs.Acceptance.{verdict_under};
-ghost use Rattle.grib2_message.specs.Grammar.{GrammarUnder};
+ghost use Rattle.grib2_message.specs.Grammar.{GrammarUnder, HaveStatedTemplates};
 ghost use Rattle.grib2_message.specs.Fields.{sections_of, field_count, field_mask, part_octets, column_of};
 ghost use Rattle.grib2_message.specs.Message.{IsMessageUnder, FieldPassesUnder};
 ghost use Rattle.grib2_message.specs.Assembled.{assembled, assembled_with, MayBeAssembledUnder, MayBeAssembledWithUnder};
@@ -28,6 +29,16 @@ pub fn accepted_is_in_the_grammar()
         → map (λ s. s.octets) (sections_of message) ≡ sections }
     ensures the_same_sections { (profile : Profile) (message after : List ℕ) (sections : List (List ℕ))
         → GrammarUnder profile message sections → sections_of (message ++ after) ≡ sections_of message }
+{}
+
+/// What the profile of the stated templates accepts, the open one accepts, with the same length. Where no grid, no
+/// product and no packing is opaque, the two accept the same.
+pub fn profiles_differ_in_opaque_templates_alone()
+    ensures opened { (rest : List ℕ) (total : ℕ) → verdict_under Stated rest ≡ Accepted total
+        → verdict_under Open rest ≡ Accepted total }
+    ensures message { (message : List ℕ) → IsMessageUnder Stated message → IsMessageUnder Open message }
+    ensures alike { (rest : List ℕ) (total : ℕ) → HaveStatedTemplates (sections_of rest)
+        → verdict_under Open rest ≡ Accepted total → verdict_under Stated rest ≡ Accepted total }
 {}
 
 /// What is said of octets stays said whatever follows them: an acceptance, and each refusal but that of
