@@ -37,7 +37,11 @@ pub fn check_grid(profile: Profile, section: &Section<'_>) -> Result<(), ReadFau
 }
 
 /// Tries the rows of a Section 4 that stands after this number of fields.
-pub fn check_product(profile: Profile, fields: usize, section: &Section<'_>) -> Result<(), ReadFault>
+pub fn check_product(
+    profile: Profile,
+    fields: usize,
+    section: &Section<'_>,
+) -> Result<(), ReadFault>
     ensures { AreTried (first_fault_at section.now.start
         (product_rows_under profile section.now.octets.now (fields + 1))) result }
 {

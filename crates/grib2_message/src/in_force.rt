@@ -96,7 +96,11 @@ impl InForce {
             }
             4 => check_product(self.profile, self.fields, section),
             5 => {
-                self.representation = Some(DataRepresentation::read(self.profile, section, self.points)?);
+                self.representation = Some(DataRepresentation::read(
+                    self.profile,
+                    section,
+                    self.points,
+                )?);
                 Ok(())
             }
             6 => {

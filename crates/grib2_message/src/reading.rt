@@ -36,7 +36,12 @@ pub fn read_message<'a>(alloc: Global, octets: &'a [u8]) -> Result<Message<'a>, 
 }
 
 /// Walks over the sections of a message of this total length under this profile, and keeps where those of each field begin.
-fn read_fields(alloc: Global, profile: Profile, octets: &[u8], total: u64) -> Result<Vec<Places>, ReadFault>
+fn read_fields(
+    alloc: Global,
+    profile: Profile,
+    octets: &[u8],
+    total: u64,
+) -> Result<Vec<Places>, ReadFault>
     requires indicated { take 4 octets.now ≡ indicator }
     requires edition { edition octets.now ≡ 2 }
     requires begun { first_fault (head_rows octets.now) ≡ None }

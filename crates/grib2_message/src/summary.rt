@@ -213,7 +213,11 @@ impl FieldSummary {
         requires known { is_opaque_packing octets.now ≡ false → 20 ≤ length octets.now }
         ensures { result ≡ record self { packing = packing_template octets.now; bits = bits_of_packing octets.now; values = value_count octets.now } }
     {
-        let bits = if is_opaque(octets) { 0 } else { u8_at(octets, 20) };
+        let bits = if is_opaque(octets) {
+            0
+        } else {
+            u8_at(octets, 20)
+        };
         FieldSummary {
             packing: u16_at(octets, 10),
             bits,

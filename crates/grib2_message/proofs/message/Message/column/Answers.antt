@@ -9,8 +9,7 @@ use Rattle.grib2_message.proofs.message.Message.column.Goals as goal
 pub column_at-requires : goal.column_at-requires
 column_at-requires c =
     let m = c.self.inside.octets.now in
-    let last = subst (λ (x : List ℕ). c.args.field ≤ field_count x) (sym c.self.view_is) c.requires.last in
-    (
+    let last = subst (λ (x : List ℕ). c.args.field ≤ field_count x) (sym c.self.view_is) c.requires.last in (
       field_sections m c.args.field,
       field_kept Stated m c.self.inside.fields.items c.self.invariant c.args.field c.requires.first last _ c.index-places.ensures,
       field_read m c.self.inside.fields.items c.self.invariant c.args.field c.requires.first last _ c.index-places.ensures,

@@ -10,8 +10,7 @@ use Rattle.grib2_message.proofs.message.Message.take_values.Goals as goal
 pub take_values_at-requires : goal.take_values_at-requires
 take_values_at-requires g c =
     let m = c.self.inside.octets.now in
-    let last = subst (λ (x : List ℕ). c.args.field ≤ field_count x) (sym c.self.view_is) c.requires.last in
-    (
+    let last = subst (λ (x : List ℕ). c.args.field ≤ field_count x) (sym c.self.view_is) c.requires.last in (
       field_sections m c.args.field,
       field_kept Stated m c.self.inside.fields.items c.self.invariant c.args.field c.requires.first last _ c.index-places.ensures,
       field_read m c.self.inside.fields.items c.self.invariant c.args.field c.requires.first last _ c.index-places.ensures,
