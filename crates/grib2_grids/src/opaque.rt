@@ -6,9 +6,9 @@ ghost use Rattle.grib_base.specs.Rows.{first_fault_at};
 ghost use Rattle.grib2_grids.specs.Opaque as opaque;
 ghost use Rattle.grib2_grids.specs.Opaque.{grid_rows_under};
 
-use crate::rows::{check_grid, least_length};
-use grib_base::{Fault, MOST_POINTS, Profile, Reason, Section};
-use grib_bits::{u8_at, u16_at, u32_at};
+use crate::rows::{check_grid, check_point_count, least_length};
+use grib_base::{Fault, Profile, Reason, Section};
+use grib_bits::{u8_at, u16_at};
 
 /// Whether a section has an opaque grid: one that octets 13-14 do not define, or one by a template that is
 /// not stated.
@@ -53,9 +53,5 @@ fn check_any_grid(section: &Section<'_>) -> Result<(), Fault>
     if !is_opaque_grid(octets) {
         return check_grid(section);
     }
-    let points = u32_at(octets, 7);
-    if points == 0 || points > MOST_POINTS {
-        return Err(section.fault_at(7, Reason::PointCount, u64::from(points)));
-    }
-    Ok(())
+    check_point_count(section)
 }
