@@ -37,7 +37,7 @@ impl Model for Frame {
 const END_MARK: u32 = 0x37373737;
 
 impl Frame {
-    /// The walk that has passed Section 0 of a message of `total` octets.
+    /// The walk that stands after Section 0 of a message of `total` octets.
     pub fn new(total: u64) -> Frame
         requires shortest { 20 ≤ total }
         requires longest { total ≤ MOST_OCTETS }
@@ -178,7 +178,7 @@ impl Frame {
     }
 }
 
-/// Whether a section with this number may stand behind the section with the number `last`.
+/// Whether a section with this number may stand after the section with the number `last`.
 fn may_follow(last: u8, number: u8) -> bool
     requires { last ≤ 7 }
     ensures answer { result ≡ is_successor last number }

@@ -8,7 +8,7 @@ use crate::refusing::truncated;
 use byteorder::{BigEndian, ByteOrder};
 use grib_base::{Fault, Reason};
 
-/// What Section 0 tells of its message (WMO-No. 306, Volume I.2, FM 92 GRIB).
+/// What Section 0 says of its message (WMO-No. 306, Volume I.2, FM 92 GRIB).
 #[derive(Clone, Copy, Debug, PartialEq, Eq)]
 pub struct Head {
     /// The edition of the format, 1 or 2: octet 8.

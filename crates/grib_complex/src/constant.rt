@@ -12,7 +12,7 @@ use grib_packing::Point;
 use grib_spatial::Differences;
 use std::alloc::Global;
 
-/// What tells a column of which all points are the same: the differences, the code of each point, and the
+/// What determines a column of which all points are the same: the differences, the code of each point, and the
 /// missing value management.
 #[derive(Debug, Drop)]
 pub struct Constant {

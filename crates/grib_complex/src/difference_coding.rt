@@ -16,7 +16,7 @@ use grib_packing::{PackFault, Point, word_of};
 use grib_spatial::{Differences, FirstAndLeast, Trail};
 use std::alloc::Global;
 
-/// What tells the differences of the points that are not missing, without their codes.
+/// What the differences of the points that are not missing follow from, without their codes.
 pub fn differences_of(alloc: Global, points: &[Point], order: u8) -> Differences
     requires order { IsOrder order }
     requires few { length points.now ≤ 33554432 }
@@ -33,7 +33,7 @@ pub fn differences_of(alloc: Global, points: &[Point], order: u8) -> Differences
 }
 
 /// The codes of the differences at the points that are not missing, how far each is above the least one, and
-/// the marks of missing points.
+/// the codes of missing points.
 ///
 /// # Errors
 ///

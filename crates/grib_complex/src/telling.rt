@@ -1,4 +1,4 @@
-//! The points that codes tell.
+//! The points that codes stand for.
 
 ghost use Rattle.std.specs.Prelude.{◌≡◌, ℕ, ◌+◌, ◌<◌, ◌≤◌, ◌^◌, true, List, [], ◌∷◌, ◌++◌, length};
 ghost use Rattle.grib_base.specs.declared.code.Code.{Code as code_of_value};
@@ -11,18 +11,18 @@ use grib_base::Code;
 use grib_packing::Point;
 use grib_spatial::{Running, ScaledRange};
 
-/// Tells the points of the codes of differences.
+/// Finds the points of the codes of differences.
 #[derive(Debug, Drop)]
 pub struct Teller {
     pub(crate) running: Running,
-    /// How many points were told.
+    /// How many points were found.
     pub(crate) place: u64,
     /// The place, from 1, of the first point out of range, or 0.
     pub(crate) beyond: u64,
 }
 
 impl Teller {
-    /// Has told nothing.
+    /// Has found nothing.
     pub fn start(running: Running) -> Teller
         ensures running { result.running ≡ running }
         ensures nothing { Tells (telling_of running) [] result }

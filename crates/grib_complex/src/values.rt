@@ -12,7 +12,7 @@ use grib_groups::{CodeRun, RunTaker, Taker};
 use grib_packing::Keeper;
 use grib_spatial::Running;
 
-/// Tells the point of each code, which is that of a difference, and hands it on.
+/// Finds the point of each code, which is that of a difference, and hands it on.
 #[derive(Debug, Drop)]
 pub struct Values<K> {
     pub teller: Teller,
@@ -85,7 +85,7 @@ impl<K: Keeper> RunTaker for Values<K> {
     }
 }
 
-/// Hands the point of each code on, where a code is the scaled number itself.
+/// Hands the point of each code on, where a code is the scaled integer itself.
 #[derive(Debug, Drop)]
 pub struct PlainValues<K> {
     /// What keeps the points.

@@ -28,7 +28,7 @@ pub trait Changer {
     ghost lawful: { (changer : Self) → IsLawfulCommand (commands.changing (gives changer)) };
 }
 
-/// The command of what changes messages of edition 2. Those of edition 1 are kept.
+/// The command of what changes messages of edition 2. Those of edition 1 are not changed.
 #[derive(Debug, Drop)]
 pub struct Changing<C>(pub C);
 
@@ -62,7 +62,7 @@ impl<C: Changer> Writer for Changing<C> {
         self.0.change(alloc, message, output)
     }
 
-    /// No message is heard.
+    /// No message is judged incrementally.
     fn hears(&self) -> bool {
         false
     }

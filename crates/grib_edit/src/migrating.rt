@@ -59,7 +59,7 @@ impl Writer for Migrating<'_> {
         written(write_counted(output, message.octets()))
     }
 
-    /// No message is heard.
+    /// No message is judged incrementally.
     fn hears(&self) -> bool {
         false
     }

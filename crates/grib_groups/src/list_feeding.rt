@@ -40,7 +40,7 @@ impl FedLists {
     }
 
     /// Reads what the next octets hold of the lists, where `before` octets came before, counted from the
-    /// first list on. Octets after the lists are passed over.
+    /// first list on. Octets after the lists are skipped.
     pub fn push(self, alloc: Global, layout: &Layout, before: u64, piece: &[u8]) -> FedLists
         requires feedable { AreFeedable layout.now self }
         requires short { length piece.now < 2 ^ 32 }

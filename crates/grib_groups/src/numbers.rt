@@ -265,7 +265,7 @@ fn count_within(bits: u64, width: u32, count: u32) -> u32
     (bits / u64::from(width)) as u32
 }
 
-/// Keeps octets behind the bits that are pending.
+/// Keeps octets after the bits that are pending.
 fn keep(pending: &mut BitWindow, octets: &[u8])
     requires { length pending.old + 8 * length octets.now ≤ 64 }
     ensures { pending.new ≡ pending.old ++ bits_in octets.now }

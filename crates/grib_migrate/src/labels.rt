@@ -44,7 +44,7 @@ const MEAN: u8 = 17;
 
 const DEVIATION: u8 = 18;
 
-/// What is chosen by whether octets for local use are kept.
+/// What is chosen by whether octets for local use are preserved.
 pub(crate) fn kept_where(keep_local: bool) -> Local
     ensures { result ≡ labels.kept_where keep_local }
 {

@@ -29,9 +29,9 @@ use grib1_sections::Message1;
 use std::alloc::{AllocError, Global};
 
 /// The message of edition 2 with one field that has the values of this message of edition 1: the exact value
-/// or the missing mark of each point, and the parameter that the table has for it. The packed numbers are
-/// copied, and not unpacked. Octets 41 and further of Section 1, which are for the centre's own use, become
-/// Section 2 where they are to be kept.
+/// or the missing value of each point, and the parameter that the table has for it. The packed numbers are
+/// copied, and not unpacked. Octets 41 and further of Section 1, which are for local use, become
+/// Section 2 where they are to be preserved.
 ///
 /// # Errors
 ///

@@ -24,9 +24,9 @@ pub enum Demotion {
     Process,
     /// The reference time is no date and time of years 1 to 9999, or not on the minute.
     Date,
-    /// The interval is not one time range that edition 1 tells, or does not end where its time range does.
+    /// The interval is not one time range that edition 1 can express, or does not end where its time range does.
     Interval,
-    /// There are octets for the centre's own use, and they are not to be kept.
+    /// There is a Local Use Section, and it is not to be preserved.
     LocalUse,
     /// The earth is neither of the two of edition 1, and not any earth will do.
     EarthShape,
@@ -40,9 +40,9 @@ pub enum Demotion {
     Coordinate(u32),
     /// The reference value has no IBM word.
     Reference,
-    /// This point is secondary missing, which edition 1 cannot tell.
+    /// This point is secondary missing, which edition 1 cannot express.
     SecondaryMissing(u32),
-    /// The scaled number of this point is negative or has more than 48 bits.
+    /// The scaled integer of this point is negative or has more than 48 bits.
     OutOfRange(u32),
     /// The message would have this many octets, which are more than 16,777,215.
     TooLong(u64),

@@ -20,7 +20,7 @@ pub enum Loss {
     Date,
     /// The field is an average of several, or fields are missing at a point in time.
     AverageCount,
-    /// Section 1 has octets for the centre's own use, and they are not to be kept.
+    /// Section 1 has octets for local use, and they are not to be preserved.
     LocalUse,
     /// A flag of the grid, or of its scanning mode, has no place.
     GridFlags,

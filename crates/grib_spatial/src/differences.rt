@@ -1,4 +1,4 @@
-//! Numbers as they are told by their differences.
+//! Numbers as they are given by their differences.
 
 use grib_base::List;
 
@@ -13,6 +13,6 @@ pub struct Differences {
     /// The overall minimum of the differences.
     pub minimum: i64,
     /// One entry for each number: its difference less the minimum. As many as the order, from the
-    /// first on, tell nothing.
+    /// first on, say nothing.
     pub codes: List<u64>,
 }

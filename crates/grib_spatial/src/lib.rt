@@ -1,4 +1,4 @@
-//! Spatial differences: what they tell, one number after another or whole, and the way back.
+//! Spatial differences: the numbers that they stand for, one number after another or whole, and the way back.
 #![tactic(auto)]
 
 mod differences;

@@ -7,7 +7,7 @@ ghost use Rattle.grib_spatial.specs.Order.{IsOrder};
 
 use std::marker::Model;
 
-/// A scaled number is outside plus and minus 2^60.
+/// A scaled integer is outside plus and minus 2^60.
 #[derive(Clone, Copy, Debug, PartialEq, Eq)]
 pub struct ScaledRange;
 
@@ -21,7 +21,7 @@ pub struct Running {
     pub(crate) first: i64,
     pub(crate) second: i64,
     pub(crate) minimum: i64,
-    /// How many first values were told.
+    /// How many first values have come.
     pub(crate) told: u64,
     /// The last number but one, and the last one.
     pub(crate) before: i64,

@@ -8,7 +8,7 @@ ghost use Rattle.grib_spatial.specs.Reach.{reach_by, reach_of, IsSteady};
 use crate::running::{Running, number_after};
 use std::marker::Model;
 
-/// Undoes spatial differences as [`Running`] does, where the first values were told, and a number of
+/// Undoes spatial differences as [`Running`] does, where the first values have come, and a number of
 /// further codes below a limit can lead to no number outside plus and minus 2^60: no number has to be tested.
 #[derive(Debug, Drop)]
 pub struct Steady {
@@ -50,7 +50,7 @@ impl Model for Steady {
 }
 
 impl Running {
-    /// Whether all first values were told and `count` codes below `limit` can lead to no number outside
+    /// Whether all first values have come and `count` codes below `limit` can lead to no number outside
     /// plus and minus 2^60.
     #[inline(always)]
     pub fn is_steady(&self, count: u32, limit: u64) -> bool

@@ -85,7 +85,7 @@ impl Trail {
     }
 }
 
-/// What tells the differences of the numbers that came.
+/// What the differences of the numbers that came are found from.
 #[derive(Clone, Copy, Debug)]
 pub struct FirstAndLeast {
     pub trail: Trail,
@@ -169,7 +169,7 @@ impl FirstAndLeast {
         lesser_of(self.minimum, difference)
     }
 
-    /// What tells them, without their codes.
+    /// What they are found from, without their codes.
     pub fn differences(self, alloc: Global) -> Differences
         ensures { (order : ℕ) (numbers : Numbers ℤ) → IsToldBy order self numbers → self.trail.count ≡ length numbers
             → read_with order result ≡ descriptors_of order numbers }

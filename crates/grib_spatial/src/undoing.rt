@@ -21,7 +21,7 @@ pub enum UndoFault {
     Memory,
 }
 
-/// The numbers that these differences of order 1 or 2 tell (WMO-No. 306, Volume I.2, FM 92 GRIB edition
+/// The numbers that these differences of order 1 or 2 give (WMO-No. 306, Volume I.2, FM 92 GRIB edition
 /// 2, data template 7.3).
 ///
 /// # Errors

@@ -1,4 +1,4 @@
-//! The lengths that choices tell.
+//! The lengths that choices give.
 
 ghost use Rattle.std.specs.Prelude.{◌≡◌, ℕ, ◌+◌, ◌<◌, ◌≤◌, length, IfOk};
 ghost use Rattle.grib_split.specs.Least.{Follows, AreChoices};

@@ -1,4 +1,4 @@
-//! The octets that a message still wants are read.
+//! The octets that a message still needs are read.
 
 ghost use Rattle.std.specs.Prelude.{◌≡◌, ◌≢◌, ◌<◌, ◌≤◌, ◌+◌, ◌⊎◌, max, length, IfOk, IfErr, OnOk, OnErr};
 ghost use Rattle.grib_io.specs.Outside.{Counted, CountsStops};
