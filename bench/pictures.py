@@ -67,7 +67,7 @@ def field(program, *conditions):
 def draw_field(program):
     heights, keys = field(program, "discipline=0", "category=3", "number=5", "surface1=100", "surface1Value=50000")
     land, _ = field(program, "discipline=2", "category=0", "number=0")
-    # The last column again behind the last, at 360 degrees east.
+    # The first column again after the last, at 360 degrees east.
     heights, land = ([row + row[:1] for row in rows] for rows in (heights, land))
     ni, nj = int(keys["ni"]), int(keys["nj"])
     east = [360 * column / ni for column in range(ni + 1)]
