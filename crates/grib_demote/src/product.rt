@@ -102,7 +102,7 @@ fn add_local(local: &[u8], keep_local: bool, out: &mut Vec<u8>) -> Result<(), Al
     Ok(())
 }
 
-/// Whether Section 2 has octets for the centre's own use.
+/// Whether Section 2 has octets for local use.
 pub(crate) fn has_local(local: &[u8]) -> bool
     ensures { result ≡ products.has_local local.now }
 {

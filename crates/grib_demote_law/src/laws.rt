@@ -56,7 +56,7 @@ pub fn any_tables_are_those_of_the_record()
         → is_none (first_pair table Any centre parameter) ≡ false }
 {}
 
-/// The level of a field fits its octets, has surfaces, and has no number where its type has none.
+/// The level of a field fits its octets, has fixed surfaces, and has no number where its type has none.
 pub fn the_level_has_surfaces()
     ensures fits { (section : List ℕ) (level : Level) → level_of section ≡ Some level
         → (level.level_type < 256) × (level.number < 65536) }

@@ -20,7 +20,7 @@ pub trait Changer {
     /// What a message at a place gives.
     ghost gives: { Self → AtPlace → List ℕ → Given };
 
-    /// Writes what is made of a message, or keeps it, wherever it stands.
+    /// Writes what is made of a message, or leaves it unchanged, wherever it stands.
     fn change<T: Sink>(&self, alloc: Global, message: &Message<'_>, output: &mut T) -> Answered
         ensures { (place : AtPlace) → AnswersByOutput T.contents T.faults T.settled result place.message
             (gives self.now place message.now) output.old output.new };

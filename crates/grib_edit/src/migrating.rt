@@ -21,7 +21,7 @@ pub struct Migrating<'a> {
     pub table: &'a Table,
     /// What those are, with their surfaces, whose name says their level.
     pub surfaces: &'a SurfaceTable,
-    /// What becomes of the octets for the centre's own use.
+    /// What becomes of the octets for local use.
     pub local: Local,
 }
 

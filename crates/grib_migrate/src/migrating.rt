@@ -53,7 +53,7 @@ pub fn migrate(
 
 /// As `migrate`, with two further choices. A parameter whose name says its level may be in a table of surfaces:
 /// where that has a record for the message, its parameter and its fixed surface are written, and the parameter
-/// table and the table of levels are not asked. `local` says what becomes of the octets for the centre's own use.
+/// table and the table of levels are not asked. `local` says what becomes of the octets for local use.
 ///
 /// # Errors
 ///

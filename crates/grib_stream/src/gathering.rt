@@ -68,7 +68,7 @@ fn room_for(wanted: usize, there: usize) -> usize
     (wanted.max(READ) - there).min(READ)
 }
 
-/// Reads as much as is wanted, as far as the input goes and as much may be taken.
+/// Reads as much as is needed, as far as the input goes and as much may be taken.
 ///
 /// # Errors
 ///

@@ -69,7 +69,7 @@ impl Window {
     }
 
     /// Reads at most `most` octets, one at least where there is one, into the buffer after the others.
-    /// Room is made with a view to this many octets that are wanted in the end: there is never more than
+    /// Room is made with a view to this many octets that are needed in the end: there is never more than
     /// for these, or for those that are pending, and one read.
     pub fn read<S: Source>(
         &mut self,

@@ -39,7 +39,7 @@ pub fn append_value_line(
     appended
 }
 
-/// Appends the line of the point with the scaled integer X. Where there is no memory some front of it is appended.
+/// Appends the line of the point with the scaled integer X. Where there is no memory a prefix of it is appended.
 #[inline]
 fn append_scaled(
     line: &mut Vec<u8>,
