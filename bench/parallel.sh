@@ -164,7 +164,7 @@ parallel=$top/grib-parallel
 export top work TMPDIR
 export -f without_parallel
 ends "no GNU parallel" 70 "*in the package 'parallel'" without_parallel 2 filter centre=7
-for word in check list keys dump stats split make help version --help --version; do
+for word in check list keys dump values stats split make help version --help --version; do
   ends "$word" 70 "grib-parallel: $word * run it by itself" "$parallel" 2 "$word"
 done
 ends "no such command" 1 "usage word 0" "$parallel" 2 frob
