@@ -69,7 +69,8 @@ def made(work):
     subprocess.run(["grib_filter", "-o", f"{work}/file", f"{work}/rules", SAMPLE], check=True)
     with open(f"{work}/file", "rb") as file:
         found = list(messages(file.read(), edition=1))
-    kinds = [(kind, number) for kind, numbers in (("moment", MOMENT), ("extreme", EXTREME), ("sum", SUM), ("member", MEMBERS)) for number in numbers]
+    kinds = [("moment", number) for number in MOMENT] + [("forecast", number) for number in EXTREME + SUM] + \
+        [("member", number) for number in MEMBERS]
     if len(found) != len(kinds):
         sys.exit("grib_filter made other messages")
     return [(*kind, message) for kind, message in zip(kinds, found)]

@@ -4,7 +4,8 @@
     bench/hostile.py PROGRAM FILE.. [runs=10000] [seed=1] [jobs=1] [case=N] [keep=FOLDER]
 
 A case takes a few messages of the files, of docs/WORKED.md and of `make`, damages them (cuts, flips, splices,
-repeats, other lengths and counts, sizes that are claimed), and gives them to `check` and to one command: from a file,
+repeats, other lengths and counts, sizes that are claimed), and gives them to `check` and to one command with words that
+it may have, among them lists and ranges of filter, refused= and kept=: from a file,
 and in one more way: through a pipe in random pieces, to a reader that goes away, to a full device, to a closed
 output, with notes that cannot be written, with a directory as input or none, with 3 to 60 MB of address space. The
 cases hang on `seed` and their number alone; `case=N` runs one of them. `runs` is how often the program is started,
@@ -45,6 +46,8 @@ CAUSES = {
 CAUSES["rescan"] = CAUSES["crop"] = CAUSES["repack"] + [r"(GridKind|ScanMode|OutsideBox|Increments) field \d+"]
 TARGETS = (["to=0"], ["to=2"], ["to=3", "order=1"], ["to=3", "order=2"])
 COPIES = ("filter", "split", "set", "repack", "migrate", "demote", "rescan", "crop")
+READERS = ("check", "list", "keys", "stats", "dump")
+NO_INPUT = ("make", "help", "version", "--help", "--version")
 FAULTS = {5: "read fault", 6: "", 7: "shelf fault", 8: "memory", 9: "input too long"}
 
 Run = collections.namedtuple("Run", "status output note octets seconds")
@@ -78,10 +81,10 @@ class Runner:
     def close(self):
         shutil.rmtree(self.work, ignore_errors=True)
 
-    def parts(self):
-        """The files of `split`, in the order of their numbers."""
+    def parts(self, gaps=False):
+        """The files of `split`, in the order of their numbers; with gaps where messages of edition 1 may stand between."""
         names = sorted(os.listdir(self.shelf), key=lambda name: int(name.rsplit(".", 1)[1]))
-        hold(names == [f"part.{n}" for n in range(1, len(names) + 1)], "split wrote other names", names[:5])
+        hold(gaps or names == [f"part.{n}" for n in range(1, len(names) + 1)], "split wrote other names", names[:5])
         return [open(f"{self.shelf}/{name}", "rb").read() for name in names]
 
     def run(self, words, data, way="file", draw=None):
@@ -385,13 +388,40 @@ def wrong_words(draw):
                         ["set", "centre=98", "centre=98"], ["repack", "to=1"], ["repack", "to=3"], ["repack", "to=03"], ["split", "out="],
                         ["filter", "centre=1e3"], ["filter", "centre=7,,98"], ["filter", "centre=98..7"], ["filter", f"year={2**63}"], ["filter", "year=-0"], ["make", "seed=1"], ["Check"],
                         ["make", f"seed={2**31}", "ni=1", "nj=1", "to=0"], ["repack", "to=2", "order=1"], ["check", ""], [""],
+                        ["help", "x"], ["version", "refused=pass"], ["make", "seed=1", "ni=1", "nj=1", "to=least"], ["filter", "centre!"],
+                        ["filter", "centre!!=7"], ["filter", "refused=copy"], ["set", "kept=pass", "refused=copy"], ["migrate"],
+                        ["migrate", "params="], ["migrate", "params=absent", "surfaces="], ["migrate", "params=absent", "local=any"],
+                        ["migrate", "params=absent", "tables=any"], ["demote", "params=absent", "tables=all"], ["demote", "local=keep"],
+                        ["demote", "params=absent", "surfaces=absent"], ["rescan", "x=1"], ["crop", "i0=1", "i1=0", "j0=0", "j1=0"],
+                        ["crop", "i0=0", "i1=33554432", "j0=0", "j1=0"], ["list", "refused=copy"], ["keys", "refused=copy"],
+                        ["split", "out=shelf/part", "kept=copy", "kept=pass"], ["repack", "to=0", "refused=copy", "refused=copy"],
                         ["check", "refused=skip"], ["list", "kept=pass"], ["dump", "kept=copy"], ["filter", "refused=pass"]))
 
 
+def policy_words(draw, name):
+    """What of a run goes on after what it refuses or keeps."""
+    refused = ["refused=pass"] + ["refused=copy"] * (name in COPIES)
+    kept = ["kept=copy", "kept=pass"] if name in COPIES else ["kept=pass"] if name == "dump" else []
+    one, other = [draw.choice(refused)], [draw.choice(kept)] if kept else []
+    return draw.choice((one, other, one + other))
+
+
 def command_of(draw, has, pool):
+    """The arguments of a command, with those on refusals and on what is kept in some cases."""
+    words = plain_command_of(draw, has, pool)
+    if "policy" in has and words and words[0] in COPIES + READERS and draw.random() < 0.3:
+        more = policy_words(draw, words[0])
+        return words + more if draw.random() < 0.7 else words[:1] + more + words[1:]
+    return words
+
+
+def plain_command_of(draw, has, pool):
     """The arguments of a command, valid ones in most cases."""
     name = draw.choice([one for one in ("check", "list", "dump", "filter", "filter", "split", "set", "set", "repack", "repack", "repack",
-                                        "make", "stats", "keys", "rescan", "crop", "migrate", "demote", "demote", "decimals", "words") if one in has])
+                                        "make", "stats", "keys", "rescan", "crop", "migrate", "migrate", "demote", "demote", "decimals", "words", "help")
+                        if one in has])
+    if name == "help":
+        return [draw.choice(("help", "version", "--help", "--version"))]
     if name == "decimals":
         return ["dump", f"decimals={draw.choice((0, 1, 2, 3, 7, 18))}"]
     if name == "filter":
@@ -406,10 +436,12 @@ def command_of(draw, has, pool):
         i0, j0 = draw.choice((0, 0, 1)), draw.choice((0, 0, 2))
         return ["crop", f"i0={i0}", f"i1={i0 + draw.choice((0, 1, 9))}", f"j0={j0}", f"j1={j0 + draw.choice((0, 1, 9))}"]
     if name == "migrate":
-        surfaces = draw.choice(([], [f"surfaces={top}/params/surfaces.csv"]))
+        table = f"surfaces={top}/params/surfaces.csv"
+        surfaces = draw.choice(([], [table], [table], ["surfaces=absent"]))
         return ["migrate", f"params={top}/params/standard.csv"] + surfaces + draw.choice(([], ["local=keep"], ["local=ecmwf"]))
     if name == "demote":
-        return ["demote", f"params={top}/params/standard.csv"] + draw.choice(([], ["local=keep"], ["earth=any"], ["earth=any", "local=keep"]))
+        return ["demote", f"params={draw.choice((f'{top}/params/standard.csv',) * 9 + ('absent',))}"] + \
+            [word for word in ("local=keep", "earth=any", "tables=any") if draw.random() < 0.6]
     if name == "make":
         return ["make", f"seed={draw.getrandbits(31)}", f"ni={draw.randint(1, 40)}", f"nj={draw.randint(1, 40)}"] + \
             draw.choice(TARGETS)
@@ -420,10 +452,11 @@ def commands_of(program):
     """The commands that this program has."""
     runner = Runner(program)
     try:
-        has = {"check", "list", "dump", "filter", "split", "set", "repack", "make", "words"}
+        has = {"check", "list", "dump", "filter", "split", "set", "repack", "make", "words", "help"}
         for name, words in (("stats", ["stats"]), ("rescan", ["rescan"]), ("crop", ["crop", "i0=0", "i1=0", "j0=0", "j1=0"]),
                             ("decimals", ["dump", "decimals=2"]), ("migrate", ["migrate", f"params={top}/params/standard.csv"]), ("keys", ["keys"]),
-                            ("least", ["repack", "to=least"]), ("demote", ["demote", f"params={top}/params/standard.csv"])):
+                            ("least", ["repack", "to=least"]), ("policy", ["repack", "to=0", "refused=copy", "kept=copy"]),
+                            ("demote", ["demote", f"params={top}/params/standard.csv"])):
             if runner.run(words, b"").status == 0:
                 has.add(name)
         return has
@@ -474,7 +507,7 @@ def hold_note(words, plain, checked, accepted, written):
     """The plain run: its status and its note belong together."""
     name, fields = words[0] if words else "", sum(one[3] for one in accepted)
     if plain.status == 0:
-        hold(checked.status == 0 or name == "make", "answered what check refuses")
+        hold(checked.status == 0 or name in NO_INPUT, "answered what check refuses")
         wanted = b""
         if name in COPIES:
             wanted = b"messages %d fields %d written %d\n" % (len(accepted), fields, written)
@@ -493,7 +526,9 @@ def hold_note(words, plain, checked, accepted, written):
         hold(any(re.fullmatch(cause, kept[2]) for cause in CAUSES.get(name, [])), "no such cause", plain.note)
         hold(("EditionOne" in kept[2]) <= (accepted[int(kept[1]) - 1][2] == 1), "EditionOne of edition 2", plain.note)
     else:
-        hold(plain.status == 7 and words == ["split", "out=absent/part"] and plain.note == b"shelf fault\n", "another status", plain.status, plain.note)
+        absent = b"surfaces absent\n" if "surfaces=absent" in words else b"table absent\n" if "params=absent" in words else None
+        fault = plain.status == 7 and words == ["split", "out=absent/part"] and plain.note == b"shelf fault\n"
+        hold(fault or (plain.status, plain.note, plain.output) == (4, absent, b""), "another status", plain.status, plain.note)
 
 
 def has_passing(runner):
@@ -521,6 +556,83 @@ def hold_passed(runner, data, checked):
     octets = sum(int(line.split()[7]) for line in passed.output.decode().splitlines() if line.startswith("message "))
     skipped = int(passed.output.split()[-1])
     hold(octets + skipped == len(data), "octets that are neither in a message nor skipped", octets, skipped, len(data))
+
+
+def stated(data, at, reason):
+    """The octets that are refused for a reason up to their stated end, if they have one: the rules of Section 0 do not
+    refuse them, and `7777` ends the octets of their total length."""
+    edition, length = data[at + 7:at + 8], int.from_bytes(data[at + 8:at + 16], "big")
+    if edition == b"\1":
+        length = int.from_bytes(data[at + 4:at + 7], "big")
+    if reason in ("Edition", "TotalLength") or edition not in (b"\1", b"\2") or length > len(data) - at:
+        return b""
+    return data[at:at + length] if data[at + length - 4:at + length] == b"7777" else b""
+
+
+def without_numbers(output):
+    """Lines on fields without the number of the message that stands before them."""
+    return re.sub(rb"^\d+\.(?=\d+ )", b"", output, flags=re.M)
+
+
+def wanted_of(runner, words, data, refused, kept):
+    """What a run with these words on refusals and on what is kept has to write, as output and as parts, its lines, how many
+    messages and fields it has, and the status where it does not go on: from runs of the command on each message alone.
+    The words say nothing of it themselves."""
+    passed = runner.run(["check", "refused=pass"], data)
+    items = [(at, octets, fields) for at, octets, _, fields in accepted_of(passed)]
+    items += [(int(at), 0, line) for line, at in re.findall(r"^(refused message \d+ at (\d+) octet .*)$", passed.note.decode(), re.M)]
+    output, parts, lines, sums = b"", [], [], [0, 0]
+    for at, octets, about in sorted(items, key=lambda one: one[0]):
+        if octets == 0:
+            if not refused:
+                return output, parts, lines + [re.sub(r" at \d+", "", about)], sums, 2
+            whole = stated(data, at, about.split()[7])
+            if refused == "copy" and whole:
+                output, about = output + whole, f"copied{about[7:]}"
+            lines.append(about)
+            continue
+        message = data[at:at + octets]
+        alone = runner.run(words, message)
+        sums = [sums[0] + 1, sums[1] + about]
+        if alone.status == 3:
+            said = re.sub(r"^kept message 1 ", f"kept message {sums[0]} ", alone.note.decode().rstrip())
+            if not kept:
+                return output, parts, lines + [said], sums, 3
+            lines.append(re.sub(r"^(kept message \d+) ", rf"\1 at {at} ", said))
+            output += message if kept == "copy" else b""
+        else:
+            hold(alone.status == 0, "a message alone is answered otherwise", words, alone.status, alone.note)
+            output += alone.output
+            parts += runner.parts() if words[0] == "split" else []
+    return output, parts, lines, sums, 0
+
+
+def hold_policy(runner, words, data, plain, parts):
+    """A run with words on refusals and on what is kept answers each message as the command does alone."""
+    said = dict(word.split("=") for word in words if word.startswith(("refused=", "kept=")))
+    command = [word for word in words if not word.startswith(("refused=", "kept="))]
+    output, wanted_parts, lines, sums, status = wanted_of(runner, command, data, said.get("refused"), said.get("kept"))
+    hold(parts == wanted_parts, "split wrote other files", words)
+    if command[0] == "check":
+        octets = [[line.split()[7] for line in lines_of(text) if line.startswith("message ")] for text in (plain.output, output)]
+        hold(octets[0] == octets[1], "check prints other messages", words)
+    else:
+        same = without_numbers(plain.output) == without_numbers(output)
+        hold(same, "not what the messages give alone", words, len(plain.output), len(output))
+    if status:
+        same = (plain.status, lines_of(plain.note)) == (status, lines)
+        hold(same, "ends otherwise", words, plain.status, plain.note[-200:], lines[-1:])
+        return
+    counts = [sum(line.startswith(("refused", "copied")) for line in lines), sum(line.startswith("kept") for line in lines)]
+    last = []
+    if command[0] in COPIES:
+        written = len(output) + sum(map(len, wanted_parts))
+        last = [f"messages {sums[0]} fields {sums[1]} written {written}"]
+    if any(counts):
+        last = [" ".join(last + [f"refused {counts[0]} kept {counts[1]}"])]
+    wanted = 2 if counts[0] else 3 if counts[1] else 0
+    same = (plain.status, lines_of(plain.note)) == (wanted, lines + last)
+    hold(same, "another note", words, plain.status, plain.note[-200:], lines[-1:] + last)
 
 
 def messages_before(plain, accepted):
@@ -621,12 +733,24 @@ def conditions(words):
     return [word.split("=", 1) for word in words[1:]]
 
 
+def fulfils(value, listed):
+    """Whether a value is in a list of values and ranges."""
+    for element in listed.split(","):
+        low, dots, high = element.partition("..")
+        if not dots and element == value:
+            return True
+        if dots and value != "missing" and (low == "" or int(low) <= int(value)) and (high == "" or int(value) <= int(high)):
+            return True
+    return False
+
+
 def hold_picked(words, messages, output, written):
     """The fields with all these values are written, and a message whose fields all have them as it is."""
-    asked = conditions(words)
-    if any(KEYS[key][1] is None for key, _ in asked):
+    asked = [(key.rstrip("!"), listed, key.endswith("!")) for key, listed in conditions(words)]
+    if any(KEYS[key][1] is None for key, _, _ in asked):
         return
-    matches = [[all(key_value(message, starts, key) == value for key, value in asked) for starts in in_force(message)] for message in messages]
+    matches = [[all(fulfils(key_value(message, starts, key), listed) != negated for key, listed, negated in asked)
+                for starts in in_force(message)] for message in messages]
     hold(sum(one[3] for one in written) == sum(map(sum, matches)), "picked other fields", words)
     if all(all(one) or not any(one) for one in matches):
         hold(output == b"".join(message for message, one in zip(messages, matches) if all(one)), "picked other messages", words)
@@ -698,9 +822,14 @@ def hold_written(runner, words, data, plain, accepted, parts):
         hold(columns(runner, output) == columns(runner, source), "migrate changed a value")
 
 
+def begun_alike(note, other):
+    """Whether the other has the first lines of a note, or none."""
+    return note.startswith(other) and (other == b"" or other.endswith(b"\n"))
+
+
 def hold_way(words, data, plain, other, way, parts, other_parts):
     """A run in another way answers as the plain one, or says what failed, with a prefix of the output."""
-    if way in ("directory", "closed input") and words and words[0] != "make" and plain.status != 1:
+    if way in ("directory", "closed input") and words and words[0] not in NO_INPUT and plain.status not in (1, 4):
         hold((other.status, other.output, other.note) == (5, b"", b"read fault\n"), "a directory", words, other.status, other.note)
         return
     same = (other.status, other.note) == (plain.status, plain.note)
@@ -713,14 +842,15 @@ def hold_way(words, data, plain, other, way, parts, other_parts):
     elif way == "little memory":
         if other.status == 127 and b"shared libraries" in other.note:
             return  # too little to begin
-        none = other.status == 8 and (other.note == b"memory\n" or (other.note, other.output) == (b"", b""))
+        said = other.note.endswith(b"memory\n") and begun_alike(plain.note, other.note[:-len(b"memory\n")])
+        none = other.status == 8 and (said or (other.note, other.output) == (b"", b""))
         hold(same and other.output == plain.output or none, way, words, other.status, other.note)
         hold(all(whole.startswith(part) for whole, part in zip(parts, other_parts)) and len(other_parts) <= len(parts), "other parts", way)
     elif plain.output == b"":
         hold(same, "nothing was written, and yet", way, words, other.status, other.note)
     else:
         # What waits to be written is tried last, after the note.
-        failed = other.status == 6 and other.note in (b"", plain.note)
+        failed = other.status == 6 and begun_alike(plain.note, other.note)
         hold(same and way == "leaves" or failed, way, words, other.status, other.note)
 
 
@@ -738,11 +868,17 @@ def try_case(runner, draw, words, data, way):
         hold_passed(runner, data, checked)
     plain = runner.run(words, data)
     name = words[0] if words else ""
-    parts = runner.parts() if name == "split" and plain.status not in (1, 7) else []
+    going_on = plain.status != 1 and any(word.startswith(("refused=", "kept=")) for word in words)
+    parts = runner.parts(going_on) if name == "split" and plain.status not in (1, 7) else []
     runner.seen[f"status {plain.status}"] += 1
-    if plain.status in (2, 3):
+    if plain.status in (2, 3) and not going_on:
         runner.seen[plain.note.split()[5 if plain.status == 2 else 3].decode()] += 1
     hold_bounds(words, data, plain, points)
+    if going_on and plain.status not in (4, 7):
+        runner.seen["runs that go on"] += 1
+        hold_policy(runner, words, data, plain, parts)
+        hold_other_way(runner, draw, words, data, plain, way, parts, True)
+        return
     written = sum(map(len, parts)) if name == "split" else len(plain.output)
     hold_note(words, plain, checked, accepted, written)
     if plain.status in (2, 3) and words:
@@ -760,9 +896,14 @@ def try_case(runner, draw, words, data, way):
         hold_stats(plain, runner.run(["dump"], data))
     if words[:1] == ["dump"] and len(words) == 2 and plain.status != 1:
         hold_decimals(words, plain, runner.run(["dump"], data))
+    hold_other_way(runner, draw, words, data, plain, way, parts, going_on)
+
+
+def hold_other_way(runner, draw, words, data, plain, way, parts, gaps):
+    """The run in another way, if the case has one."""
     if way != "file":
         other = runner.run(words, data, way, draw)
-        other_parts = runner.parts() if name == "split" and other.status not in (1, 7) else []
+        other_parts = runner.parts(gaps) if words[:1] == ["split"] and other.status not in (1, 7) else []
         hold_way(words, data, plain, other, way, parts, other_parts)
 
 
