@@ -37,7 +37,7 @@ pub returns : goal.returns
 returns g c =
     λ f r e d is.
     let appended = subst (λ points. AppendsAllBut (g.T.Sink.contents c.args.output.now) (g.T.Sink.contents c.loop-point.output) (c.args.octets.now.items ++ flat_map (point_octets f r e d) points) c.loop-point.octets.items)
-        (take_all c.loop-point.point-index c.args.points.now c.loop-point-test.false) (c.loop-point.invariant.appended f r e d is) in
+    (take_all c.loop-point.point-index c.args.points.now c.loop-point-test.false) (c.loop-point.invariant.appended f r e d is) in
     record {
       octets = record { whole = appended; front = (appended.0, c.loop-point.octets.items, appended.1, appended.2) };
       counted = c.loop-point.invariant.faults_stay f r e d is;
