@@ -14,7 +14,7 @@ use grib_base::{Fault, Profile, ReadFault, Reason};
 use grib2_message::FieldSummary;
 use std::alloc::Global;
 
-/// Why no more of a message is heard: it is refused, whatever follows, or there is no memory.
+/// Why no more of a message is taken: it is refused, whatever follows, or there is no memory.
 pub type ArrivalStop = ReadFault;
 
 /// A message of edition 2 that is judged as its octets come (WMO-No. 306, Volume I.2, FM 92 GRIB edition 2). It
@@ -39,11 +39,11 @@ impl Arrival {
     }
 
     /// Hears the next octets, up to the end of the message, and says how many. After a refusal, or where there is no
-    /// memory, it has heard nothing, and hears no more.
+    /// memory, it has taken nothing, and takes no more.
     ///
     /// # Errors
     ///
-    /// The octets heard and this piece are refused, whatever follows them, or there is no memory.
+    /// The octets taken and this piece are refused, whatever follows them, or there is no memory.
     pub fn push(&mut self, piece: &[u8]) -> Result<usize, ArrivalStop>
         requires live { (profile : Profile) × (octets : List ℕ) × HeardUnder profile self.old octets × MayFollow profile octets piece.now }
         ensures heard { (profile : Profile) (octets : List ℕ) → HeardUnder profile self.old octets → MatchResult result
@@ -79,7 +79,7 @@ impl Arrival {
         Ok(count)
     }
 
-    /// Whether the end mark came, or nothing is heard any more.
+    /// Whether the end mark came, or nothing is taken any more.
     fn is_ended(&self) -> bool
         ensures listens { result ≡ false → IsListening self.now.state }
         ensures ended { IsTrue result → IsListening self.now.state → ⊥ }
@@ -90,7 +90,7 @@ impl Arrival {
         )
     }
 
-    /// Whether the octets heard are a whole message, which is accepted.
+    /// Whether the octets taken are a whole message, which is accepted.
     pub fn whole(&self) -> bool
         requires live { (profile : Profile) × (octets : List ℕ) × HeardUnder profile self.now octets }
         ensures { (profile : Profile) (octets : List ℕ) → HeardUnder profile self.now octets
@@ -99,7 +99,7 @@ impl Arrival {
         self.is_ended()
     }
 
-    /// How many octets were heard.
+    /// How many octets were taken.
     pub fn octets(&self) -> u64
         requires live { (profile : Profile) × (octets : List ℕ) × HeardUnder profile self.now octets }
         ensures count { (profile : Profile) (octets : List ℕ) → HeardUnder profile self.now octets → result ≡ length octets }
@@ -111,7 +111,7 @@ impl Arrival {
         }
     }
 
-    /// Why the octets heard are refused, where they are all that there is.
+    /// Why the octets taken are refused, where they are all that there is.
     pub fn cut(&self) -> Fault
         requires live { (profile : Profile) × (octets : List ℕ) × HeardUnder profile self.now octets × (verdict_under profile octets ≢ Accepted (length octets)) }
         ensures { (profile : Profile) (octets : List ℕ) → HeardUnder profile self.now octets → verdict_under profile octets ≢ Accepted (length octets)

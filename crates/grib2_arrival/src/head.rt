@@ -31,7 +31,7 @@ impl Beginning {
         }
     }
 
-    /// Takes the next octets, as many as Section 0 still wants, and says how many.
+    /// Takes the next octets, as many as Section 0 still needs, and says how many.
     ///
     /// # Errors
     ///

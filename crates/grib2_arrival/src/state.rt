@@ -86,7 +86,7 @@ impl State {
     }
 }
 
-/// Gathers the next octets, no more than one section or the end mark wants, and says how many.
+/// Gathers the next octets, no more than one section or the end mark needs, and says how many.
 fn gather(
     alloc: Global,
     kept: Kept,

@@ -71,7 +71,7 @@ impl InForce {
         }
     }
 
-    /// Goes past the next section, where no row refuses its contents. Otherwise it stays as it was.
+    /// Moves past the next section, where no row refuses its contents. Otherwise it is as it was.
     ///
     /// # Errors
     ///

@@ -1,4 +1,4 @@
-//! A command as what answers the messages of an input, and says how it goes past what is refused or kept.
+//! A command as what answers the messages of an input, and says how it skips what is refused or not changed.
 
 use crate::counting::counted;
 use crate::hearing::{SecondHearer, heard};
@@ -77,7 +77,7 @@ impl<C: Answerer> Performer for Answering<'_, C> {
         }
     }
 
-    /// Of a command that hears nothing nothing was heard, and nothing is done.
+    /// A command that judges no message incrementally has taken nothing, and does nothing.
     fn perform_heard<T: Sink>(
         &self,
         alloc: Global,

@@ -17,14 +17,14 @@ pub never_opaque : (opaque : shared.Opaque) (s5 : List ℕ) (points : ℕ) → I
 never_opaque opaque s5 points is none = let e : true ≡ false = sym is.0 ∙ accepted_known s5 points none in cc
 
 -- so it gives the values
-pub record IsRead (data : DataRepresentation) (s5 : List ℕ) : Type 0 where
+pub record IsRead (field : DataRepresentation) (s5 : List ℕ) : Type 0 where
   pub representation : Representation
-  pub is : data ≡ Read representation
+  pub is : field ≡ Read representation
   pub represents : Represents representation s5
 
-pub read_from_known : (data : DataRepresentation) (s5 : List ℕ) → IsDataOf data s5 → is_opaque_packing s5 ≡ false → IsRead data s5
+pub read_from_known : (field : DataRepresentation) (s5 : List ℕ) → IsDataOf field s5 → is_opaque_packing s5 ≡ false → IsRead field s5
 read_from_known (Read representation) s5 is known = record { representation = representation; is = refl; represents = is }
 read_from_known (Opaque opaque) s5 is known = let e : true ≡ false = sym is.0 ∙ known in cc
 
-pub read_from_accepted : (data : DataRepresentation) (s5 : List ℕ) (points : ℕ) → IsDataOf data s5 → packing_fault s5 points ≡ None → IsRead data s5
-read_from_accepted data s5 points is none = read_from_known data s5 is (accepted_known s5 points none)
+pub read_from_accepted : (field : DataRepresentation) (s5 : List ℕ) (points : ℕ) → IsDataOf field s5 → packing_fault s5 points ≡ None → IsRead field s5
+read_from_accepted field s5 points is none = read_from_known field s5 is (accepted_known s5 points none)

@@ -43,9 +43,7 @@ impl DataRepresentation {
         if is_taken_opaque(profile, section5.octets) {
             return Ok(DataRepresentation::Opaque(read_opaque(section5, points)?));
         }
-        Ok(DataRepresentation::Read(Representation::read(
-            section5, points,
-        )?))
+        Ok(DataRepresentation::Read(Representation::read(section5, points)?))
     }
 
     /// The number of values that Section 7 gives.

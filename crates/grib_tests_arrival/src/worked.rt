@@ -21,7 +21,7 @@ pub(crate) fn begins(octets: &[u8]) -> bool
     octets.len() >= 8 && octets.starts_with(b"GRIB") && u8_at(octets, 8) == 2
 }
 
-/// Hears these octets in pieces of this many, and says how many were heard.
+/// Judges these octets in pieces of this many, and says how many were taken.
 pub(crate) fn hear(arrival: &mut Arrival, octets: &[u8], size: usize) -> Result<usize, ReadFault>
     requires begins { BeginsLikeTwo octets.now }
     requires new { Heard arrival.old [] }
