@@ -95,4 +95,5 @@ def main():
         print(count, what)
 
 
-main()
+if __name__ == "__main__":
+    main()

@@ -1,9 +1,12 @@
 #!/usr/bin/env python3
 """Demotes the edition 2 messages of files, and goes from edition 1 to 2 and back with those of edition 1:
-demote.py PROGRAM FILE..
+demote.py PROGRAM [shipped] FILE..
 
-Needs grib_get_data of ecCodes (Debian: libeccodes-tools). Each message is handed to PROGRAM by itself. Its parameter
-table is params/standard.csv and, for each parameter of the files that has no row there, a row of some number that no
+Needs grib_get_data of ecCodes (Debian: libeccodes-tools). Each message is handed to PROGRAM by itself. First those of
+edition 2 are demoted by the shipped table alone, params/standard.csv with tables=any; each that stays is named by its
+number, with its loss. Of the others ecCodes has to read the same value, or missing mark, at each point, and `list` and
+`dump` have to be the same, as below, when they are migrated again by that table. With `shipped` that is all. Then the
+parameter table is params/standard.csv and, for each parameter of the files that has no row there, a row of some number that no
 other has, so that a message is only kept for another loss; octets for local use are kept, and any earth is taken.
 
 Of what a message of edition 2 is demoted to, ecCodes has to read the same value, or none, at each point. It is
@@ -18,7 +21,7 @@ import subprocess
 import sys
 import tempfile
 
-from messages import messages
+from messages import cause, messages, told
 
 top = os.path.dirname(os.path.dirname(os.path.abspath(__file__)))
 
@@ -80,9 +83,15 @@ class Program:
         self.path, self.work = path, work
 
     def run(self, words, message):
-        """The output of a run, and the words of its note where it did not end well."""
+        """The output of a run, and its note where it did not end well."""
         run = subprocess.run([self.path, *words.split()], input=message, capture_output=True, cwd=self.work)
-        return run.stdout, run.stderr.decode().split() if run.returncode != 0 else None
+        return run.stdout, run.stderr.decode() if run.returncode != 0 else None
+
+    def demote_by_shipped(self, message):
+        return self.run(f"demote params={top}/params/standard.csv tables=any local=keep earth=any", message)
+
+    def migrate_by_shipped(self, message):
+        return self.run(f"migrate params={top}/params/standard.csv local=keep", message)
 
     def demote(self, message):
         return self.run("demote params=table local=keep earth=any", message)
@@ -104,9 +113,13 @@ class Program:
         return lines
 
 
-def cause(note):
-    """The cause of a note, as `Demotion Level` or `refused GridType`."""
-    return " ".join(note[3:5]) if note[0] == "kept" else " ".join([note[0]] + note[5:6])
+def by_shipped(program, message, counts):
+    """What is lost of a message of edition 2 by the shipped table alone, or None."""
+    old, note = program.demote_by_shipped(message)
+    if note is not None:
+        return cause(note)
+    same_again(program, message, old, program.migrate_by_shipped, counts)
+    return None
 
 
 def goes_back(program, message, counts):
@@ -116,13 +129,18 @@ def goes_back(program, message, counts):
         counts[cause(note)] += 1
         return
     counts["demoted"] += 1
+    same_again(program, message, old, program.migrate, counts)
+
+
+def same_again(program, message, old, migrate, counts):
+    """Counts what differs in a message of edition 2 that became these octets of edition 1, here and migrated again."""
     before, after = eccodes_values(message), eccodes_values(old)
     if before is None:
         counts["not read by ecCodes"] += 1
     else:
         counts["points"] += len(before)
         counts["messages whose values DIFFER"] += before != after
-    new, note = program.migrate(old)
+    new, note = migrate(old)
     if note is not None:
         counts["NOT migrated: " + cause(note)] += 1
         return
@@ -148,25 +166,34 @@ def comes_back(program, message, counts):
     counts["and came back"] += 1
 
 
+def print_counts(what, counts):
+    print(what + ", ".join(f"{number} {one}" for one, number in counts.items() if number), flush=True)
+
+
 def main():
     path, paths, failed = os.path.abspath(sys.argv[1]), sys.argv[2:], False
+    shipped = paths[0] == "shipped"
+    paths = paths[shipped:]
     with tempfile.TemporaryDirectory() as work:
         with open(f"{work}/table", "w", encoding="ascii") as file:
             file.write(table(paths))
         program = Program(path, work)
         for name in paths:
-            counts = collections.Counter()
+            counts, first = collections.Counter(), collections.Counter()
             with open(name, "rb") as file:
                 data = file.read()
-            for message in messages(data):
+            causes = [by_shipped(program, message, first) for message in messages(data)]
+            if causes:
+                print_counts(f"{name}, by the shipped table alone: {told(causes, 'demoted')}; ", first)
+            for message in [] if shipped else messages(data):
                 counts["messages of edition 2"] += 1
                 goes_back(program, message, counts)
-            for message in messages(data, edition=1):
+            for message in [] if shipped else messages(data, edition=1):
                 counts["messages of edition 1"] += 1
                 comes_back(program, message, counts)
-            failed |= any(("DIFFER" in what or "NOT" in what) and number for what, number in counts.items())
+            failed |= any(("DIFFER" in what or "NOT" in what) and number for what, number in (*counts.items(), *first.items()))
             if counts:
-                print(name + ": " + ", ".join(f"{number} {what}" for what, number in counts.items() if number), flush=True)
+                print_counts(name + ": ", counts)
     sys.exit(failed)
 
 

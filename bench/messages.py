@@ -14,6 +14,19 @@ def messages(data, edition=2):
             at = data.find(b"GRIB", at + 4)
 
 
+def cause(note):
+    """The cause of a note, as `Demotion Level`, `Loss Parameter` or `refused GridType`."""
+    words = note.split()
+    return " ".join(words[3:5]) if words[0] == "kept" else " ".join([words[0]] + words[5:6])
+
+
+def told(causes, done):
+    """How many messages of a list have no cause, and for each cause which ones have it, by their numbers."""
+    stayed = [f"{causes.count(one)} {one} ({' '.join(str(n) for n, other in enumerate(causes, 1) if other == one)})"
+              for one in dict.fromkeys(causes) if one]
+    return ", ".join([f"{causes.count(None)} of {len(causes)} {done}"] + stayed)
+
+
 def our_fields(text):
     """For each field its reference value, scale factors and points, None where missing."""
     fields = []

@@ -1,10 +1,10 @@
 #!/usr/bin/env python3
 """Migrates the edition 1 messages of files, and compares what ecCodes reads before and after:
-migrate.py PROGRAM FILE..
+migrate.py PROGRAM [shipped] FILE..
 
 Needs grib_get and grib_get_data of ecCodes (Debian: libeccodes-tools). Each message is handed to PROGRAM by itself.
-First it is migrated by the shipped tables alone, params/standard.csv and params/surfaces.csv, and counted if that
-succeeds. Then the parameter table is params/standard.csv and, for each parameter of the files that has no row there, a
+First it is migrated by the shipped tables alone, params/standard.csv and params/surfaces.csv; each message that stays
+is named by its number, with its loss. With `shipped` that is all. Then the parameter table is params/standard.csv and, for each parameter of the files that has no row there, a
 row of some parameter, so that a message is only kept for another loss; octets for local use are kept. Of what is written
 then ecCodes has to read the same value, or none, at each point, and the same date, time, level and step. PROGRAM
 has to check it as one message of edition 2 with one field. Prints a line for each file: what was migrated, which losses
@@ -15,7 +15,7 @@ import subprocess
 import sys
 import tempfile
 
-from messages import messages
+from messages import cause, messages, told
 
 top = os.path.dirname(os.path.dirname(os.path.abspath(__file__)))
 KEYS = "dataDate,dataTime,typeOfLevel,level,stepRange,numberOfPoints,Ni,Nj,centre"
@@ -52,18 +52,17 @@ def eccodes_keys(message):
 
 
 def by_shipped(program, message):
-    """Whether a message is migrated by the shipped tables alone."""
+    """What is lost of a message by the shipped tables alone, or None."""
     words = [f"params={top}/params/standard.csv", f"surfaces={top}/params/surfaces.csv", "local=keep"]
-    return subprocess.run([program, "migrate"] + words, input=message, capture_output=True).returncode == 0
+    run = subprocess.run([program, "migrate"] + words, input=message, capture_output=True)
+    return cause(run.stderr.decode()) if run.returncode else None
 
 
 def compared(program, work, message, counts):
     """Counts what comes of a message."""
-    counts["migrated by the shipped tables alone"] += by_shipped(program, message)
     run = subprocess.run([program, "migrate", "params=table", "local=keep"], input=message, capture_output=True, cwd=work)
-    note = run.stderr.decode().split()
     if run.returncode != 0:
-        counts[" ".join(note[3:5] if run.returncode == 3 else [note[0]] + note[5:6])] += 1
+        counts[cause(run.stderr.decode())] += 1
         return
     counts["migrated"] += 1
     checked = subprocess.run([program, "check"], input=run.stdout, capture_output=True)
@@ -83,16 +82,22 @@ def compared(program, work, message, counts):
 
 def main():
     program, paths, failed = os.path.abspath(sys.argv[1]), sys.argv[2:], False
+    shipped = paths[0] == "shipped"
+    paths = paths[shipped:]
     with tempfile.TemporaryDirectory() as work:
         with open(f"{work}/table", "w", encoding="ascii") as file:
             file.write(table(paths))
         for path in paths:
-            counts = collections.Counter()
+            counts, causes = collections.Counter(), []
             with open(path, "rb") as file:
                 for message in messages(file.read(), edition=1):
-                    counts["messages"] += 1
-                    compared(program, work, message, counts)
+                    causes.append(by_shipped(program, message))
+                    if not shipped:
+                        counts["messages"] += 1
+                        compared(program, work, message, counts)
             failed |= any(("DIFFER" in what or "NOT" in what) and number for what, number in counts.items())
+            if causes:
+                print(f"{path}, by the shipped tables alone: {told(causes, 'migrated')}")
             if counts:
                 print(path + ": " + ", ".join(f"{number} {what}" for what, number in counts.items() if number), flush=True)
     sys.exit(failed)

@@ -27,7 +27,7 @@ import time
 top = os.path.dirname(os.path.dirname(os.path.abspath(__file__)))
 # For each command arguments that are valid.
 WORDS = {
-    "check": [], "list": [], "stats": [], "dump": ["decimals=2"], "filter": ["centre=98"], "set": ["centre=98"],
+    "check": [], "list": [], "stats": [], "dump": ["decimals=2"], "values": ["as=f4"], "filter": ["centre=98"], "set": ["centre=98"],
     "split": ["out=/nonexistent/part"], "repack": ["to=3", "order=1"], "rescan": [], "crop": ["i0=0", "i1=0", "j0=0", "j1=0"],
     "migrate": ["params=/nonexistent/table", "surfaces=/nonexistent/surfaces", "local=ecmwf"],
     "demote": ["params=/nonexistent/table", "local=keep", "earth=any", "tables=any"], "keys": [], "help": [], "version": [],
@@ -35,10 +35,10 @@ WORDS = {
 }
 # `refused=` and `kept=`, of the commands that have them.
 PAST = {command: ["refused=pass", "kept=copy"] for command in ("filter", "set", "split", "repack", "rescan", "crop", "migrate", "demote")}
-PAST.update({command: ["refused=pass"] for command in ("check", "list", "keys", "stats")}, dump=["refused=pass", "kept=pass"])
+PAST.update({command: ["refused=pass"] for command in ("check", "list", "keys", "stats")}, dump=["refused=pass", "kept=pass"], values=["refused=pass", "kept=pass"])
 # The pages that say how many keys there are.
 COUNTING = ["README.md", "docs/GUIDE.md", "docs/PROFILE.md", "docs/GLOSSARY.md", "docs/GUARANTEES.md", "docs/DEFINITIONS.md"]
-NOT_PAST = {"check": "kept=pass", "list": "refused=skip", "dump": "kept=copy", "make": "refused=pass", "help": "refused=pass"}
+NOT_PAST = {"check": "kept=pass", "list": "refused=skip", "dump": "kept=copy", "values": "kept=copy", "make": "refused=pass", "help": "refused=pass"}
 failed = []
 
 

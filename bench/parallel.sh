@@ -82,7 +82,20 @@ echo "a greeting of the host" >&2
 cd "$work/home" && HOME=$work/home TMPDIR=$work/there exec bash -c "\$*"
 SSH
 chmod +x "$work/ssh"
-table=$top/params/standard.csv
+cp "$top/params/standard.csv" "$top/params/surfaces.csv" "$work"
+table=$work/standard.csv
+# 2 metre temperature as ERA5 has it: only the table of surfaces has a record for it.
+{
+  printf 'GRIB\0\0\154\1\0\0\64\200\142\200\377\200\247\1\0\0\30\1\17\14\0\1\6\0\0\0\0\0\25\0\0\0'
+  printf '\0\0\0\0\0\0\0\0\0\0\0\0\1\27\13\4\0060042\3\12\0'
+  printf '\0\0\40\0\377\0\0\20\0\37\0\352\140\0\0\0\200\0\0\0\0\165\60\7\320\7\320\0\0\0\0\0'
+  printf '\0\0\14\10\200\12\101\20\0\0\0\0007777'
+} >"$work/era5"
+for _ in 1 2 3 4 5 6 7 8; do cat "$work/era5"; done >"$work/era5s"
+both_tables() { # WHAT
+  (cd "$work" && alike "$1" 2 "$work/era5s" migrate surfaces=surfaces.csv params=standard.csv local=ecmwf && ((failed == 0))) || failed=1
+}
+both_tables "both tables"
 # What each of two hosts is to do, under the names that stand in GRIB_HOSTS.
 on_hosts() { # WHAT
   alike "$1: set" 2 "$file" set centre=98
@@ -90,6 +103,7 @@ on_hosts() { # WHAT
   alike "$1: filter, cut" 2 "$work/cut" filter centre=7 surface1=100
   alike "$1: nothing" 2 "$work/nothing" set centre=98
   alike "$1: migrate" 1 /usr/share/doc/python-grib-doc/examples/regular_latlon_surface.grib1 migrate params="$table" local=keep
+  both_tables "$1: both tables"
   alike "$1: demote" 2 "$file" demote params="$table" earth=any
   alike "$1: a value that does not fit" 2 "$twice" set month=256
 }
@@ -150,7 +164,7 @@ parallel=$top/grib-parallel
 export top work TMPDIR
 export -f without_parallel
 ends "no GNU parallel" 70 "*in the package 'parallel'" without_parallel 2 filter centre=7
-for word in check list keys dump stats split make help version --help --version; do
+for word in check list keys dump values stats split make help version --help --version; do
   ends "$word" 70 "grib-parallel: $word * run it by itself" "$parallel" 2 "$word"
 done
 ends "no such command" 1 "usage word 0" "$parallel" 2 frob
@@ -233,7 +247,7 @@ echo "${#names[@]} odd names: tried"
 # Any signal, at any time: what was started ends, and the folder goes.
 for signal in HUP INT QUIT TERM USR1 USR2 ALRM XCPU; do
   for seconds in 0.05 0.1 0.2 0.4 0.8; do
-    (trap - INT QUIT && exec "$parallel" 2 repack to=3 order=2) <"$ten" >/dev/null 2>&1 &
+    (exec env --default-signal=INT --default-signal=QUIT "$parallel" 2 repack to=3 order=2) <"$ten" >/dev/null 2>&1 &
     script=$!
     sleep "$seconds"
     kill -"$signal" "$script" 2>/dev/null || echo "$signal after $seconds seconds: the run had ended" >&2

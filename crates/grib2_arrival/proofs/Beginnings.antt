@@ -77,8 +77,8 @@ module _ (profile : Profile) (m : List ℕ) where
       )
 
 -- an arrival has heard but one list while Section 0 is not whole
-pub heard_one : (profile : Profile) (beginning : Beginning) (u v : List ℕ) → BeginsHeard profile beginning u → BeginsHeard profile beginning v → u ≡ v
-heard_one profile beginning u v a b =
+pub heard_one : (profile other : Profile) (beginning : Beginning) (u v : List ℕ) → BeginsHeard profile beginning u → BeginsHeard other beginning v → u ≡ v
+heard_one profile other beginning u v a b =
     sym a.first ∙ ap (λ (n : ℕ). take n beginning.first) (sym a.count ∙ b.count) ∙ b.first
 
 front_indicated : (u more : List ℕ) → take 4 (u ++ more) ≡ take (length (u ++ more)) indicator → take 4 u ≡ take (length u) indicator

@@ -79,12 +79,12 @@ impl Data {
             → MatchResult result (λ _. data_fault s5 s7 ≡ None)
             (λ fault. located start (data_fault s5 s7) ≡ Some fault) }
     {
-        let Data::Reads(feeding) = self else {
-            return Ok(());
-        };
-        match feeding.end() {
-            Ok(_) => Ok(()),
-            Err(fault) => Err(fault),
+        match self {
+            Data::Reads(feeding) => match feeding.end() {
+                Ok(_) => Ok(()),
+                Err(fault) => Err(fault),
+            },
+            Data::Passes(_) => Ok(()),
         }
     }
 }

@@ -2,6 +2,7 @@
 
 ghost use Rattle.std.specs.Prelude.{◌≡◌, ◌≢◌, ℕ, ◌≤◌, ◌++◌, List, length as length_of, MatchResult};
 ghost use Rattle.grib_base.specs.declared.fault.Reason.TheVariants.{Truncated};
+ghost use Rattle.grib_base.specs.declared.profile.Profile.{Profile};
 ghost use Rattle.grib2_sections.specs.Frame.{Placed, Fails};
 ghost use Rattle.grib2_arrival.specs.Standing.{Stands};
 ghost use Rattle.grib2_arrival.specs.Heard.{pending, step_of, IsOne, IsUnfinished, Looks};
@@ -30,7 +31,7 @@ impl Kept {
     ///
     /// The first row of the profile that fails: a section may not stand there, or a length disagrees with the total.
     pub fn look(&self, gathered: &[u8]) -> Result<Look, Fault>
-        ensures { (octets : List ℕ) (before : List Placed) → Stands octets before self.now
+        ensures { (profile : Profile) (octets : List ℕ) (before : List Placed) → Stands profile octets before self.now
             → gathered.now ≡ pending octets self.now → IsOne gathered.now
             → MatchResult result (Looks octets self.now gathered.now)
             (λ fault. (step_of octets self.now ≡ Fails fault) × (fault.reason ≢ Truncated)) }

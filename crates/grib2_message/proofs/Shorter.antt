@@ -7,6 +7,7 @@ use Rattle.std.proofs.Math.ListN.{get_or-append}
 use Rattle.std.proofs.Math.Seq.{get_or-append_seam}
 use Rattle.grib_base.specs.declared.profile.Profile.{Profile}
 use Rattle.grib_base.specs.declared.profile.Profile.TheVariants.{Stated}
+use Rattle.grib2_grids.specs.Grid.{grid_points}
 use Rattle.grib_packing.proofs.OpaquePackings.{accepted_known}
 use Rattle.grib_bits.specs.Octets.{octets}
 use Rattle.grib2_sections.specs.Verdict.{Accepted}
@@ -14,7 +15,7 @@ use Rattle.grib2_sections.specs.Head.{indicator, edition, total_length}
 use Rattle.grib2_sections.specs.Frame.{Placed, section_at}
 use Rattle.grib2_message.specs.View.{is_numbered}
 use Rattle.grib2_message.specs.Acceptance.{verdict_under}
-use Rattle.grib2_message.specs.Fields.{sections_of, field_count, field_sections, sections_up_to_field}
+use Rattle.grib2_message.specs.Fields.{sections_of, field_count, field_sections, sections_up_to_field, part_octets}
 use Rattle.grib2_message.specs.Message.{FieldPassesUnder}
 use Rattle.grib2_message.specs.Kept.{AreSound, StandsAt, ArePlaced, HasPlaces, IsField, IsRead, KeepsFields, Keeps}
 use Rattle.grib2_message.specs.declared.places.Places.{Places}
@@ -143,4 +144,5 @@ module _ (profile : Profile) (m : List ℕ) (fields : List Places) (h : Keeps pr
 -- under the profile of the stated templates its values can be read
 pub field_read : (m : List ℕ) (fields : List Places) (h : Keeps Stated m fields) (i : ℕ) (low : 1 ≤ i) (high : i ≤ field_count m) (places : Places)
     (is : places ≡ get_or fields (i - 1) places) → IsRead (field_sections m i)
-field_read m fields h i low high places is = accepted_known _ _ (field_passes Stated m fields h i low high places is).packing
+field_read m fields h i low high places is =
+    accepted_known (part_octets m i 5) (grid_points (part_octets m i 3)) (field_passes Stated m fields h i low high places is).packing

@@ -405,6 +405,7 @@ is_job Dump words read = record {
   places_stand = places (number_if_given (codes "decimals") words) (decimals_few words read);
   area_stands = tt;
 }
+is_job the.Values words read = record { target_stands = refl; size_stands = tt; changes_stand = no_changes; places_stand = tt; area_stands = tt }
 is_job the.Keys words read = record { target_stands = refl; size_stands = tt; changes_stand = no_changes; places_stand = tt; area_stands = tt }
 is_job the.Stats words read = record { target_stands = refl; size_stands = tt; changes_stand = no_changes; places_stand = tt; area_stands = tt }
 is_job the.Rescan words read = record { target_stands = refl; size_stands = tt; changes_stand = no_changes; places_stand = tt; area_stands = tt }

@@ -8,7 +8,7 @@ use Rattle.grib_keys.specs.declared.key.Key.{Key}
 use Rattle.grib_keys.specs.Keys.{key_named, can_set}
 use Rattle.grib_cli.specs.declared.words.command.Command.{Command}
 use Rattle.grib_cli.specs.declared.words.command.Command.TheVariants as the
-use Rattle.grib_cli.specs.declared.words.command.Command.TheVariants.{Check, Keys, Stats, Dump, Filter, Split, Set, Repack, Migrate, Demote, Rescan, Crop, Make, Help, Version}
+use Rattle.grib_cli.specs.declared.words.command.Command.TheVariants.{Check, Keys, Stats, Dump, Values, Filter, Split, Set, Repack, Migrate, Demote, Rescan, Crop, Make, Help, Version}
 use Rattle.grib_cli.specs.Choices.{is_test}
 use Rattle.grib_cli.specs.Values.{number, is_not_empty, is_between, key_value}
 
@@ -107,6 +107,7 @@ policy_entries the.List = passed_entry (codes "refused") ∷ []
 policy_entries Keys = passed_entry (codes "refused") ∷ []
 policy_entries Stats = passed_entry (codes "refused") ∷ []
 policy_entries Dump = passed_entry (codes "refused") ∷ passed_entry (codes "kept") ∷ []
+policy_entries Values = passed_entry (codes "refused") ∷ passed_entry (codes "kept") ∷ []
 policy_entries Make = []
 policy_entries Help = []
 policy_entries Version = []
@@ -194,6 +195,7 @@ row_of the.List = row (codes "list") [] nothing
 row_of Keys = row (codes "keys") [] nothing
 row_of Stats = row (codes "stats") [] nothing
 row_of Dump = row (codes "dump") (entry (is (codes "decimals")) (is_between 0 18) ∷ []) nothing
+row_of Values = row (codes "values") (entry (is (codes "as")) (λ value. is (codes "f4") value || is (codes "f8") value) ∷ []) nothing
 row_of Filter = row (codes "filter") (entry is_asked is_test ∷ []) has_asking
 row_of Split = row (codes "split") (entry (is (codes "out")) is_not_empty ∷ []) (has_name (codes "out"))
 row_of Set = row (codes "set") (entry is_key_to_set is_key_value ∷ []) has_key
@@ -218,7 +220,7 @@ row_of Version = row (codes "version") [] nothing
 
 abbrev pub commands : List Command
 commands =
-    Check ∷ the.List ∷ Keys ∷ Stats ∷ Dump ∷ Filter ∷ Split ∷ Set ∷ Repack ∷ Migrate ∷ Demote ∷ Rescan ∷ Crop ∷ Make ∷ Help ∷ Version ∷ []
+    Check ∷ the.List ∷ Keys ∷ Stats ∷ Dump ∷ Values ∷ Filter ∷ Split ∷ Set ∷ Repack ∷ Migrate ∷ Demote ∷ Rescan ∷ Crop ∷ Make ∷ Help ∷ Version ∷ []
 
 -- whether a word is the name of a command; those on the program itself may have `--` before their names
 abbrev pub is_called : Command → List ℕ → Bool

@@ -10,6 +10,8 @@ use Rattle.grib_keys.specs.declared.wanted.Test.{Test}
 use Rattle.grib_keys.specs.declared.wanted.Test.TheVariants.{Among, Outside}
 use Rattle.grib_keys.specs.declared.wanted.Wanted.{Wanted}
 use Rattle.grib_keys.specs.Keys.{key_named}
+use Rattle.grib_nearest.specs.declared.format.Format.{Format}
+use Rattle.grib_nearest.specs.declared.format.Format.TheVariants.{Binary32, Binary64}
 use Rattle.grib_migrate.specs.declared.labels.Local.{Local}
 use Rattle.grib_migrate.specs.declared.labels.Local.TheVariants.{Refuse, Keep, Ecmwf}
 use Rattle.grib_params.specs.declared.matching.TableMatch.{TableMatch}
@@ -99,6 +101,10 @@ local_of words =
     let local = value_of (codes "local") words in
     cond (is (codes "keep") local) Keep (cond (is (codes "ecmwf") local) Ecmwf Refuse)
 
+-- the format of the values of an array
+abbrev pub format_of : List (List ℕ) → Format
+format_of words = cond (is (codes "f4") (value_of (codes "as") words)) Binary32 Binary64
+
 -- the job of a command with these words behind it
 abbrev pub job_of_command : Command → List (List ℕ) → Result Job JobFault
 job_of_command commands.Check words = Ok jobs.Check
@@ -106,6 +112,7 @@ job_of_command commands.List words = Ok jobs.List
 job_of_command commands.Keys words = Ok jobs.Keys
 job_of_command commands.Stats words = Ok jobs.Stats
 job_of_command commands.Dump words = Ok (jobs.Dump (number_if_given (codes "decimals") words))
+job_of_command commands.Values words = Ok (jobs.Values (format_of words))
 job_of_command commands.Filter words = Ok (jobs.Filter (conditions_of words))
 job_of_command commands.Split words = Ok (jobs.Split (value_of (codes "out") words))
 job_of_command commands.Set words = Ok (jobs.Set (changes_of words))

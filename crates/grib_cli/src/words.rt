@@ -145,7 +145,7 @@ fn takes_policy(command: Command, name: &str, value: &str) -> bool
         Command::Check | Command::List | Command::Keys | Command::Stats => {
             name == "refused" && value == "pass"
         }
-        Command::Dump => matches!(name, "refused" | "kept") && value == "pass",
+        Command::Dump | Command::Values => matches!(name, "refused" | "kept") && value == "pass",
         Command::Filter
         | Command::Split
         | Command::Set
@@ -172,6 +172,7 @@ fn takes_own(command: Command, name: &str, value: &str) -> bool
         | Command::Help
         | Command::Version => false,
         Command::Dump => name == "decimals" && is_between(value, 0, 18),
+        Command::Values => name == "as" && matches!(value, "f4" | "f8"),
         Command::Filter => asked_key(name).is_some() && is_test(value),
         Command::Set => is_key_to_set(name) && key_value(value).is_some(),
         Command::Split => name == "out" && !value.is_empty(),
@@ -235,6 +236,7 @@ fn is_complete(command: Command, words: &[String]) -> bool
         | Command::Keys
         | Command::Stats
         | Command::Dump
+        | Command::Values
         | Command::Rescan
         | Command::Help
         | Command::Version => true,

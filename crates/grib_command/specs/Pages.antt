@@ -11,6 +11,7 @@ help_lines =
     ∷ codes "grib list                                         a line for each field\n"
     ∷ codes "grib keys                                         the keys of each field\n"
     ∷ codes "grib dump [decimals=0..18]                        the points of each field\n"
+    ∷ codes "grib values [as=f8|f4]                            fields as arrays of NumPy\n"
     ∷ codes "grib stats                                        counts and extremes of fields\n"
     ∷ codes "grib filter KEY=VALUE ..                          fields that have these values\n"
     ∷ codes "grib split out=NAME                               fields as files NAME.1, NAME.2\n"
@@ -28,7 +29,8 @@ help_lines =
     ∷ codes "Beside these words, in any place:\n"
     ∷ codes "check to stats [refused=pass]                     on behind what is refused\n"
     ∷ codes "filter to crop [refused=copy|pass]                the same, or copied\n"
-    ∷ codes "filter to crop [kept=copy|pass], dump [kept=pass] on behind what is kept\n"
+    ∷ codes "filter to crop [kept=copy|pass]                   on behind what is kept\n"
+    ∷ codes "dump, values [kept=pass]                          the same\n"
     ∷ codes "Messages come from standard input and go to standard output. The pages: man grib\n"
     ∷ []
 

@@ -4,6 +4,7 @@ use crate::name::Name;
 use crate::page::Page;
 use grib_base::List;
 use grib_migrate::Local;
+use grib_nearest::Format;
 use grib_params::TableMatch;
 use grib_repack::RepackTarget;
 use grib_rescan::Area;
@@ -32,6 +33,8 @@ pub enum Job {
     Dump {
         decimals: Option<u32>,
     },
+    /// For each field an array of its values, each the nearest number of this format, in the form .npy of NumPy.
+    Values(Format),
     /// Each message whose fields all fulfil the conditions, and of another one each field that does, as a
     /// message of its own.
     Filter(Conditions),

@@ -17,6 +17,7 @@ grib check                                        lines on messages and input\n\
 grib list                                         a line for each field\n\
 grib keys                                         the keys of each field\n\
 grib dump [decimals=0..18]                        the points of each field\n\
+grib values [as=f8|f4]                            fields as arrays of NumPy\n\
 grib stats                                        counts and extremes of fields\n\
 grib filter KEY=VALUE ..                          fields that have these values\n\
 grib split out=NAME                               fields as files NAME.1, NAME.2\n\
@@ -34,7 +35,8 @@ grib version                                      the version of this program\n\
 Beside these words, in any place:\n\
 check to stats [refused=pass]                     on behind what is refused\n\
 filter to crop [refused=copy|pass]                the same, or copied\n\
-filter to crop [kept=copy|pass], dump [kept=pass] on behind what is kept\n\
+filter to crop [kept=copy|pass]                   on behind what is kept\n\
+dump, values [kept=pass]                          the same\n\
 Messages come from standard input and go to standard output. The pages: man grib\n\
 ";
 

@@ -17,6 +17,7 @@ use grib_reorder::GridEdit;
 use grib_report::{Checking, Dumping, Keying, Listing, Printing, Summing, Valuing};
 use grib_stream::Place;
 use grib_table::Tables;
+use grib_values::Arraying;
 use std::alloc::Global;
 
 /// Does what the job says of a message at this place; `make` says nothing of messages. After a fault or
@@ -80,6 +81,17 @@ pub fn answer_message<T: Sink, H: Shelf>(
             let places = *places;
             answer_held(
                 &ByOutput(Valuing { places }),
+                alloc,
+                place,
+                held,
+                output,
+                shelf,
+            )
+        }
+        Job::Values(format) => {
+            let format = *format;
+            answer_held(
+                &ByOutput(Printing(Arraying { format })),
                 alloc,
                 place,
                 held,

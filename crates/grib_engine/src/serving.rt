@@ -21,6 +21,7 @@ use grib_items::Policy;
 use grib_reorder::GridEdit;
 use grib_report::{Checking, Dumping, Keying, Listing, Printing, Summing, Valuing};
 use grib_stream::Outcome;
+use grib_values::Arraying;
 use std::alloc::Global;
 
 /// Writes the answer to the job to `output`, and notes how the run ended. The answer is a function of the job, the
@@ -97,6 +98,10 @@ pub fn serve_under<S: Source, T: Sink, N: Sink, H: Shelf>(
         } => {
             let valuing = ByOutput(Valuing { places: *places });
             serve_messages(&valuing, alloc, policy, input, output, notes, shelf)
+        }
+        Job::Values(format) => {
+            let arraying = ByOutput(Printing(Arraying { format: *format }));
+            serve_messages(&arraying, alloc, policy, input, output, notes, shelf)
         }
         Job::Filter(conditions) => {
             let conditions = conditions.as_slice();

@@ -5,5 +5,3 @@ pub mod Rows
 pub mod Reading
 pub mod Spelling
 pub mod SurfaceRows
-pub mod TableReading
-pub mod SurfaceReading

@@ -8,6 +8,7 @@ mod fault;
 pub mod laws;
 mod matching;
 mod number;
+mod records;
 mod row;
 mod surface_row;
 mod surfaces;

@@ -4,10 +4,9 @@ ghost use Rattle.std.specs.Prelude.{◌≡◌, [], MatchResult};
 ghost use Rattle.grib_params.specs.Surfaces.{Good, IsSurfaceFault, surface_in, surface_under, surface_verdict};
 
 use crate::fault::TableFault;
+use crate::records::read_rows;
 use crate::row::Key;
-use crate::surface_row::{SurfaceKey, SurfaceTarget, surface_row_of};
-use crate::table::MOST_OCTETS;
-use csv::{ErrorKind, ReaderBuilder};
+use crate::surface_row::{SurfaceKey, SurfaceTarget};
 use std::alloc::Global;
 use std::collections::BTreeMap;
 use std::marker::Model;
@@ -50,36 +49,7 @@ impl SurfaceTable {
         ensures { MatchResult result
             (λ table. surface_verdict text.now ≡ Good table) (IsSurfaceFault (surface_verdict text.now)) }
     {
-        if text.len() > MOST_OCTETS {
-            return Err(TableFault::TooLarge);
-        }
-        let records = ReaderBuilder::new()
-            .has_headers(false)
-            .flexible(true)
-            .from_reader(alloc, text)
-            .into_byte_records();
-        let mut targets = BTreeMap::new(alloc);
-        let mut number: u64 = 0;
-        for record in records {
-            number += 1;
-            let record = match record {
-                Ok(record) => record,
-                Err(error) => {
-                    // Octets in memory are read, and a record may have any length: what is left is memory.
-                    let is_uneven = matches!(error.kind(), ErrorKind::UnequalLengths { .. });
-                    prove!(!is_uneven);
-                    return Err(TableFault::Memory);
-                }
-            };
-            let Some((key, target)) = surface_row_of(&record) else {
-                return Err(TableFault::Row(number));
-            };
-            match targets.insert(key, target) {
-                Ok(None) => {}
-                Ok(Some(_)) => return Err(TableFault::Duplicate(number)),
-                Err(_) => return Err(TableFault::Memory),
-            }
-        }
+        let targets = read_rows(alloc, text)?;
         Ok(SurfaceTable { targets })
     }
 

@@ -7,8 +7,8 @@ ghost use Rattle.grib_params.specs.Pairs.{first_pair};
 
 use crate::fault::TableFault;
 use crate::matching::TableMatch;
-use crate::row::{Key, Target, row_of};
-use csv::{ErrorKind, ReaderBuilder};
+use crate::records::read_rows;
+use crate::row::{Key, Target};
 use std::alloc::Global;
 use std::collections::BTreeMap;
 use std::marker::Model;
@@ -43,36 +43,7 @@ impl Table {
         ensures { MatchResult result
             (λ table. table_verdict text.now ≡ Good table) (IsFault (table_verdict text.now)) }
     {
-        if text.len() > MOST_OCTETS {
-            return Err(TableFault::TooLarge);
-        }
-        let records = ReaderBuilder::new()
-            .has_headers(false)
-            .flexible(true)
-            .from_reader(alloc, text)
-            .into_byte_records();
-        let mut targets = BTreeMap::new(alloc);
-        let mut number: u64 = 0;
-        for record in records {
-            number += 1;
-            let record = match record {
-                Ok(record) => record,
-                Err(error) => {
-                    // Octets in memory are read, and a record may have any length: what is left is memory.
-                    let is_uneven = matches!(error.kind(), ErrorKind::UnequalLengths { .. });
-                    prove!(!is_uneven);
-                    return Err(TableFault::Memory);
-                }
-            };
-            let Some((key, target)) = row_of(&record) else {
-                return Err(TableFault::Row(number));
-            };
-            match targets.insert(key, target) {
-                Ok(None) => {}
-                Ok(Some(_)) => return Err(TableFault::Duplicate(number)),
-                Err(_) => return Err(TableFault::Memory),
-            }
-        }
+        let targets = read_rows(alloc, text)?;
         Ok(Table { targets })
     }
 

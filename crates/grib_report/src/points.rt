@@ -16,7 +16,7 @@ use grib_text::{append_point_line, append_value_line};
 const FULL: usize = 65_536;
 
 /// The octets of lines that are gathered before they are passed on, and room for some lines more.
-pub(crate) const ROOM: usize = FULL + 1024;
+pub const ROOM: usize = FULL + 1024;
 
 /// Appends some text to the buffer, which is passed on first where it is full.
 pub(crate) fn append_text<T: Sink>(
@@ -103,7 +103,7 @@ fn append_value<T: Sink>(
 
 /// Writes a full buffer, and empties it.
 #[inline]
-fn make_room<T: Sink>(lines: &mut Vec<u8>, output: &mut T) -> Result<(), Stop>
+pub fn make_room<T: Sink>(lines: &mut Vec<u8>, output: &mut T) -> Result<(), Stop>
     ensures { WritesToAllBut T.contents T.faults T.settled result output.old output.new
         lines.old.items lines.new.items }
 {

@@ -14,7 +14,7 @@ use Rattle.grib_stream.specs.Task.{Task, Given, Gives}
 use Rattle.grib_stream.proofs.Exits.{within_short}
 use Rattle.grib_stream.proofs.Streams.{stream_passed, stream_message, is_begun}
 use Rattle.grib_command.specs.declared.job.Job.{Job}
-use Rattle.grib_command.specs.declared.job.Job.TheVariants.{Check, List as Listing, Keys, Stats, Dump, Filter, Split, Set, Repack, RepackLeast, Rescan, Crop, Migrate, Demote, Make, Print}
+use Rattle.grib_command.specs.declared.job.Job.TheVariants.{Check, List as Listing, Keys, Stats, Dump, Values, Filter, Split, Set, Repack, RepackLeast, Rescan, Crop, Migrate, Demote, Make, Print}
 use Rattle.grib_command.specs.Command.{Command, given, task}
 use Rattle.grib_run_law.specs.Complete.{Piece, IsInGrammar, IsMadeOf, HaveResults}
 use Rattle.grib_run_law.specs.Written.{HasResult}
@@ -103,6 +103,7 @@ made_done Keys stated is = let no : ⊥ = cc in absurd no
 made_done Stats stated is = let no : ⊥ = cc in absurd no
 made_done (Dump None) stated is = let no : ⊥ = cc in absurd no
 made_done (Dump (Some places)) stated is = let no : ⊥ = cc in absurd no
+made_done (Values format) stated is = let no : ⊥ = cc in absurd no
 made_done (Filter conditions) stated is = let no : ⊥ = cc in absurd no
 made_done (Split name) stated is = let no : ⊥ = cc in absurd no
 made_done (Set changes) stated is = let no : ⊥ = cc in absurd no

@@ -14,7 +14,7 @@ use Rattle.grib_stream.proofs.Parts.{AsParts, parts_done}
 use Rattle.grib_run_law.proofs.Alone.{changing_fixed, filter_fixed, migrate_fixed, demote_fixed, stands_alone}
 use Rattle.grib_run_law.proofs.Each.{written_join}
 use Rattle.grib_command.specs.declared.job.Job.{Job}
-use Rattle.grib_command.specs.declared.job.Job.TheVariants.{Check, List as Listing, Keys, Stats, Dump, Filter, Split, Set, Repack, RepackLeast, Rescan, Crop, Migrate, Demote, Make, Print}
+use Rattle.grib_command.specs.declared.job.Job.TheVariants.{Check, List as Listing, Keys, Stats, Dump, Values, Filter, Split, Set, Repack, RepackLeast, Rescan, Crop, Migrate, Demote, Make, Print}
 use Rattle.grib_command.specs.Command.{Command, IsLawfulCommand, changing_unless, task}
 use Rattle.grib_run_law.specs.Each.{writes_each}
 use Rattle.grib_edit.specs.Filtering.{filter_command, filter_lawful}
@@ -103,6 +103,7 @@ job_parts Listing texts front rest is each fits ends done = absurd (false≢true
 job_parts Keys texts front rest is each fits ends done = absurd (false≢true each)
 job_parts Stats texts front rest is each fits ends done = absurd (false≢true each)
 job_parts (Dump decimals) texts front rest is each fits ends done = absurd (false≢true each)
+job_parts (Values format) texts front rest is each fits ends done = absurd (false≢true each)
 job_parts (Split name) texts front rest is each fits ends done = absurd (false≢true each)
 job_parts (Make seed ni nj target) texts front rest is each fits ends done = absurd (false≢true each)
 job_parts (Print page) texts front rest is each fits ends done = absurd (false≢true each)

@@ -27,7 +27,7 @@ use Rattle.grib_items.specs.Items.{Item, Accepted, Refused, End, Over, Refusing,
 use Rattle.grib_items.specs.Next.{Unknown, Refuses, next_judged, next_passed, passed}
 use Rattle.grib_items.specs.Laws.{AreInOrder, item_before, item_size, is_refusal}
 use Rattle.grib_command.specs.declared.job.Job.{Job}
-use Rattle.grib_command.specs.declared.job.Job.TheVariants.{Check, List as Listing, Keys, Stats, Dump, Filter, Split, Set, Repack, RepackLeast, Rescan, Crop, Migrate, Demote, Make, Print}
+use Rattle.grib_command.specs.declared.job.Job.TheVariants.{Check, List as Listing, Keys, Stats, Dump, Values, Filter, Split, Set, Repack, RepackLeast, Rescan, Crop, Migrate, Demote, Make, Print}
 use Rattle.grib_command.specs.Command.{Command, given, given_unless, kept_at, task}
 use Rattle.grib_command.specs.Judging.{judge, fields_of}
 use Rattle.grib_command.specs.Texts.{texts}
@@ -37,6 +37,7 @@ use Rattle.grib_report.specs.Keying.{keys_command}
 use Rattle.grib_report.specs.Summing.{stats_command}
 use Rattle.grib_report.specs.Dumping.{dump_command}
 use Rattle.grib_report.specs.Valuing.{text_unless, value_command}
+use Rattle.grib_values.specs.Arrays.{values_command}
 use Rattle.grib_edit.specs.Filtering.{filter_command}
 use Rattle.grib_edit.specs.Splitting.{split_command}
 use Rattle.grib_edit.specs.Setting.{set_command}
@@ -97,6 +98,7 @@ job_never Keys = by_edition keys_command (λ place message. gives_never _ _) (λ
 job_never Stats = by_edition stats_command (λ place message. gives_never _ _) (λ place message. gives_never _ _)
 job_never (Dump None) = by_edition dump_command (λ place message. gives_never _ _) (λ place message. gives_never _ _)
 job_never (Dump (Some places)) = by_edition (value_command places) (λ place message. text_never _ _ _) (λ place message. text_never _ _ _)
+job_never (Values format) = by_edition (values_command format) (λ place message. gives_never _ _) (λ place message. gives_never _ _)
 job_never (Filter conditions) = by_edition (filter_command conditions) (λ place message. kept_never _ _) (λ place message. gives_never _ _)
 job_never (Split name) = by_edition (split_command name) (λ place message. kept_never _ _) (λ place message. gives_never _ _)
 job_never (Set changes) = by_edition (set_command changes) (λ place message. kept_never _ _) (λ place message. unless_never _ _ _)

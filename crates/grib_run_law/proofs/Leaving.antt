@@ -21,7 +21,7 @@ use Rattle.grib_items.specs.Laws.{is_whole}
 use Rattle.grib_items.specs.Run.{answer_of, answer_within}
 use Rattle.grib_items.specs.Steps.{Plan}
 use Rattle.grib_command.specs.declared.job.Job.{Job}
-use Rattle.grib_command.specs.declared.job.Job.TheVariants.{Check, List as Listing, Keys, Stats, Dump, Filter, Split, Set, Repack, RepackLeast, Rescan, Crop, Migrate, Demote, Make, Print}
+use Rattle.grib_command.specs.declared.job.Job.TheVariants.{Check, List as Listing, Keys, Stats, Dump, Values, Filter, Split, Set, Repack, RepackLeast, Rescan, Crop, Migrate, Demote, Make, Print}
 use Rattle.grib_command.specs.Command.{Command}
 use Rattle.grib_command.specs.Jobs.{IsJob, CanChange, is_target}
 use Rattle.grib_edit.specs.Filtering.{filter_command}
@@ -162,6 +162,7 @@ module _ (stand : ItemsStand) (repacked : (target : RepackTarget) (policy : Poli
   job_leaves Keys policy outcome before now is answers = tt
   job_leaves Stats policy outcome before now is answers = tt
   job_leaves (Dump places) policy outcome before now is answers = tt
+  job_leaves (Values format) policy outcome before now is answers = tt
   job_leaves (Filter conditions) policy outcome before now is reading = λ unbroken.
       leaves (IsFiltered conditions) (IsFiltered conditions) (filter_command conditions) policy outcome before now (filtered conditions policy) (λ more octets small wrote. wrote) reading unbroken
   job_leaves (Split out) policy outcome before now is reading = leaves_names out policy outcome before now reading

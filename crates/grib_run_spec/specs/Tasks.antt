@@ -16,7 +16,7 @@ use Rattle.grib_params.specs.declared.matching.TableMatch.{TableMatch}
 use Rattle.grib_table.specs.declared.both.Tables.{Tables}
 use Rattle.grib_table.specs.Both.{Both, BothGood, ParametersRefused, SurfacesRefused, Texts, both, no_texts}
 use Rattle.grib_command.specs.declared.job.Job.{Job}
-use Rattle.grib_command.specs.declared.job.Job.TheVariants.{Check, List as Listing, Keys, Stats, Dump, Filter, Split, Set, Repack, RepackLeast, Rescan, Crop, Migrate, Demote, Make, Print}
+use Rattle.grib_command.specs.declared.job.Job.TheVariants.{Check, List as Listing, Keys, Stats, Dump, Values, Filter, Split, Set, Repack, RepackLeast, Rescan, Crop, Migrate, Demote, Make, Print}
 use Rattle.grib_report.specs.Checking.{check_command}
 use Rattle.grib_command.specs.Command.{Command, task}
 use Rattle.grib_report.specs.Dumping.{dump_command}
@@ -36,6 +36,7 @@ use Rattle.grib_edit.specs.Setting.{set_command}
 use Rattle.grib_edit.specs.Splitting.{split_command}
 use Rattle.grib_report.specs.Summing.{stats_command}
 use Rattle.grib_report.specs.Valuing.{value_command}
+use Rattle.grib_values.specs.Arrays.{values_command}
 
 -- A stated answer: all that is done, the lines that are noted of what the run goes past, what is noted behind them, and how
 -- the run ends.
@@ -85,6 +86,7 @@ work_of Keys = Reads keys_command
 work_of Stats = Reads stats_command
 work_of (Dump None) = Reads dump_command
 work_of (Dump (Some places)) = Reads (value_command places)
+work_of (Values format) = Reads (values_command format)
 work_of (Filter conditions) = Reads (filter_command conditions)
 work_of (Split name) = Reads (split_command name)
 work_of (Set changes) = Reads (set_command changes)

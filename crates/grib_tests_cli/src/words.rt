@@ -22,6 +22,7 @@ fn command_of(asked: &Result<Job, JobFault>) -> &'static str {
         Ok(Job::Keys) => "keys",
         Ok(Job::Stats) => "stats",
         Ok(Job::Dump { .. }) => "dump",
+        Ok(Job::Values(_)) => "values",
         Ok(Job::Filter(_)) => "filter",
         Ok(Job::Split(_)) => "split",
         Ok(Job::Set(_)) => "set",
@@ -38,7 +39,7 @@ fn command_of(asked: &Result<Job, JobFault>) -> &'static str {
 }
 
 // Lines that are read, each as the command that its first word names.
-const READ: [&str; 74] = [
+const READ: [&str; 79] = [
     // Each command has its name.
     "check",
     "list",
@@ -60,6 +61,12 @@ const READ: [&str; 74] = [
     // `dump` takes a number of decimals.
     "dump decimals=0",
     "dump decimals=18",
+    // `values` takes a format.
+    "values",
+    "values as=f8",
+    "values as=f4",
+    "values refused=pass as=f4",
+    "values kept=pass refused=pass",
     // `filter` takes keys.
     "filter points=4",
     "filter forecastTime=6 centre=98 bits=8",
@@ -130,7 +137,7 @@ const READ: [&str; 74] = [
 ];
 
 // Lines that are not, with the place of the first word that is not read.
-const UNREAD: [(u64, &str); 159] = [
+const UNREAD: [(u64, &str); 164] = [
     // Others have none.
     (0, ""),
     (0, "Check"),
@@ -155,6 +162,12 @@ const UNREAD: [(u64, &str); 159] = [
     (1, "dump decimals=-1"),
     (1, "dump decimals=03"),
     (2, "dump decimals=3 decimals=3"),
+    // `values` takes a format.
+    (1, "values as="),
+    (1, "values as=f2"),
+    (1, "values as=F8"),
+    (1, "values decimals=3"),
+    (2, "values as=f4 as=f4"),
     // `filter` takes keys.
     (1, "filter"),
     (1, "filter centre"),
@@ -320,13 +333,15 @@ const UNREAD_PAGES: [(u64, &str); 8] = [
 ];
 
 /// Lines with arguments on what a run skips that are not read.
-const UNREAD_PAST: [(u64, &str); 9] = [
+const UNREAD_PAST: [(u64, &str); 11] = [
     (1, "check refused=skip"),
     (2, "list refused=pass refused=pass"),
     // What keeps no message has no word on that, and `dump` copies none.
     (1, "keys kept=pass"),
     (1, "stats refused=copy"),
     (2, "dump decimals=3 kept=copy"),
+    (1, "values kept=copy"),
+    (1, "values refused=copy"),
     (2, "rescan kept=copy kept=pass"),
     // A word on what is passed is no condition.
     (2, "filter refused=pass"),

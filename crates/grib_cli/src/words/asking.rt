@@ -14,6 +14,7 @@ use super::{JobFault, has_name, is_named};
 use grib_engine::{Area, Changes, Conditions, Job, Name, Page, RepackTarget};
 use grib_keys::{Change, Key};
 use grib_migrate::Local;
+use grib_nearest::Format;
 use grib_params::TableMatch;
 use std::alloc::{AllocError, Global};
 
@@ -34,6 +35,7 @@ pub(super) fn job_of_command(
         Command::Dump => Ok(Job::Dump {
             decimals: number_if_given(words, "decimals"),
         }),
+        Command::Values => Ok(Job::Values(format_of(words))),
         Command::Filter => Ok(Job::Filter(Conditions::of(conditions_of(alloc, words)?))),
         Command::Split => Ok(Job::Split(name_by(alloc, words, "out")?)),
         Command::Set => Ok(Job::Set(Changes::of(changes_of(alloc, words)?))),
@@ -59,6 +61,17 @@ pub(super) fn job_of_command(
         Command::Crop => Ok(Job::Crop(area_of(words))),
         Command::Help => Ok(Job::Print(Page::Help)),
         Command::Version => Ok(Job::Print(Page::Version)),
+    }
+}
+
+/// The format of the values of an array.
+fn format_of(words: &[String]) -> Format
+    ensures { result ≡ asked.format_of (map string_bytes words.now) }
+{
+    if value_of(words, "as") == "f4" {
+        Format::Binary32
+    } else {
+        Format::Binary64
     }
 }
 

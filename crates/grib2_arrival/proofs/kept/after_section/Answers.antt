@@ -24,7 +24,7 @@ returns-in_err-go_past c = λ profile u before h e.
     let follows = follows_here profile u before c.args.kept h s section.number e section.itself in
     let p = err_from_is_err_and c.from_residual.result c.from_residual.ensures.1 in
     rw (p.1, p.2) (stops_contents profile u before c.args.kept h s e section.start c.requires.stands.5 _
-    (subst (λ (p : Profile). IsReadFault (section_fault_under p before (placed_at section.start s)) c.in_err-go_past.error) h.under (c.in_err-go_past.ensures.tried before h.force follows)))
+    (subst (λ (p : Profile). IsReadFault (section_fault_under p before (placed_at section.start s)) c.in_err-go_past.field-0.0) h.under (c.in_err-go_past.ensures.tried before h.force follows)))
 
 pub with_section-kept-requires : goal.with_section-kept-requires
 with_section-kept-requires c =

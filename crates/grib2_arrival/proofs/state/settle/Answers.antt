@@ -1,4 +1,6 @@
-use Rattle.std.proofs.Common.{length, sym, ap, ◌∙◌, subst}
+use Rattle.std.proofs.Common.{length, sym, ap, ◌∙◌, subst, ◌≢◌, ℕ, List}
+use Rattle.grib_bits.specs.Octets.{octets as number_at, StatesItself}
+use Rattle.grib2_sections.specs.Frame.{Next}
 use Rattle.std.proofs.lemmas.Result.{err_from_is_err_and}
 use Rattle.grib2_arrival.specs.Heard.{IsUnfinished, IsOne}
 use Rattle.grib2_arrival.proofs.Onward.{fails_stops}
@@ -35,3 +37,30 @@ returns-in-Values c = λ profile u before h is one.
     let v = c.as_slice.ensures.value in
     let looks = rw c.in-Values.is at (c.in_ok-look.ensures profile u before h (v ∙ is) (subst IsOne (sym v) one)) in
     c.start_values.ensures profile u before h is (ap length (sym v) ∙ looks.1) looks.0
+
+pub take_section-requires-clause-stands : goal.take_section-requires-clause-stands
+take_section-requires-clause-stands c =
+    let r = c.requires.stands in
+    let v = c.as_slice.ensures.value in
+    let looks = rw c.in-Section.is at (c.in_ok-look.ensures r.0 r.1 r.2 r.3 (v ∙ r.4) (subst IsOne (sym v) r.5)) in
+    (r.0, r.1, r.2, r.3, r.4, looks.0 ∙ ap Next v)
+
+pub take_section-requires-clause-itself : goal.take_section-requires-clause-itself
+take_section-requires-clause-itself c =
+    let r = c.requires.stands in
+    let v = c.as_slice.ensures.value in
+    let looks = rw c.in-Section.is at (c.in_ok-look.ensures r.0 r.1 r.2 r.3 (v ∙ r.4) (subst IsOne (sym v) r.5)) in
+    subst (λ (xs : List ℕ). StatesItself (number_at xs 5 5) xs) v looks.1
+
+pub take_section-requires-clause-not_7 : goal.take_section-requires-clause-not_7
+take_section-requires-clause-not_7 c =
+    let r = c.requires.stands in
+    let v = c.as_slice.ensures.value in
+    let looks = rw c.in-Section.is at (c.in_ok-look.ensures r.0 r.1 r.2 r.3 (v ∙ r.4) (subst IsOne (sym v) r.5)) in
+    subst (λ (xs : List ℕ). number_at xs 5 5 ≢ 7) v looks.2
+
+pub returns-in-Section : goal.returns-in-Section
+returns-in-Section c = λ profile u before h is one.
+    let v = c.as_slice.ensures.value in
+    let looks = rw c.in-Section.is at (c.in_ok-look.ensures profile u before h (v ∙ is) (subst IsOne (sym v) one)) in
+    c.take_section.ensures profile u before h is (looks.0 ∙ ap Next v)

@@ -1,7 +1,10 @@
 use Rattle.std.proofs.Common.{◌≡◌, ℕ, ◌+◌, ◌<◌, ◌≤◌, Some, List, [], ◌∷◌, All, get_or, slice_get, length, length-append, add_comm, sym, ap, ◌∙◌, subst, arith}
 use Rattle.std.proofs.lemmas.Option.{slice_get_within}
 use Rattle.std.proofs.lemmas.Result.{err_from_is_err_and}
+use Rattle.grib_base.specs.Faults.{IsReadFault}
+use Rattle.grib_base.specs.declared.profile.Profile.{Profile}
 use Rattle.grib2_sections.specs.Verdict.{Accepted}
+use Rattle.grib2_message.specs.Acceptance.{section_fault_under}
 use Rattle.grib2_message.specs.declared.places.Places.{Places}
 use Rattle.std.proofs.lemmas.Grind.{get_or_default_zero}
 use Rattle.std.proofs.lemmas.List.Elements.{All-take}
@@ -52,7 +55,8 @@ returns-in_err-go_past c =
     let comes = way_comes_at c.args.profile m i.turns i.before c.loop-fields.frame section.number section.start section.octets.now i.way told.0 told.1 section.itself in
     let p = err_from_is_err_and c.from_residual-in_err-go_past.result c.from_residual-in_err-go_past.ensures.1 in
     let refused = c.in_err-go_past.ensures.tried m i.before i.places_stand comes in
-    rw (p.1, p.2) (way_read_fault c.loop-fields.places.force.profile m i.turns i.before c.loop-fields.frame section.start section.octets.now _ i.way told.0 told.1 refused)
+    rw (p.1, p.2) (way_read_fault c.args.profile m i.turns i.before c.loop-fields.frame section.start section.octets.now _ i.way told.0 told.1
+    (subst (λ (p : Profile). IsReadFault (section_fault_under p i.before (placed_at section.start section.octets.now)) c.in_err-go_past.field-0.0) i.under refused))
 
 pub loop-fields-preserved-in-Ok-1 : goal.loop-fields-preserved-in-Ok-1
 loop-fields-preserved-in-Ok-1 c =
@@ -63,7 +67,8 @@ loop-fields-preserved-in-Ok-1 c =
     let told = rw c.in-Some.is at c.in_ok-section.ensures in
     let comes = way_comes_at c.args.profile m i.turns i.before c.loop-fields.frame section.number section.start s i.way told.0 told.1 section.itself in
     let past = c.in_ok-go_past.ensures.tried m i.before i.places_stand comes in
-    let on = way_next_at c.args.profile m i.turns i.before c.loop-fields.frame c.next.new.self section.start s i.way told.0 told.1 told.2 past.0 in
+    let on = way_next_at c.args.profile m i.turns i.before c.loop-fields.frame c.next.new.self section.start s i.way told.0 told.1 told.2
+    (ap (λ (p : Profile). section_fault_under p i.before (placed_at section.start s)) (sym i.under) ∙ past.0) in
     let seven : section_number s ≡ 7 = section.itself.number_stands ∙ c.if-section-eq7.true in
     let more = placed_at section.start s ∷ i.before in
     let field = field_sections m (length c.loop-fields.fields.items + 1) in
@@ -80,7 +85,7 @@ loop-fields-preserved-in-Ok-1 c =
       places_stand = past.1;
       under = c.in_ok-go_past.ensures.profile ∙ i.under;
       count = long ∙ ap (λ (n : ℕ). n + 1) i.count ∙ add_comm (section_count 7 i.before) 1 ∙ sym (count_same (placed_at section.start s) i.before 7 seven);
-      each = subst (λ xs. KeepsFields c.args.profile m xs) (sym items) (keeps_push c.args.profile m c.loop-fields.fields.items c.go_past.new.self i.each kept);
+      each = subst (λ xs. KeepsFields c.args.profile m xs) (sym items) (keeps_push c.args.profile m c.loop-fields.fields.items c.go_past.new.self i.each kept (c.in_ok-go_past.ensures.profile ∙ i.under));
     }
 
 pub loop-fields-preserved : goal.loop-fields-preserved
@@ -92,7 +97,8 @@ loop-fields-preserved c =
     let told = rw c.in-Some.is at c.in_ok-section.ensures in
     let comes = way_comes_at c.args.profile m i.turns i.before c.loop-fields.frame section.number section.start s i.way told.0 told.1 section.itself in
     let past = c.in_ok-go_past.ensures.tried m i.before i.places_stand comes in
-    let on = way_next_at c.args.profile m i.turns i.before c.loop-fields.frame c.next.new.self section.start s i.way told.0 told.1 told.2 past.0 in
+    let on = way_next_at c.args.profile m i.turns i.before c.loop-fields.frame c.next.new.self section.start s i.way told.0 told.1 told.2
+    (ap (λ (p : Profile). section_fault_under p i.before (placed_at section.start s)) (sym i.under) ∙ past.0) in
     record {
       turns = on.turns_left;
       before = placed_at section.start s ∷ i.before;

@@ -1,4 +1,5 @@
 use Rattle.std.proofs.Common.{◌≡◌, ℕ, ◌+◌, ◌-◌, None, List, map, refl, ap, ◌∙◌, arith, subst}
+use Rattle.grib_base.specs.declared.profile.Profile.TheVariants.{Stated}
 use Rattle.grib2_grids.specs.Grid.{grid_points}
 use Rattle.grib_bitmap.specs.Mask.{mask_of}
 use Rattle.grib_packing.specs.declared.column.Column.{Column}
@@ -15,15 +16,15 @@ pub returns-clause-accepted : goal.returns-clause-accepted
 returns-clause-accepted c = λ message accepted each.
     let unpack = unpacks c.what_is_packed_simply_reads_back.ensures c.what_is_packed_in_groups_reads_back.ensures c.what_is_packed_by_differences_reads_back.ensures in
     least_is IsMessage message accepted accepted
-    (λ few. c.what_is_assembled_is_accepted.ensures.accepted message (least_forms message)
-    (may_be_assembled c.a_packing_is_written.ensures unpack c.field_holds.ensures.passes c.field_holds.ensures.mask message accepted each few))
+    (λ few. c.what_is_assembled_is_accepted.ensures.accepted Stated message (least_forms message)
+    (may_be_assembled c.a_packing_is_written.ensures unpack (c.field_holds.ensures.passes Stated) (c.field_holds.ensures.mask Stated) message accepted each few))
 
 pub returns-clause-fields : goal.returns-clause-fields
 returns-clause-fields c = λ message accepted each.
     let unpack = unpacks c.what_is_packed_simply_reads_back.ensures c.what_is_packed_in_groups_reads_back.ensures c.what_is_packed_by_differences_reads_back.ensures in
     least_is (λ (x : List ℕ). field_count x ≡ field_count message) message accepted refl
-    (λ few. c.what_is_assembled_is_accepted.ensures.fields message (least_forms message)
-    (may_be_assembled c.a_packing_is_written.ensures unpack c.field_holds.ensures.passes c.field_holds.ensures.mask message accepted each few))
+    (λ few. c.what_is_assembled_is_accepted.ensures.fields Stated message (least_forms message)
+    (may_be_assembled c.a_packing_is_written.ensures unpack (c.field_holds.ensures.passes Stated) (c.field_holds.ensures.mask Stated) message accepted each few))
 
 pub returns-clause-columns : goal.returns-clause-columns
 returns-clause-columns c = λ message accepted each i low high.
@@ -31,11 +32,11 @@ returns-clause-columns c = λ message accepted each i low high.
     let forms = least_forms message in
     let p = least_form message i in
     let place : i - 1 + 1 ≡ i = omega arith in
-    let stands = least_stands c.a_packing_is_written.ensures unpack c.field_holds.ensures.passes c.field_holds.ensures.mask message accepted each i low high in
+    let stands = least_stands c.a_packing_is_written.ensures unpack (c.field_holds.ensures.passes Stated) (c.field_holds.ensures.mask Stated) message accepted each i low high in
     least_is (λ (x : List ℕ). column_of x i ≡ column_of message i) message accepted refl
     (λ few.
-    let assembled_here = may_be_assembled c.a_packing_is_written.ensures unpack c.field_holds.ensures.passes c.field_holds.ensures.mask message accepted each few in
-    let made = c.what_is_assembled_is_accepted.ensures.columns message forms assembled_here (i - 1) p (part_there (least_form message) (field_count message) i low high) in
+    let assembled_here = may_be_assembled c.a_packing_is_written.ensures unpack (c.field_holds.ensures.passes Stated) (c.field_holds.ensures.mask Stated) message accepted each few in
+    let made = c.what_is_assembled_is_accepted.ensures.columns Stated message forms assembled_here (i - 1) p (part_there (least_form message) (field_count message) i low high) in
     subst (λ (n : ℕ). column_of (assembled message forms) n ≡ column_from p.section5 (mask_of p.section6 (grid_points (part_octets message n 3)) None) p.section7) place made
     ∙ stands.column)
 
@@ -47,5 +48,5 @@ pub returns-clause-kept : goal.returns-clause-kept
 returns-clause-kept c = λ message accepted each i k high.
     let unpack = unpacks c.what_is_packed_simply_reads_back.ensures c.what_is_packed_in_groups_reads_back.ensures c.what_is_packed_by_differences_reads_back.ensures in
     least_is (λ (x : List ℕ). part_octets x i k ≡ part_octets message i k) message accepted refl
-    (λ few. c.what_is_assembled_is_accepted.ensures.kept message (least_forms message)
-    (may_be_assembled c.a_packing_is_written.ensures unpack c.field_holds.ensures.passes c.field_holds.ensures.mask message accepted each few) i k high)
+    (λ few. c.what_is_assembled_is_accepted.ensures.kept Stated message (least_forms message)
+    (may_be_assembled c.a_packing_is_written.ensures unpack (c.field_holds.ensures.passes Stated) (c.field_holds.ensures.mask Stated) message accepted each few) i k high)

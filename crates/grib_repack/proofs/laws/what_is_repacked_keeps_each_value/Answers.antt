@@ -1,4 +1,5 @@
 use Rattle.std.proofs.Common.{◌≡◌, ℕ, ◌+◌, ◌-◌, None, map, ap, ◌∙◌, arith, subst}
+use Rattle.grib_base.specs.declared.profile.Profile.TheVariants.{Stated}
 use Rattle.grib2_grids.specs.Grid.{grid_points}
 use Rattle.grib_bitmap.specs.Mask.{mask_of}
 use Rattle.grib_packing.specs.declared.column.Column.{Column}
@@ -11,14 +12,14 @@ use Rattle.grib_repack.proofs.laws.what_is_repacked_keeps_each_value.Goals as go
 pub returns-clause-accepted : goal.returns-clause-accepted
 returns-clause-accepted c = λ target message may.
     let unpack = unpacks c.what_is_packed_simply_reads_back.ensures c.what_is_packed_in_groups_reads_back.ensures c.what_is_packed_by_differences_reads_back.ensures in
-    c.what_is_assembled_is_accepted.ensures.accepted message (packed_fields target message)
-    (may_be_assembled c.a_packing_is_written.ensures unpack c.field_holds.ensures.passes c.field_holds.ensures.mask target message may)
+    c.what_is_assembled_is_accepted.ensures.accepted Stated message (packed_fields target message)
+    (may_be_assembled c.a_packing_is_written.ensures unpack (c.field_holds.ensures.passes Stated) (c.field_holds.ensures.mask Stated) target message may)
 
 pub returns-clause-fields : goal.returns-clause-fields
 returns-clause-fields c = λ target message may.
     let unpack = unpacks c.what_is_packed_simply_reads_back.ensures c.what_is_packed_in_groups_reads_back.ensures c.what_is_packed_by_differences_reads_back.ensures in
-    c.what_is_assembled_is_accepted.ensures.fields message (packed_fields target message)
-    (may_be_assembled c.a_packing_is_written.ensures unpack c.field_holds.ensures.passes c.field_holds.ensures.mask target message may)
+    c.what_is_assembled_is_accepted.ensures.fields Stated message (packed_fields target message)
+    (may_be_assembled c.a_packing_is_written.ensures unpack (c.field_holds.ensures.passes Stated) (c.field_holds.ensures.mask Stated) target message may)
 
 pub returns-clause-columns : goal.returns-clause-columns
 returns-clause-columns c = λ target message may i low high.
@@ -26,10 +27,10 @@ returns-clause-columns c = λ target message may i low high.
     let parts = packed_fields target message in
     let p = packed_field target message i in
     let place : i - 1 + 1 ≡ i = omega arith in
-    let assembled = may_be_assembled c.a_packing_is_written.ensures unpack c.field_holds.ensures.passes c.field_holds.ensures.mask target message may in
-    let made = c.what_is_assembled_is_accepted.ensures.columns message parts assembled (i - 1) p (part_there target message i low high) in
+    let assembled = may_be_assembled c.a_packing_is_written.ensures unpack (c.field_holds.ensures.passes Stated) (c.field_holds.ensures.mask Stated) target message may in
+    let made = c.what_is_assembled_is_accepted.ensures.columns Stated message parts assembled (i - 1) p (part_there target message i low high) in
     subst (λ (n : ℕ). column_of (repacked target message) n ≡ column_from p.section5 (mask_of p.section6 (grid_points (part_octets message n 3)) None) p.section7) place made
-    ∙ column_kept c.a_packing_is_written.ensures unpack c.field_holds.ensures.passes c.field_holds.ensures.mask target message may i low high
+    ∙ column_kept c.a_packing_is_written.ensures unpack (c.field_holds.ensures.passes Stated) (c.field_holds.ensures.mask Stated) target message may i low high
 
 pub returns-clause-meanings : goal.returns-clause-meanings
 returns-clause-meanings c = λ target message may i low high.
@@ -38,5 +39,5 @@ returns-clause-meanings c = λ target message may i low high.
 pub returns-clause-kept : goal.returns-clause-kept
 returns-clause-kept c = λ target message may i k high.
     let unpack = unpacks c.what_is_packed_simply_reads_back.ensures c.what_is_packed_in_groups_reads_back.ensures c.what_is_packed_by_differences_reads_back.ensures in
-    c.what_is_assembled_is_accepted.ensures.kept message (packed_fields target message)
-    (may_be_assembled c.a_packing_is_written.ensures unpack c.field_holds.ensures.passes c.field_holds.ensures.mask target message may) i k high
+    c.what_is_assembled_is_accepted.ensures.kept Stated message (packed_fields target message)
+    (may_be_assembled c.a_packing_is_written.ensures unpack (c.field_holds.ensures.passes Stated) (c.field_holds.ensures.mask Stated) target message may) i k high

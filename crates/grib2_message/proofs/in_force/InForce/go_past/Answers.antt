@@ -1,6 +1,7 @@
 use Rattle.std.proofs.Common.{◌≡◌, ◌+◌, ℕ, sym, ap, ◌∙◌, subst, arith}
 use Rattle.std.proofs.lemmas.Result.{err_from_is_err_and}
 use Rattle.grib_base.specs.Rows.{first_fault_at, located}
+use Rattle.grib2_grids.proofs.Under.{grid_header_length}
 use Rattle.grib2_products.specs.Opaque.{product_rows_under}
 use Rattle.grib_packing.specs.Entries.{packing_fault_under}
 use Rattle.grib2_sections.specs.Frame.{placed_at, may_follow}
@@ -8,6 +9,7 @@ use Rattle.grib2_message.specs.View.{last_number, octets_in_force}
 use Rattle.grib2_message.proofs.After.{fault_by_number, number_in_range, number_below, force_other, force_grid, force_read, force_bitmap}
 use Rattle.grib2_message.proofs.Checked.{products_are_fields, tried_as}
 use Rattle.grib2_message.proofs.Order.{Follows, follows_tells}
+use Rattle.grib2_message.proofs.Sound.{none_located}
 use Rattle.grib2_message.proofs.in_force.InForce.go_past.Goals as goal
 
 pub returns-in-1-clause-tried : goal.returns-in-1-clause-tried
@@ -18,6 +20,11 @@ returns-in-1-clause-tried c = λ before h follows.
     tried_as _ _ c.check_identification.result _ (fault_by_number before at section.number numbered c.args.self.now.profile 1 c.in-1.is) c.check_identification.ensures
     (λ none. force_other before at section.number numbered follows c.args.self.now h none
     (λ x. absurd (omega (arith, c.in-1.is))) (λ x. absurd (omega (arith, c.in-1.is))) (λ x. absurd (omega (arith, c.in-1.is))) (λ x. absurd (omega (arith, c.in-1.is))))
+
+pub u32_at-self-requires-clause-within : goal.u32_at-self-requires-clause-within
+u32_at-self-requires-clause-within c =
+    let section = c.args.section.now in
+    omega (arith, grid_header_length c.args.self.now.profile section.octets.now (none_located section.start _ c.in_ok-check_grid-in-3.ensures))
 
 pub returns-in_ok-check_grid-in-3-clause-tried : goal.returns-in_ok-check_grid-in-3-clause-tried
 returns-in_ok-check_grid-in-3-clause-tried c = λ before h follows.

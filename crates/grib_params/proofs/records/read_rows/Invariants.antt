@@ -1,14 +1,15 @@
 use Rattle.std.proofs.Common.{◌≡◌, ◌<◌, Some, true}
 use Rattle.csv.specs.Reading.{Ready}
 use Rattle.csv.specs.declared.reader.Trim.TheVariants as trim
-use Rattle.grib_params.proofs.TableReading.{Stands}
-use Rattle.grib_params.proofs.table.Table.read.Given as goal
+use Rattle.grib_params.specs.Fields.{records_of}
+use Rattle.grib_params.proofs.Reading.{Standing}
+use Rattle.grib_params.proofs.records.read_rows.Given as goal
 
 abbrev pub invariant-loop-record : goal.invariant-loop-record
-invariant-loop-record l = record {
+invariant-loop-record g l = record {
   trim : l.record-iterator.rdr.trim ≡ trim.None;
   ready : Ready l.record-iterator.rdr;
   flexible : l.record-iterator.rdr.flexible ≡ true;
   left : 0 < l.record-iterator.left;
-  stands : Stands (λ s. Some s.now) l.record-iterator.rdr l.fn.text l.number l.targets.entries;
+  stands : Standing g.R.Row.verdict_from (g.R.Row.verdict l.fn.text) (λ s. Some s.now) l.record-iterator.rdr l.number l.rows.entries;
 }

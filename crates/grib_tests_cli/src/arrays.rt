@@ -1,0 +1,308 @@
+//! `values`. Expected words are Python's exact fractions, rounded once, half to even, and headers are put together as
+//! NumPy's format says.
+
+use grib_engine::Outcome;
+use grib_samples::{
+    FIRST_EDITION, FOUR_NUMBERS, FOUR_VALUES, GRID, IDENTIFICATION, MASKED, NO_BITMAP, PLAIN,
+    PRODUCT, REDUCED, TWO_FIELDS, edited, message_of, put,
+};
+use grib_test_runs::{CALM, Failing, run_over};
+use std::alloc::{AllocError, Global};
+use std::test::Fail;
+
+// The values of the numbers 0, 1, 2 and 255: -11.8625, -11.85, -11.8375 and -8.675.
+const FOUR: &[u8] = b"\x9a\x99\x99\x99\x99\xb9\x27\xc0\
+\x33\x33\x33\x33\x33\xb3\x27\xc0\
+\xcd\xcc\xcc\xcc\xcc\xac\x27\xc0\
+\x9a\x99\x99\x99\x99\x59\x21\xc0";
+
+const FOUR_SINGLE: &[u8] = b"\xcd\xcc\x3d\xc1\
+\x9a\x99\x3d\xc1\
+\x66\x66\x3d\xc1\
+\xcd\xcc\x0a\xc1";
+
+// An array with this name of a type and this shape.
+fn array(alloc: Global, name: &str, shape: &str, values: &[u8]) -> Result<Vec<u8>, AllocError> {
+    let mut octets = b"\x93NUMPY\x01\0\x76\0{'descr': '".to_vec(alloc)?;
+    octets.extend_from_slice(name.as_bytes())?;
+    octets.extend_from_slice(b"', 'fortran_order': False, 'shape': ")?;
+    octets.extend_from_slice(shape.as_bytes())?;
+    octets.extend_from_slice(b", }")?;
+    octets.resize(127, b' ')?;
+    octets.push(b'\n')?;
+    octets.extend_from_slice(values)?;
+    Ok(octets)
+}
+
+// Whether a run of `values` over octets in pieces of each size gives this.
+fn gives(alloc: Global, words: &str, octets: &[u8], output: &[u8]) -> Result<bool, AllocError> {
+    for piece in [1, 7, 1_000] {
+        let ran = run_over(alloc, words, octets, piece, CALM)?;
+        if !ran.gave(Outcome::Done, output, "") {
+            return Ok(false);
+        }
+    }
+    Ok(true)
+}
+
+#[test]
+fn the_values_of_a_field_are_an_array(rt: HostRuntime) -> Result<(), Fail> {
+    let double = array(rt.alloc(), "<f8", "(2, 2)", FOUR)?;
+    for words in ["values", "values as=f8", "values refused=pass kept=pass"] {
+        assert!(rt; gives(rt.alloc(), words, &PLAIN, double.as_slice())?);
+    }
+    let single = array(rt.alloc(), "<f4", "(2, 2)", FOUR_SINGLE)?;
+    assert!(rt; gives(rt.alloc(), "values as=f4", &PLAIN, single.as_slice())?);
+    Ok(())
+}
+
+#[test]
+fn missing_points_are_no_numbers(rt: HostRuntime) -> Result<(), Fail> {
+    let first = b"\x9a\x99\x99\x99\x99\xb9\x27\xc0\
+\0\0\0\0\0\0\xf8\x7f\
+\x33\x33\x33\x33\x33\xb3\x27\xc0\
+\xcd\xcc\xcc\xcc\xcc\xac\x27\xc0";
+    let second = b"\x66\x66\x66\x66\x66\xa6\x27\xc0\
+\0\0\0\0\0\0\xf8\x7f\
+\0\0\0\0\0\xa0\x27\xc0\
+\x9a\x99\x99\x99\x99\x99\x27\xc0";
+    let mut double = array(rt.alloc(), "<f8", "(2, 2)", first)?;
+    double.extend_from_slice(array(rt.alloc(), "<f8", "(2, 2)", second)?.as_slice())?;
+    assert!(rt; gives(rt.alloc(), "values", &TWO_FIELDS, double.as_slice())?);
+
+    let first = b"\xcd\xcc\x3d\xc1\0\0\xc0\x7f\x9a\x99\x3d\xc1\x66\x66\x3d\xc1";
+    let second = b"\x33\x33\x3d\xc1\0\0\xc0\x7f\0\0\x3d\xc1\xcd\xcc\x3c\xc1";
+    let mut single = array(rt.alloc(), "<f4", "(2, 2)", first)?;
+    single.extend_from_slice(array(rt.alloc(), "<f4", "(2, 2)", second)?.as_slice())?;
+    assert!(rt; gives(rt.alloc(), "values as=f4", &TWO_FIELDS, single.as_slice())?);
+    Ok(())
+}
+
+#[test]
+fn values_of_edition_1_are_an_array_as_well(rt: HostRuntime) -> Result<(), Fail> {
+    let plain = array(rt.alloc(), "<f8", "(2, 2)", FOUR)?;
+    assert!(rt; gives(rt.alloc(), "values", FIRST_EDITION, plain.as_slice())?);
+    // 1100, none, 1300 and 1500.
+    let values = b"\0\0\0\0\0\x30\x91\x40\
+\0\0\0\0\0\0\xf8\x7f\
+\0\0\0\0\0\x50\x94\x40\
+\0\0\0\0\0\x70\x97\x40";
+    let masked = array(rt.alloc(), "<f8", "(2, 2)", values)?;
+    assert!(rt; gives(rt.alloc(), "values", MASKED, masked.as_slice())?);
+    let reduced = array(rt.alloc(), "<f4", "(4,)", FOUR_SINGLE)?;
+    assert!(rt; gives(rt.alloc(), "values as=f4", REDUCED, reduced.as_slice())?);
+    Ok(())
+}
+
+#[test]
+fn the_first_axis_is_of_rows_or_of_consecutive_columns(rt: HostRuntime) -> Result<(), Fail> {
+    // Octets 71 and 75 are Ni and Nj, and octet 109 the scanning mode.
+    for (scanning, shape) in [
+        (0, "(1, 4)"),
+        (0x20, "(4, 1)"),
+        (0xdf, "(1, 4)"),
+        (0xff, "(4, 1)"),
+    ] {
+        let edits = [(71, 4), (75, 1), (109, scanning)];
+        let octets = edited(rt.alloc(), &PLAIN, &edits)?;
+        let expected = array(rt.alloc(), "<f8", shape, FOUR)?;
+        assert!(rt; gives(rt.alloc(), "values", octets.as_slice(), expected.as_slice())?);
+    }
+    // Of edition 1 octets 44, 46 and 64.
+    for (scanning, shape) in [(0, "(1, 4)"), (0x20, "(4, 1)"), (0xdf, "(1, 4)")] {
+        let edits = [(44, 4), (46, 1), (64, scanning)];
+        let octets = edited(rt.alloc(), FIRST_EDITION, &edits)?;
+        let expected = array(rt.alloc(), "<f8", shape, FOUR)?;
+        assert!(rt; gives(rt.alloc(), "values", octets.as_slice(), expected.as_slice())?);
+    }
+    Ok(())
+}
+
+// The plain field on a grid of 4 columns and one row in a template whose scanning mode stands at this octet of its
+// Section 3, of so many octets; the bit of it is the same in no other octet from 57 on.
+fn on_template(
+    alloc: Global,
+    template: u8,
+    long: u8,
+    place: usize,
+    by_columns: bool,
+) -> Result<Vec<u8>, AllocError> {
+    let mut grid = GRID.to_vec(alloc)?;
+    grid.resize(usize::from(long), 0)?;
+    put(grid.as_mut_slice(), 4, &[long]);
+    put(grid.as_mut_slice(), 14, &[template]);
+    put(grid.as_mut_slice(), 34, &[4]);
+    put(grid.as_mut_slice(), 38, &[1]);
+    let (other, own) = if by_columns { (0, 0x20) } else { (0x20, 0) };
+    put(grid.as_mut_slice(), 57, &[other; 15]);
+    put(grid.as_mut_slice(), place, &[own]);
+    let sections = [
+        IDENTIFICATION,
+        grid.as_slice(),
+        PRODUCT,
+        FOUR_NUMBERS,
+        NO_BITMAP,
+        FOUR_VALUES,
+    ];
+    message_of(alloc, 111 + u64::from(long), &sections)
+}
+
+#[test]
+fn the_scanning_mode_is_that_of_the_template(rt: HostRuntime) -> Result<(), Fail> {
+    for (template, long, place) in [
+        (0, 72, 72),
+        (1, 84, 72),
+        (10, 72, 60),
+        (20, 65, 65),
+        (30, 81, 65),
+        (40, 72, 72),
+    ] {
+        for (by_columns, shape) in [(false, "(1, 4)"), (true, "(4, 1)")] {
+            let octets = on_template(rt.alloc(), template, long, place, by_columns)?;
+            let expected = array(rt.alloc(), "<f8", shape, FOUR)?;
+            assert!(rt; gives(rt.alloc(), "values", octets.as_slice(), expected.as_slice())?);
+        }
+    }
+    Ok(())
+}
+
+#[test]
+fn a_grid_with_a_list_of_rows_is_one_row(rt: HostRuntime) -> Result<(), Fail> {
+    // Rows of one and of three points.
+    let mut grid = GRID.to_vec(rt.alloc())?;
+    put(grid.as_mut_slice(), 4, &[74]);
+    put(grid.as_mut_slice(), 11, &[1, 1]);
+    put(grid.as_mut_slice(), 31, &[0xff, 0xff, 0xff, 0xff]);
+    grid.extend_from_slice(&[1, 3])?;
+    let sections = [
+        IDENTIFICATION,
+        grid.as_slice(),
+        PRODUCT,
+        FOUR_NUMBERS,
+        NO_BITMAP,
+        FOUR_VALUES,
+    ];
+    let octets = message_of(rt.alloc(), 185, &sections)?;
+    let expected = array(rt.alloc(), "<f8", "(4,)", FOUR)?;
+    assert!(rt; gives(rt.alloc(), "values", octets.as_slice(), expected.as_slice())?);
+    Ok(())
+}
+
+// The message of the plain field with other octets for R, E and D.
+fn scaled(alloc: Global, numbers: &[u8; 8]) -> Result<Vec<u8>, AllocError> {
+    let mut octets = PLAIN.to_vec(alloc)?;
+    put(octets.as_mut_slice(), 155, numbers);
+    Ok(octets)
+}
+
+#[test]
+fn values_may_be_subnormal_or_infinite(rt: HostRuntime) -> Result<(), Fail> {
+    for (numbers, double, single) in [
+        // -949 / 8 + 2^32767 X.
+        (
+            [0xc2, 0xed, 0x40, 0, 0x7f, 0xff, 0, 0],
+            b"\0\0\0\0\0\xa8\x5d\xc0\0\0\0\0\0\0\xf0\x7f\0\0\0\0\0\0\xf0\x7f\0\0\0\0\0\0\xf0\x7f",
+            b"\0\x40\xed\xc2\0\0\x80\x7f\0\0\x80\x7f\0\0\x80\x7f",
+        ),
+        // 2^-1075 X: halves of the least number of binary64.
+        (
+            [0, 0, 0, 0, 0x84, 0x33, 0, 0],
+            b"\0\0\0\0\0\0\0\0\0\0\0\0\0\0\0\0\x01\0\0\0\0\0\0\0\x80\0\0\0\0\0\0\0",
+            b"\0\0\0\0\0\0\0\0\0\0\0\0\0\0\0\0",
+        ),
+        // 2^-150 X: halves of the least number of binary32.
+        (
+            [0, 0, 0, 0, 0x80, 0x96, 0, 0],
+            b"\0\0\0\0\0\0\0\0\0\0\0\0\0\0\x90\x36\0\0\0\0\0\0\xa0\x36\0\0\0\0\0\xe0\x0f\x37",
+            b"\0\0\0\0\0\0\0\0\x01\0\0\0\x80\0\0\0",
+        ),
+        // 2^32767 X / 10^9864.
+        (
+            [0, 0, 0, 0, 0x7f, 0xff, 0x26, 0x88],
+            b"\0\0\0\0\0\0\0\0\xbc\x9b\x51\x77\xba\xa5\xe6\x3f\xbc\x9b\x51\x77\xba\xa5\xf6\x3f\x21\x4a\xda\xbc\x14\x8f\x66\x40",
+            b"\0\0\0\0\xd4\x2d\x35\x3f\xd4\x2d\xb5\x3f\xa6\x78\x34\x43",
+        ),
+    ] {
+        let octets = scaled(rt.alloc(), &numbers)?;
+        let expected = array(rt.alloc(), "<f8", "(2, 2)", double)?;
+        let ran = run_over(rt.alloc(), "values", octets.as_slice(), 1_000, CALM)?;
+        assert!(rt; ran.gave(Outcome::Done, expected.as_slice(), ""));
+        let expected = array(rt.alloc(), "<f4", "(2, 2)", single)?;
+        let ran = run_over(rt.alloc(), "values as=f4", octets.as_slice(), 1_000, CALM)?;
+        assert!(rt; ran.gave(Outcome::Done, expected.as_slice(), ""));
+    }
+    Ok(())
+}
+
+#[test]
+fn each_write_of_an_array_may_fail(rt: HostRuntime) -> Result<(), Fail> {
+    let whole = array(rt.alloc(), "<f8", "(2, 2)", FOUR)?;
+    for (output, from) in [(1, 0), (2, 50), (3, 100), (4, 150)] {
+        let failing = Failing { output, ..CALM };
+        let ran = run_over(rt.alloc(), "values", &PLAIN, 50, failing)?;
+        assert!(rt; ran.gave(Outcome::WriteFault, &whole[..from], ""));
+    }
+    Ok(())
+}
+
+#[test]
+fn what_is_refused_may_be_passed(rt: HostRuntime) -> Result<(), Fail> {
+    // The second of three messages has another source of its grid.
+    let mut octets = PLAIN.to_vec(rt.alloc())?;
+    octets.extend_from_slice(edited(rt.alloc(), &PLAIN, &[(43, 1)])?.as_slice())?;
+    octets.extend_from_slice(&PLAIN)?;
+    let one = array(rt.alloc(), "<f8", "(2, 2)", FOUR)?;
+    let mut two = one.as_slice().to_vec(rt.alloc())?;
+    two.extend_from_slice(one.as_slice())?;
+
+    let ended = run_over(rt.alloc(), "values", octets.as_slice(), 50, CALM)?;
+    assert!(rt; ended.output.octets() == one.as_slice());
+    assert!(rt; ended.notes.octets() == b"refused message 2 octet 43 GridSource 1\n".as_slice());
+    let passed = run_over(
+        rt.alloc(),
+        "values refused=pass",
+        octets.as_slice(),
+        50,
+        CALM,
+    )?;
+    assert!(rt; passed.output.octets() == two.as_slice());
+    let notes = b"refused message 2 at 183 octet 43 GridSource 1\nrefused 1 kept 0\n";
+    assert!(rt; passed.notes.octets() == notes.as_slice());
+    Ok(())
+}
+
+// The octets of eight from a point on, counted from 1.
+fn word_of(octets: &[u8], point: usize) -> &[u8]
+    requires { point < 100_000 }
+{
+    octets.get(120 + 8 * point..128 + 8 * point).unwrap_or(&[])
+}
+
+#[test]
+fn a_large_field_has_all_its_values(rt: HostRuntime) -> Result<(), Fail> {
+    let made = run_over(
+        rt.alloc(),
+        "make seed=7 ni=300 nj=300 to=0",
+        b"",
+        50_000,
+        CALM,
+    )?;
+    let mut octets = made.output.octets().to_vec(rt.alloc())?;
+    // With R, E and D of 0, in octets 155 to 162, the value is the scaled number.
+    put(octets.as_mut_slice(), 155, &[0; 8]);
+    let ran = run_over(rt.alloc(), "values", octets.as_slice(), 50_000, CALM)?;
+    let output = ran.output.octets();
+    assert!(rt; output.len() == 720_128);
+    let header = array(rt.alloc(), "<f8", "(300, 300)", b"")?;
+    assert!(rt; output.starts_with(header.as_slice()));
+    for (point, word) in [
+        (1, b"\0\0\0\0\0\0\x46\x40"),
+        (2, b"\0\0\0\0\0\x80\x53\x40"),
+        (96, b"\0\0\0\0\0\0\xf8\x7f"),
+        (89_998, b"\0\0\0\0\0\x08\xb5\x40"),
+        (90_000, b"\0\0\0\0\0\xba\xb5\x40"),
+    ] {
+        assert!(rt; word_of(output, point) == word.as_slice());
+    }
+    Ok(())
+}

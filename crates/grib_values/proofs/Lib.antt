@@ -1,0 +1,3 @@
+pub mod Exponents
+pub mod Lengths
+pub mod Pieces

@@ -1,0 +1,119 @@
+//! `values`: for each field an array of its values.
+
+ghost use Rattle.std.specs.Prelude.{◌≡◌, ◌≤◌};
+ghost use Rattle.grib2_message.specs.Fields.{field_count, part_octets};
+ghost use Rattle.grib1_sections.specs.Acceptance.{grid};
+ghost use Rattle.grib_values.specs.Shapes as shapes;
+
+use crate::appending::append_array;
+use crate::references::{ibm_reference, ieee_reference};
+use crate::shapes::{first_shape, second_shape};
+use grib_arrays::Shape;
+use grib_command::write_whole;
+use grib_io::{Sink, Stop};
+use grib_nearest::Format;
+use grib_report::{Printer, ROOM};
+use grib1_sections::Message1;
+use grib2_arrival::Arrival;
+use grib2_message::Message;
+use std::alloc::Global;
+
+/// Prints an array of the values of a field, each the number of the format that is nearest to the exact value.
+#[derive(Clone, Copy, Debug)]
+pub struct Arraying {
+    pub format: Format,
+}
+
+impl Printer for Arraying {
+    ghost use Rattle.std.specs.Prelude.{false};
+    ghost use Rattle.grib_values.specs.Arrays.{array_1, array_2};
+
+    ghost first_text = { λ arraying message number. array_1 arraying.format message };
+
+    ghost field_text = { λ arraying message number field. array_2 arraying.format message field };
+
+    ghost hearing = { λ arraying. false };
+
+    fn write_first<T: Sink>(
+        &self,
+        alloc: Global,
+        _number: u64,
+        message: &Message1<'_>,
+        output: &mut T,
+    ) -> Result<(), Stop> {
+        let column = message.column1(alloc)?;
+        let shape = shape_of_message(message);
+        let reference = ibm_reference(column.reference);
+        let mut octets = Vec::with_capacity(alloc, ROOM)?;
+        append_array(
+            alloc,
+            self.format,
+            shape,
+            &reference,
+            &column,
+            &mut octets,
+            output,
+        )?;
+        write_whole(output, octets.as_slice())
+    }
+
+    fn append_field<T: Sink>(
+        &self,
+        alloc: Global,
+        _number: u64,
+        message: &Message<'_>,
+        field: u32,
+        lines: &mut Vec<u8>,
+        output: &mut T,
+    ) -> Result<(), Stop> {
+        let column = message.column(alloc, field)?;
+        let shape = shape_of_field(message, field);
+        let reference = ieee_reference(column.reference);
+        append_array(
+            alloc,
+            self.format,
+            shape,
+            &reference,
+            &column,
+            lines,
+            output,
+        )
+    }
+
+    /// No message is heard.
+    fn hears(&self) -> bool {
+        false
+    }
+
+    fn write_heard<T: Sink>(
+        &self,
+        _alloc: Global,
+        _number: u64,
+        _arrival: &Arrival,
+        _output: &mut T,
+    ) -> Result<(), Stop> {
+        Err(Stop::Memory)
+    }
+}
+
+/// The shape of the array of a message of edition 1.
+fn shape_of_message(message: &Message1<'_>) -> Shape
+    ensures { result ≡ shapes.shape_1 (grid message.now) }
+{
+    let Some(section2) = message.section(2) else {
+        unreachable!();
+    };
+    first_shape(section2, message.points())
+}
+
+/// The shape of the array of a field of edition 2, counted from 1.
+fn shape_of_field(message: &Message<'_>, field: u32) -> Shape
+    requires first { 1 ≤ field }
+    requires last { field ≤ field_count message.now }
+    ensures { result ≡ shapes.shape_2 (part_octets message.now field 3) }
+{
+    let Some(section3) = message.part(field, 3) else {
+        unreachable!();
+    };
+    second_shape(section3.octets)
+}

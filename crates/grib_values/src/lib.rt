@@ -1,0 +1,9 @@
+//! What the command `values` prints: for each field an array of its values.
+#![tactic(auto)]
+
+mod appending;
+mod arraying;
+mod references;
+mod shapes;
+
+pub use arraying::Arraying;
