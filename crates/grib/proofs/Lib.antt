@@ -1,4 +1,7 @@
+mod Counts
 mod Held
+mod Mapped
 mod Marks
+mod References
 mod Steps
 mod Texts

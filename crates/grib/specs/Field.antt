@@ -7,6 +7,8 @@ use Rattle.grib_packing.specs.declared.column.Column.{Column}
 use Rattle.grib1_sections.specs.declared.key.Key1.{Key1}
 use Rattle.grib1_sections.specs.Keys.{key1_of}
 use Rattle.grib1_sections.specs.Column.{column1_of}
+use Rattle.grib1_sections.specs.Acceptance.{points_of}
+use Rattle.grib2_grids.specs.Grid.{grid_points}
 use Rattle.grib2_grids.specs.Spelled as grids
 use Rattle.grib2_grids.specs.declared.grid.GridSection.{GridSection}
 use Rattle.grib2_products.specs.Spelled as products
@@ -60,6 +62,14 @@ IsProduct (One message) number None = Unit {0}
 -- the product is what Section 4 says; edition 1 has none of these
 abbrev pub IsProductOf : FieldOf → Option ProductSection → Type 0
 IsProductOf field product = IsProduct field.message field.number product
+
+abbrev pub point_count_of : Held → ℕ → ℕ
+point_count_of (One message) number = points_of message
+point_count_of (Two message) number = grid_points (part_octets message number 3)
+
+-- how many points its grid has
+abbrev pub point_count_in : FieldOf → ℕ
+point_count_in field = point_count_of field.message field.number
 
 abbrev pub column_at : Held → ℕ → Column
 column_at (One message) number = column1_of message

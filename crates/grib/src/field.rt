@@ -1,6 +1,9 @@
 //! A field of a message.
 
-ghost use Rattle.std.specs.Prelude.{◌≡◌, ◌≤◌, MatchOption, IfOk, None, Some};
+ghost use Rattle.std.specs.Prelude.{◌≡◌, ◌≤◌, MatchOption, IfOk, None, Some, length, map};
+ghost use Rattle.grib_base.specs.declared.limits.TheConstants.{MOST_POINTS};
+ghost use Rattle.grib1_sections.specs.Acceptance.{points_of};
+ghost use Rattle.grib1_sections.specs.Column.{column1_of};
 ghost use Rattle.grib.specs.Message.{field_count_in};
 
 use crate::{Message, Values};
@@ -9,7 +12,7 @@ use grib_dyadic::Dyadic;
 use grib_keys::{Key, Value as KeyValue};
 use grib_packing::Column;
 use grib_select::{key_value, single};
-use grib1_sections::Key1;
+use grib1_sections::{Key1, Message1};
 use grib2_grids::GridSection;
 use grib2_products::ProductSection;
 use std::alloc::{AllocError, Global};
@@ -28,6 +31,7 @@ impl<'m, 'a> Field<'m, 'a> {
     ghost use Rattle.grib.specs.Message.{field_of};
     ghost use Rattle.grib.specs.Values.{values_left};
     ghost use Rattle.grib.specs.Field as definitions;
+    ghost use Rattle.grib.specs.Exact.{nearest_number};
     ghost use Rattle.grib.specs.Field.{shown, IsGridOf, IsProductOf};
 
     /// The field of a message with this number, from 1.
@@ -109,25 +113,29 @@ impl<'m, 'a> Field<'m, 'a> {
     ///
     /// There is no memory for the points: 16 octets each.
     pub fn column(&self, alloc: Global) -> Result<Column, AllocError>
-        ensures { IfOk result (λ column. column ≡ definitions.column_in (shown self.now)) }
+        ensures column { IfOk result (λ column. column ≡ definitions.column_in (shown self.now)) }
+        ensures count { IfOk result (λ column. length column.points ≡ definitions.point_count_in (shown self.now)) }
+        ensures few { IfOk result (λ column. length column.points ≤ MOST_POINTS) }
     {
         match self.message.held() {
-            Held::One(message) => message.column1(alloc),
+            Held::One(message) => first_column(alloc, message),
             Held::Two(message) => message.column(alloc, self.number),
         }
     }
 
-    /// The exact value of each point, in the order of the grid.
+    /// The exact value of each point, in the order of the grid: as many as the grid has points, 33,554,432 at most.
     ///
     /// # Errors
     ///
     /// There is no memory for the points: 16 octets each.
     pub fn values(&self, alloc: Global) -> Result<Values, AllocError>
-        ensures { IfOk result (λ left. values_left left ≡ definitions.values_in (shown self.now)) }
+        ensures values { IfOk result (λ left. values_left left ≡ definitions.values_in (shown self.now)) }
+        ensures count { IfOk result (λ left. length (values_left left) ≡ definitions.point_count_in (shown self.now)) }
+        ensures few { IfOk result (λ left. length (values_left left) ≤ MOST_POINTS) }
     {
         match self.message.held() {
             Held::One(message) => {
-                let column = message.column1(alloc)?;
+                let column = first_column(alloc, message)?;
                 Ok(Values::of(Dyadic::from_ibm(column.reference), column))
             }
             Held::Two(message) => {
@@ -138,6 +146,19 @@ impl<'m, 'a> Field<'m, 'a> {
                 Ok(Values::of(reference, column))
             }
         }
+    }
+
+    /// The number of IEEE 754 binary64 that is nearest to the exact value of each point, ties to even, rounded once, in the
+    /// order of the grid; `None` where a point is missing.
+    ///
+    /// # Errors
+    ///
+    /// There is no memory: 32 octets for each point, of which half are given back.
+    pub fn values_f64(&self, alloc: Global) -> Result<Vec<Option<f64>>, AllocError>
+        ensures numbers { IfOk result (λ numbers. numbers.items ≡ map nearest_number (definitions.values_in (shown self.now))) }
+        ensures count { IfOk result (λ numbers. length numbers.items ≡ definitions.point_count_in (shown self.now)) }
+    {
+        self.values(alloc)?.to_f64s(alloc)
     }
 
     /// The field as a message of its own: the sections that are in force for it, and no other field. A message of
@@ -154,4 +175,15 @@ impl<'m, 'a> Field<'m, 'a> {
             Held::Two(message) => single(alloc, message, self.number),
         }
     }
+}
+
+/// The points of a message of edition 1, with an entry for each point of its grid.
+fn first_column(alloc: Global, message: &Message1<'_>) -> Result<Column, AllocError>
+    ensures column { IfOk result (λ column. column ≡ column1_of message.now) }
+    ensures count { IfOk result (λ column. length column.points ≡ points_of message.now) }
+    ensures few { IfOk result (λ column. length column.points ≤ MOST_POINTS) }
+{
+    // So its sections are known to pass.
+    message.octets();
+    message.column1(alloc)
 }

@@ -52,3 +52,9 @@ impl<'m, 'a> Iterator for Fields<'m, 'a> {
         Some(Field::of(self.message, self.before))
     }
 }
+
+impl<'m, 'a> ExactSizeIterator for Fields<'m, 'a> {
+    fn len(&self) -> usize {
+        (self.count - self.before) as usize
+    }
+}

@@ -6,9 +6,10 @@ ghost use Rattle.grib_dyadic.specs.Value.{value_of};
 ghost use Rattle.grib_decimal.specs.Decimal.{decimal_text as text_of, is_too_large};
 ghost use Rattle.grib_decimal.specs.declared.fault.DecimalFault.TheVariants as DecimalFault;
 
+use grib_arrays::nearest_f64;
 use grib_decimal::{DecimalFault, decimal_text};
 use grib_dyadic::Dyadic;
-use std::alloc::Global;
+use std::alloc::{AllocError, Global};
 
 /// The exact value of a grid point: (R + X * 2^E) / 10^D, with the reference value R, the binary scale factor E and
 /// the decimal scale factor D of its field, and its own scaled integer X (WMO-No. 306, Volume I.2, FM 92 GRIB,
@@ -21,14 +22,17 @@ pub struct Exact {
     decimal: u16,
     scaled: i64,
     ghost small: { nat_abs reference.mantissa < 2 ^ 24 },
+    ghost near: { nat_abs reference.exponent ≤ 2 ^ 15 },
 }
 
 impl Exact {
+    ghost use Rattle.grib_arrays.specs.Numbers as numbers;
     ghost use Rattle.grib.specs.Exact.{exact_of};
 
     /// The value of the point with this scaled integer in a field of this reference value and these scale factors.
     pub(crate) fn of(reference: &Dyadic, binary: u16, decimal: u16, scaled: i64) -> Exact
-        requires { nat_abs reference.now.mantissa < 2 ^ 24 }
+        requires small { nat_abs reference.now.mantissa < 2 ^ 24 }
+        requires near { nat_abs reference.now.exponent ≤ 2 ^ 15 }
         ensures { exact_of result ≡ value_of reference.now (signed (bits_of 16 binary)) (signed (bits_of 16 decimal)) scaled }
     {
         Exact {
@@ -62,6 +66,24 @@ impl Exact {
         };
         Ok(text)
     }
+
+    /// The number of IEEE 754 binary64 that is nearest to the value, ties to even, rounded once: an infinity beyond the
+    /// greatest numbers.
+    ///
+    /// # Errors
+    ///
+    /// There is no memory. A value of few digits takes none.
+    pub fn to_f64(&self, alloc: Global) -> Result<f64, AllocError>
+        ensures { IfOk result (λ number. number ≡ numbers.nearest_f64 (exact_of self.now)) }
+    {
+        nearest_f64(
+            alloc,
+            &self.reference,
+            self.binary,
+            self.decimal,
+            self.scaled,
+        )
+    }
 }
 
 /// What a grid point holds.
@@ -71,4 +93,24 @@ pub enum Value {
     Number(Exact),
     /// No number: left out by the bitmap, or marked as missing.
     Missing,
+}
+
+impl Value {
+    ghost use Rattle.grib.specs.Exact.{nearest_number};
+    ghost use Rattle.grib.specs.Values.{number_of};
+
+    /// The number of IEEE 754 binary64 that is nearest to the value, ties to even, rounded once; `None` where it is
+    /// missing.
+    ///
+    /// # Errors
+    ///
+    /// There is no memory.
+    pub fn to_f64(&self, alloc: Global) -> Result<Option<f64>, AllocError>
+        ensures { IfOk result (λ number. number ≡ nearest_number (number_of self.now)) }
+    {
+        match self {
+            Value::Number(exact) => Ok(Some(exact.to_f64(alloc)?)),
+            Value::Missing => Ok(None),
+        }
+    }
 }

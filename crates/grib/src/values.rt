@@ -1,10 +1,11 @@
 //! The values of the points of a field, one after the other.
 
-ghost use Rattle.std.specs.Prelude.{◌≡◌, ◌^◌, ◌<◌, ◌≤◌, nat_abs, length};
+ghost use Rattle.std.specs.Prelude.{◌≡◌, ◌^◌, ◌<◌, ◌≤◌, nat_abs, length, map, IfOk};
 
 use crate::{Exact, Value};
 use grib_dyadic::Dyadic;
 use grib_packing::{Column, Point};
+use std::alloc::{AllocError, Global};
 
 /// The values of the points of a field that are left, in the order of its grid. It holds 16 octets for each point.
 #[derive(Debug, Drop)]
@@ -13,6 +14,7 @@ pub struct Values {
     column: Column,
     before: usize,
     ghost small: { nat_abs reference.mantissa < 2 ^ 24 },
+    ghost near: { nat_abs reference.exponent ≤ 2 ^ 15 },
     ghost within: { before ≤ length column.points },
 }
 
@@ -21,8 +23,10 @@ impl Values {
 
     /// All values of a column with this reference value.
     pub(crate) fn of(reference: Dyadic, column: Column) -> Values
-        requires { nat_abs reference.mantissa < 2 ^ 24 }
-        ensures { values_left result ≡ values_of reference column column.points }
+        requires small { nat_abs reference.mantissa < 2 ^ 24 }
+        requires near { nat_abs reference.exponent ≤ 2 ^ 15 }
+        ensures values { values_left result ≡ values_of reference column column.points }
+        ensures count { length (values_left result) ≡ length column.points }
     {
         Values {
             reference,
@@ -33,7 +37,8 @@ impl Values {
 }
 
 impl Values {
-    ghost use Rattle.grib.specs.Values.{number_of, value_at};
+    ghost use Rattle.grib.specs.Exact.{nearest_number};
+    ghost use Rattle.grib.specs.Values.{number_of, value_at, values_left, values_of};
 
     /// What a point of the column holds.
     fn value_of(&self, point: Point) -> Value
@@ -48,6 +53,26 @@ impl Values {
             )),
             Point::Missing | Point::Missing2 => Value::Missing,
         }
+    }
+
+    /// The binary64 number that is nearest to each value that is left.
+    pub(crate) fn to_f64s(&self, alloc: Global) -> Result<Vec<Option<f64>>, AllocError>
+        ensures { IfOk result (λ numbers. numbers.items ≡ map nearest_number (values_left self.now)) }
+    {
+        self.numbers_of(alloc, &self.column.points.as_slice()[self.before..])
+    }
+
+    /// The binary64 number that is nearest to the value of each of these points.
+    fn numbers_of(&self, alloc: Global, points: &[Point]) -> Result<Vec<Option<f64>>, AllocError>
+        ensures { IfOk result (λ numbers. numbers.items
+            ≡ map nearest_number (values_of self.now.reference self.now.column points.now)) }
+    {
+        let mut numbers = Vec::with_capacity(alloc, points.len())?;
+        for point in points {
+            let number = self.value_of(*point).to_f64(alloc)?;
+            numbers.push(number)?;
+        }
+        Ok(numbers)
     }
 }
 
@@ -65,5 +90,11 @@ impl Iterator for Values {
         let point = *self.column.points.as_slice().get(self.before)?;
         self.before += 1;
         Some(self.value_of(point))
+    }
+}
+
+impl ExactSizeIterator for Values {
+    fn len(&self) -> usize {
+        self.column.points.as_slice().len() - self.before
     }
 }

@@ -1,3 +1,4 @@
 pub mod Header
 pub mod Values
 pub mod Scale
+pub mod Numbers

@@ -48,7 +48,7 @@ impl ArrayScale {
 
     /// The word of the point with the scaled number X.
     #[inline]
-    fn value_word(&self, alloc: Global, x: i64) -> Result<u64, AllocError>
+    pub(crate) fn value_word(&self, alloc: Global, x: i64) -> Result<u64, AllocError>
         ensures { (f : formats) (r : Binary) (e d : ℤ) → IsScaleOf self.now f r e d
             → IfOk result (λ w. w ≡ value_word f (value_of r e d x)) }
     {

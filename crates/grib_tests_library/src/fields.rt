@@ -1,7 +1,7 @@
 //! What the fields of a message hold.
 
-use grib::{Field, Grid, Key, Key1, KeyValue, Message, Product, Value, read};
-use grib_samples::{FIRST_EDITION, MASKED, PLAIN, TWO_FIELDS, between};
+use grib::{Field, Grid, Key, Key1, KeyValue, Message, Product, SignBit, Value, read};
+use grib_samples::{FIRST_EDITION, MASKED, PLAIN, TWO_FIELDS, between, edited};
 use std::alloc::Global;
 use std::test::Fail;
 
@@ -67,10 +67,23 @@ fn grids_and_products_have_names(rt: HostRuntime) -> Result<(), Fail> {
         return Err(Fail::from("another product"));
     };
     assert_eq!(rt; (instant.category, instant.number, instant.time), (0, 0, 6));
+    assert_eq!(rt; grid.la1.signed(), Some(50_000_000));
+    assert_eq!(rt; instant.time.signed(), Some(6));
+    assert_eq!(rt; instant.scale1.signed(), Some(0));
+    assert_eq!(rt; instant.scale2.signed(), None);
     let message = read(alloc, FIRST_EDITION)?;
     let field = field_of(&message, 1)?;
     assert!(rt; field.grid(alloc)?.is_none());
     assert!(rt; field.product(alloc)?.is_none());
+    Ok(())
+}
+
+#[test]
+fn the_first_bit_is_the_sign(rt: HostRuntime) -> Result<(), Fail> {
+    assert_eq!(rt; 0x82fa_f080u32.signed(), Some(-50_000_000));
+    assert_eq!(rt; u32::MAX.signed(), None);
+    assert_eq!(rt; 0x82u8.signed(), Some(-2));
+    assert_eq!(rt; u8::MAX.signed(), None);
     Ok(())
 }
 
@@ -89,6 +102,54 @@ fn values_are_exact_in_both_editions(rt: HostRuntime) -> Result<(), Fail> {
     let message = read(alloc, MASKED)?;
     let text = values_of(alloc, &field_of(&message, 1)?)?;
     assert_eq!(rt; text.as_str(), "1100.0000\nmissing\n1300.0000\n1500.0000\n");
+    Ok(())
+}
+
+#[test]
+fn there_is_a_value_for_each_point(rt: HostRuntime) -> Result<(), Fail> {
+    let alloc = rt.alloc();
+    let message = read(alloc, &TWO_FIELDS)?;
+    assert_eq!(rt; message.fields().len(), 2);
+    let field = field_of(&message, 2)?;
+    assert_eq!(rt; field.values(alloc)?.count(), 4);
+    let mut values = field.values(alloc)?;
+    assert_eq!(rt; values.len(), 4);
+    assert!(rt; values.next().is_some());
+    assert_eq!(rt; values.len(), 3);
+    let message = read(alloc, MASKED)?;
+    assert_eq!(rt; field_of(&message, 1)?.values(alloc)?.len(), 4);
+    Ok(())
+}
+
+#[test]
+fn values_are_numbers_of_the_machine(rt: HostRuntime) -> Result<(), Fail> {
+    let alloc = rt.alloc();
+    let message = read(alloc, &TWO_FIELDS)?;
+    let numbers = field_of(&message, 1)?.values_f64(alloc)?;
+    let expected = [Some(-11.8625), None, Some(-11.85), Some(-11.8375)];
+    assert!(rt; numbers.as_slice() == expected.as_slice());
+    let message = read(alloc, MASKED)?;
+    let numbers = field_of(&message, 1)?.values_f64(alloc)?;
+    let expected = [Some(1100.0), None, Some(1300.0), Some(1500.0)];
+    assert!(rt; numbers.as_slice() == expected.as_slice());
+    // 42 * 10^308 and more
+    let octets = edited(
+        alloc,
+        &PLAIN,
+        &[
+            (155, 0x42),
+            (156, 0x28),
+            (157, 0),
+            (158, 0),
+            (159, 0),
+            (160, 0),
+            (161, 0x81),
+            (162, 0x34),
+        ],
+    )?;
+    let message = read(alloc, octets.as_slice())?;
+    let numbers = field_of(&message, 1)?.values_f64(alloc)?;
+    assert!(rt; numbers.as_slice() == [Some(f64::INFINITY); 4].as_slice());
     Ok(())
 }
 

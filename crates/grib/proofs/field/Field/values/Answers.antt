@@ -1,35 +1,59 @@
-use Rattle.std.proofs.Common.{◌≡◌, sym, ap, ◌∙◌, subst}
+use Rattle.std.proofs.Common.{◌≡◌, ◌≤◌, length, sym, ap, ◌∙◌, subst}
+use Rattle.grib_base.specs.declared.limits.TheConstants.{MOST_POINTS}
 use Rattle.grib_decimal.proofs.Mantissas.{ibm_small, ieee_small}
 use Rattle.grib_dyadic.specs.Reference.{ieee, ibm, reduced}
 use Rattle.grib.specs.Message.{field_of}
-use Rattle.grib.specs.Field.{values_in}
+use Rattle.grib.specs.Field.{values_in, point_count_in}
 use Rattle.grib.specs.Values.{values_left, values_of}
 use Rattle.grib.proofs.Held.{second_last}
+use Rattle.grib.proofs.References.{ibm_near, ieee_near}
 use Rattle.grib.proofs.field.Field.values.Goals as goal
 
-pub of-requires : goal.of-requires
-of-requires c = ibm_small c.in_ok-column-in-One.column.reference c.from_ibm.result c.from_ibm.ensures.value
+pub of-requires-clause-small : goal.of-requires-clause-small
+of-requires-clause-small c = ibm_small c.in_ok-column-in-One.column.reference c.from_ibm.result c.from_ibm.ensures.value
+
+pub of-requires-clause-near : goal.of-requires-clause-near
+of-requires-clause-near c = ibm_near c.in_ok-column-in-One.column.reference c.from_ibm.result c.from_ibm.ensures.value
 
 pub column-requires-clause-last : goal.column-requires-clause-last
 column-requires-clause-last c = second_last _ _ _ (sym c.held.ensures ∙ c.in-Two.is) c.args.self.now.last
 
-pub of-requires-in-Two : goal.of-requires-in-Two
-of-requires-in-Two c = ieee_small c.in_ok-column-in-Two.column.reference c.in-Ok.reference c.in-Ok.ensures.value
+pub of-requires-in-Two-clause-small : goal.of-requires-in-Two-clause-small
+of-requires-in-Two-clause-small c = ieee_small c.in_ok-column-in-Two.column.reference c.in-Ok.reference c.in-Ok.ensures.value
 
-pub returns-in_ok-column-in-One : goal.returns-in_ok-column-in-One
-returns-in_ok-column-in-One c =
+pub of-requires-in-Two-clause-near : goal.of-requires-in-Two-clause-near
+of-requires-in-Two-clause-near c = ieee_near c.in_ok-column-in-Two.column.reference c.in-Ok.reference c.in-Ok.ensures.value
+
+pub returns-in_ok-column-in-One-clause-values : goal.returns-in_ok-column-in-One-clause-values
+returns-in_ok-column-in-One-clause-values c =
     let column = c.in_ok-column-in-One.column in
     let number = c.args.self.now.number in
     subst (λ held. values_left c.of.result ≡ values_in (field_of held number)) (sym (sym c.held.ensures ∙ c.in-One.is))
-    (c.of.ensures
+    (c.of.ensures.values
     ∙ (ap (λ r. values_of r column column.points) c.from_ibm.ensures.value
     ∙ ap (λ x. values_of (reduced (ibm x.reference)) x x.points) c.in_ok-column-in-One.ensures.column))
 
-pub returns-in-Ok : goal.returns-in-Ok
-returns-in-Ok c =
+pub returns-in_ok-column-in-One-clause-count : goal.returns-in_ok-column-in-One-clause-count
+returns-in_ok-column-in-One-clause-count c =
+    subst (λ held. length (values_left c.of.result) ≡ point_count_in (field_of held c.args.self.now.number)) (sym (sym c.held.ensures ∙ c.in-One.is))
+    (c.of.ensures.count ∙ c.in_ok-column-in-One.ensures.count)
+
+pub returns-in_ok-column-in-One-clause-few : goal.returns-in_ok-column-in-One-clause-few
+returns-in_ok-column-in-One-clause-few c = subst (λ n. n ≤ MOST_POINTS) (sym c.of.ensures.count) c.in_ok-column-in-One.ensures.few
+
+pub returns-in-Ok-clause-values : goal.returns-in-Ok-clause-values
+returns-in-Ok-clause-values c =
     let column = c.in_ok-column-in-Two.column in
     let number = c.args.self.now.number in
     subst (λ held. values_left c.of-in-Two.result ≡ values_in (field_of held number)) (sym (sym c.held.ensures ∙ c.in-Two.is))
-    (c.of-in-Two.ensures
+    (c.of-in-Two.ensures.values
     ∙ (ap (λ r. values_of r column column.points) c.in-Ok.ensures.value
     ∙ ap (λ x. values_of (reduced (ieee x.reference)) x x.points) c.in_ok-column-in-Two.ensures.column))
+
+pub returns-in-Ok-clause-count : goal.returns-in-Ok-clause-count
+returns-in-Ok-clause-count c =
+    subst (λ held. length (values_left c.of-in-Two.result) ≡ point_count_in (field_of held c.args.self.now.number)) (sym (sym c.held.ensures ∙ c.in-Two.is))
+    (c.of-in-Two.ensures.count ∙ c.in_ok-column-in-Two.ensures.long)
+
+pub returns-in-Ok-clause-few : goal.returns-in-Ok-clause-few
+returns-in-Ok-clause-few c = subst (λ n. n ≤ MOST_POINTS) (sym c.of-in-Two.ensures.count) c.in_ok-column-in-Two.ensures.few
