@@ -7,6 +7,8 @@ mod editions;
 #[cfg(test)]
 mod heard;
 #[cfg(test)]
+mod helped;
+#[cfg(test)]
 mod pages;
 #[cfg(test)]
 mod runs;
