@@ -5,6 +5,7 @@ use Rattle.std.specs.List.{concat, fold, list_any}
 use Rattle.std.specs.Fmt.{decimal}
 use Rattle.grib_topics.specs.Topics.{told_of}
 use Rattle.grib_topics.specs.Nearest.{nearest_command, nearest_key}
+use Rattle.grib_topics.specs.Shown.{shown}
 use Rattle.grib_cli.specs.declared.words.command.Command.{Command}
 use Rattle.grib_cli.specs.declared.words.command.Command.TheVariants as the
 use Rattle.grib_cli.specs.declared.words.command.Command.TheVariants.{Check, Keys, Stats, Dump, Filter, Split, Set, Repack, Migrate, Demote, Rescan, Crop, Make, Help, Version}
@@ -19,6 +20,15 @@ spaced_word word = codes " " ++ word
 
 abbrev pub spaced : List (List ℕ) → List ℕ
 spaced words = concat (map spaced_word words)
+
+-- whether there are words
+abbrev pub has_any : List (List ℕ) → Bool
+has_any [] = false
+has_any (first ∷ later) = true
+
+-- a text as a line, whatever characters its words have
+abbrev pub line : List ℕ → List ℕ
+line text = shown text ++ codes "\n"
 
 abbrev pub name_of : Command → List ℕ
 name_of command = (row_of command).name
@@ -157,10 +167,14 @@ no_name command name =
 abbrev pub name_reason : Command → List ℕ → List ℕ → List ℕ
 name_reason command name value = cond (is_key name && reads_input command) (by_filter command name value) (no_name command name)
 
+-- whether a command takes keys
+abbrev pub takes_keys : Command → Bool
+takes_keys Filter = true
+takes_keys Set = true
+takes_keys command = false
+
 abbrev pub unknown : Command → List ℕ → List ℕ → List ℕ
-unknown Filter name value = key_reason name
-unknown Set name value = key_reason name
-unknown command name value = name_reason command name value
+unknown command name value = cond (takes_keys command) (key_reason name) (name_reason command name value)
 
 -- a name with a value: it is read but for an earlier word, or the name is taken and not the value, or not the name
 abbrev pub again : List ℕ → List ℕ
@@ -189,7 +203,7 @@ reason_at place words = reason_by (command_of words) (get_or words place []) wor
 -- the line on a word that is not read: its place, the word itself, and why
 abbrev pub fault_line : ℕ → List (List ℕ) → List ℕ
 fault_line place words =
-    concat (codes "word " ∷ decimal place ∷ codes " \"" ∷ get_or words place [] ∷ concat (codes "\": " ∷ reason_at place words ∷ codes "\n" ∷ []) ∷ [])
+    line (concat (codes "word " ∷ decimal place ∷ codes " \"" ∷ get_or words place [] ∷ codes "\": " ∷ reason_at place words ∷ []))
 
 -- ---- what is wanted where all words are read
 
@@ -272,7 +286,7 @@ kept_part words =
 -- the line on words that do this
 abbrev pub done_line : List ℕ → List (List ℕ) → List ℕ
 done_line deed words =
-    concat (codes "grib" ∷ spaced words ∷ codes ": " ∷ concat (deed ∷ refused_part words ∷ kept_part words ∷ codes ".\n" ∷ []) ∷ [])
+    line (concat (codes "grib" ∷ spaced words ∷ codes ": " ∷ concat (deed ∷ refused_part words ∷ kept_part words ∷ codes "." ∷ []) ∷ []))
 
 -- ---- what is told
 
@@ -282,8 +296,7 @@ is_help word = is (codes "help") word || is (codes "--help") word
 
 abbrev pub is_on_words : List (List ℕ) → Bool
 is_on_words [] = false
-is_on_words (first ∷ []) = false
-is_on_words (first ∷ second ∷ later) = is_help first
+is_on_words (first ∷ later) = has_any later && is_help first
 
 abbrev pub judged_at : ℕ → List (List ℕ) → List ℕ
 judged_at place words = cond (nat_lt place (length words)) (fault_line place words) (wanted_line words)
@@ -299,8 +312,7 @@ judged words = cond (is_on_words words) (done_line (codes "tells of the words be
 -- the text on a name that stands alone, empty where there is none
 abbrev pub told_of_name : List (List ℕ) → List ℕ
 told_of_name [] = []
-told_of_name (name ∷ []) = told_of name
-told_of_name (first ∷ second ∷ later) = []
+told_of_name (name ∷ later) = cond (has_any later) [] (told_of name)
 
 -- what `help` tells of these words
 abbrev pub told_of_words : List (List ℕ) → List ℕ

@@ -1,7 +1,8 @@
 //! What `help` tells of words.
 
-ghost use Rattle.std.specs.Prelude.{◌≡◌, ◌<◌, ◌++◌, [], ◌∷◌, length, map, string_bytes, IfOk};
+ghost use Rattle.std.specs.Prelude.{◌≡◌, ◌<◌, ◌++◌, cond, [], ◌∷◌, length, map, string_bytes, IfOk};
 ghost use Rattle.std.specs.List.{concat};
+ghost use Rattle.grib_topics.specs.Topics.{told_of};
 ghost use Rattle.grib_cli.specs.Helping as helping;
 
 mod deeds;
@@ -11,7 +12,7 @@ mod wants;
 use crate::words::{Command, read_words};
 use deeds::{deed_of, kept_part, refused_part};
 use faults::reason_at;
-use grib_topics::told_of;
+use grib_topics::{shown, told_of};
 use std::alloc::{AllocError, Global};
 use wants::wanted;
 
@@ -20,9 +21,26 @@ pub(crate) fn is_on_words(words: &[String]) -> bool
     ensures { result ≡ helping.is_on_words (map string_bytes words.now) }
 {
     match words {
-        [first, _, ..] => matches!(first.as_str(), "help" | "--help"),
-        _ => false,
+        [first, later @ ..] => has_any(later) && is_help(first.as_str()),
+        [] => false,
     }
+}
+
+/// Whether there are words.
+fn has_any(words: &[String]) -> bool
+    ensures { result ≡ helping.has_any (map string_bytes words.now) }
+{
+    match words {
+        [_, ..] => true,
+        [] => false,
+    }
+}
+
+/// Whether a word names `help`.
+fn is_help(word: &str) -> bool
+    ensures { result ≡ helping.is_help word.now }
+{
+    matches!(word, "help" | "--help")
 }
 
 /// What `help` tells of these words: the text on the one name, or what a command line of the words would do, or the
@@ -43,8 +61,19 @@ fn told_of_name(alloc: Global, words: &[String]) -> Result<String, AllocError>
     ensures { IfOk result (λ text. string_bytes text ≡ helping.told_of_name (map string_bytes words.now)) }
 {
     match words {
-        [name] => told_of(alloc, name.as_str()),
-        _ => Ok(String::new(alloc)),
+        [name, later @ ..] => told_of_alone(alloc, name.as_str(), has_any(later)),
+        [] => Ok(String::new(alloc)),
+    }
+}
+
+/// The text on a name, empty where there is none, or where it does not stand alone.
+fn told_of_alone(alloc: Global, name: &str, has_more: bool) -> Result<String, AllocError>
+    ensures { IfOk result (λ text. string_bytes text ≡ cond has_more [] (told_of name.now)) }
+{
+    if has_more {
+        Ok(String::new(alloc))
+    } else {
+        told_of(alloc, name)
     }
 }
 
@@ -76,11 +105,21 @@ fn judged_at(alloc: Global, words: &[String], place: u64) -> Result<String, Allo
 fn done_line(alloc: Global, words: &[String], deed: &str) -> Result<String, AllocError>
     ensures { IfOk result (λ text. string_bytes text ≡ helping.done_line deed.now (map string_bytes words.now)) }
 {
-    let line = spaced(alloc, words)?;
+    let typed = spaced(alloc, words)?;
     let refused = refused_part(words);
     let kept = kept_part(words);
-    let part = joined(alloc, deed, refused, kept, ".\n", "", "")?;
-    joined(alloc, "grib", line.as_str(), ": ", part.as_str(), "", "")
+    let part = joined(alloc, deed, refused, kept, ".", "", "")?;
+    let text = joined(alloc, "grib", typed.as_str(), ": ", part.as_str(), "", "")?;
+    line(alloc, text.as_str())
+}
+
+/// A text as a line, whatever characters its words have.
+fn line(alloc: Global, text: &str) -> Result<String, AllocError>
+    ensures { IfOk result (λ line. string_bytes line ≡ helping.line text.now) }
+{
+    let mut line = shown(alloc, text)?;
+    line.push_str("\n")?;
+    Ok(line)
 }
 
 /// The line on a word that is not read.
@@ -91,16 +130,16 @@ fn fault_line(alloc: Global, words: &[String], place: u64) -> Result<String, All
     let reason = reason_at(alloc, words, place as usize)?;
     let number = format!(in alloc; "{place}")?;
     let word = words[place as usize].as_str();
-    let part = joined(alloc, "\": ", reason.as_str(), "\n", "", "", "")?;
-    joined(
+    let text = joined(
         alloc,
         "word ",
         number.as_str(),
         " \"",
         word,
-        part.as_str(),
-        "",
-    )
+        "\": ",
+        reason.as_str(),
+    )?;
+    line(alloc, text.as_str())
 }
 
 /// The line on words of which all are read, and behind which one is wanted.

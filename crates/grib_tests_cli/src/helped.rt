@@ -29,10 +29,14 @@ fn begin(alloc: Global, lines: &[(&str, &str)]) -> Result<bool, AllocError> {
     Ok(true)
 }
 
-const WORDS_AT_FAULT: [(&str, &str); 12] = [
+const WORDS_AT_FAULT: [(&str, &str); 15] = [
     (
         "help list gfs.grb",
         "word 1 \"gfs.grb\": list takes no file name; write grib list < gfs.grb\n",
+    ),
+    (
+        "help list a\nb\u{9b}",
+        "word 1 \"a\\x0ab\\x9b\": list takes no file name; write grib list < a\\x0ab\\x9b\n",
     ),
     (
         "help filter centre=98 gfs.grb year=2024",
@@ -48,7 +52,15 @@ const WORDS_AT_FAULT: [(&str, &str); 12] = [
     ),
     (
         "help filter level=500",
-        "word 1 \"level=500\": no key has this name; all keys: grib help keys\n",
+        "word 1 \"level=500\": no key has this name; nearest: surface1, surface1Scale and surface1Value; all keys: grib help keys\n",
+    ),
+    (
+        "help filter shortName=t",
+        "word 1 \"shortName=t\": no key has this name; nearest: discipline, category and number; all keys: grib help keys\n",
+    ),
+    (
+        "help filter temperature=1",
+        "word 1 \"temperature=1\": no key has this name; all keys: grib help keys\n",
     ),
     (
         "help filter year=2024 CENTER=7",

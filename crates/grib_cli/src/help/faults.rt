@@ -151,10 +151,18 @@ fn named_reason(
     if knows(command, name) {
         return joined(alloc, name, " is ", rule_of(command, name), "", "", "");
     }
-    match command {
-        Command::Filter | Command::Set => key_reason(alloc, name),
-        _ => name_reason(alloc, command, name, value),
+    if takes_keys(command) {
+        key_reason(alloc, name)
+    } else {
+        name_reason(alloc, command, name, value)
     }
+}
+
+/// Whether a command takes keys.
+fn takes_keys(command: Command) -> bool
+    ensures { result ≡ helping.takes_keys command }
+{
+    matches!(command, Command::Filter | Command::Set)
 }
 
 /// Why a name is not read that is that of no key, or of one that cannot be set.

@@ -18,7 +18,7 @@ ghost use Rattle.grib_command.specs.Pages.{help_lines};
 ghost use Rattle.grib_cli.specs.declared.words.command.Command.{Command};
 ghost use Rattle.grib_cli.specs.declared.words.command.Command.TheVariants.{Dump, Filter, Repack, Migrate, Demote, Help, Version};
 ghost use Rattle.grib_cli.specs.HelpLines.{is_line_on};
-ghost use Rattle.grib_cli.specs.Helping.{is_empty, is_on_words, told_of_name, told_of_words, reason_at, wanted as wanted_after, name_of, deed_of, done_line};
+ghost use Rattle.grib_cli.specs.Helping.{is_empty, is_on_words, told_of_name, told_of_words, reason_at, wanted as wanted_after, name_of, deed_of, done_line, line};
 ghost use Rattle.grib_cli.specs.Reading.{command_named, reading};
 ghost use Rattle.grib_cli.specs.Words.{change, change_of, wanted, wanted_of, conditions_of};
 
@@ -123,7 +123,7 @@ pub fn printed_words_pick_their_field()
 pub fn help_names_the_word_at_fault()
     ensures word { (words : List (List ℕ)) (place : ℕ) → is_empty (told_of_name words) ≡ true
         → is_on_words words ≡ false → reading words ≡ Err place → nat_lt place (length words) ≡ true
-        → told_of_words words ≡ concat (codes "word " ∷ decimal place ∷ codes " \"" ∷ get_or words place [] ∷ concat (codes "\": " ∷ reason_at place words ∷ codes "\n" ∷ []) ∷ []) }
+        → told_of_words words ≡ line (concat (codes "word " ∷ decimal place ∷ codes " \"" ∷ get_or words place [] ∷ codes "\": " ∷ reason_at place words ∷ [])) }
     ensures wanted { (first : List ℕ) (later : List (List ℕ)) (command : Command) (place : ℕ)
         → let words = first ∷ later in is_empty (told_of_name words) ≡ true
         → is_on_words words ≡ false → command_named first ≡ Some command → reading words ≡ Err place → nat_lt place (length words) ≡ false
