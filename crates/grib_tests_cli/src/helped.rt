@@ -35,8 +35,8 @@ const WORDS_AT_FAULT: [(&str, &str); 15] = [
         "word 1 \"gfs.grb\": list takes no file name; write grib list < gfs.grb\n",
     ),
     (
-        "help list a\nb\u{9b}",
-        "word 1 \"a\\x0ab\\x9b\": list takes no file name; write grib list < a\\x0ab\\x9b\n",
+        "help list a\u{1b}b\u{9b}",
+        "word 1 \"a\\x1bb\\x9b\": list takes no file name; write grib list < a\\x1bb\\x9b\n",
     ),
     (
         "help filter centre=98 gfs.grb year=2024",
@@ -208,7 +208,7 @@ const PAGES: [(&str, &str); 4] = [
     ),
     (
         "help filter",
-        "filter KEY=VALUE .. [refused=copy|pass] [kept=copy|pass]: The fields",
+        "filter KEY=VALUES .. KEY!=VALUES .. [refused=copy|pass] [kept=copy|pass]: The fields",
     ),
 ];
 
