@@ -2,12 +2,12 @@
 #![tactic(auto)]
 
 mod elsewhere;
+mod escaped;
 pub mod laws;
 mod nearest;
-mod shown;
 mod table;
 mod topic;
 
+pub use escaped::shown;
 pub use nearest::{nearest_command, nearest_key};
-pub use shown::shown;
 pub use topic::told_of;

@@ -5,7 +5,7 @@ use Rattle.std.proofs.lemmas.List.Folds.{concat-append}
 use Rattle.std.proofs.lemmas.Iterator.{YieldsList-from_chars}
 use Rattle.std.proofs.lemmas.Iterator.Consumers.{YieldsList-end}
 use Rattle.grib_topics.specs.Shown.{shown, shown_char}
-use Rattle.grib_topics.proofs.shown.shown.Goals as goal
+use Rattle.grib_topics.proofs.escaped.shown.Goals as goal
 
 -- one character more
 one_more : (cs : List ℕ) (c : ℕ) → concat (map shown_char (cs ++ c ∷ [])) ≡ concat (map shown_char cs) ++ shown_char c
