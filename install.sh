@@ -73,6 +73,8 @@ files() {
 644 docs/MEASURING.md share/doc/grib/docs/MEASURING.md
 644 docs/HISTORY.md share/doc/grib/docs/HISTORY.md
 644 docs/LIBRARY.md share/doc/grib/docs/LIBRARY.md
+644 docs/pictures/sizes.svg share/doc/grib/docs/pictures/sizes.svg
+644 docs/pictures/field.png share/doc/grib/docs/pictures/field.png
 644 docs/ARCHITECTURE.md share/doc/grib/docs/ARCHITECTURE.md
 644 docs/DEFINITIONS.md share/doc/grib/docs/DEFINITIONS.md
 644 docs/DECISIONS.md share/doc/grib/docs/DECISIONS.md

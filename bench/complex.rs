@@ -146,7 +146,7 @@ impl<const ORDER: usize> Running<ORDER> {
         }
     }
 
-    // The next scaled number. A number that is out of range is noted, and none can wrap around before
+    // The next scaled integer. A number that is out of range is noted, and none can wrap around before
     // it is noted: a code is below 2^33.
     #[inline(always)]
     fn next(&mut self, code: u64) -> i64 {

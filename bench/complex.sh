@@ -1,7 +1,7 @@
 #!/usr/bin/env bash
 # Measures, in one run, how fast a field of 16 million points in complex packing is unpacked, without
 # differences and with those of order 1 and 2, with numbers of 3, 8 and 14 bits in groups of 10 and of 50,
-# with and without missing marks, against the same work written by hand in plain Rust (complex.rs) and built
+# with and without missing values, against the same work written by hand in plain Rust (complex.rs) and built
 # by `rustc -O`. A ratio is the plain program's time over ours: above 1, ours is the faster. Then, how fast
 # it is decided that the data are accepted, and how fast they are unpacked where they come in pieces of 65,536
 # octets, against unpacking them whole: above 1, deciding and pieces are the faster.

@@ -2,7 +2,7 @@
 """Compares the texts of `grib dump decimals=` with exact fractions: decimals.py PROGRAM FILE..
 
 Each message is handed to PROGRAM by itself, with 18 decimals, or with as many as hold all its values. The value of
-each point is computed as a fraction from the scaled number, the reference value and the scale factors that
+each point is computed as a fraction from the scaled integer, the reference value and the scale factors that
 `dump` prints, and rounded half to even; the text has to be that one. Where fewer than 18 decimals hold, one more
 has to be refused at the first point whose numerator or denominator is 2^126 or more. Prints what was compared."""
 import collections

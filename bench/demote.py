@@ -6,7 +6,7 @@ Needs grib_get_data of ecCodes (Debian: libeccodes-tools). Each message is hande
 table is params/standard.csv and, for each parameter of the files that has no row there, a row of some number that no
 other has, so that a message is only kept for another loss; octets for local use are kept, and any earth is taken.
 
-Of what a message of edition 2 is demoted to, ecCodes has to read the same value, or missing mark, at each point. It is
+Of what a message of edition 2 is demoted to, ecCodes has to read the same value, or none, at each point. It is
 migrated again: `list`, but for the packing, and `dump` of the result have to be those of the fields before. A message
 of edition 1 that migrates without loss is demoted and migrated again: the octets have to be those of the first time.
 Prints a line for each file: what was demoted and came back, which losses were named, what was refused, and what

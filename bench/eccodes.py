@@ -2,7 +2,7 @@
 """Compares `grib dump` with ecCodes on files, value by value: eccodes.py PROGRAM FILE..
 
 Needs grib_get_data of ecCodes (Debian: libeccodes-tools). Each message is handed to both by
-itself. Of each value that ecCodes gives, the scaled number is computed back by the reference value and the
+itself. Of each value that ecCodes gives, the scaled integer is computed back by the reference value and the
 scale factors that PROGRAM prints, and has to be the one that PROGRAM prints for that point. Prints a line
 for each file and edition: messages, fields and points that agree, refusals by their reason, and what differs."""
 import collections

@@ -8,7 +8,7 @@
 # 8,388,608 octets on as multiples of 120, so a message is to have fewer: 2048 times 2048 points of 14 bits have.
 #
 # `check` decides every row of the format, and is compared with `grib_ls -p max`, which decodes every value.
-# `dump` prints the scaled number of every point, where `grib_get_data` prints places and rounded values.
+# `dump` prints the scaled integer of every point, where `grib_get_data` prints places and rounded values.
 #
 # shellcheck disable=SC2154 # common.sh sets some names
 # shellcheck disable=SC2317 # common.sh runs `ours` and `theirs`

@@ -389,7 +389,7 @@ def wrong_words(draw):
 
 
 def command_of(draw, has, pool):
-    """The words of a command, one that has a reading in most cases."""
+    """The arguments of a command, valid ones in most cases."""
     name = draw.choice([one for one in ("check", "list", "dump", "filter", "filter", "split", "set", "set", "repack", "repack", "repack",
                                         "make", "stats", "keys", "rescan", "crop", "migrate", "demote", "demote", "decimals", "words") if one in has])
     if name == "decimals":
@@ -450,7 +450,7 @@ def hold_check(data, checked):
     end = 0
     for at, octets, edition, fields in accepted:
         hold(at >= end and data[at:at + 4] == b"GRIB" and data[at + 7] == edition, "check names a place that has no message", at)
-        hold(data.find(b"GRIB", end) == at, "check passed over a mark", at)
+        hold(data.find(b"GRIB", end) == at, "check skipped a GRIB", at)
         hold(octets <= len(data) - at and data[at + octets - 4:at + octets] == b"7777" and fields >= 1, "check names other octets", at)
         end = at + octets
     printed = lines_of(checked.output)
@@ -458,7 +458,7 @@ def hold_check(data, checked):
         total = f"messages {len(accepted)} fields {sum(one[3] for one in accepted)} skipped {len(data) - sum(one[1] for one in accepted)}"
         hold(printed[len(accepted):] == [total], "the total line is another", printed[-1], total)
         hold(checked.note == b"", "check noted something", checked.note)
-        hold(data.find(b"GRIB", end) < 0, "check passed over a mark at the end")
+        hold(data.find(b"GRIB", end) < 0, "check skipped a GRIB at the end")
     else:
         hold(checked.status == 2 and len(printed) == len(accepted), "check ended otherwise", checked.status, checked.note)
         refusal = re.fullmatch(rb"refused message (\d+) octet (\d+) (\w+) (\d+)\n", checked.note)
@@ -597,7 +597,7 @@ def hold_stats(plain, dumped):
 
 
 def hold_keys(plain, fields, runner, data, accepted):
-    """A line for each field; the words of edition 2 pick their own field, and its numbers are those of the list line."""
+    """A line for each field; what it has of edition 2 selects its own field, and its numbers are those of the list line."""
     printed = [dict(word.split("=", 1) for word in line.split()[1:]) for line in lines_of(plain.output)]
     hold(len(printed) == len(fields), "keys prints other fields", len(printed), len(fields))
     for line, field in zip(printed, fields):

@@ -6,7 +6,7 @@ Needs grib_get and grib_get_data of ecCodes (Debian: libeccodes-tools). Each mes
 First it is migrated by the shipped tables alone, params/standard.csv and params/surfaces.csv, and counted if that
 succeeds. Then the parameter table is params/standard.csv and, for each parameter of the files that has no row there, a
 row of some parameter, so that a message is only kept for another loss; octets for local use are kept. Of what is written
-then ecCodes has to read the same value, or missing mark, at each point, and the same date, time, level and step. PROGRAM
+then ecCodes has to read the same value, or none, at each point, and the same date, time, level and step. PROGRAM
 has to check it as one message of edition 2 with one field. Prints a line for each file: what was migrated, which losses
 were named, what was refused, and what differs."""
 import collections

@@ -12,7 +12,7 @@ causes and losses of PROFILE stand in GUIDE and in the man page. The statuses of
 are those of chapter 9 of docs/PROFILE.md, with 11, 70 and 127. A shell completes names of files, odd ones too. Each
 link of a page leads to a page and heading, here and in what install.sh puts under PREFIX, and so does each path that
 the man page has. What does not hold is printed, and the end is status 1. Without `man`, or without terminals, what
-needs them is left out, and said."""
+needs them is left out, and said. The index of GUIDE leads to each of its chapters, and README to GUIDE."""
 import glob
 import os
 import pty
@@ -110,10 +110,10 @@ def typed(lines):
         return had
 
 
-def headings(name):
-    """The anchors of a page: its headings in small letters, with hyphens for blanks."""
+def headings(name, level="#+"):
+    """The anchors of a page: its headings, of this level alone, in small letters, with hyphens for blanks."""
     text = re.sub(r"^```.*?^```$", "", read(name), flags=re.M | re.S)
-    return {re.sub(r"[^\w -]", "", line.lower()).strip().replace(" ", "-") for line in re.findall(r"^#+ (.*)$", text, re.M)}
+    return {re.sub(r"[^\w -]", "", line.lower()).strip().replace(" ", "-") for line in re.findall(rf"^{level} (.*)$", text, re.M)}
 
 
 def check_links(page):
@@ -142,6 +142,15 @@ def check_links(page):
     named = re.findall(r"PREFIX /?(\S+)", section(page, "FILES")) + re.findall(r"\$HOME/\.local/(\S+)", page)
     for place in named:
         hold(place.strip("/") in places | {os.path.dirname(place.strip("/")) for place in places}, f"place of the man page: {place}")
+
+
+def check_index():
+    """Each chapter of GUIDE is led to by the table at its head, and GUIDE by README: two steps to any task."""
+    index, *_ = read("docs/GUIDE.md").partition("\n## ")
+    led = set(re.findall(r"\]\(#([^)]*)\)", index))
+    chapters = set(headings("docs/GUIDE.md", "##"))
+    hold(chapters and chapters <= led, f"chapters of GUIDE that its index does not have: {sorted(chapters - led)}")
+    hold("](docs/GUIDE.md)" in read("README.md"), "README leads to GUIDE")
 
 
 def section(page, name):
@@ -235,6 +244,7 @@ def main():
         here = {int(number) for number in re.findall(r"^\| (\d+) \| [^|]*\|(?:[^|]*\|)?$", read(name).split("| status | means |")[1].split("\n\n")[0], re.M)}
         hold(here == statuses, f"statuses of {name}: {sorted(here)}")
     check_links(page)
+    check_index()
     left_out = []
     try:
         for end in pty.openpty():

@@ -8,7 +8,7 @@
 # 2.28 writes order 0 of it, which is not in the profile.
 #
 # `check` decides every row of the format, and is compared with `grib_ls -p max`, which decodes every value.
-# `dump` prints the scaled number of every point, where `grib_get_data` prints places and rounded values.
+# `dump` prints the scaled integer of every point, where `grib_get_data` prints places and rounded values.
 #
 # shellcheck disable=SC2154 # common.sh sets some names
 # shellcheck disable=SC2317 # common.sh runs `ours` and `theirs`

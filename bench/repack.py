@@ -30,7 +30,7 @@ def values(program, message):
 
 
 def template(program, message):
-    """The words for the packing of the first field."""
+    """The arguments for the packing of the first field."""
     words = run([program, "list"], message).stdout.decode().split("\n")[0]
     number = words.split("packing=5.")[1].split()[0]
     return "to=3 order=2" if number == "3" else f"to={number}"

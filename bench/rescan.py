@@ -3,9 +3,9 @@
 
 Needs cdo (Debian: cdo). Each message of edition 2 is handed over by itself. After `rescan` each field has to print by
 `dump` at each index pair the point that it had there, and a second `rescan` has to change nothing. Of a grid that is
-then cut to a box, `crop` has to print the points of the box, and `cdo selindexbox` has to give the same numbers: its
-values are computed back by the reference value and the scale factors. Where a message is kept, its cause has to be
-that of its Section 3. Prints for each file what agrees, what is kept by its cause, and what differs."""
+then cut to a subarea, `crop` has to print the points of the subarea, and `cdo selindexbox` has to give the same numbers: its
+values are computed back by the reference value and the scale factors. Where a message is not changed, its cause has to be
+that of its Section 3. Prints for each file what agrees, what is not changed by its cause, and what differs."""
 import collections
 import subprocess
 import sys
@@ -68,7 +68,7 @@ def dumped(program, message):
 
 
 def by_cdo(message, box):
-    """The values of the box by CDO, None where missing."""
+    """The values of the subarea by CDO, None where missing."""
     i0, i1, j0, j1 = box
     with tempfile.NamedTemporaryFile(suffix=".grib2") as file:
         file.write(message)

@@ -4,7 +4,7 @@ its parameter in edition 1 and in edition 2, to be read by eye.
 
     params/make.py [FOLDER]     the folder that the two are written to, or this one
 
-Wants the definitions of ecCodes (Debian: libeccodes-data) in /usr/share/eccodes/definitions. The pairs of numbers below
+Needs the definitions of ecCodes (Debian: libeccodes-data) in /usr/share/eccodes/definitions. The pairs of numbers below
 are the choice; the script takes the names from the definitions, finds the first version of the master tables that has a
 number, and stops where a number has no name, where two records have the same parameter of edition 1, or where two
 parameters of a centre and version have the same target."""

@@ -5,7 +5,7 @@ surfaces.txt has each record with the name of its parameter, to be read by eye.
 
     params/surfaces.py [check] [FOLDER]     the folder that the two are written to, or this one
 
-With `check` each record is compared with what `grib_set -s edition=2` of ecCodes writes. Wants the definitions of
+With `check` each record is compared with what `grib_set -s edition=2` of ecCodes writes. Needs the definitions of
 ecCodes (Debian: libeccodes-data) in /usr/share/eccodes/definitions, and for the comparison its tools (libeccodes-tools).
 
 A record is made of a parameter that ecCodes has in both editions under one number, where edition 2 asks for a discipline,

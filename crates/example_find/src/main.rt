@@ -4,7 +4,7 @@
 use grib::{Field, Key, KeyValue, messages};
 use std::io::{Read, Write};
 
-/// Whether a field has category 0 and number 0 (temperature) at 50,000 Pa (type of surface 100).
+/// Whether a field has category 0 and number 0 (temperature) at 50,000 Pa (fixed surface 100).
 fn is_wanted(field: &Field<'_, '_>) -> bool {
     field.key(Key::Category) == Some(KeyValue::Number(0))
         && field.key(Key::Number) == Some(KeyValue::Number(0))

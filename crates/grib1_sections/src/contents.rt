@@ -1,4 +1,4 @@
-//! What a message tells: its column, the numbers of Section 1 and the lists of Section 2.
+//! What a message holds: its column, the numbers of Section 1 and the lists of Section 2.
 
 ghost use Rattle.std.specs.Prelude.{◌≡◌, ◌≢◌, ◌<◌, ◌≤◌, ◌^◌, length, Some, IfOk};
 ghost use Rattle.grib1_sections.specs.Acceptance.{grid, data_section};

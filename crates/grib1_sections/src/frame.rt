@@ -42,7 +42,7 @@ impl Placed<'_> {
 
 /// The section that begins at octet `start` of a message of `total` octets and has at least `least`. A
 /// refusal is that of the first row that fails: the octets end too early, or the section is too short
-/// or leaves no four octets behind it.
+/// or leaves no four octets after it.
 pub(crate) fn section_from<'a>(
     octets: &'a [u8],
     total: u64,

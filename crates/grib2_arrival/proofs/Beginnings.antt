@@ -3,6 +3,7 @@ use Rattle.std.proofs.Common.{◌≡◌, ◌≢◌, ℕ, ◌+◌, ◌≤◌, Boo
 use Rattle.std.proofs.lemmas.Bool.{cases_lt}
 use Rattle.std.proofs.lemmas.List.{take_all}
 use Rattle.std.proofs.lemmas.Option.{slice_get_within}
+use Rattle.grib_base.specs.declared.profile.Profile.{Profile}
 use Rattle.grib_base.specs.declared.fault.Fault.{Fault}
 use Rattle.grib_base.specs.declared.fault.Reason.TheVariants.{Truncated, Edition, TotalLength}
 use Rattle.grib_base.specs.Rows.{first_fault, refusal}
@@ -11,7 +12,7 @@ use Rattle.grib2_sections.specs.Head.{indicator, edition, discipline, head_rows,
 use Rattle.grib2_sections.specs.declared.indicator.Head.{Head}
 use Rattle.grib2_sections.specs.Frame.{Position}
 use Rattle.grib2_message.specs.Summary.{summary_in_force}
-use Rattle.grib2_message.specs.Acceptance.{verdict_2, verdict_from, unless_refused}
+use Rattle.grib2_message.specs.Acceptance.{verdict_under, verdict_from, unless_refused}
 use Rattle.grib2_message.proofs.Whole.{octets_before, head_passes}
 use Rattle.grib2_message.proofs.Stays.{Kept as HeadKept, head_kept, front_of_more}
 use Rattle.grib2_message.proofs.Ways.{way_start}
@@ -28,7 +29,7 @@ use Rattle.grib2_arrival.specs.Heard.{cut_off, BeginsLikeTwo, BeginsHeard}
 abbrev by_head : Fault → Fault → Fault → Fault → Fault → Bool → Bool → Bool → Bool → Bool → Option Fault
 by_head a b c d e f1 f2 f3 f4 f5 = cond f1 (Some a) (cond f2 (Some b) (cond f3 (Some c) (cond f4 (Some d) (cond f5 (Some e) None))))
 
-module _ (m : List ℕ) where
+module _ (profile : Profile) (m : List ℕ) where
   abbrev rows : Bool → Bool → Bool → Option Fault
   rows f1 f2 f3 =
       by_head (cut_off m) (refusal 8 Edition (edition m)) (cut_off m) (refusal 9 TotalLength (total_length m)) (refusal 5 TotalLength (total_length_1 m))
@@ -52,8 +53,8 @@ module _ (m : List ℕ) where
         λ i. rows (f1 i) (f2 i) (f3 i)
   ]
 
-  pub begins_cut : length m ≤ 15 → BeginsLikeTwo m → verdict_2 m ≡ Refused (cut_off m)
-  begins_cut few b = ap (λ (o : Option Fault). unless_refused o (λ _. verdict_from (length m + 1) m [] 17)) (head_cut few b.second)
+  pub begins_cut : length m ≤ 15 → BeginsLikeTwo m → verdict_under profile m ≡ Refused (cut_off m)
+  begins_cut few b = ap (λ (o : Option Fault). unless_refused o (λ _. verdict_from profile (length m + 1) m [] 17)) (head_cut few b.second)
 
   -- where all octets of Section 0 came, the total length is refused
   head_reason : (f4 f5 : Bool) (d e fault : Fault) → d.reason ≡ TotalLength → e.reason ≡ TotalLength
@@ -63,21 +64,21 @@ module _ (m : List ℕ) where
   head_reason false false d e fault is_d is_e h = cc
 
   pub head_refused : 16 ≤ length m → edition m ≡ 2 → (fault : Fault) → first_fault (head_rows m) ≡ Some fault
-      → (verdict_2 m ≡ Refused fault) × (fault.reason ≢ Truncated)
+      → (verdict_under profile m ≡ Refused fault) × (fault.reason ≢ Truncated)
   head_refused long two fault e =
       let f1 : nat_lt (length m) 8 ≡ false = le-ltb (length m) 8 (omega arith) in
       let f2 : (not (edition m == 1) && not (edition m == 2)) ≡ false =
       ap₂ (λ (a b : Bool). not a && not b) (ne_eqb (edition m) 1 (λ one. absurd (omega arith))) (eq-eqb (edition m) 2 two) in
       let f3 : (edition m == 2 && nat_lt (length m) 16) ≡ false = ap₂ (λ (a b : Bool). a && b) (eq-eqb (edition m) 2 two) (le-ltb (length m) 16 long) in
       let by : first_fault (head_rows m) ≡ rows false false false = λ i. rows (f1 i) (f2 i) (f3 i) in (
-        ap (λ (o : Option Fault). unless_refused o (λ _. verdict_from (length m + 1) m [] 17)) e,
+        ap (λ (o : Option Fault). unless_refused o (λ _. verdict_from profile (length m + 1) m [] 17)) e,
         head_reason (edition m == 2 && (nat_lt (total_length m) 20 || nat_lt 268435456 (total_length m))) (edition m == 1 && nat_lt (total_length_1 m) 12)
             (refusal 9 TotalLength (total_length m)) (refusal 5 TotalLength (total_length_1 m)) fault refl refl (sym by ∙ e),
       )
 
 -- an arrival has heard but one list while Section 0 is not whole
-pub heard_one : (beginning : Beginning) (u v : List ℕ) → BeginsHeard beginning u → BeginsHeard beginning v → u ≡ v
-heard_one beginning u v a b =
+pub heard_one : (profile : Profile) (beginning : Beginning) (u v : List ℕ) → BeginsHeard profile beginning u → BeginsHeard profile beginning v → u ≡ v
+heard_one profile beginning u v a b =
     sym a.first ∙ ap (λ (n : ℕ). take n beginning.first) (sym a.count ∙ b.count) ∙ b.first
 
 front_indicated : (u more : List ℕ) → take 4 (u ++ more) ≡ take (length (u ++ more)) indicator → take 4 u ≡ take (length u) indicator
@@ -119,26 +120,26 @@ head_stays u more two none = go (first_fault (head_rows u)) none (head_kept u (u
   go None e (inr same) = same
   go (Some fault) e h = cc
 
-pub walked_head : (u : List ℕ) → length u ≡ 16 → edition u ≡ 2 → first_fault (head_rows u) ≡ None → Walked u [] 17
-walked_head u long two none = record {
+pub walked_head : (profile : Profile) (u : List ℕ) → length u ≡ 16 → edition u ≡ 2 → first_fault (head_rows u) ≡ None → Walked profile u [] 17
+walked_head profile u long two none = record {
   low = omega arith;
   within = omega arith;
   goes_on = λ more.
       let m = u ++ more in
       let second : edition m ≡ 2 = octets_before u more 8 8 (omega arith) (omega arith) (omega arith) ∙ two in
-      from_way m (length m) [] _ (way_start m (total_length m) second (head_stays u more two none) refl);
+      from_way profile m (length m) [] _ (way_start profile m (total_length m) second (head_stays u more two none) refl);
 }
 
 -- what is kept then
-pub stands_first : (u : List ℕ) (kept : Kept) → length u ≡ 16 → edition u ≡ 2 → first_fault (head_rows u) ≡ None → kept.frame ≡ record { total = total_length u; place = 17; last = 0 }
-    → HasInForce [] kept.force → kept.line ≡ summary_in_force (discipline u) [] → kept.summaries.items ≡ [] → Stands u [] kept
-stands_first u kept long two none frame force line summaries =
+pub stands_first : (profile : Profile) (u : List ℕ) (kept : Kept) → length u ≡ 16 → edition u ≡ 2 → first_fault (head_rows u) ≡ None → kept.frame ≡ record { total = total_length u; place = 17; last = 0 }
+    → HasInForce [] kept.force → kept.force.profile ≡ profile → kept.line ≡ summary_in_force (discipline u) [] → kept.summaries.items ≡ [] → Stands profile u [] kept
+stands_first profile u kept long two none frame force under line summaries =
     let p = head_passes u (λ one. absurd (omega arith)) (passes_from_none (head_rows u) none) in
     let total = ap (λ (at : Position). at.total) frame in
     let place = ap (λ (at : Position). at.place) frame in
     let last = ap (λ (at : Position). at.last) frame in
     record {
-      walked = subst (λ (q : ℕ). Walked u [] q) (sym place) (walked_head u long two none);
+      walked = subst (λ (q : ℕ). Walked profile u [] q) (sym place) (walked_head profile u long two none);
       second = two;
       total = total;
       most = omega (arith, total, p.most);
@@ -147,6 +148,7 @@ stands_first u kept long two none frame force line summaries =
       numbered = omega (arith, last);
       line = line;
       force = force;
+      under = under;
       count = ap length summaries;
       summaries = λ more i summary got.
           let within = slice_get_within [] i summary (ap (λ xs. slice_get xs i) (sym summaries) ∙ got) in
@@ -168,9 +170,9 @@ head_two u two =
     ap (λ (b : Bool). cond b one both) (ne_eqb (edition u) 1 (λ one. absurd (omega arith)))
 
 -- Section 0 was noted whole
-pub noted_whole : (beginning : Beginning) (u part first : List ℕ) → BeginsHeard beginning u
+pub noted_whole : (profile : Profile) (beginning : Beginning) (u part first : List ℕ) → BeginsHeard profile beginning u
     → take (beginning.count + length part) first ≡ take beginning.count beginning.first ++ part → length first ≡ 16 → beginning.count + length part ≡ 16
     → first ≡ u ++ part
-noted_whole beginning u part first h noted long all =
+noted_whole profile beginning u part first h noted long all =
     let front : take beginning.count beginning.first ≡ u = ap (λ (n : ℕ). take n beginning.first) h.count ∙ h.first in
     all_sixteen first (u ++ part) long (ap (λ (n : ℕ). take n first) (sym all) ∙ noted ∙ ap (λ (xs : List ℕ). xs ++ part) front)

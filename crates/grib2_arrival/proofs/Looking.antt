@@ -2,6 +2,7 @@
 use Rattle.std.proofs.Common.{◌≡◌, ◌≢◌, ℕ, ◌+◌, ◌-◌, ◌<◌, ◌≤◌, true, false, IsTrue, Option, Some, None, List, ◌++◌, length, nat_lt, ◌==◌, inl, inr, refl, sym, ap, ◌∙◌, arith, eqb-true, ltb-false, length-append}
 use Rattle.std.proofs.lemmas.Bool.{cases_lt, eqb-false}
 use Rattle.grib_bits.specs.Octets.{octets as number_at}
+use Rattle.grib_base.specs.declared.profile.Profile.{Profile}
 use Rattle.grib_base.specs.declared.fault.Fault.{Fault}
 use Rattle.grib_base.specs.declared.fault.Reason.TheVariants.{Truncated}
 use Rattle.grib2_sections.specs.Frame.{Placed, Fails, Next, end_rows, end_fault, opening_fault, mark_fault, ends_at, may_follow}
@@ -16,7 +17,7 @@ use Rattle.grib2_arrival.specs.Heard.{mark, cut_off, pending, step_of, IsUnfinis
 use Rattle.grib2_arrival.proofs.Pending.{pending_long, pending_four, pending_fifth, pending_whole}
 use Rattle.grib2_arrival.proofs.Reasons.{end_other, opening_other, other_reason}
 
-module _ (u : List ℕ) (before : List Placed) (kept : Kept) (h : Stands u before kept) (gathered : List ℕ) (is : gathered ≡ pending u kept) (one : IsOne gathered) where
+module _ (profile : Profile) (u : List ℕ) (before : List Placed) (kept : Kept) (h : Stands profile u before kept) (gathered : List ℕ) (is : gathered ≡ pending u kept) (one : IsOne gathered) where
   low : 17 ≤ kept.frame.place
   low = omega (arith, h.walked.low)
 

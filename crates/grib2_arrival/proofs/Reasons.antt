@@ -1,21 +1,25 @@
 -- No row on the length, the number or the contents of a section, or on an end mark, says that the octets end too early.
 use Rattle.std.proofs.Common.{◌≡◌, ◌≢◌, ℕ, zero, suc, Bool, true, false, cond, Option, Some, None, List, [], ◌∷◌, length, get_or, ◌==◌, ◌+◌, ap, ◌∙◌}
+use Rattle.grib_base.specs.declared.profile.Profile.{Profile}
+use Rattle.grib_base.specs.declared.profile.Profile.TheVariants.{Stated, Open}
 use Rattle.grib_base.specs.declared.fault.Fault.{Fault}
 use Rattle.grib_base.specs.declared.fault.Reason.TheVariants.{Truncated, Jpeg2000, PngPacked, Ccsds, PackingTemplate}
 use Rattle.grib_base.specs.Rows.{Row, first_fault, located, or_then, choose}
 use Rattle.grib2_sections.specs.Frame.{Placed, Position, section_number, end_rows, end_fault, opening_rows, opening_fault}
 use Rattle.grib2_sections.specs.Identification.{identification_rows}
 use Rattle.grib2_grids.specs.Grid.{grid_rows}
+use Rattle.grib2_grids.specs.Opaque.{is_opaque_grid, opaque_grid_rows, grid_rows_under}
 use Rattle.grib2_products.specs.Product.{product_rows}
+use Rattle.grib2_products.specs.Opaque.{is_opaque_product, opaque_product_rows, product_rows_under}
 use Rattle.grib_bitmap.specs.Mask.{bitmap_rows}
 use Rattle.grib_packing.specs.Packing.{packing_template, template_reason, value_count}
 use Rattle.grib_packing.specs.Complex.{complex_rows, layout_of, descriptor_octets}
 use Rattle.grib_packing.specs.Groups.{list_rows}
 use Rattle.grib_packing.specs.Simple.{simple_rows}
-use Rattle.grib_packing.specs.Entries.{own_packing, packing_rows, packing_fault, data_fault, complex_data_fault, group_data_fault, group_data_rows, range_rows, has_no_groups}
+use Rattle.grib_packing.specs.Entries.{own_packing, packing_rows, packing_fault, is_opaque_packing, opaque_packing_rows, packing_fault_under, data_fault, complex_data_fault, group_data_fault, group_data_rows, range_rows, has_no_groups}
 use Rattle.grib_packing.proofs.Packings.{each_packing}
 use Rattle.grib2_message.specs.View.{octets_in_force, points_in_force, earlier_mask, section_count}
-use Rattle.grib2_message.specs.Acceptance.{section_fault, contents_faults, no_rows}
+use Rattle.grib2_message.specs.Acceptance.{section_fault_under, contents_faults, no_rows}
 
 -- a refusal, if any, is for another reason
 abbrev pub IsOther : Option Fault → Type 0
@@ -70,6 +74,20 @@ grid_other s = (λ e. cc, (λ e. cc, (λ e. cc, (λ e. cc, (λ e. cc, (λ e. cc,
 product_other : (s : List ℕ) (n : ℕ) → AllOther (product_rows s n)
 product_other s n = (λ e. cc, (λ e. cc, (λ e. cc, (λ e. cc, (λ e. cc, tt)))))
 
+-- rows by a choice
+either_other : (b : Bool) (rows others : List Row) → AllOther rows → AllOther others → AllOther (cond b rows others)
+either_other true rows others h k = h
+either_other false rows others h k = k
+
+grid_other_under : (profile : Profile) (s : List ℕ) → AllOther (grid_rows_under profile s)
+grid_other_under Stated s = grid_other s
+grid_other_under Open s = either_other (is_opaque_grid s) (opaque_grid_rows s) (grid_rows s) (λ e. cc, (λ e. cc, tt)) (grid_other s)
+
+product_other_under : (profile : Profile) (s : List ℕ) (n : ℕ) → AllOther (product_rows_under profile s n)
+product_other_under Stated s n = product_other s n
+product_other_under Open s n =
+    either_other (is_opaque_product s) (opaque_product_rows s n) (product_rows s n) (λ e. cc, (λ e. cc, (λ e. cc, tt))) (product_other s n)
+
 bitmap_other : (s : List ℕ) (points values : ℕ) (earlier : Option (List Bool)) → AllOther (bitmap_rows s points values earlier)
 bitmap_other s points values earlier = (λ e. cc, (λ e. cc, (λ e. cc, (λ e. cc, (λ e. cc, (λ e. cc, tt))))))
 
@@ -81,6 +99,12 @@ packing_other s points =
     then_other (first_fault (packing_rows s points)) (λ _. (own_packing s).rows s)
     (rows_other (packing_rows s points) (λ e. cc, (template_other (packing_template s), (λ e. cc, (λ e. cc, (λ e. cc, (λ e. cc, tt)))))))
     (each_packing (λ p. AllOther (p.rows s)) (packing_template s) tt (complex_other s) (complex_other s) tt)
+
+packing_other_under : (profile : Profile) (s : List ℕ) (points : ℕ) → IsOther (packing_fault_under profile s points)
+packing_other_under Stated s points = packing_other s points
+packing_other_under Open s points =
+    choose_other (is_opaque_packing s) (λ _. first_fault (opaque_packing_rows s points)) (λ _. packing_fault s points)
+    (rows_other (opaque_packing_rows s points) (λ e. cc, (λ e. cc, tt))) (packing_other s points)
 
 group_other : (s5 s7 : List ℕ) → IsOther (group_data_fault s5 s7)
 group_other s5 s7 =
@@ -94,24 +118,24 @@ data_other s5 s7 =
     let complex : IsOther (complex_data_fault s5 s7) = choose_other (has_no_groups s5) (λ _. None) (λ _. group_data_fault s5 s7) tt (group_other s5 s7) in
     each_packing (λ p. IsOther (p.fault s5 s7)) (packing_template s5) (rows_other (simple_rows s5 (length s7)) (λ e. cc, tt)) complex complex tt
 
-by_number : (n : ℕ) (before : List Placed) (s : Placed) → IsOther (get_or contents_faults n no_rows before s)
-by_number zero before s = tt
-by_number (suc zero) before s = located_other s.start (first_fault (identification_rows s.octets)) (rows_other (identification_rows s.octets) (identification_other s.octets))
-by_number (suc (suc zero)) before s = tt
-by_number (suc (suc (suc zero))) before s = located_other s.start (first_fault (grid_rows s.octets)) (rows_other (grid_rows s.octets) (grid_other s.octets))
-by_number (suc (suc (suc (suc zero)))) before s =
-    let rows = product_rows s.octets (section_count 4 before + 1) in
-    located_other s.start (first_fault rows) (rows_other rows (product_other s.octets (section_count 4 before + 1)))
-by_number (suc (suc (suc (suc (suc zero))))) before s = located_other s.start (packing_fault s.octets (points_in_force before)) (packing_other s.octets (points_in_force before))
-by_number (suc (suc (suc (suc (suc (suc zero)))))) before s =
+by_number : (profile : Profile) (n : ℕ) (before : List Placed) (s : Placed) → IsOther (get_or (contents_faults profile) n no_rows before s)
+by_number profile zero before s = tt
+by_number profile (suc zero) before s = located_other s.start (first_fault (identification_rows s.octets)) (rows_other (identification_rows s.octets) (identification_other s.octets))
+by_number profile (suc (suc zero)) before s = tt
+by_number profile (suc (suc (suc zero))) before s = located_other s.start (first_fault (grid_rows_under profile s.octets)) (rows_other (grid_rows_under profile s.octets) (grid_other_under profile s.octets))
+by_number profile (suc (suc (suc (suc zero)))) before s =
+    let rows = product_rows_under profile s.octets (section_count 4 before + 1) in
+    located_other s.start (first_fault rows) (rows_other rows (product_other_under profile s.octets (section_count 4 before + 1)))
+by_number profile (suc (suc (suc (suc (suc zero))))) before s = located_other s.start (packing_fault_under profile s.octets (points_in_force before)) (packing_other_under profile s.octets (points_in_force before))
+by_number profile (suc (suc (suc (suc (suc (suc zero)))))) before s =
     let rows = bitmap_rows s.octets (points_in_force before) (value_count (octets_in_force 5 before)) (earlier_mask before) in
     located_other s.start (first_fault rows) (rows_other rows (bitmap_other s.octets (points_in_force before) (value_count (octets_in_force 5 before)) (earlier_mask before)))
-by_number (suc (suc (suc (suc (suc (suc (suc zero))))))) before s =
+by_number profile (suc (suc (suc (suc (suc (suc (suc zero))))))) before s =
     located_other s.start (data_fault (octets_in_force 5 before) s.octets) (data_other (octets_in_force 5 before) s.octets)
-by_number (suc (suc (suc (suc (suc (suc (suc (suc n)))))))) before s = tt
+by_number profile (suc (suc (suc (suc (suc (suc (suc (suc n)))))))) before s = tt
 
-pub section_other : (before : List Placed) (s : Placed) → IsOther (section_fault before s)
-section_other before s = by_number (section_number s.octets) before s
+pub section_other : (profile : Profile) (before : List Placed) (s : Placed) → IsOther (section_fault_under profile before s)
+section_other profile before s = by_number profile (section_number s.octets) before s
 
 pub other_reason : (o : Option Fault) (fault : Fault) → IsOther o → o ≡ Some fault → fault.reason ≢ Truncated
 other_reason None fault h e = cc

@@ -2,6 +2,7 @@
 use Rattle.std.proofs.Common.{◌≡◌, ◌≢◌, ℕ, ◌+◌, ◌≤◌, Some, None, List, [], ◌∷◌, ◌++◌, length, drop, slice_get, refl, sym, ap, ◌∙◌, arith, length-drop}
 use Rattle.std.proofs.lemmas.List.{drop-append-le}
 use Rattle.grib_bits.specs.Octets.{StatesItself}
+use Rattle.grib_base.specs.declared.profile.Profile.{Profile}
 use Rattle.grib_base.specs.declared.fault.ReadFault.{ReadFault}
 use Rattle.grib_base.specs.declared.fault.ReadFault.TheVariants.{Refused as ReadRefused, Memory as ReadMemory}
 use Rattle.grib_base.specs.Faults.{IsReadFault}
@@ -11,7 +12,7 @@ use Rattle.grib2_sections.proofs.Frames.{mark_cut, step_refused}
 use Rattle.grib_packing.specs.Entries.{data_fault}
 use Rattle.grib_base.specs.Rows.{located}
 use Rattle.grib2_message.specs.View.{last_number, octets_in_force}
-use Rattle.grib2_message.specs.Acceptance.{section_fault}
+use Rattle.grib2_message.specs.Acceptance.{section_fault_under}
 use Rattle.grib2_message.specs.Kept.{HasInForce}
 use Rattle.grib2_message.specs.Summary.{summary_in_force}
 use Rattle.grib2_message.proofs.After.{fault_by_number}
@@ -19,15 +20,15 @@ use Rattle.grib2_message.proofs.Described.{line_other}
 use Rattle.grib2_message.proofs.Order.{one_below, follows_tells}
 use Rattle.grib2_arrival.specs.declared.kept.Kept.{Kept}
 use Rattle.grib2_arrival.specs.Standing.{Stands}
-use Rattle.grib2_arrival.specs.Heard.{cut_off, pending, step_of, IsValues, Stops, GathersHeard}
+use Rattle.grib2_arrival.specs.Heard.{cut_off, pending, step_of, IsValues, StopsUnder, GathersHeard}
 use Rattle.grib2_arrival.proofs.Pending.{pending_long, pending_more, pending_none, none_left}
 use Rattle.grib2_arrival.proofs.Onward.{stands_longer, stands_next, count_kept, count_more, summaries_more, contents_refused}
 use Rattle.grib2_arrival.proofs.Reasons.{section_other, other_reason}
 use Rattle.grib2_arrival.proofs.Verdicts.{values_longer}
 
 -- nothing of the next section came
-pub fresh : (u : List ℕ) (before : List Placed) (kept : Kept) → Stands u before kept → kept.frame.place ≡ length u + 1 → GathersHeard kept [] u
-fresh u before kept h at = record {
+pub fresh : (profile : Profile) (u : List ℕ) (before : List Placed) (kept : Kept) → Stands profile u before kept → kept.frame.place ≡ length u + 1 → GathersHeard profile kept [] u
+fresh profile u before kept h at = record {
   before = before;
   stands = h;
   gathered_are = sym (pending_none u kept.frame.place at);
@@ -38,54 +39,56 @@ fresh u before kept h at = record {
 
 -- ---- more octets are gathered
 
-module _ (u piece : List ℕ) (kept : Kept) (gathered : List ℕ) (h : GathersHeard kept gathered u) where
+module _ (profile : Profile) (u piece : List ℕ) (kept : Kept) (gathered : List ℕ) (h : GathersHeard profile kept gathered u) where
   pub gathered_more : gathered ++ piece ≡ pending (u ++ piece) kept
   gathered_more = ap (λ (xs : List ℕ). xs ++ piece) h.gathered_are ∙ sym (pending_more u piece kept.frame.place h.stands.walked.within)
 
-  pub gathered_stands : Stands (u ++ piece) h.before kept
-  gathered_stands = stands_longer u h.before kept h.stands piece
+  pub gathered_stands : Stands profile (u ++ piece) h.before kept
+  gathered_stands = stands_longer profile u h.before kept h.stands piece
 
 -- ---- a section that is no Section 7 was gathered whole
 
 -- where the next one begins
-pub after_whole : (u : List ℕ) (before : List Placed) (kept : Kept) (s : List ℕ) → Stands u before kept → s ≡ pending u kept → kept.frame.place + length s ≡ length u + 1
-after_whole u before kept s h is =
+pub after_whole : (profile : Profile) (u : List ℕ) (before : List Placed) (kept : Kept) (s : List ℕ) → Stands profile u before kept → s ≡ pending u kept → kept.frame.place + length s ≡ length u + 1
+after_whole profile u before kept s h is =
     let long = pending_long u kept.frame.place (omega (arith, h.walked.low)) h.walked.within s is in
     omega arith
 
-module _ (u : List ℕ) (before : List Placed) (kept : Kept) (h : Stands u before kept) (s : List ℕ) (number : ℕ) (e : step_of u kept ≡ Next s) (itself : StatesItself number s) (none : section_fault before (placed_at kept.frame.place s) ≡ None) where
+module _ (profile : Profile) (u : List ℕ) (before : List Placed) (kept : Kept) (h : Stands profile u before kept) (s : List ℕ) (number : ℕ) (e : step_of u kept ≡ Next s) (itself : StatesItself number s) (none : section_fault_under profile before (placed_at kept.frame.place s) ≡ None) where
   pub stands_after_section : number ≢ 7 → (after : Kept) → after.frame ≡ position_after kept.frame s
       → after.line ≡ summary_in_force (discipline u) (placed_at kept.frame.place s ∷ before)
-      → HasInForce (placed_at kept.frame.place s ∷ before) after.force
-      → after.summaries ≡ kept.summaries → Stands u (placed_at kept.frame.place s ∷ before) after
-  stands_after_section other after frame line force summaries =
-      stands_next u before kept h s number e itself none after (record {
+      → HasInForce (placed_at kept.frame.place s ∷ before) after.force → after.force.profile ≡ kept.force.profile
+      → after.summaries ≡ kept.summaries → Stands profile u (placed_at kept.frame.place s ∷ before) after
+  stands_after_section other after frame line force under summaries =
+      stands_next profile u before kept h s number e itself none after (record {
         frame_is = frame;
         line_is = line;
         force_is = force;
-        count_is = ap (λ v. length v.items) summaries ∙ count_kept u before kept h s number e itself none other;
+        under_is = under ∙ h.under;
+        count_is = ap (λ v. length v.items) summaries ∙ count_kept profile u before kept h s number e itself none other;
         summaries_are = λ more i summary got. h.summaries more i summary (sym (ap (λ v. slice_get v.items i) summaries) ∙ got);
       })
 
   -- ---- a Section 7 is whole
 
   pub stands_after_values : number ≡ 7 → (after : Kept) → after.frame ≡ position_after kept.frame s → after.line ≡ kept.line
-      → HasInForce (placed_at kept.frame.place s ∷ before) after.force
-      → after.summaries.items ≡ kept.summaries.items ++ kept.line ∷ [] → Stands u (placed_at kept.frame.place s ∷ before) after
-  stands_after_values seven after frame line force summaries =
-      stands_next u before kept h s number e itself none after (record {
+      → HasInForce (placed_at kept.frame.place s ∷ before) after.force → after.force.profile ≡ kept.force.profile
+      → after.summaries.items ≡ kept.summaries.items ++ kept.line ∷ [] → Stands profile u (placed_at kept.frame.place s ∷ before) after
+  stands_after_values seven after frame line force under summaries =
+      stands_next profile u before kept h s number e itself none after (record {
         frame_is = frame;
         line_is =
             line_other before (placed_at kept.frame.place s) 7 (itself.number_stands ∙ seven) (discipline u) after.line (line ∙ h.line)
             (λ x. absurd (omega arith)) (λ x. absurd (omega arith)) (λ x. absurd (omega arith)) (λ x. absurd (omega arith));
         force_is = force;
-        count_is = count_more u before kept h s number e itself none seven after.summaries.items summaries;
-        summaries_are = summaries_more u before kept h s number e itself none seven after.summaries.items summaries;
+        under_is = under ∙ h.under;
+        count_is = count_more profile u before kept h s number e itself none seven after.summaries.items summaries;
+        summaries_are = summaries_more profile u before kept h s number e itself none seven after.summaries.items summaries;
       })
 
 -- ---- more octets of a Section 7 come
 
-module _ (u piece : List ℕ) (kept : Kept) (l : ℕ) (before : List Placed) (h : Stands u before kept) (v : IsValues u kept l) where
+module _ (profile : Profile) (u piece : List ℕ) (kept : Kept) (l : ℕ) (before : List Placed) (h : Stands profile u before kept) (v : IsValues u kept l) where
   low : 17 ≤ kept.frame.place
   low = omega (arith, h.walked.low)
 
@@ -112,18 +115,18 @@ module _ (u piece : List ℕ) (kept : Kept) (l : ℕ) (before : List Placed) (h 
 
 -- ---- a section is refused
 
-pub stops_contents : (u : List ℕ) (before : List Placed) (kept : Kept) → Stands u before kept → (s : List ℕ) → step_of u kept ≡ Next s
-    → (start : ℕ) → start ≡ kept.frame.place → (error : ReadFault) → IsReadFault (section_fault before (placed_at start s)) error → Stops u error
-stops_contents u before kept h s e start at (ReadRefused fault) refused =
-    let is : section_fault before (placed_at kept.frame.place s) ≡ Some fault = ap (λ (q : ℕ). section_fault before (placed_at q s)) (sym at) ∙ refused in
-    (contents_refused u before kept h s fault e is, other_reason (section_fault before (placed_at kept.frame.place s)) fault (section_other before (placed_at kept.frame.place s)) is)
-stops_contents u before kept h s e start at ReadMemory refused = tt
+pub stops_contents : (profile : Profile) (u : List ℕ) (before : List Placed) (kept : Kept) → Stands profile u before kept → (s : List ℕ) → step_of u kept ≡ Next s
+    → (start : ℕ) → start ≡ kept.frame.place → (error : ReadFault) → IsReadFault (section_fault_under profile before (placed_at start s)) error → StopsUnder profile u error
+stops_contents profile u before kept h s e start at (ReadRefused fault) refused =
+    let is : section_fault_under profile before (placed_at kept.frame.place s) ≡ Some fault = ap (λ (q : ℕ). section_fault_under profile before (placed_at q s)) (sym at) ∙ refused in
+    (contents_refused profile u before kept h s fault e is, other_reason (section_fault_under profile before (placed_at kept.frame.place s)) fault (section_other profile before (placed_at kept.frame.place s)) is)
+stops_contents profile u before kept h s e start at ReadMemory refused = tt
 
 -- ---- a Section 7 begins
 
 -- it stands after Section 6
-pub values_follow : (u : List ℕ) (before : List Placed) (kept : Kept) (l : ℕ) → Stands u before kept → IsValues u kept l → 5 ≤ last_number before
-values_follow u before kept l h v =
+pub values_follow : (profile : Profile) (u : List ℕ) (before : List Placed) (kept : Kept) (l : ℕ) → Stands profile u before kept → IsValues u kept l → 5 ≤ last_number before
+values_follow profile u before kept l h v =
     let six = one_below kept.frame.last 7 (follows_tells kept.frame.last 7 v.follows) (omega arith) in
     omega (arith, six, h.last)
 
@@ -132,6 +135,6 @@ pub values_begun : (s : List ℕ) → length s ≡ 5 → drop 5 s ≡ []
 values_begun s five = none_left (drop 5 s) (omega (arith, length-drop 5 s))
 
 -- and it is refused or not by its rows
-pub values_fault : (before : List Placed) (start : ℕ) (s7 : List ℕ) → StatesItself 7 s7
-    → section_fault before (placed_at start s7) ≡ located start (data_fault (octets_in_force 5 before) s7)
-values_fault before start s7 itself = fault_by_number before (placed_at start s7) 7 itself.number_stands 7 refl
+pub values_fault : (profile : Profile) (before : List Placed) (start : ℕ) (s7 : List ℕ) → StatesItself 7 s7
+    → section_fault_under profile before (placed_at start s7) ≡ located start (data_fault (octets_in_force 5 before) s7)
+values_fault profile before start s7 itself = fault_by_number before (placed_at start s7) 7 itself.number_stands profile 7 refl

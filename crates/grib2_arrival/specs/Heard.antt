@@ -6,11 +6,13 @@ use Rattle.grib_base.specs.declared.fault.ReadFault.{ReadFault}
 use Rattle.grib_base.specs.declared.fault.ReadFault.TheVariants.{Refused, Memory}
 use Rattle.grib_base.specs.declared.fault.Reason.TheVariants.{Truncated}
 use Rattle.grib_base.specs.Rows.{refusal}
+use Rattle.grib_base.specs.declared.profile.Profile.{Profile}
+use Rattle.grib_base.specs.declared.profile.Profile.TheVariants.{Stated}
 use Rattle.grib2_sections.specs.Verdict as verdicts
 use Rattle.grib2_sections.specs.Head.{indicator, edition}
 use Rattle.grib2_sections.specs.Frame.{Placed, Step, End, Fails, Next, step, end_fault, opening_fault, may_follow}
 use Rattle.grib2_message.specs.View.{octets_in_force}
-use Rattle.grib2_message.specs.Acceptance.{verdict_2}
+use Rattle.grib2_message.specs.Acceptance.{verdict_under}
 use Rattle.grib2_arrival.specs.declared.kept.Kept.{Kept}
 use Rattle.grib2_arrival.specs.declared.data.Data.{Data}
 use Rattle.grib2_arrival.specs.declared.look.Look.{Look}
@@ -32,9 +34,9 @@ abbrev pub cut_off : List ℕ → Fault
 cut_off octets = refusal (length octets + 1) Truncated (length octets)
 
 -- why an arrival stops: the octets are refused, whatever follows them; of memory nothing is said
-abbrev pub Stops : List ℕ → ReadFault → Type 0
-Stops octets (Refused fault) = (verdict_2 octets ≡ verdicts.Refused fault) × (fault.reason ≢ Truncated)
-Stops octets Memory = Unit {0}
+abbrev pub StopsUnder : Profile → List ℕ → ReadFault → Type 0
+StopsUnder profile octets (Refused fault) = (verdict_under profile octets ≡ verdicts.Refused fault) × (fault.reason ≢ Truncated)
+StopsUnder profile octets Memory = Unit {0}
 
 -- what stands where the next section or the end mark is to come
 abbrev pub step_of : List ℕ → Kept → Step
@@ -61,16 +63,17 @@ pub record IsOne (gathered : List ℕ) : Type 0 where
   pub other : 6 ≤ length gathered → number_at gathered 5 5 ≢ 7
 
 -- Section 0 is not whole.
-pub record BeginsHeard (beginning : Beginning) (octets : List ℕ) : Type 0 where
+pub record BeginsHeard (profile : Profile) (beginning : Beginning) (octets : List ℕ) : Type 0 where
   pub few : length octets ≤ 15
   pub count : beginning.count ≡ length octets
   pub first : take (length octets) beginning.first ≡ octets
   pub begins : BeginsLikeTwo octets
+  pub under : beginning.profile ≡ profile
 
 -- These octets of the next section or of the end mark came, and it is not whole.
-pub record GathersHeard (kept : Kept) (gathered : List ℕ) (octets : List ℕ) : Type 0 where
+pub record GathersHeard (profile : Profile) (kept : Kept) (gathered : List ℕ) (octets : List ℕ) : Type 0 where
   pub before : List Placed
-  pub stands : Stands octets before kept
+  pub stands : Stands profile octets before kept
   pub gathered_are : gathered ≡ pending octets kept
   pub cut : step_of octets kept ≡ Fails (cut_off octets)
   pub unfinished : IsUnfinished gathered
@@ -89,30 +92,30 @@ pub record IsValues (octets : List ℕ) (kept : Kept) (l : ℕ) : Type 0 where
   pub follows : IsTrue (may_follow kept.frame.last 7)
 
 -- It is not whole: its octets from the sixth on were read.
-pub record FeedsHeard (kept : Kept) (l : ℕ) (feed : Data) (octets : List ℕ) : Type 0 where
+pub record FeedsHeard (profile : Profile) (kept : Kept) (l : ℕ) (feed : Data) (octets : List ℕ) : Type 0 where
   pub before : List Placed
-  pub stands : Stands octets before kept
+  pub stands : Stands profile octets before kept
   pub values : IsValues octets kept l
   pub agrees : DataAgrees (octets_in_force 5 before) kept.frame.place l (drop 5 (pending octets kept)) feed
   pub wants : length (pending octets kept) < l
 
 -- The end mark came.
-pub record EndedHeard (kept : Kept) (octets : List ℕ) : Type 0 where
+pub record EndedHeard (profile : Profile) (kept : Kept) (octets : List ℕ) : Type 0 where
   pub before : List Placed
-  pub stands : Stands octets before kept
+  pub stands : Stands profile octets before kept
   pub ends : step_of octets kept ≡ End
   pub whole : length octets ≡ kept.frame.total
 
-abbrev pub StateHeard : Option State → List ℕ → Type 0
-StateHeard None octets = ⊥
-StateHeard (Some (Begins beginning)) octets = BeginsHeard beginning octets
-StateHeard (Some (Gathers kept gathered)) octets = GathersHeard kept gathered.items octets
-StateHeard (Some (Feeds kept gathered l feed)) octets = FeedsHeard kept l feed octets × (gathered.items ≡ [])
-StateHeard (Some (Ended kept)) octets = EndedHeard kept octets
+abbrev pub StateHeard : Profile → Option State → List ℕ → Type 0
+StateHeard profile None octets = ⊥
+StateHeard profile (Some (Begins beginning)) octets = BeginsHeard profile beginning octets
+StateHeard profile (Some (Gathers kept gathered)) octets = GathersHeard profile kept gathered.items octets
+StateHeard profile (Some (Feeds kept gathered l feed)) octets = FeedsHeard profile kept l feed octets × (gathered.items ≡ [])
+StateHeard profile (Some (Ended kept)) octets = EndedHeard profile kept octets
 
--- The arrival has heard these octets, which are the first of an input from a `GRIB` on.
-abbrev pub Heard : Arrival → List ℕ → Type 0
-Heard arrival octets = StateHeard arrival.state octets
+-- The arrival has heard these octets, which are the first of an input from a `GRIB` on, and judges by this profile.
+abbrev pub HeardUnder : Profile → Arrival → List ℕ → Type 0
+HeardUnder profile arrival octets = StateHeard profile arrival.state octets
 
 -- the end mark did not come
 abbrev pub IsOpen : State → Type 0
@@ -127,9 +130,9 @@ IsListening None = ⊥
 IsListening (Some state) = IsOpen state
 
 -- The octets are not a whole message, and this piece may come after them.
-pub record MayFollow (octets piece : List ℕ) : Type 0 where
+pub record MayFollow (profile : Profile) (octets piece : List ℕ) : Type 0 where
   pub begins : BeginsLikeTwo (octets ++ piece)
-  pub unfinished : verdict_2 octets ≢ verdicts.Accepted (length octets)
+  pub unfinished : verdict_under profile octets ≢ verdicts.Accepted (length octets)
 
 -- they are a whole message, or all that is known is that they end too early
 abbrev pub IsUndecided : verdicts.Verdict → Type 0
@@ -142,3 +145,11 @@ Looks octets kept gathered More = (step_of octets kept ≡ Fails (cut_off octets
 Looks octets kept gathered Ends = (step_of octets kept ≡ End) × (length octets ≡ kept.frame.total)
 Looks octets kept gathered Section = (step_of octets kept ≡ Next gathered) × StatesItself (number_at gathered 5 5) gathered × (number_at gathered 5 5 ≢ 7) × (number_at gathered 5 5 ≤ 7)
 Looks octets kept gathered (Values l) = IsValues octets kept l × (length gathered ≡ 5)
+
+-- ---- under the profile of the stated templates
+
+abbrev pub Heard : Arrival → List ℕ → Type 0
+Heard = HeardUnder Stated
+
+abbrev pub Stops : List ℕ → ReadFault → Type 0
+Stops = StopsUnder Stated

@@ -1,19 +1,20 @@
 //! A message that arrives.
 
 ghost use Rattle.std.specs.Prelude.{◌≡◌, ◌≢◌, ◌↔◌, ℕ, ◌+◌, ◌-◌, ◌≤◌, ◌<◌, ◌++◌, [], false, IsTrue, List, None, length, take, MatchResult, OnOk, OnErr, Some};
+ghost use Rattle.grib_base.specs.declared.profile.Profile.{Profile};
 ghost use Rattle.grib2_sections.specs.Verdict.{Accepted, Refused as refused_as};
-ghost use Rattle.grib2_message.specs.Acceptance.{verdict_2};
+ghost use Rattle.grib2_message.specs.Acceptance.{verdict_under};
 ghost use Rattle.grib2_message.specs.Fields.{field_count};
 ghost use Rattle.grib2_message.specs.Summary.{summary_of};
-ghost use Rattle.grib2_arrival.specs.Heard.{cut_off, BeginsLikeTwo, IsListening, Heard, IsOpen, IsUndecided, MayFollow, Stops};
+ghost use Rattle.grib2_arrival.specs.Heard.{cut_off, BeginsLikeTwo, IsListening, HeardUnder, IsOpen, IsUndecided, MayFollow, StopsUnder};
 
 use crate::head::Beginning;
 use crate::state::State;
-use grib_base::{Fault, ReadFault, Reason};
+use grib_base::{Fault, Profile, ReadFault, Reason};
 use grib2_message::FieldSummary;
 use std::alloc::Global;
 
-/// Why no more of a message is heard: it is refused, whatever follows, or there is no memory.
+/// Why no more of a message is taken: it is refused, whatever follows, or there is no memory.
 pub type ArrivalStop = ReadFault;
 
 /// A message of edition 2 that is judged as its octets come (WMO-No. 306, Volume I.2, FM 92 GRIB edition 2). It
@@ -27,31 +28,31 @@ pub struct Arrival {
 }
 
 impl Arrival {
-    /// Nothing was heard. No memory is taken.
-    pub fn new(alloc: Global) -> Arrival
-        ensures { Heard result [] }
+    /// Nothing was heard of a message that is judged by this profile. No memory is taken.
+    pub fn new(alloc: Global, profile: Profile) -> Arrival
+        ensures { HeardUnder profile result [] }
     {
         Arrival {
             alloc,
-            state: Some(State::Begins(Beginning::new())),
+            state: Some(State::Begins(Beginning::new(profile))),
         }
     }
 
     /// Hears the next octets, up to the end of the message, and says how many. After a refusal, or where there is no
-    /// memory, it has heard nothing, and hears no more.
+    /// memory, it has taken nothing, and takes no more.
     ///
     /// # Errors
     ///
-    /// The octets heard and this piece are refused, whatever follows them, or there is no memory.
+    /// The octets taken and this piece are refused, whatever follows them, or there is no memory.
     pub fn push(&mut self, piece: &[u8]) -> Result<usize, ArrivalStop>
-        requires live { (octets : List ℕ) × Heard self.old octets × MayFollow octets piece.now }
-        ensures heard { (octets : List ℕ) → Heard self.old octets → MatchResult result
-            (λ count. (count ≤ length piece.now) × Heard self.new (octets ++ take count piece.now)
-            × (count < length piece.now → verdict_2 (octets ++ take count piece.now) ≡ Accepted (length (octets ++ take count piece.now))))
-            (Stops (octets ++ piece.now)) }
-        ensures undecided { (octets : List ℕ) → Heard self.old octets
-            → OnOk result (IsUndecided (verdict_2 (octets ++ piece.now))) }
-        ensures ended { OnErr result ((octets : List ℕ) → Heard self.new octets → ⊥) }
+        requires live { (profile : Profile) × (octets : List ℕ) × HeardUnder profile self.old octets × MayFollow profile octets piece.now }
+        ensures heard { (profile : Profile) (octets : List ℕ) → HeardUnder profile self.old octets → MatchResult result
+            (λ count. (count ≤ length piece.now) × HeardUnder profile self.new (octets ++ take count piece.now)
+            × (count < length piece.now → verdict_under profile (octets ++ take count piece.now) ≡ Accepted (length (octets ++ take count piece.now))))
+            (StopsUnder profile (octets ++ piece.now)) }
+        ensures undecided { (profile : Profile) (octets : List ℕ) → HeardUnder profile self.old octets
+            → OnOk result (IsUndecided (verdict_under profile (octets ++ piece.now))) }
+        ensures ended { OnErr result ((profile : Profile) (octets : List ℕ) → HeardUnder profile self.new octets → ⊥) }
     {
         let mut count = 0;
         while count < piece.len() && !self.is_ended() {
@@ -64,10 +65,10 @@ impl Arrival {
     fn take(&mut self, piece: &[u8]) -> Result<usize, ReadFault>
         requires some { 1 ≤ length piece.now }
         requires listens { IsListening self.old.state }
-        requires live { (octets : List ℕ) × Heard self.old octets × BeginsLikeTwo (octets ++ piece.now) }
-        ensures heard { (octets : List ℕ) → Heard self.old octets → MatchResult result
-            (λ count. (1 ≤ count) × (count ≤ length piece.now) × Heard self.new (octets ++ take count piece.now))
-            (Stops (octets ++ piece.now)) }
+        requires live { (profile : Profile) × (octets : List ℕ) × HeardUnder profile self.old octets × BeginsLikeTwo (octets ++ piece.now) }
+        ensures heard { (profile : Profile) (octets : List ℕ) → HeardUnder profile self.old octets → MatchResult result
+            (λ count. (1 ≤ count) × (count ≤ length piece.now) × HeardUnder profile self.new (octets ++ take count piece.now))
+            (StopsUnder profile (octets ++ piece.now)) }
         ensures ended { OnErr result (self.new.state ≡ None) }
     {
         let Some(state) = self.state.take() else {
@@ -78,7 +79,7 @@ impl Arrival {
         Ok(count)
     }
 
-    /// Whether the end mark came, or nothing is heard any more.
+    /// Whether the end mark came, or nothing is taken any more.
     fn is_ended(&self) -> bool
         ensures listens { result ≡ false → IsListening self.now.state }
         ensures ended { IsTrue result → IsListening self.now.state → ⊥ }
@@ -89,19 +90,19 @@ impl Arrival {
         )
     }
 
-    /// Whether the octets heard are a whole message, which is accepted.
+    /// Whether the octets taken are a whole message, which is accepted.
     pub fn whole(&self) -> bool
-        requires live { (octets : List ℕ) × Heard self.now octets }
-        ensures { (octets : List ℕ) → Heard self.now octets
-            → IsTrue result ↔ (verdict_2 octets ≡ Accepted (length octets)) }
+        requires live { (profile : Profile) × (octets : List ℕ) × HeardUnder profile self.now octets }
+        ensures { (profile : Profile) (octets : List ℕ) → HeardUnder profile self.now octets
+            → IsTrue result ↔ (verdict_under profile octets ≡ Accepted (length octets)) }
     {
         self.is_ended()
     }
 
-    /// How many octets were heard.
+    /// How many octets were taken.
     pub fn octets(&self) -> u64
-        requires live { (octets : List ℕ) × Heard self.now octets }
-        ensures count { (octets : List ℕ) → Heard self.now octets → result ≡ length octets }
+        requires live { (profile : Profile) × (octets : List ℕ) × HeardUnder profile self.now octets }
+        ensures count { (profile : Profile) (octets : List ℕ) → HeardUnder profile self.now octets → result ≡ length octets }
         ensures few { result ≤ 268435456 }
     {
         match &self.state {
@@ -110,11 +111,11 @@ impl Arrival {
         }
     }
 
-    /// Why the octets heard are refused, where they are all that there is.
+    /// Why the octets taken are refused, where they are all that there is.
     pub fn cut(&self) -> Fault
-        requires live { (octets : List ℕ) × Heard self.now octets × (verdict_2 octets ≢ Accepted (length octets)) }
-        ensures { (octets : List ℕ) → Heard self.now octets → verdict_2 octets ≢ Accepted (length octets)
-            → (verdict_2 octets ≡ refused_as result) × (result ≡ cut_off octets) }
+        requires live { (profile : Profile) × (octets : List ℕ) × HeardUnder profile self.now octets × (verdict_under profile octets ≢ Accepted (length octets)) }
+        ensures { (profile : Profile) (octets : List ℕ) → HeardUnder profile self.now octets → verdict_under profile octets ≢ Accepted (length octets)
+            → (verdict_under profile octets ≡ refused_as result) × (result ≡ cut_off octets) }
     {
         let octets = self.octets();
         Fault::at(octets + 1, Reason::Truncated, octets)
@@ -122,8 +123,8 @@ impl Arrival {
 
     /// How many fields the message has, which is whole.
     pub fn fields(&self) -> u32
-        requires whole { (octets : List ℕ) × Heard self.now octets × (verdict_2 octets ≡ Accepted (length octets)) }
-        ensures { (octets : List ℕ) → Heard self.now octets → verdict_2 octets ≡ Accepted (length octets)
+        requires whole { (profile : Profile) × (octets : List ℕ) × HeardUnder profile self.now octets × (verdict_under profile octets ≡ Accepted (length octets)) }
+        ensures { (profile : Profile) (octets : List ℕ) → HeardUnder profile self.now octets → verdict_under profile octets ≡ Accepted (length octets)
             → result ≡ field_count octets }
     {
         match &self.state {
@@ -134,10 +135,10 @@ impl Arrival {
 
     /// What describes a field of the message, which is whole, from 1 to their number.
     pub fn summary(&self, field: u32) -> FieldSummary
-        requires whole { (octets : List ℕ) × Heard self.now octets × (verdict_2 octets ≡ Accepted (length octets))
+        requires whole { (profile : Profile) × (octets : List ℕ) × HeardUnder profile self.now octets × (verdict_under profile octets ≡ Accepted (length octets))
             × (field ≤ field_count octets) }
         requires first { 1 ≤ field }
-        ensures { (octets : List ℕ) → Heard self.now octets → verdict_2 octets ≡ Accepted (length octets)
+        ensures { (profile : Profile) (octets : List ℕ) → HeardUnder profile self.now octets → verdict_under profile octets ≡ Accepted (length octets)
             → field ≤ field_count octets → result ≡ summary_of octets field }
     {
         match &self.state {

@@ -3,18 +3,21 @@
 ghost use Rattle.std.specs.Prelude.{◌≡◌, ℕ, ◌+◌, ◌≤◌, None, Some, List, [], ◌++◌, length as length_of, drop, IfOk, MatchResult};
 ghost use Rattle.grib_base.specs.Rows.{located};
 ghost use Rattle.grib_packing.specs.Entries.{data_fault};
-ghost use Rattle.grib_packings.specs.Field.{Represents};
+ghost use Rattle.grib_packings.specs.Field.{IsDataOf};
 ghost use Rattle.grib2_arrival.specs.Fed.{DataAgrees, HasAll, MayBeFed};
 
 use grib_base::Fault;
 use grib_packing::Nothing;
-use grib_packings::{Feeding, Representation};
+use grib_packings::{DataRepresentation, Feeding};
 use std::alloc::{AllocError, Global};
 
 /// Tries the rows of a Section 7 as its octets come, and keeps none of its values.
 #[derive(Debug, Drop)]
-pub(crate) struct Data {
-    feeding: Feeding<Nothing>,
+pub(crate) enum Data {
+    /// Its values are read.
+    Reads(Feeding<Nothing>),
+    /// Its packing is opaque, and no row asks for its octets: this many are still to come.
+    Passes(u32),
 }
 
 impl Data {
@@ -22,19 +25,24 @@ impl Data {
     /// of which Section 5 says this.
     pub fn start(
         alloc: Global,
-        representation: &Representation,
+        representation: &DataRepresentation,
         start: u64,
         length: u32,
     ) -> Result<Data, AllocError>
-        requires read { (s5 : List ℕ) × Represents representation.now s5 }
+        requires read { (s5 : List ℕ) × IsDataOf representation.now s5 }
         requires low { 1 ≤ start }
         requires high { start ≤ 268435456 }
         requires least { 5 ≤ length }
-        ensures { (s5 : List ℕ) → Represents representation.now s5
+        ensures { (s5 : List ℕ) → IsDataOf representation.now s5
             → IfOk result (DataAgrees s5 start length []) }
     {
-        let feeding = Feeding::start(alloc, representation, Nothing, start, length)?;
-        Ok(Data { feeding })
+        match representation {
+            DataRepresentation::Read(representation) => {
+                let feeding = Feeding::start(alloc, representation, Nothing, start, length)?;
+                Ok(Data::Reads(feeding))
+            }
+            DataRepresentation::Opaque(_) => Ok(Data::Passes(length - 5)),
+        }
     }
 
     /// How many octets are still to come.
@@ -42,7 +50,10 @@ impl Data {
         ensures { (s5 : List ℕ) (start l : ℕ) (octets : List ℕ) → DataAgrees s5 start l octets self.now
             → 5 + length_of octets + result ≡ l }
     {
-        self.feeding.left()
+        match self {
+            Data::Reads(feeding) => feeding.left(),
+            Data::Passes(left) => *left,
+        }
     }
 
     /// Reads the next octets of the section, no more than are still to come.
@@ -51,9 +62,14 @@ impl Data {
         ensures { (s5 : List ℕ) (start l : ℕ) (octets : List ℕ) → DataAgrees s5 start l octets self
             → DataAgrees s5 start l (octets ++ piece.now) result }
     {
-        let mut feeding = self.feeding;
-        feeding.push(piece);
-        Data { feeding }
+        match self {
+            Data::Reads(feeding) => {
+                let mut feeding = feeding;
+                feeding.push(piece);
+                Data::Reads(feeding)
+            }
+            Data::Passes(left) => Data::Passes(left - piece.len() as u32),
+        }
     }
 
     /// Whether the section is refused, once all its octets came.
@@ -63,7 +79,10 @@ impl Data {
             → MatchResult result (λ _. data_fault s5 s7 ≡ None)
             (λ fault. located start (data_fault s5 s7) ≡ Some fault) }
     {
-        match self.feeding.end() {
+        let Data::Reads(feeding) = self else {
+            return Ok(());
+        };
+        match feeding.end() {
             Ok(_) => Ok(()),
             Err(fault) => Err(fault),
         }

@@ -2,14 +2,15 @@
 
 ghost use Rattle.std.specs.Prelude.{◌≡◌, ◌≢◌, ℕ, ◌+◌, ◌-◌, ◌≤◌, ◌<◌, ◌^◌, ◌++◌, ◌∷◌, [], List, Some, Err, length as length_of, take, drop, MatchResult, IfOk, OnErr};
 ghost use Rattle.grib_bits.specs.Octets.{octets as number_at, StatesItself};
+ghost use Rattle.grib_base.specs.declared.profile.Profile.{Profile};
 ghost use Rattle.grib2_sections.specs.Frame.{Placed, Next, placed_at};
-ghost use Rattle.grib2_message.specs.Acceptance.{section_fault};
+ghost use Rattle.grib2_message.specs.Acceptance.{section_fault_under};
 ghost use Rattle.grib2_message.specs.View.{octets_in_force};
 ghost use Rattle.grib2_arrival.specs.declared.kept.Kept.{Kept};
 ghost use Rattle.grib2_arrival.specs.declared.state.State.TheVariants.{Ended};
 ghost use Rattle.grib2_arrival.specs.Standing.{Stands};
 ghost use Rattle.grib2_arrival.specs.Fed.{DataAgrees};
-ghost use Rattle.grib2_arrival.specs.Heard.{pending, step_of, BeginsLikeTwo, FeedsHeard, GathersHeard, IsOne, IsOpen, IsValues, StateHeard, Stops};
+ghost use Rattle.grib2_arrival.specs.Heard.{pending, step_of, BeginsLikeTwo, FeedsHeard, GathersHeard, IsOne, IsOpen, IsValues, StateHeard, StopsUnder};
 
 use crate::data::Data;
 use crate::head::Beginning;
@@ -42,11 +43,11 @@ impl State {
     pub fn push(self, alloc: Global, piece: &[u8]) -> Result<(State, usize), ReadFault>
         requires some { 1 ≤ length_of piece.now }
         requires listens { IsOpen self }
-        requires heard { (octets : List ℕ) × StateHeard (Some self) octets × BeginsLikeTwo (octets ++ piece.now) }
-        ensures { (octets : List ℕ) → StateHeard (Some self) octets
+        requires heard { (profile : Profile) × (octets : List ℕ) × StateHeard profile (Some self) octets × BeginsLikeTwo (octets ++ piece.now) }
+        ensures { (profile : Profile) (octets : List ℕ) → StateHeard profile (Some self) octets
             → MatchResult result (λ next. (1 ≤ next.1) × (next.1 ≤ length_of piece.now)
-            × StateHeard (Some next.0) (octets ++ take next.1 piece.now))
-            (Stops (octets ++ piece.now)) }
+            × StateHeard profile (Some next.0) (octets ++ take next.1 piece.now))
+            (StopsUnder profile (octets ++ piece.now)) }
     {
         match self {
             State::Begins(beginning) => beginning.push(alloc, piece),
@@ -70,8 +71,8 @@ impl State {
 
     /// How many octets came.
     pub fn octets(&self) -> u64
-        requires heard { (octets : List ℕ) × StateHeard (Some self.now) octets }
-        ensures count { (octets : List ℕ) → StateHeard (Some self.now) octets → result ≡ length_of octets }
+        requires heard { (profile : Profile) × (octets : List ℕ) × StateHeard profile (Some self.now) octets }
+        ensures count { (profile : Profile) (octets : List ℕ) → StateHeard profile (Some self.now) octets → result ≡ length_of octets }
         ensures few { result ≤ 268435456 }
     {
         match self {
@@ -85,7 +86,7 @@ impl State {
     }
 }
 
-/// Gathers the next octets, no more than one section or the end mark wants, and says how many.
+/// Gathers the next octets, no more than one section or the end mark needs, and says how many.
 fn gather(
     alloc: Global,
     kept: Kept,
@@ -93,11 +94,11 @@ fn gather(
     piece: &[u8],
 ) -> Result<(State, usize), ReadFault>
     requires some { 1 ≤ length_of piece.now }
-    requires heard { (octets : List ℕ) × GathersHeard kept gathered.items octets }
-    ensures { (octets : List ℕ) → GathersHeard kept gathered.items octets
+    requires heard { (profile : Profile) × (octets : List ℕ) × GathersHeard profile kept gathered.items octets }
+    ensures { (profile : Profile) (octets : List ℕ) → GathersHeard profile kept gathered.items octets
         → MatchResult result (λ next. (1 ≤ next.1) × (next.1 ≤ length_of piece.now)
-        × StateHeard (Some next.0) (octets ++ take next.1 piece.now))
-        (Stops (octets ++ piece.now)) }
+        × StateHeard profile (Some next.0) (octets ++ take next.1 piece.now))
+        (StopsUnder profile (octets ++ piece.now)) }
 {
     let mut gathered = gathered;
     let taken = wanted(gathered.as_slice()).min(piece.len());
@@ -108,11 +109,11 @@ fn gather(
 
 /// Goes on by what was gathered.
 fn settle(alloc: Global, kept: Kept, gathered: Vec<u8>) -> Result<State, ReadFault>
-    requires stands { (octets : List ℕ) × (before : List Placed) × Stands octets before kept
+    requires stands { (profile : Profile) × (octets : List ℕ) × (before : List Placed) × Stands profile octets before kept
         × (gathered.items ≡ pending octets kept) × IsOne gathered.items }
-    ensures { (octets : List ℕ) (before : List Placed) → Stands octets before kept
+    ensures { (profile : Profile) (octets : List ℕ) (before : List Placed) → Stands profile octets before kept
         → gathered.items ≡ pending octets kept → IsOne gathered.items
-        → MatchResult result (λ state. StateHeard (Some state) octets) (Stops octets) }
+        → MatchResult result (λ state. StateHeard profile (Some state) octets) (StopsUnder profile octets) }
 {
     match kept.look(gathered.as_slice())? {
         Look::More => Ok(State::Gathers(kept, gathered)),
@@ -124,13 +125,13 @@ fn settle(alloc: Global, kept: Kept, gathered: Vec<u8>) -> Result<State, ReadFau
 
 /// Goes past a section that was gathered whole and is no Section 7.
 fn take_section(alloc: Global, kept: Kept, gathered: Vec<u8>) -> Result<State, ReadFault>
-    requires stands { (octets : List ℕ) × (before : List Placed) × Stands octets before kept
+    requires stands { (profile : Profile) × (octets : List ℕ) × (before : List Placed) × Stands profile octets before kept
         × (gathered.items ≡ pending octets kept) × (step_of octets kept ≡ Next gathered.items) }
     requires itself { StatesItself (number_at gathered.items 5 5) gathered.items }
     requires not_7 { number_at gathered.items 5 5 ≢ 7 }
-    ensures { (octets : List ℕ) (before : List Placed) → Stands octets before kept
+    ensures { (profile : Profile) (octets : List ℕ) (before : List Placed) → Stands profile octets before kept
         → gathered.items ≡ pending octets kept → step_of octets kept ≡ Next gathered.items
-        → MatchResult result (λ state. StateHeard (Some state) octets) (Stops octets) }
+        → MatchResult result (λ state. StateHeard profile (Some state) octets) (StopsUnder profile octets) }
 {
     let octets = gathered.as_slice();
     let section = Section {
@@ -151,12 +152,12 @@ fn start_values(
     gathered: Vec<u8>,
     length: u32,
 ) -> Result<State, ReadFault>
-    requires stands { (octets : List ℕ) × (before : List Placed) × Stands octets before kept
+    requires stands { (profile : Profile) × (octets : List ℕ) × (before : List Placed) × Stands profile octets before kept
         × (gathered.items ≡ pending octets kept) × IsValues octets kept length
         × (length_of gathered.items ≡ 5) }
-    ensures { (octets : List ℕ) (before : List Placed) → Stands octets before kept
+    ensures { (profile : Profile) (octets : List ℕ) (before : List Placed) → Stands profile octets before kept
         → gathered.items ≡ pending octets kept → length_of gathered.items ≡ 5 → IsValues octets kept length
-        → MatchResult result (λ state. StateHeard (Some state) octets) (Stops octets) }
+        → MatchResult result (λ state. StateHeard profile (Some state) octets) (StopsUnder profile octets) }
 {
     let representation = kept.force.representation();
     let feed = Data::start(alloc, representation, kept.frame.place(), length)?;
@@ -174,11 +175,11 @@ fn hand_on(
     piece: &[u8],
 ) -> Result<(State, usize), ReadFault>
     requires some { 1 ≤ length_of piece.now }
-    requires heard { (octets : List ℕ) × FeedsHeard kept length feed octets × (gathered.items ≡ []) }
-    ensures { (octets : List ℕ) → FeedsHeard kept length feed octets
+    requires heard { (profile : Profile) × (octets : List ℕ) × FeedsHeard profile kept length feed octets × (gathered.items ≡ []) }
+    ensures { (profile : Profile) (octets : List ℕ) → FeedsHeard profile kept length feed octets
         → MatchResult result (λ next. (1 ≤ next.1) × (next.1 ≤ length_of piece.now)
-        × StateHeard (Some next.0) (octets ++ take next.1 piece.now))
-        (Stops (octets ++ piece.now)) }
+        × StateHeard profile (Some next.0) (octets ++ take next.1 piece.now))
+        (StopsUnder profile (octets ++ piece.now)) }
 {
     let taken = (feed.left() as usize).min(piece.len());
     let feed = feed.push(&piece[..taken]);
@@ -189,13 +190,13 @@ fn hand_on(
 /// Goes past a Section 7 of this length, where it is whole.
 fn go_on(kept: Kept, gathered: Vec<u8>, length: u32, feed: Data) -> Result<State, ReadFault>
     requires empty { gathered.items ≡ [] }
-    requires stands { (octets : List ℕ) × (before : List Placed) × Stands octets before kept
+    requires stands { (profile : Profile) × (octets : List ℕ) × (before : List Placed) × Stands profile octets before kept
         × IsValues octets kept length
         × DataAgrees (octets_in_force 5 before) kept.frame.place length (drop 5 (pending octets kept)) feed }
-    ensures { (octets : List ℕ) (before : List Placed) → Stands octets before kept
+    ensures { (profile : Profile) (octets : List ℕ) (before : List Placed) → Stands profile octets before kept
         → IsValues octets kept length
         → DataAgrees (octets_in_force 5 before) kept.frame.place length (drop 5 (pending octets kept)) feed
-        → MatchResult result (λ state. StateHeard (Some state) octets) (Stops octets) }
+        → MatchResult result (λ state. StateHeard profile (Some state) octets) (StopsUnder profile octets) }
 {
     if feed.left() > 0 {
         return Ok(State::Feeds(kept, gathered, length, feed));

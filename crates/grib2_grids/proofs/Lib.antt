@@ -5,3 +5,4 @@ pub mod Readable
 pub mod Rebuilt
 pub mod ByTemplate
 pub mod Unique
+pub mod Under

@@ -1,6 +1,9 @@
 //! Laws over the definitions.
 
-ghost use Rattle.std.specs.Prelude.{◌≡◌, ℕ, List};
+ghost use Rattle.std.specs.Prelude.{◌≡◌, ℕ, List, false, None};
+ghost use Rattle.grib_base.specs.declared.profile.Profile.TheVariants.{Stated, Open};
+ghost use Rattle.grib_base.specs.Rows.{first_fault};
+ghost use Rattle.grib2_grids.specs.Opaque.{is_opaque_grid, grid_rows_under};
 ghost use Rattle.grib2_grids.specs.Spelled.{Spelled, IsSectionOf};
 ghost use Rattle.grib2_grids.specs.Writable.{IsWritable};
 ghost use Rattle.grib2_grids.specs.declared.grid.GridSection.{GridSection};
@@ -14,4 +17,16 @@ pub fn a_section_has_one_value()
 /// A value that a section has which is accepted, as `read_grid` answers it, can be written.
 pub fn what_is_read_can_be_written()
     ensures { (value : GridSection) (s : List ℕ) → IsSectionOf value s → IsWritable value }
+{}
+
+/// What the stated profile accepts, the open one accepts.
+pub fn the_open_profile_accepts_what_is_stated()
+    ensures { (s : List ℕ) → first_fault (grid_rows_under Stated s) ≡ None
+        → first_fault (grid_rows_under Open s) ≡ None }
+{}
+
+/// Where the grid is not opaque, both profiles have the same rows.
+pub fn profiles_differ_in_opaque_grids_alone()
+    ensures { (s : List ℕ) → is_opaque_grid s ≡ false
+        → grid_rows_under Open s ≡ grid_rows_under Stated s }
 {}

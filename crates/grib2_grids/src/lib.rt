@@ -3,6 +3,7 @@
 
 mod grid;
 pub mod laws;
+mod opaque;
 mod reading;
 mod rows;
 mod templates;
@@ -10,6 +11,7 @@ mod writing;
 
 pub use grib_base::ReadFault as GridFault;
 pub use grid::{Grid, GridSection};
+pub use opaque::{check_grid_under, is_opaque_grid};
 pub use reading::{grid_of, read_grid};
 pub use rows::check_grid;
 pub use templates::{Gaussian, Lambert, LatLon, Mercator, Polar, Rotation};

@@ -5,13 +5,14 @@ ghost use Rattle.grib_base.specs.Rows as rows;
 ghost use Rattle.grib_base.specs.Rows.{first_fault, first_fault_at, fault_at};
 ghost use Rattle.grib2_sections.specs.Template.{is_template, least_length as least_of};
 ghost use Rattle.grib2_grids.specs.Grid.{grid_rows, grid_templates, list_octets, may_have_list, row_list};
+ghost use Rattle.grib2_grids.specs.Opaque.{opaque_grid_rows};
 ghost use Rattle.grib2_grids.specs.Whole.{IsWhole, HasNumbers};
 
 use grib_base::{Fault, MOST_POINTS, Reason, Section};
 use grib_bits::{u8_at, u16_at, u32_at, uint_at};
 
 /// The least length in octets of a section with this template, if the profile has it.
-fn least_length(template: u16) -> Option<usize>
+pub(crate) fn least_length(template: u16) -> Option<usize>
     ensures { MatchOption result (is_template grid_templates template ≡ false)
         (λ least. (is_template grid_templates template ≡ true)
         × (least ≡ least_of grid_templates template)) }
@@ -79,7 +80,18 @@ fn check_head(section: &Section<'_>) -> Result<(), Fault>
     if length < least {
         return Err(section.fault_at(1, Reason::SectionLength, length as u64));
     }
-    let points = u32_at(octets, 7);
+    check_point_count(section)
+}
+
+/// Row S3.5: the number of points.
+pub(crate) fn check_point_count(section: &Section<'_>) -> Result<(), Fault>
+    requires { 14 ≤ length section.now.octets.now }
+    ensures { MatchResult result
+        (λ _. first_fault (drop 1 (opaque_grid_rows section.now.octets.now)) ≡ None)
+        (λ fault. first_fault_at section.now.start
+        (drop 1 (opaque_grid_rows section.now.octets.now)) ≡ Some fault) }
+{
+    let points = u32_at(section.octets, 7);
     if points == 0 || points > MOST_POINTS {
         return Err(section.fault_at(7, Reason::PointCount, u64::from(points)));
     }

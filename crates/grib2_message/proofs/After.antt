@@ -1,18 +1,19 @@
 -- What is in force after one more section, and where it begins.
-use Rattle.std.proofs.Common.{◌≡◌, ◌≢◌, ℕ, ◌+◌, ◌<◌, ◌≤◌, IsTrue, Option, Some, None, List, ◌∷◌, length, get_or, set, inl, inr, sym, ap, ◌∙◌, arith, subst}
+use Rattle.std.proofs.Common.{◌≡◌, ◌≢◌, ℕ, ◌+◌, ◌<◌, ◌≤◌, IsTrue, Option, Some, None, List, ◌∷◌, length, get_or, set, inl, inr, refl, sym, ap, ◌∙◌, arith, subst}
 use Rattle.std.specs.Option.{option_map_or}
 use Rattle.std.proofs.lemmas.Bool.{cases_eq}
 use Rattle.std.proofs.lemmas.List.{length-set, get_or-set_same, get_or-set_other}
+use Rattle.grib_base.specs.declared.profile.Profile.{Profile}
 use Rattle.grib_base.specs.Rows.{first_fault}
 use Rattle.grib2_sections.specs.Frame.{Placed, placed_at, section_number, may_follow}
 use Rattle.grib2_grids.specs.Grid.{grid_points}
 use Rattle.grib_bitmap.specs.Mask.{bitmap_indicator, bitmap_rows}
 use Rattle.grib_packing.specs.Packing.{value_count}
-use Rattle.grib_packings.specs.Field.{Represents}
-use Rattle.grib_packings.specs.declared.representation.Representation.{Representation}
+use Rattle.grib_packings.specs.Field.{IsDataOf}
+use Rattle.grib_packings.specs.declared.data_representation.DataRepresentation.{DataRepresentation}
 use Rattle.grib2_message.specs.View.{last_number, section_in_force, octets_in_force, points_in_force, earlier_bitmap, earlier_mask, section_count}
-use Rattle.grib2_message.specs.Acceptance.{section_fault, contents_faults, no_rows}
-use Rattle.grib2_message.specs.Kept.{StandsAt, start_in_force, KeepsRepresentation, KeepsBitmap, HasInForce, HasPlaces, Comes}
+use Rattle.grib2_message.specs.Acceptance.{section_fault_under, contents_faults, no_rows}
+use Rattle.grib2_message.specs.Kept.{AreSound, StandsAt, start_in_force, KeepsRepresentation, KeepsBitmap, HasInForce, HasPlaces, Comes}
 use Rattle.grib2_message.specs.declared.in_force.Bitmap.{Bitmap}
 use Rattle.grib2_message.specs.declared.in_force.InForce.{InForce}
 use Rattle.grib2_message.specs.declared.places.Places.{Places}
@@ -26,8 +27,8 @@ module _ (before : List Placed) (s : Placed) (number : ℕ) (numbered : section_
   not_here n other e = other (sym numbered ∙ e)
 
   -- its refusal
-  pub fault_by_number : (n : ℕ) → number ≡ n → section_fault before s ≡ get_or contents_faults n no_rows before s
-  fault_by_number n e = fault_of before s n (numbered ∙ e)
+  pub fault_by_number : (profile : Profile) (n : ℕ) → number ≡ n → section_fault_under profile before s ≡ get_or (contents_faults profile) n no_rows before s
+  fault_by_number profile n e = fault_of profile before s n (numbered ∙ e)
 
   -- ---- the last Section 6 with bits of its own
 
@@ -38,12 +39,12 @@ module _ (before : List Placed) (s : Placed) (number : ℕ) (numbered : section_
     pub bitmap_again : number ≡ 6 → bitmap_indicator s.octets ≢ 0 → KeepsBitmap force.bitmap (earlier_bitmap (s ∷ before))
     bitmap_again six other = subst (λ (xs : List Placed). KeepsBitmap force.bitmap xs) (sym (not_own_list s before (numbered ∙ six) other)) h.bitmap
 
-    pub bitmap_new : number ≡ 6 → bitmap_indicator s.octets ≡ 0 → section_fault before s ≡ None → (bitmap : Bitmap) → bitmap.start ≡ s.start → bitmap.points ≡ force.points
+    pub bitmap_new : number ≡ 6 → bitmap_indicator s.octets ≡ 0 → section_fault_under force.profile before s ≡ None → (bitmap : Bitmap) → bitmap.start ≡ s.start → bitmap.points ≡ force.points
         → bitmap.present ≡ value_count (octets_in_force 5 before) → KeepsBitmap (Some bitmap) (earlier_bitmap (s ∷ before))
     bitmap_new six own accepted bitmap is_start is_points is_present =
         let points = is_points ∙ h.points in
         let values = value_count (octets_in_force 5 before) in
-        let none = none_located s.start (first_fault (bitmap_rows s.octets (points_in_force before) values (earlier_mask before))) (sym (fault_by_number 6 six) ∙ accepted) in
+        let none = none_located s.start (first_fault (bitmap_rows s.octets (points_in_force before) values (earlier_mask before))) (sym (fault_by_number force.profile 6 six) ∙ accepted) in
         let not_254 : bitmap_indicator s.octets ≢ 254 = λ e. absurd (omega arith) in
         subst (λ (xs : List Placed). KeepsBitmap (Some bitmap) xs) (sym (own_list s before (numbered ∙ six) own))
         (record {
@@ -69,15 +70,16 @@ module _ (before : List Placed) (s : Placed) (number : ℕ) (numbered : section_
 
     -- ---- what is in force
 
-    module _ (force : InForce) (h : HasInForce before force) (accepted : section_fault before s ≡ None) where
-      after : (later : InForce) → later.points ≡ points_in_force (s ∷ before) → KeepsRepresentation later.representation (section_in_force 5 (s ∷ before))
+    module _ (force : InForce) (h : HasInForce before force) (accepted : section_fault_under force.profile before s ≡ None) where
+      after : (later : InForce) → later.profile ≡ force.profile → later.points ≡ points_in_force (s ∷ before) → KeepsRepresentation later.representation (section_in_force 5 (s ∷ before))
           → KeepsBitmap later.bitmap (earlier_bitmap (s ∷ before)) → later.fields ≡ section_count 7 (s ∷ before) → HasInForce (s ∷ before) later
-      after later points representation bitmap fields = record {
+      after later profile points representation bitmap fields = record {
         points = points;
         representation = representation;
         bitmap = bitmap;
         fields = fields;
-        sound = sound_after s before h.sound (subst (λ (n : ℕ). Follows (last_number before) n) (sym numbered) in_order) accepted;
+        sound = subst (λ (p : Profile). AreSound p (s ∷ before)) (sym profile)
+            (sound_after force.profile s before h.sound (subst (λ (n : ℕ). Follows (last_number before) n) (sym numbered) in_order) accepted);
       }
 
       points_other : number ≢ 3 → force.points ≡ points_in_force (s ∷ before)
@@ -90,28 +92,28 @@ module _ (before : List Placed) (s : Placed) (number : ℕ) (numbered : section_
       fields_other other = h.fields ∙ sym (count_other s before 7 (not_here 7 other))
 
       pub force_other : number ≢ 3 → number ≢ 5 → number ≢ 6 → number ≢ 7 → HasInForce (s ∷ before) force
-      force_other n3 n5 n6 n7 = after force (points_other n3) (read_other n5) (bitmap_other force h n6) (fields_other n7)
+      force_other n3 n5 n6 n7 = after force refl (points_other n3) (read_other n5) (bitmap_other force h n6) (fields_other n7)
 
       pub force_grid : number ≡ 3 → (points : ℕ) → points ≡ grid_points s.octets → HasInForce (s ∷ before) (record force { points = points })
       force_grid e points is =
-          after (record force { points = points }) (is ∙ ap grid_points (sym (octets_same s before 3 (numbered ∙ e)))) (read_other (λ x. absurd (omega arith)))
+          after (record force { points = points }) refl (is ∙ ap grid_points (sym (octets_same s before 3 (numbered ∙ e)))) (read_other (λ x. absurd (omega arith)))
           (bitmap_other force h (λ x. absurd (omega arith))) (fields_other (λ x. absurd (omega arith)))
 
-      pub force_read : number ≡ 5 → (representation : Representation) → Represents representation s.octets → HasInForce (s ∷ before) (record force { representation = Some representation })
+      pub force_read : number ≡ 5 → (representation : DataRepresentation) → IsDataOf representation s.octets → HasInForce (s ∷ before) (record force { representation = Some representation })
       force_read e representation is =
-          after (record force { representation = Some representation }) (points_other (λ x. absurd (omega arith)))
+          after (record force { representation = Some representation }) refl (points_other (λ x. absurd (omega arith)))
           (subst (λ (o : Option Placed). KeepsRepresentation (Some representation) o) (sym (in_force_same s before 5 (numbered ∙ e))) is)
           (bitmap_other force h (λ x. absurd (omega arith))) (fields_other (λ x. absurd (omega arith)))
 
       pub force_bitmap : number ≡ 6 → (bitmap : Option Bitmap) → KeepsBitmap bitmap (earlier_bitmap (s ∷ before)) → HasInForce (s ∷ before) (record force { bitmap = bitmap })
       force_bitmap e bitmap is =
-          after (record force { bitmap = bitmap }) (points_other (λ x. absurd (omega arith))) (read_other (λ x. absurd (omega arith)))
+          after (record force { bitmap = bitmap }) refl (points_other (λ x. absurd (omega arith))) (read_other (λ x. absurd (omega arith)))
           is (fields_other (λ x. absurd (omega arith)))
 
       pub force_ended : number ≡ 7 → (fields : ℕ) → fields ≡ force.fields + 1 → HasInForce (s ∷ before) (record force { fields = fields })
       force_ended e fields is =
           let more = count_same s before 7 (numbered ∙ e) in
-          after (record force { fields = fields }) (points_other (λ x. absurd (omega arith))) (read_other (λ x. absurd (omega arith)))
+          after (record force { fields = fields }) refl (points_other (λ x. absurd (omega arith))) (read_other (λ x. absurd (omega arith)))
           (bitmap_other force h (λ x. absurd (omega arith))) (omega (arith, is, h.fields, more))
 
 -- ---- where it begins

@@ -2,10 +2,11 @@
 use Rattle.std.proofs.Common.{◌≡◌, ℕ, ◌+◌, ◌-◌, ◌≤◌, Bool, true, false, cond, ◌&&◌, None, List, [], ◌∷◌, length, ◌==◌, inl, inr, refl, sym, ap, ap₂, ◌∙◌, subst}
 use Rattle.std.proofs.lemmas.Bool.{cases_eq}
 use Rattle.std.proofs.lemmas.List.Sums.{sum_by-cons}
+use Rattle.grib_base.specs.declared.profile.Profile.{Profile}
 use Rattle.grib_bits.specs.Bits.{digit}
 use Rattle.grib2_sections.specs.Frame.{Placed, placed_at, section_length, section_number, may_follow}
 use Rattle.grib2_message.specs.View.{is_numbered, last_number, octets_in_force, section_count}
-use Rattle.grib2_message.specs.Acceptance.{section_fault}
+use Rattle.grib2_message.specs.Acceptance.{section_fault_under}
 use Rattle.grib2_message.specs.Fields.{sections_up_to_field}
 use Rattle.grib2_message.specs.Grammar.{IsSection}
 use Rattle.grib2_message.proofs.Latest.{octets_same, octets_other}
@@ -80,16 +81,16 @@ module _ (Fits : Placed → Placed → Type 0) (same : (s t : Placed) → Fits s
       (h.0, b) (up_to_along (i - digit ends) (s ∷ before) (t ∷ others) sections news (h.0, b) h.1))
 
 -- t may stand at octet `start` after these sections, with the number of s
-pub record MayReplace (others : List Placed) (start : ℕ) (s t : List ℕ) : Type 0 where
+pub record MayReplace (profile : Profile) (others : List Placed) (start : ℕ) (s t : List ℕ) : Type 0 where
   pub length_stands : section_length t ≡ length t
   pub least : 5 ≤ length t
   pub numbered : section_number t ≡ section_number s
-  pub rows_hold : section_fault others (placed_at start t) ≡ None
+  pub rows_hold : section_fault_under profile others (placed_at start t) ≡ None
 
 -- so it may follow there where s may
-pub replaces : (before others : List Placed) (q p : ℕ) (s t : List ℕ) → last_number others ≡ last_number before → IsSection before q s
-    → MayReplace others p s t → IsSection others p t
-replaces before others q p s t last is h = record {
+pub replaces : (profile : Profile) (before others : List Placed) (q p : ℕ) (s t : List ℕ) → last_number others ≡ last_number before → IsSection profile before q s
+    → MayReplace profile others p s t → IsSection profile others p t
+replaces profile before others q p s t last is h = record {
   length_stands = h.length_stands;
   least = h.least;
   follows = ap₂ may_follow last h.numbered ∙ is.follows;

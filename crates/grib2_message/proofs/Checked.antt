@@ -1,5 +1,6 @@
 -- What the code knows of the sections before the next one.
 use Rattle.std.proofs.Common.{◌≡◌, ℕ, ◌+◌, ◌≤◌, Option, Some, None, Result, Ok, Err, MatchResult, List, [], ◌∷◌, length, get_or, sym, ap, ◌∙◌, arith, subst}
+use Rattle.grib_base.specs.declared.profile.Profile.{Profile}
 use Rattle.grib_base.specs.declared.fault.Fault.{Fault}
 use Rattle.grib_bitmap.specs.Mask.{own_mask, present_count}
 use Rattle.grib2_sections.specs.Frame.{Placed}
@@ -30,8 +31,8 @@ keeps_tells (Some bitmap) (s ∷ before) h =
     (ap length bits ∙ told.0, ap present_count bits ∙ told.1)
 
 -- a Section 4 stands after as many others as there are fields
-pub products_are_fields : (before : List Placed) → AreSound before → Follows (last_number before) 4 → section_count 4 before ≡ section_count 7 before
-products_are_fields before h f =
+pub products_are_fields : (profile : Profile) (before : List Placed) → AreSound profile before → Follows (last_number before) 4 → section_count 4 before ≡ section_count 7 before
+products_are_fields profile before h f =
     let last = last_number before in
     let none : begun last ≡ 0 = elim f [
       | next e low ↦ begun_none last (λ same. absurd (omega arith)) (λ same. absurd (omega arith)) (λ same. absurd (omega arith))

@@ -1,12 +1,12 @@
 -- What describes a field, after one more section.
 use Rattle.std.proofs.Common.{◌≡◌, ◌≢◌, ℕ, List, ◌∷◌, sym, ap, ◌∙◌, arith}
 use Rattle.grib_bits.specs.Octets.{octets as number_at}
-use Rattle.grib_packing.specs.Packing.{packing_template, bit_width, value_count}
+use Rattle.grib_packing.specs.Packing.{packing_template, value_count}
 use Rattle.grib2_grids.specs.Grid.{grid_points, grid_template}
 use Rattle.grib2_products.specs.Product.{product_template}
 use Rattle.grib2_sections.specs.Frame.{Placed, section_number}
 use Rattle.grib2_message.specs.View.{octets_in_force}
-use Rattle.grib2_message.specs.Summary.{identification_of, summary_by, summary_in_force}
+use Rattle.grib2_message.specs.Summary.{bits_of_packing, identification_of, instant_octets, summary_by, summary_in_force}
 use Rattle.grib2_message.specs.declared.summary.FieldSummary.{FieldSummary}
 use Rattle.grib2_message.proofs.Latest.{octets_same, octets_other}
 
@@ -49,11 +49,11 @@ module _ (before : List Placed) (s : Placed) (number : ℕ) (numbered : section_
     product = product_template s.octets;
     category = number_at s.octets 10 10;
     number = number_at s.octets 11 11;
-    unit = number_at s.octets 18 18;
-    time = number_at s.octets 19 22;
-    surface = number_at s.octets 23 23;
-    scale = number_at s.octets 24 24;
-    value = number_at s.octets 25 28;
+    unit = instant_octets s.octets 18 18;
+    time = instant_octets s.octets 19 22;
+    surface = instant_octets s.octets 23 23;
+    scale = instant_octets s.octets 24 24;
+    value = instant_octets s.octets 25 28;
   }
 
   pub line_fourth : number ≡ 4 → (later : FieldSummary) → later ≡ with_product line → later ≡ summary_in_force d (s ∷ before)
@@ -64,12 +64,12 @@ module _ (before : List Placed) (s : Placed) (number : ℕ) (numbered : section_
       let e5 = stays 5 (λ x. absurd (omega arith)) in
       e ∙ ap with_product is ∙ (λ i. summary_by d (identification_of (e1 i)) (e3 i) (e4 i) (e5 i))
 
-  pub line_fifth : number ≡ 5 → (later : FieldSummary) → later ≡ record line { packing = packing_template s.octets; bits = bit_width s.octets; values = value_count s.octets }
+  pub line_fifth : number ≡ 5 → (later : FieldSummary) → later ≡ record line { packing = packing_template s.octets; bits = bits_of_packing s.octets; values = value_count s.octets }
       → later ≡ summary_in_force d (s ∷ before)
   line_fifth five later e =
       let e1 = stays 1 (λ x. absurd (omega arith)) in
       let e3 = stays 3 (λ x. absurd (omega arith)) in
       let e4 = stays 4 (λ x. absurd (omega arith)) in
       let e5 = new 5 five in
-      e ∙ ap (λ (x : FieldSummary). record x { packing = packing_template s.octets; bits = bit_width s.octets; values = value_count s.octets }) is
+      e ∙ ap (λ (x : FieldSummary). record x { packing = packing_template s.octets; bits = bits_of_packing s.octets; values = value_count s.octets }) is
       ∙ (λ i. summary_by d (identification_of (e1 i)) (e3 i) (e4 i) (e5 i))

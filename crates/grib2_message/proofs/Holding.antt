@@ -7,6 +7,7 @@ use Rattle.grib_bits.specs.Bits.{digit}
 use Rattle.grib_bits.specs.Octets.{num_on, octets}
 use Rattle.grib_bits.proofs.OctetBits.{AreOctets}
 use Rattle.grib_bits.proofs.OctetNumbers.{AreOctets-drop, AreOctets-octet_list}
+use Rattle.grib_base.specs.declared.profile.Profile.{Profile}
 use Rattle.grib_base.specs.Rows.{first_fault, choose}
 use Rattle.grib_bitmap.specs.Mask.{bitmap_indicator, bitmap_rows, mask_of, own_mask}
 use Rattle.grib_packing.specs.Packing.{value_count}
@@ -16,7 +17,7 @@ use Rattle.grib2_message.specs.View.{is_numbered, last_number, octets_in_force, 
 use Rattle.grib2_message.specs.Fields.{sections_from, sections_of, sections_up_to_field, field_sections, field_count, field_mask, part_octets}
 use Rattle.grib2_message.specs.Grammar.{AreSections}
 use Rattle.grib2_message.specs.Kept.{AreSound}
-use Rattle.grib2_message.specs.Message.{IsMessage, FieldPasses}
+use Rattle.grib2_message.specs.Message.{IsMessageUnder, FieldPassesUnder}
 use Rattle.grib2_message.proofs.Latest.{octets_same, octets_other}
 use Rattle.grib2_message.proofs.Masks.{long_alone}
 use Rattle.grib2_message.proofs.Order.{follows_tells}
@@ -31,48 +32,48 @@ use Rattle.grib2_message.proofs.Ways.{up_here, up_more, up_other}
 -- ---- the sections of a field are sound
 
 -- what is in force at the end of a field
-pub record EndsField (before : List Placed) : Type 0 where
-  pub sound : AreSound before
+pub record EndsField (profile : Profile) (before : List Placed) : Type 0 where
+  pub sound : AreSound profile before
   pub ends : last_number before ≡ 7
 
-ends_field : (sections : List (List ℕ)) (before : List Placed) (q i : ℕ) → AreSections before q sections → AreSound before → i < left q sections
-    → EndsField (sections_up_to_field (suc i) before (placed_from q sections))
-ends_field [] before q i follow h within = absurd (omega arith)
-ends_field (s ∷ sections) before q zero follow h within =
+ends_field : (profile : Profile) (sections : List (List ℕ)) (before : List Placed) (q i : ℕ) → AreSections profile before q sections → AreSound profile before → i < left q sections
+    → EndsField profile (sections_up_to_field (suc i) before (placed_from q sections))
+ends_field profile [] before q i follow h within = absurd (omega arith)
+ends_field profile (s ∷ sections) before q zero follow h within =
     let p = placed_at q s in
-    let sound = sound_after p before h (follows_tells (last_number before) (section_number s) follow.0.follows) follow.0.rows_hold in
+    let sound = sound_after profile p before h (follows_tells (last_number before) (section_number s) follow.0.follows) follow.0.rows_hold in
     let rest = placed_from (q + length s) sections in
     elim (cases_eq (section_number s) 7) [
-      | inl seven ↦ subst (λ (xs : List Placed). EndsField xs) (sym (up_here p before rest seven)) (record { sound = sound; ends = seven })
+      | inl seven ↦ subst (λ (xs : List Placed). EndsField profile xs) (sym (up_here p before rest seven)) (record { sound = sound; ends = seven })
       | inr other ↦
-          subst (λ (xs : List Placed). EndsField xs) (sym (up_other p before rest 0 other))
-          (ends_field sections (p ∷ before) (q + length s) 0 follow.1 sound (omega (arith, left_other q s sections other)))
+          subst (λ (xs : List Placed). EndsField profile xs) (sym (up_other p before rest 0 other))
+          (ends_field profile sections (p ∷ before) (q + length s) 0 follow.1 sound (omega (arith, left_other q s sections other)))
     ]
-ends_field (s ∷ sections) before q (suc i) follow h within =
+ends_field profile (s ∷ sections) before q (suc i) follow h within =
     let p = placed_at q s in
-    let sound = sound_after p before h (follows_tells (last_number before) (section_number s) follow.0.follows) follow.0.rows_hold in
+    let sound = sound_after profile p before h (follows_tells (last_number before) (section_number s) follow.0.follows) follow.0.rows_hold in
     let rest = placed_from (q + length s) sections in
     elim (cases_eq (section_number s) 7) [
       | inl seven ↦
-          subst (λ (xs : List Placed). EndsField xs) (sym (up_more p before rest i seven))
-          (ends_field sections (p ∷ before) (q + length s) i follow.1 sound (omega (arith, left_7 q s sections seven)))
+          subst (λ (xs : List Placed). EndsField profile xs) (sym (up_more p before rest i seven))
+          (ends_field profile sections (p ∷ before) (q + length s) i follow.1 sound (omega (arith, left_7 q s sections seven)))
       | inr other ↦
-          subst (λ (xs : List Placed). EndsField xs) (sym (up_other p before rest (suc i) other))
-          (ends_field sections (p ∷ before) (q + length s) (suc i) follow.1 sound (omega (arith, left_other q s sections other)))
+          subst (λ (xs : List Placed). EndsField profile xs) (sym (up_other p before rest (suc i) other))
+          (ends_field profile sections (p ∷ before) (q + length s) (suc i) follow.1 sound (omega (arith, left_other q s sections other)))
     ]
 
-pub field_ends : (m : List ℕ) (i : ℕ) → IsMessage m → 1 ≤ i → i ≤ field_count m → EndsField (field_sections m i)
-field_ends m i h low high =
-    let p = message_parted m h in
+pub field_ends : (profile : Profile) (m : List ℕ) (i : ℕ) → IsMessageUnder profile m → 1 ≤ i → i ≤ field_count m → EndsField profile (field_sections m i)
+field_ends profile m i h low high =
+    let p = message_parted profile m h in
     let at : suc (i - 1) ≡ i = omega arith in
     let many : field_count m ≡ left 17 p.sections = ap (count_by (is_numbered 7)) p.found in
-    subst (λ (n : ℕ). EndsField (sections_up_to_field n [] (sections_of m))) at
-    (subst (λ (xs : List Placed). EndsField (sections_up_to_field (suc (i - 1)) [] xs)) (sym p.found)
-    (ends_field p.sections [] 17 (i - 1) p.follow sound_none (omega arith)))
+    subst (λ (n : ℕ). EndsField profile (sections_up_to_field n [] (sections_of m))) at
+    (subst (λ (xs : List Placed). EndsField profile (sections_up_to_field (suc (i - 1)) [] xs)) (sym p.found)
+    (ends_field profile p.sections [] 17 (i - 1) p.follow (sound_none profile) (omega arith)))
 
-pub field_passes_alone : (m : List ℕ) (i : ℕ) → IsMessage m → 1 ≤ i → i ≤ field_count m → FieldPasses m i
-field_passes_alone m i h low high =
-    let f = field_ends m i h low high in
+pub field_passes_alone : (profile : Profile) (m : List ℕ) (i : ℕ) → IsMessageUnder profile m → 1 ≤ i → i ≤ field_count m → FieldPassesUnder profile m i
+field_passes_alone profile m i h low high =
+    let f = field_ends profile m i h low high in
     record {
       identification = f.sound.identification (omega (arith, f.ends));
       grid = f.sound.grid (omega (arith, f.ends));
@@ -140,9 +141,9 @@ long_mask s points values earlier small none = elim (cases_eq (bitmap_indicator 
   | inr other ↦ long_alone s points values earlier small other none
 ]
 
-pub field_mask_long : (m : List ℕ) (i : ℕ) → IsMessage m → AreOctets m → 1 ≤ i → i ≤ field_count m → length (field_mask m i) ≡ grid_points (part_octets m i 3)
-field_mask_long m i h small low high =
-    let f = field_ends m i h low high in
+pub field_mask_long : (profile : Profile) (m : List ℕ) (i : ℕ) → IsMessageUnder profile m → AreOctets m → 1 ≤ i → i ≤ field_count m → length (field_mask m i) ≡ grid_points (part_octets m i 3)
+field_mask_long profile m i h small low high =
+    let f = field_ends profile m i h low high in
     let before = field_sections m i in
     ap length (f.sound.mask (omega (arith, f.ends)))
     ∙ long_mask (octets_in_force 6 before) (points_in_force before) (value_count (octets_in_force 5 before)) (earlier_mask before)

@@ -4,12 +4,13 @@ use Rattle.std.specs.List.{concat}
 use Rattle.std.proofs.lemmas.Bool.{and_left, and_right, or_from, not_from_true}
 use Rattle.std.proofs.lemmas.List.{take-append-le, drop-append-le}
 use Rattle.grib_bits.specs.Octets.{octets, num_on}
+use Rattle.grib_base.specs.declared.profile.Profile.{Profile}
 use Rattle.grib_base.specs.Rows.{first_fault}
 use Rattle.grib2_sections.specs.Verdict.{Accepted}
 use Rattle.grib2_sections.specs.Head.{total_length, end_mark}
 use Rattle.grib2_sections.specs.Frame.{Placed, placed_at, section_at, section_length, section_number, may_follow, may_end, ends_at, mark_rows, frame_rows}
 use Rattle.grib2_message.specs.View.{last_number}
-use Rattle.grib2_message.specs.Acceptance.{section_fault, verdict_from}
+use Rattle.grib2_message.specs.Acceptance.{section_fault_under, verdict_from}
 use Rattle.grib2_message.specs.Grammar.{IsSection, AreSections}
 use Rattle.grib2_message.proofs.Passed.{AllPass, none_from_passes, mark_ends, mark_goes, unless_none}
 use Rattle.grib2_message.proofs.Parts.{from, four_at, fifth_at, section_is}
@@ -120,30 +121,30 @@ frame_pass m total last q l number states numbered low least room long follows =
 )
 
 -- the walk goes on after a section that no row refuses
-pub goes_on : (turns : ℕ) (m : List ℕ) (before : List Placed) (q : ℕ) → ends_at m q ≡ false
+pub goes_on : (profile : Profile) (turns : ℕ) (m : List ℕ) (before : List Placed) (q : ℕ) → ends_at m q ≡ false
     → AllPass (mark_rows m (total_length m) (last_number before) q) → AllPass (frame_rows m (total_length m) (last_number before) q)
-    → section_fault before (here m q) ≡ None → verdict_from (suc turns) m before q ≡ after_section turns m before q
-goes_on turns m before q goes marks frame contents =
+    → section_fault_under profile before (here m q) ≡ None → verdict_from profile (suc turns) m before q ≡ after_section profile turns m before q
+goes_on profile turns m before q goes marks frame contents =
     let mark = none_from_passes (mark_rows m (total_length m) (last_number before) q) marks in
     let framed = none_from_passes (frame_rows m (total_length m) (last_number before) q) frame in
-    walk_is turns m before q
-    ∙ mark_goes (first_fault (mark_rows m (total_length m) (last_number before) q)) (ends_at m q) (total_length m) (λ _. at_section turns m before q) mark goes
-    ∙ (unless_none (first_fault (frame_rows m (total_length m) (last_number before) q)) (λ _. at_contents turns m before q) framed
-    ∙ unless_none (section_fault before (here m q)) (λ _. after_section turns m before q) contents)
+    walk_is profile turns m before q
+    ∙ mark_goes (first_fault (mark_rows m (total_length m) (last_number before) q)) (ends_at m q) (total_length m) (λ _. at_section profile turns m before q) mark goes
+    ∙ (unless_none (first_fault (frame_rows m (total_length m) (last_number before) q)) (λ _. at_contents profile turns m before q) framed
+    ∙ unless_none (section_fault_under profile before (here m q)) (λ _. after_section profile turns m before q) contents)
 
 -- the walk ends at the end mark
-pub stops : (turns : ℕ) (m : List ℕ) (before : List Placed) (q : ℕ) → ends_at m q ≡ true
-    → AllPass (mark_rows m (total_length m) (last_number before) q) → verdict_from (suc turns) m before q ≡ Accepted (total_length m)
-stops turns m before q ends marks =
-    walk_is turns m before q
-    ∙ mark_ends (first_fault (mark_rows m (total_length m) (last_number before) q)) (ends_at m q) (total_length m) (λ _. at_section turns m before q)
+pub stops : (profile : Profile) (turns : ℕ) (m : List ℕ) (before : List Placed) (q : ℕ) → ends_at m q ≡ true
+    → AllPass (mark_rows m (total_length m) (last_number before) q) → verdict_from profile (suc turns) m before q ≡ Accepted (total_length m)
+stops profile turns m before q ends marks =
+    walk_is profile turns m before q
+    ∙ mark_ends (first_fault (mark_rows m (total_length m) (last_number before) q)) (ends_at m q) (total_length m) (λ _. at_section profile turns m before q)
     (none_from_passes (mark_rows m (total_length m) (last_number before) q) marks) ends
 
 -- the walk over a section, where it stands before others
-steps_over : (turns : ℕ) (m : List ℕ) (before : List Placed) (q : ℕ) (s : List ℕ) (sections : List (List ℕ)) (after : List ℕ)
-    → IsSection before q s → Stand m q (total_length m) (s ∷ sections) after → Begins m q (total_length m) s sections after
-    → verdict_from (suc turns) m before q ≡ verdict_from turns m (placed_at q s ∷ before) (q + length s)
-steps_over turns m before q s sections after is h b =
+steps_over : (profile : Profile) (turns : ℕ) (m : List ℕ) (before : List Placed) (q : ℕ) (s : List ℕ) (sections : List (List ℕ)) (after : List ℕ)
+    → IsSection profile before q s → Stand m q (total_length m) (s ∷ sections) after → Begins m q (total_length m) s sections after
+    → verdict_from profile (suc turns) m before q ≡ verdict_from profile turns m (placed_at q s ∷ before) (q + length s)
+steps_over profile turns m before q s sections after is h b =
     let long : total_length m ≤ length m = long_enough m q (total_length m) (s ∷ sections) after h in
     let least : 5 ≤ length s = is.least in
     let low : 1 ≤ q = h.low in
@@ -151,20 +152,20 @@ steps_over turns m before q s sections after is h b =
     let room : q - 1 + length s + 4 ≤ total_length m = omega (arith, length-append s (concat sections)) in
     let marks = goes_pass m (total_length m) (last_number before) q b.goes (omega arith) long in
     let frame = frame_pass m (total_length m) (last_number before) q (length s) (section_number s) b.states b.numbered low least room long is.follows in
-    let contents : section_fault before (here m q) ≡ None = ap (λ x. section_fault before (placed_at q x)) b.is ∙ is.rows_hold in
-    goes_on turns m before q b.goes marks frame contents
-    ∙ ap (λ x. verdict_from turns m (placed_at q x ∷ before) (q + length x)) b.is
+    let contents : section_fault_under profile before (here m q) ≡ None = ap (λ x. section_fault_under profile before (placed_at q x)) b.is ∙ is.rows_hold in
+    goes_on profile turns m before q b.goes marks frame contents
+    ∙ ap (λ x. verdict_from profile turns m (placed_at q x ∷ before) (q + length x)) b.is
 
 -- sections that stand from octet q on are accepted
-pub rejoined : (sections : List (List ℕ)) (turns : ℕ) (m : List ℕ) (before : List Placed) (q : ℕ) (after : List ℕ)
-    → AreSections before q sections → Stand m q (total_length m) sections after → length (concat sections) < turns
-    → verdict_from turns m before q ≡ Accepted (total_length m)
-rejoined sections zero m before q after follow h more = absurd (omega arith)
-rejoined [] (suc turns) m before q after follow h more =
+pub rejoined : (profile : Profile) (sections : List (List ℕ)) (turns : ℕ) (m : List ℕ) (before : List Placed) (q : ℕ) (after : List ℕ)
+    → AreSections profile before q sections → Stand m q (total_length m) sections after → length (concat sections) < turns
+    → verdict_from profile turns m before q ≡ Accepted (total_length m)
+rejoined profile sections zero m before q after follow h more = absurd (omega arith)
+rejoined profile [] (suc turns) m before q after follow h more =
     let ends = ends_here m q (total_length m) after h in
-    stops turns m before q ends (marks_pass m (total_length m) (last_number before) q ends (omega (arith, h.ends)) (long_enough m q (total_length m) [] after h) follow)
-rejoined (s ∷ sections) (suc turns) m before q after follow h more =
+    stops profile turns m before q ends (marks_pass m (total_length m) (last_number before) q ends (omega (arith, h.ends)) (long_enough m q (total_length m) [] after h) follow)
+rejoined profile (s ∷ sections) (suc turns) m before q after follow h more =
     let is = follow.0 in
     let b = begins m q (total_length m) s sections after is.length_stands is.least h in
-    steps_over turns m before q s sections after is h b
-    ∙ rejoined sections turns m (placed_at q s ∷ before) (q + length s) after follow.1 b.more (omega (arith, is.least, length-append s (concat sections)))
+    steps_over profile turns m before q s sections after is h b
+    ∙ rejoined profile sections turns m (placed_at q s ∷ before) (q + length s) after follow.1 b.more (omega (arith, is.least, length-append s (concat sections)))

@@ -6,8 +6,8 @@ use Rattle.grib2_sections.specs.Frame.{Placed, placed_at, section_at, section_nu
 use Rattle.grib2_sections.proofs.Frames.{states_itself}
 use Rattle.grib_base.specs.Rows.{choose}
 use Rattle.grib_bitmap.specs.Mask.{bitmap_indicator}
-use Rattle.grib_packings.specs.Field.{Represents}
-use Rattle.grib_packings.specs.declared.representation.Representation.{Representation}
+use Rattle.grib_packings.specs.Field.{IsDataOf}
+use Rattle.grib_packings.specs.declared.data_representation.DataRepresentation.{DataRepresentation}
 use Rattle.grib2_message.specs.View.{last_number, section_in_force, octets_in_force, earlier_bitmap, first_octets, first_start, own_bitmap, own_bitmap_start}
 use Rattle.grib2_message.specs.Kept.{StandsAt, ArePlaced, start_in_force, KeepsRepresentation, HasInForce, HasPlaces}
 use Rattle.grib2_message.specs.declared.in_force.InForce.{InForce}
@@ -91,17 +91,17 @@ none_in_force m before places number h low none =
 
 -- ---- what the Section 5 in force says
 
-read_of : (o : Option Representation) (p : Option Placed) (representation : Representation) → KeepsRepresentation o p → o ≡ Some representation
-    → Represents representation (option_map_or (λ s. s.octets) p [])
+read_of : (o : Option DataRepresentation) (p : Option Placed) (representation : DataRepresentation) → KeepsRepresentation o p → o ≡ Some representation
+    → IsDataOf representation (option_map_or (λ s. s.octets) p [])
 read_of None p representation kept is = cc
 read_of (Some x) None representation kept is = absurd kept
-read_of (Some x) (Some s) representation kept is = (let e : x ≡ representation = cc in subst (λ (y : Representation). Represents y s.octets) e kept)
+read_of (Some x) (Some s) representation kept is = (let e : x ≡ representation = cc in subst (λ (y : DataRepresentation). IsDataOf y s.octets) e kept)
 
-pub represents : (before : List Placed) (force : InForce) (representation : Representation) → HasInForce before force
-    → force.representation ≡ Some representation → Represents representation (octets_in_force 5 before)
+pub represents : (before : List Placed) (force : InForce) (representation : DataRepresentation) → HasInForce before force
+    → force.representation ≡ Some representation → IsDataOf representation (octets_in_force 5 before)
 represents before force representation h is = read_of force.representation (section_in_force 5 before) representation h.representation is
 
-none_read : (o : Option Representation) (p : Option Placed) → KeepsRepresentation o p → IsSome p → o ≡ None → ⊥
+none_read : (o : Option DataRepresentation) (p : Option Placed) → KeepsRepresentation o p → IsSome p → o ≡ None → ⊥
 none_read None None kept some is = cc
 none_read None (Some s) kept some is = kept
 none_read (Some x) p kept some is = cc

@@ -8,8 +8,8 @@ pub mod Fronts
 pub mod Holding
 pub mod Latest
 pub mod Joined
-pub mod Lengths
 pub mod Masks
+pub mod Opened
 pub mod Order
 pub mod Parted
 pub mod Parts

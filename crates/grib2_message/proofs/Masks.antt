@@ -4,8 +4,11 @@ use Rattle.std.proofs.lemmas.Bool.{not-false, cases_eq, or_parts, eqb-false}
 use Rattle.std.proofs.lemmas.List.{length-replicate}
 use Rattle.grib_bits.specs.Bits.{bits}
 use Rattle.grib_bits.proofs.OctetBits.{length-bits}
+use Rattle.grib_base.specs.declared.profile.Profile.{Profile}
 use Rattle.grib_base.specs.Rows.{first_fault}
-use Rattle.grib2_grids.specs.Grid.{grid_rows, grid_points}
+use Rattle.grib2_grids.specs.Grid.{grid_points}
+use Rattle.grib2_grids.specs.Opaque.{grid_rows_under}
+use Rattle.grib2_grids.proofs.Under.{grid_point_bounds}
 use Rattle.grib_bitmap.specs.Mask.{bitmap_indicator, bitmap_rows, mask_of, own_mask, present_count}
 use Rattle.grib_packing.specs.declared.column.Point.{Point}
 use Rattle.grib_packing.specs.Column.{points_with_mask}
@@ -143,12 +146,8 @@ module _ (m : List ℕ) (before : List Placed) (places : Places) (h : IsField m 
       (ap length force ∙ size)
 
 -- the number of points of a grid that is accepted
-pub points_bounds : (s : List ℕ) → first_fault (grid_rows s) ≡ None → (1 ≤ grid_points s) × (grid_points s ≤ 33554432)
-points_bounds s none =
-    let p = passes_from_none (grid_rows s) none in
-    let both = or_parts (grid_points s == 0) (nat_lt 33554432 (grid_points s)) p.1.1.1.1.0 in
-    let some : grid_points s ≢ 0 = eqb-false (grid_points s) 0 both.0 in
-    (omega arith, ltb-false 33554432 (grid_points s) both.1)
+pub points_bounds : (profile : Profile) (s : List ℕ) → first_fault (grid_rows_under profile s) ≡ None → (1 ≤ grid_points s) × (grid_points s ≤ 33554432)
+points_bounds profile s none = grid_point_bounds profile s none
 
 -- a column has a point for each bit of its mask
 pub points_of_mask : (presence : List Bool) (entries : List Point) → length (points_with_mask presence entries) ≡ length presence

@@ -2,15 +2,16 @@
 use Rattle.std.proofs.Common.{◌≡◌, ◌≢◌, ℕ, zero, suc, ◌+◌, ◌≤◌, false, List, [], ◌∷◌, ◌++◌, length, take, inl, inr, sym, ap, ◌∙◌, arith, append_assoc, length-append, take_at}
 use Rattle.std.proofs.lemmas.List.{take-append-le}
 use Rattle.std.specs.List.{concat}
+use Rattle.grib_base.specs.declared.profile.Profile.{Profile}
 use Rattle.grib_base.specs.Rows.{first_fault}
 use Rattle.grib2_sections.specs.Verdict.{Accepted}
 use Rattle.grib2_sections.specs.Head.{indicator, end_mark, edition, total_length, head_rows}
 use Rattle.grib2_sections.specs.Frame.{Placed, section_at, ends_at}
 use Rattle.grib2_message.specs.View.{last_number}
 use Rattle.grib2_message.specs.Acceptance.{verdict_from}
-use Rattle.grib2_message.specs.Grammar.{AreSections, Grammar2}
+use Rattle.grib2_message.specs.Grammar.{AreSections, GrammarUnder}
 use Rattle.grib2_message.specs.Fields.{sections_from}
-use Rattle.grib2_message.specs.Message.{IsMessage}
+use Rattle.grib2_message.specs.Message.{IsMessageUnder}
 use Rattle.grib2_message.proofs.Passed.{passes_from_none, unless_tells}
 use Rattle.grib2_message.proofs.Steps.{here, step_tells}
 use Rattle.grib2_message.proofs.Walk.{mark_passes, frame_passes, stands}
@@ -19,16 +20,16 @@ use Rattle.grib2_message.proofs.Fronts.{accepted_states}
 use Rattle.grib2_message.proofs.Whole.{octets_before, head_passes}
 
 -- the sections that stand from octet q on
-pub record Parted (m : List ℕ) (before : List Placed) (q turns : ℕ) : Type 0 where
+pub record Parted (profile : Profile) (m : List ℕ) (before : List Placed) (q turns : ℕ) : Type 0 where
   pub sections : List (List ℕ)
-  pub follow : AreSections before q sections
+  pub follow : AreSections profile before q sections
   pub found : sections_from turns m q ≡ placed_from q sections
   pub ends : q + length (concat sections) + 3 ≡ total_length m
 
 -- a section before those that were found
-parted_more : (m : List ℕ) (before : List Placed) (q turns : ℕ) → ends_at m q ≡ false → (f : Parted m (here m q ∷ before) (q + length (section_at m q)) turns)
-    → AreSections before q (section_at m q ∷ f.sections) → Parted m before q (suc turns)
-parted_more m before q turns goes f follow = record {
+parted_more : (profile : Profile) (m : List ℕ) (before : List Placed) (q turns : ℕ) → ends_at m q ≡ false → (f : Parted profile m (here m q ∷ before) (q + length (section_at m q)) turns)
+    → AreSections profile before q (section_at m q ∷ f.sections) → Parted profile m before q (suc turns)
+parted_more profile m before q turns goes f follow = record {
   sections = section_at m q ∷ f.sections;
   follow = follow;
   found = some_found (ends_at m q) (λ _. here m q ∷ sections_from turns m (q + length (section_at m q))) goes ∙ ap (λ xs. here m q ∷ xs) f.found;
@@ -36,12 +37,12 @@ parted_more m before q turns goes f follow = record {
 }
 
 -- the walk that accepts finds them
-pub parted : (turns more : ℕ) (m : List ℕ) (before : List Placed) (q total : ℕ) → verdict_from turns m before q ≡ Accepted total → 1 ≤ q
-    → q + 3 ≤ total_length m → total_length m ≤ q + more → Parted m before q more
-parted zero more m before q total e low room enough = cc
-parted (suc turns) zero m before q total e low room enough = absurd (omega arith)
-parted (suc turns) (suc more) m before q total e low room enough =
-    let told = step_tells turns m before q total e in
+pub parted : (profile : Profile) (turns more : ℕ) (m : List ℕ) (before : List Placed) (q total : ℕ) → verdict_from profile turns m before q ≡ Accepted total → 1 ≤ q
+    → q + 3 ≤ total_length m → total_length m ≤ q + more → Parted profile m before q more
+parted profile zero more m before q total e low room enough = cc
+parted profile (suc turns) zero m before q total e low room enough = absurd (omega arith)
+parted profile (suc turns) (suc more) m before q total e low room enough =
+    let told = step_tells profile turns m before q total e in
     let mark = mark_passes m (total_length m) (last_number before) q told.0 in
     elim told.1 [
       | inl ended ↦ record {
@@ -52,25 +53,25 @@ parted (suc turns) (suc more) m before q total e low room enough =
       }
       | inr went ↦
           let frame = frame_passes m (total_length m) (last_number before) q went.frame in
-          let s = stands m before q (total_length m) low frame went.contents in
-          let f = parted turns more m (here m q ∷ before) (q + length (section_at m q)) total went.next (omega arith)
+          let s = stands profile m before q (total_length m) low frame went.contents in
+          let f = parted profile turns more m (here m q ∷ before) (q + length (section_at m q)) total went.next (omega arith)
           (omega (arith, s.as_long, frame.room)) (omega (arith, s.as_long, frame.least)) in
-          parted_more m before q more went.goes f (s.is_section, f.follow)
+          parted_more profile m before q more went.goes f (s.is_section, f.follow)
     ]
 
 -- the edition of a message is not 1
-pub second_edition : (m : List ℕ) → IsMessage m → edition m ≢ 1
-second_edition m h first = absurd (omega (arith, h.edition_stands))
+pub second_edition : (profile : Profile) (m : List ℕ) → IsMessageUnder profile m → edition m ≢ 1
+second_edition profile m h first = absurd (omega (arith, h.edition_stands))
 
-pub message_states : (m : List ℕ) → IsMessage m → total_length m ≡ length m
-message_states m h = accepted_states m (length m) (second_edition m h) h.accepted
+pub message_states : (profile : Profile) (m : List ℕ) → IsMessageUnder profile m → total_length m ≡ length m
+message_states profile m h = accepted_states profile m (length m) (second_edition profile m h) h.accepted
 
 -- the sections of a message
-pub message_parted : (m : List ℕ) → IsMessage m → Parted m [] 17 (length m)
-message_parted m h =
-    let told = unless_tells (first_fault (head_rows m)) (λ _. verdict_from (length m + 1) m [] 17) (length m) h.accepted in
-    let p = head_passes m (second_edition m h) (passes_from_none (head_rows m) told.0) in
-    parted (length m + 1) (length m) m [] 17 (length m) told.1 (omega arith) (omega (arith, p.least)) (omega (arith, message_states m h))
+pub message_parted : (profile : Profile) (m : List ℕ) → IsMessageUnder profile m → Parted profile m [] 17 (length m)
+message_parted profile m h =
+    let told = unless_tells (first_fault (head_rows m)) (λ _. verdict_from profile (length m + 1) m [] 17) (length m) h.accepted in
+    let p = head_passes m (second_edition profile m h) (passes_from_none (head_rows m) told.0) in
+    parted profile (length m + 1) (length m) m [] 17 (length m) told.1 (omega arith) (omega (arith, p.least)) (omega (arith, message_states profile m h))
 
 -- sixteen octets that may be Section 0 of a message of this length
 pub record IsHead (head : List ℕ) (total : ℕ) : Type 0 where
@@ -80,16 +81,16 @@ pub record IsHead (head : List ℕ) (total : ℕ) : Type 0 where
   pub total_stands : total_length head ≡ total
 
 -- it has 20 octets at least
-pub message_least : (m : List ℕ) → IsMessage m → 20 ≤ length m
-message_least m h =
-    let told = unless_tells (first_fault (head_rows m)) (λ _. verdict_from (length m + 1) m [] 17) (length m) h.accepted in
-    let p = head_passes m (second_edition m h) (passes_from_none (head_rows m) told.0) in
-    omega (arith, p.least, message_states m h)
+pub message_least : (profile : Profile) (m : List ℕ) → IsMessageUnder profile m → 20 ≤ length m
+message_least profile m h =
+    let told = unless_tells (first_fault (head_rows m)) (λ _. verdict_from profile (length m + 1) m [] 17) (length m) h.accepted in
+    let p = head_passes m (second_edition profile m h) (passes_from_none (head_rows m) told.0) in
+    omega (arith, p.least, message_states profile m h)
 
 -- Section 0, sections that may follow one another, and the end mark are in the grammar
-pub joined_grammar : (head : List ℕ) (sections : List (List ℕ)) → IsHead head (16 + length (concat sections) + 4) → 16 + length (concat sections) + 4 ≤ 268435456
-    → AreSections [] 17 sections → Grammar2 (head ++ (concat sections ++ end_mark)) sections
-joined_grammar head sections h most follow =
+pub joined_grammar : (profile : Profile) (head : List ℕ) (sections : List (List ℕ)) → IsHead head (16 + length (concat sections) + 4) → 16 + length (concat sections) + 4 ≤ 268435456
+    → AreSections profile [] 17 sections → GrammarUnder profile (head ++ (concat sections ++ end_mark)) sections
+joined_grammar profile head sections h most follow =
     let body : List ℕ = concat sections in
     let m : List ℕ = head ++ (body ++ end_mark) in
     let sixteen : length head ≡ 16 = h.as_long in
@@ -106,8 +107,8 @@ joined_grammar head sections h most follow =
     }
 
 -- and 268,435,456 at most
-pub message_most : (m : List ℕ) → IsMessage m → length m ≤ 268435456
-message_most m h =
-    let told = unless_tells (first_fault (head_rows m)) (λ _. verdict_from (length m + 1) m [] 17) (length m) h.accepted in
-    let p = head_passes m (second_edition m h) (passes_from_none (head_rows m) told.0) in
-    omega (arith, p.most, message_states m h)
+pub message_most : (profile : Profile) (m : List ℕ) → IsMessageUnder profile m → length m ≤ 268435456
+message_most profile m h =
+    let told = unless_tells (first_fault (head_rows m)) (λ _. verdict_from profile (length m + 1) m [] 17) (length m) h.accepted in
+    let p = head_passes m (second_edition profile m h) (passes_from_none (head_rows m) told.0) in
+    omega (arith, p.most, message_states profile m h)

@@ -1,6 +1,7 @@
 -- The sections that are found in a message are those that it is joined of.
 use Rattle.std.proofs.Common.{◌≡◌, ℕ, zero, suc, ◌+◌, ◌<◌, Bool, true, false, List, [], ◌∷◌, length, map, refl, ap, ◌∙◌, arith, length-append}
 use Rattle.std.specs.List.{concat}
+use Rattle.grib_base.specs.declared.profile.Profile.{Profile}
 use Rattle.grib_base.specs.Rows.{choose}
 use Rattle.grib2_sections.specs.Frame.{Placed, placed_at, section_at, ends_at}
 use Rattle.grib2_message.specs.Grammar.{AreSections}
@@ -30,16 +31,16 @@ abbrev found_after : ℕ → List ℕ → ℕ → List ℕ → List Placed
 found_after turns m q s = placed_at q s ∷ sections_from turns m (q + length s)
 
 -- what is found from octet q on
-pub found_from : (sections : List (List ℕ)) (turns : ℕ) (m : List ℕ) (before : List Placed) (q total : ℕ) (after : List ℕ)
-    → AreSections before q sections → Stand m q total sections after → length (concat sections) < turns
+pub found_from : (profile : Profile) (sections : List (List ℕ)) (turns : ℕ) (m : List ℕ) (before : List Placed) (q total : ℕ) (after : List ℕ)
+    → AreSections profile before q sections → Stand m q total sections after → length (concat sections) < turns
     → sections_from turns m q ≡ placed_from q sections
-found_from sections zero m before q total after follow h more = absurd (omega arith)
-found_from [] (suc turns) m before q total after follow h more =
+found_from profile sections zero m before q total after follow h more = absurd (omega arith)
+found_from profile [] (suc turns) m before q total after follow h more =
     none_found (ends_at m q) (λ _. found_after turns m q (section_at m q)) (ends_here m q total after h)
-found_from (s ∷ sections) (suc turns) m before q total after follow h more =
+found_from profile (s ∷ sections) (suc turns) m before q total after follow h more =
     let is = follow.0 in
     let b = begins m q total s sections after is.length_stands is.least h in
     some_found (ends_at m q) (λ _. found_after turns m q (section_at m q)) b.goes
     ∙ (ap (found_after turns m q) b.is
     ∙ ap (λ found. placed_at q s ∷ found)
-    (found_from sections turns m (placed_at q s ∷ before) (q + length s) total after follow.1 b.more (omega (arith, is.least, length-append s (concat sections)))))
+    (found_from profile sections turns m (placed_at q s ∷ before) (q + length s) total after follow.1 b.more (omega (arith, is.least, length-append s (concat sections)))))

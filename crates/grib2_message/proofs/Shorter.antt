@@ -5,15 +5,18 @@ use Rattle.std.proofs.lemmas.Bool.{cases_lt}
 use Rattle.std.proofs.lemmas.Option.{slice_get_within, get_or_from_slice_get, slice_get-get_or}
 use Rattle.std.proofs.Math.ListN.{get_or-append}
 use Rattle.std.proofs.Math.Seq.{get_or-append_seam}
+use Rattle.grib_base.specs.declared.profile.Profile.{Profile}
+use Rattle.grib_base.specs.declared.profile.Profile.TheVariants.{Stated}
+use Rattle.grib_packing.proofs.OpaquePackings.{accepted_known}
 use Rattle.grib_bits.specs.Octets.{octets}
 use Rattle.grib2_sections.specs.Verdict.{Accepted}
 use Rattle.grib2_sections.specs.Head.{indicator, edition, total_length}
 use Rattle.grib2_sections.specs.Frame.{Placed, section_at}
 use Rattle.grib2_message.specs.View.{is_numbered}
-use Rattle.grib2_message.specs.Acceptance.{verdict_2}
+use Rattle.grib2_message.specs.Acceptance.{verdict_under}
 use Rattle.grib2_message.specs.Fields.{sections_of, field_count, field_sections, sections_up_to_field}
-use Rattle.grib2_message.specs.Message.{FieldPasses}
-use Rattle.grib2_message.specs.Kept.{StandsAt, ArePlaced, HasPlaces, IsField, KeepsFields, Keeps}
+use Rattle.grib2_message.specs.Message.{FieldPassesUnder}
+use Rattle.grib2_message.specs.Kept.{AreSound, StandsAt, ArePlaced, HasPlaces, IsField, IsRead, KeepsFields, Keeps}
 use Rattle.grib2_message.specs.declared.places.Places.{Places}
 use Rattle.grib2_message.proofs.Fronts.{accepted_states, accepted_least, accepted_alone}
 use Rattle.grib2_message.proofs.Stays.{IsFront, front_of, same_octets, same_section}
@@ -21,8 +24,9 @@ use Rattle.grib2_message.proofs.Whole.{accepted_in_grammar, sections_placed, sec
 
 -- ---- one more field
 
-pub keeps_push : (m : List ℕ) (fields : List Places) (p : Places) → KeepsFields m fields → IsField m (field_sections m (length fields + 1)) p → KeepsFields m (fields ++ p ∷ [])
-keeps_push m fields p each last i q e =
+pub keeps_push : (profile : Profile) (m : List ℕ) (fields : List Places) (p : Places) → KeepsFields profile m fields → IsField m (field_sections m (length fields + 1)) p → p.force.profile ≡ profile
+    → KeepsFields profile m (fields ++ p ∷ [])
+keeps_push profile m fields p each last under i q e =
     let within = slice_get_within (fields ++ p ∷ []) i q e in
     let read = get_or_from_slice_get (fields ++ p ∷ []) i q q e in
     elim (cases_lt i (length fields)) [
@@ -30,8 +34,8 @@ keeps_push m fields p each last i q e =
       | inr high ↦
           let at : i ≡ length fields = omega (arith, length-append fields (p ∷ [])) in
           let same : p ≡ q = sym (get_or-append_seam fields p [] q) ∙ ap (λ (k : ℕ). get_or (fields ++ p ∷ []) k q) (sym at) ∙ read in
-          subst (λ (x : Places). IsField m (field_sections m (i + 1)) x) same
-          (subst (λ (k : ℕ). IsField m (field_sections m (k + 1)) p) (sym at) last)
+          subst (λ (x : Places). IsField m (field_sections m (i + 1)) x × (x.force.profile ≡ profile)) same
+          (subst (λ (k : ℕ). IsField m (field_sections m (k + 1)) p) (sym at) last, under)
     ]
 
 -- ---- the message alone
@@ -77,51 +81,66 @@ module _ (u m : List ℕ) (total : ℕ) (front : IsFront u m) (long : length u �
   field_alone before places h = record { stand = places_alone before places h.stand; ends = h.ends }
 
 -- what is kept of the octets that begin with an accepted message is kept of the message
-pub keeps_message : (m : List ℕ) (total : ℕ) (fields : List Places) → All (λ octet. octet < 256) (take total m) → take 4 m ≡ indicator → edition m ≡ 2
-    → verdict_2 m ≡ Accepted total → length fields ≡ field_count m → length fields ≤ 4096 → 1 ≤ length fields → KeepsFields m fields
-    → Keeps (take total m) fields
-keeps_message m total fields small indicated second accepted count few some each =
+pub keeps_message : (profile : Profile) (m : List ℕ) (total : ℕ) (fields : List Places) → All (λ octet. octet < 256) (take total m) → take 4 m ≡ indicator → edition m ≡ 2
+    → verdict_under profile m ≡ Accepted total → length fields ≡ field_count m → length fields ≤ 4096 → 1 ≤ length fields → KeepsFields profile m fields
+    → Keeps profile (take total m) fields
+keeps_message profile m total fields small indicated second accepted count few some each =
     let other : edition m ≢ 1 = λ first. absurd (omega arith) in
-    let found = accepted_in_grammar m total small indicated other accepted in
+    let found = accepted_in_grammar profile m total small indicated other accepted in
     let u = take total m in
     let after = drop total m in
     let g = found.2 in
     let long : length u ≡ total = length-take-le total m found.1 in
-    let least = accepted_least m total other accepted in
+    let least = accepted_least profile m total other accepted in
     let same : sections_of m ≡ sections_of u =
-    ap sections_of (sym (take-append-drop total m)) ∙ (sections_placed u after found.0 g ∙ sym (sections_alone u found.0 g)) in
+    ap sections_of (sym (take-append-drop total m)) ∙ (sections_placed profile u after found.0 g ∙ sym (sections_alone profile u found.0 g)) in
     record {
       accepted = record {
         indicated = take-take 4 total m (omega arith) ∙ indicated;
         edition_stands = g.edition_stands;
-        accepted = accepted_alone m total other accepted ∙ ap Accepted (sym long);
+        accepted = accepted_alone profile m total other accepted ∙ ap Accepted (sym long);
       };
       count = count ∙ ap (count_by (is_numbered 7)) same;
       few = few;
       some = some;
       each = λ i places e.
-          let kept = each i places e in
-          field_alone u m total (front_of m total found.1) long least (accepted_states m total other accepted) (field_sections u (i + 1)) places
-          (subst (λ (x : List Placed). IsField m (sections_up_to_field (i + 1) [] x) places) same kept);
+          let kept = each i places e in (
+            field_alone u m total (front_of m total found.1) long least (accepted_states profile m total other accepted) (field_sections u (i + 1)) places
+                (subst (λ (x : List Placed). IsField m (sections_up_to_field (i + 1) [] x) places) same kept.0),
+            kept.1,
+          );
     }
 
--- what is kept of a field
-pub field_kept : (m : List ℕ) (fields : List Places) → Keeps m fields → (i : ℕ) → 1 ≤ i → i ≤ field_count m → (places : Places) → places ≡ get_or fields (i - 1) places
-    → IsField m (field_sections m i) places
-field_kept m fields h i low high places is =
-    let within : i - 1 < length fields = omega (arith, h.count) in
-    let at : i - 1 + 1 ≡ i = omega arith in
-    subst (λ (k : ℕ). IsField m (field_sections m k) places) at
-    (h.each (i - 1) places (slice_get-get_or fields (i - 1) places within ∙ ap Some (sym is)))
+-- what is kept of a field, and of its sections
+module _ (profile : Profile) (m : List ℕ) (fields : List Places) (h : Keeps profile m fields) (i : ℕ) (low : 1 ≤ i) (high : i ≤ field_count m)
+    (places : Places) (is : places ≡ get_or fields (i - 1) places) where
+  field_at : IsField m (field_sections m i) places × (places.force.profile ≡ profile)
+  field_at =
+      let within : i - 1 < length fields = omega (arith, h.count) in
+      let at : i - 1 + 1 ≡ i = omega arith in
+      subst (λ (k : ℕ). IsField m (field_sections m k) places × (places.force.profile ≡ profile)) at
+      (h.each (i - 1) places (slice_get-get_or fields (i - 1) places within ∙ ap Some (sym is)))
 
--- its sections pass
-pub field_passes : (m : List ℕ) (i : ℕ) (places : Places) → IsField m (field_sections m i) places → FieldPasses m i
-field_passes m i places h =
-    let sound = h.stand.force.sound in
-    record {
-      identification = sound.identification (omega (arith, h.ends));
-      grid = sound.grid (omega (arith, h.ends));
-      product = sound.product (omega (arith, h.ends));
-      packing = sound.packing (omega (arith, h.ends));
-      values = sound.values (omega (arith, h.ends));
-    }
+  pub field_kept : IsField m (field_sections m i) places
+  field_kept = field_at.0
+
+  -- no row refuses the sections in force for it
+  pub field_sound : AreSound profile (field_sections m i)
+  field_sound = subst (λ (p : Profile). AreSound p (field_sections m i)) field_at.1 field_at.0.stand.force.sound
+
+  pub field_passes : FieldPassesUnder profile m i
+  field_passes =
+      let ends = field_at.0.ends in
+      let sound = field_sound in
+      record {
+        identification = sound.identification (omega (arith, ends));
+        grid = sound.grid (omega (arith, ends));
+        product = sound.product (omega (arith, ends));
+        packing = sound.packing (omega (arith, ends));
+        values = sound.values (omega (arith, ends));
+      }
+
+-- under the profile of the stated templates its values can be read
+pub field_read : (m : List ℕ) (fields : List Places) (h : Keeps Stated m fields) (i : ℕ) (low : 1 ≤ i) (high : i ≤ field_count m) (places : Places)
+    (is : places ≡ get_or fields (i - 1) places) → IsRead (field_sections m i)
+field_read m fields h i low high places is = accepted_known _ _ (field_passes Stated m fields h i low high places is).packing

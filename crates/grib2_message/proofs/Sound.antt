@@ -2,17 +2,20 @@
 use Rattle.std.proofs.Common.{◌≡◌, ◌≢◌, ℕ, ◌+◌, ◌≤◌, Bool, cond, ◌&&◌, Option, Some, None, is_some, IsSome, List, [], ◌∷◌, get_or, ◌==◌, inl, inr, refl, sym, ap, ap₂, ◌∙◌, arith, zero-add, eq-eqb, ne_eqb}
 use Rattle.std.proofs.lemmas.Bool.{cases_eq, eqb-false}
 use Rattle.std.proofs.lemmas.List.Sums.{sum_by-cons}
+use Rattle.grib_base.specs.declared.profile.Profile.{Profile}
 use Rattle.grib_base.specs.declared.fault.Fault.{Fault}
 use Rattle.grib_base.specs.Rows.{first_fault, located, choose}
 use Rattle.grib2_sections.specs.Frame.{Placed, section_number}
 use Rattle.grib2_sections.specs.Identification.{identification_rows}
-use Rattle.grib2_grids.specs.Grid.{grid_rows, grid_points}
-use Rattle.grib2_products.specs.Product.{product_rows}
+use Rattle.grib2_grids.specs.Grid.{grid_points}
+use Rattle.grib2_grids.specs.Opaque.{grid_rows_under}
+use Rattle.grib2_products.specs.Opaque.{product_rows_under}
+use Rattle.grib2_products.proofs.Under.{product_first, product_few}
 use Rattle.grib_bitmap.specs.Mask.{bitmap_indicator, bitmap_rows, mask_of, own_mask}
 use Rattle.grib_packing.specs.Packing.{value_count}
-use Rattle.grib_packing.specs.Entries.{packing_fault, data_fault}
+use Rattle.grib_packing.specs.Entries.{packing_fault_under, data_fault}
 use Rattle.grib2_message.specs.View.{is_numbered, last_number, section_in_force, octets_in_force, points_in_force, earlier_bitmap, bitmap_mask, earlier_mask, mask_in_force, section_count}
-use Rattle.grib2_message.specs.Acceptance.{no_rows, section_fault, contents_faults}
+use Rattle.grib2_message.specs.Acceptance.{no_rows, section_fault_under, contents_faults}
 use Rattle.grib2_message.specs.Kept.{AreSound, begun}
 use Rattle.grib2_message.proofs.Passed.{passes_from_none, none_from_passes}
 use Rattle.grib2_message.proofs.Latest.{in_force_same, in_force_other, octets_same, octets_other}
@@ -24,8 +27,8 @@ none_located start None none = refl
 none_located start (Some f) none = absurd (cc)
 
 -- the refusal of a section by its number
-pub fault_of : (before : List Placed) (s : Placed) (n : ℕ) → section_number s.octets ≡ n → section_fault before s ≡ get_or contents_faults n no_rows before s
-fault_of before s n e = ap (λ (k : ℕ). get_or contents_faults k no_rows before s) e
+pub fault_of : (profile : Profile) (before : List Placed) (s : Placed) (n : ℕ) → section_number s.octets ≡ n → section_fault_under profile before s ≡ get_or (contents_faults profile) n no_rows before s
+fault_of profile before s n e = ap (λ (k : ℕ). get_or (contents_faults profile) k no_rows before s) e
 
 module _ (s : Placed) (before : List Placed) where
   -- the earlier bitmap after one more section
@@ -83,18 +86,12 @@ module _ (s : Placed) (before : List Placed) where
       ∙ ap (λ (b : Bool). cond b 1 0 + section_count k before) (ne_eqb (section_number s.octets) k ne)
       ∙ zero-add (section_count k before)
 
--- a product that is accepted anywhere would be the first of its message
-as_first : (s : List ℕ) (n : ℕ) → first_fault (product_rows s n) ≡ None → first_fault (product_rows s 1) ≡ None
-as_first s n none =
-    let p = passes_from_none (product_rows s n) none in
-    none_from_passes (product_rows s 1) (p.0, (refl, p.1.1))
-
 -- ---- the parts
 
-module _ (s : Placed) (before : List Placed) (h : AreSound before) (f : Follows (last_number before) (section_number s.octets)) (accepted : section_fault before s ≡ None) where
+module _ (profile : Profile) (s : Placed) (before : List Placed) (h : AreSound profile before) (f : Follows (last_number before) (section_number s.octets)) (accepted : section_fault_under profile before s ≡ None) where
   -- the refusal by its number, which is none
-  accepted_as : (n : ℕ) → section_number s.octets ≡ n → get_or contents_faults n no_rows before s ≡ None
-  accepted_as n e = sym (fault_of before s n e) ∙ accepted
+  accepted_as : (n : ℕ) → section_number s.octets ≡ n → get_or (contents_faults profile) n no_rows before s ≡ None
+  accepted_as n e = sym (fault_of profile before s n e) ∙ accepted
 
   below : (k : ℕ) → 1 ≤ k → k ≤ section_number s.octets → k ≢ 2 → section_number s.octets ≢ k → k ≤ last_number before
   below k low high two other =
@@ -110,13 +107,13 @@ module _ (s : Placed) (before : List Placed) (h : AreSound before) (f : Follows 
     | inr other ↦ ap is_some (in_force_other s before k other) ∙ h.present k low (below k low high two other) two
   ]
 
-  grid_after : 3 ≤ section_number s.octets → first_fault (grid_rows (octets_in_force 3 (s ∷ before))) ≡ None
+  grid_after : 3 ≤ section_number s.octets → first_fault (grid_rows_under profile (octets_in_force 3 (s ∷ before))) ≡ None
   grid_after high = elim (cases_eq (section_number s.octets) 3) [
     | inl same ↦
-        ap (λ (x : List ℕ). first_fault (grid_rows x)) (octets_same s before 3 same)
-        ∙ none_located s.start (first_fault (grid_rows s.octets)) (accepted_as 3 same)
+        ap (λ (x : List ℕ). first_fault (grid_rows_under profile x)) (octets_same s before 3 same)
+        ∙ none_located s.start (first_fault (grid_rows_under profile s.octets)) (accepted_as 3 same)
     | inr other ↦
-        ap (λ (x : List ℕ). first_fault (grid_rows x)) (octets_other s before 3 other)
+        ap (λ (x : List ℕ). first_fault (grid_rows_under profile x)) (octets_other s before 3 other)
         ∙ h.grid (below 3 (omega arith) high (λ same. absurd (omega arith)) other)
   ]
 
@@ -130,26 +127,26 @@ module _ (s : Placed) (before : List Placed) (h : AreSound before) (f : Follows 
         ∙ h.identification (below 1 (omega arith) high (λ same. absurd (omega arith)) other)
   ]
 
-  product_after : 4 ≤ section_number s.octets → first_fault (product_rows (octets_in_force 4 (s ∷ before)) 1) ≡ None
+  product_after : 4 ≤ section_number s.octets → first_fault (product_rows_under profile (octets_in_force 4 (s ∷ before)) 1) ≡ None
   product_after high = elim (cases_eq (section_number s.octets) 4) [
     | inl same ↦
-        ap (λ (x : List ℕ). first_fault (product_rows x 1)) (octets_same s before 4 same)
-        ∙ as_first s.octets (section_count 4 before + 1)
-        (none_located s.start (first_fault (product_rows s.octets (section_count 4 before + 1))) (accepted_as 4 same))
+        ap (λ (x : List ℕ). first_fault (product_rows_under profile x 1)) (octets_same s before 4 same)
+        ∙ product_first profile s.octets (section_count 4 before + 1)
+        (none_located s.start (first_fault (product_rows_under profile s.octets (section_count 4 before + 1))) (accepted_as 4 same))
     | inr other ↦
-        ap (λ (x : List ℕ). first_fault (product_rows x 1)) (octets_other s before 4 other)
+        ap (λ (x : List ℕ). first_fault (product_rows_under profile x 1)) (octets_other s before 4 other)
         ∙ h.product (below 4 (omega arith) high (λ same. absurd (omega arith)) other)
   ]
 
-  packing_after : 5 ≤ section_number s.octets → packing_fault (octets_in_force 5 (s ∷ before)) (points_in_force (s ∷ before)) ≡ None
+  packing_after : 5 ≤ section_number s.octets → packing_fault_under profile (octets_in_force 5 (s ∷ before)) (points_in_force (s ∷ before)) ≡ None
   packing_after high =
       let points = points_kept s before (λ same. absurd (omega arith)) in
       elim (cases_eq (section_number s.octets) 5) [
         | inl same ↦
-            ap₂ (λ (x : List ℕ) (p : ℕ). packing_fault x p) (octets_same s before 5 same) points
-            ∙ none_located s.start (packing_fault s.octets (points_in_force before)) (accepted_as 5 same)
+            ap₂ (λ (x : List ℕ) (p : ℕ). packing_fault_under profile x p) (octets_same s before 5 same) points
+            ∙ none_located s.start (packing_fault_under profile s.octets (points_in_force before)) (accepted_as 5 same)
         | inr other ↦
-            ap₂ (λ (x : List ℕ) (p : ℕ). packing_fault x p) (octets_other s before 5 other) points
+            ap₂ (λ (x : List ℕ) (p : ℕ). packing_fault_under profile x p) (octets_other s before 5 other) points
             ∙ h.packing (below 5 (omega arith) high (λ same. absurd (omega arith)) other)
       ]
 
@@ -219,8 +216,7 @@ module _ (s : Placed) (before : List Placed) (h : AreSound before) (f : Follows 
   few_after : section_count 4 (s ∷ before) ≤ 4096
   few_after = elim (cases_eq (section_number s.octets) 4) [
     | inl same ↦
-        let rows = passes_from_none (product_rows s.octets (section_count 4 before + 1)) (none_located s.start _ (accepted_as 4 same)) in
-        let ne : section_count 4 before + 1 ≢ 4097 = eqb-false (section_count 4 before + 1) 4097 rows.1.0 in
+        let ne = product_few profile s.octets (section_count 4 before + 1) (none_located s.start _ (accepted_as 4 same)) in
         let count = count_same s before 4 same in
         let few : section_count 4 before ≤ 4096 = h.few in
         let other : section_count 4 before ≢ 4096 = λ e. ne (omega arith) in
@@ -273,7 +269,7 @@ module _ (s : Placed) (before : List Placed) (h : AreSound before) (f : Follows 
             ]
       ]
 
-  pub sound_after : AreSound (s ∷ before)
+  pub sound_after : AreSound profile (s ∷ before)
   sound_after = record {
     present = present_after;
     identification = identification_after;
@@ -288,8 +284,8 @@ module _ (s : Placed) (before : List Placed) (h : AreSound before) (f : Follows 
   }
 
 -- nothing came yet
-pub sound_none : AreSound []
-sound_none = record {
+pub sound_none : (profile : Profile) → AreSound profile []
+sound_none profile = record {
   present = λ k low high two. absurd (omega arith);
   identification = λ h. absurd (omega arith);
   grid = λ h. absurd (omega arith);

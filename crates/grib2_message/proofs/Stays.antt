@@ -3,6 +3,7 @@ use Rattle.std.proofs.Common.{◌≡◌, ◌≢◌, ℕ, zero, suc, ◌+◌, ◌
 use Rattle.std.proofs.lemmas.Bool.{and_right, not-false, not_from_false}
 use Rattle.std.proofs.lemmas.List.{drop-take}
 use Rattle.grib_bits.specs.Octets.{num_on, octets, octet_list}
+use Rattle.grib_base.specs.declared.profile.Profile.{Profile}
 use Rattle.grib_base.specs.declared.fault.Fault.{Fault}
 use Rattle.grib_base.specs.declared.fault.Reason.TheVariants.{Truncated, Edition, TotalLength, SectionLength, SectionOrder, LengthDisagrees, EndMark}
 use Rattle.grib_base.specs.Rows.{row, refusal, first_fault, choose}
@@ -10,7 +11,7 @@ use Rattle.grib2_sections.specs.Verdict.{Verdict, Accepted, Refused}
 use Rattle.grib2_sections.specs.Head.{edition, total_length, total_length_1, head_rows}
 use Rattle.grib2_sections.specs.Frame.{Placed, placed_at, section_at, ends_at, may_follow, may_end, mark_rows, frame_rows, Step, End, Fails, Next, unless_fails, step}
 use Rattle.grib2_message.specs.View.{last_number}
-use Rattle.grib2_message.specs.Acceptance.{section_fault, unless_refused, verdict_at, verdict_from, verdict_2}
+use Rattle.grib2_message.specs.Acceptance.{section_fault_under, unless_refused, verdict_at, verdict_from, verdict_under}
 use Rattle.grib2_message.proofs.Passed.{passes_from_none}
 use Rattle.grib2_message.proofs.Walk.{second_fails, frame_passes, mark_passes}
 use Rattle.grib2_message.proofs.Whole.{head_passes}
@@ -208,34 +209,34 @@ unless_kept : (fault : Option Fault) (said later : Unit {0} → Verdict) → Kep
 unless_kept (Some fault) said later h = inr refl
 unless_kept None said later h = h
 
-at_kept : (before : List Placed) (q total : ℕ) (at : Step) (next later : List ℕ → Verdict) → ((s : List ℕ) → KeptVerdict (next s) (later s))
-    → KeptVerdict (verdict_at before q total at next) (verdict_at before q total at later)
-at_kept before q total End next later h = inr refl
-at_kept before q total (Fails fault) next later h = inr refl
-at_kept before q total (Next s) next later h = unless_kept (section_fault before (placed_at q s)) (λ _. next s) (λ _. later s) (h s)
+at_kept : (profile : Profile) (before : List Placed) (q total : ℕ) (at : Step) (next later : List ℕ → Verdict) → ((s : List ℕ) → KeptVerdict (next s) (later s))
+    → KeptVerdict (verdict_at profile before q total at next) (verdict_at profile before q total at later)
+at_kept profile before q total End next later h = inr refl
+at_kept profile before q total (Fails fault) next later h = inr refl
+at_kept profile before q total (Next s) next later h = unless_kept (section_fault_under profile before (placed_at q s)) (λ _. next s) (λ _. later s) (h s)
 
-at_cut : (before : List Placed) (q total : ℕ) (at : Step) (next : List ℕ → Verdict) → IsCutStep at → IsCut (verdict_at before q total at next)
-at_cut before q total End next cut = absurd cut
-at_cut before q total (Fails fault) next cut = cut
-at_cut before q total (Next s) next cut = absurd cut
+at_cut : (profile : Profile) (before : List Placed) (q total : ℕ) (at : Step) (next : List ℕ → Verdict) → IsCutStep at → IsCut (verdict_at profile before q total at next)
+at_cut profile before q total End next cut = absurd cut
+at_cut profile before q total (Fails fault) next cut = cut
+at_cut profile before q total (Next s) next cut = absurd cut
 
-walk_kept : (turns more : ℕ) (u w : List ℕ) (before : List Placed) (q : ℕ) → IsFront u w → 16 ≤ length u → 1 ≤ q → turns ≤ more
-    → KeptVerdict (verdict_from turns u before q) (verdict_from more w before q)
-walk_kept zero more u w before q h long low enough = inl refl
-walk_kept (suc turns) zero u w before q h long low enough = absurd (omega arith)
-walk_kept (suc turns) (suc more) u w before q h long low enough =
+walk_kept : (profile : Profile) (turns more : ℕ) (u w : List ℕ) (before : List Placed) (q : ℕ) → IsFront u w → 16 ≤ length u → 1 ≤ q → turns ≤ more
+    → KeptVerdict (verdict_from profile turns u before q) (verdict_from profile more w before q)
+walk_kept profile zero more u w before q h long low enough = inl refl
+walk_kept profile (suc turns) zero u w before q h long low enough = absurd (omega arith)
+walk_kept profile (suc turns) (suc more) u w before q h long low enough =
     let last = last_number before in
-    let next : List ℕ → Verdict = λ s. verdict_from turns u (placed_at q s ∷ before) (q + length s) in
-    let later : List ℕ → Verdict = λ s. verdict_from more w (placed_at q s ∷ before) (q + length s) in
+    let next : List ℕ → Verdict = λ s. verdict_from profile turns u (placed_at q s ∷ before) (q + length s) in
+    let later : List ℕ → Verdict = λ s. verdict_from profile more w (placed_at q s ∷ before) (q + length s) in
     let total : total_length w ≡ total_length u = same_octets u w 9 16 h (omega arith) (omega arith) long in
     elim (step_kept u w (total_length u) last q h low) [
-      | inl cut ↦ inl (at_cut before q (total_length u) (step u (total_length u) last q) next cut)
+      | inl cut ↦ inl (at_cut profile before q (total_length u) (step u (total_length u) last q) next cut)
       | inr same ↦
-          kept_as _ (verdict_at before q (total_length u) (step u (total_length u) last q) later) _
-          (at_kept before q (total_length u) (step u (total_length u) last q) next later
-          (λ s. walk_kept turns more u w (placed_at q s ∷ before) (q + length s) h long (omega arith) (omega arith)))
-          (ap (λ t. verdict_at before q t (step w t last q) later) total
-          ∙ ap (λ at. verdict_at before q (total_length u) at later) same)
+          kept_as _ (verdict_at profile before q (total_length u) (step u (total_length u) last q) later) _
+          (at_kept profile before q (total_length u) (step u (total_length u) last q) next later
+          (λ s. walk_kept profile turns more u w (placed_at q s ∷ before) (q + length s) h long (omega arith) (omega arith)))
+          (ap (λ t. verdict_at profile before q t (step w t last q) later) total
+          ∙ ap (λ at. verdict_at profile before q (total_length u) at later) same)
     ]
 
 head_then : (fault fault' : Option Fault) (said later : Unit {0} → Verdict) → Kept fault fault' → (fault ≡ None → KeptVerdict (said tt) (later tt))
@@ -246,14 +247,14 @@ head_then None fault' said later (inl cut) h = absurd cut
 head_then None fault' said later (inr e) h = rw e (h refl)
 
 -- what is said of a front is said of the whole, unless it asks for more
-pub verdict_kept : (u w : List ℕ) → IsFront u w → edition u ≢ 1 → KeptVerdict (verdict_2 u) (verdict_2 w)
-verdict_kept u w h other =
+pub verdict_kept : (profile : Profile) (u w : List ℕ) → IsFront u w → edition u ≢ 1 → KeptVerdict (verdict_under profile u) (verdict_under profile w)
+verdict_kept profile u w h other =
     head_then (first_fault (head_rows u)) (first_fault (head_rows w))
-    (λ _. verdict_from (length u + 1) u [] 17) (λ _. verdict_from (length w + 1) w [] 17)
+    (λ _. verdict_from profile (length u + 1) u [] 17) (λ _. verdict_from profile (length w + 1) w [] 17)
     (head_kept u w h other)
     (λ passed.
     let p = head_passes u other (passes_from_none (head_rows u) passed) in
-    walk_kept (length u + 1) (length w + 1) u w [] 17 h p.there (omega arith) (omega (arith, h.longer)))
+    walk_kept profile (length u + 1) (length w + 1) u w [] 17 h p.there (omega arith) (omega (arith, h.longer)))
 
 stays_refused : (said later : Verdict) (fault : Fault) → KeptVerdict said later → said ≡ Refused fault → fault.reason ≢ Truncated → later ≡ Refused fault
 stays_refused (Accepted total) later fault h e whole = cc
@@ -268,12 +269,12 @@ stays_accepted (Accepted found) later total (inl cut) e = absurd cut
 stays_accepted (Accepted found) later total (inr kept) e = kept ∙ e
 
 -- so a refusal that asks for no more stays
-pub refused_stays : (u more : List ℕ) (fault : Fault) → edition u ≢ 1 → verdict_2 u ≡ Refused fault → fault.reason ≢ Truncated
-    → verdict_2 (u ++ more) ≡ Refused fault
-refused_stays u more fault other e whole =
-    stays_refused (verdict_2 u) (verdict_2 (u ++ more)) fault (verdict_kept u (u ++ more) (front_of_more u more) other) e whole
+pub refused_stays : (profile : Profile) (u more : List ℕ) (fault : Fault) → edition u ≢ 1 → verdict_under profile u ≡ Refused fault → fault.reason ≢ Truncated
+    → verdict_under profile (u ++ more) ≡ Refused fault
+refused_stays profile u more fault other e whole =
+    stays_refused (verdict_under profile u) (verdict_under profile (u ++ more)) fault (verdict_kept profile u (u ++ more) (front_of_more u more) other) e whole
 
 -- and an acceptance stays
-pub accepted_stays : (u more : List ℕ) (total : ℕ) → edition u ≢ 1 → verdict_2 u ≡ Accepted total → verdict_2 (u ++ more) ≡ Accepted total
-accepted_stays u more total other e =
-    stays_accepted (verdict_2 u) (verdict_2 (u ++ more)) total (verdict_kept u (u ++ more) (front_of_more u more) other) e
+pub accepted_stays : (profile : Profile) (u more : List ℕ) (total : ℕ) → edition u ≢ 1 → verdict_under profile u ≡ Accepted total → verdict_under profile (u ++ more) ≡ Accepted total
+accepted_stays profile u more total other e =
+    stays_accepted (verdict_under profile u) (verdict_under profile (u ++ more)) total (verdict_kept profile u (u ++ more) (front_of_more u more) other) e

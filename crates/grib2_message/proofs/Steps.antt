@@ -1,11 +1,12 @@
 -- One step of the walk that decides acceptance.
 use Rattle.std.proofs.Common.{◌≡◌, ℕ, suc, ◌+◌, Bool, true, false, ◌⊎◌, Option, Some, None, List, ◌∷◌, length, refl, sym, ◌∙◌, inl, inr}
+use Rattle.grib_base.specs.declared.profile.Profile.{Profile}
 use Rattle.grib_base.specs.declared.fault.Fault.{Fault}
 use Rattle.grib2_sections.specs.Verdict.{Verdict, Accepted}
 use Rattle.grib2_sections.specs.Head.{total_length}
 use Rattle.grib2_sections.specs.Frame.{Placed, placed_at, section_at, ends_at, mark_rows, frame_rows, End, Next, unless_fails}
 use Rattle.grib2_message.specs.View.{last_number}
-use Rattle.grib2_message.specs.Acceptance.{verdict_from, verdict_at, section_fault, unless_refused}
+use Rattle.grib2_message.specs.Acceptance.{verdict_from, verdict_at, section_fault_under, unless_refused}
 use Rattle.grib_base.specs.Rows.{first_fault, choose}
 use Rattle.grib2_message.proofs.Passed.{AllPass, passes_from_none, at_mark, mark_tells, unless_tells}
 
@@ -14,38 +15,38 @@ abbrev pub here : List ℕ → ℕ → Placed
 here m q = placed_at q (section_at m q)
 
 -- the verdict after that section
-abbrev pub after_section : ℕ → List ℕ → List Placed → ℕ → Verdict
-after_section turns m before q = verdict_from turns m (here m q ∷ before) (q + length (section_at m q))
+abbrev pub after_section : (profile : Profile) → ℕ → List ℕ → List Placed → ℕ → Verdict
+after_section profile turns m before q = verdict_from profile turns m (here m q ∷ before) (q + length (section_at m q))
 
 -- the verdict from the rows of its contents on
-abbrev pub at_contents : ℕ → List ℕ → List Placed → ℕ → Verdict
-at_contents turns m before q = unless_refused (section_fault before (here m q)) (λ _. after_section turns m before q)
+abbrev pub at_contents : (profile : Profile) → ℕ → List ℕ → List Placed → ℕ → Verdict
+at_contents profile turns m before q = unless_refused (section_fault_under profile before (here m q)) (λ _. after_section profile turns m before q)
 
 -- the verdict from the rows of its frame on
-abbrev pub at_section : ℕ → List ℕ → List Placed → ℕ → Verdict
-at_section turns m before q =
-    unless_refused (first_fault (frame_rows m (total_length m) (last_number before) q)) (λ _. at_contents turns m before q)
+abbrev pub at_section : (profile : Profile) → ℕ → List ℕ → List Placed → ℕ → Verdict
+at_section profile turns m before q =
+    unless_refused (first_fault (frame_rows m (total_length m) (last_number before) q)) (λ _. at_contents profile turns m before q)
 
 -- the verdict from the rows of a mark on
-abbrev pub at_place : ℕ → List ℕ → List Placed → ℕ → Verdict
-at_place turns m before q =
-    at_mark (first_fault (mark_rows m (total_length m) (last_number before) q)) (ends_at m q) (total_length m) (λ _. at_section turns m before q)
+abbrev pub at_place : (profile : Profile) → ℕ → List ℕ → List Placed → ℕ → Verdict
+at_place profile turns m before q =
+    at_mark (first_fault (mark_rows m (total_length m) (last_number before) q)) (ends_at m q) (total_length m) (λ _. at_section profile turns m before q)
 
 -- what stands at a place says the same row by row
-row_by_row : (before : List Placed) (q total : ℕ) (mark : Option Fault) (ends : Bool) (frame : Option Fault) (s : List ℕ) (next : List ℕ → Verdict)
-    → verdict_at before q total (unless_fails mark (λ _. choose ends (λ _. End) (λ _. unless_fails frame (λ _. Next s)))) next
-    ≡ at_mark mark ends total (λ _. unless_refused frame (λ _. unless_refused (section_fault before (placed_at q s)) (λ _. next s)))
-row_by_row before q total (Some fault) ends frame s next = refl
-row_by_row before q total None true frame s next = refl
-row_by_row before q total None false (Some fault) s next = refl
-row_by_row before q total None false None s next = refl
+row_by_row : (profile : Profile) (before : List Placed) (q total : ℕ) (mark : Option Fault) (ends : Bool) (frame : Option Fault) (s : List ℕ) (next : List ℕ → Verdict)
+    → verdict_at profile before q total (unless_fails mark (λ _. choose ends (λ _. End) (λ _. unless_fails frame (λ _. Next s)))) next
+    ≡ at_mark mark ends total (λ _. unless_refused frame (λ _. unless_refused (section_fault_under profile before (placed_at q s)) (λ _. next s)))
+row_by_row profile before q total (Some fault) ends frame s next = refl
+row_by_row profile before q total None true frame s next = refl
+row_by_row profile before q total None false (Some fault) s next = refl
+row_by_row profile before q total None false None s next = refl
 
 -- so the walk goes on row by row
-pub walk_is : (turns : ℕ) (m : List ℕ) (before : List Placed) (q : ℕ) → verdict_from (suc turns) m before q ≡ at_place turns m before q
-walk_is turns m before q =
+pub walk_is : (profile : Profile) (turns : ℕ) (m : List ℕ) (before : List Placed) (q : ℕ) → verdict_from profile (suc turns) m before q ≡ at_place profile turns m before q
+walk_is profile turns m before q =
     let total = total_length m in
-    row_by_row before q total (first_fault (mark_rows m total (last_number before) q)) (ends_at m q)
-    (first_fault (frame_rows m total (last_number before) q)) (section_at m q) (λ s. verdict_from turns m (placed_at q s ∷ before) (q + length s))
+    row_by_row profile before q total (first_fault (mark_rows m total (last_number before) q)) (ends_at m q)
+    (first_fault (frame_rows m total (last_number before) q)) (section_at m q) (λ s. verdict_from profile turns m (placed_at q s ∷ before) (q + length s))
 
 -- the end mark stands at q
 pub record Ended (m : List ℕ) (q total : ℕ) : Type 0 where
@@ -53,18 +54,18 @@ pub record Ended (m : List ℕ) (q total : ℕ) : Type 0 where
   pub states : total_length m ≡ total
 
 -- a section stands at q, and what comes after it is accepted
-pub record Went (turns : ℕ) (m : List ℕ) (before : List Placed) (q total : ℕ) : Type 0 where
+pub record Went (profile : Profile) (turns : ℕ) (m : List ℕ) (before : List Placed) (q total : ℕ) : Type 0 where
   pub goes : ends_at m q ≡ false
   pub frame : AllPass (frame_rows m (total_length m) (last_number before) q)
-  pub contents : section_fault before (here m q) ≡ None
-  pub next : after_section turns m before q ≡ Accepted total
+  pub contents : section_fault_under profile before (here m q) ≡ None
+  pub next : after_section profile turns m before q ≡ Accepted total
 
 -- it is so where no end mark stands and what is said of the section is accepted
-went : (turns : ℕ) (m : List ℕ) (before : List Placed) (q total : ℕ) → ends_at m q ≡ false → at_section turns m before q ≡ Accepted total
-    → Went turns m before q total
-went turns m before q total goes e =
-    let frame = unless_tells (first_fault (frame_rows m (total_length m) (last_number before) q)) (λ _. at_contents turns m before q) total e in
-    let contents = unless_tells (section_fault before (here m q)) (λ _. after_section turns m before q) total frame.1 in
+went : (profile : Profile) (turns : ℕ) (m : List ℕ) (before : List Placed) (q total : ℕ) → ends_at m q ≡ false → at_section profile turns m before q ≡ Accepted total
+    → Went profile turns m before q total
+went profile turns m before q total goes e =
+    let frame = unless_tells (first_fault (frame_rows m (total_length m) (last_number before) q)) (λ _. at_contents profile turns m before q) total e in
+    let contents = unless_tells (section_fault_under profile before (here m q)) (λ _. after_section profile turns m before q) total frame.1 in
     record {
       goes = goes;
       frame = passes_from_none (frame_rows m (total_length m) (last_number before) q) frame.0;
@@ -73,10 +74,10 @@ went turns m before q total goes e =
     }
 
 -- what an accepting step tells
-pub step_tells : (turns : ℕ) (m : List ℕ) (before : List Placed) (q total : ℕ) → verdict_from (suc turns) m before q ≡ Accepted total
-    → AllPass (mark_rows m (total_length m) (last_number before) q) × (Ended m q total ⊎ Went turns m before q total)
-step_tells turns m before q total e =
-    let mark = mark_tells (first_fault (mark_rows m (total_length m) (last_number before) q)) (ends_at m q) (total_length m) (λ _. at_section turns m before q) total (sym (walk_is turns m before q) ∙ e) in (
+pub step_tells : (profile : Profile) (turns : ℕ) (m : List ℕ) (before : List Placed) (q total : ℕ) → verdict_from profile (suc turns) m before q ≡ Accepted total
+    → AllPass (mark_rows m (total_length m) (last_number before) q) × (Ended m q total ⊎ Went profile turns m before q total)
+step_tells profile turns m before q total e =
+    let mark = mark_tells (first_fault (mark_rows m (total_length m) (last_number before) q)) (ends_at m q) (total_length m) (λ _. at_section profile turns m before q) total (sym (walk_is profile turns m before q) ∙ e) in (
       passes_from_none (mark_rows m (total_length m) (last_number before) q) mark.0,
-      elim mark.1 [ inl ends ↦ inl record { ends = ends.0; states = ends.1 } | inr goes ↦ inr (went turns m before q total goes.0 goes.1) ],
+      elim mark.1 [ inl ends ↦ inl record { ends = ends.0; states = ends.1 } | inr goes ↦ inr (went profile turns m before q total goes.0 goes.1) ],
     )

@@ -4,12 +4,13 @@ use Rattle.std.specs.List.{concat}
 use Rattle.std.proofs.lemmas.Bool.{or_parts, not-false}
 use Rattle.std.proofs.lemmas.List.Elements.{All-drop, All-same}
 use Rattle.std.proofs.lemmas.List.{drop-take}
+use Rattle.grib_base.specs.declared.profile.Profile.{Profile}
 use Rattle.grib_bits.specs.Octets.{octets, num_on}
 use Rattle.grib2_sections.specs.Verdict.{Accepted}
 use Rattle.grib2_sections.specs.Head.{total_length, end_mark}
 use Rattle.grib2_sections.specs.Frame.{Placed, section_at, section_length, section_number, may_follow, may_end, ends_at, mark_rows, frame_rows}
 use Rattle.grib2_message.specs.View.{last_number}
-use Rattle.grib2_message.specs.Acceptance.{section_fault, verdict_from}
+use Rattle.grib2_message.specs.Acceptance.{section_fault_under, verdict_from}
 use Rattle.grib2_message.specs.Grammar.{IsSection, AreSections}
 use Rattle.grib2_message.proofs.Passed.{AllPass}
 use Rattle.grib2_message.proofs.Parts.{from, four_at, fifth_at, section_is, front_length, front_number, mark_from_number}
@@ -57,10 +58,10 @@ frame_passes m total last q p =
     }
 
 -- sections from octet q on, and the end mark, and whatever comes after
-pub record Found (m : List ℕ) (before : List Placed) (q total : ℕ) : Type 0 where
+pub record Found (profile : Profile) (m : List ℕ) (before : List Placed) (q total : ℕ) : Type 0 where
   pub sections : List (List ℕ)
   pub after : List ℕ
-  pub follow : AreSections before q sections
+  pub follow : AreSections profile before q sections
   pub joined : from q m ≡ (concat sections ++ end_mark) ++ after
   pub ends : q + length (concat sections) + 3 ≡ total
   pub states : total_length m ≡ total
@@ -70,9 +71,9 @@ last_octets : (before n whole : ℕ) (m : List ℕ) → whole ≡ before + n →
 last_octets before n whole m e = ap (λ k. drop before (take k m)) e ∙ drop-take before n m
 
 -- none but the end mark, where it stands at q
-found_end : (m : List ℕ) (before : List Placed) (q total : ℕ) → 1 ≤ q → All (λ octet. octet < 256) (take total m) → q + 3 ≤ total_length m
-    → MarkPasses m (total_length m) (last_number before) q → Ended m q total → Found m before q total
-found_end m before q total low small room p e =
+found_end : (profile : Profile) (m : List ℕ) (before : List Placed) (q total : ℕ) → 1 ≤ q → All (λ octet. octet < 256) (take total m) → q + 3 ≤ total_length m
+    → MarkPasses m (total_length m) (last_number before) q → Ended m q total → Found profile m before q total
+found_end profile m before q total low small room p e =
     let long : 4 ≤ length (from q m) = omega (arith, length-drop (q - 1) m, p.there) in
     let number : num_on 0 (take 4 (from q m)) ≡ 926365495 = ap (num_on 0) (sym (four_at m q)) ∙ eqb-true (octets m q (q + 3)) 926365495 e.ends in
     let ends : total_length m ≤ q + 3 = p.at_end e.ends in
@@ -90,15 +91,15 @@ found_end m before q total low small room p e =
     }
 
 -- the section at q may stand there, and what is left from its end on comes after it
-pub record Stands (m : List ℕ) (before : List Placed) (q : ℕ) : Type 0 where
-  pub is_section : IsSection before q (section_at m q)
+pub record Stands (profile : Profile) (m : List ℕ) (before : List Placed) (q : ℕ) : Type 0 where
+  pub is_section : IsSection profile before q (section_at m q)
   pub as_long : length (section_at m q) ≡ octets m q (q + 3)
   pub joined : from q m ≡ section_at m q ++ from (q + length (section_at m q)) m
 
 -- it is so where no row refuses it
-pub stands : (m : List ℕ) (before : List Placed) (q total : ℕ) → 1 ≤ q
-    → FramePasses m total (last_number before) q → section_fault before (here m q) ≡ None → Stands m before q
-stands m before q total low p contents =
+pub stands : (profile : Profile) (m : List ℕ) (before : List Placed) (q total : ℕ) → 1 ≤ q
+    → FramePasses m total (last_number before) q → section_fault_under profile before (here m q) ≡ None → Stands profile m before q
+stands profile m before q total low p contents =
     let is : section_at m q ≡ take (octets m q (q + 3)) (from q m) = section_is m q (octets m q (q + 3)) low refl in
     let long : octets m q (q + 3) ≤ length (from q m) = omega (arith, length-drop (q - 1) m, p.there) in
     let as_long : length (section_at m q) ≡ octets m q (q + 3) = ap length is ∙ length-take-le (octets m q (q + 3)) (from q m) long in
@@ -121,9 +122,9 @@ stands m before q total low p contents =
     }
 
 -- a section before those that were found
-found_more : (m : List ℕ) (before : List Placed) (q total : ℕ) → Stands m before q
-    → Found m (here m q ∷ before) (q + length (section_at m q)) total → Found m before q total
-found_more m before q total s f = record {
+found_more : (profile : Profile) (m : List ℕ) (before : List Placed) (q total : ℕ) → Stands profile m before q
+    → Found profile m (here m q ∷ before) (q + length (section_at m q)) total → Found profile m before q total
+found_more profile m before q total s f = record {
   sections = section_at m q ∷ f.sections;
   after = f.after;
   follow = (s.is_section, f.follow);
@@ -135,17 +136,17 @@ found_more m before q total s f = record {
 }
 
 -- what the walk accepts from octet q on
-pub walked : (turns : ℕ) (m : List ℕ) (before : List Placed) (q total : ℕ) → All (λ octet. octet < 256) (take total m) → 1 ≤ q → q + 3 ≤ total_length m
-    → verdict_from turns m before q ≡ Accepted total → Found m before q total
-walked zero m before q total small low room e = cc
-walked (suc turns) m before q total small low room e =
-    let told = step_tells turns m before q total e in
+pub walked : (profile : Profile) (turns : ℕ) (m : List ℕ) (before : List Placed) (q total : ℕ) → All (λ octet. octet < 256) (take total m) → 1 ≤ q → q + 3 ≤ total_length m
+    → verdict_from profile turns m before q ≡ Accepted total → Found profile m before q total
+walked profile zero m before q total small low room e = cc
+walked profile (suc turns) m before q total small low room e =
+    let told = step_tells profile turns m before q total e in
     let mark = mark_passes m (total_length m) (last_number before) q told.0 in
     elim told.1 [
-      | inl ended ↦ found_end m before q total low small room mark ended
+      | inl ended ↦ found_end profile m before q total low small room mark ended
       | inr went ↦
           let frame = frame_passes m (total_length m) (last_number before) q went.frame in
-          let s = stands m before q (total_length m) low frame went.contents in
-          found_more m before q total s
-          (walked turns m (here m q ∷ before) (q + length (section_at m q)) total small (omega arith) (omega (arith, s.as_long, frame.room)) went.next)
+          let s = stands profile m before q (total_length m) low frame went.contents in
+          found_more profile m before q total s
+          (walked profile turns m (here m q ∷ before) (q + length (section_at m q)) total small (omega arith) (omega (arith, s.as_long, frame.room)) went.next)
     ]

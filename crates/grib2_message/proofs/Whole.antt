@@ -4,11 +4,12 @@ use Rattle.std.specs.List.{concat}
 use Rattle.std.proofs.lemmas.Bool.{and_left, and_right, or_parts, or_from, not-false, not_from_true, not_from_false}
 use Rattle.std.proofs.lemmas.List.{drop-take}
 use Rattle.grib_bits.specs.Octets.{octets, num_on}
+use Rattle.grib_base.specs.declared.profile.Profile.{Profile}
 use Rattle.grib_base.specs.Rows.{first_fault}
 use Rattle.grib2_sections.specs.Verdict.{Accepted}
 use Rattle.grib2_sections.specs.Head.{indicator, end_mark, edition, total_length, total_length_1, head_rows}
-use Rattle.grib2_message.specs.Acceptance.{verdict_2, verdict_from}
-use Rattle.grib2_message.specs.Grammar.{Grammar2}
+use Rattle.grib2_message.specs.Acceptance.{verdict_under, verdict_from}
+use Rattle.grib2_message.specs.Grammar.{GrammarUnder}
 use Rattle.grib2_message.specs.Fields.{sections_of}
 use Rattle.grib2_message.proofs.Passed.{AllPass, passes_from_none, none_from_passes, unless_tells, unless_none}
 use Rattle.grib2_message.proofs.Walk.{Found, walked, second_fails}
@@ -77,9 +78,9 @@ regroup : (front body after : List ℕ) → ((front ++ body) ++ end_mark) ++ aft
 regroup front body after = simp append_assoc
 
 -- sections after 16 octets are in the grammar with them
-in_grammar : (rest : List ℕ) (total : ℕ) → take 4 rest ≡ indicator → HeadPasses rest → (f : Found rest [] 17 total)
-    → (total ≤ length rest) × Grammar2 (take total rest) f.sections
-in_grammar rest total starts p f =
+in_grammar : (profile : Profile) (rest : List ℕ) (total : ℕ) → take 4 rest ≡ indicator → HeadPasses rest → (f : Found profile rest [] 17 total)
+    → (total ≤ length rest) × GrammarUnder profile (take total rest) f.sections
+in_grammar profile rest total starts p f =
     let body : List ℕ = concat f.sections in
     let front : List ℕ = take 16 rest in
     let sixteen : length front ≡ 16 = length-take-le 16 rest p.there in
@@ -107,18 +108,18 @@ in_grammar rest total starts p f =
     )
 
 -- what is accepted is in the grammar
-pub accepted_in_grammar : (rest : List ℕ) (total : ℕ) → All (λ octet. octet < 256) (take total rest) → take 4 rest ≡ indicator → edition rest ≢ 1
-    → verdict_2 rest ≡ Accepted total → (sections : List (List ℕ)) × (total ≤ length rest) × Grammar2 (take total rest) sections
-accepted_in_grammar rest total small starts other e =
-    let told = unless_tells (first_fault (head_rows rest)) (λ _. verdict_from (length rest + 1) rest [] 17) total e in
+pub accepted_in_grammar : (profile : Profile) (rest : List ℕ) (total : ℕ) → All (λ octet. octet < 256) (take total rest) → take 4 rest ≡ indicator → edition rest ≢ 1
+    → verdict_under profile rest ≡ Accepted total → (sections : List (List ℕ)) × (total ≤ length rest) × GrammarUnder profile (take total rest) sections
+accepted_in_grammar profile rest total small starts other e =
+    let told = unless_tells (first_fault (head_rows rest)) (λ _. verdict_from profile (length rest + 1) rest [] 17) total e in
     let p = head_passes rest other (passes_from_none (head_rows rest) told.0) in
-    let f = walked (length rest + 1) rest [] 17 total small (omega arith) (omega (arith, p.least)) told.1 in
-    let g = in_grammar rest total starts p f in
+    let f = walked profile (length rest + 1) rest [] 17 total small (omega arith) (omega (arith, p.least)) told.1 in
+    let g = in_grammar profile rest total starts p f in
     (f.sections, g.0, g.1)
 
 -- the sections of a message stand from octet 17 on, whatever comes after it
-stand_after : (message after : List ℕ) (sections : List (List ℕ)) → Grammar2 message sections → Stand (message ++ after) 17 (length message) sections after
-stand_after message after sections g =
+stand_after : (profile : Profile) (message after : List ℕ) (sections : List (List ℕ)) → GrammarUnder profile message sections → Stand (message ++ after) 17 (length message) sections after
+stand_after profile message after sections g =
     let front : List ℕ = take 16 message in
     let sixteen : length front ≡ 16 = length-take-le 16 message (omega (arith, g.least)) in
     let whole : message ++ after ≡ front ++ ((concat sections ++ end_mark) ++ after) =
@@ -134,28 +135,28 @@ stand_after message after sections g =
     }
 
 -- what is in the grammar is accepted, whatever comes after it
-pub grammar_accepted : (message after : List ℕ) (sections : List (List ℕ)) → Grammar2 message sections
-    → verdict_2 (message ++ after) ≡ Accepted (length message)
-grammar_accepted message after sections g =
+pub grammar_accepted : (profile : Profile) (message after : List ℕ) (sections : List (List ℕ)) → GrammarUnder profile message sections
+    → verdict_under profile (message ++ after) ≡ Accepted (length message)
+grammar_accepted profile message after sections g =
     let m : List ℕ = message ++ after in
     let long : length m ≡ length message + length after = length-append message after in
     let least : 20 ≤ length message = g.least in
     let stands : total_length m ≡ length message = octets_before message after 9 16 (omega arith) (omega arith) (omega arith) ∙ g.total_stands in
     let second : edition m ≡ 2 = octets_before message after 8 8 (omega arith) (omega arith) (omega arith) ∙ g.edition_stands in
     let head = head_pass m second (omega arith) (omega arith) (omega (arith, g.most)) in
-    let s = stand_after message after sections g in
+    let s = stand_after profile message after sections g in
     let h : Stand m 17 (total_length m) sections after = rw stands s in
-    unless_none (first_fault (head_rows m)) (λ _. verdict_from (length m + 1) m [] 17) (none_from_passes (head_rows m) head)
-    ∙ (rejoined sections (length m + 1) m [] 17 after g.sections_follow h (omega (arith, s.ends)) ∙ ap Accepted stands)
+    unless_none (first_fault (head_rows m)) (λ _. verdict_from profile (length m + 1) m [] 17) (none_from_passes (head_rows m) head)
+    ∙ (rejoined profile sections (length m + 1) m [] 17 after g.sections_follow h (omega (arith, s.ends)) ∙ ap Accepted stands)
 
 -- the sections that are found are those of the grammar, with their places, whatever comes after the message
-pub sections_placed : (message after : List ℕ) (sections : List (List ℕ)) → Grammar2 message sections
+pub sections_placed : (profile : Profile) (message after : List ℕ) (sections : List (List ℕ)) → GrammarUnder profile message sections
     → sections_of (message ++ after) ≡ placed_from 17 sections
-sections_placed message after sections g =
-    let s = stand_after message after sections g in
-    found_from sections (length (message ++ after)) (message ++ after) [] 17 (length message) after g.sections_follow s
+sections_placed profile message after sections g =
+    let s = stand_after profile message after sections g in
+    found_from profile sections (length (message ++ after)) (message ++ after) [] 17 (length message) after g.sections_follow s
     (omega (arith, s.ends, length-append message after))
 
 -- and where nothing comes after it
-pub sections_alone : (message : List ℕ) (sections : List (List ℕ)) → Grammar2 message sections → sections_of message ≡ placed_from 17 sections
-sections_alone message sections g = ap sections_of (sym (append-nil message)) ∙ sections_placed message [] sections g
+pub sections_alone : (profile : Profile) (message : List ℕ) (sections : List (List ℕ)) → GrammarUnder profile message sections → sections_of message ≡ placed_from 17 sections
+sections_alone profile message sections g = ap sections_of (sym (append-nil message)) ∙ sections_placed profile message [] sections g

@@ -4,17 +4,20 @@ use Rattle.std.specs.Prelude.{◌≡◌, ◌⊎◌, ℕ, ◌+◌, ◌≤◌, ◌
 use Rattle.std.specs.List.{concat}
 use Rattle.grib_bits.specs.Octets.{StatesItself}
 use Rattle.grib_base.specs.Rows.{first_fault}
+use Rattle.grib_base.specs.declared.profile.Profile.{Profile}
+use Rattle.grib_base.specs.declared.profile.Profile.TheVariants.{Stated}
 use Rattle.grib_bits.specs.Encoding.{octets_of}
 use Rattle.grib2_sections.specs.Head.{end_mark}
 use Rattle.grib2_sections.specs.Frame.{Placed, section_number}
-use Rattle.grib2_grids.specs.Grid.{grid_points, grid_rows}
+use Rattle.grib2_grids.specs.Grid.{grid_points}
+use Rattle.grib2_grids.specs.Opaque.{grid_rows_under}
 use Rattle.grib_bitmap.specs.Mask.{bitmap_indicator, bitmap_rows}
 use Rattle.grib_packing.specs.Packing.{value_count}
 use Rattle.grib_packing.specs.Entries.{packing_fault, data_fault}
 use Rattle.grib_packing.specs.declared.written.Packed.{Packed}
 use Rattle.grib2_message.specs.View.{is_numbered}
 use Rattle.grib2_message.specs.Fields.{sections_of, field_count, part_octets}
-use Rattle.grib2_message.specs.Message.{IsMessage}
+use Rattle.grib2_message.specs.Message.{IsMessageUnder}
 use Rattle.grib2_message.specs.declared.fault.AssembleFault.{AssembleFault}
 use Rattle.grib2_message.specs.declared.fault.AssembleFault.TheVariants.{TooLong, Memory}
 
@@ -83,22 +86,33 @@ pub record PartsPass (points : ℕ) (part : Packed) : Type 0 where
   pub values : data_fault part.section5 part.section7 ≡ None
 
 -- a Section 3 with its length and its number, which no row refuses
-pub record IsGrid (s : List ℕ) : Type 0 where
+pub record IsGridUnder (profile : Profile) (s : List ℕ) : Type 0 where
   pub itself : StatesItself 3 s
-  pub rows : first_fault (grid_rows s) ≡ None
+  pub rows : first_fault (grid_rows_under profile s) ≡ None
 
 -- An accepted message, each Section 3 of which becomes one that no row refuses, and a part for each field that
 -- may stand in it.
-pub record MayBeAssembledWith (grid : List ℕ → List ℕ) (message : List ℕ) (parts : List Packed) : Type 0 where
-  pub accepted : IsMessage message
+pub record MayBeAssembledWithUnder (profile : Profile) (grid : List ℕ → List ℕ) (message : List ℕ) (parts : List Packed) : Type 0 where
+  pub accepted : IsMessageUnder profile message
   pub one_each : length parts ≡ field_count message
-  pub grids : (i : ℕ) → 1 ≤ i → i ≤ field_count message → IsGrid (part_octets message i 3) → IsGrid (grid (part_octets message i 3))
+  pub grids : (i : ℕ) → 1 ≤ i → i ≤ field_count message → IsGridUnder profile (part_octets message i 3) → IsGridUnder profile (grid (part_octets message i 3))
   pub pass : (i : ℕ) (part : Packed) → slice_get parts i ≡ Some part → PartsPass (grid_points (grid (part_octets message (i + 1) 3))) part
   pub most : length (assembled_with grid message parts) ≤ 268435456
 
 -- an accepted message, and a part for each field that may stand in it
-pub record MayBeAssembled (message : List ℕ) (parts : List Packed) : Type 0 where
-  pub accepted : IsMessage message
+pub record MayBeAssembledUnder (profile : Profile) (message : List ℕ) (parts : List Packed) : Type 0 where
+  pub accepted : IsMessageUnder profile message
   pub one_each : length parts ≡ field_count message
   pub pass : (i : ℕ) (part : Packed) → slice_get parts i ≡ Some part → PartsPass (grid_points (part_octets message (i + 1) 3)) part
   pub most : length (assembled message parts) ≤ 268435456
+
+-- ---- under the profile of the stated templates
+
+abbrev pub IsGrid : List ℕ → Type 0
+IsGrid = IsGridUnder Stated
+
+abbrev pub MayBeAssembledWith : (List ℕ → List ℕ) → List ℕ → List Packed → Type 0
+MayBeAssembledWith = MayBeAssembledWithUnder Stated
+
+abbrev pub MayBeAssembled : List ℕ → List Packed → Type 0
+MayBeAssembled = MayBeAssembledUnder Stated

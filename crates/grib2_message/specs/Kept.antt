@@ -1,24 +1,25 @@
 -- What is kept of the sections of a message while it is read, and after.
-use Rattle.std.specs.Prelude.{◌≡◌, ◌≢◌, ℕ, ◌+◌, ◌-◌, ◌≤◌, ◌<◌, ◌||◌, ◌==◌, Bool, IsTrue, IsSome, Option, Some, None, List, [], ◌∷◌, length, get_or, slice_get, is_none, not, unwrap_or}
+use Rattle.std.specs.Prelude.{◌≡◌, ◌≢◌, ℕ, ◌+◌, ◌-◌, ◌≤◌, ◌<◌, ◌||◌, ◌==◌, Bool, false, IsTrue, IsSome, Option, Some, None, List, [], ◌∷◌, length, get_or, slice_get, is_none, not, unwrap_or}
 use Rattle.std.specs.Option.{option_map_or}
 use Rattle.grib_bits.specs.Bits.{digit}
 use Rattle.grib_bits.specs.Octets.{octets, StatesItself}
 use Rattle.grib_base.specs.declared.fault.Fault.{Fault}
 use Rattle.grib_base.specs.declared.fault.Reason.TheVariants.{NoEarlierBitmap, BitmapSize}
 use Rattle.grib_base.specs.Rows.{row, first_fault}
+use Rattle.grib_base.specs.declared.profile.Profile.{Profile}
 use Rattle.grib2_sections.specs.Head.{total_length}
 use Rattle.grib2_sections.specs.Frame.{Placed, section_at, section_number, may_follow}
 use Rattle.grib2_sections.specs.Identification.{identification_rows}
-use Rattle.grib2_grids.specs.Grid.{grid_rows}
-use Rattle.grib2_products.specs.Product.{product_rows}
+use Rattle.grib2_grids.specs.Opaque.{grid_rows_under}
+use Rattle.grib2_products.specs.Opaque.{product_rows_under}
 use Rattle.grib_bitmap.specs.Mask.{bitmap_indicator, bitmap_rows, mask_of, present_count}
 use Rattle.grib_packing.specs.Packing.{value_count}
-use Rattle.grib_packing.specs.Entries.{packing_fault, data_fault}
-use Rattle.grib_packings.specs.Field.{Represents}
-use Rattle.grib_packings.specs.declared.representation.Representation.{Representation}
+use Rattle.grib_packing.specs.Entries.{packing_fault_under, data_fault, is_opaque_packing}
+use Rattle.grib_packings.specs.Field.{IsDataOf}
+use Rattle.grib_packings.specs.declared.data_representation.DataRepresentation.{DataRepresentation}
 use Rattle.grib2_message.specs.View.{last_number, section_in_force, octets_in_force, points_in_force, earlier_bitmap, earlier_mask, mask_in_force, section_count}
 use Rattle.grib2_message.specs.Fields.{field_sections, field_count}
-use Rattle.grib2_message.specs.Message.{IsMessage}
+use Rattle.grib2_message.specs.Message.{IsMessageUnder}
 use Rattle.grib2_message.specs.declared.in_force.Bitmap.{Bitmap}
 use Rattle.grib2_message.specs.declared.in_force.InForce.{InForce}
 use Rattle.grib2_message.specs.declared.places.Places.{Places}
@@ -59,11 +60,11 @@ KeepsBitmap (Some bitmap) [] = ⊥
 KeepsBitmap (Some bitmap) (s ∷ before) = IsBitmap bitmap s before
 
 -- what the Section 5 in force says is kept, where there is one
-abbrev pub KeepsRepresentation : Option Representation → Option Placed → Type 0
+abbrev pub KeepsRepresentation : Option DataRepresentation → Option Placed → Type 0
 KeepsRepresentation None None = Unit {0}
 KeepsRepresentation None (Some s) = ⊥
 KeepsRepresentation (Some representation) None = ⊥
-KeepsRepresentation (Some representation) (Some s) = Represents representation s.octets
+KeepsRepresentation (Some representation) (Some s) = IsDataOf representation s.octets
 
 -- what the row on bitmaps asks of an earlier one
 abbrev pub TellsBitmap : Option Bitmap → Option (List Bool) → Type 0
@@ -78,12 +79,12 @@ begun last = digit (last == 4 || last == 5 || last == 6)
 
 -- what is known of sections that no row refused, by the number of the last: which are in force, and what
 -- their rows say
-pub record AreSound (before : List Placed) : Type 0 where
+pub record AreSound (profile : Profile) (before : List Placed) : Type 0 where
   pub present : (k : ℕ) → 1 ≤ k → k ≤ last_number before → k ≢ 2 → IsSome (section_in_force k before)
   pub identification : 1 ≤ last_number before → first_fault (identification_rows (octets_in_force 1 before)) ≡ None
-  pub grid : 3 ≤ last_number before → first_fault (grid_rows (octets_in_force 3 before)) ≡ None
-  pub product : 4 ≤ last_number before → first_fault (product_rows (octets_in_force 4 before) 1) ≡ None
-  pub packing : 5 ≤ last_number before → packing_fault (octets_in_force 5 before) (points_in_force before) ≡ None
+  pub grid : 3 ≤ last_number before → first_fault (grid_rows_under profile (octets_in_force 3 before)) ≡ None
+  pub product : 4 ≤ last_number before → first_fault (product_rows_under profile (octets_in_force 4 before) 1) ≡ None
+  pub packing : 5 ≤ last_number before → packing_fault_under profile (octets_in_force 5 before) (points_in_force before) ≡ None
   pub bitmap : 6 ≤ last_number before
       → first_fault (bitmap_rows (octets_in_force 6 before) (points_in_force before) (value_count (octets_in_force 5 before)) (earlier_mask before)) ≡ None
   pub mask : 6 ≤ last_number before
@@ -107,7 +108,7 @@ pub record HasInForce (before : List Placed) (force : InForce) : Type 0 where
   pub representation : KeepsRepresentation force.representation (section_in_force 5 before)
   pub bitmap : KeepsBitmap force.bitmap (earlier_bitmap before)
   pub fields : force.fields ≡ section_count 7 before
-  pub sound : AreSound before
+  pub sound : AreSound force.profile before
 
 -- and where the sections in force begin
 pub record HasPlaces (message : List ℕ) (before : List Placed) (places : Places) : Type 0 where
@@ -128,15 +129,20 @@ pub record IsField (message : List ℕ) (before : List Placed) (places : Places)
   pub stand : HasPlaces message before places
   pub ends : last_number before ≡ 7
 
--- what is kept of some first fields
-abbrev pub KeepsFields : List ℕ → List Places → Type 0
-KeepsFields message fields =
-    (i : ℕ) (places : Places) → slice_get fields i ≡ Some places → IsField message (field_sections message (i + 1)) places
+-- its packing is one whose values can be read
+abbrev pub IsRead : List Placed → Type 0
+IsRead before = is_opaque_packing (octets_in_force 5 before) ≡ false
+
+-- what is kept of some first fields of a message that is read under this profile
+abbrev pub KeepsFields : Profile → List ℕ → List Places → Type 0
+KeepsFields profile message fields =
+    (i : ℕ) (places : Places) → slice_get fields i ≡ Some places
+    → IsField message (field_sections message (i + 1)) places × (places.force.profile ≡ profile)
 
 -- what a message keeps of its fields
-pub record Keeps (message : List ℕ) (fields : List Places) : Type 0 where
-  pub accepted : IsMessage message
+pub record Keeps (profile : Profile) (message : List ℕ) (fields : List Places) : Type 0 where
+  pub accepted : IsMessageUnder profile message
   pub count : length fields ≡ field_count message
   pub few : length fields ≤ 4096
   pub some : 1 ≤ length fields
-  pub each : KeepsFields message fields
+  pub each : KeepsFields profile message fields

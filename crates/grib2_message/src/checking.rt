@@ -2,8 +2,8 @@
 
 ghost use Rattle.std.specs.Prelude.{◌≡◌, ◌+◌, ◌==◌, not, List, [], ◌∷◌, Bool, Option, None, unwrap_or, MatchResult};
 ghost use Rattle.grib_base.specs.Rows.{first_fault, first_fault_at, located, row};
-ghost use Rattle.grib2_grids.specs.Grid.{grid_rows};
-ghost use Rattle.grib2_products.specs.Product.{product_rows};
+ghost use Rattle.grib2_grids.specs.Opaque.{grid_rows_under};
+ghost use Rattle.grib2_products.specs.Opaque.{product_rows_under};
 ghost use Rattle.grib_bitmap.specs.Mask.{bitmap_rows, present_count};
 ghost use Rattle.grib2_sections.specs.Identification.{identification_rows};
 ghost use Rattle.grib_base.specs.declared.fault.Reason.TheVariants.{ValueCount};
@@ -11,7 +11,7 @@ ghost use Rattle.grib2_message.specs.Kept.{TellsBitmap, earlier_fault};
 ghost use Rattle.grib_base.specs.Faults.{AreTried, IsReadFault};
 
 use crate::in_force::Bitmap;
-use grib_base::{Fault, ReadFault, Reason, Section};
+use grib_base::{Fault, Profile, ReadFault, Reason, Section};
 use grib_bitmap::read_mask;
 use grib2_sections::read_identification;
 use std::alloc::Global;
@@ -29,17 +29,21 @@ pub fn check_identification(section: &Section<'_>) -> Result<(), ReadFault>
 }
 
 /// Tries the rows of Section 3.
-pub fn check_grid(section: &Section<'_>) -> Result<(), ReadFault>
+pub fn check_grid(profile: Profile, section: &Section<'_>) -> Result<(), ReadFault>
     ensures { AreTried (first_fault_at section.now.start
-        (grid_rows section.now.octets.now)) result }
+        (grid_rows_under profile section.now.octets.now)) result }
 {
-    Ok(grib2_grids::check_grid(section)?)
+    Ok(grib2_grids::check_grid_under(profile, section)?)
 }
 
 /// Tries the rows of a Section 4 that stands after this number of fields.
-pub fn check_product(fields: usize, section: &Section<'_>) -> Result<(), ReadFault>
+pub fn check_product(
+    profile: Profile,
+    fields: usize,
+    section: &Section<'_>,
+) -> Result<(), ReadFault>
     ensures { AreTried (first_fault_at section.now.start
-        (product_rows section.now.octets.now (fields + 1))) result }
+        (product_rows_under profile section.now.octets.now (fields + 1))) result }
 {
     if fields == MOST_FIELDS && section.octets.len() >= 9 {
         return Err(ReadFault::Refused(Fault::at(
@@ -48,7 +52,7 @@ pub fn check_product(fields: usize, section: &Section<'_>) -> Result<(), ReadFau
             MOST_FIELDS as u64 + 1,
         )));
     }
-    Ok(grib2_products::check_product(section)?)
+    Ok(grib2_products::check_product_under(profile, section)?)
 }
 
 /// Tries the rows of a Section 6, where the grid in force has this number of points and Section 5 this number

@@ -1,20 +1,22 @@
 //! The column of a field.
 
-ghost use Rattle.std.specs.Prelude.{◌≡◌, ◌≤◌, List, None, length, IfOk};
+ghost use Rattle.std.specs.Prelude.{◌≡◌, ◌≤◌, ℕ, List, None, length, IfOk};
 ghost use Rattle.grib_base.specs.Rows.{first_fault};
 ghost use Rattle.grib_bitmap.specs.Mask.{bitmap_rows, mask_of, present_count};
 ghost use Rattle.grib_packing.specs.Entries.{column_from, entries_of};
 ghost use Rattle.grib_packing.specs.Packing.{value_count};
+ghost use Rattle.grib_packings.specs.Field.{Represents};
 ghost use Rattle.grib2_sections.specs.Frame.{Placed};
 ghost use Rattle.grib2_message.specs.View as definitions;
 ghost use Rattle.grib2_message.specs.View.{octets_in_force, points_in_force, mask_in_force};
-ghost use Rattle.grib2_message.specs.Kept.{IsField};
+ghost use Rattle.grib2_message.specs.Kept.{IsField, IsRead};
 
 use crate::places::{Places, section_from};
 use grib_base::{ReadFault, Section};
 use grib_bitmap::{Mask, read_mask};
 use grib_bits::u8_at;
 use grib_packing::{Column, Keeper};
+use grib_packings::{DataRepresentation, Representation};
 use std::alloc::{AllocError, Global};
 
 /// The indicator of a Section 6 that repeats an earlier bitmap (code table 6.0).
@@ -22,7 +24,7 @@ const REPEATS: u8 = 254;
 
 /// The column of the field for which the sections in force begin at these places.
 pub(crate) fn column_at(alloc: Global, octets: &[u8], places: &Places) -> Result<Column, AllocError>
-    requires { (before : List Placed) × IsField octets.now before places.now }
+    requires { (before : List Placed) × IsField octets.now before places.now × IsRead before }
     ensures column { (before : List Placed) → IsField octets.now before places.now → IfOk result
         (λ column. column ≡ column_from (octets_in_force 5 before) (mask_in_force before)
         (octets_in_force 7 before)) }
@@ -34,7 +36,7 @@ pub(crate) fn column_at(alloc: Global, octets: &[u8], places: &Places) -> Result
         (λ column. length column.points ≡ points_in_force before) }
 {
     let mask = mask_at(alloc, octets, places)?;
-    let representation = places.force.representation();
+    let representation = representation_at(places);
     match representation.unpack(alloc, &mask, &places.section(octets, 7)) {
         Ok(column) => Ok(column),
         Err(ReadFault::Memory) => Err(AllocError),
@@ -49,17 +51,29 @@ pub(crate) fn take_values_at<K: Keeper + Drop>(
     places: &Places,
     keeper: K,
 ) -> Result<K, AllocError>
-    requires { (before : List Placed) × IsField octets.now before places.now }
+    requires { (before : List Placed) × IsField octets.now before places.now × IsRead before }
     ensures { (before : List Placed) → IsField octets.now before places.now → IfOk result
         (λ after. K.kept keeper (entries_of (octets_in_force 5 before) (octets_in_force 7 before)) after
         × (length (entries_of (octets_in_force 5 before) (octets_in_force 7 before))
         ≡ value_count (octets_in_force 5 before))) }
 {
-    let representation = places.force.representation();
+    let representation = representation_at(places);
     match representation.take_values(alloc, &places.section(octets, 7), keeper) {
         Ok(after) => Ok(after),
         Err(ReadFault::Memory) => Err(AllocError),
         Err(ReadFault::Refused(_)) => unreachable!(),
+    }
+}
+
+/// What Section 5 says of that field, the values of which can be read.
+fn representation_at(places: &Places) -> &Representation
+    requires { (message : List ℕ) × (before : List Placed) × IsField message before places.now × IsRead before }
+    ensures { (message : List ℕ) (before : List Placed) → IsField message before places.now
+        → Represents result.now (octets_in_force 5 before) }
+{
+    match places.force.representation() {
+        DataRepresentation::Read(representation) => representation,
+        DataRepresentation::Opaque(_) => unreachable!(),
     }
 }
 

@@ -1,6 +1,7 @@
 //! A message that was read.
 
 ghost use Rattle.std.specs.Prelude.{◌≡◌, ◌≢◌, ◌≤◌, ℕ, length, None, Some, MatchOption, MatchResult, IfOk, IsOk, All};
+ghost use Rattle.grib_base.specs.declared.profile.Profile.TheVariants.{Stated};
 ghost use Rattle.grib2_sections.specs.Frame.{placed_at};
 ghost use Rattle.grib2_grids.specs.Grid.{grid_points, list_octets};
 ghost use Rattle.grib2_grids.specs.Spelled as grids;
@@ -42,17 +43,18 @@ impl<'a> Model for Message<'a> {
 
     ghost Value = { List ℕ };
 
+    ghost use Rattle.grib_base.specs.declared.profile.Profile.TheVariants.{Stated};
     ghost use Rattle.grib2_message.specs.Kept.{Keeps};
 
     ghost view = { λ message. message.octets.now };
 
-    ghost invariant = { λ message. Keeps message.octets.now message.fields.items };
+    ghost invariant = { λ message. Keeps Stated message.octets.now message.fields.items };
 }
 
 impl<'a> Message<'a> {
     /// The message of these octets, of which this was kept.
     pub(crate) fn of(octets: &'a [u8], fields: Vec<Places>) -> Message<'a>
-        requires { Keeps octets.now fields.items }
+        requires { Keeps Stated octets.now fields.items }
         ensures { result ≡ octets.now }
     {
         Message { octets, fields }

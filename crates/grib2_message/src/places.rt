@@ -4,11 +4,11 @@ ghost use Rattle.std.specs.Prelude.{◌≡◌, ◌<◌, ◌∷◌, List, ℕ, ge
 ghost use Rattle.grib_base.specs.Faults.{IsReadFault};
 ghost use Rattle.grib2_sections.specs.Frame.{Placed, placed_at, section_at};
 ghost use Rattle.grib2_message.specs.View.{octets_in_force};
-ghost use Rattle.grib2_message.specs.Acceptance.{section_fault};
+ghost use Rattle.grib2_message.specs.Acceptance.{section_fault_under};
 ghost use Rattle.grib2_message.specs.Kept.{Comes, HasPlaces, StandsAt};
 
 use crate::InForce;
-use grib_base::{ReadFault, Section};
+use grib_base::{Profile, ReadFault, Section};
 use grib_bits::u32_at;
 use std::alloc::Global;
 
@@ -21,13 +21,14 @@ pub(crate) struct Places {
 }
 
 impl Places {
-    /// Those before the first section.
-    pub fn new() -> Places
-        ensures { (message : List ℕ) → HasPlaces message [] result }
+    /// Those before the first section of a message that is read under this profile.
+    pub fn new(profile: Profile) -> Places
+        ensures places { (message : List ℕ) → HasPlaces message [] result }
+        ensures profile { result.force.profile ≡ profile }
     {
         Places {
             starts: [0; 8],
-            force: InForce::new(),
+            force: InForce::new(profile),
         }
     }
 
@@ -39,12 +40,13 @@ impl Places {
     pub fn go_past(&mut self, alloc: Global, section: &Section<'_>) -> Result<(), ReadFault>
         requires comes { (message : List ℕ) × (before : List Placed) × HasPlaces message before self.old
             × Comes message before section.now.number section.now.start section.now.octets.now }
-        ensures { (message : List ℕ) (before : List Placed) → HasPlaces message before self.old
+        ensures tried { (message : List ℕ) (before : List Placed) → HasPlaces message before self.old
             → Comes message before section.now.number section.now.start section.now.octets.now
             → MatchResult result
-            (λ _. (section_fault before (placed_at section.now.start section.now.octets.now) ≡ None)
+            (λ _. (section_fault_under self.old.force.profile before (placed_at section.now.start section.now.octets.now) ≡ None)
             × HasPlaces message (placed_at section.now.start section.now.octets.now ∷ before) self.new)
-            (IsReadFault (section_fault before (placed_at section.now.start section.now.octets.now))) }
+            (IsReadFault (section_fault_under self.old.force.profile before (placed_at section.now.start section.now.octets.now))) }
+        ensures profile { self.new.force.profile ≡ self.old.force.profile }
     {
         self.force.go_past(alloc, section)?;
         self.starts[section.number as usize] = section.start as u32;

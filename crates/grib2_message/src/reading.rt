@@ -4,7 +4,7 @@ ghost use Rattle.std.specs.Prelude.{◌≡◌, ◌≤◌, length, take, None, Ma
 ghost use Rattle.grib_base.specs.Rows.{first_fault};
 ghost use Rattle.grib2_sections.specs.Head.{indicator, edition, head_rows, total_length};
 ghost use Rattle.grib2_sections.specs.Verdict.{Accepted};
-ghost use Rattle.grib2_message.specs.Acceptance.{verdict_2};
+ghost use Rattle.grib2_message.specs.Acceptance.{verdict_2, verdict_under};
 ghost use Rattle.grib2_message.specs.Fields.{field_count};
 ghost use Rattle.grib2_message.specs.Kept.{Keeps};
 ghost use Rattle.grib2_message.specs.Message.{IsMessage};
@@ -12,7 +12,7 @@ ghost use Rattle.grib2_sections.specs.Refused.{IsVerdict};
 
 use crate::Message;
 use crate::places::Places;
-use grib_base::ReadFault;
+use grib_base::{Profile, ReadFault};
 use grib2_sections::{Frame, read_head};
 use std::alloc::Global;
 
@@ -31,23 +31,28 @@ pub fn read_message<'a>(alloc: Global, octets: &'a [u8]) -> Result<Message<'a>, 
         (IsVerdict (verdict_2 octets.now)) }
 {
     let head = read_head(octets)?;
-    let fields = read_fields(alloc, octets, head.total)?;
+    let fields = read_fields(alloc, Profile::Stated, octets, head.total)?;
     Ok(Message::of(&octets[..head.total as usize], fields))
 }
 
-/// Walks over the sections of a message of this total length, and keeps where those of each field begin.
-fn read_fields(alloc: Global, octets: &[u8], total: u64) -> Result<Vec<Places>, ReadFault>
+/// Walks over the sections of a message of this total length under this profile, and keeps where those of each field begin.
+fn read_fields(
+    alloc: Global,
+    profile: Profile,
+    octets: &[u8],
+    total: u64,
+) -> Result<Vec<Places>, ReadFault>
     requires indicated { take 4 octets.now ≡ indicator }
     requires edition { edition octets.now ≡ 2 }
     requires begun { first_fault (head_rows octets.now) ≡ None }
     requires total { total ≡ total_length octets.now }
     ensures { MatchResult result
-        (λ fields. (verdict_2 octets.now ≡ Accepted total)
-        × Keeps (take total octets.now) fields.items)
-        (IsVerdict (verdict_2 octets.now)) }
+        (λ fields. (verdict_under profile octets.now ≡ Accepted total)
+        × Keeps profile (take total octets.now) fields.items)
+        (IsVerdict (verdict_under profile octets.now)) }
 {
     let mut fields = Vec::new(alloc);
-    let mut places = Places::new();
+    let mut places = Places::new(profile);
     let mut frame = Frame::new(total);
     while let Some(section) = frame.next(octets)? {
         places.go_past(alloc, &section)?;

@@ -1,21 +1,26 @@
 //! What describes a field: the numbers that its line of a list has.
 
-ghost use Rattle.std.specs.Prelude.{◌≡◌, ◌≢◌, ◌≤◌, ℕ, List, [], ◌∷◌, None, length};
+ghost use Rattle.std.specs.Prelude.{◌≡◌, ◌≢◌, ◌+◌, ◌≤◌, ℕ, false, List, [], ◌∷◌, Some, None, length};
 ghost use Rattle.grib_base.specs.Rows.{first_fault_at};
+ghost use Rattle.grib_base.specs.declared.profile.Profile.{Profile};
 ghost use Rattle.grib_bits.specs.Octets.{octets as number_at};
-ghost use Rattle.grib_packing.specs.Packing.{packing_template, bit_width, value_count};
+ghost use Rattle.grib_packing.specs.Entries.{is_opaque_packing};
+ghost use Rattle.grib_packing.specs.Packing.{packing_template, value_count};
 ghost use Rattle.grib2_grids.specs.Grid.{grid_points, grid_template};
 ghost use Rattle.grib2_products.specs.Product.{product_template};
+ghost use Rattle.grib2_products.specs.Opaque as opaque_product;
 ghost use Rattle.grib2_sections.specs.Frame.{Placed, placed_at};
 ghost use Rattle.grib2_sections.specs.Identification.{identification_rows};
-ghost use Rattle.grib2_message.specs.Acceptance.{section_fault};
+ghost use Rattle.grib2_message.specs.Acceptance.{section_fault_under};
 ghost use Rattle.grib2_message.specs.Fields.{field_count, part_octets};
 ghost use Rattle.grib2_message.specs.Message.{FieldPasses};
-ghost use Rattle.grib2_message.specs.Summary.{identification_of, summary_in_force, summary_of};
+ghost use Rattle.grib2_message.specs.Summary.{bits_of_packing, identification_of, instant_octets, summary_in_force, summary_of};
 
 use crate::Message;
 use grib_base::Section;
 use grib_bits::{u8_at, u16_at, u32_at};
+use grib_packing::is_opaque;
+use grib2_products::instant_shift;
 use grib2_sections::{Identification, read_identification};
 
 /// What describes a field of a message of edition 2 (WMO-No. 306, Volume I.2, FM 92 GRIB edition 2): octet
@@ -37,7 +42,9 @@ pub struct FieldSummary {
     pub category: u8,
     /// The parameter number (code table 4.2): octet 11 of Section 4.
     pub number: u8,
-    /// The unit of the forecast time (code table 4.4): octet 18 of Section 4.
+    /// The unit of the forecast time (code table 4.4): octet 18 of Section 4. This number and the next four are
+    /// those of product template 4.0; they stand two octets later in templates 4.40 to 4.43, and are 0 in a
+    /// template that does not begin as 4.0.
     pub unit: u8,
     /// The forecast time, with its sign in the first bit: octets 19-22 of Section 4.
     pub time: u32,
@@ -50,7 +57,7 @@ pub struct FieldSummary {
     pub value: u32,
     /// The data representation template (code table 5.0): octets 10-11 of Section 5.
     pub packing: u16,
-    /// The bits of each packed value or group reference: octet 20 of Section 5.
+    /// The bits of each packed value or group reference: octet 20 of Section 5. 0 of an opaque packing.
     pub bits: u8,
     /// The number of values: octets 6-9 of Section 5.
     pub values: u32,
@@ -97,7 +104,7 @@ impl FieldSummary {
 
     /// What describes a field after the next section, which no row refused.
     pub fn with_section(self, section: &Section<'_>) -> FieldSummary
-        requires accepted { (before : List Placed) × (section_fault before
+        requires accepted { (profile : Profile) × (before : List Placed) × (section_fault_under profile before
             (placed_at section.now.start section.now.octets.now) ≡ None) }
         ensures { (discipline : ℕ) (before : List Placed) → self ≡ summary_in_force discipline before
             → result ≡ summary_in_force discipline (placed_at section.now.start section.now.octets.now ∷ before) }
@@ -139,39 +146,81 @@ impl FieldSummary {
 
     /// With the numbers of this Section 4.
     fn with_product(self, octets: &[u8]) -> FieldSummary
-        requires { 28 ≤ length octets.now }
+        requires least { 11 ≤ length octets.now }
+        requires instant { (shift : ℕ) → opaque_product.instant_shift (product_template octets.now) ≡ Some shift → 34 + shift ≤ length octets.now }
         ensures { result ≡ record self {
           product = product_template octets.now;
           category = number_at octets.now 10 10;
           number = number_at octets.now 11 11;
-          unit = number_at octets.now 18 18;
-          time = number_at octets.now 19 22;
-          surface = number_at octets.now 23 23;
-          scale = number_at octets.now 24 24;
-          value = number_at octets.now 25 28;
+          unit = instant_octets octets.now 18 18;
+          time = instant_octets octets.now 19 22;
+          surface = instant_octets octets.now 23 23;
+          scale = instant_octets octets.now 24 24;
+          value = instant_octets octets.now 25 28;
+        } }
+    {
+        let product = u16_at(octets, 8);
+        let summary = FieldSummary {
+            product,
+            category: u8_at(octets, 10),
+            number: u8_at(octets, 11),
+            ..self
+        };
+        match instant_shift(product) {
+            Some(shift) => summary.with_instant(octets, shift),
+            None => summary.with_no_instant(),
+        }
+    }
+
+    /// With the numbers of template 4.0, which begin later by `shift` octets.
+    fn with_instant(self, octets: &[u8], shift: usize) -> FieldSummary
+        requires { 34 + shift ≤ length octets.now }
+        ensures { result ≡ record self {
+          unit = number_at octets.now (18 + shift) (18 + shift);
+          time = number_at octets.now (19 + shift) (22 + shift);
+          surface = number_at octets.now (23 + shift) (23 + shift);
+          scale = number_at octets.now (24 + shift) (24 + shift);
+          value = number_at octets.now (25 + shift) (28 + shift);
         } }
     {
         FieldSummary {
-            product: u16_at(octets, 8),
-            category: u8_at(octets, 10),
-            number: u8_at(octets, 11),
-            unit: u8_at(octets, 18),
-            time: u32_at(octets, 19),
-            surface: u8_at(octets, 23),
-            scale: u8_at(octets, 24),
-            value: u32_at(octets, 25),
+            unit: u8_at(octets, 18 + shift),
+            time: u32_at(octets, 19 + shift),
+            surface: u8_at(octets, 23 + shift),
+            scale: u8_at(octets, 24 + shift),
+            value: u32_at(octets, 25 + shift),
+            ..self
+        }
+    }
+
+    /// Without the numbers of template 4.0.
+    fn with_no_instant(self) -> FieldSummary
+        ensures { result ≡ record self { unit = 0; time = 0; surface = 0; scale = 0; value = 0 } }
+    {
+        FieldSummary {
+            unit: 0,
+            time: 0,
+            surface: 0,
+            scale: 0,
+            value: 0,
             ..self
         }
     }
 
     /// With the numbers of this Section 5.
     fn with_representation(self, octets: &[u8]) -> FieldSummary
-        requires { 20 ≤ length octets.now }
-        ensures { result ≡ record self { packing = packing_template octets.now; bits = bit_width octets.now; values = value_count octets.now } }
+        requires least { 11 ≤ length octets.now }
+        requires known { is_opaque_packing octets.now ≡ false → 20 ≤ length octets.now }
+        ensures { result ≡ record self { packing = packing_template octets.now; bits = bits_of_packing octets.now; values = value_count octets.now } }
     {
+        let bits = if is_opaque(octets) {
+            0
+        } else {
+            u8_at(octets, 20)
+        };
         FieldSummary {
             packing: u16_at(octets, 10),
-            bits: u8_at(octets, 20),
+            bits,
             values: u32_at(octets, 6),
             ..self
         }

@@ -4,3 +4,4 @@ pub mod Ranges
 pub mod Readable
 pub mod Rebuilt
 pub mod Unique
+pub mod Under

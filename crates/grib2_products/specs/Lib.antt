@@ -4,3 +4,4 @@ pub use Rattle.grib_base.specs.Faults
 pub mod Whole
 pub mod Written
 pub mod Writable
+pub mod Opaque

@@ -3,6 +3,7 @@
 
 pub mod laws;
 mod lists;
+mod opaque;
 mod product;
 mod reading;
 mod rows;
@@ -10,6 +11,7 @@ mod templates;
 mod writing;
 
 pub use grib_base::ReadFault as ProductFault;
+pub use opaque::{check_product_under, instant_shift, is_opaque_product};
 pub use product::{Product, ProductSection};
 pub use reading::{product_of, read_product};
 pub use rows::check_product;

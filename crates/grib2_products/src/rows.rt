@@ -12,7 +12,7 @@ use grib_base::{Fault, Reason, Section};
 use grib_bits::{u8_at, u16_at};
 
 /// The least length in octets of a section with this template, if the profile has it.
-fn least_length(template: u16) -> Option<usize>
+pub(crate) fn least_length(template: u16) -> Option<usize>
     ensures { MatchOption result (is_template product_templates template ≡ false)
         (λ least. (is_template product_templates template ≡ true)
         × (least ≡ least_of product_templates template)) }

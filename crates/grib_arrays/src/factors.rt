@@ -6,8 +6,7 @@ ghost use Rattle.grib_decimal.specs.Decimal.{or_0};
 ghost use Rattle.grib_arrays.specs.Scale.{IsScaleOf};
 
 use crate::scale::ArrayScale;
-use grib_bits::signed_of;
-use grib_dyadic::Dyadic;
+use grib_dyadic::{Dyadic, scale_factor};
 use grib_nearest::Format;
 
 impl ArrayScale {
@@ -21,33 +20,12 @@ impl ArrayScale {
         let d = scale_factor(d);
         ArrayScale {
             format,
-            mantissa: signed_mantissa(reference),
+            mantissa: reference.signed_mantissa(),
             exponent: reference.exponent(),
             e: scale_factor(e),
             up: or_zero(-d),
             down: or_zero(d),
         }
-    }
-}
-
-/// A scale factor from its two octets, a sign and a magnitude.
-fn scale_factor(raw: u16) -> i32
-    ensures value { result ≡ signed (bits_of 16 raw) }
-    ensures small { nat_abs result < 2 ^ 15 }
-{
-    signed_of(u64::from(raw), 16) as i32
-}
-
-/// The mantissa with its sign.
-fn signed_mantissa(reference: &Dyadic) -> i64
-    requires { nat_abs reference.now.mantissa < 2 ^ 24 }
-    ensures { result ≡ reference.now.mantissa }
-{
-    let magnitude = reference.mantissa() as i64;
-    if reference.negative() {
-        -magnitude
-    } else {
-        magnitude
     }
 }
 

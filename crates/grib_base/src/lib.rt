@@ -6,6 +6,7 @@ mod code;
 mod fault;
 mod limits;
 mod list;
+mod profile;
 mod room;
 mod section;
 
@@ -13,5 +14,6 @@ pub use code::Code;
 pub use fault::{Fault, ReadFault, Reason, Refusal};
 pub use limits::{MOST_OCTETS, MOST_POINTS};
 pub use list::List;
+pub use profile::Profile;
 pub use room::push_within;
 pub use section::Section;

@@ -11,7 +11,7 @@ use grib_base::List;
 use grib_packing::{Column, Point};
 use std::alloc::Global;
 
-/// The greatest magnitude of a scaled number.
+/// The greatest magnitude of a scaled integer.
 const LARGEST: u64 = 1 << 60;
 
 /// What the numbers of a column are like.
@@ -82,7 +82,7 @@ impl Numbers {
     }
 }
 
-/// Which points of a column are missing. A mark is drawn for a run of points.
+/// Which points of a column are missing. The kind is drawn for a run of points.
 #[derive(Clone, Copy)]
 enum Marks {
     /// None.
@@ -98,7 +98,7 @@ enum Marks {
 }
 
 impl Marks {
-    /// In three columns of eight there are none, in two primary marks, in two of both kinds, and in one no
+    /// In three columns of eight there are none, in two primary missing values, in two of both kinds, and in one no
     /// point has a number.
     fn of(random: &mut Random) -> Marks {
         match random.below(8) {

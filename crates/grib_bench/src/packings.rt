@@ -26,7 +26,7 @@ pub enum Way {
 }
 
 impl Way {
-    /// The way with this number: that of the template, and for differences with the order behind it.
+    /// The way with this number: that of the template, and for differences with the order after it.
     pub fn of(number: u32) -> Option<Way> {
         match number {
             0 => Some(Way::Simple),

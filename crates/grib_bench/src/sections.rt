@@ -14,7 +14,7 @@ use grib_packing::{Column, Packing, read_simple};
 use grib_simple::SimplePacking;
 use std::alloc::{AllocError, Global};
 
-/// A section with this number, and these octets behind its first five.
+/// A section with this number, and these octets after its first five.
 pub fn section_octets(alloc: Global, number: u8, rest: &[u8]) -> Result<Vec<u8>, AllocError> {
     let length = (rest.len() as u64).wrapping_add(5);
     let mut octets = Vec::with_capacity(alloc, rest.len())?;

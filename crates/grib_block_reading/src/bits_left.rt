@@ -51,7 +51,7 @@ impl<'a> BitsLeft<'a> {
         Some(number)
     }
 
-    /// How many zero bits stand before the next one bit; both are passed.
+    /// How many zero bits stand before the next one bit; both are skipped.
     #[inline]
     pub(crate) fn sequence(&mut self) -> Option<u64>
         ensures found { front_sequence self.old ≡ front_of result self.new }

@@ -13,7 +13,7 @@ use grib_coding::{BlockFault, Coding};
 use grib_packing::Keeper;
 
 /// Hands on the points of `count` numbers that are coded in `octets` from their first bit on (WMO-No. 306, Volume
-/// I.2, FM 92 GRIB edition 2, data template 7.42). Octets behind the block of the last value are not read. No
+/// I.2, FM 92 GRIB edition 2, data template 7.42). Octets after the block of the last value are not read. No
 /// memory is taken.
 ///
 /// # Errors

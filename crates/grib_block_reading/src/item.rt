@@ -53,7 +53,7 @@ pub(crate) fn read_item(
     read_split(bits, coding, with_reference, identifier as u32 - 1, codes)
 }
 
-/// Reads what follows the identifier 0 and the bit behind it.
+/// Reads what follows the identifier 0 and the bit after it.
 fn read_zero(
     bits: &mut BitsLeft<'_>,
     coding: Coding,

@@ -1,4 +1,4 @@
-//! The numbers that codes tell, one after another.
+//! The numbers that codes stand for, one after another.
 
 ghost use Rattle.std.specs.Prelude.{◌≡◌, ℕ, ◌+◌, ◌++◌, ◌≤◌, true, false, length, map, replicate, cond, All};
 ghost use Rattle.grib_coding.specs.Reading.{IsWithin};
@@ -36,7 +36,7 @@ fn keep_reference<K: Keeper>(kept: Kept<K>, coding: Coding, reference: Option<u3
     }
 }
 
-/// Keeps the numbers that some codes tell.
+/// Keeps the numbers that some codes stand for.
 fn keep_codes<K: Keeper>(kept: Kept<K>, coding: Coding, codes: &[u64]) -> Kept<K>
     requires bits { coding.bits ≤ 32 }
     requires last { kept.last ≤ greatest coding }
@@ -57,7 +57,7 @@ fn keep_codes<K: Keeper>(kept: Kept<K>, coding: Coding, codes: &[u64]) -> Kept<K
     Kept { keeper, last }
 }
 
-/// Keeps a reference, if there is one, and the numbers that some codes tell behind it.
+/// Keeps a reference, if there is one, and the numbers that some codes stand for after it.
 pub(crate) fn keep_block<K: Keeper>(
     kept: Kept<K>,
     coding: Coding,
@@ -75,7 +75,7 @@ pub(crate) fn keep_block<K: Keeper>(
     keep_codes(kept, coding, codes)
 }
 
-/// The number that a code tells after the number `last`.
+/// The number that a code stands for after the number `last`.
 #[inline(always)]
 fn number_of(code: u64, is_mapped: bool, most: u32, last: u32) -> u32
     requires code { code ≤ most }
@@ -90,7 +90,7 @@ fn number_of(code: u64, is_mapped: bool, most: u32, last: u32) -> u32
     }
 }
 
-/// Keeps the numbers that `count` codes of 0 tell.
+/// Keeps the numbers that `count` codes of 0 stand for.
 fn keep_zeros<K: Keeper>(kept: Kept<K>, coding: Coding, count: u32) -> Kept<K>
     requires { kept.last ≤ greatest coding }
     ensures { (place : ℕ) → NoReference coding place count
@@ -108,7 +108,7 @@ fn keep_zeros<K: Keeper>(kept: Kept<K>, coding: Coding, count: u32) -> Kept<K>
     Kept { keeper, last }
 }
 
-/// Keeps a reference, if there is one, and the numbers that `count` codes of 0 tell behind it.
+/// Keeps a reference, if there is one, and the numbers that `count` codes of 0 stand for after it.
 pub(crate) fn keep_zero_blocks<K: Keeper>(
     kept: Kept<K>,
     coding: Coding,
@@ -124,7 +124,7 @@ pub(crate) fn keep_zero_blocks<K: Keeper>(
     keep_zeros(kept, coding, count)
 }
 
-/// The number that the code 0 tells after the number `last`, and again after itself.
+/// The number that the code 0 stands for after the number `last`, and again after itself.
 #[inline]
 fn number_of_zero(coding: Coding, last: u32) -> u32
     ensures differences { is_mapped coding ≡ true → result ≡ last }

@@ -111,7 +111,7 @@ fn take_read<K: Keeper + Drop>(
     }
 }
 
-/// Takes the codes of a block that are of values, behind a reference, if there is one.
+/// Takes the codes of a block that are of values, after a reference, if there is one.
 fn take_codes<K: Keeper + Drop>(
     reference: Option<u32>,
     coding: Coding,

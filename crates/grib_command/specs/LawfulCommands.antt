@@ -1,6 +1,7 @@
 -- Commands of one kind are lawful.
 use Rattle.std.proofs.Common.{◌≡◌, ℕ, ◌*◌, ◌≤◌, Bool, true, Option, Some, None, option_map, List, length, refl, sym, ap, arith}
 use Rattle.grib_base.specs.declared.limits.TheConstants.{MOST_OCTETS}
+use Rattle.grib_base.specs.declared.profile.Profile.TheVariants.{Stated}
 use Rattle.grib2_message.specs.Message.{IsMessage}
 use Rattle.grib2_message.proofs.Parted.{message_least}
 use Rattle.grib_stream.specs.declared.place.Place.{Place}
@@ -29,7 +30,7 @@ kept_ends m outcome is = let same : kept_at m EditionOne ≡ outcome = cc in sym
 
 -- of each message as many octets are counted as a message has at most
 pub few_each : (written : ℕ) (message : List ℕ) → IsMessage message → written ≤ MOST_OCTETS → 20 * written ≤ MOST_OCTETS * length message
-few_each written message h few = omega (arith, message_least message h)
+few_each written message h few = omega (arith, message_least Stated message h)
 
 pub printing_lawful : (first second : Place → List ℕ → List ℕ) (ending : Ending) → IsLawfulCommand (printing first second ending)
 printing_lawful first second ending = record {

@@ -1,33 +1,9 @@
 //! What is worked out once for all points of a field.
 
-ghost use Rattle.std.specs.Prelude.{◌≡◌, ℤ, ℕ, ◌<◌, ◌≤◌, ◌^◌, pos, ◌≤ℤ◌, ◌*ℤ◌, nat_abs, IfSome, SomeIff};
-ghost use Rattle.grib_bits.specs.Bits.{bits_of, signed};
+ghost use Rattle.std.specs.Prelude.{ℤ, ℕ, ◌<◌, ◌^◌, pos, ◌≤ℤ◌, IfSome, SomeIff};
 ghost use Rattle.grib_decimal.specs.Parts.{IsKnown, IsQuick};
 
 use crate::quick::Quick;
-use grib_bits::signed_of;
-use grib_dyadic::Dyadic;
-
-/// A scale factor from its two octets, a sign and a magnitude.
-pub(crate) fn scale_factor(raw: u16) -> i64
-    ensures value { result ≡ signed (bits_of 16 raw) }
-    ensures small { nat_abs result < 2 ^ 15 }
-{
-    signed_of(u64::from(raw), 16)
-}
-
-/// The mantissa with its sign.
-pub(crate) fn signed_mantissa(reference: &Dyadic) -> i64
-    requires { nat_abs reference.now.mantissa < 2 ^ 24 }
-    ensures { result ≡ reference.now.mantissa }
-{
-    let magnitude = reference.mantissa() as i64;
-    if reference.negative() {
-        -magnitude
-    } else {
-        magnitude
-    }
-}
 
 /// What serves points in 64 bits, if all that it rests on is known and fits.
 pub(crate) fn quick_of(

@@ -8,12 +8,12 @@ ghost use Rattle.grib_decimal.specs.Rounded.{IsRounding};
 
 use crate::fault::DecimalFault;
 use crate::power::{power, shifted};
-use crate::prepared::{quick_of, scale_factor, signed_mantissa};
+use crate::prepared::quick_of;
 use crate::quick::Quick;
 use crate::rounded::Rounded;
 use crate::text::append_decimal;
 use crate::wide::{number, round_wide};
-use grib_dyadic::Dyadic;
+use grib_dyadic::{Dyadic, scale_factor};
 use std::alloc::Global;
 use std::marker::Model;
 
@@ -53,11 +53,11 @@ impl DecimalScale {
         requires places { places ≤ 18 }
         ensures { result ≡ scale reference.now (signed (bits_of 16 e)) (signed (bits_of 16 d)) places }
     {
-        let e = scale_factor(e);
-        let d = scale_factor(d);
+        let e = i64::from(scale_factor(e));
+        let d = i64::from(scale_factor(d));
         let exponent = i64::from(reference.exponent());
         let unit = exponent.min(e);
-        let base = shifted(signed_mantissa(reference), exponent - unit);
+        let base = shifted(reference.signed_mantissa(), exponent - unit);
         let shift = e - unit;
         let factor = power(unit, i64::from(places) - d);
         let divisor = power(-unit, d - i64::from(places));

@@ -40,10 +40,10 @@ use std::alloc::{AllocError, Global};
 const MOST_OCTETS: u64 = 16_777_215;
 
 /// The message of edition 1 that has the values of a field of this message, counted from 1: the exact value or the
-/// missing mark of each point, and the first version and parameter that the table has for its centre and parameter,
+/// missing value of each point, and the first version and parameter that the table has for its centre and parameter,
 /// with the versions of the master and the local tables as `matching` says.
-/// Octets for the centre's own use, Section 2, become octets 41 and further of Section 1 where they are to be
-/// kept. With `any_earth` the shape of the earth is not told where edition 1 has no place for it.
+/// Octets for local use, Section 2, become octets 41 and further of Section 1 where they are to be
+/// preserved. With `any_earth` the shape of the earth is dropped where edition 1 has no place for it.
 ///
 /// # Errors
 ///

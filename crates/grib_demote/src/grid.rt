@@ -10,7 +10,7 @@ use grib_bits::Number::{Four, One, Three, Two};
 use grib_bits::{Number, add_numbers, has_bit, u8_at, u16_at, u32_at};
 use std::alloc::AllocError;
 
-/// Where the rows differ in length, or an increment is not told.
+/// Where the rows differ in length, or an increment is not given.
 const MISSING: u32 = 65535;
 
 /// The type of grid of a template.
@@ -102,7 +102,7 @@ pub(crate) fn loses_rows(section3: &[u8], rows: &[u32]) -> bool
     u8_at(section3, 12) != 1 || has_long_row(rows)
 }
 
-/// Whether a row has more points than two octets tell.
+/// Whether a row has more points than two octets can hold.
 fn has_long_row(rows: &[u32]) -> bool
     ensures { result ≡ grids.has_long_row rows.now }
 {

@@ -21,7 +21,7 @@ const LEVEL_TYPES: [u8; 23] = [
     1, 2, 3, 4, 5, 6, 7, 8, 9, 100, 101, 102, 103, 104, 105, 106, 107, 108, 109, 110, 111, 112, 113,
 ];
 
-/// The level of this Section 4, if its surfaces are those of one.
+/// The level of this Section 4, if its fixed surfaces are those of one.
 pub(crate) fn level_of(section4: &[u8]) -> Option<Level>
     requires { 34 ≤ length section4.now }
     ensures { result ≡ levels.level_of section4.now }
@@ -45,7 +45,7 @@ fn surface_at(section4: &[u8], first: usize) -> Surface
     }
 }
 
-/// The first level of these types with these surfaces.
+/// The first level of these types with these fixed surfaces.
 fn level_among(first: &Surface, second: &Surface, types: &[u8]) -> Option<Level>
     ensures { result ≡ levels.level_among first.now second.now types.now }
 {
@@ -57,7 +57,7 @@ fn level_among(first: &Surface, second: &Surface, types: &[u8]) -> Option<Level>
     None
 }
 
-/// The level of this type with these surfaces.
+/// The level of this type with these fixed surfaces.
 fn level_with(first: &Surface, second: &Surface, level_type: u8) -> Option<Level>
     ensures { result ≡ levels.level_with first.now second.now level_type }
 {
@@ -66,7 +66,7 @@ fn level_with(first: &Surface, second: &Surface, level_type: u8) -> Option<Level
     Some(Level { level_type, number })
 }
 
-/// The number of a level with these surfaces, where those of number 1, or of top 1 and bottom 1, are given.
+/// The number of a level with these fixed surfaces, where those of number 1, or of top 1 and bottom 1, are given.
 fn number_by(first: &Surface, second: &Surface, one: &Surfaces) -> Option<u16>
     requires { AreOnes one.now }
     ensures { result ≡ levels.number_by first.now second.now one.now }
@@ -85,7 +85,7 @@ fn number_by(first: &Surface, second: &Surface, one: &Surfaces) -> Option<u16>
     Some(256 * top + bottom)
 }
 
-/// Whether a surface has no value.
+/// Whether a fixed surface has no value.
 fn is_bare(found: &Surface) -> bool
     ensures { result ≡ levels.is_bare found.now }
 {
@@ -93,7 +93,7 @@ fn is_bare(found: &Surface) -> bool
         && (found.scaled_value == u32::MAX || found.scaled_value == 0)
 }
 
-/// The number below a limit that a surface has, where that of number 1 is given.
+/// The number below a limit that a fixed surface has, where that of number 1 is given.
 fn number_below(limit: u32, one: &Surface, found: &Surface) -> Option<u16>
     requires one { IsOne one.now }
     requires limit { limit ≤ 65536 }
@@ -107,7 +107,7 @@ fn number_below(limit: u32, one: &Surface, found: &Surface) -> Option<u16>
     Some(number as u16)
 }
 
-/// How often the value of a surface has that of number 1.
+/// How often the value of a fixed surface has that of number 1.
 fn number_in(one: &Surface, found: &Surface) -> Option<u128>
     requires { IsOne one.now }
     ensures { result ≡ levels.number_in one.now found.now }

@@ -91,7 +91,7 @@ fn flags_of(has_bitmap: bool) -> u8
     128 + 64 * u8::from(has_bitmap)
 }
 
-/// Adds octets 29 and further, where the octets for the centre's own use are kept and there are any.
+/// Adds octets 29 and further, where the octets for local use are preserved and there are any.
 fn add_local(local: &[u8], keep_local: bool, out: &mut Vec<u8>) -> Result<(), AllocError>
     ensures { OnOk result (out.new.items ≡ out.old.items ++ products.local_octets keep_local local.now) }
 {
@@ -102,7 +102,7 @@ fn add_local(local: &[u8], keep_local: bool, out: &mut Vec<u8>) -> Result<(), Al
     Ok(())
 }
 
-/// Whether Section 2 has octets for the centre's own use.
+/// Whether Section 2 has octets for local use.
 pub(crate) fn has_local(local: &[u8]) -> bool
     ensures { result ≡ products.has_local local.now }
 {

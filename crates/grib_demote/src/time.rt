@@ -68,7 +68,7 @@ pub(crate) fn is_interval(section4: &[u8]) -> bool
     u16_at(section4, 8) == 8
 }
 
-/// Whether edition 1 tells the generating process with the forecast time.
+/// Whether edition 1 can express the generating process with the forecast time.
 pub(crate) fn has_process(section4: &[u8]) -> bool
     requires { 34 ≤ length section4.now }
     ensures { result ≡ times.has_process section4.now }
@@ -96,7 +96,7 @@ fn is_statistic(process: u8) -> bool
     process == 0 || process == 1 || process == 4
 }
 
-/// Whether an interval with one time range, as edition 1 tells it.
+/// Whether an interval with one time range, as edition 1 can express it.
 fn has_range(section4: &[u8]) -> bool
     requires whole { IsWhole section4.now }
     requires interval { times.is_interval section4.now ≡ true }

@@ -6,6 +6,7 @@ use Rattle.grib_bits.proofs.OctetBits.{length-bits}
 use Rattle.grib_bits.proofs.Listed.{AreOctets-from_All}
 use Rattle.grib_base.specs.Rows.{first_place}
 use Rattle.grib_bitmap.specs.Mask.{present_count}
+use Rattle.grib_base.specs.declared.profile.Profile.TheVariants.{Stated}
 use Rattle.grib2_sections.specs.Head.{discipline}
 use Rattle.grib2_grids.specs.Grid as grid2
 use Rattle.grib2_products.specs.Spelled.{coordinate_list}
@@ -77,10 +78,10 @@ module _ (table : Entries) (matching : TableMatch) (keep any : Bool) (message : 
   kept = all_kept table matching keep any message i may.kept
 
   pub passes : FieldPasses message i
-  passes = field_passes_alone message i may.accepted may.first may.last
+  passes = field_passes_alone Stated message i may.accepted may.first may.last
 
   pub mask_long : length (field_mask message i) ≡ n
-  mask_long = field_mask_long message i may.accepted (AreOctets-from_All message may.small) may.first may.last
+  mask_long = field_mask_long Stated message i may.accepted (AreOctets-from_All message may.small) may.first may.last
 
   pub as_long : length column.points ≡ n
   as_long = column_long message i passes mask_long
@@ -157,7 +158,7 @@ module _ (table : Entries) (matching : TableMatch) (keep any : Bool) (message : 
 
   pub field_grammar : Grammar1 (demoted table matching keep message i) (record { identification = a; grid = b; bitmap = c; data_section = d })
   field_grammar =
-      let bounds = points_bounds (part 3) passes.grid in
+      let bounds = points_bounds Stated (part 3) passes.grid in
       let is_a = is_section_1 told (part 1) (part 4) (part 5) local (has_bitmap values) (omega (arith, all_short)) in
       let is_b = grid_is_section (part 3) words passes.grid kept.product.template kept.shape.numbers kept.shape.rows few_words bounds.0 bounds.1 (omega (arith, all_short)) in
       let flagged : is_some c ≡ flags_bitmap a = section_3-some values n ∙ sym (flags_it told (part 1) (part 4) (part 5) local (has_bitmap values)) in

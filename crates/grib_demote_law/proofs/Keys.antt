@@ -11,6 +11,7 @@ use Rattle.grib_bits.specs.Octets.{octets, num_on}
 use Rattle.grib_bits.specs.Encoding.{section_of}
 use Rattle.grib_bits.proofs.OctetBits.{AreOctets}
 use Rattle.grib_bits.proofs.OctetNumbers.{octets-lt}
+use Rattle.grib_base.specs.declared.profile.Profile.TheVariants.{Stated}
 use Rattle.grib2_sections.specs.Head.{discipline}
 use Rattle.grib2_grids.specs.Grid as grid2
 use Rattle.grib2_products.specs.Product.{product_template}
@@ -197,7 +198,7 @@ module _ (text : List ℕ) (table : Entries) (matching : TableMatch) (keep any :
   points_key : octets w3 7 10 ≡ octets (part 3) 7 10
   points_key =
       let passes = accepted.passes table matching keep any message i may in
-      let bounds = points_bounds (part 3) passes.grid in
+      let bounds = points_bounds Stated (part 3) passes.grid in
       let most = bounds.1 in
       keys3.points_back (grid2.grid_points (part 3)) b (part 3) (back.grid_back table matching keep any message i may) (small 3) (omega (arith, most))
 

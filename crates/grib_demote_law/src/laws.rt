@@ -56,7 +56,7 @@ pub fn any_tables_are_those_of_the_record()
         → is_none (first_pair table Any centre parameter) ≡ false }
 {}
 
-/// The level of a field fits its octets, has surfaces, and has no number where its type has none.
+/// The level of a field fits its octets, has fixed surfaces, and has no number where its type has none.
 pub fn the_level_has_surfaces()
     ensures fits { (section : List ℕ) (level : Level) → level_of section ≡ Some level
         → (level.level_type < 256) × (level.number < 65536) }
@@ -81,7 +81,7 @@ pub fn nothing_is_lost_on_the_way_back()
         → first_loss table keep_local (demoted table matching keep_local message field) ≡ None }
 {}
 
-/// What a field is demoted to has its scaled numbers and its missing points, and at each grid point its exact
+/// What a field is demoted to has its scaled integers and its missing points, and at each grid point its exact
 /// value.
 pub fn what_is_demoted_keeps_its_values()
     ensures points { (table : Entries) (matching : TableMatch) (keep_local any_earth : Bool) (message : List ℕ) (field : ℕ)
@@ -92,7 +92,7 @@ pub fn what_is_demoted_keeps_its_values()
         → SameMeaning (meaning_of message field) (meaning1_of (demoted table matching keep_local message field)) }
 {}
 
-/// A field that is demoted and migrated back has its scaled numbers and its missing points, and at each grid point
+/// A field that is demoted and migrated back has its scaled integers and its missing points, and at each grid point
 /// its exact value.
 pub fn means_what_it_meant()
     ensures points { (text : List ℕ) (table : Entries) (matching : TableMatch) (keep_local any_earth : Bool) (message : List ℕ) (field : ℕ)

@@ -10,6 +10,7 @@ use Rattle.grib_base.specs.declared.fault.Reason.{Reason}
 use Rattle.grib_base.specs.declared.fault.Reason.TheVariants.{Truncated}
 use Rattle.grib_base.specs.Rows.{choose, first_fault}
 use Rattle.grib_base.specs.declared.limits.TheConstants.{MOST_OCTETS}
+use Rattle.grib_base.specs.declared.profile.Profile.TheVariants.{Stated}
 use Rattle.grib2_sections.specs.Verdict.{Verdict, Accepted, Refused}
 use Rattle.grib2_sections.specs.Head.{edition, head_rows}
 use Rattle.grib2_sections.specs.Frame.{ends_at, section_at, placed_at}
@@ -106,14 +107,14 @@ pub least_message : (octets : List ℕ) (total : ℕ) → judge octets ≡ Messa
 least_message octets total is =
     ⊎_elim
     (λ (m : IsFirst octets (Accepted total)). first_least octets total m.edition_is m.verdict_is)
-    (λ (m : IsOther octets (Accepted total)). omega (arith, accepted_least octets total (not_first octets m.other_edition) m.verdict_is))
+    (λ (m : IsOther octets (Accepted total)). omega (arith, accepted_least Stated octets total (not_first octets m.other_edition) m.verdict_is))
     (message_judged octets total is)
 
 pub there_message : (octets : List ℕ) (total : ℕ) → judge octets ≡ Message total → total ≤ length octets
 there_message octets total is =
     ⊎_elim
     (λ (m : IsFirst octets (Accepted total)). first_there octets total m.edition_is m.verdict_is)
-    (λ (m : IsOther octets (Accepted total)). accepted_there octets total (not_first octets m.other_edition) m.verdict_is)
+    (λ (m : IsOther octets (Accepted total)). accepted_there Stated octets total (not_first octets m.other_edition) m.verdict_is)
     (message_judged octets total is)
 
 long_message : (octets : List ℕ) (total : ℕ) → judge octets ≡ Message total → 8 ≤ length octets
@@ -127,7 +128,7 @@ message_stays octets more total is =
     first (octets ++ more) (still octets more true long m.first_edition) ∙ ap judged (first_stays octets more total m.edition_is m.verdict_is))
     (λ (m : IsOther octets (Accepted total)).
     other (octets ++ more) (still octets more false long m.other_edition)
-    ∙ ap judged (accepted_stays octets more total (not_first octets m.other_edition) m.verdict_is))
+    ∙ ap judged (accepted_stays Stated octets more total (not_first octets m.other_edition) m.verdict_is))
     (message_judged octets total is)
 
 -- a refusal of fewer octets than eight is that of their end
@@ -156,7 +157,7 @@ refusal_stays octets more fault is whole =
     ∙ ap judged (first_refused_stays octets more fault m.edition_is m.verdict_is (reason_other fault.reason whole)))
     (λ (m : IsOther octets (Refused fault)).
     other (octets ++ more) (still octets more false (long_enough octets fault m.verdict_is whole) m.other_edition)
-    ∙ ap judged (refused_stays octets more fault (not_first octets m.other_edition) m.verdict_is (reason_other fault.reason whole)))
+    ∙ ap judged (refused_stays Stated octets more fault (not_first octets m.other_edition) m.verdict_is (reason_other fault.reason whole)))
     (refusal_judged octets fault is)
 
 alone : (octets : List ℕ) (total : ℕ) → judge octets ≡ Message total → judge (take total octets) ≡ Message total
@@ -168,7 +169,7 @@ alone octets total is =
     first (take total octets) (same ∙ m.first_edition) ∙ ap judged (first_alone octets total m.edition_is m.verdict_is))
     (λ (m : IsOther octets (Accepted total)).
     other (take total octets) (same ∙ m.other_edition)
-    ∙ ap judged (accepted_alone octets total (not_first octets m.other_edition) m.verdict_is))
+    ∙ ap judged (accepted_alone Stated octets total (not_first octets m.other_edition) m.verdict_is))
     (message_judged octets total is)
 
 -- fields are fewer than octets
@@ -210,15 +211,15 @@ head_none (Some fault) next total is = let no : ⊥ = cc in absurd no
 pub message_alone : (rest : List ℕ) (total : ℕ) → begins rest ≡ true → IsOther rest (Accepted total) → IsMessage (take total rest)
 message_alone rest total begun m =
     let other = not_first rest m.other_edition in
-    let least : 20 ≤ total = accepted_least rest total other m.verdict_is in
-    let there : total ≤ length rest = accepted_there rest total other m.verdict_is in
+    let least : 20 ≤ total = accepted_least Stated rest total other m.verdict_is in
+    let there : total ≤ length rest = accepted_there Stated rest total other m.verdict_is in
     let size : length (take total rest) ≡ total = length-take-le total rest there in
     let head = head_none (first_fault (head_rows rest)) _ total m.verdict_is in
     let second : edition rest ≡ 2 = (head_passes rest other (passes_from_none (head_rows rest) head)).second_edition in
     record {
       indicated = sym (take-append-le 4 (take total rest) (drop total rest) (omega arith)) ∙ (ap (take 4) (take-append-drop total rest) ∙ begins_is rest begun);
       edition_stands = edition_alone rest total (omega arith) there ∙ second;
-      accepted = accepted_alone rest total other m.verdict_is ∙ ap Accepted (sym size);
+      accepted = accepted_alone Stated rest total other m.verdict_is ∙ ap Accepted (sym size);
     }
 
 pub first_alone_message : (rest : List ℕ) (total : ℕ) → begins rest ≡ true → IsFirst rest (Accepted total) → IsMessage1 (take total rest)

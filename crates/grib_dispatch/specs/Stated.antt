@@ -4,6 +4,7 @@ use Rattle.std.specs.declared.option.Option.{Option}
 use Rattle.std.proofs.lemmas.Bool.{cond-true, cond-false}
 use Rattle.grib_base.specs.declared.fault.Fault.{Fault}
 use Rattle.grib_base.specs.Rows.{first_fault}
+use Rattle.grib_base.specs.declared.profile.Profile.TheVariants.{Stated}
 use Rattle.grib2_sections.specs.Head.{edition, discipline, total_length, total_length_1, head_rows, head_of}
 use Rattle.grib2_sections.specs.Verdict.{Accepted}
 use Rattle.grib2_sections.specs.declared.indicator.Head.{Head}
@@ -31,6 +32,6 @@ states octets total is =
     (λ (m : IsOther octets (Accepted total)). (
       head_none (first_fault (head_rows octets)) _ total m.verdict_is,
       ap (λ (h : Head). h.total) (cond-false (edition octets == 1) one two m.other_edition)
-          ∙ accepted_states octets total (not_first octets m.other_edition) m.verdict_is,
+          ∙ accepted_states Stated octets total (not_first octets m.other_edition) m.verdict_is,
     ))
     (message_judged octets total is)

@@ -1,4 +1,4 @@
-//! Messages of edition 2 that are judged as their octets come, and answered by what was heard of them.
+//! Messages of edition 2 that are judged as their octets come, and answered by what was found of them.
 
 ghost use Rattle.std.specs.Prelude.{◌≡◌};
 ghost use Rattle.grib2_arrival.specs.Heard.{Heard};
@@ -9,7 +9,7 @@ use grib_command::Answered;
 use grib_stream::{HearStop, Hearer, Kept, Outcome, Place, Whole};
 use grib2_arrival::Arrival;
 
-/// Hears a message of edition 2.
+/// Judges a message of edition 2 incrementally.
 #[derive(Debug, Drop)]
 pub struct SecondHearer {
     pub(crate) arrival: Arrival,
@@ -41,7 +41,7 @@ impl Hearer for SecondHearer {
     }
 }
 
-/// What came of a message that was heard, with this many octets and fields.
+/// What came of a message that was judged incrementally, with this many octets and fields.
 pub(crate) fn heard(
     answered: Answered,
     place: &Place,

@@ -1,4 +1,4 @@
-//! The messages of a stream, read whole or heard as they come, and answered by any command.
+//! The messages of a stream, read whole or judged as they come, and answered by any command.
 #![tactic(auto)]
 
 mod counting;

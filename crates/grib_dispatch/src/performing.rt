@@ -1,10 +1,10 @@
-//! A command as what answers the messages of an input, and says how it goes past what is refused or kept.
+//! A command as what answers the messages of an input, and says how it skips what is refused or not changed.
 
 use crate::counting::counted;
 use crate::hearing::{SecondHearer, heard};
 use crate::held::answer_held;
 use crate::reading::read_held;
-use grib_base::{Fault, ReadFault};
+use grib_base::{Fault, Profile, ReadFault};
 use grib_command::{Answered, Answerer, copied_line, kept_line};
 use grib_io::{Shelf, Sink, Stop};
 use grib_stream::{Extent, Kept, Outcome, Performed, Performer, Place, Totals, Whole};
@@ -48,7 +48,7 @@ impl<C: Answerer> Performer for Answering<'_, C> {
 
     fn hear(&self, alloc: Global) -> SecondHearer {
         SecondHearer {
-            arrival: Arrival::new(alloc),
+            arrival: Arrival::new(alloc, Profile::Stated),
         }
     }
 
@@ -77,7 +77,7 @@ impl<C: Answerer> Performer for Answering<'_, C> {
         }
     }
 
-    /// Of a command that hears nothing nothing was heard, and nothing is done.
+    /// A command that judges no message incrementally has taken nothing, and does nothing.
     fn perform_heard<T: Sink>(
         &self,
         alloc: Global,

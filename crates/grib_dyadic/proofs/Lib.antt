@@ -8,3 +8,4 @@ pub mod Signs
 pub mod IeeeWords
 pub mod IbmWords
 pub mod Halvings
+pub mod Factors

@@ -1,4 +1,4 @@
-ghost use Rattle.std.specs.Prelude.{◌≡◌, ◌↔◌, pos, neg_ℤ, ◌≤ℤ◌, ◌<ℤ◌, nat_abs, IsTrue};
+ghost use Rattle.std.specs.Prelude.{◌≡◌, ◌<◌, ◌^◌, ◌↔◌, pos, neg_ℤ, ◌≤ℤ◌, ◌<ℤ◌, nat_abs, IsTrue};
 ghost use Rattle.grib_dyadic.specs.Reference.{binary, SameNumber, IsReduced};
 ghost use Rattle.grib_dyadic.specs.Sign.{signed};
 
@@ -71,6 +71,15 @@ impl Dyadic {
         ensures reduced { IsReduced self.now }
     {
         self.mantissa
+    }
+
+    /// The odd factor of the number with its sign, or 0.
+    pub fn signed_mantissa(&self) -> i64
+        requires { nat_abs self.now.mantissa < 2 ^ 63 }
+        ensures { result ≡ self.now.mantissa }
+    {
+        let magnitude = self.mantissa as i64;
+        if self.negative { -magnitude } else { magnitude }
     }
 
     /// The power of two that the mantissa is taken times.

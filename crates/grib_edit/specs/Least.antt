@@ -1,6 +1,7 @@
 -- `repack to=least`: each message with each of its fields in the fewest octets.
 use Rattle.std.proofs.Common.{◌≤◌, None, length, arith}
 use Rattle.grib_base.specs.declared.limits.TheConstants.{MOST_OCTETS}
+use Rattle.grib_base.specs.declared.profile.Profile.TheVariants.{Stated}
 use Rattle.grib2_message.specs.Assembled.{assembled}
 use Rattle.grib2_message.proofs.Parted.{message_most}
 use Rattle.grib_least.specs.Least.{least, least_forms}
@@ -17,5 +18,5 @@ least_command = changing_unless (λ message. None) least
 pub least_lawful : IsLawfulCommand least_command
 least_lawful = unless_lawful (λ message. None) least (λ message h none.
     let shorter : length (least message) ≤ length message = no_longer message (assembled message (least_forms message)) in
-    let most : length message ≤ MOST_OCTETS = message_most message h in
+    let most : length message ≤ MOST_OCTETS = message_most Stated message h in
     omega (arith, shorter, most))

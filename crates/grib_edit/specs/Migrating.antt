@@ -9,6 +9,7 @@ use Rattle.grib_reasons.specs.declared.cause.Cause.TheVariants.{Lost}
 use Rattle.grib1_sections.specs.Acceptance.{identification}
 use Rattle.grib1_sections.specs.Message.{IsMessage1}
 use Rattle.grib1_sections.proofs.Joined.{message_sections_pass}
+use Rattle.grib_base.specs.declared.profile.Profile.TheVariants.{Stated}
 use Rattle.grib2_message.proofs.Parted.{message_most}
 use Rattle.grib_params.specs.Surfaces.{SurfaceEntries}
 use Rattle.grib_params.specs.Table.{Entries}
@@ -77,7 +78,7 @@ module _ (local : Local) (table : Entries) (surfaces : SurfaceEntries) where
       let own = ap (λ b. choose b (λ _. given_unless (option_map Lost (first_loss_with table surfaces local message)) m (migrated_with table surfaces local message)) (λ _. Gives [] 0)) (sym yes) in
       let gives : given_unless (option_map Lost (first_loss_with table surfaces local message)) m (migrated_with table surfaces local message) ≡ Gives acts written = cc in
       let few : (option_map Lost (first_loss_with table surfaces local message) ≡ None → length (migrated_with table surfaces local message) ≤ MOST_OCTETS) =
-      λ none. message_most (migrated_with table surfaces local message)
+      λ none. message_most Stated (migrated_with table surfaces local message)
       (chosen_is_message table surfaces local message (record { accepted = h; small = all_octets message yes; kept = unmapped Lost (first_loss_with table surfaces local message) none })) in
       let most = unless_few (option_map Lost (first_loss_with table surfaces local message)) m (migrated_with table surfaces local message) acts written few gives in
       omega (arith, first_least message h))

@@ -20,7 +20,7 @@ pub trait Changer {
     /// What a message at a place gives.
     ghost gives: { Self → AtPlace → List ℕ → Given };
 
-    /// Writes what is made of a message, or keeps it, wherever it stands.
+    /// Writes what is made of a message, or leaves it unchanged, wherever it stands.
     fn change<T: Sink>(&self, alloc: Global, message: &Message<'_>, output: &mut T) -> Answered
         ensures { (place : AtPlace) → AnswersByOutput T.contents T.faults T.settled result place.message
             (gives self.now place message.now) output.old output.new };
@@ -28,7 +28,7 @@ pub trait Changer {
     ghost lawful: { (changer : Self) → IsLawfulCommand (commands.changing (gives changer)) };
 }
 
-/// The command of what changes messages of edition 2. Those of edition 1 are kept.
+/// The command of what changes messages of edition 2. Those of edition 1 are not changed.
 #[derive(Debug, Drop)]
 pub struct Changing<C>(pub C);
 
@@ -62,7 +62,7 @@ impl<C: Changer> Writer for Changing<C> {
         self.0.change(alloc, message, output)
     }
 
-    /// No message is heard.
+    /// No message is judged incrementally.
     fn hears(&self) -> bool {
         false
     }

@@ -23,9 +23,9 @@ pub struct Demoting<'a> {
     pub table: &'a Table,
     /// Which tables a record needs to have.
     pub matching: TableMatch,
-    /// Whether octets for the centre's own use are kept.
+    /// Whether octets for local use are preserved.
     pub keep_local: bool,
-    /// Whether the shape of the earth is not told where edition 1 has no place for it.
+    /// Whether the shape of the earth is dropped where edition 1 has no place for it.
     pub any_earth: bool,
 }
 
@@ -62,7 +62,7 @@ impl Writer for Demoting<'_> {
         }
     }
 
-    /// No message is heard.
+    /// No message is judged incrementally.
     fn hears(&self) -> bool {
         false
     }
@@ -101,7 +101,7 @@ fn demote_fields(
     Ok(octets)
 }
 
-/// Adds the message of edition 1 of a field, or tells what comes of the message.
+/// Adds the message of edition 1 of a field, or says what comes of the message.
 fn demote_field(
     alloc: Global,
     message: &Message<'_>,

@@ -21,7 +21,7 @@ pub struct Migrating<'a> {
     pub table: &'a Table,
     /// What those are, with their surfaces, whose name says their level.
     pub surfaces: &'a SurfaceTable,
-    /// What becomes of the octets for the centre's own use.
+    /// What becomes of the octets for local use.
     pub local: Local,
 }
 
@@ -59,7 +59,7 @@ impl Writer for Migrating<'_> {
         written(write_counted(output, message.octets()))
     }
 
-    /// No message is heard.
+    /// No message is judged incrementally.
     fn hears(&self) -> bool {
         false
     }

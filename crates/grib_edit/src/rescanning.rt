@@ -1,4 +1,4 @@
-//! `rescan` and `crop`: each message in the order of scanning octet 0, or a box of its grids.
+//! `rescan` and `crop`: each message in the order of scanning octet 0, or a subarea of its grids.
 
 ghost use Rattle.std.specs.Prelude.{◌≡◌};
 ghost use Rattle.grib_reorder.specs.Rescanned.{Stands};

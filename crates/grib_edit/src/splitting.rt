@@ -57,7 +57,7 @@ impl Answerer for Splitting<'_> {
         split(alloc, self.name, place.fields, message, shelf)
     }
 
-    /// No message is heard.
+    /// No message is judged incrementally.
     fn hears(&self) -> bool {
         false
     }

@@ -31,7 +31,7 @@ pub fn answer_to_list()
 {}
 
 /// `dump` of the plain message, of it with numbers of 0 bits, of two fields with a bitmap, of spatial
-/// differencing, and of both kinds of missing marks.
+/// differencing, and of both kinds of missing values.
 pub fn answer_to_dump()
     ensures plain { answer (Dump None) m1 ≡ done_with (codes "1.1 ed=2 centre=98 time=2024-01-15T12:00:00 grid=3.0 points=4 product=4.0 param=0.0.0 unit=1 "
         ++ codes "ahead=6 surface=103:0:2 packing=5.0 bits=8 values=4\nreference -949*2^-3 binary -3 decimal 1\n1 0\n2 1\n3 2\n4 255\n") [] }
@@ -47,7 +47,7 @@ pub fn answer_to_dump()
         ++ codes "ahead=6 surface=103:0:2 packing=5.2 bits=2 values=4\nreference -949*2^-3 binary -3 decimal 1\n1 missing\n2 missing2\n3 missing\n4 missing2\n") [] }
 {}
 
-/// `stats` of two fields with a bitmap, and of both kinds of missing marks.
+/// `stats` of two fields with a bitmap, and of both kinds of missing values.
 pub fn answer_to_stats()
     ensures two_fields { answer Stats m2 ≡ done_with (codes "1.1 present 3 missing 1 missing2 0 least 0 at 1 greatest 2 at 4\nreference -949*2^-3 binary -3 decimal 1\n"
         ++ codes "1.2 present 3 missing 1 missing2 0 least 3 at 1 greatest 5 at 4\nreference -949*2^-3 binary -3 decimal 1\n") [] }
@@ -72,7 +72,7 @@ pub fn answers_with_refusals()
     ensures second { answer Check (m1 ++ put m1 153 (hex "0029")) ≡ refused_after (codes "message 1 at 0 edition 2 octets 183 fields 1\n") 2 (refusal 153 PngPacked 41) }
 {}
 
-/// A message of edition 1 is read as one of edition 2 is, and kept by the commands that change messages.
+/// A message of edition 1 is read as one of edition 2 is, and not changed by the commands that change messages.
 pub fn answers_to_edition_1()
     ensures check { answer Check (m1 ++ g1)
         ≡ done_with (codes "message 1 at 0 edition 2 octets 183 fields 1\nmessage 2 at 183 edition 1 octets 88 fields 1\n") (codes "messages 2 fields 2 skipped 0\n") }

@@ -38,7 +38,7 @@ pub fn masked_columns()
     ensures same_mask { field_mask m2 2 ≡ field_mask m2 1 }
 {}
 
-/// Complex packing with missing marks in a group of width 2, and of width 1.
+/// Complex packing with missing values in a group of width 2, and of width 1.
 pub fn grouped_columns()
     ensures primary { column_of c1 1 ≡ column (scaled 5 ∷ Missing ∷ scaled 6 ∷ []) }
     ensures both { column_of c2 1 ≡ column (Missing ∷ Missing2 ∷ Missing ∷ Missing2 ∷ []) }

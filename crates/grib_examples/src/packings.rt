@@ -27,7 +27,7 @@ pub fn reserved_references()
         ≡ bits (hex "70 80 0C 40") }
 {}
 
-/// A field of marks alone.
+/// A field of missing values alone.
 pub fn marks_alone()
     ensures codes { target_codes ToComplex (Missing ∷ Missing2 ∷ Missing ∷ Missing2 ∷ [])
         ≡ Primary ∷ Secondary ∷ Primary ∷ Secondary ∷ [] }

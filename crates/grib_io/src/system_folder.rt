@@ -1,13 +1,15 @@
 //! The files of a runtime of std.
 
-ghost use Rattle.std.specs.Prelude.{◌≡◌, None};
+ghost use Rattle.std.specs.Prelude.{◌≡◌, ◌≢◌, IfErr, None};
+ghost use Rattle.std.specs.IoError.{error_kind};
+ghost use Rattle.std.specs.declared.io.ErrorKind.TheVariants.{NotFound};
 ghost use Rattle.std.specs.Io.{ReadsAtMost, WritesAtMost};
 ghost use Rattle.std.specs.Io.KnownBytes.{WriteAppends};
 ghost use Rattle.grib_io.specs.Folders.{ReadsPlaced};
 
 use crate::folder::{Folder, OpenedFile};
-use std::fs::OpenOptions;
-use std::io::{self, Read, Seek, SeekFrom, Write};
+use std::fs::{OpenOptions, symlink_metadata};
+use std::io::{self, ErrorKind, Read, Seek, SeekFrom, Write};
 use std::rt::Files;
 
 /// An open file of std. It tells nothing of what it holds, since no clause of std says what the files that a
@@ -39,7 +41,9 @@ impl<F: Read + Write + Seek> OpenedFile for SystemFile<F> {
 }
 
 /// The files of a runtime of std, whose names are paths. It tells nothing of what they hold, since no clause of
-/// std says what a file system holds. A file that is not to be read is to be opened to append, or empty.
+/// std says what a file system holds. A file that is not to be read is to be opened to append, or empty. It is
+/// opened only where its name is absent or stands for a regular file: a link, a device, a pipe or a folder is
+/// refused as one that already exists, so that nothing is written through or into it.
 #[derive(Debug, Drop)]
 pub struct SystemFolder<R> {
     files: R,
@@ -58,11 +62,27 @@ impl<R: Files + Drop> Folder for SystemFolder<R> {
     ghost held = { λ _. None };
 
     fn open(&mut self, how: &OpenOptions, name: &str) -> io::Result<SystemFile<R::File>> {
+        if !how.asks_read() {
+            refuse_irregular(&self.files, name)?;
+        }
         let file = how.open(&self.files, name)?;
         Ok(SystemFile { file })
     }
 
     fn close(&mut self, _name: &str, _file: SystemFile<R::File>) {}
+}
+
+/// Refuses a name that stands for something else than a regular file, and one of which that cannot be told. A link
+/// is not followed. What takes the name between this look and the opening is not seen.
+fn refuse_irregular<R: Files>(files: &R, name: &str) -> io::Result<()>
+    ensures { IfErr result (λ error. error_kind error ≢ NotFound) }
+{
+    match symlink_metadata(files, name) {
+        Ok(metadata) if metadata.is_file() => Ok(()),
+        Ok(_) => Err(io::Error::new(ErrorKind::AlreadyExists, "not a regular file")),
+        Err(error) if error.kind() == ErrorKind::NotFound => Ok(()),
+        Err(error) => Err(error),
+    }
 }
 
 /// Reads octets of a file from the offset on, once.

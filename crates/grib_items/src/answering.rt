@@ -19,10 +19,10 @@ use grib_stream::{Outcome, Performer};
 use std::alloc::Global;
 
 /// Answers the items of an input, of which no more than `limit` octets are answered, and does what is to be done at its
-/// end. Where octets are refused or a message is kept, the run ends, or it goes past them and notes a line of each, as
+/// end. Where octets are refused or a message cannot be changed, the run ends, or skips them and notes a line of each, as
 /// `policy` says. It answers what was counted where the input was read to its end and all was done, and else how the
 /// run ends. The answer is a function of the input alone. Before more of the input is asked for, the output is passed
-/// on. A message is heard, so that it is not held whole, only where nothing is gone past: the octets of one that is
+/// on. A message is judged incrementally, so that it is not held whole, only where nothing is skipped: octets that are
 /// refused may begin another. Else the buffer holds no more than a message states of its length, as far as Section 0
 /// allows it, and one read.
 pub fn answer_items<K: Performer, S: Source, T: Sink, N: Sink, H: Shelf>(

@@ -1,4 +1,4 @@
-//! What was counted behind an item.
+//! What was counted after an item.
 
 ghost use Rattle.std.specs.Prelude.{◌≡◌, ◌<◌, ◌+◌, ◌^◌};
 ghost use Rattle.grib_items.specs.Answer as answers;
@@ -7,7 +7,7 @@ ghost use Rattle.grib_items.specs.Answer.{counts_of, totals_by};
 use crate::policy::ItemTotals;
 use grib_stream::{Extent, Totals, Whole};
 
-/// Behind a message that was answered.
+/// After a message that was answered.
 pub(crate) fn one_answered(totals: &ItemTotals, message: &Whole) -> ItemTotals
     requires messages { totals.now.counted.messages + 1 < 2 ^ 64 }
     requires fields { totals.now.counted.fields + message.now.fields < 2 ^ 64 }
@@ -26,7 +26,7 @@ pub(crate) fn one_answered(totals: &ItemTotals, message: &Whole) -> ItemTotals
     }
 }
 
-/// Behind a message that was kept, instead of which this many octets were written.
+/// After a message that was not changed, instead of which this many octets were written.
 pub(crate) fn one_kept(totals: &ItemTotals, message: &Extent, written: u64) -> ItemTotals
     requires messages { totals.now.counted.messages + 1 < 2 ^ 64 }
     requires fields { totals.now.counted.fields + message.now.fields < 2 ^ 64 }
@@ -47,7 +47,7 @@ pub(crate) fn one_kept(totals: &ItemTotals, message: &Extent, written: u64) -> I
     }
 }
 
-/// Behind octets that were refused, of which this many are passed, and instead of which this many were written.
+/// After octets that were refused, of which this many are skipped, and instead of which this many were written.
 pub(crate) fn one_refused(totals: &ItemTotals, octets: u64, written: u64) -> ItemTotals
     requires skipped { totals.now.counted.skipped + octets < 2 ^ 64 }
     requires written { totals.now.counted.written + written < 2 ^ 64 }

@@ -39,7 +39,7 @@ pub(crate) struct Gone {
 pub(crate) struct Wait {
     /// How many there have to be before it makes sense to look again.
     pub wanted: u64,
-    /// Whether the message that begins with them is heard.
+    /// Whether the message that begins with them is judged incrementally.
     pub heard: bool,
 }
 
@@ -48,7 +48,7 @@ pub(crate) struct Wait {
 pub(crate) enum Turn {
     /// An item was answered.
     Goes(Gone),
-    /// Nothing, since more octets are wanted.
+    /// Nothing, since more octets are needed.
     Waits(Wait),
 }
 
@@ -111,14 +111,14 @@ pub(crate) fn decide<K: Performer, T: Sink, N: Sink, H: Shelf>(
     }
 }
 
-/// A message that is kept, and what is written instead.
+/// A message that is not changed, and what is written instead.
 #[derive(Clone, Copy, Debug, PartialEq, Eq)]
 struct Past {
     instead: Instead,
     kept: Kept,
 }
 
-/// The message that an outcome keeps, where something is written instead.
+/// The message that an outcome leaves unchanged, where something is written instead.
 fn kept_past(instead: Option<Instead>, outcome: &Outcome) -> Option<Past>
     ensures some { IfSome result (λ past. (instead ≡ Some past.instead) × (outcome.now ≡ outcomes.Kept past.kept)) }
     ensures none { result ≡ None → (instead ≡ None) ⊎ (kept_of outcome.now ≡ None) }
@@ -133,8 +133,8 @@ fn kept_past(instead: Option<Instead>, outcome: &Outcome) -> Option<Past>
     }
 }
 
-/// Goes past octets that are refused, and copies them where they are copied. The run ends at them where refusals are not
-/// passed, and waits where it is not known yet how far they go.
+/// Skips octets that are refused, and copies them where they are copied. The run ends at them where refusals are not
+/// skipped, and waits where it is not known yet how far they go.
 fn refuse<K: Performer, T: Sink, N: Sink>(
     performer: &K,
     alloc: Global,
@@ -186,7 +186,7 @@ fn refuse<K: Performer, T: Sink, N: Sink>(
     }))
 }
 
-/// Whether refused octets are copied: a mark alone never is.
+/// Whether refused octets are copied: a `GRIB` alone never is.
 fn is_copied(instead: Instead, octets: &[u8]) -> bool
     ensures { result ≡ answers.is_copied (Some instead) octets.now }
 {
@@ -196,8 +196,8 @@ fn is_copied(instead: Instead, octets: &[u8]) -> bool
     }
 }
 
-/// What is to be waited for where octets are refused, and it is not known how far. Where nothing is gone past, a message
-/// is heard for which more octets are wanted than one read asks for, if it may be.
+/// What is to be waited for where octets are refused, and it is not known how far. Where nothing is skipped, a message
+/// is judged incrementally for which more octets are needed than one read asks for, if it may be.
 fn wait_for<K: Performer>(performer: &K, policy: Policy, octets: &[u8]) -> Wait
     requires begun { begins octets.now ≡ true }
     requires refused { (fault : Fault) × ((K.task performer.now).judge octets.now ≡ Faulty fault) }
@@ -212,7 +212,7 @@ fn wait_for<K: Performer>(performer: &K, policy: Policy, octets: &[u8]) -> Wait
     }
 }
 
-/// Goes past a message that is kept, and copies it where it is copied.
+/// Skips a message that is not changed, and copies it where it is copied.
 fn keep<K: Performer, T: Sink, N: Sink>(
     performer: &K,
     alloc: Global,
@@ -257,7 +257,7 @@ fn keep<K: Performer, T: Sink, N: Sink>(
     }))
 }
 
-/// Whether a kept message is copied.
+/// Whether a message that is not changed is copied.
 fn copies(instead: Instead) -> bool
     ensures { (message : List ℕ) → cond result message [] ≡ instead_of instead message }
 {

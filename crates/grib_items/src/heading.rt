@@ -1,4 +1,4 @@
-//! How far a refusal is passed, by the length that its octets state.
+//! How many octets of a refusal are skipped, by the length that its octets state.
 
 ghost use Rattle.std.specs.Prelude.{◌≡◌, ◌≤◌, ◌<◌, ◌+◌, true, length};
 ghost use Rattle.grib_stream.specs.Stream.{begins};
@@ -9,11 +9,11 @@ ghost use Rattle.grib_items.specs.Next.{passed};
 use grib_stream::is_truncated;
 use grib2_sections::read_head;
 
-/// How many octets a mark has, by which a refusal is passed that has no end.
+/// How many octets a `GRIB` has, which are skipped of a refusal that has no end.
 pub(crate) const MARK: usize = 4;
 
-/// How many of these octets, which begin with `GRIB` and are refused, are passed: up to the stated end where `7777`
-/// stands there, and else the mark. Nothing where more octets may follow, and the stated end is not there yet.
+/// How many of these octets, which begin with `GRIB` and are refused, are skipped: up to the stated end where `7777`
+/// stands there, and else that `GRIB`. Nothing where more octets may follow, and the stated end is not there yet.
 pub(crate) fn octets_passed(octets: &[u8], more: bool) -> Option<usize>
     requires { begins octets.now ≡ true }
     ensures { result ≡ passed more octets.now }

@@ -1,4 +1,4 @@
-//! An item that is heard: a message that is judged as its octets come, so that it is not held whole.
+//! An item that is judged incrementally: a message that is judged as its octets come, so that it is not held whole.
 
 ghost use Rattle.std.specs.Prelude.{◌≡◌, ◌≢◌, ◌≤◌, ◌+◌, ◌^◌, true, Option, length, take, Err};
 ghost use Rattle.grib_io.specs.Outside.{Counted, Unfinished};
@@ -16,7 +16,7 @@ use grib_io::{Sink, Source};
 use grib_stream::{Outcome, Performer, Place, Window, answer_heard};
 use std::alloc::Global;
 
-/// Hears the message with which the octets of the window begin, and answers it where it is whole. Else it answers how
+/// Judges the message with which the octets of the window begin, and answers it where it is whole. Else it answers how
 /// the run ends.
 pub(crate) fn hear_item<K: Performer, S: Source, T: Sink>(
     performer: &K,

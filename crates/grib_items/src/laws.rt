@@ -13,15 +13,15 @@ ghost use Rattle.grib_items.specs.Items.{Item, Refused, Over, Open, passed_after
 ghost use Rattle.grib_items.specs.Answer.{answer_of, answer_within, no_counts};
 ghost use Rattle.grib_items.specs.Laws.{nothing, outcome_of, is_refusal, is_kept, RefusesNone, IsPlain, CountsLines, StandsIn, EndStandsIn, AreInOrder, accepted_items, copying, copied, refuses_all, stated_12, nested};
 
-/// Where nothing is passed, the answer is that of a stream: the same is done, it ends in the same way, and no line is
+/// Where nothing is skipped, the answer is that of a stream: the same is done, it ends in the same way, and no line is
 /// noted.
 pub fn nothing_is_passed()
     ensures { (task : Task) (texts : Texts) (limit : ℕ) (input : List ℕ) → IsLawful task
         → IsPlain task (answer_within limit task texts nothing input) (plain.answer_within limit task input) }
 {}
 
-/// Where refusals are passed, no run ends with one, and where something is written instead of kept messages, none ends
-/// with a kept one.
+/// Where refusals are skipped, no run ends with one, and where something is written instead of unchanged messages, none
+/// ends with one of these.
 pub fn no_end_at_what_is_passed()
     ensures refused { (task : Task) (texts : Texts) (policy : Policy) (limit : ℕ) (input : List ℕ)
         → RefusesNone task → policy.refused ≢ None
@@ -31,16 +31,16 @@ pub fn no_end_at_what_is_passed()
         → is_kept (outcome_of (answer_within limit task texts policy input).result) ≡ false }
 {}
 
-/// An answer has as many lines as refusals and kept messages are counted.
+/// An answer has as many lines as refusals and unchanged messages are counted.
 pub fn one_line_each()
     ensures { (task : Task) (texts : Texts) (policy : Policy) (limit : ℕ) (input : List ℕ)
         → CountsLines (length (answer_within limit task texts policy input).deeds.lines)
         (answer_within limit task texts policy input).result }
 {}
 
-/// Where what is refused and what is kept is copied, what is written is, item for item, what the task gives for a
-/// message, a kept message as it is, and refused octets as they are where they have their stated end; nothing for a mark
-/// alone.
+/// Where what is refused and what is not changed is copied, what is written is, item for item, what the task gives for a
+/// message, an unchanged message as it is, and refused octets as they are where they have their stated end; nothing for a
+/// `GRIB` alone.
 pub fn what_is_copied()
     ensures { (task : Task) (texts : Texts) (more : Bool) (input : List ℕ)
         → written (answer_of task texts copying more input).deeds.acts
@@ -53,7 +53,7 @@ pub fn messages_before_a_refusal()
         × ((items task.judge passes more input).items ≡ accepted_items (stream task.judge input).messages ++ rest) }
 {}
 
-/// Each item of an input is what stands at its place, and where octets are refused and not passed, they stand in it.
+/// Each item of an input is what stands at its place, and where octets are refused and not skipped, they stand in it.
 pub fn items_stand()
     ensures items { (task : Task) (passes more : Bool) (input : List ℕ) → IsLawful task
         → All (StandsIn task.judge more input) (items task.judge passes more input).items }
@@ -61,13 +61,13 @@ pub fn items_stand()
         → EndStandsIn task.judge input (items task.judge passes more input).end }
 {}
 
-/// The items of an input lie one behind the other.
+/// The items of an input lie one after the other.
 pub fn items_in_order()
     ensures { (task : Task) (passes more : Bool) (input : List ℕ) → IsLawful task
         → AreInOrder 0 (items task.judge passes more input).items (length input) }
 {}
 
-/// A refusal is passed up to its stated end, where the end mark stands there.
+/// A refusal is skipped up to its stated end, where the end mark stands there.
 pub fn passed_to_the_stated_end()
     ensures whole { items refuses_all true false (0 ∷ stated_12)
         ≡ items_of (Refused (passed_after 1 (refusal 8 Edition 3) stated_12) ∷ []) (Over 13) }
@@ -76,7 +76,7 @@ pub fn passed_to_the_stated_end()
         ≡ items_of (Refused (passed_after 0 (refusal 8 Edition 3) (take 4 stated_12)) ∷ []) (Over 11) }
 {}
 
-/// Without that mark it is passed by its own mark, and the search finds one within.
+/// Without that mark its `GRIB` alone is skipped, and the search finds one within.
 pub fn passed_behind_its_mark()
     ensures { items refuses_all true false nested
         ≡ items_of (Refused (passed_after 0 (refusal 8 Edition 3) (take 4 nested))

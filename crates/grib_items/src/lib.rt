@@ -1,5 +1,5 @@
 //! A run over the items of an input: its messages, and what is refused. Under a policy it ends at the first refusal or
-//! kept message, or goes past it and notes a line.
+//! message that is not changed, or skips it and notes a line.
 #![tactic(auto)]
 
 mod answering;

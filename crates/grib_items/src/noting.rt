@@ -26,7 +26,7 @@ pub(crate) fn note_refused<K: Performer, N: Sink>(
     note_line(performer.refused_line(alloc, copied, here, fault), notes)
 }
 
-/// Notes the line of a kept message.
+/// Notes the line of a message that is not changed.
 pub(crate) fn note_kept<K: Performer, N: Sink>(
     performer: &K,
     alloc: Global,

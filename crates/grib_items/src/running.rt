@@ -120,7 +120,7 @@ fn may_go_on(rest: &Rest) -> bool
     !matches!(rest, Rest::Ended)
 }
 
-/// Reads as much as is wanted, as far as the input goes and as much may be taken. Where no more may be taken, it finds
+/// Reads as much as is needed, as far as the input goes and as much may be taken. Where no more may be taken, it finds
 /// out whether the input is at its end.
 fn advance<S: Source>(
     rest: &Rest,

@@ -42,7 +42,7 @@ pub(crate) fn write_where<T: Sink>(
     Ok(octets.len() as u64)
 }
 
-/// Passes on what was written, so that a reader behind the sink has it.
+/// Passes on what was written, so that whoever reads from the sink has it.
 pub(crate) fn pass_on<T: Sink>(sink: &mut T) -> Result<(), Outcome>
     ensures writes { Writes result (T.contents sink.old) (T.contents sink.new) []
         (T.faults sink.old) (T.faults sink.new) }

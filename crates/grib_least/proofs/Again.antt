@@ -5,6 +5,7 @@ use Rattle.std.proofs.lemmas.Bool.{cases_eq, ltb-true}
 use Rattle.std.proofs.lemmas.List.{take-append-le, take-take}
 use Rattle.grib_bits.specs.Octets.{octets}
 use Rattle.grib_bits.specs.Encoding.{octets_of}
+use Rattle.grib_base.specs.declared.profile.Profile.TheVariants.{Stated}
 use Rattle.grib2_sections.specs.Head.{end_mark}
 use Rattle.grib2_sections.specs.Frame.{Placed, section_number}
 use Rattle.grib2_grids.specs.Grid.{grid_points}
@@ -119,12 +120,12 @@ module _ (m : List ℕ) (parts : List Packed) (h : MayBeAssembled m parts) where
   abbrev news : List (List ℕ)
   news = replaced (sections_of m) parts
 
-  follows : Rebuilt as_it_is parts [] 17 17 (message_parted m h.accepted).sections news
+  follows : Rebuilt Stated as_it_is parts [] 17 17 (message_parted Stated m h.accepted).sections news
   follows =
-      let p = message_parted m h.accepted in
-      let each = subst (EachGrid (λ s. IsGrid s → IsGrid s)) p.found (each_grid_of (λ s. IsGrid s → IsGrid s) m h.accepted (λ i low high is. is)) in
-      subst (λ (xs : List Placed). Rebuilt as_it_is parts [] 17 17 p.sections (replaced xs parts)) (sym p.found)
-      (rebuilt as_it_is p.sections parts [] [] 17 17 p.follow tt (outside parts [] (λ low high. absurd (omega arith))) sound_none each
+      let p = message_parted Stated m h.accepted in
+      let each = subst (EachGrid (λ s. IsGrid s → IsGrid s)) p.found (each_grid_of Stated (λ s. IsGrid s → IsGrid s) m h.accepted (λ i low high is. is)) in
+      subst (λ (xs : List Placed). Rebuilt Stated as_it_is parts [] 17 17 p.sections (replaced xs parts)) (sym p.found)
+      (rebuilt Stated as_it_is p.sections parts [] [] 17 17 p.follow tt (outside parts [] (λ low high. absurd (omega arith))) (sound_none Stated) each
       (λ i part e.
       subst (λ (xs : List Placed). PartsPass (grid_points (octets_in_force 3 (sections_up_to_field (suc i) [] xs))) part) p.found
       (subst (λ (n : ℕ). PartsPass (grid_points (part_octets m n 3)) part) (add-one i) (h.pass i part e)))
@@ -134,21 +135,21 @@ module _ (m : List ℕ) (parts : List Packed) (h : MayBeAssembled m parts) where
   grammar =
       let body = concat news in
       let total = 16 + length body + 4 in
-      let few : total ≤ 268435456 = omega (arith, assembled_long as_it_is m parts (omega (arith, message_least m h.accepted)), h.most) in
+      let few : total ≤ 268435456 = omega (arith, assembled_long as_it_is m parts (omega (arith, message_least Stated m h.accepted)), h.most) in
       subst (λ (xs : List ℕ). Grammar2 xs news) (append_assoc (take 8 m) (octets_of 8 total) (body ++ end_mark))
-      (joined_grammar (take 8 m ++ octets_of 8 total) news (head_of m total h.accepted few) few follows.follow)
+      (joined_grammar Stated (take 8 m ++ octets_of 8 total) news (head_of Stated m total h.accepted few) few follows.follow)
 
   head_again : take 8 (assembled m parts) ≡ take 8 m
   head_again =
       let body = concat news in
-      let eight : length (take 8 m) ≡ 8 = length-take-le 8 m (omega (arith, message_least m h.accepted)) in
+      let eight : length (take 8 m) ≡ 8 = length-take-le 8 m (omega (arith, message_least Stated m h.accepted)) in
       take-append-le 8 (take 8 m) (octets_of 8 (16 + length body + 4) ++ (body ++ end_mark)) (omega (arith, eight)) ∙ take-take 8 8 m (omega arith)
 
   -- with the parts that it has it stays as it is
   assembled_again : AreNumbered parts → assembled (assembled m parts) parts ≡ assembled m parts
   assembled_again are =
       let body : concat (replaced (sections_of (assembled m parts)) parts) ≡ concat news =
-      ap (λ (xs : List Placed). concat (replaced xs parts)) (sections_alone (assembled m parts) news grammar)
+      ap (λ (xs : List Placed). concat (replaced xs parts)) (sections_alone Stated (assembled m parts) news grammar)
       ∙ ap concat (replaced_again (sections_of m) parts 17 are) in
       (λ j. head_again j ++ (octets_of 8 (16 + length (body j) + 4) ++ (body j ++ end_mark)))
 

@@ -6,6 +6,7 @@ use Rattle.std.proofs.lemmas.List.FromFn.{length-map-range_with_len, get_or-map-
 use Rattle.std.proofs.lemmas.Option.{slice_get_within, get_or_from_slice_get, slice_get-get_or}
 use Rattle.grib_bits.specs.Octets.{octets}
 use Rattle.grib_base.specs.Rows.{choose}
+use Rattle.grib_base.specs.declared.profile.Profile.TheVariants.{Stated}
 use Rattle.grib2_grids.specs.Grid.{grid_points}
 use Rattle.grib2_sections.specs.Frame.{Placed}
 use Rattle.grib_bitmap.specs.Mask.{bitmap_indicator, bitmap_rows, mask_of}
@@ -202,7 +203,7 @@ shorter_is P message other here there = go (nat_lt (length other) (length messag
 pub least_is : (P : List ℕ → Type 0) (message : List ℕ) → IsMessage message → P message
     → (length (assembled message (least_forms message)) ≤ 268435456 → P (assembled message (least_forms message))) → P (least message)
 least_is P message accepted here there =
-    shorter_is P message (assembled message (least_forms message)) here (λ low. there (omega (arith, low, message_most message accepted)))
+    shorter_is P message (assembled message (least_forms message)) here (λ low. there (omega (arith, low, message_most Stated message accepted)))
 
 pub no_longer : (message other : List ℕ) → length (shorter message other) ≤ length message
 no_longer message other = shorter_is (λ (x : List ℕ). length x ≤ length message) message other (omega arith) (λ low. omega (arith, low))

@@ -21,7 +21,7 @@ use std::alloc::{AllocError, Global};
 
 /// The message with each field in the one of these forms that has the fewest octets in Sections 5, 6 and 7,
 /// the earlier of equal ones: its own sections, simple packing, complex packing, complex packing of the spatial
-/// differences of order 1, and of order 2. A packing that cannot tell the values of the field is left out. Where
+/// differences of order 1, and of order 2. A packing that cannot represent the values of the field is left out. Where
 /// that message is not shorter, it is the message itself, octet for octet.
 ///
 /// It holds the message, the chosen forms, and one column and one other form at a time.

@@ -7,7 +7,7 @@ use std::io::{self, ErrorKind};
 const NUMBER: &str = " (os error ";
 
 /// Writes a line to standard error, `grib: ` with the device and what the system says, where a device failed. Nothing is
-/// said of a pipe whose reader is gone. Where the line cannot be written, the status alone tells of the failure.
+/// said of a pipe whose reader is gone. Where the line cannot be written, the status alone says so.
 pub fn tell_failure(rt: &HostRuntime, device: &str, error: Option<io::Error>) {
     let Some(error) = error else {
         return;

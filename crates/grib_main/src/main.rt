@@ -15,7 +15,7 @@ use std::io::BufWriter;
 use std::process::ExitCode;
 use std::{env, io};
 
-/// The exit status where the words can't be fetched, for another cause than that there is no memory.
+/// The exit status where the arguments can't be fetched, for another cause than that there is no memory.
 const NO_WORDS: u8 = 11;
 
 /// How many octets of the output wait for more before they are written.
@@ -49,7 +49,7 @@ fn main(rt: HostRuntime) -> ExitCode {
     ExitCode::from(outcome.status())
 }
 
-/// The words after the program's name.
+/// The arguments after the program's name.
 fn fetch_words(rt: &HostRuntime) -> io::Result<Vec<String>> {
     let mut words = Vec::new(rt.alloc());
     for word in env::args(rt)?.skip(1) {
@@ -58,7 +58,7 @@ fn fetch_words(rt: &HostRuntime) -> io::Result<Vec<String>> {
     Ok(words)
 }
 
-/// The exit status where the words can't be fetched.
+/// The exit status where the arguments can't be fetched.
 fn status_of(error: &io::Error) -> u8
     ensures memory { error_kind error.now ≡ OutOfMemory → result ≡ 8 }
     ensures other { error_kind error.now ≢ OutOfMemory → result ≡ 11 }

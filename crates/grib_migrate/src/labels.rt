@@ -1,4 +1,4 @@
-//! Octets for the centre's own use: what becomes of them, and the labels that ECMWF has there.
+//! Octets for local use: what becomes of them, and the labels that ECMWF has there.
 
 ghost use Rattle.std.specs.Prelude.{◌≡◌, ◌≤◌, ◌++◌, true, length, OnOk};
 ghost use Rattle.grib_bits.specs.Encoding.{section_of, all_octets};
@@ -11,7 +11,7 @@ use grib_bits::Number::{Four, Two};
 use grib_bits::{add_numbers, add_section, add_section_head, u8_at, u16_at, u32_at};
 use std::alloc::AllocError;
 
-/// What becomes of octets 41 and further of Section 1, which are for the centre's own use.
+/// What becomes of octets 41 and further of Section 1, which are for local use.
 #[derive(Clone, Copy, Debug, PartialEq, Eq)]
 pub enum Local {
     /// They are a loss.
@@ -44,7 +44,7 @@ const MEAN: u8 = 17;
 
 const DEVIATION: u8 = 18;
 
-/// What is chosen by whether octets for local use are kept.
+/// What is chosen by whether octets for local use are preserved.
 pub(crate) fn kept_where(keep_local: bool) -> Local
     ensures { result ≡ labels.kept_where keep_local }
 {
@@ -55,7 +55,7 @@ pub(crate) fn kept_where(keep_local: bool) -> Local
     }
 }
 
-/// Whether Section 1 has octets for the centre's own use.
+/// Whether Section 1 has octets for local use.
 fn has_local(section1: &[u8]) -> bool
     ensures { result ≡ source.has_local section1.now }
 {

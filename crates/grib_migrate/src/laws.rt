@@ -22,7 +22,7 @@ pub fn later_is_by_seconds()
         ≡ seconds_of (reference_time s1) +ℤ pos (key_in s1 P2 * unit_seconds))) }
 {}
 
-/// With an empty table of surfaces, and octets for local use kept or refused, the losses and the message are
+/// With an empty table of surfaces, and octets for local use preserved or refused, the losses and the message are
 /// those by the parameter table alone.
 pub fn plain_choices_change_nothing()
     ensures losses { (table : Entries) (keep_local : Bool) (message : List ℕ)

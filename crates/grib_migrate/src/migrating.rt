@@ -29,9 +29,9 @@ use grib1_sections::Message1;
 use std::alloc::{AllocError, Global};
 
 /// The message of edition 2 with one field that has the values of this message of edition 1: the exact value
-/// or the missing mark of each point, and the parameter that the table has for it. The packed numbers are
-/// copied, and not unpacked. Octets 41 and further of Section 1, which are for the centre's own use, become
-/// Section 2 where they are to be kept.
+/// or the missing value of each point, and the parameter that the table has for it. The packed numbers are
+/// copied, and not unpacked. Octets 41 and further of Section 1, which are for local use, become
+/// Section 2 where they are to be preserved.
 ///
 /// # Errors
 ///
@@ -53,7 +53,7 @@ pub fn migrate(
 
 /// As `migrate`, with two further choices. A parameter whose name says its level may be in a table of surfaces:
 /// where that has a record for the message, its parameter and its fixed surface are written, and the parameter
-/// table and the table of levels are not asked. `local` says what becomes of the octets for the centre's own use.
+/// table and the table of levels are not asked. `local` says what becomes of the octets for local use.
 ///
 /// # Errors
 ///

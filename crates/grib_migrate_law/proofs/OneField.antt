@@ -5,6 +5,7 @@ use Rattle.grib_base.specs.Rows.{first_fault, located}
 use Rattle.grib_bitmap.specs.Mask.{bitmap_rows, mask_of}
 use Rattle.grib_packing.specs.Packing.{value_count}
 use Rattle.grib_packing.specs.Entries.{packing_fault, data_fault}
+use Rattle.grib_base.specs.declared.profile.Profile.TheVariants.{Stated}
 use Rattle.grib2_sections.specs.Frame.{Placed, placed_at, section_number, may_follow, may_end}
 use Rattle.grib2_grids.specs.Grid.{grid_rows, grid_points}
 use Rattle.grib2_products.specs.Product.{product_rows}
@@ -82,39 +83,39 @@ module _ (before : List Placed) (start : ℕ) (s3 s4 s5 s6 s7 : List ℕ) (first
 -- ---- the sections follow one another
 
 module _ (before : List Placed) (start : ℕ) (s3 s4 s5 s6 s7 : List ℕ) (first : ComesFirst before) (parts : FieldPasses s3 s4 s5 s6 s7) where
-  is_3 : IsSection before start s3
+  is_3 : IsSection Stated before start s3
   is_3 = record {
     length_stands = parts.itself_3.length_stands;
     least = parts.itself_3.least;
     follows = ap (may_follow (last_number before)) parts.itself_3.number_stands ∙ first.follows;
-    rows_hold = fault_of before (placed_at start s3) 3 parts.itself_3.number_stands ∙ ap (located start) parts.grid;
+    rows_hold = fault_of Stated before (placed_at start s3) 3 parts.itself_3.number_stands ∙ ap (located start) parts.grid;
   }
 
-  is_4 : IsSection (before_4 before start s3 s4 s5 s6 s7) (start + length s3) s4
+  is_4 : IsSection Stated (before_4 before start s3 s4 s5 s6 s7) (start + length s3) s4
   is_4 =
       let place = start + length s3 in
       let b = before_4 before start s3 s4 s5 s6 s7 in record {
         length_stands = parts.itself_4.length_stands;
         least = parts.itself_4.least;
         follows = ap₂ may_follow parts.itself_3.number_stands parts.itself_4.number_stands;
-        rows_hold = fault_of b (placed_at place s4) 4 parts.itself_4.number_stands
+        rows_hold = fault_of Stated b (placed_at place s4) 4 parts.itself_4.number_stands
             ∙ ap (λ (n : ℕ). located place (first_fault (product_rows s4 (n + 1)))) (none_4 before start s3 s4 s5 s6 s7 first parts)
             ∙ ap (located place) parts.product;
       }
 
-  is_5 : IsSection (before_5 before start s3 s4 s5 s6 s7) (start + length s3 + length s4) s5
+  is_5 : IsSection Stated (before_5 before start s3 s4 s5 s6 s7) (start + length s3 + length s4) s5
   is_5 =
       let place = start + length s3 + length s4 in
       let b = before_5 before start s3 s4 s5 s6 s7 in record {
         length_stands = parts.itself_5.length_stands;
         least = parts.itself_5.least;
         follows = ap₂ may_follow parts.itself_4.number_stands parts.itself_5.number_stands;
-        rows_hold = fault_of b (placed_at place s5) 5 parts.itself_5.number_stands
+        rows_hold = fault_of Stated b (placed_at place s5) 5 parts.itself_5.number_stands
             ∙ ap (λ (points : ℕ). located place (packing_fault s5 points)) (points_5 before start s3 s4 s5 s6 s7 first parts)
             ∙ ap (located place) parts.packing;
       }
 
-  is_6 : IsSection (before_6 before start s3 s4 s5 s6 s7) (start + length s3 + length s4 + length s5) s6
+  is_6 : IsSection Stated (before_6 before start s3 s4 s5 s6 s7) (start + length s3 + length s4 + length s5) s6
   is_6 =
       let place = start + length s3 + length s4 + length s5 in
       let b = before_6 before start s3 s4 s5 s6 s7 in
@@ -122,26 +123,26 @@ module _ (before : List Placed) (start : ℕ) (s3 s4 s5 s6 s7 : List ℕ) (first
         length_stands = parts.itself_6.length_stands;
         least = parts.itself_6.least;
         follows = ap₂ may_follow parts.itself_5.number_stands parts.itself_6.number_stands;
-        rows_hold = fault_of b (placed_at place s6) 6 parts.itself_6.number_stands
+        rows_hold = fault_of Stated b (placed_at place s6) 6 parts.itself_6.number_stands
             ∙ ap₂ (λ (points : ℕ) (s : List ℕ). located place (first_fault (bitmap_rows s6 points (value_count s) earlier)))
             (points_6 before start s3 s4 s5 s6 s7 first parts) (representation_6 before start s3 s4 s5 s6 s7 first parts)
             ∙ ap (located place) (parts.bitmap earlier);
       }
 
-  is_7 : IsSection (before_7 before start s3 s4 s5 s6 s7) (start + length s3 + length s4 + length s5 + length s6) s7
+  is_7 : IsSection Stated (before_7 before start s3 s4 s5 s6 s7) (start + length s3 + length s4 + length s5 + length s6) s7
   is_7 =
       let place = start + length s3 + length s4 + length s5 + length s6 in
       let b = before_7 before start s3 s4 s5 s6 s7 in record {
         length_stands = parts.itself_7.length_stands;
         least = parts.itself_7.least;
         follows = ap₂ may_follow parts.itself_6.number_stands parts.itself_7.number_stands;
-        rows_hold = fault_of b (placed_at place s7) 7 parts.itself_7.number_stands
+        rows_hold = fault_of Stated b (placed_at place s7) 7 parts.itself_7.number_stands
             ∙ ap (λ (s : List ℕ). located place (data_fault s s7)) (representation_7 before start s3 s4 s5 s6 s7 first parts)
             ∙ ap (located place) parts.values;
       }
 
 module _ (before : List Placed) (start : ℕ) (s3 s4 s5 s6 s7 : List ℕ) (first : ComesFirst before) (parts : FieldPasses s3 s4 s5 s6 s7) where
-  pub field_follows : AreSections before start (s3 ∷ s4 ∷ s5 ∷ s6 ∷ s7 ∷ [])
+  pub field_follows : AreSections Stated before start (s3 ∷ s4 ∷ s5 ∷ s6 ∷ s7 ∷ [])
   field_follows = (
     is_3 before start s3 s4 s5 s6 s7 first parts,
     (

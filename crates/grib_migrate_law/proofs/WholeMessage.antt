@@ -6,6 +6,7 @@ use Rattle.grib_bits.proofs.Encoding.{num_on-octets_of}
 use Rattle.grib_base.specs.Rows.{first_fault, located}
 use Rattle.grib_bitmap.specs.Mask.{mask_of}
 use Rattle.grib_packing.specs.Entries.{column_from}
+use Rattle.grib_base.specs.declared.profile.Profile.TheVariants.{Stated}
 use Rattle.grib2_sections.specs.Head.{end_mark}
 use Rattle.grib2_sections.specs.Frame.{Placed, placed_at, section_number, may_follow}
 use Rattle.grib2_sections.specs.Identification.{identification_rows}
@@ -62,24 +63,24 @@ module _ (s1 s2 : List ℕ) (passes : FrontPasses s1 s2) where
   first_2 : octets_in_force 2 (front_with true s1 s2) ≡ s2
   first_2 = octets_same (placed_at (17 + length s1) s2) (placed_at 17 s1 ∷ []) 2 passes.itself_2.number_stands
 
-  is_1 : IsSection [] 17 s1
+  is_1 : IsSection Stated [] 17 s1
   is_1 = record {
     length_stands = passes.itself_1.length_stands;
     least = passes.itself_1.least;
     follows = ap (may_follow 0) passes.itself_1.number_stands;
-    rows_hold = fault_of [] (placed_at 17 s1) 1 passes.itself_1.number_stands ∙ ap (located 17) passes.identification;
+    rows_hold = fault_of Stated [] (placed_at 17 s1) 1 passes.itself_1.number_stands ∙ ap (located 17) passes.identification;
   }
 
-  is_2 : IsSection (placed_at 17 s1 ∷ []) (17 + length s1) s2
+  is_2 : IsSection Stated (placed_at 17 s1 ∷ []) (17 + length s1) s2
   is_2 = record {
     length_stands = passes.itself_2.length_stands;
     least = passes.itself_2.least;
     follows = ap₂ may_follow passes.itself_1.number_stands passes.itself_2.number_stands;
-    rows_hold = fault_of (placed_at 17 s1 ∷ []) (placed_at (17 + length s1) s2) 2 passes.itself_2.number_stands;
+    rows_hold = fault_of Stated (placed_at 17 s1 ∷ []) (placed_at (17 + length s1) s2) 2 passes.itself_2.number_stands;
   }
 
 module _ (s1 s2 s3 s4 s5 s6 s7 : List ℕ) (front : FrontPasses s1 s2) (parts : FieldPasses s3 s4 s5 s6 s7) where
-  pub sections_follow : (has : Bool) → AreSections [] 17 (sections_with has s1 s2 s3 s4 s5 s6 s7)
+  pub sections_follow : (has : Bool) → AreSections Stated [] 17 (sections_with has s1 s2 s3 s4 s5 s6 s7)
   sections_follow true =
       (is_1 s1 s2 front, (is_2 s1 s2 front, field_follows (front_with true s1 s2) (start_with true s1 s2) s3 s4 s5 s6 s7 (front_first s1 s2 front true) parts))
   sections_follow false =
@@ -140,17 +141,17 @@ module _ (discipline : ℕ) (has : Bool) (s1 s2 s3 s4 s5 s6 s7 : List ℕ) (fron
       record {
         indicated = g.indicated;
         edition_stands = g.edition_stands;
-        accepted = ap verdict_2 (sym (append-nil m)) ∙ grammar_accepted m [] (sections_with has s1 s2 s3 s4 s5 s6 s7) g;
+        accepted = ap verdict_2 (sym (append-nil m)) ∙ grammar_accepted Stated m [] (sections_with has s1 s2 s3 s4 s5 s6 s7) g;
       }
 
   pub whole_one_field : field_count m ≡ 1
   whole_one_field =
-      ap (count_by (is_numbered 7)) (sections_alone m (sections_with has s1 s2 s3 s4 s5 s6 s7) grammar)
+      ap (count_by (is_numbered 7)) (sections_alone Stated m (sections_with has s1 s2 s3 s4 s5 s6 s7) grammar)
       ∙ one_in_all s1 s2 s3 s4 s5 s6 s7 front parts has
 
   in_force : field_sections m 1 ≡ all_7 (front_with has s1 s2) (start_with has s1 s2) s3 s4 s5 s6 s7
   in_force =
-      ap (sections_up_to_field 1 []) (sections_alone m (sections_with has s1 s2 s3 s4 s5 s6 s7) grammar)
+      ap (sections_up_to_field 1 []) (sections_alone Stated m (sections_with has s1 s2 s3 s4 s5 s6 s7) grammar)
       ∙ up_to_all s1 s2 s3 s4 s5 s6 s7 front parts has
 
   pub whole_identification : part_octets m 1 1 ≡ s1

@@ -32,7 +32,7 @@ pub fn what_is_migrated_is_accepted()
         → field_count (migrated table keep_local message) ≡ 1 }
 {}
 
-/// That field has the scaled numbers and the missing points of the message of edition 1, and at each grid point
+/// That field has the scaled integers and the missing points of the message of edition 1, and at each grid point
 /// its exact value.
 pub fn what_is_migrated_keeps_its_values()
     ensures points { (table : Entries) (keep_local : Bool) (message : List ℕ)

@@ -39,7 +39,7 @@ pub fn numbers_without_bits()
         ≡ 0x00 ∷ 0x00 ∷ 0x00 ∷ 0x05 ∷ 0x07 ∷ [] }
 {}
 
-/// One group with a mark among its numbers: references of 3 bits, widths of 2 bits.
+/// One group with a missing value among its numbers: references of 3 bits, widths of 2 bits.
 pub fn marks_among_numbers()
     ensures representation { (packed ToComplex (column (scaled 5 ∷ Missing ∷ scaled 6 ∷ [])) 0).section5
         ≡ 0x00 ∷ 0x00 ∷ 0x00 ∷ 0x2F ∷ 0x05 ∷ 0x00 ∷ 0x00 ∷ 0x00 ∷ 0x03 ∷ 0x00 ∷ 0x02 ∷ 0xC2 ∷ 0xED ∷ 0x40
@@ -52,7 +52,7 @@ pub fn marks_among_numbers()
         ≡ 0x00 ∷ 0x00 ∷ 0x00 ∷ 0x09 ∷ 0x07 ∷ 0xA0 ∷ 0x80 ∷ 0x08 ∷ 0x34 ∷ [] }
 {}
 
-/// A field of both kinds of marks alone: one group of width 1.
+/// A field of both kinds of missing values alone: one group of width 1.
 pub fn marks_alone()
     ensures representation { (packed ToComplex (column (Missing ∷ Missing2 ∷ Missing ∷ Missing2 ∷ [])) 0).section5
         ≡ 0x00 ∷ 0x00 ∷ 0x00 ∷ 0x2F ∷ 0x05 ∷ 0x00 ∷ 0x00 ∷ 0x00 ∷ 0x04 ∷ 0x00 ∷ 0x02 ∷ 0xC2 ∷ 0xED ∷ 0x40

@@ -5,6 +5,7 @@ pub mod Left
 pub mod Fields
 pub mod Sections
 pub mod Packings
+pub mod OpaquePackings
 pub mod Masks
 pub mod Below
 pub mod Ends

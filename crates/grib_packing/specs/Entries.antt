@@ -8,6 +8,8 @@ use Rattle.grib_base.specs.declared.code.Code.{Code}
 use Rattle.grib_base.specs.declared.code.Code.TheVariants.{Present, Primary, Secondary}
 use Rattle.grib_base.specs.declared.fault.Reason.TheVariants.{FirstValueSign, ScaledRange, SectionLength, ValueCount, ReferenceNotFinite, BitWidth}
 use Rattle.grib_base.specs.declared.fault.Fault.{Fault}
+use Rattle.grib_base.specs.declared.profile.Profile.{Profile}
+use Rattle.grib_base.specs.declared.profile.Profile.TheVariants.{Stated, Open}
 use Rattle.grib_base.specs.Rows.{Row, row, first_fault, first_place, or_then, choose}
 use Rattle.grib_packing.specs.Groups.{grouped, list_rows, group_rows}
 use Rattle.grib_packing.specs.Column.{column_with, points_with_mask}
@@ -193,6 +195,23 @@ packing_rows s points =
 -- the refusal of a Section 5 by these rows and by those of its template: rows S5.1 to S5.13
 abbrev pub packing_fault : List ℕ → ℕ → Option Fault
 packing_fault s points = or_then (first_fault (packing_rows s points)) (λ _. (own_packing s).rows s)
+
+-- whether a Section 5 has a template that is not in the list: then the packing is opaque
+abbrev pub is_opaque_packing : List ℕ → Bool
+is_opaque_packing s = not (is_packing (packing_template s))
+
+-- the rows of a Section 5 with an opaque packing, where the grid has this many points
+abbrev pub opaque_packing_rows : List ℕ → ℕ → List Row
+opaque_packing_rows s points =
+    row (nat_lt (length s) 11) 1 SectionLength (length s)  -- S5.1
+    ∷ row (nat_lt points (value_count s)) 6 ValueCount (value_count s)  -- S5.4
+    ∷ []
+
+-- the refusal of a Section 5 under a profile: the open one tries no row of a template that is not in the list
+abbrev pub packing_fault_under : Profile → List ℕ → ℕ → Option Fault
+packing_fault_under Stated s points = packing_fault s points
+packing_fault_under Open s points =
+    choose (is_opaque_packing s) (λ _. first_fault (opaque_packing_rows s points)) (λ _. packing_fault s points)
 
 -- the refusal of a Section 7: rows S7.1 to S7.7
 abbrev pub data_fault : List ℕ → List ℕ → Option Fault

@@ -1,12 +1,15 @@
 //! Sections 5 and 7 as the packings share them: what a field holds, how its groups are laid out, the
-//! definitions of what packed data mean, what each packing offers, and what all templates share of Section 5.
+//! definitions of what packed data mean, what each packing offers, what all templates share of Section 5, and what is read of one
+//! whose packing is opaque.
 #![tactic(auto)]
 
 mod codes;
 mod column;
 mod group;
 mod keeping;
+pub mod laws;
 mod layout;
+mod opaque;
 mod packing;
 mod representation;
 mod span;
@@ -18,6 +21,7 @@ pub use column::{Column, Point};
 pub use group::Group;
 pub use keeping::{Keeper, Nothing, Points, push_in_room};
 pub use layout::Layout;
+pub use opaque::{Opaque, is_opaque, read_opaque};
 pub use packing::Packing;
 pub use representation::{Simple, numbers_of, read_simple};
 pub use span::{Span, bit_length};

@@ -107,7 +107,7 @@ pub fn numbers_of(octets: &[u8]) -> Simple
 
 /// What a template of the profile asks of a Section 5.
 #[derive(Clone, Copy)]
-struct Limits {
+pub(crate) struct Limits {
     /// The least length of the section, in octets.
     least_length: u64,
     /// The most bits of each packed number, or of each group reference.
@@ -115,7 +115,7 @@ struct Limits {
 }
 
 /// The limits of a template of the profile, or why a template is refused.
-fn limits_of(template: u16) -> Result<Limits, Reason>
+pub(crate) fn limits_of(template: u16) -> Result<Limits, Reason>
     ensures { MatchResult result
         (λ limits. (is_packing template ≡ true) × (limits.least_length ≡ (packing_of template).least)
         × (limits.most_bits ≡ (packing_of template).most))

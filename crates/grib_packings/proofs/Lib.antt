@@ -1,3 +1,4 @@
 pub mod Represented
+pub mod OpaqueFields
 pub mod Simply
 pub mod Read

@@ -1,10 +1,12 @@
 -- What Section 5 says of a field, by its packing (WMO-No. 306, Volume I.2, FM 92 GRIB edition 2, data representation
 -- templates 5.0, 5.2 and 5.3).
-use Rattle.std.specs.Prelude.{◌≡◌, ◌⊎◌, ℕ, None, List}
-use Rattle.grib_packing.specs.Entries.{packing_fault}
+use Rattle.std.specs.Prelude.{◌≡◌, ◌⊎◌, ℕ, true, None, List}
+use Rattle.grib_packing.specs.Entries.{is_opaque_packing, packing_fault}
 use Rattle.grib_packing.specs.Packing.{packing_template}
 use Rattle.grib_packing.specs.Representation as simple
 use Rattle.grib_complex.specs.Representation as complex
+use Rattle.grib_packings.specs.declared.data_representation.DataRepresentation.{DataRepresentation}
+use Rattle.grib_packings.specs.declared.data_representation.DataRepresentation.TheVariants.{Read, Opaque}
 use Rattle.grib_packings.specs.declared.representation.Representation.{Representation}
 use Rattle.grib_packings.specs.declared.representation.Representation.TheVariants.{Simple, Complex}
 
@@ -18,3 +20,8 @@ pub record Represents (representation : Representation) (s5 : List ℕ) : Type 0
   pub numbers : HasNumbersOf representation s5
   pub points : ℕ
   pub accepted : packing_fault s5 points ≡ None
+
+-- What this Section 5 says of a field: one that no row of the profile refuses, or one with an opaque packing.
+abbrev pub IsDataOf : DataRepresentation → List ℕ → Type 0
+IsDataOf (Read representation) s5 = Represents representation s5
+IsDataOf (Opaque opaque) s5 = (is_opaque_packing s5 ≡ true) × simple.SpelledOpaque opaque s5

@@ -4,6 +4,7 @@ use Rattle.std.specs.List.{list_any, range_with_len, flat_map}
 use Rattle.grib_bits.specs.Binary32.{ieee_exponent}
 use Rattle.grib_bits.specs.Octets.{octets}
 use Rattle.grib_base.specs.Rows.{first_fault}
+use Rattle.grib_base.specs.declared.profile.Profile.TheVariants.{Stated}
 use Rattle.grib2_grids.specs.Grid.{grid_rows}
 use Rattle.grib_packing.specs.declared.column.Column.{Column}
 use Rattle.grib_packing.specs.declared.column.Point.{Point}
@@ -74,7 +75,7 @@ same_d (Crop area) s column = refl
 pub new_packable : (edit : GridEdit) (s : List ℕ) (column : Column) → Stands edit → first_fault (grid_rows s) ≡ None → cause_of edit s ≡ None
     → MayBePacked column → MayBePacked (new_column edit s column)
 new_packable edit s column stands none uncaused may =
-    let bounds = points_bounds (section_of edit s) (new_rows edit s stands none uncaused) in
+    let bounds = points_bounds Stated (section_of edit s) (new_rows edit s stands none uncaused) in
     let size = new_points edit s column stands none uncaused in
     record {
       some = omega (arith, size, bounds.0);

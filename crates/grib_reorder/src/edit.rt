@@ -24,7 +24,7 @@ use std::alloc::{AllocError, Global};
 pub enum GridEdit {
     /// Its points in the order of scanning octet 0.
     Rescan,
-    /// A box of it.
+    /// A subarea of it.
     Crop(Area),
 }
 
@@ -68,7 +68,7 @@ impl GridEdit {
     }
 
     /// Whether the new column is made without the old one, where the points of a grid with this Section 3 are
-    /// packed numbers: a box is cut out, or the points of a column are consecutive and go the same way in all of
+    /// packed numbers: a subarea is cut out, or the points of a column are consecutive and go the same way in all of
     /// them.
     pub(crate) fn takes_numbers(&self, section3: &[u8]) -> bool
         requires accepted { first_fault (grid_rows section3.now) ≡ None }

@@ -1,4 +1,4 @@
-//! Why a message is not put in another order, or no box is cut out of it.
+//! Why a message is not put in another order, or no subarea is cut out of it.
 
 ghost use Rattle.std.specs.Prelude.{◌≡◌, ℕ, Some};
 ghost use Rattle.grib2_message.specs.Assembled.{IsAssembleFault};
@@ -11,23 +11,23 @@ use grib2_message::AssembleFault;
 use std::alloc::AllocError;
 use thiserror::Error;
 
-/// Why a message is not put in another order, or no box is cut out of it. Fields and points count from 1.
+/// Why a message is not put in another order, or no subarea is cut out of it. Fields and points count from 1.
 /// Nothing is rounded or cut.
 #[derive(Clone, Copy, Debug, PartialEq, Eq, Error)]
 pub enum RescanFault {
     /// The grid of this field is not one of template 3.0 without a list of rows.
     #[error("field {field}: the grid is not a regular one of latitude and longitude")]
     GridKind { field: u32 },
-    /// The scanning mode of this field is not one that can be read, or is not 0 where a box is cut out.
+    /// The scanning mode of this field is not one that can be read, or is not 0 where a subarea is cut out.
     #[error("field {field}: the scanning mode")]
     ScanMode { field: u32 },
-    /// The box does not lie in the grid of this field.
+    /// The subarea does not lie in the grid of this field.
     #[error("field {field}: the box is not in the grid")]
     OutsideBox { field: u32 },
     /// The first and the last point of this field are not those that the increments give.
     #[error("field {field}: the increments do not lead from the first point to the last")]
     Increments { field: u32 },
-    /// The scaled number of this point is negative or too great for the packing of the field.
+    /// The scaled integer of this point is negative or too great for the packing of the field.
     #[error("field {field} point {point}: the scaled number is out of range")]
     OutOfRange { field: u32, point: u32 },
     /// A first value, the minimum or a code of the spatial differences of this field has no place.

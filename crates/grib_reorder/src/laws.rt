@@ -18,7 +18,7 @@ use grib_packed::laws::a_packing_is_written;
 use grib_simple::laws::what_is_packed_simply_reads_back;
 use grib2_message::laws::{field_holds, what_is_assembled_with_other_grids_is_accepted};
 
-/// Where nothing of an accepted message fails to fit, the message in another order, or that of a box, is
+/// Where nothing of an accepted message fails to fit, the message in another order, or that of a subarea, is
 /// accepted and has as many fields. Each field has the new Section 3 and the new column, with the same R, E
 /// and D, and its Sections 1, 2 and 4 as they were.
 pub fn what_is_edited_is_accepted()
@@ -67,7 +67,7 @@ pub fn what_is_rescanned_keeps_each_value()
     what_is_edited_is_accepted();
 }
 
-/// The entry in column i and row j of a box is that in column i + i0 and row j + j0 of the field, and R, E and
+/// The entry in column i and row j of a subarea is that in column i + i0 and row j + j0 of the field, and R, E and
 /// D are the same.
 pub fn what_is_cropped_keeps_each_value()
     ensures entries { (area : Rectangle) (message : List ℕ) → MayBeEdited (edits.Crop area) message

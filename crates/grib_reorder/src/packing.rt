@@ -13,7 +13,7 @@ use grib_simple::SimplePacking;
 use std::alloc::Global;
 
 /// Sections 5, 6 and 7 of a column, packed as this Section 5 says: by its template and, for differences, their
-/// order. Octet 21 of Section 5, the type of the original values, stays (WMO-No. 306, Volume I.2, FM 92 GRIB
+/// order. Octet 21 of Section 5, the type of the original values, does not change (WMO-No. 306, Volume I.2, FM 92 GRIB
 /// edition 2, code table 5.0).
 ///
 /// # Errors

@@ -1,4 +1,4 @@
-//! Putting a message in another order, and cutting out a box.
+//! Putting a message in another order, and cutting out a subarea.
 
 ghost use Rattle.std.specs.Prelude.{◌≡◌, ◌≤◌, None, MatchResult};
 ghost use Rattle.std.specs.List.{range_with_len};
@@ -20,7 +20,7 @@ use std::alloc::Global;
 
 /// The message with the points of its grids in the order of scanning octet 0: rows from the north, and points
 /// of a row from the west. Sections 5, 6 and 7 of each field are packed anew as the field is packed, each
-/// Section 3 has the first corner in the north west, and all other octets but the total length stay. It
+/// Section 3 has the first corner in the north west, and all other octets but the total length are as before. It
 /// holds the message, the new sections and one column at a time; two where the points of a column of the
 /// grid are consecutive, unless the field is in simple packing without missing points.
 ///
@@ -37,15 +37,15 @@ pub fn rescan(alloc: Global, message: &Message<'_>) -> Result<Vec<u8>, RescanFau
     edit_message(alloc, message, &GridEdit::Rescan)
 }
 
-/// The message with a box of its grids alone. Sections 5, 6 and 7 of each field are packed anew as the field
-/// is packed, each Section 3 has the numbers and corners of the box, and all other octets but the total
-/// length stay. It holds the message, the new sections and the column of one box at a time, and beside it that
+/// The message with a subarea of its grids alone. Sections 5, 6 and 7 of each field are packed anew as the field
+/// is packed, each Section 3 has the numbers and corners of the subarea, and all other octets but the total
+/// length are as before. It holds the message, the new sections and the column of one subarea at a time, and beside it that
 /// of the whole field, unless the field is in simple packing without missing points.
 ///
 /// # Errors
 ///
 /// The first cause, field by field: the grid is not one of template 3.0 without a list of rows; the scanning
-/// octet is not 0; the box does not lie in the grid; the increments do not lead from the first point to the
+/// octet is not 0; the subarea does not lie in the grid; the increments do not lead from the first point to the
 /// last; the field does not fit its packing. Else the new message would have more than 268,435,456 octets;
 /// or there is no memory.
 pub fn crop(alloc: Global, message: &Message<'_>, area: &Area) -> Result<Vec<u8>, RescanFault>

@@ -1,6 +1,7 @@
 -- The columns of an accepted message may be packed.
 use Rattle.std.proofs.Common.{◌≡◌, ℕ, ◌^◌, ◌<◌, ◌≤◌, List, length, All, refl, sym, ap, subst, arith, ◌∙◌}
 use Rattle.grib_bits.specs.Octets.{octets}
+use Rattle.grib_base.specs.declared.profile.Profile.TheVariants.{Stated}
 use Rattle.grib2_grids.specs.Grid.{grid_points}
 use Rattle.grib_packing.specs.declared.column.Column.{Column}
 use Rattle.grib_packing.specs.Entries.{entries_of, is_out_of_range}
@@ -37,7 +38,7 @@ module _ (message : List ℕ) (i : ℕ) (passes : FieldPasses message i) (long :
 
   pub may_be_packed : MayBePacked (column_of message i)
   may_be_packed =
-      let bounds = points_bounds (part_octets message i 3) passes.grid in
+      let bounds = points_bounds Stated (part_octets message i 3) passes.grid in
       let same : length (points_with_mask (field_mask message i) (entries_of (part_octets message i 5) (part_octets message i 7))) ≡ grid_points (part_octets message i 3) =
       points_of_mask (field_mask message i) (entries_of (part_octets message i 5) (part_octets message i 7)) ∙ long in
       packable message i (column_of message i) refl passes (omega (arith, same, bounds.0)) (omega (arith, same, bounds.1))

@@ -16,10 +16,10 @@ use thiserror::Error;
 /// Why a message is not repacked. Fields and points count from 1. Nothing is rounded or cut.
 #[derive(Clone, Copy, Debug, PartialEq, Eq, Error)]
 pub enum RepackFault {
-    /// This point is secondary missing, which simple packing cannot tell.
+    /// This point is secondary missing, which simple packing cannot represent.
     #[error("field {field} point {point}: secondary missing")]
     SecondaryMissing { field: u32, point: u32 },
-    /// The scaled number of this point is negative or too great for the packing.
+    /// The scaled integer of this point is negative or too great for the packing.
     #[error("field {field} point {point}: the scaled number is out of range")]
     OutOfRange { field: u32, point: u32 },
     /// A first value, the minimum or a code of the spatial differences of this field has no place.

@@ -24,7 +24,7 @@ use std::alloc::{AllocError, Global};
 ///
 /// # Errors
 ///
-/// A scaled number is negative, or it and the reserved codes take more than 32 bits; or there is no
+/// A scaled integer is negative, or it and the reserved codes take more than 32 bits; or there is no
 /// memory.
 pub(crate) fn pack_in_groups(
     alloc: Global,

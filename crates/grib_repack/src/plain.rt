@@ -16,7 +16,7 @@ use std::alloc::Global;
 ///
 /// # Errors
 ///
-/// A point is secondary missing, a scaled number is negative or has more than 48 bits, or there is no
+/// A point is secondary missing, a scaled integer is negative or has more than 48 bits, or there is no
 /// memory.
 pub fn pack_simply(alloc: Global, message: &Message<'_>, field: u32) -> Result<Packed, PackFault>
     requires first { 1 ≤ field }

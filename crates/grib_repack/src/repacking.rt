@@ -16,7 +16,7 @@ use grib2_message::Message;
 use std::alloc::Global;
 
 /// The message with the same fields, packed to the target: Sections 5, 6 and 7 of each field are written
-/// anew, and all other octets but the total length stay. It holds the message, the new sections and one
+/// anew, and all other octets but the total length are as before. It holds the message, the new sections and one
 /// column at a time; none of a field that stands in simple packing and stays in it, and 4 octets for each point
 /// in place of a column where a field is packed in groups without differences.
 ///

@@ -1,4 +1,4 @@
-//! Why the points of a grid are not put in another order, or no box is cut out.
+//! Why the points of a grid are not put in another order, or no subarea is cut out.
 
 ghost use Rattle.std.specs.Prelude.{◌≡◌};
 ghost use Rattle.grib_rescan.specs.Sections.{HasTemplate};
@@ -8,14 +8,14 @@ use crate::points::Area;
 use crate::section::steps_stand;
 use grib_bits::{u8_at, u16_at, u32_at};
 
-/// Why the points of a grid are not put in another order, or no box is cut out.
+/// Why the points of a grid are not put in another order, or no subarea is cut out.
 #[derive(Clone, Copy, Debug, PartialEq, Eq)]
 pub enum GridCause {
     /// The grid is not one of template 3.0 without a list of rows.
     GridKind,
     /// The scanning mode is not one that can be read.
     ScanMode,
-    /// The box does not lie in the grid.
+    /// The subarea does not lie in the grid.
     OutsideBox,
     /// The first and the last point are not those that the increments give.
     Increments,
@@ -36,7 +36,7 @@ pub fn rescan_cause(section: &[u8]) -> Option<GridCause>
     None
 }
 
-/// Why this box is not cut out of a grid with this Section 3, if it is not (WMO-No. 306, Volume I.2, FM 92
+/// Why this subarea is not cut out of a grid with this Section 3, if it is not (WMO-No. 306, Volume I.2, FM 92
 /// GRIB edition 2, grid definition template 3.0, flag table 3.4).
 pub fn crop_cause(section: &[u8], area: &Area) -> Option<GridCause>
     requires { HasTemplate section.now }

@@ -1,4 +1,4 @@
-//! The column of a field in another order, and that of a box.
+//! The column of a field in another order, and that of a subarea.
 
 ghost use Rattle.std.specs.Prelude.{◌≡◌, ◌*◌, length, IfOk};
 ghost use Rattle.grib_rescan.specs.Points.{IsBox, rescanned_column, cropped_column};
@@ -11,7 +11,7 @@ use grib_packing::Column;
 use std::alloc::{AllocError, Global};
 
 /// The column of a field of `ni` columns and `nj` rows in the order of scanning octet 0: each point with its
-/// exact number or its mark, and the same R, E and D.
+/// exact number or its missing value, and the same R, E and D.
 ///
 /// # Errors
 ///
@@ -41,8 +41,8 @@ pub fn rescan_column(
     })
 }
 
-/// The column of a box of a field of `ni` columns and `nj` rows, whose points are in the order of scanning
-/// octet 0: each point with its exact number or its mark, and the same R, E and D.
+/// The column of a subarea of a field of `ni` columns and `nj` rows, whose points are in the order of scanning
+/// octet 0: each point with its exact number or its missing value, and the same R, E and D.
 ///
 /// # Errors
 ///

@@ -37,7 +37,7 @@ pub fn what_is_rescanned_keeps_each_place()
         → point (rescanned_points scanning ni nj points) n ≡ point points m }
 {}
 
-/// The point in column i and row j of a box is that in column i + i0 and row j + j0 of the grid.
+/// The point in column i and row j of a subarea is that in column i + i0 and row j + j0 of the grid.
 pub fn what_is_cropped_keeps_each_place()
     ensures length { (area : Rectangle) (ni nj : ℕ) (points : List Entry)
         → length (cropped_points area ni nj points) ≡ height area * width area }
@@ -62,7 +62,7 @@ pub fn what_a_rescanned_grid_says()
         → AreApart first last 72 72 → octet_list (rescanned_section s) first last ≡ octet_list s first last }
 {}
 
-/// What a Section 3 of a box says: its numbers, its corners, and all other numbers as the grid has them.
+/// What a Section 3 of a subarea says: its numbers, its corners, and all other numbers as the grid has them.
 pub fn what_a_cropped_grid_says()
     ensures points { (area : Rectangle) (s : List ℕ) → 72 ≤ length s → height area * width area < 2 ^ 32
         → octets (cropped_section area s) 7 10 ≡ height area * width area }
@@ -112,7 +112,7 @@ pub fn worked_orders()
     ensures reserved { rescan_cause_of (grid 4 2 2 north west south east 0x08) ≡ Some ScanMode }
 {}
 
-/// The eastern column of a grid; a box that does not lie in it; a last point that the increments do not give.
+/// The eastern column of a grid; a subarea that does not lie in it; a last point that the increments do not give.
 pub fn worked_boxes()
     ensures points { cropped_points (area_of 1 1 0 1) 2 2 (points_of 0 1 2 255)
         ≡ Scaled (pos 1) ∷ Scaled (pos 255) ∷ [] }

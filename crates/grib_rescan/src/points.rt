@@ -1,4 +1,4 @@
-//! The points of a grid in another order, and those of a box.
+//! The points of a grid in another order, and those of a subarea.
 
 ghost use Rattle.std.specs.Prelude.{◌≡◌, ◌+◌, ◌-◌, ◌*◌, ◌%◌, ◌^◌, ◌<◌, ◌≤◌, ◌++◌, ◌==◌, ◌&&◌, cond, true, false, ℕ, length, take, drop, reverse, IfOk};
 ghost use Rattle.grib_rescan.specs.Scanning.{turned, is_odd, scanning_of};
@@ -13,7 +13,7 @@ use std::alloc::{AllocError, Global};
 /// How many columns are put in their places at a time.
 const BLOCK_COLUMNS: usize = 32;
 
-/// A box of a grid: its columns from `i0` to `i1`, counted from the west, and its rows from `j0` to `j1`,
+/// A subarea of a grid: its columns from `i0` to `i1`, counted from the west, and its rows from `j0` to `j1`,
 /// counted from the north, both from 0.
 #[derive(Clone, Copy, Debug, PartialEq, Eq)]
 pub struct Area {
@@ -185,7 +185,7 @@ fn put_part<P: GridPoints>(
     }
 }
 
-/// The points of a box of a grid of `ni` columns and `nj` rows, whose points are in the order of scanning
+/// The points of a subarea of a grid of `ni` columns and `nj` rows, whose points are in the order of scanning
 /// octet 0; in this order.
 ///
 /// # Errors

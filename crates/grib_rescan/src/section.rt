@@ -1,4 +1,4 @@
-//! Section 3 of a grid in another order, and that of a box.
+//! Section 3 of a grid in another order, and that of a subarea.
 
 ghost use Rattle.std.specs.Prelude.{◌≡◌, ◌+◌, ◌-◌, ◌*◌, ◌^◌, ◌<◌, ◌≤◌, cond, length, None, IfOk, nat_abs, IsTrue, pos, ◌-ℤ◌};
 ghost use Rattle.grib_bits.specs.Octets.{octets, signed_octets};
@@ -35,7 +35,7 @@ pub fn rescan_section(alloc: Global, section: &[u8]) -> Result<Vec<u8>, AllocErr
     Ok(rescanned)
 }
 
-/// The Section 3 of a box of a grid of template 3.0, in the order of scanning octet 0 (WMO-No. 306, Volume
+/// The Section 3 of a subarea of a grid of template 3.0, in the order of scanning octet 0 (WMO-No. 306, Volume
 /// I.2, FM 92 GRIB edition 2, grid definition template 3.0).
 ///
 /// # Errors
@@ -52,7 +52,7 @@ pub fn crop_section(alloc: Global, section: &[u8], area: &Area) -> Result<Vec<u8
     Ok(cropped)
 }
 
-/// Puts what a box of the grid with the Section 3 `grid` has of its own.
+/// Puts what a subarea of the grid with the Section 3 `grid` has of its own.
 fn put_box(grid: &[u8], area: &Area, section: &mut [u8])
     requires grid { HasPoints grid.now }
     requires long { 72 ≤ length section.old }
@@ -64,7 +64,7 @@ fn put_box(grid: &[u8], area: &Area, section: &mut [u8])
     put_corners(grid, area, section);
 }
 
-/// Puts the numbers of the points, of the columns and of the rows of a box.
+/// Puts the numbers of the points, of the columns and of the rows of a subarea.
 fn put_size(area: &Area, section: &mut [u8])
     requires long { 72 ≤ length section.old }
     requires columns { area.now.i0 ≤ area.now.i1 }
@@ -80,7 +80,7 @@ fn put_size(area: &Area, section: &mut [u8])
     put_u32(section, 35, height);
 }
 
-/// Puts the first and the last corner of a box of the grid with the Section 3 `grid`.
+/// Puts the first and the last corner of a subarea of the grid with the Section 3 `grid`.
 fn put_corners(grid: &[u8], area: &Area, section: &mut [u8])
     requires grid { HasPoints grid.now }
     requires long { 72 ≤ length section.old }

@@ -55,7 +55,7 @@ impl<'a> GridPoints for Listed<'a> {
     }
 }
 
-/// Points whose scaled numbers stand one after another from the first bit of the octets on, each without sign in
+/// Points whose scaled integers stand one after another from the first bit of the octets on, each without sign in
 /// as many bits (WMO-No. 306, Volume I.2, FM 92 GRIB edition 2, data template 7.0).
 #[derive(Clone, Copy, Debug)]
 pub struct Numbers<'a> {
@@ -105,7 +105,7 @@ fn add_numbers(
     Ok(())
 }
 
-/// The point with this scaled number.
+/// The point with this scaled integer.
 #[inline]
 fn scaled_point(number: u64) -> Point
     requires { number < 2 ^ 48 }

@@ -5,6 +5,7 @@ use Rattle.std.specs.Option.{option_map_or}
 use Rattle.std.proofs.lemmas.Bool.{cases_eq}
 use Rattle.std.proofs.lemmas.List.Sums.{sum_by-cons}
 use Rattle.grib_bits.specs.Octets.{StatesItself}
+use Rattle.grib_base.specs.declared.profile.Profile.TheVariants.{Stated}
 use Rattle.grib2_sections.specs.Frame.{Placed, placed_at, section_number}
 use Rattle.grib2_message.specs.View.{is_numbered, last_number, section_in_force, octets_in_force}
 use Rattle.grib2_message.specs.Grammar.{IsSection, AreSections}
@@ -22,17 +23,17 @@ use Rattle.grib2_message.proofs.Ways.{up_here, up_more, up_other}
 -- each stands where it may after those before it
 abbrev pub AreAccepted : List Placed → Type 0
 AreAccepted [] = Unit {0}
-AreAccepted (s ∷ before) = IsSection before s.start s.octets × AreAccepted before
+AreAccepted (s ∷ before) = IsSection Stated before s.start s.octets × AreAccepted before
 
 -- how many octets they have together
 abbrev pub octets_of_all : List Placed → ℕ
 octets_of_all [] = 0
 octets_of_all (s ∷ before) = length s.octets + octets_of_all before
 
-pub sound_of : (before : List Placed) → AreAccepted before → AreSound before
-sound_of [] h = sound_none
+pub sound_of : (before : List Placed) → AreAccepted before → AreSound Stated before
+sound_of [] h = sound_none Stated
 sound_of (s ∷ before) h =
-    sound_after s before (sound_of before h.1) (follows_tells (last_number before) (section_number s.octets) h.0.follows) h.0.rows_hold
+    sound_after Stated s before (sound_of before h.1) (follows_tells (last_number before) (section_number s.octets) h.0.follows) h.0.rows_hold
 
 -- ---- up to the end of a field
 
@@ -62,7 +63,7 @@ up_to_past s sections i q before other more =
     subst (λ xs. UpTo xs (octets_of_all before + length (s ++ concat sections))) (sym (up_other (placed_at q s) before (placed_from (q + length s) sections) i other))
     (record { accepted = more.accepted; ends = more.ends; short = omega (arith, more.short) })
 
-pub up_to_field : (sections : List (List ℕ)) (i q : ℕ) (before : List Placed) → AreSections before q sections → AreAccepted before
+pub up_to_field : (sections : List (List ℕ)) (i q : ℕ) (before : List Placed) → AreSections Stated before q sections → AreAccepted before
     → suc i ≤ count_by (is_numbered 7) (placed_from q sections)
     → UpTo (sections_up_to_field (suc i) before (placed_from q sections)) (octets_of_all before + length (concat sections))
 up_to_field [] i q before follow accepted some = absurd (omega arith)
@@ -96,11 +97,11 @@ up_to_field (s ∷ sections) (suc i) q before follow accepted some =
 pub field_up_to : (m : List ℕ) (i : ℕ) → IsMessage m → 1 ≤ i → i ≤ field_count m → UpTo (field_sections m i) (length m - 20)
 field_up_to m zero h low high = absurd (omega arith)
 field_up_to m (suc i) h low high =
-    let p = message_parted m h in
+    let p = message_parted Stated m h in
     let count : suc i ≤ count_by (is_numbered 7) (placed_from 17 p.sections) = subst (λ xs. suc i ≤ count_by (is_numbered 7) xs) p.found high in
     let up = up_to_field p.sections i 17 [] p.follow tt count in
     subst (λ xs. UpTo (sections_up_to_field (suc i) [] xs) (length m - 20)) (sym p.found)
-    (record { accepted = up.accepted; ends = up.ends; short = omega (arith, up.short, p.ends, message_states m h) })
+    (record { accepted = up.accepted; ends = up.ends; short = omega (arith, up.short, p.ends, message_states Stated m h) })
 
 -- ---- a section in force
 

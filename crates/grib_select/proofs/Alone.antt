@@ -8,6 +8,7 @@ use Rattle.grib_base.specs.declared.limits.TheConstants.{MOST_OCTETS}
 use Rattle.grib_packing.specs.Entries.{column_from}
 use Rattle.grib_bitmap.specs.Mask.{bitmap_indicator}
 use Rattle.grib_bits.specs.Encoding.{octets_of}
+use Rattle.grib_base.specs.declared.profile.Profile.TheVariants.{Stated}
 use Rattle.grib2_sections.specs.Head.{end_mark}
 use Rattle.grib2_sections.specs.Frame.{Placed, placed_at, section_number, may_follow}
 use Rattle.grib2_message.specs.View.{is_numbered, octets_in_force, earlier_bitmap, first_octets, own_bitmap, mask_in_force}
@@ -124,7 +125,7 @@ part_short m i k h low high =
 -- what is known of it
 pub record Cut (m : List ℕ) (i : ℕ) (sections : List (List ℕ)) (head : List Placed) (q : ℕ) : Type 0 where
   pub body : first_parts m i 7 ≡ concat sections
-  pub follow : AreSections [] 17 sections
+  pub follow : AreSections Stated [] 17 sections
   pub count : count_by (is_numbered 7) (placed_from 17 sections) ≡ 1
   pub field : sections_up_to_field 1 [] (placed_from 17 sections) ≡ all_parts head q (part_octets m i 3) (part_octets m i 4) (part_octets m i 5) (own_bitmap (field_sections m i)) (part_octets m i 7)
 
@@ -156,7 +157,7 @@ module _ (m : List ℕ) (i : ℕ) (h : IsMessage m) (low : 1 ≤ i) (high : i �
   itself_1 : StatesItself 1 (part_octets m i 1)
   itself_1 = part_itself 1 (field_sections m i) up.accepted (omega arith) (omega (arith, up.ends)) (λ e. absurd (omega arith))
 
-  first_stands : IsSection [] 17 (part_octets m i 1)
+  first_stands : IsSection Stated [] 17 (part_octets m i 1)
   first_stands =
       stands_here [] 17 1 (part_octets m i 1) itself_1 refl (ap (located 17) ((sound_of (field_sections m i) up.accepted).identification (omega (arith, up.ends))))
 
@@ -241,7 +242,7 @@ module _ (m : List ℕ) (i : ℕ) (h : IsMessage m) (low : 1 ≤ i) (high : i �
   short : 16 + length (first_parts m i 7) + 4 ≤ length m
   short =
       let xs = field_sections m i in
-      let least = message_least m h in
+      let least = message_least Stated m h in
       let p1 = part_octets m i 1 in
       let p2 = part_octets m i 2 in
       let p3 = part_octets m i 3 in
@@ -270,17 +271,17 @@ module _ (m : List ℕ) (i : ℕ) (h : IsMessage m) (low : 1 ≤ i) (high : i �
       sym (append_assoc (take 8 m) (octets_of 8 n) (first_parts m i 7 ++ end_mark))
       ∙ ap (λ (xs : List ℕ). head_octets ++ (xs ++ end_mark)) c.cut.body in
       subst (λ (x : List ℕ). Grammar2 x c.sections) (sym is)
-      (joined_grammar head_octets c.sections (subst (λ (x : ℕ). IsHead head_octets x) same (head_of m n h few)) (omega (arith, few, same)) c.cut.follow)
+      (joined_grammar Stated head_octets c.sections (subst (λ (x : ℕ). IsHead head_octets x) same (head_of Stated m n h few)) (omega (arith, few, same)) c.cut.follow)
 
   pub single_accepted : IsMessage (single_of m i)
   single_accepted = message_in_grammar (single_of m i) some_cut.sections (grammar some_cut)
 
   pub single_count : field_count (single_of m i) ≡ 1
-  single_count = ap (count_by (is_numbered 7)) (sections_alone (single_of m i) some_cut.sections (grammar some_cut)) ∙ some_cut.cut.count
+  single_count = ap (count_by (is_numbered 7)) (sections_alone Stated (single_of m i) some_cut.sections (grammar some_cut)) ∙ some_cut.cut.count
 
   single_field : (c : SomeCut) → field_sections (single_of m i) 1
       ≡ all_parts c.head c.place (part_octets m i 3) (part_octets m i 4) (part_octets m i 5) (own_bitmap (field_sections m i)) (part_octets m i 7)
-  single_field c = ap (sections_up_to_field 1 []) (sections_alone (single_of m i) c.sections (grammar c)) ∙ c.cut.field
+  single_field c = ap (sections_up_to_field 1 []) (sections_alone Stated (single_of m i) c.sections (grammar c)) ∙ c.cut.field
 
   single_column_by : (c : SomeCut) → column_of (single_of m i) 1 ≡ column_of m i
   single_column_by c =

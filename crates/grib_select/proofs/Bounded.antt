@@ -10,6 +10,7 @@ use Rattle.grib_bits.proofs.OctetNumbers.{AreOctets-take, AreOctets-octet_list, 
 use Rattle.grib_bits.proofs.Listed.{AreOctets-from_All}
 use Rattle.grib_bits.proofs.Signs.{signed-clear, signed-set}
 use Rattle.grib_base.specs.Rows.{choose}
+use Rattle.grib_base.specs.declared.profile.Profile.TheVariants.{Stated}
 use Rattle.grib2_sections.specs.Frame.{Placed, placed_at, ends_at, section_at}
 use Rattle.grib2_message.specs.View.{is_numbered, section_in_force, octets_in_force}
 use Rattle.grib2_message.specs.Fields.{sections_from, sections_of, sections_up_to_field, field_sections, field_count, part_octets}
@@ -139,7 +140,7 @@ keys_stand m i key h low high =
     } in
     elim (cases_eq n 0) [
       | inl e ↦
-          let least = message_least m h in
+          let least = message_least Stated m h in
           subst (λ (k : ℕ). HasKeys k (key_section m i k)) (sym e)
           (has_keys 0 (take 16 m) (head_within (take 16 m) (omega (arith, length-take-le 16 m (omega arith)))) (λ f. omega (arith, f)))
       | inr not_0 ↦

@@ -7,6 +7,7 @@ use Rattle.grib_base.specs.Rows.{first_fault, located}
 use Rattle.grib_bitmap.specs.Mask.{bitmap_indicator, bitmap_rows, mask_of, own_mask, present_count}
 use Rattle.grib_packing.specs.Packing.{value_count}
 use Rattle.grib_packing.specs.Entries.{packing_fault, data_fault}
+use Rattle.grib_base.specs.declared.profile.Profile.TheVariants.{Stated}
 use Rattle.grib2_sections.specs.Frame.{Placed, placed_at, section_number, may_follow, may_end}
 use Rattle.grib2_grids.specs.Grid.{grid_rows, grid_points}
 use Rattle.grib2_products.specs.Product.{product_rows}
@@ -31,7 +32,7 @@ pub record EarlierBitmap (before : List Placed) : Type 0 where
   pub rest : List Placed
   pub is : earlier_bitmap before ≡ first ∷ rest
   pub own : bitmap_indicator first.octets ≡ 0
-  pub section : IsSection rest first.start first.octets
+  pub section : IsSection Stated rest first.start first.octets
   pub numbered : section_number first.octets ≡ 6
 
 behind : (s : Placed) (before : List Placed) → earlier_bitmap (s ∷ before) ≡ earlier_bitmap before → EarlierBitmap before → EarlierBitmap (s ∷ before)
@@ -93,7 +94,7 @@ module _ (before : List Placed) (h : AreAccepted before) (ends : last_number bef
       let its_rows : first_fault (bitmap_rows b its_points its_values None) ≡ None =
       rows_alone b its_points its_values other None (earlier_mask e.rest)
       ∙ none_located e.first.start (first_fault (bitmap_rows b its_points its_values (earlier_mask e.rest)))
-      (sym (fault_of e.rest e.first 6 e.numbered) ∙ e.section.rows_hold) in
+      (sym (fault_of Stated e.rest e.first 6 e.numbered) ∙ e.section.rows_hold) in
       let told = own_tells b its_points its_values e.own its_rows in
       let force : mask_of s points (earlier_mask before) ≡ unwrap_or (earlier_mask before) [] =
       ap (λ (i : ℕ). cond (i == 255) (replicate points true) (cond (i == 254) (unwrap_or (earlier_mask before) []) (own_mask s points))) repeats in
@@ -122,12 +123,12 @@ module _ (before : List Placed) (h : AreAccepted before) (ends : last_number bef
 -- ---- Sections 3 to 7 of a field after Section 1 or 2
 
 pub stands_here : (before : List Placed) (q n : ℕ) (s : List ℕ) → StatesItself n s → IsTrue (may_follow (last_number before) n)
-    → get_or contents_faults n no_rows before (placed_at q s) ≡ None → IsSection before q s
+    → get_or (contents_faults Stated) n no_rows before (placed_at q s) ≡ None → IsSection Stated before q s
 stands_here before q n s itself follows rows = record {
   length_stands = itself.length_stands;
   least = itself.least;
   follows = ap (may_follow (last_number before)) itself.number_stands ∙ follows;
-  rows_hold = fault_of before (placed_at q s) n itself.number_stands ∙ rows;
+  rows_hold = fault_of Stated before (placed_at q s) n itself.number_stands ∙ rows;
 }
 
 -- sections that no row refuses
@@ -210,7 +211,7 @@ module _ (head : List Placed) (q : ℕ) (p3 p4 p5 p6 p7 : List ℕ) (h : Parts p
   after : (n m : ℕ) (s : List ℕ) → StatesItself n s → may_follow n m ≡ true → IsTrue (may_follow (section_number s) m)
   after n m s itself e = ap (λ (k : ℕ). may_follow k m) itself.number_stands ∙ e
 
-  pub parts_follow : IsTrue (may_follow (last_number head) 3) → section_count 4 head ≡ 0 → AreSections head q (p3 ∷ p4 ∷ p5 ∷ p6 ∷ p7 ∷ [])
+  pub parts_follow : IsTrue (may_follow (last_number head) 3) → section_count 4 head ≡ 0 → AreSections Stated head q (p3 ∷ p4 ∷ p5 ∷ p6 ∷ p7 ∷ [])
   parts_follow follows none =
       let count : section_count 4 (s3 ∷ head) + 1 ≡ 1 =
       ap (λ (n : ℕ). n + 1) (count_other s3 head 4 (is_not 3 4 p3 h.itself_3 (λ e. absurd (omega arith))) ∙ none) in (

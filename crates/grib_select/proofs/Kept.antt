@@ -8,6 +8,7 @@ use Rattle.grib_base.specs.Rows.{first_fault, located}
 use Rattle.grib_bitmap.specs.Mask.{bitmap_indicator, bitmap_rows, mask_of, own_mask}
 use Rattle.grib_packing.specs.Packing.{value_count}
 use Rattle.grib_packing.specs.Entries.{packing_fault, data_fault, column_from}
+use Rattle.grib_base.specs.declared.profile.Profile.TheVariants.{Stated}
 use Rattle.grib2_sections.specs.Frame.{Placed, placed_at, section_number, may_end}
 use Rattle.grib2_sections.specs.Head.{end_mark}
 use Rattle.grib2_grids.specs.Grid.{grid_points}
@@ -117,16 +118,16 @@ masks_same (s ∷ before) (t ∷ others) h =
 
 -- ---- the rows of a section with its changes
 
-module _ (before others : List Placed) (q : ℕ) (s t : List ℕ) (is : IsSection before q s) (along : Along Fits before others) (f : Fits (placed_at q s) (placed_at q t)) where
-  as_number : (n : ℕ) → section_number s ≡ n → get_or contents_faults n no_rows before (placed_at q s) ≡ None
-  as_number n e = sym (fault_of before (placed_at q s) n e) ∙ is.rows_hold
+module _ (before others : List Placed) (q : ℕ) (s t : List ℕ) (is : IsSection Stated before q s) (along : Along Fits before others) (f : Fits (placed_at q s) (placed_at q t)) where
+  as_number : (n : ℕ) → section_number s ≡ n → get_or (contents_faults Stated) n no_rows before (placed_at q s) ≡ None
+  as_number n e = sym (fault_of Stated before (placed_at q s) n e) ∙ is.rows_hold
 
   like : (n : ℕ) → section_number s ≡ n → AreAlike n s t
   like n e = subst (λ (k : ℕ). AreAlike k s t) e f.alike
 
-  rows_by : (n : ℕ) → section_number s ≡ n → get_or contents_faults n no_rows others (placed_at q t) ≡ get_or contents_faults n no_rows before (placed_at q s)
+  rows_by : (n : ℕ) → section_number s ≡ n → get_or (contents_faults Stated) n no_rows others (placed_at q t) ≡ get_or (contents_faults Stated) n no_rows before (placed_at q s)
       → section_fault others (placed_at q t) ≡ None
-  rows_by n e same = fault_of others (placed_at q t) n (f.numbered ∙ e) ∙ same ∙ as_number n e
+  rows_by n e same = fault_of Stated others (placed_at q t) n (f.numbered ∙ e) ∙ same ∙ as_number n e
 
   rows_of : (n : ℕ) → section_number s ≡ n → 1 ≤ n → n ≤ 7 → section_fault others (placed_at q t) ≡ None
   rows_of n e low high = elim (cases_eq n 1) [
@@ -166,7 +167,7 @@ module _ (before others : List Placed) (q : ℕ) (s t : List ℕ) (is : IsSectio
     ]
   ]
 
-  may_replace : MayReplace others q s t
+  may_replace : MayReplace Stated others q s t
   may_replace =
       let n = section_number s in
       let range = in_range (last_number before) n (follows_tells (last_number before) n is.follows) in
@@ -178,7 +179,7 @@ module _ (before others : List Placed) (q : ℕ) (s t : List ℕ) (is : IsSectio
       }
 
 -- a section with changes fits it
-changed_fits : (changes : List Change) (before : List Placed) (q : ℕ) (s : List ℕ) → CanBeSet changes → IsSection before q s → Fits (placed_at q s) (placed_at q (changed changes s))
+changed_fits : (changes : List Change) (before : List Placed) (q : ℕ) (s : List ℕ) → CanBeSet changes → IsSection Stated before q s → Fits (placed_at q s) (placed_at q (changed changes s))
 changed_fits changes before q s set is =
     let n = section_number s in
     let range = in_range (last_number before) n (follows_tells (last_number before) n is.follows) in
@@ -192,11 +193,11 @@ changed_fits changes before q s set is =
 -- ---- all sections
 
 pub record Rebuilt (changes : List Change) (others : List Placed) (q p : ℕ) (sections : List (List ℕ)) : Type 0 where
-  pub follow : AreSections others p (map (changed changes) sections)
+  pub follow : AreSections Stated others p (map (changed changes) sections)
   pub along : Along Fits (placed_from q sections) (placed_from p (map (changed changes) sections))
   pub long : length (concat (map (changed changes) sections)) ≡ length (concat sections)
 
-pub rebuilt : (changes : List Change) (sections : List (List ℕ)) (before others : List Placed) (q : ℕ) → CanBeSet changes → AreSections before q sections → Along Fits before others
+pub rebuilt : (changes : List Change) (sections : List (List ℕ)) (before others : List Placed) (q : ℕ) → CanBeSet changes → AreSections Stated before q sections → Along Fits before others
     → Rebuilt changes others q q sections
 rebuilt changes [] before others q set follow along = record { follow = ap may_end (last_along Fits fits_number before others along) ∙ follow; along = tt; long = refl }
 rebuilt changes (s ∷ sections) before others q set follow along =
@@ -206,7 +207,7 @@ rebuilt changes (s ∷ sections) before others q set follow along =
     let place : q + length s ≡ q + length t = ap (λ (n : ℕ). q + n) (sym f.alike.long) in
     let there = subst (λ (p : ℕ). Rebuilt changes (placed_at q t ∷ others) (q + length s) p sections) place rest in
     record {
-      follow = (replaces before others q q s t (last_along Fits fits_number before others along) follow.0 (may_replace before others q s t follow.0 along f), there.follow);
+      follow = (replaces Stated before others q q s t (last_along Fits fits_number before others along) follow.0 (may_replace before others q s t follow.0 along f), there.follow);
       along = (f, there.along);
       long = length-append t (concat (map (changed changes) sections)) ∙ ap₂ (λ (m n : ℕ). m + n) f.alike.long rest.long ∙ sym (length-append s (concat sections));
     }
@@ -233,15 +234,15 @@ changed_each changes q p (s ∷ sections) h =
 -- ---- the message
 
 module _ (m : List ℕ) (changes : List Change) (h : IsMessage m) (set : CanBeSet changes) where
-  old : Parted m [] 17 (length m)
-  old = message_parted m h
+  old : Parted Stated m [] 17 (length m)
+  old = message_parted Stated m h
 
-  again : (p : Parted m [] 17 (length m)) → Rebuilt changes [] 17 17 p.sections
+  again : (p : Parted Stated m [] 17 (length m)) → Rebuilt changes [] 17 17 p.sections
   again p = rebuilt changes p.sections [] [] 17 set p.follow tt
 
   head : IsHead (with_changes changes 0 (take 16 m)) (length m)
   head =
-      let least = message_least m h in
+      let least = message_least Stated m h in
       let s = take 16 m in
       let sixteen : length s ≡ 16 = length-take-le 16 m (omega arith) in
       let alike = changes_alike changes 0 s (ready 0 s (has_keys 0 s (head_within s (omega arith)) (λ e. omega (arith, e)))) set in
@@ -252,19 +253,19 @@ module _ (m : List ℕ) (changes : List Change) (h : IsMessage m) (set : CanBeSe
         edition_stands = alike_octets 0 8 8 s t alike (omega arith) (omega arith) refl
             ∙ octets_of_front m 16 8 8 (omega arith) (omega arith) (omega arith) ∙ h.edition_stands;
         total_stands = alike_octets 0 9 16 s t alike (omega arith) (omega arith) refl
-            ∙ octets_of_front m 16 9 16 (omega arith) (omega arith) (omega arith) ∙ message_states m h;
+            ∙ octets_of_front m 16 9 16 (omega arith) (omega arith) (omega arith) ∙ message_states Stated m h;
       }
 
-  grammar : (p : Parted m [] 17 (length m)) → Grammar2 (with_keys m changes) (map (changed changes) p.sections)
+  grammar : (p : Parted Stated m [] 17 (length m)) → Grammar2 (with_keys m changes) (map (changed changes) p.sections)
   grammar p =
       let r = again p in
       let first = with_changes changes 0 (take 16 m) in
-      let total : 16 + length (concat (map (changed changes) p.sections)) + 4 ≡ length m = omega (arith, r.long, p.ends, message_states m h) in
+      let total : 16 + length (concat (map (changed changes) p.sections)) + 4 ≡ length m = omega (arith, r.long, p.ends, message_states Stated m h) in
       let is : with_keys m changes ≡ first ++ (concat (map (changed changes) p.sections) ++ end_mark) =
       ap (λ (xs : List (List ℕ)). first ++ (concat xs ++ end_mark))
       (ap (map (λ s. changed changes s.octets)) p.found ∙ changed_placed changes 17 p.sections) in
       subst (λ (x : List ℕ). Grammar2 x (map (changed changes) p.sections)) (sym is)
-      (joined_grammar first (map (changed changes) p.sections) (subst (λ (n : ℕ). IsHead first n) (sym total) head) (omega (arith, total, message_most m h)) r.follow)
+      (joined_grammar Stated first (map (changed changes) p.sections) (subst (λ (n : ℕ). IsHead first n) (sym total) head) (omega (arith, total, message_most m h)) r.follow)
 
   pub changed_accepted : IsMessage (with_keys m changes)
   changed_accepted = message_in_grammar (with_keys m changes) (map (changed changes) old.sections) (grammar old)
@@ -275,7 +276,7 @@ module _ (m : List ℕ) (changes : List Change) (h : IsMessage m) (set : CanBeSe
       let p = old in
       subst (λ (xs : List Placed). Along Fits xs (sections_of (with_keys m changes))) (sym p.found)
       (subst (λ (xs : List Placed). Along Fits (placed_from 17 p.sections) xs)
-      (sym (sections_alone (with_keys m changes) (map (changed changes) p.sections) (grammar p))) (again p).along)
+      (sym (sections_alone Stated (with_keys m changes) (map (changed changes) p.sections) (grammar p))) (again p).along)
 
   pub changed_fields : field_count (with_keys m changes) ≡ field_count m
   changed_fields = count_along Fits fits_number 7 (sections_of m) (sections_of (with_keys m changes)) sections_along
@@ -299,4 +300,4 @@ module _ (m : List ℕ) (changes : List Change) (h : IsMessage m) (set : CanBeSe
       up_to_along (IsChanged changes) (changed_number changes) i [] [] (sections_of m) (sections_of (with_keys m changes)) tt
       (subst (λ (xs : List Placed). Along (IsChanged changes) xs (sections_of (with_keys m changes))) (sym p.found)
       (subst (λ (xs : List Placed). Along (IsChanged changes) (placed_from 17 p.sections) xs)
-      (sym (sections_alone (with_keys m changes) (map (changed changes) p.sections) (grammar p))) both))
+      (sym (sections_alone Stated (with_keys m changes) (map (changed changes) p.sections) (grammar p))) both))

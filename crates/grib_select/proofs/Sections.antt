@@ -7,6 +7,7 @@ use borrow.Rule.Slice.PartMut.{put_mid, post_of}
 use Rattle.grib_base.specs.Rows.{first_fault}
 use Rattle.grib_packing.specs.Entries.{packing_fault}
 use Rattle.grib_bits.specs.Encoding.{octets_of}
+use Rattle.grib_base.specs.declared.profile.Profile.TheVariants.{Stated}
 use Rattle.grib2_sections.specs.Frame.{Placed, placed_at, section_number}
 use Rattle.grib2_sections.specs.Identification.{identification_rows}
 use Rattle.grib_bits.proofs.Encoding.{length-octets_of}
@@ -50,7 +51,7 @@ pub section_keys : (before : List Placed) (p : Placed) (n : ℕ) → section_num
 section_keys before p n is low high none =
     let s = p.octets in
     let P : ℕ → Type 0 = λ k. HasKeys k s in
-    let fault = λ (k : ℕ) (e : n ≡ k). sym (fault_of before p k (is ∙ e)) ∙ none in
+    let fault = λ (k : ℕ) (e : n ≡ k). sym (fault_of Stated before p k (is ∙ e)) ∙ none in
     elim (cases_eq n 1) [
       | inl e ↦ subst P (sym e) (has_keys 1 s (identification_within s (none_located p.start (first_fault (identification_rows s)) (fault 1 e))) (λ f. omega (arith, f)))
       | inr not_1 ↦ elim (cases_eq n 2) [

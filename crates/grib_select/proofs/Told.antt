@@ -4,6 +4,7 @@ use Rattle.std.specs.Prelude.{All, AllPairs, option_map}
 use Rattle.std.specs.List.{range_with_len}
 use Rattle.std.proofs.lemmas.Bool.{cases_eq, eqb-false}
 use Rattle.grib_base.specs.Rows.{choose}
+use Rattle.grib_base.specs.declared.profile.Profile.TheVariants.{Stated}
 use Rattle.grib2_message.specs.Fields.{field_count, field_sections, part_octets}
 use Rattle.grib2_message.specs.Message.{IsMessage, FieldPasses}
 use Rattle.grib2_message.proofs.Along.{octets_along}
@@ -108,7 +109,7 @@ module _ (m : List ℕ) (changes : List Change) (h : IsMessage m) (set : CanBeSe
   in_head : Changed m changes i 0
   in_head =
       let s = take 16 m in
-      let least = message_least m h in
+      let least = message_least Stated m h in
       let keys = ready 0 s (has_keys 0 s (head_within s (omega (arith, length-take-le 16 m (omega arith)))) (λ e. omega (arith, e))) in
       let alike = changes_alike changes 0 s keys set in
       record {

@@ -1,4 +1,4 @@
-//! The octets that a message still wants are read.
+//! The octets that a message still needs are read.
 
 ghost use Rattle.std.specs.Prelude.{◌≡◌, ◌≢◌, ◌<◌, ◌≤◌, ◌+◌, ◌⊎◌, max, length, IfOk, IfErr, OnOk, OnErr};
 ghost use Rattle.grib_io.specs.Outside.{Counted, CountsStops};
@@ -68,7 +68,7 @@ fn room_for(wanted: usize, there: usize) -> usize
     (wanted.max(READ) - there).min(READ)
 }
 
-/// Reads as much as is wanted, as far as the input goes and as much may be taken.
+/// Reads as much as is needed, as far as the input goes and as much may be taken.
 ///
 /// # Errors
 ///

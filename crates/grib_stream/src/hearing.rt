@@ -1,4 +1,4 @@
-//! What hears a message: judges it as its octets come.
+//! What judges a message incrementally, as its octets come.
 
 ghost use Rattle.std.specs.Prelude.{◌≤◌, ℕ, Bool, List, length};
 ghost use Rattle.grib_stream.specs.Stream.{Judgement};
@@ -6,7 +6,7 @@ ghost use Rattle.grib_stream.specs.Hearing.{CanHear, Hears, Cuts};
 
 use grib_base::Fault;
 
-/// Why no more octets are heard.
+/// Why no more octets are taken.
 #[derive(Clone, Copy, Debug, PartialEq, Eq)]
 pub enum HearStop {
     /// They are refused, whatever follows.
@@ -22,13 +22,13 @@ pub trait Hearer: Drop {
     /// What octets are.
     ghost judge: { List ℕ → Judgement };
 
-    /// Whether a message that begins with these eight octets can be heard.
+    /// Whether a message that begins with these eight octets can be judged incrementally.
     ghost hears: { List ℕ → Bool };
 
-    /// What was heard.
+    /// The octets that were taken.
     ghost heard: { Self → List ℕ → Type 0 };
 
-    /// Hears a piece behind what was heard, up to the end of the message. It is refused exactly where it
+    /// Takes a piece after what was taken, up to the end of the message. It is refused exactly where it
     /// makes the octets refused whatever follows.
     fn push(&mut self, piece: &[u8]) -> Result<usize, HearStop>
         requires { CanHear judge hears (heard self.old) piece.now }
@@ -41,7 +41,7 @@ pub trait Hearer: Drop {
             → Cuts (judge octets) (length octets) result };
 }
 
-/// Stands where nothing is heard. To it any octets are a message, once there are four.
+/// Stands where no message is judged incrementally. To it any octets are a message, once there are four.
 #[derive(Clone, Copy, Debug, PartialEq, Eq)]
 pub struct Deaf;
 

@@ -1,4 +1,4 @@
-//! The messages of an input, in whatever pieces it comes: how the next is found, read and heard, what answers
+//! The messages of an input, in whatever pieces it comes: how the next is found, read or judged as it comes, what answers
 //! them, and what is answered. It knows no command.
 #![tactic(auto)]
 

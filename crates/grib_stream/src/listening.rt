@@ -1,4 +1,4 @@
-//! A message that is heard: judged as its octets come, and answered.
+//! A message that is judged incrementally, as its octets come, and answered.
 
 ghost use Rattle.std.specs.Prelude.{◌≡◌, ◌≢◌, ◌≤◌, ◌^◌, true, Option, length, take, Err};
 ghost use Rattle.grib_io.specs.Outside.{Counted, CountsStops, Unfinished};
@@ -18,7 +18,7 @@ use grib_base::{Fault, Refusal};
 use grib_io::{Sink, Source, Stop};
 use std::alloc::Global;
 
-/// How a message is heard.
+/// How a message is judged incrementally.
 #[derive(Drop)]
 pub(crate) enum Heard<A> {
     /// It is whole.
@@ -31,7 +31,7 @@ pub(crate) enum Heard<A> {
     Full(Fault),
 }
 
-/// Hears the message with which the octets of the window begin, and reads it in pieces. Each piece is heard
+/// Judges the message with which the octets of the window begin, and reads it in pieces. Each piece is judged
 /// before the next is read. Of the input no more than `left` octets are taken, from which what was read is
 /// taken away.
 pub(crate) fn listen<K: Performer, S: Source>(
@@ -69,7 +69,7 @@ pub(crate) fn listen<K: Performer, S: Source>(
     }
 }
 
-/// Hears the message with which the octets of the window begin, and answers it where it is whole. Else it
+/// Judges the message with which the octets of the window begin, and answers it where it is whole. Else it
 /// answers how the run ends.
 pub fn answer_heard<K: Performer, S: Source, T: Sink>(
     performer: &K,

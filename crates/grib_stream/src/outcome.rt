@@ -12,10 +12,10 @@ use grib_reasons::{Kept, TableRefusal};
 pub enum Outcome {
     /// The input was read to its end, and all of it was answered.
     Done,
-    /// The input was read to its end, and all of it was answered but what was passed: this many refusals and
-    /// this many kept messages, one at least of both.
+    /// The input was read to its end, and all of it was answered but what was skipped: this many refusals and
+    /// this many messages that were not changed, one at least of both.
     Passed { refused: u64, kept: u64 },
-    /// The words have no reading: the first that is not read, counted from 0, or the number of words.
+    /// The arguments are not valid: the first that is not, counted from 0, or the number of arguments.
     Usage(u64),
     /// A message is refused.
     Refused(Refusal),

@@ -47,32 +47,32 @@ pub enum Performed {
     Ends(Outcome),
 }
 
-/// Answers the messages of an input, one after another, and tells what a run has to know to go past those that are
-/// refused or kept. What is to be done is a `Task`, which a run knows only as far as its laws go.
+/// Answers the messages of an input, one after another, and says what a run has to know to skip those that are
+/// refused or not changed. What is to be done is a `Task`, which a run knows only as far as its laws go.
 pub trait Performer {
     ghost use Rattle.grib_stream.specs.Performed.{Performs, performed_of};
 
-    /// What hears the messages that are heard.
+    /// What judges the messages that are judged incrementally.
     type Hearer: Hearer;
 
     /// What is to be done.
     ghost task: { Self → Task };
 
-    /// The lines that are noted of what is refused or kept.
+    /// The lines that are noted of what is refused or not changed.
     ghost texts: { Self → Texts };
 
-    /// Whether the shelf is used. Else it stays as it is, and the run does not end with its fault.
+    /// Whether the shelf is used. Else it does not change, and the run does not end with its fault.
     ghost uses_shelf: { Self → Bool };
 
-    /// Whether a message that begins with these eight octets is heard, so that it need not be held whole.
+    /// Whether a message that begins with these eight octets is judged incrementally, so that it need not be held whole.
     ghost hears: { Self → List ℕ → Bool };
 
-    /// Whether the message that begins with these octets is heard, of which there are eight at least.
+    /// Whether the message that begins with these octets, eight at least, is judged incrementally.
     fn is_heard(&self, octets: &[u8]) -> bool
         requires { 8 ≤ length octets.now }
         ensures { result ≡ hears self.now (take 8 octets.now) };
 
-    /// What is to hear a message, and has heard nothing yet.
+    /// What is to judge a message incrementally, and has taken nothing yet.
     fn hear(&self, alloc: Global) -> Self::Hearer
         ensures { Self.Hearer.heard result [] };
 
@@ -102,7 +102,7 @@ pub trait Performer {
         ensures shelf { uses_shelf self.now ≡ false → shelf.new ≡ shelf.old }
         ensures unshelved { uses_shelf self.now ≡ false → result ≢ Ends ShelfFault };
 
-    /// Answers a message that was heard whole, by the output alone.
+    /// Answers a message that was judged incrementally and is whole, by the output alone.
     fn perform_heard<T: Sink>(
         &self,
         alloc: Global,
@@ -142,7 +142,7 @@ pub trait Performer {
     ) -> Result<Vec<u8>, AllocError>
         ensures { IfOk result (λ line. line.items ≡ (texts self.now).refused copied place.now fault.now) };
 
-    /// The line that is noted of a kept message.
+    /// The line that is noted of a message that is not changed.
     fn kept_line(&self, alloc: Global, place: &Place, kept: &Kept) -> Result<Vec<u8>, AllocError>
         ensures { IfOk result (λ line. line.items ≡ (texts self.now).kept place.now kept.now) };
 
@@ -165,7 +165,7 @@ pub trait Performer {
 
     ghost lawful: { (performer : Self) → IsLawful (task performer) };
 
-    /// Of a message that is heard, the hearer judges each front as the task does.
+    /// Of a message that is judged incrementally, the hearer judges each prefix as the task does.
     ghost alike: { (performer : Self) (octets more : List ℕ) → hears performer (take 8 (octets ++ more)) ≡ true
         → (Self.Hearer.hears (take 8 (octets ++ more)) ≡ true) × ((task performer).judge octets ≡ Self.Hearer.judge octets) };
 }

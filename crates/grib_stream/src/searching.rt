@@ -7,7 +7,7 @@ ghost use Rattle.grib_stream.specs.Searching.{Unmarked};
 use memchr::memmem;
 
 /// How many of the first octets begin no message: those before the first `GRIB`, or, where there is none,
-/// all but the last three, which may be the front of one.
+/// all but the last three, which may be the beginning of one.
 pub fn octets_before_mark(octets: &[u8]) -> usize
     ensures unmarked { Unmarked result octets.now }
     ensures within { result ≤ length octets.now }

@@ -68,8 +68,8 @@ impl Window {
         self.start += count;
     }
 
-    /// Reads at most `most` octets, one at least where there is one, into the buffer behind the others.
-    /// Room is made with a view to this many octets that are wanted in the end: there is never more than
+    /// Reads at most `most` octets, one at least where there is one, into the buffer after the others.
+    /// Room is made with a view to this many octets that are needed in the end: there is never more than
     /// for these, or for those that are pending, and one read.
     pub fn read<S: Source>(
         &mut self,
@@ -96,7 +96,7 @@ impl Window {
     }
 }
 
-/// Makes room for the octets of one read behind those from `start` to `end`, and answers where these then
+/// Makes room for the octets of one read after those from `start` to `end`, and answers where these then
 /// begin: it moves them to the front of the buffer, which is made larger where it has to be.
 fn make_room(
     octets: &mut Vec<u8>,
@@ -143,7 +143,7 @@ fn enlarge(octets: &mut Vec<u8>, pending: usize, wanted: usize) -> Result<(), Al
     octets.resize(size, 0)
 }
 
-/// Reads into the room of this many octets behind the first `end`, which stay as they are.
+/// Reads into the room of this many octets after the first `end`, which stay as they are.
 pub(crate) fn read_behind<S: Source>(
     octets: &mut [u8],
     end: usize,

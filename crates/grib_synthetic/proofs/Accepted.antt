@@ -8,6 +8,7 @@ use Rattle.grib_packing.specs.declared.column.Column.{Column}
 use Rattle.grib_packing.specs.Packing.{value_count}
 use Rattle.grib_packing.specs.Entries.{packing_fault, data_fault, column_from}
 use Rattle.grib_packing.specs.Laws.{UnpackTo}
+use Rattle.grib_base.specs.declared.profile.Profile.TheVariants.{Stated}
 use Rattle.grib2_sections.specs.Frame.{Placed, placed_at, section_number, may_follow, may_end}
 use Rattle.grib2_sections.specs.Head.{end_mark}
 use Rattle.grib_bits.proofs.Encoding.{num_on-octets_of}
@@ -59,14 +60,14 @@ module _ (ni nj : ℕ) (s5 s6 s7 : List ℕ) where
 
 -- ---- the sections follow one another
 
-is_identification : IsSection [] 17 made_identification
+is_identification : IsSection Stated [] 17 made_identification
 is_identification = record { length_stands = refl; least = omega arith; follows = refl; rows_hold = refl }
 
 module _ (seed ni nj : ℕ) (may : MayBeMade seed ni nj) where
-  is_grid : IsSection (placed_at 17 made_identification ∷ []) 38 (made_grid ni nj)
+  is_grid : IsSection Stated (placed_at 17 made_identification ∷ []) 38 (made_grid ni nj)
   is_grid = record { length_stands = refl; least = omega arith; follows = refl; rows_hold = ap (located 38) (grid_passes seed ni nj may) }
 
-is_product : (ni nj : ℕ) → IsSection (placed_at 38 (made_grid ni nj) ∷ placed_at 17 made_identification ∷ []) 110 made_product
+is_product : (ni nj : ℕ) → IsSection Stated (placed_at 38 (made_grid ni nj) ∷ placed_at 17 made_identification ∷ []) 110 made_product
 is_product ni nj = record { length_stands = refl; least = omega arith; follows = refl; rows_hold = refl }
 
 module _ (seed ni nj : ℕ) (column : Column) (s5 s6 s7 : List ℕ) (may : MayBeMade seed ni nj) (parts : Parts ni nj column s5 s6 s7) where
@@ -92,17 +93,17 @@ module _ (seed ni nj : ℕ) (column : Column) (s5 s6 s7 : List ℕ) (may : MayBe
       octets_other (placed_at (144 + length s5) s6) (before_6 ni nj s5 s6 s7) 5 (λ same. omega (arith, parts.itself_6.number_stands, same))
       ∙ representation_6 seed ni nj column s5 s6 s7 may parts
 
-  is_5 : IsSection (before_5 ni nj s5 s6 s7) 144 s5
+  is_5 : IsSection Stated (before_5 ni nj s5 s6 s7) 144 s5
   is_5 = record {
     length_stands = parts.itself_5.length_stands;
     least = parts.itself_5.least;
     follows = ap (may_follow 4) parts.itself_5.number_stands;
-    rows_hold = fault_of (before_5 ni nj s5 s6 s7) (placed_at 144 s5) 5 parts.itself_5.number_stands
+    rows_hold = fault_of Stated (before_5 ni nj s5 s6 s7) (placed_at 144 s5) 5 parts.itself_5.number_stands
         ∙ ap (λ (points : ℕ). located 144 (packing_fault s5 points)) (points_5 seed ni nj column s5 s6 s7 may parts)
         ∙ ap (located 144) parts.back.representation;
   }
 
-  is_6 : IsSection (before_6 ni nj s5 s6 s7) (144 + length s5) s6
+  is_6 : IsSection Stated (before_6 ni nj s5 s6 s7) (144 + length s5) s6
   is_6 =
       let before = before_6 ni nj s5 s6 s7 in
       let place = 144 + length s5 in
@@ -110,27 +111,27 @@ module _ (seed ni nj : ℕ) (column : Column) (s5 s6 s7 : List ℕ) (may : MayBe
         length_stands = parts.itself_6.length_stands;
         least = parts.itself_6.least;
         follows = ap₂ may_follow parts.itself_5.number_stands parts.itself_6.number_stands;
-        rows_hold = fault_of before (placed_at place s6) 6 parts.itself_6.number_stands
+        rows_hold = fault_of Stated before (placed_at place s6) 6 parts.itself_6.number_stands
             ∙ ap₂ (λ (points : ℕ) (s : List ℕ). located place (first_fault (bitmap_rows s6 points (value_count s) earlier)))
             (points_6 seed ni nj column s5 s6 s7 may parts) (representation_6 seed ni nj column s5 s6 s7 may parts)
             ∙ ap (located place) (parts.back.bitmap earlier);
       }
 
 module _ (seed ni nj : ℕ) (column : Column) (s5 s6 s7 : List ℕ) (may : MayBeMade seed ni nj) (parts : Parts ni nj column s5 s6 s7) where
-  is_7 : IsSection (before_7 ni nj s5 s6 s7) (144 + length s5 + length s6) s7
+  is_7 : IsSection Stated (before_7 ni nj s5 s6 s7) (144 + length s5 + length s6) s7
   is_7 =
       let before = before_7 ni nj s5 s6 s7 in
       let place = 144 + length s5 + length s6 in record {
         length_stands = parts.itself_7.length_stands;
         least = parts.itself_7.least;
         follows = ap₂ may_follow parts.itself_6.number_stands parts.itself_7.number_stands;
-        rows_hold = fault_of before (placed_at place s7) 7 parts.itself_7.number_stands
+        rows_hold = fault_of Stated before (placed_at place s7) 7 parts.itself_7.number_stands
             ∙ ap (λ (s : List ℕ). located place (data_fault s s7)) (representation_7 seed ni nj column s5 s6 s7 may parts)
             ∙ ap (located place) parts.back.values;
       }
 
 module _ (seed ni nj : ℕ) (column : Column) (s5 s6 s7 : List ℕ) (may : MayBeMade seed ni nj) (parts : Parts ni nj column s5 s6 s7) where
-  sections_follow : AreSections [] 17 (sections_of_parts ni nj s5 s6 s7)
+  sections_follow : AreSections Stated [] 17 (sections_of_parts ni nj s5 s6 s7)
   sections_follow = (
     is_identification,
     (
@@ -228,17 +229,17 @@ module _ (seed ni nj : ℕ) (column : Column) (s5 s6 s7 : List ℕ) (may : MayBe
       record {
         indicated = g.indicated;
         edition_stands = g.edition_stands;
-        accepted = ap verdict_2 (sym (append-nil m)) ∙ grammar_accepted m [] (sections_of_parts ni nj s5 s6 s7) g;
+        accepted = ap verdict_2 (sym (append-nil m)) ∙ grammar_accepted Stated m [] (sections_of_parts ni nj s5 s6 s7) g;
       }
 
   pub one_field : field_count m ≡ 1
   one_field =
-      ap (count_by (is_numbered 7)) (sections_alone m (sections_of_parts ni nj s5 s6 s7) (grammar seed ni nj column s5 s6 s7 may parts m is))
+      ap (count_by (is_numbered 7)) (sections_alone Stated m (sections_of_parts ni nj s5 s6 s7) (grammar seed ni nj column s5 s6 s7 may parts m is))
       ∙ one_last seed ni nj column s5 s6 s7 may parts
 
   in_force : field_sections m 1 ≡ placed_7 ni nj s5 s6 s7 ∷ before_7 ni nj s5 s6 s7
   in_force =
-      ap (sections_up_to_field 1 []) (sections_alone m (sections_of_parts ni nj s5 s6 s7) (grammar seed ni nj column s5 s6 s7 may parts m is))
+      ap (sections_up_to_field 1 []) (sections_alone Stated m (sections_of_parts ni nj s5 s6 s7) (grammar seed ni nj column s5 s6 s7 may parts m is))
       ∙ up_to_last seed ni nj column s5 s6 s7 may parts
 
 module _ (seed ni nj : ℕ) (column : Column) (s5 s6 s7 : List ℕ) (may : MayBeMade seed ni nj) (parts : Parts ni nj column s5 s6 s7)

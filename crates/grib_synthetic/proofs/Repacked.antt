@@ -4,6 +4,7 @@ use Rattle.std.specs.List.{concat}
 use Rattle.grib_packing.specs.declared.column.Column.{Column}
 use Rattle.grib_packing.specs.declared.written.Packed.{Packed}
 use Rattle.grib_bits.specs.Encoding.{octets_of}
+use Rattle.grib_base.specs.declared.profile.Profile.TheVariants.{Stated}
 use Rattle.grib2_sections.specs.Frame.{section_number}
 use Rattle.grib2_sections.specs.Head.{end_mark}
 use Rattle.grib2_message.specs.Assembled.{replaced, assembled_body, assembled}
@@ -38,7 +39,7 @@ module _ (seed ni nj : ℕ) (column : Column) (s5 s6 s7 : List ℕ) (may : MayBe
     (m : List ℕ) (is : m ≡ message_of_parts ni nj s5 s6 s7) (part : Packed) where
   body : assembled_body m (part ∷ []) ≡ concat (sections_with ni nj part)
   body =
-      ap (λ sections. concat (replaced sections (part ∷ []))) (sections_alone m (sections_of_parts ni nj s5 s6 s7) (grammar seed ni nj column s5 s6 s7 may parts m is))
+      ap (λ sections. concat (replaced sections (part ∷ []))) (sections_alone Stated m (sections_of_parts ni nj s5 s6 s7) (grammar seed ni nj column s5 s6 s7 may parts m is))
       ∙ ap concat (all_replaced seed ni nj column s5 s6 s7 may parts part)
 
 module _ (seed ni nj : ℕ) (column : Column) (s5 s6 s7 : List ℕ) (may : MayBeMade seed ni nj) (parts : Parts ni nj column s5 s6 s7)

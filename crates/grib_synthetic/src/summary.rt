@@ -14,7 +14,7 @@ use grib_packing::Point;
 pub struct Summary {
     /// How many points are not missing.
     pub present: u64,
-    /// The sum of their scaled numbers.
+    /// The sum of their scaled integers.
     pub sum: u64,
 }
 
@@ -38,7 +38,7 @@ pub fn made_summary(seed: u32, ni: u32, nj: u32) -> Summary
 }
 
 impl Summary {
-    /// The summary with one point more, whose scaled number is not negative and has at most 14 bits.
+    /// The summary with one point more, whose scaled integer is not negative and has at most 14 bits.
     #[inline]
     fn with(self, point: Point) -> Summary
         requires small { is_scaled_outside 16383 point ≡ false }

@@ -86,7 +86,7 @@ fn fill<H: Shelf>(name: &str, text: &mut [u8], shelf: &mut H) -> Result<usize, T
     Ok(filled)
 }
 
-/// Reads octets under this name behind the first `filled`, into the room behind as many of `text`.
+/// Reads octets under this name after the first `filled`, into the room after as many of `text`.
 fn read_more<H: Shelf>(
     name: &str,
     text: &mut [u8],

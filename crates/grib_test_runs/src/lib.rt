@@ -1,4 +1,4 @@
-//! Runs of the command in memory: words, octets that come and go in pieces, and calls that fail.
+//! Runs of the command in memory: arguments, octets that come and go in pieces, and calls that fail.
 #![tactic(auto)]
 
 ghost use Rattle.std.specs.Prelude.{◌≤◌};
@@ -48,7 +48,7 @@ impl Ran {
     }
 }
 
-/// A run of words, told apart by spaces, over octets that come and go in pieces of this size, with nothing on the
+/// A run of arguments, with spaces between them, over octets that come and go in pieces of this size, with nothing on the
 /// shelf.
 ///
 /// # Errors
@@ -67,7 +67,7 @@ pub fn run_over(
     run_with(alloc, text, octets, piece, failing, shelf)
 }
 
-/// A run of words, told apart by spaces, over octets that come and go in pieces of this size, with this shelf.
+/// A run of arguments, with spaces between them, over octets that come and go in pieces of this size, with this shelf.
 ///
 /// # Errors
 ///
@@ -101,12 +101,12 @@ pub fn run_with(
     Ok(ran)
 }
 
-/// A run of words over octets that come and go in pieces of this size, with the table of the samples on the shelf
+/// A run of arguments over octets that come and go in pieces of this size, with the table of the samples on the shelf
 /// under the name `t`.
 ///
 /// # Errors
 ///
-/// There is no memory for the words, the table, or a copy of the octets.
+/// There is no memory for the arguments, the table, or a copy of the octets.
 pub fn run_with_table(
     alloc: Global,
     text: &str,
@@ -159,7 +159,7 @@ pub fn gives_with_table(
     gives(alloc, text, octets, Outcome::Done, output, note.as_str())
 }
 
-/// The words of a text, told apart by spaces.
+/// The arguments of a text, with spaces between them.
 fn words_of(alloc: Global, text: &str) -> Result<Vec<String>, AllocError> {
     let mut words = Vec::new(alloc);
     for word in text.split_whitespace() {

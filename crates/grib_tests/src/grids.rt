@@ -1,4 +1,4 @@
-//! Sections in which the octets of a template are numbered, so that a number tells where it stands,
+//! Sections in which the octets of a template are numbered, so that a number says where it stands,
 //! and worked messages.
 
 ghost use Rattle.std.specs.Prelude.{IfOk};
@@ -228,7 +228,7 @@ fn a_worked_section_is_read(rt: HostRuntime) -> Result<(), Fail> {
 }
 
 /// What the octets of the worked section from `at` on, counted from 0, become, with a list of rows
-/// behind them; and the refusal.
+/// after them; and the refusal.
 const REFUSED: [(u8, &[u8], &[u8], u64, Reason, u64); 10] = [
     (5, &[1], &[], 43, Reason::GridSource, 1),
     (12, &[0, 2], &[], 50, Reason::GridTemplate, 2),

@@ -1,4 +1,4 @@
-//! Sections in which the octets of a template are numbered, so that a number tells where it stands,
+//! Sections in which the octets of a template are numbered, so that a number says where it stands,
 //! and worked messages.
 
 ghost use Rattle.std.specs.Prelude.{◌+◌, ◌*◌, ◌≤◌, IfOk};

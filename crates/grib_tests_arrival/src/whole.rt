@@ -1,7 +1,7 @@
 //! Messages that are whole.
 
 use crate::worked::{PLAIN, TWO_FIELDS, begins, hear};
-use grib_base::{Fault, Reason};
+use grib_base::{Fault, Profile, Reason};
 use grib2_arrival::Arrival;
 use std::test::Fail;
 
@@ -11,14 +11,14 @@ fn two_fields_are_whole_behind_their_last_octet(rt: HostRuntime) -> Result<(), F
     if !begins(octets) {
         return Err(Fail::from("no message"));
     }
-    let mut arrival = Arrival::new(rt.alloc());
+    let mut arrival = Arrival::new(rt.alloc(), Profile::Stated);
     let Ok(count) = hear(&mut arrival, &octets[..251], 1) else {
         return Err(Fail::from("refused"));
     };
     assert_eq!(rt; count, 251);
     assert!(rt; !arrival.whole());
     assert_eq!(rt; arrival.octets(), 251);
-    let mut arrival = Arrival::new(rt.alloc());
+    let mut arrival = Arrival::new(rt.alloc(), Profile::Stated);
     let Ok(count) = hear(&mut arrival, octets, 1) else {
         return Err(Fail::from("refused"));
     };

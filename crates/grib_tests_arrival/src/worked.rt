@@ -5,7 +5,7 @@ ghost use Rattle.grib2_sections.specs.Verdict.{Accepted};
 ghost use Rattle.grib2_message.specs.Acceptance.{verdict_2};
 ghost use Rattle.grib2_arrival.specs.Heard.{BeginsLikeTwo, Heard};
 
-use grib_base::{Fault, ReadFault};
+use grib_base::{Fault, Profile, ReadFault};
 use grib_bits::u8_at;
 pub(crate) use grib_samples::{
     GRID, IDENTIFICATION, NO_BITMAP, PLAIN, PRODUCT, TWO_FIELDS, edited, message_of,
@@ -21,7 +21,7 @@ pub(crate) fn begins(octets: &[u8]) -> bool
     octets.len() >= 8 && octets.starts_with(b"GRIB") && u8_at(octets, 8) == 2
 }
 
-/// Hears these octets in pieces of this many, and says how many were heard.
+/// Judges these octets in pieces of this many, and says how many were taken.
 pub(crate) fn hear(arrival: &mut Arrival, octets: &[u8], size: usize) -> Result<usize, ReadFault>
     requires begins { BeginsLikeTwo octets.now }
     requires new { Heard arrival.old [] }
@@ -41,7 +41,7 @@ pub(crate) fn refused(alloc: Global, octets: &[u8], size: usize) -> Option<Fault
     if size == 0 || !begins(octets) {
         return None;
     }
-    let mut arrival = Arrival::new(alloc);
+    let mut arrival = Arrival::new(alloc, Profile::Stated);
     match hear(&mut arrival, octets, size) {
         Ok(_) if arrival.whole() => None,
         Ok(_) => Some(arrival.cut()),

@@ -1,4 +1,4 @@
-//! Messages that are packed anew, kept and made.
+//! Messages that are packed anew or not changed, and synthetic ones.
 
 use crate::sections::{
     NO_BITMAP, complex, differences, gives, message, missing, rotated, simple, spatial,

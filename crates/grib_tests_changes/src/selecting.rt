@@ -1,4 +1,4 @@
-//! Fields that are picked, changed in their head, and cut apart.
+//! Fields that are selected, changed in their headers, and cut out.
 
 use grib_engine::{Cause, Kept, Key, Outcome};
 use grib_samples::PLAIN;

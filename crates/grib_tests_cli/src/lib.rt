@@ -1,4 +1,4 @@
-//! Tests of the command: its words, and its runs over inputs in memory. Expected values are from outside,
+//! Tests of the command: its arguments, and its runs over inputs in memory. Expected values are from outside,
 //! worked by hand or made by another program.
 #![tactic(auto)]
 

@@ -1,5 +1,5 @@
 //! `stats`, and `dump` with values as decimals. The values were worked by hand from the manual's formula, those of
-//! the made message by a program in another language.
+//! the synthetic message by a program in another language.
 
 use grib_engine::{Cause, Kept, Outcome};
 use grib_samples::{

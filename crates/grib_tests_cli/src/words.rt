@@ -319,7 +319,7 @@ const UNREAD_PAGES: [(u64, &str); 8] = [
     (1, "version centre=98"),
 ];
 
-/// Lines with words on what a run goes past that are not read.
+/// Lines with arguments on what a run skips that are not read.
 const UNREAD_PAST: [(u64, &str); 9] = [
     (1, "check refused=skip"),
     (2, "list refused=pass refused=pass"),

@@ -1,10 +1,10 @@
-//! Large messages, told by the numbers of their points.
+//! Large messages, determined by the numbers of their points.
 
 use grib_samples::{FOUR_NUMBERS, GRID, IDENTIFICATION, NO_BITMAP, PRODUCT, message_of, put};
 use grib_test_runs::{CALM, Ran, run_over};
 use std::alloc::{AllocError, Global};
 
-/// A box of a grid of latitude and longitude whose points are a tenth of a degree apart: its first column and row,
+/// A subarea of a grid of latitude and longitude whose points are a tenth of a degree apart: its first column and row,
 /// counted from 50 degrees north and 10 degrees east, and its columns and rows.
 #[derive(Clone, Copy)]
 pub(crate) struct Area {
@@ -67,7 +67,7 @@ impl Area {
         Ok(section)
     }
 
-    /// The scaled numbers, row by row from the north.
+    /// The scaled integers, row by row from the north.
     pub(crate) fn numbers(self, alloc: Global) -> Result<Vec<u8>, AllocError> {
         let mut numbers = Vec::new(alloc);
         for row in 0..self.rows {
@@ -76,7 +76,7 @@ impl Area {
         Ok(numbers)
     }
 
-    /// The scaled numbers, row by row from the south.
+    /// The scaled integers, row by row from the south.
     pub(crate) fn numbers_from_the_south(self, alloc: Global) -> Result<Vec<u8>, AllocError> {
         let mut numbers = Vec::new(alloc);
         for row in 0..self.rows {
@@ -88,7 +88,7 @@ impl Area {
         Ok(numbers)
     }
 
-    /// Adds the scaled numbers of a row, counted from 0 in the north.
+    /// Adds the scaled integers of a row, counted from 0 in the north.
     fn add_row(self, numbers: &mut Vec<u8>, row: u32) -> Result<(), AllocError> {
         for column in 0..self.columns {
             let column = column.saturating_add(self.west);
@@ -98,7 +98,7 @@ impl Area {
     }
 }
 
-/// The scaled number of the point in this column and row of the grid, counted from 0.
+/// The scaled integer of the point in this column and row of the grid, counted from 0.
 fn number(column: u32, row: u32) -> u8 {
     let sum = column
         .saturating_mul(7)

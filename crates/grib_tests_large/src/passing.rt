@@ -1,4 +1,4 @@
-//! Runs over large inputs that go past what is refused, and past what is kept.
+//! Runs over large inputs that skip what is refused, and what is not changed.
 
 use crate::editions::first;
 use crate::messages::{LARGE, five_times, message, ran};

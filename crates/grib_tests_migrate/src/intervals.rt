@@ -1,4 +1,4 @@
-//! Time ranges from P1 to P2, whose end is told by the calendar.
+//! Time ranges from P1 to P2, whose end follows from the calendar.
 
 use crate::octets::{changed, loss_of, stand};
 use grib_migrate::Loss;

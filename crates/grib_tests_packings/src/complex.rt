@@ -487,10 +487,10 @@ fn simple_packing_in_pieces(rt: HostRuntime) -> Result<(), Fail> {
     Ok(())
 }
 
-/// No scaled number: a missing point.
+/// No scaled integer: a missing point.
 const MISSING: i64 = i64::MAX - 1;
 
-/// No scaled number: a secondary missing point.
+/// No scaled integer: a secondary missing point.
 const SECOND: i64 = i64::MAX;
 
 /// Section 5 of 230 values in template 5.3, order 2, management 2, descriptors of three octets.

@@ -1,4 +1,4 @@
-//! Groupings that are told by hand: those of a worked message, and of codes that are all the same.
+//! Groupings that are worked by hand: those of a worked message, and of codes that are all the same.
 
 ghost use Rattle.std.specs.Prelude.{◌≡◌, ◌<◌, ◌≤◌, vec_len, IfOk};
 ghost use Rattle.grib_packing.specs.Span.{IsBelow};

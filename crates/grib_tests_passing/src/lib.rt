@@ -1,4 +1,4 @@
-//! Tests of runs of the command that go past what is refused or kept. Expected values are worked by hand.
+//! Tests of runs of the command that skip what is refused or not changed. Expected values are worked by hand.
 #![tactic(auto)]
 
 #[cfg(test)]

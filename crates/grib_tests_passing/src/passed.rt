@@ -1,4 +1,4 @@
-//! Runs that go past what is refused or kept.
+//! Runs that skip what is refused or not changed.
 
 use grib_engine::Outcome;
 use grib_samples::{FIRST_EDITION, PLAIN, edited, message_of};

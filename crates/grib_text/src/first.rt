@@ -55,7 +55,7 @@ fn write_numbers(line: &mut String, message: &Message1<'_>) -> Result<(), AllocE
     Ok(())
 }
 
-/// Writes a number of Section 1 behind a space and its name.
+/// Writes a number of Section 1 after a space and its name.
 fn write_number(line: &mut String, message: &Message1<'_>, key: Key1) -> Result<(), AllocError>
     ensures { OnOk result (string_bytes line.new ≡ string_bytes line.old ++ lines.number_text message.now key) }
 {

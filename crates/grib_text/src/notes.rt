@@ -17,7 +17,7 @@ pub fn refusal_note(alloc: Global, refusal: &Refusal) -> Result<Vec<u8>, AllocEr
     refusal_text(alloc, head.as_str(), &refusal.fault)
 }
 
-/// The line on a refusal that is passed, at the place where a message of this number would begin behind this many
+/// The line on a refusal that is skipped, at the place where a message of this number would begin after this many
 /// octets of the input.
 pub fn refused_line(
     alloc: Global,

@@ -28,7 +28,7 @@ pub fn keys_line(
     Ok(line.into_bytes())
 }
 
-/// Writes the words of the keys that the field has.
+/// Writes the keys that the field has, each with its value.
 fn write_words(line: &mut String, message: &Message<'_>, field: u32) -> Result<(), AllocError>
     requires first { 1 ≤ field }
     requires last { field ≤ field_count message.now }
@@ -40,7 +40,7 @@ fn write_words(line: &mut String, message: &Message<'_>, field: u32) -> Result<(
     Ok(())
 }
 
-/// Writes the word of a key behind a space, nothing where the key has no value.
+/// Writes a key with its value after a space, nothing where the key has no value.
 fn write_word(line: &mut String, key: Key, value: Option<Value>) -> Result<(), AllocError>
     ensures { OnOk result (string_bytes line.new ≡ string_bytes line.old ++ lines.word_text key value) }
 {

@@ -7,7 +7,7 @@ use grib_decimal::{Extremes, Summary};
 use std::alloc::{AllocError, Global};
 use std::fmt;
 
-/// The line of this field, from 1, of the message with this number, from 1, by what its points sum up to. The
+/// The line of this field, from 1, of the message with this number, from 1, by its counts and extremes. The
 /// only error is that there is no memory.
 pub fn stats_line(
     alloc: Global,
@@ -27,7 +27,7 @@ pub fn stats_line(
     Ok(line.into_bytes())
 }
 
-/// The least and the greatest scaled number, where there is one.
+/// The least and the greatest scaled integer, where there is one.
 #[derive(Clone, Copy, Debug)]
 struct Bounds(Option<Extremes>);
 

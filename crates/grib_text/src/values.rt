@@ -39,7 +39,7 @@ pub fn append_value_line(
     appended
 }
 
-/// Appends the line of the point with the scaled number X. Where there is no memory some front of it is appended.
+/// Appends the line of the point with the scaled integer X. Where there is no memory a prefix of it is appended.
 #[inline]
 fn append_scaled(
     line: &mut Vec<u8>,
@@ -70,7 +70,7 @@ fn append_place(line: &mut Vec<u8>, place: u32) -> Result<(), AllocError>
     line.extend_from_slice(&buffer[start..])
 }
 
-/// Appends the value of the point with the scaled number X.
+/// Appends the value of the point with the scaled integer X.
 #[inline]
 fn append_decimal(line: &mut Vec<u8>, x: i64, scale: &DecimalScale) -> Result<(), AllocError>
     requires fits { is_too_large (value_at scale.now x) scale.now.places ≡ false }

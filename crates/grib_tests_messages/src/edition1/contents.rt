@@ -1,4 +1,4 @@
-//! What small messages tell. The octets are written by hand from the layout of the manual, and so are the
+//! What small messages hold. The octets are written by hand from the layout of the manual, and so are the
 //! expected numbers.
 
 use super::{MASKED, PLAIN, REDUCED, read};

@@ -22,7 +22,7 @@ fn column(alloc: Global, points: &[Point]) -> Result<Column, AllocError>
     })
 }
 
-/// The points as groups of their scaled numbers.
+/// The points as groups of their scaled integers.
 fn complex(alloc: Global, points: &[Point]) -> Result<Packed, PackFault>
     requires some { 1 ≤ length points.now }
     requires few { length points.now ≤ 33554432 }

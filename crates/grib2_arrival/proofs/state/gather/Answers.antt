@@ -7,8 +7,8 @@ use Rattle.grib2_arrival.proofs.state.gather.Goals as goal
 
 pub settle-requires : goal.settle-requires
 settle-requires c =
-    let u = c.requires.heard.0 in
-    let gh = c.requires.heard.1 in
+    let u = c.requires.heard.1 in
+    let gh = c.requires.heard.2 in
     let items = c.args.gathered.items in
     let part = take c.min-taken.result c.args.piece.now in
     let within : c.min-taken.result ≤ length c.args.piece.now = omega (arith, c.min-taken.ensures) in
@@ -17,29 +17,30 @@ settle-requires c =
     let new = c.in_ok-extend_from_slice.ensures.items in
     record {
       stands = (
+        c.requires.heard.0,
         u ++ part,
         gh.before,
-        gathered_stands u part c.args.kept items gh,
-        new ∙ gathered_more u part c.args.kept items gh,
+        gathered_stands c.requires.heard.0 u part c.args.kept items gh,
+        new ∙ gathered_more c.requires.heard.0 u part c.args.kept items gh,
         subst IsOne (sym new) one,
       );
     }
 
 pub returns-in_err-state : goal.returns-in_err-state
-returns-in_err-state c = λ u gh.
+returns-in_err-state c = λ profile u gh.
     let items = c.args.gathered.items in
     let part = take c.min-taken.result c.args.piece.now in
     let within : c.min-taken.result ≤ length c.args.piece.now = omega (arith, c.min-taken.ensures) in
     let long = length-take-le c.min-taken.result c.args.piece.now within in
     let one = subst (λ (xs : List ℕ). IsOne (xs ++ part)) c.as_slice.ensures.value (c.wanted.ensures.one part (omega (arith, long, c.min-taken.ensures))) in
     let new = c.in_ok-extend_from_slice.ensures.items in
-    let stands = gathered_stands u part c.args.kept items gh in
-    let stops = c.in_err-state.ensures (u ++ part) gh.before stands (new ∙ gathered_more u part c.args.kept items gh) (subst IsOne (sym new) one) in
+    let stands = gathered_stands profile u part c.args.kept items gh in
+    let stops = c.in_err-state.ensures profile (u ++ part) gh.before stands (new ∙ gathered_more profile u part c.args.kept items gh) (subst IsOne (sym new) one) in
     let p = err_from_is_err_and c.from_residual-in_err-state.result c.from_residual-in_err-state.ensures.1 in
-    rw (p.1, p.2) (stops_piece u c.args.piece.now c.min-taken.result _ stands.second stops)
+    rw (p.1, p.2) (stops_piece profile u c.args.piece.now c.min-taken.result _ stands.second stops)
 
 pub returns : goal.returns
-returns c = λ u gh.
+returns c = λ profile u gh.
     let items = c.args.gathered.items in
     let part = take c.min-taken.result c.args.piece.now in
     let within : c.min-taken.result ≤ length c.args.piece.now = omega (arith, c.min-taken.ensures) in
@@ -48,5 +49,5 @@ returns c = λ u gh.
     let new = c.in_ok-extend_from_slice.ensures.items in (
       omega (arith, c.wanted.ensures.some, c.requires.some, c.min-taken.ensures),
       within,
-      c.in_ok-state.ensures (u ++ part) gh.before (gathered_stands u part c.args.kept items gh) (new ∙ gathered_more u part c.args.kept items gh) (subst IsOne (sym new) one),
+      c.in_ok-state.ensures profile (u ++ part) gh.before (gathered_stands profile u part c.args.kept items gh) (new ∙ gathered_more profile u part c.args.kept items gh) (subst IsOne (sym new) one),
     )

@@ -6,8 +6,8 @@ use Rattle.grib2_message.proofs.Checked.{stands_below}
 use Rattle.grib2_message.proofs.Masks.{points_bounds, points_of_mask}
 use Rattle.grib2_message.proofs.columns.column_at.Goals as goal
 
-pub representation-representation-requires : goal.representation-representation-requires
-representation-representation-requires c = (c.requires.0, c.requires.1.stand.force, omega (arith, c.requires.1.ends))
+pub representation_at-representation-requires : goal.representation_at-representation-requires
+representation_at-representation-requires c = (c.args.octets.now, c.requires.0, c.requires.1, c.requires.2)
 
 pub section-requires-clause-stands : goal.section-requires-clause-stands
 section-requires-clause-stands c =
@@ -18,12 +18,12 @@ unpack-requires c =
     let before = c.requires.0 in
     let h = c.requires.1 in
     let told = c.in_ok-mask.ensures before h in
-    (octets_in_force 5 before, c.representation-representation.ensures before h.stand.force, told.2)
+    (octets_in_force 5 before, c.representation_at-representation.ensures _ before h, told.2)
 
 pub returns-in-Ok-clause-column : goal.returns-in-Ok-clause-column
 returns-in-Ok-clause-column c = λ before h.
     let told = c.in_ok-mask.ensures before h in
-    let read = c.representation-representation.ensures before h.stand.force in
+    let read = c.representation_at-representation.ensures _ before h in
     let seven = c.section.ensures.octets before h.stand in
     (c.in-Ok.ensures (octets_in_force 5 before) read).1 ∙ (λ i. column_from (octets_in_force 5 before) (told.0 i) (seven i))
 
@@ -31,7 +31,7 @@ pub unreachable-requires : goal.unreachable-requires
 unreachable-requires c =
     let before = c.requires.0 in
     let h = c.requires.1 in
-    let read = c.representation-representation.ensures before h.stand.force in
+    let read = c.representation_at-representation.ensures _ before h in
     let refused = rw c.in-Err-Refused.field-0-is at (c.in-Err-Refused.ensures (octets_in_force 5 before) read) in
     let none : data_fault (octets_in_force 5 before) c.section.result.octets.now ≡ None =
     ap (data_fault (octets_in_force 5 before)) (c.section.ensures.octets before h.stand) ∙ h.stand.force.sound.values (omega (arith, h.ends)) in
@@ -41,8 +41,8 @@ unreachable-requires c =
 pub returns-in-Ok-clause-few : goal.returns-in-Ok-clause-few
 returns-in-Ok-clause-few c = λ before h.
     let told = c.in_ok-mask.ensures before h in
-    let read = c.representation-representation.ensures before h.stand.force in
-    let bounds = points_bounds (octets_in_force 3 before) (h.stand.force.sound.grid (omega (arith, h.ends))) in
+    let read = c.representation_at-representation.ensures _ before h in
+    let bounds = points_bounds c.args.places.now.force.profile (octets_in_force 3 before) (h.stand.force.sound.grid (omega (arith, h.ends))) in
     let size : length c.in-Ok.column.points ≡ length c.in_ok-mask.mask =
     ap (λ column. length column.points) (c.in-Ok.ensures (octets_in_force 5 before) read).1 ∙ points_of_mask c.in_ok-mask.mask _ in
     omega (arith, size, told.1, bounds.1)
@@ -50,8 +50,8 @@ returns-in-Ok-clause-few c = λ before h.
 pub returns-in-Ok-clause-some : goal.returns-in-Ok-clause-some
 returns-in-Ok-clause-some c = λ before h.
     let told = c.in_ok-mask.ensures before h in
-    let read = c.representation-representation.ensures before h.stand.force in
-    let bounds = points_bounds (octets_in_force 3 before) (h.stand.force.sound.grid (omega (arith, h.ends))) in
+    let read = c.representation_at-representation.ensures _ before h in
+    let bounds = points_bounds c.args.places.now.force.profile (octets_in_force 3 before) (h.stand.force.sound.grid (omega (arith, h.ends))) in
     let size : length c.in-Ok.column.points ≡ length c.in_ok-mask.mask =
     ap (λ column. length column.points) (c.in-Ok.ensures (octets_in_force 5 before) read).1 ∙ points_of_mask c.in_ok-mask.mask _ in
     omega (arith, size, told.1, bounds.0)
@@ -59,5 +59,5 @@ returns-in-Ok-clause-some c = λ before h.
 pub returns-in-Ok-clause-long : goal.returns-in-Ok-clause-long
 returns-in-Ok-clause-long c = λ before h.
     let told = c.in_ok-mask.ensures before h in
-    let read = c.representation-representation.ensures before h.stand.force in
+    let read = c.representation_at-representation.ensures _ before h in
     ap (λ column. length column.points) (c.in-Ok.ensures (octets_in_force 5 before) read).1 ∙ points_of_mask c.in_ok-mask.mask _ ∙ told.1

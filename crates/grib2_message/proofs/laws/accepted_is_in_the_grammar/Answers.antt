@@ -10,7 +10,7 @@ pub returns-clause-in_grammar : goal.returns-clause-in_grammar
 returns-clause-in_grammar c = grammar_accepted
 
 pub returns-clause-its_sections : goal.returns-clause-its_sections
-returns-clause-its_sections c message sections g = ap (map (λ s. s.octets)) (sections_alone message sections g) ∙ octets_placed 17 sections
+returns-clause-its_sections c profile message sections g = ap (map (λ s. s.octets)) (sections_alone profile message sections g) ∙ octets_placed 17 sections
 
 pub returns-clause-the_same_sections : goal.returns-clause-the_same_sections
-returns-clause-the_same_sections c message after sections g = sections_placed message after sections g ∙ sym (sections_alone message sections g)
+returns-clause-the_same_sections c profile message after sections g = sections_placed profile message after sections g ∙ sym (sections_alone profile message sections g)

@@ -6,4 +6,4 @@ pub returns-clause-passes : goal.returns-clause-passes
 returns-clause-passes c = field_passes_alone
 
 pub returns-clause-mask : goal.returns-clause-mask
-returns-clause-mask c message i h octets low high = field_mask_long message i h (AreOctets-from_All message octets) low high
+returns-clause-mask c profile message i h octets low high = field_mask_long profile message i h (AreOctets-from_All message octets) low high

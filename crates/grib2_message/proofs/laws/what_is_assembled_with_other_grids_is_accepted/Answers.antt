@@ -11,7 +11,7 @@ pub returns-clause-columns : goal.returns-clause-columns
 returns-clause-columns c = assembled_column
 
 pub returns-clause-parts : goal.returns-clause-parts
-returns-clause-parts c grid message parts h i part e = let has = assembled_parts grid message parts h i part e in (has.packing, has.bitmap, has.values)
+returns-clause-parts c profile grid message parts h i part e = let has = assembled_parts profile grid message parts h i part e in (has.packing, has.bitmap, has.values)
 
 pub returns-clause-grids : goal.returns-clause-grids
 returns-clause-grids c = assembled_grid

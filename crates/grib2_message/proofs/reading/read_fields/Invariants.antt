@@ -10,10 +10,11 @@ abbrev pub invariant-loop-fields : goal.invariant-loop-fields
 invariant-loop-fields l = record {
   turns : ℕ;
   before : List Placed;
-  way : OnWay l.octets turns before l.frame;
+  way : OnWay l.profile l.octets turns before l.frame;
   places_stand : HasPlaces l.octets before l.places;
+  under : l.places.force.profile ≡ l.profile;
   count : length l.fields.items ≡ section_count 7 before;
-  each : KeepsFields l.octets l.fields.items;
+  each : KeepsFields l.profile l.octets l.fields.items;
 }
 
 abbrev pub decreases-loop-fields : goal.decreases-loop-fields

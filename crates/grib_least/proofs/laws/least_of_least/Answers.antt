@@ -1,4 +1,5 @@
 use Rattle.std.proofs.Common.{◌≡◌, ℕ, ◌+◌, ◌-◌, None, ◌∙◌, arith, subst}
+use Rattle.grib_base.specs.declared.profile.Profile.TheVariants.{Stated}
 use Rattle.grib2_grids.specs.Grid.{grid_points}
 use Rattle.grib_bitmap.specs.Mask.{mask_of}
 use Rattle.grib_packing.specs.Entries.{column_from}
@@ -18,7 +19,7 @@ returns c = λ message accepted each.
     let stands = least_stands c.a_packing_is_written.ensures unpack c.field_holds.ensures.passes c.field_holds.ensures.mask message accepted each in
     again_least message
     (λ low.
-    let may = may_be_assembled c.a_packing_is_written.ensures unpack c.field_holds.ensures.passes c.field_holds.ensures.mask message accepted each (omega (arith, low, message_most message accepted)) in
+    let may = may_be_assembled c.a_packing_is_written.ensures unpack c.field_holds.ensures.passes c.field_holds.ensures.mask message accepted each (omega (arith, low, message_most Stated message accepted)) in
     record {
       may = may;
       stands = stands;

@@ -1,5 +1,6 @@
 use Rattle.std.proofs.Common.{◌≡◌, ℕ, ◌≤◌, None, Option, IfSome, List, length, sym, ◌∙◌, arith, subst}
 use Rattle.grib_base.specs.Rows.{first_fault}
+use Rattle.grib_base.specs.declared.profile.Profile.TheVariants.{Stated}
 use Rattle.grib2_grids.specs.Grid.{grid_rows, grid_points}
 use Rattle.grib2_message.specs.Fields.{part_octets, column_of}
 use Rattle.grib2_message.proofs.Masks.{points_bounds}
@@ -22,7 +23,7 @@ returns-in-Some-2 c =
     let plain = c.in-Some-2.plain in
     let stands = subst (λ (found : Option PlainField). IfSome found (λ field. PlainStands points field)) c.in-Some-2.is c.in_ok-plain.ensures.stands in
     let column = subst (λ (found : Option PlainField). IfSome found (λ field. plain_column field ≡ column_of m i)) c.in-Some-2.is c.in_ok-plain.ensures.column in
-    let bounds = points_bounds (part_octets m i 3) c.in-Some.ensures.passes.grid in
+    let bounds = points_bounds Stated (part_octets m i 3) c.in-Some.ensures.passes.grid in
     let long : length (number_points plain.numbers) ≡ points = all_added plain.numbers ∙ stands.count in
     let some : 1 ≤ length (number_points plain.numbers) = omega (arith, long, bounds.0) in
     let few : length (number_points plain.numbers) ≤ 33554432 = omega (arith, long, bounds.1) in

@@ -1,5 +1,6 @@
 use Rattle.std.proofs.Common.{◌∙◌, ap, subst, length, [], refl, rules}
 use Rattle.std.proofs.KnownBytes.{Appends-nil}
+use Rattle.grib_base.specs.declared.profile.Profile.TheVariants.{Stated}
 use Rattle.grib_text.specs.Lines.{check_line}
 use Rattle.grib_command.specs.Pending.{WritesTo}
 use Rattle.grib_command.proofs.Passing.{on_refused}
@@ -24,6 +25,6 @@ returns g c =
     subst (WritesTo g.T.Sink.contents g.T.Sink.faults g.T.Sink.settled c.write_whole.result c.args.output.now c.write_whole.new.sink)
     (c.as_slice.ensures.value
     ∙ (c.in_ok-line.ensures
-    ∙ (ap (λ n. check_line m before 2 n c.fields-fields.result) (c.octets-total.ensures.count octets heard)
-    ∙ ap (λ n. check_line m before 2 (length octets) n) (c.fields-fields.ensures octets heard whole))))
+    ∙ (ap (λ n. check_line m before 2 n c.fields-fields.result) (c.octets-total.ensures.count Stated octets heard)
+    ∙ ap (λ n. check_line m before 2 (length octets) n) (c.fields-fields.ensures Stated octets heard whole))))
     c.write_whole.ensures.writes

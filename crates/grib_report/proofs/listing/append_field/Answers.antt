@@ -1,5 +1,6 @@
 use Rattle.std.proofs.Common.{◌∙◌, ◌++◌, ap, subst, [], refl}
 use Rattle.std.proofs.KnownBytes.{Appends-nil}
+use Rattle.grib_base.specs.declared.profile.Profile.TheVariants.{Stated}
 use Rattle.grib_text.specs.Lines.{summary_line}
 use Rattle.grib_command.specs.Pending.{WritesToAllBut}
 use Rattle.grib_io.specs.declared.outside.Stop.TheVariants.{Memory}
@@ -21,5 +22,5 @@ pub returns : goal.returns
 returns g c =
     λ octets heard whole few.
     subst (λ text. WritesToAllBut g.T.Sink.contents g.T.Sink.faults g.T.Sink.settled c.append_text.result c.args.output.now c.append_text.new.output (c.args.lines.now.items ++ text) c.append_text.new.lines.items)
-    (c.as_slice.ensures.value ∙ (c.in_ok-line.ensures ∙ ap (λ s. summary_line s c.args.number c.args.field) (c.summary-summary.ensures octets heard whole few)))
+    (c.as_slice.ensures.value ∙ (c.in_ok-line.ensures ∙ ap (λ s. summary_line s c.args.number c.args.field) (c.summary-summary.ensures Stated octets heard whole few)))
     c.append_text.ensures

@@ -1,5 +1,6 @@
 use Rattle.std.proofs.Common.{◌≡◌, ℕ, List, ◌++◌, length, take, map, sym, ap, ◌∙◌, subst, arith}
 use Rattle.std.specs.List.{concat}
+use Rattle.grib_base.specs.declared.profile.Profile.TheVariants.{Stated}
 use Rattle.grib2_sections.specs.Frame.{Position, Placed, placed_at}
 use Rattle.grib2_sections.specs.Head.{end_mark}
 use Rattle.grib2_message.specs.View.{last_number}
@@ -26,7 +27,7 @@ loop-section-init c =
     let written = c.in_ok-append_changed.ensures ∙ ap (λ (xs : List ℕ). xs ++ with_changes changes 0 (take 16 octets)) c.in_ok-out.ensures.items in
     record {
       left = sections_of octets;
-      ahead = ahead_start octets c.new-frame.result message frame;
+      ahead = ahead_start Stated octets c.new-frame.result message frame;
       written =
           ap (λ (xs : List ℕ). xs ++ (concat (map (λ p. changed changes p.octets) (sections_of octets)) ++ end_mark)) written
           ∙ ap (λ (m : List ℕ). with_changes changes 0 (take 16 m) ++ (concat (map (λ p. changed changes p.octets) (sections_of m)) ++ end_mark)) same;
@@ -39,10 +40,10 @@ append_changed-requires-in-Some-clause-keys c =
     let section = c.in-Some.section in
     let s = section.octets.now in
     let told = c.in-Some.ensures in
-    let comes = way_comes_at octets i.ahead.turns i.ahead.before c.loop-section.frame section.number section.start s i.ahead.way told.0 told.1 section.itself in
+    let comes = way_comes_at Stated octets i.ahead.turns i.ahead.before c.loop-section.frame section.number section.start s i.ahead.way told.0 told.1 section.itself in
     let range = in_range (last_number i.ahead.before) section.number (follows_tells (last_number i.ahead.before) section.number comes.follows) in
     section_keys i.ahead.before (placed_at c.loop-section.frame.place s) section.number section.itself.number_stands range.0 range.1
-    (contents_pass octets c.loop-section.frame i.left s i.ahead told.0)
+    (contents_pass Stated octets c.loop-section.frame i.left s i.ahead told.0)
 
 pub loop-section-preserved : goal.loop-section-preserved
 loop-section-preserved c =
@@ -52,7 +53,7 @@ loop-section-preserved c =
     let section = c.in-Some.section in
     let s = section.octets.now in
     let told = c.in-Some.ensures in
-    let first = ahead_next octets c.loop-section.frame c.next_section.new.frame section.start s i.left i.ahead told.0 told.1 told.2 in
+    let first = ahead_next Stated octets c.loop-section.frame c.next_section.new.frame section.start s i.left i.ahead told.0 told.1 told.2 in
     record {
       left = first.rest;
       ahead = first.ahead;
@@ -64,12 +65,12 @@ loop-section-preserved c =
     }
 
 pub next_section-requires : goal.next_section-requires
-next_section-requires c fault e = ahead_passes c.octets-octets.result.now c.loop-section.frame c.loop-section.invariant.left fault c.loop-section.invariant.ahead e
+next_section-requires c fault e = ahead_passes Stated c.octets-octets.result.now c.loop-section.frame c.loop-section.invariant.left fault c.loop-section.invariant.ahead e
 
 pub returns : goal.returns
 returns c =
     let i = c.loop-section.invariant in
-    let none = ahead_end c.octets-octets.result.now c.loop-section.frame i.left i.ahead c.in_default.ensures in
+    let none = ahead_end Stated c.octets-octets.result.now c.loop-section.frame i.left i.ahead c.in_default.ensures in
     c.in_ok-extend_from_slice.ensures.items
     ∙ ap (λ (xs : List Placed). c.loop-section.out.items ++ (concat (map (λ p. changed c.args.changes.now p.octets) xs) ++ end_mark)) (sym none)
     ∙ i.written

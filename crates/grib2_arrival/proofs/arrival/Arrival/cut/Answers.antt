@@ -7,6 +7,6 @@ use Rattle.grib2_arrival.proofs.Verdicts.{cut_is}
 use Rattle.grib2_arrival.proofs.arrival.Arrival.cut.Goals as goal
 
 pub returns : goal.returns
-returns c = λ u h unfinished.
-    let is : c.at.result ≡ cut_off u = c.at.ensures ∙ ap (λ (n : ℕ). refusal (n + 1) Truncated n) (c.octets-octets.ensures.count u h) in
-    (cut_is c.args.self.now.state u h unfinished ∙ ap Refused (sym is), is)
+returns c = λ profile u h unfinished.
+    let is : c.at.result ≡ cut_off u = c.at.ensures ∙ ap (λ (n : ℕ). refusal (n + 1) Truncated n) (c.octets-octets.ensures.count profile u h) in
+    (cut_is profile c.args.self.now.state u h unfinished ∙ ap Refused (sym is), is)

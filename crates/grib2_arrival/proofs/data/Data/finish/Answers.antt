@@ -4,9 +4,10 @@ use Rattle.grib2_arrival.proofs.data.Data.finish.Goals as goal
 pub end-requires : goal.end-requires
 end-requires c =
     let r = c.requires in
-    let read = r.agrees.read in
+    let agrees : ReadAgrees r.s5 r.start r.l r.octets c.in-Reads.feeding = rw c.in-Reads.is at r.agrees in
+    let read = agrees.read in
     record {
-      fed = record { s5 = r.s5; keeper = r.agrees.keeper; start = r.start; l = r.l; octets = r.octets; read = read };
+      fed = record { s5 = r.s5; keeper = agrees.keeper; start = r.start; l = r.l; octets = r.octets; read = read };
       all = omega (arith, r.whole, read.length_is, read.pushed);
     }
 

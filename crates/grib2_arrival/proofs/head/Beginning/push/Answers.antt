@@ -16,30 +16,30 @@ use Rattle.grib2_arrival.proofs.head.Beginning.push.Goals as goal
 
 pub read_head-requires : goal.read_head-requires
 read_head-requires c =
-    let u = c.requires.heard.0 in
-    let bh = c.requires.heard.1 in
+    let u = c.requires.heard.1 in
+    let bh = c.requires.heard.2 in
     let piece = c.args.piece.now in
     let taken = c.min-taken.result in
     let part = take taken piece in
     let within : taken ≤ length piece = omega (arith, c.min-taken.ensures) in
     let long = length-take-le taken piece within in
     let all : c.args.self.count + length part ≡ 16 = omega (arith, long, c.min-taken.ensures, bh.few, bh.count) in
-    let is = noted_whole c.args.self u part c.noted-first.result bh c.noted-first.ensures.noted c.noted-first.ensures.long all in
-    let begins = front_begins (u ++ part) (drop taken piece) (subst BeginsLikeTwo (sym (parted u piece taken)) c.requires.heard.2) in
+    let is = noted_whole c.requires.heard.0 c.args.self u part c.noted-first.result bh c.noted-first.ensures.noted c.noted-first.ensures.long all in
+    let begins = front_begins (u ++ part) (drop taken piece) (subst BeginsLikeTwo (sym (parted u piece taken)) c.requires.heard.3) in
     ap (take 4) is ∙ begun_indicated (u ++ part) (omega (arith, length-append u part, all, bh.count)) begins
 
 pub new-kept-requires : goal.new-kept-requires
 new-kept-requires c =
-    let u = c.requires.heard.0 in
-    let bh = c.requires.heard.1 in
+    let u = c.requires.heard.1 in
+    let bh = c.requires.heard.2 in
     let piece = c.args.piece.now in
     let taken = c.min-taken.result in
     let part = take taken piece in
     let within : taken ≤ length piece = omega (arith, c.min-taken.ensures) in
     let long = length-take-le taken piece within in
     let all : c.args.self.count + length part ≡ 16 = omega (arith, long, c.min-taken.ensures, bh.few, bh.count) in
-    let is = noted_whole c.args.self u part c.noted-first.result bh c.noted-first.ensures.noted c.noted-first.ensures.long all in
-    let begins = front_begins (u ++ part) (drop taken piece) (subst BeginsLikeTwo (sym (parted u piece taken)) c.requires.heard.2) in
+    let is = noted_whole c.requires.heard.0 c.args.self u part c.noted-first.result bh c.noted-first.ensures.noted c.noted-first.ensures.long all in
+    let begins = front_begins (u ++ part) (drop taken piece) (subst BeginsLikeTwo (sym (parted u piece taken)) c.requires.heard.3) in
     let two = begins.second (omega (arith, length-append u part, all, bh.count)) in
     let read = c.in_ok-head.ensures in
     let none = ap (λ (m : List ℕ). first_fault (head_rows m)) (sym is) ∙ read.0 in
@@ -48,42 +48,42 @@ new-kept-requires c =
     record { shortest = omega (arith, total, p.least); longest = omega (arith, total, p.most) }
 
 pub returns-in_err-head : goal.returns-in_err-head
-returns-in_err-head c = λ u bh.
+returns-in_err-head c = λ profile u bh.
     let piece = c.args.piece.now in
     let taken = c.min-taken.result in
     let part = take taken piece in
     let within : taken ≤ length piece = omega (arith, c.min-taken.ensures) in
     let long = length-take-le taken piece within in
     let all : c.args.self.count + length part ≡ 16 = omega (arith, long, c.min-taken.ensures, bh.few, bh.count) in
-    let is = noted_whole c.args.self u part c.noted-first.result bh c.noted-first.ensures.noted c.noted-first.ensures.long all in
-    let given = subst (λ (x : List ℕ). BeginsLikeTwo (x ++ piece)) (heard_one c.args.self c.requires.heard.0 u c.requires.heard.1 bh) c.requires.heard.2 in
+    let is = noted_whole profile c.args.self u part c.noted-first.result bh c.noted-first.ensures.noted c.noted-first.ensures.long all in
+    let given = subst (λ (x : List ℕ). BeginsLikeTwo (x ++ piece)) (heard_one profile c.args.self c.requires.heard.1 u c.requires.heard.2 bh) c.requires.heard.3 in
     let begins = front_begins (u ++ part) (drop taken piece) (subst BeginsLikeTwo (sym (parted u piece taken)) given) in
     let sixteen : length (u ++ part) ≡ 16 = omega (arith, length-append u part, all, bh.count) in
     let two = begins.second (omega (arith, sixteen)) in
-    let refused = head_refused (u ++ part) (omega (arith, sixteen)) two _ (ap (λ (m : List ℕ). first_fault (head_rows m)) (sym is) ∙ c.in_err-head.ensures) in
+    let refused = head_refused profile (u ++ part) (omega (arith, sixteen)) two _ (ap (λ (m : List ℕ). first_fault (head_rows m)) (sym is) ∙ c.in_err-head.ensures) in
     let p = err_from_is_err_and c.from_residual.result c.from_residual.ensures.1 in
-    rw (p.1, p.2) (stops_piece u piece taken (ReadRefused _) two refused)
+    rw (p.1, p.2) (stops_piece profile u piece taken (ReadRefused _) two refused)
 
 pub returns : goal.returns
-returns c = λ u bh.
+returns c = λ profile u bh.
     let piece = c.args.piece.now in
     let taken = c.min-taken.result in
     let part = take taken piece in
     let within : taken ≤ length piece = omega (arith, c.min-taken.ensures) in
     let long = length-take-le taken piece within in
     let all : c.args.self.count + length part ≡ 16 = omega (arith, long, c.min-taken.ensures, bh.few, bh.count) in
-    let is = noted_whole c.args.self u part c.noted-first.result bh c.noted-first.ensures.noted c.noted-first.ensures.long all in
-    let given = subst (λ (x : List ℕ). BeginsLikeTwo (x ++ piece)) (heard_one c.args.self c.requires.heard.0 u c.requires.heard.1 bh) c.requires.heard.2 in
+    let is = noted_whole profile c.args.self u part c.noted-first.result bh c.noted-first.ensures.noted c.noted-first.ensures.long all in
+    let given = subst (λ (x : List ℕ). BeginsLikeTwo (x ++ piece)) (heard_one profile c.args.self c.requires.heard.1 u c.requires.heard.2 bh) c.requires.heard.3 in
     let begins = front_begins (u ++ part) (drop taken piece) (subst BeginsLikeTwo (sym (parted u piece taken)) given) in
     let sixteen : length (u ++ part) ≡ 16 = omega (arith, length-append u part, all, bh.count) in
     let two = begins.second (omega (arith, sixteen)) in
     let read = c.in_ok-head.ensures in
     let told = read.1 ∙ ap head_of is ∙ head_two (u ++ part) two in
     let kept = c.new-kept.result in
-    let stands = stands_first (u ++ part) kept sixteen two (ap (λ (m : List ℕ). first_fault (head_rows m)) (sym is) ∙ read.0)
-    (c.new-kept.ensures.frame ∙ ap (λ (h : Head). let at : Position = record { total = h.total; place = 17; last = 0 } in at) told) c.new-kept.ensures.force
+    let stands = stands_first profile (u ++ part) kept sixteen two (ap (λ (m : List ℕ). first_fault (head_rows m)) (sym is) ∙ read.0)
+    (c.new-kept.ensures.frame ∙ ap (λ (h : Head). let at : Position = record { total = h.total; place = 17; last = 0 } in at) told) c.new-kept.ensures.force (c.new-kept.ensures.profile ∙ bh.under)
     (c.new-kept.ensures.line ∙ ap (λ (h : Head). summary_in_force h.discipline []) told) c.new-kept.ensures.summaries in (
       omega (arith, c.requires.some, bh.few, bh.count, c.min-taken.ensures),
       within,
-      subst (λ (xs : List ℕ). GathersHeard kept xs (u ++ part)) (sym c.new-gathered.ensures.items) (fresh (u ++ part) [] kept stands (omega (arith, ap (λ (at : Position). at.place) c.new-kept.ensures.frame, sixteen))),
+      subst (λ (xs : List ℕ). GathersHeard profile kept xs (u ++ part)) (sym c.new-gathered.ensures.items) (fresh profile (u ++ part) [] kept stands (omega (arith, ap (λ (at : Position). at.place) c.new-kept.ensures.frame, sixteen))),
     )

@@ -27,7 +27,7 @@ returns-in_err-check_bitmap c = λ before h.
     let section = c.args.section.now in
     let s = section.octets.now in
     let force = c.args.self.now in
-    let is = fault_by_number before (placed_at section.start s) section.number section.itself.number_stands 6 c.requires.number
+    let is = fault_by_number before (placed_at section.start s) section.number section.itself.number_stands force.profile 6 c.requires.number
     ∙ ap₂ (λ (p v : ℕ). first_fault_at section.start (bitmap_rows s p v (earlier_mask before))) (sym h.points) (sym (c.values-values.ensures _ (c.representation.ensures before h))) in
     let p = err_from_is_err_and c.from_residual.result c.from_residual.ensures.1 in
     rw (p.1, p.2, is) (c.in_err-check_bitmap.ensures (earlier_mask before) (keeps_tells force.bitmap (earlier_bitmap before) h.bitmap))
@@ -38,7 +38,7 @@ returns-then-u8_at-ne-OWN_BITS c = λ before h.
     let s = section.octets.now in
     let force = c.args.self.now in
     let at = placed_at section.start s in
-    let is = fault_by_number before at section.number section.itself.number_stands 6 c.requires.number
+    let is = fault_by_number before at section.number section.itself.number_stands force.profile 6 c.requires.number
     ∙ ap₂ (λ (p v : ℕ). first_fault_at section.start (bitmap_rows s p v (earlier_mask before))) (sym h.points) (sym (c.values-values.ensures _ (c.representation.ensures before h))) in (
       is ∙ c.in_ok-check_bitmap.ensures (earlier_mask before) (keeps_tells force.bitmap (earlier_bitmap before) h.bitmap),
       bitmap_again before at section.number section.itself.number_stands force h c.requires.number
@@ -52,7 +52,7 @@ returns c = λ before h.
     let force = c.args.self.now in
     let at = placed_at section.start s in
     let values = c.values-values.ensures _ (c.representation.ensures before h) in
-    let is = fault_by_number before at section.number section.itself.number_stands 6 c.requires.number
+    let is = fault_by_number before at section.number section.itself.number_stands force.profile 6 c.requires.number
     ∙ ap₂ (λ (p v : ℕ). first_fault_at section.start (bitmap_rows s p v (earlier_mask before))) (sym h.points) (sym values) in
     let none = is ∙ c.in_ok-check_bitmap.ensures (earlier_mask before) (keeps_tells force.bitmap (earlier_bitmap before) h.bitmap) in (
       none,

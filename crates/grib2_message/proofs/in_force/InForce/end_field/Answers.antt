@@ -8,5 +8,5 @@ overflow_add-self c =
     let h = c.requires.few.1 in
     omega (arith, h.fields, h.sound.counted, h.sound.few)
 
-pub returns : goal.returns
-returns c = λ before s h seven follows accepted. force_ended before s 7 seven follows c.args.self.now h accepted refl _ refl
+pub returns-clause-force : goal.returns-clause-force
+returns-clause-force c = λ before s h seven follows accepted. force_ended before s 7 seven follows c.args.self.now h accepted refl _ refl

@@ -1,8 +1,8 @@
 use Rattle.std.proofs.Common.{◌≡◌, ◌+◌, ℕ, sym, ap, ◌∙◌, subst, arith}
 use Rattle.std.proofs.lemmas.Result.{err_from_is_err_and}
 use Rattle.grib_base.specs.Rows.{first_fault_at, located}
-use Rattle.grib2_products.specs.Product.{product_rows}
-use Rattle.grib_packing.specs.Entries.{packing_fault}
+use Rattle.grib2_products.specs.Opaque.{product_rows_under}
+use Rattle.grib_packing.specs.Entries.{packing_fault_under}
 use Rattle.grib2_sections.specs.Frame.{placed_at, may_follow}
 use Rattle.grib2_message.specs.View.{last_number, octets_in_force}
 use Rattle.grib2_message.proofs.After.{fault_by_number, number_in_range, number_below, force_other, force_grid, force_read, force_bitmap}
@@ -15,7 +15,7 @@ returns-in-1-clause-tried c = λ before h follows.
     let section = c.args.section.now in
     let at = placed_at section.start section.octets.now in
     let numbered = section.itself.number_stands in
-    tried_as _ _ c.check_identification.result _ (fault_by_number before at section.number numbered 1 c.in-1.is) c.check_identification.ensures
+    tried_as _ _ c.check_identification.result _ (fault_by_number before at section.number numbered c.args.self.now.profile 1 c.in-1.is) c.check_identification.ensures
     (λ none. force_other before at section.number numbered follows c.args.self.now h none
     (λ x. absurd (omega (arith, c.in-1.is))) (λ x. absurd (omega (arith, c.in-1.is))) (λ x. absurd (omega (arith, c.in-1.is))) (λ x. absurd (omega (arith, c.in-1.is))))
 
@@ -24,7 +24,7 @@ returns-in_ok-check_grid-in-3-clause-tried c = λ before h follows.
     let section = c.args.section.now in
     let at = placed_at section.start section.octets.now in
     let numbered = section.itself.number_stands in
-    let none = fault_by_number before at section.number numbered 3 c.in-3.is ∙ c.in_ok-check_grid-in-3.ensures in
+    let none = fault_by_number before at section.number numbered c.args.self.now.profile 3 c.in-3.is ∙ c.in_ok-check_grid-in-3.ensures in
     (none, force_grid before at section.number numbered follows c.args.self.now h none c.in-3.is _ c.u32_at-self.ensures)
 
 pub returns-in-4-clause-tried : goal.returns-in-4-clause-tried
@@ -34,9 +34,9 @@ returns-in-4-clause-tried c = λ before h follows.
     let at = placed_at section.start s in
     let numbered = section.itself.number_stands in
     let f = subst (λ (n : ℕ). Follows (last_number before) n) c.in-4.is (follows_tells (last_number before) section.number follows) in
-    let count = products_are_fields before h.sound f ∙ sym h.fields in
+    let count = products_are_fields c.args.self.now.profile before h.sound f ∙ sym h.fields in
     tried_as _ _ c.check_product.result _
-    (fault_by_number before at section.number numbered 4 c.in-4.is ∙ ap (λ (n : ℕ). first_fault_at section.start (product_rows s (n + 1))) count) c.check_product.ensures
+    (fault_by_number before at section.number numbered c.args.self.now.profile 4 c.in-4.is ∙ ap (λ (n : ℕ). first_fault_at section.start (product_rows_under c.args.self.now.profile s (n + 1))) count) c.check_product.ensures
     (λ none. force_other before at section.number numbered follows c.args.self.now h none
     (λ x. absurd (omega (arith, c.in-4.is))) (λ x. absurd (omega (arith, c.in-4.is))) (λ x. absurd (omega (arith, c.in-4.is))) (λ x. absurd (omega (arith, c.in-4.is))))
 
@@ -47,7 +47,7 @@ returns-in_ok-read-in-5-clause-tried c = λ before h follows.
     let at = placed_at section.start s in
     let numbered = section.itself.number_stands in
     let read = c.in_ok-read-in-5.ensures in
-    let none = fault_by_number before at section.number numbered 5 c.in-5.is ∙ ap (λ (n : ℕ). located section.start (packing_fault s n)) (sym h.points) ∙ ap (located section.start) read.0 in
+    let none = fault_by_number before at section.number numbered c.args.self.now.profile 5 c.in-5.is ∙ ap (λ (n : ℕ). located section.start (packing_fault_under c.args.self.now.profile s n)) (sym h.points) ∙ ap (located section.start) read.0 in
     (none, force_read before at section.number numbered follows c.args.self.now h none c.in-5.is _ read.1)
 
 pub bitmap_after-requires : goal.bitmap_after-requires
@@ -83,7 +83,7 @@ check_data-requires c =
 pub returns-in_err-check_data-in-7-clause-tried : goal.returns-in_err-check_data-in-7-clause-tried
 returns-in_err-check_data-in-7-clause-tried c = λ before h follows.
     let section = c.args.section.now in
-    let is = fault_by_number before (placed_at section.start section.octets.now) section.number section.itself.number_stands 7 c.in-7.is in
+    let is = fault_by_number before (placed_at section.start section.octets.now) section.number section.itself.number_stands c.args.self.now.profile 7 c.in-7.is in
     let p = err_from_is_err_and c.from_residual-in_err-check_data-in-7.result c.from_residual-in_err-check_data-in-7.ensures.1 in
     rw (p.1, p.2, is) (c.in_err-check_data-in-7.ensures (octets_in_force 5 before) (c.representation.ensures before h))
 
@@ -95,8 +95,8 @@ returns-in_ok-check_data-in-7-clause-tried c = λ before h follows.
     let section = c.args.section.now in
     let at = placed_at section.start section.octets.now in
     let numbered = section.itself.number_stands in
-    let none = fault_by_number before at section.number numbered 7 c.in-7.is ∙ c.in_ok-check_data-in-7.ensures (octets_in_force 5 before) (c.representation.ensures before h) in
-    (none, c.end_field.ensures before at h (numbered ∙ c.in-7.is) (ap (may_follow (last_number before)) (sym c.in-7.is) ∙ follows) none)
+    let none = fault_by_number before at section.number numbered c.args.self.now.profile 7 c.in-7.is ∙ c.in_ok-check_data-in-7.ensures (octets_in_force 5 before) (c.representation.ensures before h) in
+    (none, c.end_field.ensures.force before at h (numbered ∙ c.in-7.is) (ap (may_follow (last_number before)) (sym c.in-7.is) ∙ follows) none)
 
 pub returns-in_default-clause-tried : goal.returns-in_default-clause-tried
 returns-in_default-clause-tried c = λ before h follows.
@@ -105,7 +105,7 @@ returns-in_default-clause-tried c = λ before h follows.
     let numbered = section.itself.number_stands in
     let range = number_in_range before at section.number numbered follows in
     let two : section.number ≡ 2 = omega arith in
-    let none = fault_by_number before at section.number numbered 2 two in (
+    let none = fault_by_number before at section.number numbered c.args.self.now.profile 2 two in (
       none,
       force_other before at section.number numbered follows c.args.self.now h none
           (λ x. absurd (omega (arith, two))) (λ x. absurd (omega (arith, two))) (λ x. absurd (omega (arith, two))) (λ x. absurd (omega (arith, two))),

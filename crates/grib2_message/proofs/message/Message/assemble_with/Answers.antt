@@ -1,4 +1,5 @@
 use Rattle.std.proofs.Common.{◌≡◌, ℕ, ◌≤◌, List, length, sym, ◌∙◌, arith, subst}
+use Rattle.grib_base.specs.declared.profile.Profile.TheVariants.{Stated}
 use Rattle.grib2_message.specs.Fields.{field_count, part_octets}
 use Rattle.grib2_message.specs.Assembled.{assembled_with}
 use Rattle.grib2_message.proofs.Ahead.{assembled_as_long}
@@ -11,7 +12,7 @@ put_together-requires-clause-total g c =
     let takes =
     subst (λ (x : List ℕ). (i : ℕ) → 1 ≤ i → i ≤ field_count x → g.G.NewGrid.takes grid (part_octets x i 3)) (sym c.self.view_is) c.requires.grids in
     c.assembled_length-total.ensures
-    ∙ sym (assembled_as_long (g.G.NewGrid.becomes grid) m c.args.packed.now c.self.invariant.accepted
+    ∙ sym (assembled_as_long Stated (g.G.NewGrid.becomes grid) m c.args.packed.now c.self.invariant.accepted
     (λ i low high. g.met.G.NewGrid.as_long grid (part_octets m i 3) (takes i low high)))
 
 pub returns-then-total-gt-MOST_OCTETS : goal.returns-then-total-gt-MOST_OCTETS
@@ -22,7 +23,7 @@ returns-then-total-gt-MOST_OCTETS g c =
     subst (λ (x : List ℕ). (i : ℕ) → 1 ≤ i → i ≤ field_count x → g.G.NewGrid.takes grid (part_octets x i 3)) (sym c.self.view_is) c.requires.grids in
     let total =
     c.assembled_length-total.ensures
-    ∙ sym (assembled_as_long (g.G.NewGrid.becomes grid) m c.args.packed.now c.self.invariant.accepted
+    ∙ sym (assembled_as_long Stated (g.G.NewGrid.becomes grid) m c.args.packed.now c.self.invariant.accepted
     (λ i low high. g.met.G.NewGrid.as_long grid (part_octets m i 3) (takes i low high))) in (
       subst (λ (x : List ℕ). c.assembled_length-total.result ≡ length (assembled_with (g.G.NewGrid.becomes grid) x c.args.packed.now)) c.self.view_is total,
       omega (arith, c.if-total-gt-MOST_OCTETS.true),
@@ -36,7 +37,7 @@ returns g c =
     subst (λ (x : List ℕ). (i : ℕ) → 1 ≤ i → i ≤ field_count x → g.G.NewGrid.takes grid (part_octets x i 3)) (sym c.self.view_is) c.requires.grids in
     let total =
     c.assembled_length-total.ensures
-    ∙ sym (assembled_as_long (g.G.NewGrid.becomes grid) m c.args.packed.now c.self.invariant.accepted
+    ∙ sym (assembled_as_long Stated (g.G.NewGrid.becomes grid) m c.args.packed.now c.self.invariant.accepted
     (λ i low high. g.met.G.NewGrid.as_long grid (part_octets m i 3) (takes i low high))) in
     subst (λ (x : List ℕ). (c.in_ok-put_together.field-0.items ≡ assembled_with (g.G.NewGrid.becomes grid) x c.args.packed.now)
     × (length (assembled_with (g.G.NewGrid.becomes grid) x c.args.packed.now) ≤ 268435456)) c.self.view_is

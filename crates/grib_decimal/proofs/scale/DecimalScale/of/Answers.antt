@@ -37,8 +37,8 @@ quick_of-requires-clause-divisor c = some_known c.power-divisor.result _ (power_
 pub invariant_of-result : goal.invariant_of-result
 invariant_of-result c =
     let r = c.args.reference.now in
-    let e = to_z w64 (of_z w64 c.scale_factor-e.result) in
-    let d = to_z w64 (of_z w64 c.scale_factor-d.result) in
+    let e = to_z w64 (of_z w64 c.from-e.result) in
+    let d = to_z w64 (of_z w64 c.from-d.result) in
     let min = to_z w64 (of_z w64 c.min-unit.result) in
     let difference_fits : FitsSigned w64 (to_z w64 (of_z w64 c.from-exponent.result) -ℤ min) = fits_signed_from_abs w64 _ (omega (arith, ints, clamps)) in
     let shift_fits : FitsSigned w64 (e -ℤ min) = fits_signed_from_abs w64 _ (omega (arith, ints, clamps)) in
@@ -76,7 +76,10 @@ invariant_of-result c =
 
 pub returns : goal.returns
 returns c =
-    let e_fits : FitsSigned w64 c.scale_factor-e.result = search rules in
-    let d_fits : FitsSigned w64 c.scale_factor-d.result = search rules in
-    let d = to_z w64 (of_z w64 c.scale_factor-d.result) in
-    ap (λ z. scale c.args.reference.now z d c.args.places) (to_z-of_z e_fits ∙ c.scale_factor-e.ensures.value) ∙ ap (λ z. scale c.args.reference.now (signed (bits_of 16 c.args.e)) z c.args.places) (to_z-of_z d_fits ∙ c.scale_factor-d.ensures.value)
+    let e_fits : FitsSigned w64 c.from-e.result = search rules in
+    let d_fits : FitsSigned w64 c.from-d.result = search rules in
+    let e_fits' : FitsSigned w32 c.scale_factor.result = search rules in
+    let d_fits' : FitsSigned w32 c.scale_factor-2.result = search rules in
+    let d = to_z w64 (of_z w64 c.from-d.result) in
+    ap (λ z. scale c.args.reference.now z d c.args.places) (to_z-of_z e_fits ∙ c.from-e.ensures ∙ to_z-of_z e_fits' ∙ c.scale_factor.ensures.value)
+    ∙ ap (λ z. scale c.args.reference.now (signed (bits_of 16 c.args.e)) z c.args.places) (to_z-of_z d_fits ∙ c.from-d.ensures ∙ to_z-of_z d_fits' ∙ c.scale_factor-2.ensures.value)

@@ -1,4 +1,5 @@
 use Rattle.std.proofs.Common.{◌++◌, ap, subst}
+use Rattle.grib_base.specs.declared.profile.Profile.TheVariants.{Stated}
 use Rattle.grib2_arrival.specs.Heard.{Stops}
 use Rattle.grib_command.specs.Judging.{judged}
 use Rattle.grib_dispatch.proofs.HeardMessages.{not_truncated, undecided_open, second_is, second_long}
@@ -10,6 +11,7 @@ push-requires c =
     let second = c.requires.3 in
     record {
       live = (
+        Stated,
         octets,
         c.requires.1,
         record {
@@ -22,16 +24,16 @@ push-requires c =
 pub returns-in-Ok : goal.returns-in-Ok
 returns-in-Ok c =
     λ octets heard.
-    let pushed = c.in-Ok.ensures.heard octets heard in
+    let pushed = c.in-Ok.ensures.heard Stated octets heard in
     record {
       within = pushed.0;
       heard = pushed.1;
-      unrefused = undecided_open _ (c.in-Ok.ensures.undecided octets heard);
+      unrefused = undecided_open _ (c.in-Ok.ensures.undecided Stated octets heard);
       whole = λ less. ap judged (pushed.2 less);
     }
 
 pub returns-in-Err-Refused : goal.returns-in-Err-Refused
 returns-in-Err-Refused c =
     λ octets heard.
-    let stops = subst (Stops (octets ++ c.args.piece.now)) c.in-Err-Refused.field-0-is (c.in-Err-Refused.ensures.heard octets heard) in
+    let stops = subst (Stops (octets ++ c.args.piece.now)) c.in-Err-Refused.field-0-is (c.in-Err-Refused.ensures.heard Stated octets heard) in
     (ap judged stops.0, not_truncated c.in-Err-Refused.fault.reason stops.1)

@@ -1,4 +1,5 @@
 use Rattle.std.proofs.Common.{◌++◌, take, ◌∙◌, ap, subst, sym}
+use Rattle.grib_base.specs.declared.profile.Profile.TheVariants.{Stated}
 use Rattle.grib_stream.specs.Acts.{world}
 use Rattle.grib_stream.specs.Performed.{Performs, performed_of}
 use Rattle.grib_stream.specs.Task.{next_of}
@@ -10,7 +11,7 @@ use Rattle.grib_dispatch.proofs.performing.AnsweringPerformer.perform_heard.Goal
 
 pub fields-fields-requires : goal.fields-fields-requires
 fields-fields-requires g c =
-    record { whole = (c.requires.whole.0, c.requires.whole.1, second_verdict c.requires.whole.0 c.requires.whole.2) }
+    record { whole = (Stated, c.requires.whole.0, c.requires.whole.1, second_verdict c.requires.whole.0 c.requires.whole.2) }
 
 pub heard-answered-requires : goal.heard-answered-requires
 heard-answered-requires g c =
@@ -23,7 +24,7 @@ returns-clause-performs g c =
     let second = (both command.hears (is_second (take 8 (octets ++ more))) known).1 in
     let whole = heard_verdict octets more second is in
     subst (λ r. Performs (next_of (task command) c.args.place.now octets) (performed_of r) (world (g.T.Sink.contents c.args.output.now) names) (world (g.T.Sink.contents c.heard-answered.new.output) names)) (sym c.heard.ensures)
-    (performs_heard command c.args.place.now octets more c.heard-answered.result c.octets-octets.result c.fields-fields.result _ _ second is (c.octets-octets.ensures.count octets heard) (c.fields-fields.ensures octets heard whole) ((c.heard-answered.ensures (sym c.hears.ensures ∙ c.if-not-hears.false) octets heard whole).answers names))
+    (performs_heard command c.args.place.now octets more c.heard-answered.result c.octets-octets.result c.fields-fields.result _ _ second is (c.octets-octets.ensures.count Stated octets heard) (c.fields-fields.ensures Stated octets heard whole) ((c.heard-answered.ensures (sym c.hears.ensures ∙ c.if-not-hears.false) octets heard whole).answers names))
 
 pub returns-clause-write_fault : goal.returns-clause-write_fault
 returns-clause-write_fault g c =

@@ -2,8 +2,8 @@ use Rattle.std.proofs.Common.{◌≡◌, ℕ, ◌<◌, ◌^◌, nat_abs, to_z, o
 use Rattle.std.specs.Int.{w32, w64}
 use Rattle.std.proofs.lemmas.Int.{fits_signed_from_abs}
 use Rattle.grib_bits.specs.Bits.{bits_of, signed}
-use Rattle.grib_decimal.proofs.Factors.{small_factor}
-use Rattle.grib_arrays.proofs.factors.scale_factor.Goals as goal
+use Rattle.grib_dyadic.proofs.Factors.{small_factor}
+use Rattle.grib_dyadic.proofs.factor.scale_factor.Goals as goal
 
 factor_fits : (n : ℕ) → n < 2 ^ 16 → FitsSigned w32 (signed (bits_of 16 n))
 factor_fits n small = fits_signed_from_abs w32 (signed (bits_of 16 n)) (let less = small_factor n small in omega (arith, less))

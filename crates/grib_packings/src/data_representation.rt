@@ -1,0 +1,99 @@
+//! What Section 5 says of a field, where its packing may be opaque.
+
+ghost use Rattle.std.specs.Prelude.{◌≡◌, ℕ, List, true, false, None, Some, MatchOption, MatchResult};
+ghost use Rattle.grib_base.specs.declared.profile.Profile.TheVariants.{Open};
+ghost use Rattle.grib_base.specs.Faults.{AreTried};
+ghost use Rattle.grib_base.specs.Rows.{located};
+ghost use Rattle.grib_packing.specs.Entries.{data_fault, is_opaque_packing, packing_fault, packing_fault_under};
+ghost use Rattle.grib_packing.specs.Packing.{value_count};
+ghost use Rattle.grib_packings.specs.Field.{IsDataOf, Represents};
+
+use crate::Representation;
+use grib_base::{Fault, Profile, ReadFault, Section};
+use grib_packing::{Opaque, is_opaque, read_opaque};
+use std::alloc::Global;
+
+/// What Section 5 says of a field whose values can be read, or of one with an opaque packing (WMO-No. 306, Volume I.2,
+/// FM 92 GRIB edition 2, code table 5.0).
+#[derive(Clone, Copy, Debug, PartialEq, Eq)]
+pub enum DataRepresentation {
+    /// The packing is stated in docs/PROFILE.md.
+    Read(Representation),
+    /// The packing is opaque: what Section 5 says in every template.
+    Opaque(Opaque),
+}
+
+impl DataRepresentation {
+    /// Reads a Section 5 under a profile, where the grid has this many points.
+    ///
+    /// # Errors
+    ///
+    /// The refusal of the first row of the profile that fails.
+    pub fn read(
+        profile: Profile,
+        section5: &Section<'_>,
+        points: u32,
+    ) -> Result<DataRepresentation, Fault>
+        ensures { MatchResult result
+            (λ value. (packing_fault_under profile section5.now.octets.now points ≡ None)
+            × IsDataOf value section5.now.octets.now)
+            (λ fault. located section5.now.start (packing_fault_under profile section5.now.octets.now points)
+            ≡ Some fault) }
+    {
+        if is_taken_opaque(profile, section5.octets) {
+            return Ok(DataRepresentation::Opaque(read_opaque(section5, points)?));
+        }
+        Ok(DataRepresentation::Read(Representation::read(section5, points)?))
+    }
+
+    /// The number of values that Section 7 gives.
+    pub fn values(&self) -> u32
+        ensures { (s5 : List ℕ) → IsDataOf self.now s5 → result ≡ value_count s5 }
+    {
+        match self {
+            DataRepresentation::Read(representation) => representation.values(),
+            DataRepresentation::Opaque(opaque) => opaque.values,
+        }
+    }
+
+    /// What gives the values of the field. There is none exactly where the packing is opaque.
+    pub fn representation(&self) -> Option<Representation>
+        ensures { (s5 : List ℕ) → IsDataOf self.now s5
+            → MatchOption result (is_opaque_packing s5 ≡ true)
+            (λ representation. Represents representation s5) }
+    {
+        match self {
+            DataRepresentation::Read(representation) => Some(*representation),
+            DataRepresentation::Opaque(_) => None,
+        }
+    }
+
+    /// Tries the rows of the field's Section 7. Of an opaque packing none is tried. No column is made.
+    ///
+    /// # Errors
+    ///
+    /// The refusal of the first row of the profile that fails, or there is no memory.
+    pub fn check_data(&self, alloc: Global, section7: &Section<'_>) -> Result<(), ReadFault>
+        requires { (s5 : List ℕ) × IsDataOf self.now s5 }
+        ensures { (s5 : List ℕ) → IsDataOf self.now s5
+            → AreTried (located section7.now.start (data_fault s5 section7.now.octets.now)) result }
+    {
+        match self {
+            DataRepresentation::Read(representation) => representation.check_data(alloc, section7),
+            DataRepresentation::Opaque(_) => Ok(()),
+        }
+    }
+}
+
+/// Whether a Section 5, by its octets, is one whose template is not asked for under a profile. One that is too short for
+/// a template is not.
+fn is_taken_opaque(profile: Profile, octets: &[u8]) -> bool
+    ensures opaque { result ≡ true → (profile ≡ Open) × (is_opaque_packing octets.now ≡ true) }
+    ensures known { result ≡ false → (points : ℕ)
+        → packing_fault_under profile octets.now points ≡ packing_fault octets.now points }
+{
+    match profile {
+        Profile::Stated => false,
+        Profile::Open => octets.len() >= 11 && is_opaque(octets),
+    }
+}
