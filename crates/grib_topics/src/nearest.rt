@@ -17,6 +17,7 @@ struct Near<'a> {
 
 /// The keys that are nearest to a word: those that say what ecCodes has by this name, or else the one whose name is
 /// nearest. It is empty where there are none. The only error is that there is no memory.
+#[tactic(auto, unfolding(crate::specs::Nearest::nearest_key))]
 pub fn nearest_key(alloc: Global, word: &str) -> Result<&'static str, AllocError>
     ensures { IfOk result (λ names. names.now ≡ near.nearest_key word.now) }
 {
@@ -30,6 +31,7 @@ pub fn nearest_key(alloc: Global, word: &str) -> Result<&'static str, AllocError
 
 /// The name of the command that is nearest to a word. It is empty where none is near. The only error is that there is
 /// no memory.
+#[tactic(auto, unfolding(crate::specs::Nearest::nearest_command))]
 pub fn nearest_command(alloc: Global, word: &str) -> Result<&'static str, AllocError>
     ensures { IfOk result (λ name. name.now ≡ near.nearest_command word.now) }
 {
