@@ -6,7 +6,7 @@ abbrev pub is : List ℕ → List ℕ → Bool
 is this name = bytes_eq name this
 
 -- the keys that say what ecCodes has by this name; nothing where it is none of these names
-abbrev pub keys_for : List ℕ → List ℕ
+unfoldable pub keys_for : List ℕ → List ℕ
 keys_for name =
     cond (is (codes "shortName") name || is (codes "paramId") name) (codes "discipline, category and number")
     (cond (is (codes "level") name) (codes "surface1, surface1Scale and surface1Value")

@@ -36,9 +36,13 @@ nearer word best name =
 abbrev pub nearest : List ℕ → List (List ℕ) → List ℕ
 nearest word texts = (fold (nearer word) (seen [] 4) (map first_word texts)).name
 
+-- the name of a key that is nearest to a word
+unfoldable pub nearest_name : List ℕ → List ℕ
+nearest_name word = nearest word (drop 1 key_texts)
+
 -- some keys, or where there are none, the one whose name is nearest
 abbrev pub or_nearest : List ℕ → List ℕ → List ℕ
-or_nearest keys word = cond (length keys == 0) (nearest word (drop 1 key_texts)) keys
+or_nearest keys word = cond (length keys == 0) (nearest_name word) keys
 
 unfoldable pub nearest_key : List ℕ → List ℕ
 nearest_key word = or_nearest (keys_for word) word

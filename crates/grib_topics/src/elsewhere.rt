@@ -4,6 +4,7 @@ ghost use Rattle.std.specs.Prelude.{◌≡◌};
 ghost use Rattle.grib_topics.specs.Elsewhere as elsewhere;
 
 /// The keys that say what ecCodes has by this name, empty where it is none of the common ones.
+#[tactic(auto, unfolding(crate::specs::Elsewhere::keys_for))]
 pub(crate) fn keys_for(name: &str) -> &'static str
     ensures { result.now ≡ elsewhere.keys_for name.now }
 {

@@ -23,10 +23,18 @@ pub fn nearest_key(alloc: Global, word: &str) -> Result<&'static str, AllocError
 {
     let keys = keys_for(word);
     if keys.is_empty() {
-        nearest(alloc, word, &KEYS[1..])
+        nearest_name(alloc, word)
     } else {
         Ok(keys)
     }
+}
+
+/// The name of the key that is nearest to a word.
+#[tactic(auto, unfolding(crate::specs::Nearest::nearest_name))]
+fn nearest_name(alloc: Global, word: &str) -> Result<&'static str, AllocError>
+    ensures { IfOk result (λ name. name.now ≡ near.nearest_name word.now) }
+{
+    nearest(alloc, word, &KEYS[1..])
 }
 
 /// The name of the command that is nearest to a word. It is empty where none is near. The only error is that there is

@@ -1,4 +1,4 @@
-use Rattle.std.proofs.Common.{◌≡◌, false, Ok, Err, map, string_bytes, drop, refl, sym, ◌∙◌, subst}
+use Rattle.std.proofs.Common.{◌≡◌, ◌-◌, false, Ok, Err, length, map, string_bytes, take, drop, refl, sym, ◌∙◌, subst}
 use Rattle.grib_run_spec.specs.Serving.{IfUnread}
 use Rattle.grib_run_spec.specs.Tasks.{has_shelf}
 use Rattle.grib_cli.specs.declared.words.JobFault.TheVariants.{Usage}
@@ -51,7 +51,7 @@ pub returns-then-is_on_words-clause-answers : goal.returns-then-is_on_words-clau
 returns-then-is_on_words-clause-answers g c =
     let words = map string_bytes c.args.words.now in
     promised_told _ words c.tell_of.result _ _ c.what_a_run_leaves.ensures c.what_a_run_answers_is_in_the_grammar.ensures
-    (map string_bytes (drop 1 c.args.words.now)) (behind string_bytes c.args.words.now) (sym c.is_on_words.ensures ∙ c.if-is_on_words.true)
+    (map string_bytes (take (length c.args.words.now - 1) (drop 1 c.args.words.now))) (behind string_bytes c.args.words.now) (sym c.is_on_words.ensures ∙ c.if-is_on_words.true)
     (c.tell_of.ensures (policy_of words))
 
 pub returns-then-is_on_words-clause-unread : goal.returns-then-is_on_words-clause-unread
