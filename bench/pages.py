@@ -38,7 +38,7 @@ PAST = {command: ["refused=pass", "kept=copy"] for command in ("filter", "set", 
 PAST.update({command: ["refused=pass"] for command in ("check", "list", "keys", "stats")}, dump=["refused=pass", "kept=pass"], values=["refused=pass", "kept=pass"])
 # The pages that say how many keys there are.
 COUNTING = ["README.md", "docs/GUIDE.md", "docs/PROFILE.md", "docs/GLOSSARY.md", "docs/GUARANTEES.md", "docs/DEFINITIONS.md"]
-NOT_PAST = {"check": "kept=pass", "list": "refused=skip", "dump": "kept=copy", "values": "kept=copy", "make": "refused=pass", "help": "refused=pass"}
+NOT_PAST = {"check": "kept=pass", "list": "refused=skip", "dump": "kept=copy", "values": "kept=copy", "make": "refused=pass", "version": "refused=pass"}
 failed = []
 
 
@@ -221,7 +221,8 @@ def main():
         hold(has_reading(program, command, *past, *words), f"not in the program: {command} {' '.join(past + words)}")
         if command not in ("filter", "set"):
             names = {word.split("=")[0] + "=" for word in words + past}
-            hold(set(completed(f"grib {command} ")) == names, f"names of {command} in the completion")
+            told = {*commands, "commands", "refusals", "causes"} if command == "help" else set()
+            hold(set(completed(f"grib {command} ")) == names | told, f"names of {command} in the completion")
             shown = plain(section(page, "COMMANDS") + section(page, "GOING ON AFTER REFUSALS"))
             hold(all(name in shown for name in names), f"names of {command} in the page")
 

@@ -6,3 +6,4 @@ mod Asked
 pub mod Printed
 mod Single
 mod Helped
+mod Told

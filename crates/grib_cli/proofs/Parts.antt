@@ -24,7 +24,7 @@ no_place p [] e = refl
 no_place p (x ∷ xs) e = at_first (p x) (position_or_len p xs) (length xs) (list_any p xs) (omega (arith, e)) (no_place p xs)
 
 -- a word whose first `=` is at its end has none
-lacks_equals : (word : List ℕ) → position_or_len is_equals word ≡ length word → has_equals word ≡ false
+pub lacks_equals : (word : List ℕ) → position_or_len is_equals word ≡ length word → has_equals word ≡ false
 lacks_equals word e = no_place is_equals word e
 
 pub unnamed : (name word : List ℕ) → position_or_len is_equals word ≡ length word → false ≡ is_named name word

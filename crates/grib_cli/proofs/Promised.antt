@@ -1,5 +1,5 @@
 -- What is promised of a run, from what serving it promises.
-use Rattle.std.proofs.Common.{◌≡◌, ◌≢◌, ◌⊎◌, inl, inr, Bool, true, List, ℕ, Result, Ok, Err, IfOk, IfSome, Some, None, drop, refl, sym, ◌∙◌, subst}
+use Rattle.std.proofs.Common.{◌≡◌, ◌≢◌, ◌⊎◌, ⊎_elim, inl, inr, Bool, true, false, cond, ◌&&◌, ◌==◌, ◌+◌, List, [], ◌∷◌, length, codes, ap, ℕ, Result, Ok, Err, IfOk, IfSome, Some, None, drop, refl, sym, ◌∙◌, subst}
 use Rattle.std.specs.declared.option.Option.{Option}
 use Rattle.grib_io.specs.Shelves.{Held}
 use Rattle.grib_stream.specs.declared.outcome.Outcome.TheVariants as outcomes
@@ -12,43 +12,76 @@ use Rattle.grib_dispatch.specs.Hearing.{RefusesInTime}
 use Rattle.grib_run_spec.specs.Seen.{Seen}
 use Rattle.grib_run_spec.specs.Serving.{AnswersWork, IfUnread, Serves}
 use Rattle.grib_run_spec.specs.Tasks as tasks
-use Rattle.grib_run_spec.specs.Tasks.{IfHears, IfReads, Work, Reads, Makes, ReadsTables}
+use Rattle.grib_run_spec.specs.Tasks.{IfHears, IfReads, Work, Reads, Makes, ReadsTables, writing}
 use Rattle.grib_run_law.specs.Judged.{Judges}
 use Rattle.grib_run_law.specs.Leaving.{Leaves}
 use Rattle.grib_cli.specs.Answers.{Answers}
 use Rattle.grib_cli.specs.declared.words.JobFault.{JobFault}
 use Rattle.grib_cli.specs.declared.words.JobFault.TheVariants.{Usage}
 use Rattle.grib_cli.specs.declared.words.command.Command as lines
-use Rattle.grib_cli.specs.Reading.{reading}
-use Rattle.grib_cli.specs.Words.{IsAsked, job_of, job_of_reading, policy_of, work_by}
+use Rattle.grib_cli.specs.declared.words.command.Command.TheVariants as the
+use Rattle.grib_cli.specs.Helping.{is_help, is_on_words, told_of_words}
+use Rattle.grib_cli.specs.Reading.{has_equals, command_named, is_read, read_count, reading_of, reading}
+use Rattle.grib_cli.specs.Words.{IsAsked, job_of, job_of_reading, policy_of, work_by, work_of}
 use Rattle.grib_engine.proofs.Unread.{left_alone}
-use Rattle.grib_cli.proofs.Asked.{has_read, is_job, read_behind}
+use Rattle.grib_cli.proofs.Asked.{either, same_text, has_read, is_job, read_behind}
+
+-- ---- words behind `help`
+
+unread_by : (has : Bool) → (has && false) ≡ false
+unread_by true = refl
+unread_by false = refl
+
+no_word_of_help : (word : List ℕ) → is_read the.Help [] word ≡ false
+no_word_of_help word = unread_by (has_equals word)
+
+none_read : (second : List ℕ) (later : List (List ℕ)) → read_count the.Help [] (second ∷ later) ≡ 0
+none_read second later = ap (λ read. cond read (read_count the.Help (second ∷ []) later) 0) (no_word_of_help second)
+
+named_help : (word : List ℕ) → is_help word ≡ true → command_named word ≡ Some the.Help
+named_help word is =
+    ⊎_elim (λ plain. ap command_named (same_text word (codes "help") plain)) (λ dashed. ap command_named (same_text word (codes "--help") dashed)) (either _ _ is)
+
+-- they ask for no job
+asks_no_job : (words : List (List ℕ)) → is_on_words words ≡ true → job_of words ≡ Err (Usage 1)
+asks_no_job [] on = cc
+asks_no_job (first ∷ []) on = cc
+asks_no_job (first ∷ second ∷ later) on =
+    ap (λ command. job_of_reading (reading_of command (second ∷ later)) (second ∷ later)) (named_help first on)
+    ∙ ap (λ count. job_of_reading (cond ((count == length (second ∷ later)) && true) (Ok the.Help) (Err (count + 1))) (second ∷ later)) (none_read second later)
+
+-- what they ask for is the work of their job
+pub plainly : (words : List (List ℕ)) (asked : Result Job JobFault) → is_on_words words ≡ false → job_of words ≡ asked → work_of words ≡ work_by asked
+plainly words asked plain is = ap (λ on. cond on (Makes (writing (told_of_words (drop 1 words)) [])) (work_by (job_of words))) plain ∙ ap work_by is
+
+-- where it does, it is to tell of those behind it
+told : (words : List (List ℕ)) → is_on_words words ≡ true → work_of words ≡ Makes (writing (told_of_words (drop 1 words)) [])
+told words on = ap (λ on. cond on (Makes (writing (told_of_words (drop 1 words)) [])) (work_by (job_of words))) on
 
 module _ (takes_memory : Bool) (words : List (List ℕ)) (outcome : Outcome) (before now : Seen)
     (leaves : (job : Job) (policy : Policy) (outcome : Outcome) (before now : Seen) → IsJob job → AnswersWork (tasks.work_of job) policy outcome before now → Leaves job policy outcome before now)
     (judges : (job : Job) (policy : Policy) (outcome : Outcome) (before now : Seen) → AnswersWork (tasks.work_of job) policy outcome before now → IfSome before.left (Judges policy outcome)) where
-  judged_by : (asked : Result Job JobFault) → AnswersWork (work_by asked) (policy_of words) outcome before now
+  judged_by : (asked : Result Job JobFault) → IfOk asked (λ job. AnswersWork (work_by asked) (policy_of words) outcome before now)
       → IfOk asked (λ job. IfSome before.left (Judges (policy_of words) outcome))
   judged_by (Ok job) answer = judges job (policy_of words) outcome before now answer
   judged_by (Err fault) answer = tt
 
-  kept_by : (asked : Result Job JobFault) → IfOk asked IsJob → AnswersWork (work_by asked) (policy_of words) outcome before now
+  kept_by : (asked : Result Job JobFault) → IfOk asked IsJob → IfOk asked (λ job. AnswersWork (work_by asked) (policy_of words) outcome before now)
       → IfOk asked (λ job. Leaves job (policy_of words) outcome before now)
   kept_by (Ok job) is_job answer = leaves job (policy_of words) outcome before now is_job answer
   kept_by (Err fault) is_job answer = tt
 
-  pub promised : (asked : Result Job JobFault) (policy : Policy) → job_of words ≡ asked → policy ≡ policy_of words → IfOk asked IsJob
-      → Serves takes_memory (work_by asked) policy outcome before now
-      → (policy ≡ nothing → IfOk asked (λ job. IfHears job (RefusesInTime outcome before.left now.left)))
+  promised_by : (asked : Result Job JobFault) → job_of words ≡ asked → IfOk asked IsJob
+      → Serves takes_memory (work_of words) (policy_of words) outcome before now
+      → IfOk asked (λ job. AnswersWork (work_by asked) (policy_of words) outcome before now)
+      → (policy_of words ≡ nothing → IfOk asked (λ job. IfHears job (RefusesInTime outcome before.left now.left)))
       → Answers takes_memory words outcome before now
-  promised asked policy is policy_is is_job serves soon =
-      let own = subst (λ p. Serves takes_memory (work_by asked) p outcome before now) policy_is serves in
-      let served = subst (λ a. Serves takes_memory (work_by a) (policy_of words) outcome before now) (sym is) own in
+  promised_by asked is is_job served answer soon =
       record {
         answer = served.answer;
-        soon = λ stops. subst (λ a. IfOk a (λ job. IfHears job (RefusesInTime outcome before.left now.left))) (sym is) (soon (policy_is ∙ stops));
-        judged = judged_by (job_of words) served.answer;
-        kept = subst (λ a. IfOk a (λ job. Leaves job (policy_of words) outcome before now)) (sym is) (kept_by asked is_job own.answer);
+        soon = λ stops. subst (λ a. IfOk a (λ job. IfHears job (RefusesInTime outcome before.left now.left))) (sym is) (soon stops);
+        judged = subst (λ a. IfOk a (λ job. IfSome before.left (Judges (policy_of words) outcome))) (sym is) (judged_by asked answer);
+        kept = subst (λ a. IfOk a (λ job. Leaves job (policy_of words) outcome before now)) (sym is) (kept_by asked is_job answer);
         ends = served.settled;
         stands = served.stands;
         counts = served.counts;
@@ -56,6 +89,29 @@ module _ (takes_memory : Bool) (words : List (List ℕ)) (outcome : Outcome) (be
         unshelved = served.unshelved;
         table_stays = served.table_stays;
       }
+
+  answered : (asked : Result Job JobFault) → AnswersWork (work_by asked) (policy_of words) outcome before now
+      → IfOk asked (λ job. AnswersWork (work_by asked) (policy_of words) outcome before now)
+  answered (Ok job) answer = answer
+  answered (Err fault) answer = tt
+
+  pub promised : (asked : Result Job JobFault) (policy : Policy) → is_on_words words ≡ false → job_of words ≡ asked → policy ≡ policy_of words → IfOk asked IsJob
+      → Serves takes_memory (work_by asked) policy outcome before now
+      → (policy ≡ nothing → IfOk asked (λ job. IfHears job (RefusesInTime outcome before.left now.left)))
+      → Answers takes_memory words outcome before now
+  promised asked policy plain is policy_is is_job serves soon =
+      let own = subst (λ p. Serves takes_memory (work_by asked) p outcome before now) policy_is serves in
+      promised_by asked is is_job (subst (λ work. Serves takes_memory work (policy_of words) outcome before now) (sym (plainly words asked plain is)) own)
+      (answered asked own.answer) (λ stops. soon (policy_is ∙ stops))
+
+  -- of words that `help` stands before
+  -- `later` stands behind `help`
+  pub promised_told : (later : List (List ℕ)) → later ≡ drop 1 words → is_on_words words ≡ true
+      → Serves takes_memory (Makes (writing (told_of_words later) [])) (policy_of words) outcome before now → Answers takes_memory words outcome before now
+  promised_told later is on serves =
+      promised_by (Err (Usage 1)) (asks_no_job words on) tt
+      (subst (λ work. Serves takes_memory work (policy_of words) outcome before now) (ap (λ l. Makes (writing (told_of_words l) [])) is ∙ sym (told words on)) serves)
+      tt (λ stops. tt)
 
 -- ---- what the words ask for
 

@@ -1,5 +1,5 @@
 -- What the words of a command line ask for: the job of the command, by the values of its words.
-use Rattle.std.specs.Prelude.{◌≡◌, ◌⊎◌, ℕ, ◌-◌, ◌^◌, Bool, true, false, cond, Option, Some, None, option_map, List, drop, codes, Result, Ok, Err, IfOk, IfSome}
+use Rattle.std.specs.Prelude.{◌≡◌, ◌⊎◌, ℕ, ◌-◌, ◌^◌, Bool, true, false, cond, Option, Some, None, option_map, List, [], drop, codes, Result, Ok, Err, IfOk, IfSome}
 use Rattle.std.specs.List.{filter_map}
 use Rattle.std.specs.Option.{option_and_then}
 use Rattle.grib_keys.specs.declared.key.Key.{Key}
@@ -34,7 +34,8 @@ use Rattle.grib_items.specs.declared.policy.Instead.{Instead}
 use Rattle.grib_items.specs.declared.policy.Instead.TheVariants.{Copy, Pass}
 use Rattle.grib_items.specs.declared.policy.Policy.{Policy}
 use Rattle.grib_run_spec.specs.Tasks as tasks
-use Rattle.grib_run_spec.specs.Tasks.{Work, Makes, ends_at_once}
+use Rattle.grib_run_spec.specs.Tasks.{Work, Makes, ends_at_once, writing}
+use Rattle.grib_cli.specs.Helping.{is_on_words, told_of_words}
 use Rattle.grib_cli.specs.Reading.{is, is_marked, asked_key, name_in, value_in, value_of, value_if_given, number_of, number_if_given, has_name, has_word, reading}
 
 -- what `to` and `order` ask for
@@ -166,6 +167,6 @@ abbrev pub work_by : Result Job JobFault → Work
 work_by (Ok job) = tasks.work_of job
 work_by (Err fault) = Makes (ends_at_once (outcome_of fault))
 
--- what the words ask for: the work of their job, or to note that they have no reading
+-- what the words ask for: to tell of those behind `help`, the work of their job, or to note that they have no reading
 abbrev pub work_of : List (List ℕ) → Work
-work_of words = work_by (job_of words)
+work_of words = cond (is_on_words words) (Makes (writing (told_of_words (drop 1 words)) [])) (work_by (job_of words))

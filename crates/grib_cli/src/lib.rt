@@ -1,7 +1,9 @@
 //! The top call of the command `grib`: from the words and the input to the output, the notes and the files.
 #![tactic(auto)]
 
+mod help;
 mod running;
+mod telling;
 mod words;
 
 pub use running::run;

@@ -7,6 +7,8 @@ ghost use Rattle.grib_run_spec.specs.Seen.{seen};
 ghost use Rattle.grib_run_spec.specs.Serving.{IfUnread};
 ghost use Rattle.grib_run_spec.specs.Tasks.{has_shelf};
 
+use crate::help::is_on_words;
+use crate::telling::tell_of;
 use crate::words::{JobFault, job_of, policy_of};
 use grib_engine::{Outcome, end_at_once, end_without_memory, serve_under};
 use grib_io::{Shelf, Sink, Source};
@@ -16,7 +18,8 @@ use std::alloc::Global;
 /// Does what the words ask for with the messages of `input`, or without it: writes the answer to `output`
 /// and notes how the run ended. The answer is a function of the words, the input and, for `migrate` and `demote`,
 /// the tables that stand on the shelf; it does not depend on how the input comes in pieces. `split`, `migrate` and
-/// `demote` alone use the shelf, and of these only `split` changes it.
+/// `demote` alone use the shelf, and of these only `split` changes it. `help` with words behind it is answered by what
+/// there is to tell of them, and asks for no job.
 pub fn run<S: Source, T: Sink, N: Sink, H: Shelf>(
     alloc: Global,
     words: &[String],
@@ -37,6 +40,9 @@ pub fn run<S: Source, T: Sink, N: Sink, H: Shelf>(
 {
     what_a_run_leaves();
     what_a_run_answers_is_in_the_grammar();
+    if is_on_words(words) {
+        return tell_of(alloc, &words[1..], input, output, notes, shelf);
+    }
     match job_of(alloc, words) {
         Ok(job) => serve_under(alloc, &job, policy_of(words), input, output, notes, shelf),
         Err(JobFault::Usage(word)) => end_at_once(

@@ -26,7 +26,7 @@ use choices::is_test;
 pub use command::Command;
 pub use policy::policy_of;
 use values::{is_between, key_value};
-use wanted::asked_key;
+pub(crate) use wanted::asked_key;
 
 /// Why the words ask for no job.
 #[derive(Clone, Copy, Debug, PartialEq, Eq, Error)]
@@ -48,7 +48,8 @@ impl From<AllocError> for JobFault {
     }
 }
 
-/// The job that the words ask for. It is one that there is.
+/// The job that the words ask for. It is one that there is. `help` with words behind it asks for none: `run` tells of
+/// them.
 pub fn job_of(alloc: Global, words: &[String]) -> Result<Job, JobFault>
     ensures asked { IsAsked result (map string_bytes words.now) }
     ensures is_job { IfOk result IsJob }
@@ -113,7 +114,7 @@ fn may_repeat(command: Command, name: &str) -> bool
 }
 
 /// Whether one of the words has this name.
-fn has_name(words: &[String], name: &str) -> bool
+pub(crate) fn has_name(words: &[String], name: &str) -> bool
     ensures { result ≡ grammar.has_name name.now (map string_bytes words.now) }
 {
     words.iter().any(|word| is_named(word.as_str(), name))
@@ -130,7 +131,7 @@ fn is_named(word: &str, name: &str) -> bool
 }
 
 /// Whether a command has a name with this value.
-fn takes(command: Command, name: &str, value: &str) -> bool
+pub(crate) fn takes(command: Command, name: &str, value: &str) -> bool
     ensures { result ≡ grammar.takes (entries command) name.now value.now }
 {
     takes_own(command, name, value) || takes_policy(command, name, value)
@@ -191,8 +192,15 @@ fn takes_own(command: Command, name: &str, value: &str) -> bool
     }
 }
 
+/// Whether a name is that of a key.
+pub(crate) fn is_key(name: &str) -> bool
+    ensures { result ≡ grammar.is_key name.now }
+{
+    Key::of(name).is_some()
+}
+
 /// Whether a name is that of a key that can be set.
-fn is_key_to_set(name: &str) -> bool
+pub(crate) fn is_key_to_set(name: &str) -> bool
     ensures { result ≡ grammar.is_key_to_set name.now }
 {
     match Key::of(name) {
@@ -317,7 +325,7 @@ fn has_sides(words: &[String]) -> bool
 }
 
 /// Whether this is one of the words.
-fn has_word(words: &[String], whole: &str) -> bool
+pub(crate) fn has_word(words: &[String], whole: &str) -> bool
     ensures { result ≡ grammar.has_word whole.now (map string_bytes words.now) }
 {
     words.iter().any(|word| word.as_str() == whole)

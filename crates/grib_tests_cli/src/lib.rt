@@ -9,6 +9,8 @@ mod editions;
 #[cfg(test)]
 mod heard;
 #[cfg(test)]
+mod helped;
+#[cfg(test)]
 mod pages;
 #[cfg(test)]
 mod runs;

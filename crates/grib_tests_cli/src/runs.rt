@@ -285,7 +285,7 @@ fn words_without_a_reading(rt: HostRuntime) -> Result<(), Fail> {
     for (words, word) in [
         ("", 0),
         ("--list", 0),
-        ("help x", 1),
+        ("version x", 1),
         ("check file", 1),
         ("repack to=1", 1),
         ("repack to=3", 2),

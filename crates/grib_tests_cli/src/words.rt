@@ -325,7 +325,7 @@ const UNREAD_PAGES: [(u64, &str); 8] = [
     (0, "-help"),
     (0, "--list"),
     (0, "--version="),
-    // `help` and `version` take no word.
+    // `version` takes no word, and `help` asks for no job with words behind it, of which it tells.
     (1, "help list"),
     (1, "help to=0"),
     (1, "--help --version"),

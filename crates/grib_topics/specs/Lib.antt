@@ -1,2 +1,4 @@
 pub mod Topics
+pub mod Shown
+pub mod Elsewhere
 pub mod Nearest

@@ -1,9 +1,10 @@
 -- The name that is nearest to a word.
-use Rattle.std.specs.Prelude.{ℕ, ◌&&◌, cond, nat_lt, nat_eq, List, [], length, map, drop}
+use Rattle.std.specs.Prelude.{ℕ, ◌&&◌, ◌==◌, cond, nat_lt, nat_eq, List, [], length, map, drop}
 use Rattle.std.specs.List.{fold}
 use Rattle.std.specs.Str.{chars}
 use Rattle.std.specs.Char.{to_ascii_lowercase}
 use Rattle.strsim.specs.Edits.{levenshtein_row}
+use Rattle.grib_topics.specs.Elsewhere.{keys_for}
 use Rattle.grib_topics.specs.Topics as topics
 use Rattle.grib_topics.specs.Topics.{command_texts, key_texts}
 
@@ -35,8 +36,16 @@ nearer word best name =
 abbrev pub nearest : List ℕ → List (List ℕ) → List ℕ
 nearest word texts = (fold (nearer word) (seen [] 4) (map first_word texts)).name
 
-abbrev pub nearest_key : List ℕ → List ℕ
-nearest_key word = nearest word (drop 1 key_texts)
+-- the name of a key that is nearest to a word
+unfoldable pub nearest_name : List ℕ → List ℕ
+nearest_name word = nearest word (drop 1 key_texts)
 
-abbrev pub nearest_command : List ℕ → List ℕ
+-- some keys, or where there are none, the one whose name is nearest
+abbrev pub or_nearest : List ℕ → List ℕ → List ℕ
+or_nearest keys word = cond (length keys == 0) (nearest_name word) keys
+
+unfoldable pub nearest_key : List ℕ → List ℕ
+nearest_key word = or_nearest (keys_for word) word
+
+unfoldable pub nearest_command : List ℕ → List ℕ
 nearest_command word = nearest word command_texts

@@ -45,7 +45,7 @@ abbrev pub demotion_texts : List (List ℕ)
 demotion_texts = map (λ text. text.now) DEMOTIONS
 
 -- what is told of a name; nothing where neither a page nor a text has it
-abbrev pub told_of : List ℕ → List ℕ
+unfoldable pub told_of : List ℕ → List ℕ
 told_of name =
     texts_of (codes "commands") name command_texts ++ texts_of (codes "keys") name key_texts
     ++ texts_of (codes "refusals") name refusal_texts ++ texts_of (codes "causes") name cause_texts

@@ -3,6 +3,7 @@
 ghost use Rattle.std.specs.Prelude.{◌≡◌, IfOk, map};
 ghost use Rattle.grib_topics.specs.Nearest as near;
 
+use crate::elsewhere::keys_for;
 use crate::table::{COMMANDS, KEYS};
 use std::alloc::{AllocError, Global};
 use strsim::levenshtein;
@@ -14,23 +15,40 @@ struct Near<'a> {
     changes: usize,
 }
 
-/// The name of the key that is nearest to a word, by the fewest letters that are to be changed, put in or left out,
-/// whatever their case: no more than three, and fewer than the name has. It is empty where no name is so near. Of
-/// several names as near it is the first. The only error is that there is no memory.
+/// The keys that are nearest to a word: those that say what ecCodes has by this name, or else the one whose name is
+/// nearest. It is empty where there are none. The only error is that there is no memory.
+#[tactic(auto, unfolding(crate::specs::Nearest::nearest_key))]
 pub fn nearest_key(alloc: Global, word: &str) -> Result<&'static str, AllocError>
-    ensures { IfOk result (λ name. name.now ≡ near.nearest_key word.now) }
+    ensures { IfOk result (λ names. names.now ≡ near.nearest_key word.now) }
+{
+    let keys = keys_for(word);
+    if keys.is_empty() {
+        nearest_name(alloc, word)
+    } else {
+        Ok(keys)
+    }
+}
+
+/// The name of the key that is nearest to a word.
+#[tactic(auto, unfolding(crate::specs::Nearest::nearest_name))]
+fn nearest_name(alloc: Global, word: &str) -> Result<&'static str, AllocError>
+    ensures { IfOk result (λ name. name.now ≡ near.nearest_name word.now) }
 {
     nearest(alloc, word, &KEYS[1..])
 }
 
-/// The name of the command that is nearest to a word, as `nearest_key` has it of keys.
+/// The name of the command that is nearest to a word. It is empty where none is near. The only error is that there is
+/// no memory.
+#[tactic(auto, unfolding(crate::specs::Nearest::nearest_command))]
 pub fn nearest_command(alloc: Global, word: &str) -> Result<&'static str, AllocError>
     ensures { IfOk result (λ name. name.now ≡ near.nearest_command word.now) }
 {
     nearest(alloc, word, &COMMANDS)
 }
 
-/// The first word of one of the texts that is nearest to a word.
+/// The first word of one of the texts that is nearest to a word, by the fewest letters that are to be changed, put in
+/// or left out, whatever their case: no more than three, and fewer than the name has. It is empty where no name is so
+/// near. Of several names as near it is the first.
 fn nearest<'a>(alloc: Global, word: &str, texts: &[&'a str]) -> Result<&'a str, AllocError>
     ensures { IfOk result (λ name. name.now ≡ near.nearest word.now (map (λ t. t.now) texts.now)) }
 {

@@ -1,11 +1,12 @@
 //! The texts on commands, keys, refusals and causes. Each begins with the name that it is on.
 
 /// What each command does, behind its words.
-pub(crate) const COMMANDS: [&str; 16] = [
+pub(crate) const COMMANDS: [&str; 17] = [
     "check [refused=pass]: A line for each message, with its place, edition, octets and fields, and a line on the input.\n",
     "list [refused=pass]: A line for each field.\n",
     "keys [refused=pass]: For each field every key that it has, with its value, as filter takes it; of a message of edition 1 the numbers of Section 1.\n",
     "dump [decimals=0..18] [refused=pass] [kept=pass]: For each field its list line, a line with R, E and D, and a line for each grid point with its scaled integer X: the value is (R + X * 2^E) / 10^D. With decimals= the value itself, rounded half to even to so many places.\n",
+    "values [as=f8|f4] [refused=pass] [kept=pass]: For each field an array in the form .npy of NumPy: the value of each grid point as the nearest number of 8 octets (f8, also without as=) or of 4 (f4), and a missing value as NaN.\n",
     "stats [refused=pass]: For each field the number of points with and without a value, the smallest and the largest scaled integer with the first grid point of each, and the line with R, E and D.\n",
     "filter KEY=VALUES .. KEY!=VALUES .. [refused=copy|pass] [kept=copy|pass]: The fields that have these values, copied octet for octet.\nVALUES is a value, a list as 1,2 or a range as 0..24. A value is a whole number, as 98, 0 or -5, or missing.\nAll keys: grib help keys. The values that the fields of a file have: grib keys < FILE\nExample: grib filter surface1=100 surface1Scale=0 surface1Value=50000 < FILE > level500\n",
     "set KEY=VALUE .. [refused=copy|pass] [kept=copy|pass]: Each message with new values of these keys, all other octets copied.\n",

@@ -1,6 +1,7 @@
 //! The commands by name.
 
 ghost use Rattle.std.specs.Prelude.{◌≡◌};
+ghost use Rattle.grib_cli.specs.Helping.{name_of, reads_input};
 ghost use Rattle.grib_cli.specs.Reading.{command_named};
 
 /// What a command line can ask for, by its first word.
@@ -50,5 +51,36 @@ impl Command {
             "version" | "--version" => Some(Command::Version),
             _ => None,
         }
+    }
+
+    /// The name of the command.
+    pub fn name(self) -> &'static str
+        ensures { result.now ≡ name_of self }
+    {
+        match self {
+            Command::Check => "check",
+            Command::List => "list",
+            Command::Keys => "keys",
+            Command::Stats => "stats",
+            Command::Dump => "dump",
+            Command::Filter => "filter",
+            Command::Split => "split",
+            Command::Set => "set",
+            Command::Repack => "repack",
+            Command::Migrate => "migrate",
+            Command::Demote => "demote",
+            Command::Rescan => "rescan",
+            Command::Crop => "crop",
+            Command::Make => "make",
+            Command::Help => "help",
+            Command::Version => "version",
+        }
+    }
+
+    /// Whether it reads messages from the input.
+    pub fn reads_input(self) -> bool
+        ensures { result ≡ reads_input self }
+    {
+        !matches!(self, Command::Make | Command::Help | Command::Version)
     }
 }

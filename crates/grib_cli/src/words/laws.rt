@@ -1,7 +1,8 @@
 //! The definition of the reading, tried on command lines, and on what `keys` prints.
 
-ghost use Rattle.std.specs.Prelude.{◌≡◌, ◌≤◌, ◌<◌, ℕ, true, false, List, [], ◌∷◌, All, codes, pos, neg_ℤ, Some, None, Ok, Err};
-ghost use Rattle.std.specs.List.{list_any};
+ghost use Rattle.std.specs.Prelude.{◌≡◌, ◌≤◌, ◌<◌, ℕ, true, false, nat_lt, length, get_or, List, [], ◌∷◌, All, codes, pos, neg_ℤ, Some, None, Ok, Err};
+ghost use Rattle.std.specs.Fmt.{decimal};
+ghost use Rattle.std.specs.List.{concat, list_any};
 ghost use Rattle.grib_keys.specs.declared.key.Key.{Key};
 ghost use Rattle.grib_keys.specs.declared.key.Key.TheVariants.{Centre, ForecastTime, Surface1Value};
 ghost use Rattle.grib_keys.specs.declared.condition.Value.{Value};
@@ -17,7 +18,8 @@ ghost use Rattle.grib_command.specs.Pages.{help_lines};
 ghost use Rattle.grib_cli.specs.declared.words.command.Command.{Command};
 ghost use Rattle.grib_cli.specs.declared.words.command.Command.TheVariants.{Dump, Filter, Repack, Migrate, Demote, Help, Version};
 ghost use Rattle.grib_cli.specs.HelpLines.{is_line_on};
-ghost use Rattle.grib_cli.specs.Reading.{reading};
+ghost use Rattle.grib_cli.specs.Helping.{is_empty, is_on_words, told_of_name, told_of_words, reason_at, wanted as wanted_after, name_of, deed_of, done_line, line};
+ghost use Rattle.grib_cli.specs.Reading.{command_named, reading};
 ghost use Rattle.grib_cli.specs.Words.{change, change_of, wanted, wanted_of, conditions_of};
 
 /// Command lines that have no reading, with the place of the first word that is not read.
@@ -113,4 +115,20 @@ pub fn printed_words_pick_their_field()
         → All (λ octet. octet < 256) message → 1 ≤ i → i ≤ field_count message
         → key_value_of message i key ≡ Some value
         → fulfils_all message i (conditions_of (word_of (change key value) ∷ [])) ≡ true }
+{}
+
+/// Where words have no reading, what `help` tells of them names the word at fault, by the place that the reading of the
+/// words gives: the word itself in quotes, or, where all are read and one more is needed, the command. It is the text
+/// on a name where that stands alone and has one.
+pub fn help_names_the_word_at_fault()
+    ensures word { (words : List (List ℕ)) (place : ℕ) → is_empty (told_of_name words) ≡ true
+        → is_on_words words ≡ false → reading words ≡ Err place → nat_lt place (length words) ≡ true
+        → told_of_words words ≡ line (concat (codes "word " ∷ decimal place ∷ codes " \"" ∷ get_or words place [] ∷ codes "\": " ∷ reason_at place words ∷ [])) }
+    ensures wanted { (first : List ℕ) (later : List (List ℕ)) (command : Command) (place : ℕ)
+        → let words = first ∷ later in is_empty (told_of_name words) ≡ true
+        → is_on_words words ≡ false → command_named first ≡ Some command → reading words ≡ Err place → nat_lt place (length words) ≡ false
+        → told_of_words words ≡ concat (name_of command ∷ codes " wants " ∷ wanted_after command words ∷ codes "\n" ∷ []) }
+    ensures done { (words : List (List ℕ)) (command : Command) → is_empty (told_of_name words) ≡ true
+        → is_on_words words ≡ false → reading words ≡ Ok command
+        → told_of_words words ≡ done_line (deed_of command words) words }
 {}

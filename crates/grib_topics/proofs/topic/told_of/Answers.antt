@@ -1,4 +1,5 @@
 use Rattle.std.proofs.Common.{◌≡◌, ℕ, List, ◌++◌, ap, ◌∙◌}
+use Rattle.grib_topics.specs.Topics.{told_of}
 use Rattle.grib_topics.proofs.topic.told_of.Goals as goal
 
 -- one text more
@@ -6,6 +7,7 @@ more : (now next front text : List ℕ) → next ≡ now ++ text → now ≡ fro
 more now next front text step so_far = step ∙ ap (λ ys. ys ++ text) so_far
 
 pub returns : goal.returns
+unfolding told_of
 returns c =
     more _ _ _ _ c.in_ok-push_texts-6.ensures (more _ _ _ _ c.in_ok-push_texts-5.ensures (more _ _ _ _ c.in_ok-push_texts-4.ensures
     (more _ _ _ _ c.in_ok-push_texts-3.ensures (more _ _ _ _ c.in_ok-push_texts-2.ensures (more _ _ _ _ c.in_ok-push_texts.ensures c.new-text.ensures.bytes)))))

@@ -1,0 +1,14 @@
+use Rattle.std.proofs.Common.{[], map, string_bytes, subst, ◌||◌, ◌∙◌, ap, sym}
+use Rattle.grib_run_spec.specs.Seen.{seen}
+use Rattle.grib_run_spec.specs.Serving.{Serves}
+use Rattle.grib_run_spec.specs.Tasks.{Makes, writing}
+use Rattle.grib_cli.specs.Helping.{told_of_words}
+use Rattle.grib_cli.proofs.telling.tell_of.Goals as goal
+
+pub returns-in-Ok : goal.returns-in-Ok
+returns-in-Ok g c = λ policy.
+    subst (λ text. Serves (g.T.Sink.takes_memory || g.N.Sink.takes_memory) (Makes (writing text [])) policy c.tell.result _ _)
+    (c.as_bytes.ensures.value ∙ c.in-Ok.ensures) (c.tell.ensures policy)
+
+pub returns-in-Err : goal.returns-in-Err
+returns-in-Err g c = λ policy. c.end_without_memory.ensures.serves (Makes (writing (told_of_words (map string_bytes c.args.words.now)) [])) policy

@@ -1,0 +1,344 @@
+//! Why a word is not read.
+
+ghost use Rattle.std.specs.Prelude.{◌≡◌, ◌<◌, ◌==◌, get_or, length, map, string_bytes, IfOk};
+ghost use Rattle.grib_cli.specs.Helping as helping;
+
+use super::{command_of, joined};
+use crate::words::{Command, asked_key, is_key, is_key_to_set, takes};
+use grib_topics::{nearest_command, nearest_key};
+use std::alloc::{AllocError, Global};
+
+/// Why the word at this place is not read.
+pub(super) fn reason_at(alloc: Global, words: &[String], place: usize) -> Result<String, AllocError>
+    requires { place < length words.now }
+    ensures { IfOk result (λ text. string_bytes text ≡ helping.reason_at place (map string_bytes words.now)) }
+{
+    let word = words[place].as_str();
+    match command_of(words) {
+        Some(command) => reason_behind(alloc, command, words, word),
+        None => no_command(alloc, word),
+    }
+}
+
+/// Why a word behind a command is not read.
+fn reason_behind(
+    alloc: Global,
+    command: Command,
+    words: &[String],
+    word: &str,
+) -> Result<String, AllocError>
+    ensures { IfOk result (λ text. string_bytes text ≡ helping.reason_behind command word.now (map string_bytes words.now)) }
+{
+    match word.split_once('=') {
+        Some((name, value)) => named_reason(alloc, command, name, value),
+        None => bare_reason(alloc, command, words, word),
+    }
+}
+
+/// Why a word is the name of no command.
+fn no_command(alloc: Global, word: &str) -> Result<String, AllocError>
+    ensures { IfOk result (λ text. string_bytes text ≡ helping.no_command word.now) }
+{
+    if is_dashed(word) {
+        return String::from_str(alloc, "no words but --help and --version begin with a dash");
+    }
+    let nearest = nearest_command(alloc, word)?;
+    if nearest.is_empty() {
+        return String::from_str(alloc, "no command has this name; all commands: grib help");
+    }
+    joined(
+        alloc,
+        "no command has this name; nearest: ",
+        nearest,
+        "; all commands: grib help",
+        "",
+        "",
+        "",
+    )
+}
+
+/// Whether a word begins with a dash.
+fn is_dashed(word: &str) -> bool
+    ensures { result ≡ (get_or word.now 0 0 == 45) }
+{
+    matches!(word.as_bytes(), [b'-', ..])
+}
+
+/// Why a word without a `=` is not read.
+fn bare_reason(
+    alloc: Global,
+    command: Command,
+    words: &[String],
+    word: &str,
+) -> Result<String, AllocError>
+    ensures { IfOk result (λ text. string_bytes text ≡ helping.bare_reason command word.now (map string_bytes words.now)) }
+{
+    let told = command.name();
+    if is_dashed(word) {
+        return joined(
+            alloc,
+            "no word behind ",
+            told,
+            " begins with a dash; its words: grib help ",
+            told,
+            "",
+            "",
+        );
+    }
+    if knows(command, word) {
+        return joined(
+            alloc,
+            word,
+            " wants a value; write ",
+            word,
+            "=VALUE",
+            "",
+            "",
+        );
+    }
+    if !command.reads_input() {
+        return joined(
+            alloc,
+            told,
+            " reads no file; its words: grib help ",
+            told,
+            "",
+            "",
+            "",
+        );
+    }
+    joined(
+        alloc,
+        told,
+        " takes no file name; write grib ",
+        told,
+        others(words),
+        " < ",
+        word,
+    )
+}
+
+/// What stands for the words beside the command and the name of a file.
+fn others(words: &[String]) -> &'static str
+    ensures { result.now ≡ helping.others (map string_bytes words.now) }
+{
+    match words {
+        [_, _] => "",
+        _ => " ..",
+    }
+}
+
+/// Why a word with this name and this value is not read.
+fn named_reason(
+    alloc: Global,
+    command: Command,
+    name: &str,
+    value: &str,
+) -> Result<String, AllocError>
+    ensures { IfOk result (λ text. string_bytes text ≡ helping.named_reason command name.now value.now) }
+{
+    if takes(command, name, value) {
+        return joined(
+            alloc,
+            name,
+            "= stands before; each name stands once",
+            "",
+            "",
+            "",
+            "",
+        );
+    }
+    if knows(command, name) {
+        return joined(alloc, name, " is ", rule_of(command, name), "", "", "");
+    }
+    if takes_keys(command) {
+        key_reason(alloc, name)
+    } else {
+        name_reason(alloc, command, name, value)
+    }
+}
+
+/// Whether a command takes keys.
+fn takes_keys(command: Command) -> bool
+    ensures { result ≡ helping.takes_keys command }
+{
+    matches!(command, Command::Filter | Command::Set)
+}
+
+/// Why a name is not read that is that of no key, or of one that cannot be set.
+fn key_reason(alloc: Global, name: &str) -> Result<String, AllocError>
+    ensures { IfOk result (λ text. string_bytes text ≡ helping.key_reason name.now) }
+{
+    if is_key(name) {
+        return joined(
+            alloc,
+            name,
+            " is fixed, and cannot be set; all keys: grib help keys",
+            "",
+            "",
+            "",
+            "",
+        );
+    }
+    let nearest = nearest_key(alloc, name)?;
+    if nearest.is_empty() {
+        return String::from_str(alloc, "no key has this name; all keys: grib help keys");
+    }
+    joined(
+        alloc,
+        "no key has this name; nearest: ",
+        nearest,
+        "; all keys: grib help keys",
+        "",
+        "",
+        "",
+    )
+}
+
+/// Why a name is not read by a command that takes no keys.
+fn name_reason(
+    alloc: Global,
+    command: Command,
+    name: &str,
+    value: &str,
+) -> Result<String, AllocError>
+    ensures { IfOk result (λ text. string_bytes text ≡ helping.name_reason command name.now value.now) }
+{
+    let told = command.name();
+    if is_key(name) && command.reads_input() {
+        let word = joined(alloc, name, "=", value, "", "", "")?;
+        return joined(
+            alloc,
+            told,
+            " takes no key; write grib filter ",
+            word.as_str(),
+            " < FILE | grib ",
+            told,
+            "",
+        );
+    }
+    joined(
+        alloc,
+        told,
+        " has no ",
+        name,
+        "=; its words: grib help ",
+        told,
+        "",
+    )
+}
+
+/// Whether a command takes a name, with some value.
+fn knows(command: Command, name: &str) -> bool
+    ensures { result ≡ helping.knows command name.now }
+{
+    knows_own(command, name) || knows_policy(command, name)
+}
+
+/// Whether a name is that of what a run does with what it cannot answer.
+fn knows_policy(command: Command, name: &str) -> bool
+    ensures { result ≡ helping.knows_policy command name.now }
+{
+    match command {
+        Command::Make | Command::Help | Command::Version => false,
+        Command::Check | Command::List | Command::Keys | Command::Stats => name == "refused",
+        _ => matches!(name, "refused" | "kept"),
+    }
+}
+
+/// Whether a name is that of one of the command's own words.
+fn knows_own(command: Command, name: &str) -> bool
+    ensures { result ≡ helping.knows_own command name.now }
+{
+    match command {
+        Command::Dump => name == "decimals",
+        Command::Values => name == "as",
+        Command::Filter => asked_key(name).is_some(),
+        Command::Set => is_key_to_set(name),
+        Command::Split => name == "out",
+        Command::Repack => matches!(name, "to" | "order"),
+        Command::Migrate => matches!(name, "params" | "surfaces" | "local"),
+        Command::Demote => matches!(name, "params" | "local" | "earth" | "tables"),
+        Command::Crop => matches!(name, "i0" | "i1" | "j0" | "j1"),
+        Command::Make => matches!(name, "seed" | "ni" | "nj" | "to" | "order"),
+        Command::Check
+        | Command::List
+        | Command::Keys
+        | Command::Stats
+        | Command::Rescan
+        | Command::Help
+        | Command::Version => false,
+    }
+}
+
+/// What the value of a name is.
+fn rule_of(command: Command, name: &str) -> &'static str
+    ensures { result.now ≡ helping.rule_of command name.now }
+{
+    if matches!(name, "refused" | "kept") {
+        return policy_rule(command);
+    }
+    match command {
+        Command::Filter => {
+            "a value, a list as 1,2 or a range as 0..24; a value is a whole number without zeros before it, or missing"
+        }
+        Command::Set => "a whole number without zeros before it, as 98, 0 or -5, or missing",
+        Command::Repack => repack_rule(name),
+        Command::Migrate => migrate_rule(name),
+        _ => own_rule(name),
+    }
+}
+
+/// What the value of `refused` and `kept` is.
+fn policy_rule(command: Command) -> &'static str
+    ensures { result.now ≡ helping.policy_rule command }
+{
+    match command {
+        Command::Check
+        | Command::List
+        | Command::Keys
+        | Command::Stats
+        | Command::Dump
+        | Command::Values => "pass",
+        _ => "copy or pass",
+    }
+}
+
+/// What the value of a name of `repack` is.
+fn repack_rule(name: &str) -> &'static str
+    ensures { result.now ≡ helping.repack_rule name.now }
+{
+    match name {
+        "to" => "0, 2, 3 or least",
+        _ => own_rule(name),
+    }
+}
+
+/// What the value of a name of `migrate` is.
+fn migrate_rule(name: &str) -> &'static str
+    ensures { result.now ≡ helping.migrate_rule name.now }
+{
+    match name {
+        "local" => "keep or ecmwf",
+        _ => own_rule(name),
+    }
+}
+
+/// What the value of a command's own name is.
+fn own_rule(name: &str) -> &'static str
+    ensures { result.now ≡ helping.own_rule name.now }
+{
+    match name {
+        "decimals" => "a whole number from 0 to 18",
+        "as" => "f8 or f4",
+        "out" => "a name that the names of the files begin with",
+        "params" | "surfaces" => "the name of a file",
+        "to" => "0, 2 or 3",
+        "order" => "1 or 2",
+        "local" => "keep",
+        "earth" | "tables" => "any",
+        "seed" => "a whole number from 0 to 2147483647",
+        "ni" | "nj" => "a whole number from 1 to 4096",
+        _ => "a whole number from 0 to 33554431",
+    }
+}
