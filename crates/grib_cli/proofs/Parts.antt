@@ -1,5 +1,5 @@
 -- Words of a command line as lists, and their `=`.
-use Rattle.std.proofs.Common.{◌≡◌, ℕ, ◌+◌, Bool, true, false, cond, not, ◌||◌, Option, Some, None, option_map, List, [], ◌∷◌, length, map, refl, sym, ap, arith}
+use Rattle.std.proofs.Common.{◌≡◌, ◌<◌, ℕ, ◌+◌, Bool, true, false, cond, not, ◌||◌, Option, Some, None, option_map, List, [], ◌∷◌, length, map, refl, sym, ap, arith}
 use Rattle.std.specs.List.{list_any, position_or_len, filter_map}
 use Rattle.std.specs.Option.{option_and_then}
 use Rattle.std.proofs.lemmas.List.{drop_all}
@@ -26,6 +26,18 @@ no_place p (x ∷ xs) e = at_first (p x) (position_or_len p xs) (length xs) (lis
 -- a word whose first `=` is at its end has none
 pub lacks_equals : (word : List ℕ) → position_or_len is_equals word ≡ length word → has_equals word ≡ false
 lacks_equals word e = no_place is_equals word e
+
+within_first : (b : Bool) (n len : ℕ) (later : Bool) → cond (not b) (1 + n) 0 < 1 + len → (n < len → later ≡ true) → (b || later) ≡ true
+within_first true n len later e next = refl
+within_first false n len later e next = next (omega (arith, e))
+
+any_place : (p : ℕ → Bool) (xs : List ℕ) → position_or_len p xs < length xs → list_any p xs ≡ true
+any_place p [] e = absurd (omega (arith, e))
+any_place p (x ∷ xs) e = within_first (p x) (position_or_len p xs) (length xs) (list_any p xs) (omega (arith, e)) (any_place p xs)
+
+-- and one whose first `=` is before its end has one
+pub stands_equals : (word : List ℕ) → position_or_len is_equals word < length word → has_equals word ≡ true
+stands_equals word e = any_place is_equals word e
 
 pub unnamed : (name word : List ℕ) → position_or_len is_equals word ≡ length word → false ≡ is_named name word
 unnamed name word e = rw (lacks_equals word e) refl

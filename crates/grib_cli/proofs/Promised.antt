@@ -1,5 +1,5 @@
 -- What is promised of a run, from what serving it promises.
-use Rattle.std.proofs.Common.{◌≡◌, ◌≢◌, ◌⊎◌, ⊎_elim, inl, inr, Bool, true, false, cond, ◌&&◌, ◌==◌, ◌+◌, List, [], ◌∷◌, length, codes, ap, ℕ, Result, Ok, Err, IfOk, IfSome, Some, None, drop, refl, sym, ◌∙◌, subst}
+use Rattle.std.proofs.Common.{◌≡◌, ◌≢◌, ◌⊎◌, ⊎_elim, inl, inr, Bool, true, false, cond, ◌&&◌, ◌==◌, ◌+◌, List, [], ◌∷◌, length, codes, ap, ℕ, Result, Ok, Err, IfOk, IfSome, Some, None, drop, refl, sym, ◌∙◌, subst, rules, tests}
 use Rattle.std.specs.declared.option.Option.{Option}
 use Rattle.grib_io.specs.Shelves.{Held}
 use Rattle.grib_stream.specs.declared.outcome.Outcome.TheVariants as outcomes
@@ -38,6 +38,9 @@ no_word_of_help word = unread_by (has_equals word)
 none_read : (second : List ℕ) (later : List (List ℕ)) → read_count the.Help [] (second ∷ later) ≡ 0
 none_read second later = ap (λ read. cond read (read_count the.Help (second ∷ []) later) 0) (no_word_of_help second)
 
+more_than_none : (second : List ℕ) (later : List (List ℕ)) → (0 == length (second ∷ later)) ≡ false
+more_than_none second later = search (rules, tests)
+
 named_help : (word : List ℕ) → is_help word ≡ true → command_named word ≡ Some the.Help
 named_help word is =
     ⊎_elim (λ plain. ap command_named (same_text word (codes "help") plain)) (λ dashed. ap command_named (same_text word (codes "--help") dashed)) (either _ _ is)
@@ -49,6 +52,7 @@ asks_no_job (first ∷ []) on = cc
 asks_no_job (first ∷ second ∷ later) on =
     ap (λ command. job_of_reading (reading_of command (second ∷ later)) (second ∷ later)) (named_help first on)
     ∙ ap (λ count. job_of_reading (cond ((count == length (second ∷ later)) && true) (Ok the.Help) (Err (count + 1))) (second ∷ later)) (none_read second later)
+    ∙ ap (λ all. job_of_reading (cond (all && true) (Ok the.Help) (Err 1)) (second ∷ later)) (more_than_none second later)
 
 -- what they ask for is the work of their job
 pub plainly : (words : List (List ℕ)) (asked : Result Job JobFault) → is_on_words words ≡ false → job_of words ≡ asked → work_of words ≡ work_by asked

@@ -166,8 +166,12 @@ abbrev pub no_name : Command → List ℕ → List ℕ
 no_name command name =
     concat (name_of command ∷ codes " has no " ∷ name ∷ codes "=; its words: grib help " ∷ name_of command ∷ [])
 
+-- whether a name is that of a key, and the command one that reads messages
+abbrev pub is_filtered : Command → List ℕ → Bool
+is_filtered command name = is_key name && reads_input command
+
 abbrev pub name_reason : Command → List ℕ → List ℕ → List ℕ
-name_reason command name value = cond (is_key name && reads_input command) (by_filter command name value) (no_name command name)
+name_reason command name value = cond (is_filtered command name) (by_filter command name value) (no_name command name)
 
 -- whether a command takes keys
 abbrev pub takes_keys : Command → Bool

@@ -205,7 +205,7 @@ fn name_reason(
     ensures { IfOk result (λ text. string_bytes text ≡ helping.name_reason command name.now value.now) }
 {
     let told = command.name();
-    if is_key(name) && command.reads_input() {
+    if is_filtered(command, name) {
         let word = joined(alloc, name, "=", value, "", "", "")?;
         return joined(
             alloc,
@@ -226,6 +226,13 @@ fn name_reason(
         told,
         "",
     )
+}
+
+/// Whether a name is that of a key, and the command one that reads messages.
+fn is_filtered(command: Command, name: &str) -> bool
+    ensures { result ≡ helping.is_filtered command name.now }
+{
+    is_key(name) && command.reads_input()
 }
 
 /// Whether a command takes a name, with some value.

@@ -63,6 +63,7 @@ impl Command {
             Command::Keys => "keys",
             Command::Stats => "stats",
             Command::Dump => "dump",
+            Command::Values => "values",
             Command::Filter => "filter",
             Command::Split => "split",
             Command::Set => "set",

@@ -7,7 +7,11 @@ use Rattle.grib_cli.proofs.telling.tell_of.Goals as goal
 
 pub returns-in-Ok : goal.returns-in-Ok
 returns-in-Ok g c = λ policy.
-    subst (λ text. Serves (g.T.Sink.takes_memory || g.N.Sink.takes_memory) (Makes (writing text [])) policy c.tell.result _ _)
+    let before = seen g.S.Source.left g.S.Source.faults g.T.Sink.contents g.T.Sink.faults g.T.Sink.settled g.N.Sink.contents g.N.Sink.faults g.N.Sink.settled g.H.Shelf.contents g.H.Shelf.faults
+    c.args.input.now c.args.output.now c.args.notes.now c.args.shelf.now in
+    let now = seen g.S.Source.left g.S.Source.faults g.T.Sink.contents g.T.Sink.faults g.T.Sink.settled g.N.Sink.contents g.N.Sink.faults g.N.Sink.settled g.H.Shelf.contents g.H.Shelf.faults
+    c.args.input.now c.tell.new.output c.tell.new.notes c.args.shelf.now in
+    subst (λ text. Serves (g.T.Sink.takes_memory || g.N.Sink.takes_memory) (Makes (writing text [])) policy c.tell.result before now)
     (c.as_bytes.ensures.value ∙ c.in-Ok.ensures) (c.tell.ensures policy)
 
 pub returns-in-Err : goal.returns-in-Err
