@@ -1,5 +1,5 @@
 -- What is promised of a run, from what serving it promises.
-use Rattle.std.proofs.Common.{◌≡◌, ◌≢◌, ◌⊎◌, ⊎_elim, inl, inr, Bool, true, false, cond, ◌&&◌, ◌==◌, ◌+◌, List, [], ◌∷◌, length, codes, ap, ℕ, Result, Ok, Err, IfOk, IfSome, Some, None, drop, refl, sym, ◌∙◌, subst, rules, tests}
+use Rattle.std.proofs.Common.{◌≡◌, ◌⊎◌, ⊎_elim, inl, inr, Bool, true, false, cond, ◌&&◌, ◌==◌, ◌+◌, List, [], ◌∷◌, length, codes, ap, ℕ, Result, Ok, Err, IfOk, IfSome, Some, None, drop, refl, sym, ◌∙◌, subst, rules, tests}
 use Rattle.std.specs.declared.option.Option.{Option}
 use Rattle.grib_io.specs.Shelves.{Held}
 use Rattle.grib_stream.specs.declared.outcome.Outcome.TheVariants as outcomes

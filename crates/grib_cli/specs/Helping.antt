@@ -1,6 +1,6 @@
 -- What `help` tells of words: the text on a name, what a command line of the words would do, or the word at which it is at
 -- fault, and why. Where the fault is goes by the reading of the words.
-use Rattle.std.specs.Prelude.{ℕ, Bool, true, false, cond, not, ◌&&◌, ◌||◌, ◌==◌, nat_lt, ◌+◌, Option, Some, None, List, [], ◌∷◌, ◌++◌, length, map, get_or, take, drop, codes, Result, Ok, Err}
+use Rattle.std.specs.Prelude.{ℕ, Bool, true, false, cond, not, ◌&&◌, ◌||◌, ◌==◌, nat_lt, Option, Some, None, List, [], ◌∷◌, ◌++◌, length, map, get_or, codes, Result, Ok, Err}
 use Rattle.std.specs.List.{concat, fold, list_any}
 use Rattle.std.specs.Fmt.{decimal}
 use Rattle.grib_topics.specs.Topics.{told_of}

@@ -1,5 +1,5 @@
 -- What the words of a command line ask for: the job of the command, by the values of its words.
-use Rattle.std.specs.Prelude.{◌≡◌, ◌⊎◌, ℕ, ◌-◌, ◌^◌, Bool, true, false, cond, Option, Some, None, option_map, List, [], drop, codes, Result, Ok, Err, IfOk, IfSome}
+use Rattle.std.specs.Prelude.{◌≡◌, ◌⊎◌, ℕ, ◌-◌, ◌^◌, Bool, true, cond, Option, Some, None, option_map, List, [], drop, codes, Result, Ok, Err}
 use Rattle.std.specs.List.{filter_map}
 use Rattle.std.specs.Option.{option_and_then}
 use Rattle.grib_keys.specs.declared.key.Key.{Key}

@@ -1,4 +1,4 @@
-//! What `help` tells of words.
+//! What `help` tells of arguments.
 
 ghost use Rattle.std.specs.Prelude.{◌≡◌, ◌<◌, ◌++◌, cond, [], ◌∷◌, length, map, string_bytes, IfOk};
 ghost use Rattle.std.specs.List.{concat};
@@ -16,7 +16,7 @@ use grib_topics::{shown, told_of};
 use std::alloc::{AllocError, Global};
 use wants::wanted;
 
-/// Whether the words are `help` with others behind it, of which it tells.
+/// Whether the arguments are `help` with others after it, of which it tells.
 pub(crate) fn is_on_words(words: &[String]) -> bool
     ensures { result ≡ helping.is_on_words (map string_bytes words.now) }
 {
@@ -26,7 +26,7 @@ pub(crate) fn is_on_words(words: &[String]) -> bool
     }
 }
 
-/// Whether there are words.
+/// Whether there are arguments.
 fn has_any(words: &[String]) -> bool
     ensures { result ≡ helping.has_any (map string_bytes words.now) }
 {
@@ -36,15 +36,15 @@ fn has_any(words: &[String]) -> bool
     }
 }
 
-/// Whether a word names `help`.
+/// Whether an argument names `help`.
 fn is_help(word: &str) -> bool
     ensures { result ≡ helping.is_help word.now }
 {
     matches!(word, "help" | "--help")
 }
 
-/// What `help` tells of these words: the text on the one name, or what a command line of the words would do, or the
-/// word at which it is at fault, and why. The only error is that there is no memory.
+/// What `help` tells of these arguments: the text on the one name, or what a command line of the arguments would do, or the
+/// argument at which it is at fault, and why. The only error is that there is no memory.
 pub(crate) fn told_of_words(alloc: Global, words: &[String]) -> Result<String, AllocError>
     ensures { IfOk result (λ text. string_bytes text ≡ helping.told_of_words (map string_bytes words.now)) }
 {
@@ -77,7 +77,7 @@ fn told_of_alone(alloc: Global, name: &str, has_more: bool) -> Result<String, Al
     }
 }
 
-/// What a command line of these words would do, or the word at which it is at fault, and why.
+/// What a command line of these arguments would do, or the argument at which it is at fault, and why.
 fn judged(alloc: Global, words: &[String]) -> Result<String, AllocError>
     ensures { IfOk result (λ text. string_bytes text ≡ helping.judged (map string_bytes words.now)) }
 {
@@ -90,7 +90,7 @@ fn judged(alloc: Global, words: &[String]) -> Result<String, AllocError>
     }
 }
 
-/// The line on words that have no reading, by the place that this gives: at a word that is not read, or behind all.
+/// The line on arguments that have no reading, by the place that this gives: at an argument that is not read, or after all.
 fn judged_at(alloc: Global, words: &[String], place: u64) -> Result<String, AllocError>
     ensures { IfOk result (λ text. string_bytes text ≡ helping.judged_at place (map string_bytes words.now)) }
 {
@@ -101,7 +101,7 @@ fn judged_at(alloc: Global, words: &[String], place: u64) -> Result<String, Allo
     }
 }
 
-/// The line on words that do this.
+/// The line on arguments that do this.
 fn done_line(alloc: Global, words: &[String], deed: &str) -> Result<String, AllocError>
     ensures { IfOk result (λ text. string_bytes text ≡ helping.done_line deed.now (map string_bytes words.now)) }
 {
@@ -122,7 +122,7 @@ fn line(alloc: Global, text: &str) -> Result<String, AllocError>
     Ok(line)
 }
 
-/// The line on a word that is not read.
+/// The line on an argument that is not read.
 fn fault_line(alloc: Global, words: &[String], place: u64) -> Result<String, AllocError>
     requires { place < length words.now }
     ensures { IfOk result (λ text. string_bytes text ≡ helping.fault_line place (map string_bytes words.now)) }
@@ -142,7 +142,7 @@ fn fault_line(alloc: Global, words: &[String], place: u64) -> Result<String, All
     line(alloc, text.as_str())
 }
 
-/// The line on words of which all are read, and behind which one is wanted.
+/// The line on arguments of which all are read, and after which one is wanted.
 fn wanted_line(alloc: Global, words: &[String]) -> Result<String, AllocError>
     ensures { IfOk result (λ text. string_bytes text ≡ helping.wanted_line (map string_bytes words.now)) }
 {
@@ -163,7 +163,7 @@ fn wanted_line(alloc: Global, words: &[String]) -> Result<String, AllocError>
     }
 }
 
-/// The command that the first word names.
+/// The command that the first argument names.
 fn command_of(words: &[String]) -> Option<Command>
     ensures { result ≡ helping.command_of (map string_bytes words.now) }
 {
@@ -173,7 +173,7 @@ fn command_of(words: &[String]) -> Option<Command>
     }
 }
 
-/// The words, with a blank before each.
+/// The arguments, with a blank before each.
 fn spaced(alloc: Global, words: &[String]) -> Result<String, AllocError>
     ensures { IfOk result (λ text. string_bytes text ≡ helping.spaced (map string_bytes words.now)) }
 {
@@ -184,7 +184,7 @@ fn spaced(alloc: Global, words: &[String]) -> Result<String, AllocError>
     Ok(text)
 }
 
-/// Appends a blank and a word.
+/// Appends a blank and an argument.
 fn push_spaced(text: &mut String, word: &str) -> Result<(), AllocError>
     ensures { IfOk result (λ _. string_bytes text.new ≡ string_bytes text.old ++ helping.spaced_word word.now) }
 {
@@ -193,7 +193,7 @@ fn push_spaced(text: &mut String, word: &str) -> Result<(), AllocError>
     Ok(())
 }
 
-/// Six texts, one behind the other.
+/// Six texts, one after the other.
 fn joined(
     alloc: Global,
     first: &str,

@@ -1,4 +1,4 @@
-//! The top call of the command `grib`: from the words and the input to the output, the notes and the files.
+//! The top call of the command `grib`: from the arguments and the input to the output, the notes and the files.
 #![tactic(auto)]
 
 mod help;

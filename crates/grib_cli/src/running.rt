@@ -1,4 +1,4 @@
-//! The top call: from the words and the input to the output, the notes and the outcome.
+//! The top call: from the arguments and the input to the output, the notes and the outcome.
 
 ghost use Rattle.std.specs.Prelude.{◌≡◌, ◌||◌, false, map, string_bytes};
 ghost use Rattle.grib_cli.specs.Answers.{Answers};
@@ -15,10 +15,10 @@ use grib_io::{Shelf, Sink, Source};
 use grib_run_law::laws::{what_a_run_answers_is_in_the_grammar, what_a_run_leaves};
 use std::alloc::Global;
 
-/// Does what the words ask for with the messages of `input`, or without it: writes the answer to `output`
-/// and notes how the run ended. The answer is a function of the words, the input and, for `migrate` and `demote`,
+/// Does what the arguments ask for with the messages of `input`, or without it: writes the answer to `output`
+/// and notes how the run ended. The answer is a function of the arguments, the input and, for `migrate` and `demote`,
 /// the tables that stand on the shelf; it does not depend on how the input comes in pieces. `split`, `migrate` and
-/// `demote` alone use the shelf, and of these only `split` changes it. `help` with words behind it is answered by what
+/// `demote` alone use the shelf, and of these only `split` changes it. `help` with arguments after it is answered by what
 /// there is to tell of them, and asks for no job.
 pub fn run<S: Source, T: Sink, N: Sink, H: Shelf>(
     alloc: Global,

@@ -17,7 +17,7 @@ use grib_engine::{Outcome, close_with_note, end_without_memory};
 use grib_io::{Shelf, Sink, Source, Stop};
 use std::alloc::Global;
 
-/// Writes what `help` tells of these words, and ends the run without a note. Nothing is read.
+/// Writes what `help` tells of these arguments, and ends the run without a note. Nothing is read.
 pub(crate) fn tell_of<S: Source, T: Sink, N: Sink, H: Shelf>(
     alloc: Global,
     words: &[String],

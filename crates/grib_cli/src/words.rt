@@ -1,4 +1,4 @@
-//! The words of the command line.
+//! The arguments of the command line.
 
 ghost use Rattle.std.specs.Prelude.{◌≡◌, ◌≤◌, [], length, map, string_bytes, IfOk};
 ghost use Rattle.grib_command.specs.Jobs.{IsJob};
@@ -28,11 +28,11 @@ pub use policy::policy_of;
 use values::{is_between, key_value};
 pub(crate) use wanted::asked_key;
 
-/// Why the words ask for no job.
+/// Why the arguments ask for no job.
 #[derive(Clone, Copy, Debug, PartialEq, Eq, Error)]
 pub enum JobFault {
-    /// They have no reading: the place of the first word that is not read, from 0 for the command on, or
-    /// the number of words where one that is needed is missing.
+    /// They are not valid: the place of the first argument that is not, from 0 for the command on, or
+    /// the number of arguments where one that is needed is missing.
     #[error("usage word {0}")]
     Usage(u64),
     /// There is no memory.
@@ -48,7 +48,7 @@ impl From<AllocError> for JobFault {
     }
 }
 
-/// The job that the words ask for. It is one that there is. `help` with words behind it asks for none: `run` tells of
+/// The job that the arguments ask for. It is one that there is. `help` with arguments after it asks for none: `run` tells of
 /// them.
 pub fn job_of(alloc: Global, words: &[String]) -> Result<Job, JobFault>
     ensures asked { IsAsked result (map string_bytes words.now) }
@@ -60,8 +60,8 @@ pub fn job_of(alloc: Global, words: &[String]) -> Result<Job, JobFault>
     }
 }
 
-/// Reads the words of a command line: the command that they ask for. Where they ask for none, the place
-/// of the first word that is not read, from 0 for the command on, or the number of words where all are
+/// Reads the arguments of a command line: the command that they ask for. Where they ask for none, the place
+/// of the first argument that is not read, from 0 for the command on, or the number of arguments where all are
 /// read and one that is needed is missing.
 pub fn read_words(words: &[String]) -> Result<Command, u64>
     ensures { result ≡ reading (map string_bytes words.now) }
@@ -80,7 +80,7 @@ pub fn read_words(words: &[String]) -> Result<Command, u64>
     }
 }
 
-/// How many of the words behind the command are read, from the first on.
+/// How many of the arguments after the command are read, from the first on.
 fn read_count(command: Command, words: &[String]) -> usize
     ensures count { result ≡ grammar.read_count command [] (map string_bytes words.now) }
     ensures within { result ≤ length words.now }
@@ -93,8 +93,8 @@ fn read_count(command: Command, words: &[String]) -> usize
     words.len()
 }
 
-/// Whether a word behind these is read: it has a `=`, the command has its name with its value, and none
-/// of the earlier words has its name, unless several may have it.
+/// Whether an argument after these is read: it has a `=`, the command has its name with its value, and none
+/// of the earlier arguments has its name, unless several may have it.
 fn is_read(command: Command, earlier: &[String], word: &str) -> bool
     ensures { result ≡ grammar.is_read command (map string_bytes earlier.now) word.now }
 {
@@ -106,21 +106,21 @@ fn is_read(command: Command, earlier: &[String], word: &str) -> bool
     }
 }
 
-/// Whether several words may have this name: those of `filter` that ask of a key.
+/// Whether several arguments may have this name: those of `filter` that ask of a key.
 fn may_repeat(command: Command, name: &str) -> bool
     ensures { result ≡ grammar.may_repeat command name.now }
 {
     command == Command::Filter && asked_key(name).is_some()
 }
 
-/// Whether one of the words has this name.
+/// Whether one of the arguments has this name.
 pub(crate) fn has_name(words: &[String], name: &str) -> bool
     ensures { result ≡ grammar.has_name name.now (map string_bytes words.now) }
 {
     words.iter().any(|word| is_named(word.as_str(), name))
 }
 
-/// Whether a word has this name.
+/// Whether an argument has this name.
 fn is_named(word: &str, name: &str) -> bool
     ensures { result ≡ grammar.is_named name.now word.now }
 {
@@ -160,7 +160,7 @@ fn takes_policy(command: Command, name: &str, value: &str) -> bool
     }
 }
 
-/// Whether the names of a command's own words have a name with this value.
+/// Whether the names of a command's own arguments have a name with this value.
 fn takes_own(command: Command, name: &str, value: &str) -> bool
     ensures { result ≡ grammar.takes (own_entries command) name.now value.now }
 {
@@ -217,14 +217,14 @@ fn takes_target(name: &str, value: &str) -> bool
         || (name == "order" && matches!(value, "1" | "2"))
 }
 
-/// Whether the names of the sides of a box have a name with this value.
+/// Whether the names of the sides of a subarea have a name with this value.
 fn takes_side(name: &str, value: &str) -> bool
     ensures { result ≡ grammar.takes box_entries name.now value.now }
 {
     matches!(name, "i0" | "i1" | "j0" | "j1") && is_between(value, 0, 33_554_431)
 }
 
-/// Whether the names of the size and the contents of a made message have a name with this value.
+/// Whether the names of the size and the contents of a synthetic message have a name with this value.
 fn takes_size(name: &str, value: &str) -> bool
     ensures { result ≡ grammar.takes size_entries name.now value.now }
 {
@@ -233,7 +233,7 @@ fn takes_size(name: &str, value: &str) -> bool
         || (name == "nj" && is_between(value, 1, 4096))
 }
 
-/// Whether all names that the command needs are among the words, which are read.
+/// Whether all names that the command needs are among the arguments, which are read.
 fn is_complete(command: Command, words: &[String]) -> bool
     requires { grammar.read_count command [] (map string_bytes words.now) ≡ length words.now }
     ensures { result ≡ grammar.is_complete command (map string_bytes words.now) }
@@ -263,14 +263,14 @@ fn is_complete(command: Command, words: &[String]) -> bool
     }
 }
 
-/// Whether one of the words is on a key.
+/// Whether one of the arguments is on a key.
 fn has_key(words: &[String]) -> bool
     ensures { result ≡ grammar.has_key (map string_bytes words.now) }
 {
     words.iter().any(|word| is_on_key(word.as_str()))
 }
 
-/// Whether a word is on a key.
+/// Whether an argument is on a key.
 fn is_on_key(word: &str) -> bool
     ensures { result ≡ grammar.is_on_key word.now }
 {
@@ -280,14 +280,14 @@ fn is_on_key(word: &str) -> bool
     }
 }
 
-/// Whether one of the words asks of a key.
+/// Whether one of the arguments asks of a key.
 fn has_asking(words: &[String]) -> bool
     ensures { result ≡ grammar.has_asking (map string_bytes words.now) }
 {
     words.iter().any(|word| is_asking(word.as_str()))
 }
 
-/// Whether a word asks of a key.
+/// Whether an argument asks of a key.
 fn is_asking(word: &str) -> bool
     ensures { result ≡ grammar.is_asking word.now }
 {
@@ -297,14 +297,14 @@ fn is_asking(word: &str) -> bool
     }
 }
 
-/// Whether `to` is among the words, with `order` beside `to=3` and beside no other.
+/// Whether `to` is among the arguments, with `order` beside `to=3` and beside no other.
 fn has_target(words: &[String]) -> bool
     ensures { result ≡ grammar.has_target (map string_bytes words.now) }
 {
     has_name(words, "to") && has_name(words, "order") == has_word(words, "to=3")
 }
 
-/// Whether all sides of a box are among the words, which are read, and the last ones are not before the
+/// Whether all sides of a subarea are among the arguments, which are read, and the last ones are not before the
 /// first.
 fn has_box(words: &[String]) -> bool
     requires { grammar.read_count Crop [] (map string_bytes words.now) ≡ length words.now }
@@ -317,14 +317,14 @@ fn has_box(words: &[String]) -> bool
         && number_by(words, "j0") <= number_by(words, "j1")
 }
 
-/// Whether all sides of a box are among the words.
+/// Whether all sides of a subarea are among the arguments.
 fn has_sides(words: &[String]) -> bool
     ensures { result ≡ grammar.has_sides (map string_bytes words.now) }
 {
     has_name(words, "i0") && has_name(words, "i1") && has_name(words, "j0") && has_name(words, "j1")
 }
 
-/// Whether this is one of the words.
+/// Whether this is one of the arguments.
 pub(crate) fn has_word(words: &[String], whole: &str) -> bool
     ensures { result ≡ grammar.has_word whole.now (map string_bytes words.now) }
 {

@@ -5,7 +5,7 @@ ghost use Rattle.grib_cli.specs.Helping as helping;
 
 use crate::words::{Command, has_name, has_word};
 
-/// What a command with these words would do.
+/// What a command with these arguments would do.
 pub(super) fn deed_of(command: Command, words: &[String]) -> &'static str
     ensures { result.now ≡ helping.deed_of command (map string_bytes words.now) }
 {
@@ -33,7 +33,7 @@ pub(super) fn deed_of(command: Command, words: &[String]) -> &'static str
     }
 }
 
-/// What `dump` with these words would do.
+/// What `dump` with these arguments would do.
 fn dump_deed(words: &[String]) -> &'static str
     ensures { result.now ≡ helping.dump_deed (map string_bytes words.now) }
 {
@@ -44,7 +44,7 @@ fn dump_deed(words: &[String]) -> &'static str
     }
 }
 
-/// What `repack` with these words would do.
+/// What `repack` with these arguments would do.
 fn repack_deed(words: &[String]) -> &'static str
     ensures { result.now ≡ helping.repack_deed (map string_bytes words.now) }
 {

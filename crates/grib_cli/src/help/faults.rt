@@ -1,4 +1,4 @@
-//! Why a word is not read.
+//! Why an argument is not read.
 
 ghost use Rattle.std.specs.Prelude.{◌≡◌, ◌<◌, ◌==◌, get_or, length, map, string_bytes, IfOk};
 ghost use Rattle.grib_cli.specs.Helping as helping;
@@ -8,7 +8,7 @@ use crate::words::{Command, asked_key, is_key, is_key_to_set, takes};
 use grib_topics::{nearest_command, nearest_key};
 use std::alloc::{AllocError, Global};
 
-/// Why the word at this place is not read.
+/// Why the argument at this place is not read.
 pub(super) fn reason_at(alloc: Global, words: &[String], place: usize) -> Result<String, AllocError>
     requires { place < length words.now }
     ensures { IfOk result (λ text. string_bytes text ≡ helping.reason_at place (map string_bytes words.now)) }
@@ -20,7 +20,7 @@ pub(super) fn reason_at(alloc: Global, words: &[String], place: usize) -> Result
     }
 }
 
-/// Why a word behind a command is not read.
+/// Why an argument after a command is not read.
 fn reason_behind(
     alloc: Global,
     command: Command,
@@ -35,7 +35,7 @@ fn reason_behind(
     }
 }
 
-/// Why a word is the name of no command.
+/// Why an argument is the name of no command.
 fn no_command(alloc: Global, word: &str) -> Result<String, AllocError>
     ensures { IfOk result (λ text. string_bytes text ≡ helping.no_command word.now) }
 {
@@ -57,14 +57,14 @@ fn no_command(alloc: Global, word: &str) -> Result<String, AllocError>
     )
 }
 
-/// Whether a word begins with a dash.
+/// Whether an argument begins with a dash.
 fn is_dashed(word: &str) -> bool
     ensures { result ≡ (get_or word.now 0 0 == 45) }
 {
     matches!(word.as_bytes(), [b'-', ..])
 }
 
-/// Why a word without a `=` is not read.
+/// Why an argument without a `=` is not read.
 fn bare_reason(
     alloc: Global,
     command: Command,
@@ -118,7 +118,7 @@ fn bare_reason(
     )
 }
 
-/// What stands for the words beside the command and the name of a file.
+/// What stands for the arguments beside the command and the name of a file.
 fn others(words: &[String]) -> &'static str
     ensures { result.now ≡ helping.others (map string_bytes words.now) }
 {
@@ -128,7 +128,7 @@ fn others(words: &[String]) -> &'static str
     }
 }
 
-/// Why a word with this name and this value is not read.
+/// Why an argument with this name and this value is not read.
 fn named_reason(
     alloc: Global,
     command: Command,
@@ -253,7 +253,7 @@ fn knows_policy(command: Command, name: &str) -> bool
     }
 }
 
-/// Whether a name is that of one of the command's own words.
+/// Whether a name is that of one of the command's own arguments.
 fn knows_own(command: Command, name: &str) -> bool
     ensures { result ≡ helping.knows_own command name.now }
 {

@@ -1,4 +1,4 @@
-//! What is wanted behind words that are all read.
+//! What is wanted after arguments that are all read.
 
 ghost use Rattle.std.specs.Prelude.{◌≡◌, map, string_bytes, IfOk};
 ghost use Rattle.grib_cli.specs.Helping as helping;
@@ -7,7 +7,7 @@ use super::joined;
 use crate::words::{Command, has_name, has_word};
 use std::alloc::{AllocError, Global};
 
-/// What a command with these words wants beside them.
+/// What a command with these arguments wants beside them.
 pub(super) fn wanted(
     alloc: Global,
     command: Command,
@@ -49,7 +49,7 @@ fn order_wanted(words: &[String]) -> &'static str
     }
 }
 
-/// The names that none of the words has, or this where there is none of these.
+/// The names that none of the arguments has, or this where there is none of these.
 fn named_or(
     alloc: Global,
     words: &[String],
@@ -68,7 +68,7 @@ fn named_or(
     Ok(text)
 }
 
-/// A text with a name behind it that none of the words has.
+/// A text with a name after it that none of the arguments has.
 fn with_wanted(
     alloc: Global,
     words: &[String],

@@ -1,4 +1,4 @@
-//! The job of a command, by the values of its words.
+//! The job of a command, by the values of its arguments.
 
 ghost use Rattle.std.specs.Prelude.{◌≡◌, ◌-◌, ◌^◌, true, false, codes, map, string_bytes, Ok, IfOk};
 ghost use Rattle.grib_cli.specs.Reading as grammar;
@@ -18,7 +18,7 @@ use grib_nearest::Format;
 use grib_params::TableMatch;
 use std::alloc::{AllocError, Global};
 
-/// The job of a command with these words behind it, which it reads.
+/// The job of a command with these arguments after it, which it reads.
 pub(super) fn job_of_command(
     alloc: Global,
     command: Command,
@@ -97,7 +97,7 @@ fn local_of(words: &[String]) -> Local
     }
 }
 
-/// The changes of the words, in their order.
+/// The changes of the arguments, in their order.
 fn changes_of(alloc: Global, words: &[String]) -> Result<Vec<Change>, AllocError>
     ensures { IfOk result (λ v. v.items ≡ asked.changes_of (map string_bytes words.now)) }
 {
@@ -107,7 +107,7 @@ fn changes_of(alloc: Global, words: &[String]) -> Result<Vec<Change>, AllocError
         .collect(alloc)
 }
 
-/// The key of a word's name with the value that the word gives it, if there is such a key and it is a value.
+/// The key of an argument's name with the value that the argument gives it, if there is such a key and it is a value.
 fn change_of(word: &str) -> Option<Change>
     ensures { result ≡ asked.change_of word.now }
 {
@@ -117,14 +117,14 @@ fn change_of(word: &str) -> Option<Change>
     Some(Change { key, value })
 }
 
-/// The value of the word that has this name, as a name on a shelf.
+/// The value of the argument that has this name, as a name on a shelf.
 fn name_by(alloc: Global, words: &[String], name: &str) -> Result<Name, AllocError>
     ensures { IfOk result (λ found. found ≡ grammar.value_of name.now (map string_bytes words.now)) }
 {
     Ok(Name::of(String::from_str(alloc, value_of(words, name))?))
 }
 
-/// The value of the word that has this name, as a name on a shelf, where there is one.
+/// The value of the argument that has this name, as a name on a shelf, where there is one.
 fn name_if_given(alloc: Global, words: &[String], name: &str) -> Result<Option<Name>, AllocError>
     ensures { IfOk result (λ found. found ≡ grammar.value_if_given name.now (map string_bytes words.now)) }
 {
@@ -135,7 +135,7 @@ fn name_if_given(alloc: Global, words: &[String], name: &str) -> Result<Option<N
     }
 }
 
-/// The job of `repack` with these words.
+/// The job of `repack` with these arguments.
 fn repack_of(words: &[String]) -> Job
     requires { is (codes "least") (grammar.value_of (codes "to") (map string_bytes words.now)) ≡ false
         → is (codes "0") (grammar.value_of (codes "to") (map string_bytes words.now)) ≡ false
@@ -150,7 +150,7 @@ fn repack_of(words: &[String]) -> Job
     }
 }
 
-/// What the words ask fields to be packed to.
+/// What the arguments ask fields to be packed to.
 fn target_of(words: &[String]) -> RepackTarget
     requires { is (codes "0") (grammar.value_of (codes "to") (map string_bytes words.now)) ≡ false
         → is (codes "2") (grammar.value_of (codes "to") (map string_bytes words.now)) ≡ false
@@ -164,7 +164,7 @@ fn target_of(words: &[String]) -> RepackTarget
     }
 }
 
-/// The box whose sides the words give.
+/// The subarea whose sides the arguments give.
 fn area_of(words: &[String]) -> Area
     requires { asked.SidesStand (map string_bytes words.now) }
     ensures { result ≡ asked.area_of (map string_bytes words.now) }
@@ -177,7 +177,7 @@ fn area_of(words: &[String]) -> Area
     }
 }
 
-/// The number of the word that has this name.
+/// The number of the argument that has this name.
 pub(super) fn number_by(words: &[String], name: &str) -> u32
     requires { is_between 0 (2 ^ 32 - 1) (grammar.value_of name.now (map string_bytes words.now)) ≡ true }
     ensures { result ≡ grammar.number_of name.now (map string_bytes words.now) }
@@ -188,7 +188,7 @@ pub(super) fn number_by(words: &[String], name: &str) -> u32
     }
 }
 
-/// The number of the word that has this name, where there is one.
+/// The number of the argument that has this name, where there is one.
 fn number_if_given(words: &[String], name: &str) -> Option<u32>
     requires { grammar.has_name name.now (map string_bytes words.now) ≡ true
         → is_between 0 (2 ^ 32 - 1) (grammar.value_of name.now (map string_bytes words.now)) ≡ true }
@@ -201,7 +201,7 @@ fn number_if_given(words: &[String], name: &str) -> Option<u32>
     }
 }
 
-/// The value of the word that has this name, empty where none has it.
+/// The value of the argument that has this name, empty where none has it.
 fn value_of<'a>(words: &'a [String], name: &str) -> &'a str
     ensures { result.now ≡ grammar.value_of name.now (map string_bytes words.now) }
 {
@@ -211,7 +211,7 @@ fn value_of<'a>(words: &'a [String], name: &str) -> &'a str
     }
 }
 
-/// What stands behind the first `=` of a word.
+/// What stands after the first `=` of an argument.
 fn value_in(word: &str) -> &str
     ensures { result.now ≡ grammar.value_in word.now }
 {

@@ -1,4 +1,4 @@
-//! The values that a word of `filter` asks for.
+//! The values that an argument of `filter` asks for.
 
 ghost use Rattle.std.specs.Prelude.{◌≡◌, option_map, IfOk};
 ghost use Rattle.std.specs.List.{filter_map};
@@ -44,7 +44,7 @@ fn choice_of(text: &str) -> Option<Choice>
     }
 }
 
-/// What stands behind a `.` at the front of a text.
+/// What stands after a `.` at the front of a text.
 fn behind_dot(text: &str) -> Option<&str>
     ensures { option_map (λ rest. rest.now) result ≡ definitions.behind_dot text.now }
 {

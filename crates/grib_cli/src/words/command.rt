@@ -4,7 +4,7 @@ ghost use Rattle.std.specs.Prelude.{◌≡◌};
 ghost use Rattle.grib_cli.specs.Helping.{name_of, reads_input};
 ghost use Rattle.grib_cli.specs.Reading.{command_named};
 
-/// What a command line can ask for, by its first word.
+/// What a command line can ask for, by its first argument.
 #[derive(Clone, Copy, Debug, PartialEq, Eq)]
 pub enum Command {
     Check,

@@ -22,7 +22,7 @@ ghost use Rattle.grib_cli.specs.Helping.{is_empty, is_on_words, told_of_name, to
 ghost use Rattle.grib_cli.specs.Reading.{command_named, reading};
 ghost use Rattle.grib_cli.specs.Words.{change, change_of, wanted, wanted_of, conditions_of};
 
-/// Command lines that have no reading, with the place of the first word that is not read.
+/// Command lines that are not valid, with the place of the first argument that is not.
 pub fn unread_lines()
     ensures no_words { reading [] ≡ Err 0 }
     ensures no_command { reading (codes "pack" ∷ codes "to=0" ∷ []) ≡ Err 0 }
@@ -82,7 +82,7 @@ pub fn read_lines()
     ensures asked_not { reading (codes "filter" ∷ codes "kept=pass" ∷ codes "surface1Value!=missing" ∷ []) ≡ Ok Filter }
 {}
 
-/// What words of `filter` ask.
+/// What arguments of `filter` ask.
 pub fn wanted_words()
     ensures list { wanted_of (codes "surface1Value=50000,missing")
         ≡ Some (wanted false Surface1Value (One (Number (pos 50000)) ∷ One Missing ∷ [])) }
@@ -94,7 +94,7 @@ pub fn wanted_words()
     ensures three_dots { wanted_of (codes "forecastTime=0...6") ≡ None }
 {}
 
-/// A word that gives a key a value asks, as a condition, for this value.
+/// An argument that gives a key a value asks, as a condition, for this value.
 pub fn one_value_is_asked()
     ensures { (word : List ℕ) (c : Change) → change_of word ≡ Some c
         → wanted_of word ≡ Some (wanted false c.key (One c.value ∷ [])) }
@@ -105,8 +105,8 @@ pub fn help_has_a_line_on_each_command()
     ensures { (command : Command) → list_any (is_line_on command) help_lines ≡ true }
 {}
 
-/// A key with a value within 64 bits, as it is printed, is read as this key with this value. So each word that `keys`
-/// prints of a field behind its edition is read as a condition that the field fulfils: `filter` with the word picks
+/// A key with a value within 64 bits, as it is printed, is read as this key with this value. So each argument that `keys`
+/// prints of a field after its edition is read as a condition that the field fulfils: `filter` with the argument picks
 /// the field.
 pub fn printed_words_pick_their_field()
     ensures read { (key : Key) (value : Value) → IsWithin64 value
@@ -117,8 +117,8 @@ pub fn printed_words_pick_their_field()
         → fulfils_all message i (conditions_of (word_of (change key value) ∷ [])) ≡ true }
 {}
 
-/// Where words have no reading, what `help` tells of them names the word at fault, by the place that the reading of the
-/// words gives: the word itself in quotes, or, where all are read and one more is needed, the command. It is the text
+/// Where arguments have no reading, what `help` tells of them names the argument at fault, by the place that the reading of the
+/// arguments gives: the argument itself in quotes, or, where all are read and one more is needed, the command. It is the text
 /// on a name where that stands alone and has one.
 pub fn help_names_the_word_at_fault()
     ensures word { (words : List (List ℕ)) (place : ℕ) → is_empty (told_of_name words) ≡ true

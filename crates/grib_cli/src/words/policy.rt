@@ -1,4 +1,4 @@
-//! What the words ask the run to do with what it cannot answer.
+//! What the arguments ask the run to do with what it cannot answer.
 
 ghost use Rattle.std.specs.Prelude.{◌≡◌, map, string_bytes};
 ghost use Rattle.grib_cli.specs.Words as asked;
@@ -6,7 +6,7 @@ ghost use Rattle.grib_cli.specs.Words as asked;
 use super::has_word;
 use grib_items::{Instead, Policy};
 
-/// What the words ask to be written instead of octets that are refused, and instead of messages that are kept.
+/// What the arguments ask to be written instead of octets that are refused, and for messages that cannot be changed.
 pub fn policy_of(words: &[String]) -> Policy
     ensures { result ≡ asked.policy_of (map string_bytes words.now) }
 {
@@ -16,7 +16,7 @@ pub fn policy_of(words: &[String]) -> Policy
     }
 }
 
-/// What is written instead where one of these two is among the words.
+/// What is written instead where one of these two is among the arguments.
 fn instead_by(words: &[String], copied: &str, passed: &str) -> Option<Instead>
     ensures { result ≡ asked.instead_by copied.now passed.now (map string_bytes words.now) }
 {

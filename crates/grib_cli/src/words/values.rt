@@ -1,4 +1,4 @@
-//! The values of the words: numbers, and the values of keys.
+//! The values of the arguments: numbers, and the values of keys.
 
 ghost use Rattle.std.specs.Prelude.{◌≡◌, ◌<◌, ◌^◌, ◌&&◌, ◌==◌, get_or, drop, nat_lt, cond, Some, None};
 ghost use Rattle.grib_cli.specs.Values.{begins_from_one, is_number, number, is_between, from_zero, below_zero, signed_number, key_value};

@@ -1,4 +1,4 @@
-//! What the words of `filter` ask of keys.
+//! What the arguments of `filter` ask of keys.
 
 ghost use Rattle.std.specs.Prelude.{◌≡◌, map, string_bytes, IfOk};
 ghost use Rattle.grib_cli.specs.Reading as grammar;
@@ -8,7 +8,7 @@ use super::choices::choices_of;
 use grib_keys::{Choices, Key, Test, Wanted};
 use std::alloc::{AllocError, Global};
 
-/// The conditions of the words, in their order.
+/// The conditions of the arguments, in their order.
 pub fn conditions_of(alloc: Global, words: &[String]) -> Result<Vec<Wanted>, AllocError>
     ensures { IfOk result (λ v. v.items ≡ asked.conditions_of (map string_bytes words.now)) }
 {
@@ -21,7 +21,7 @@ pub fn conditions_of(alloc: Global, words: &[String]) -> Result<Vec<Wanted>, All
     Ok(conditions)
 }
 
-/// The key that a word asks of, with what it asks, if there is such a key and the word has such values.
+/// The key that an argument asks of, with what it asks, if there is such a key and the argument has such values.
 fn wanted_of(alloc: Global, word: &str) -> Result<Option<Wanted>, AllocError>
     ensures { IfOk result (λ found. found ≡ asked.wanted_of word.now) }
 {
@@ -56,14 +56,14 @@ pub fn asked_key(name: &str) -> Option<Key>
     Key::of(unmarked(name))
 }
 
-/// Whether a `!` stands behind a name: other values are asked for than those that follow.
+/// Whether a `!` stands after a name: other values are asked for than those that follow.
 fn is_marked(name: &str) -> bool
     ensures { result ≡ grammar.is_marked name.now }
 {
     matches!(name.as_bytes(), [.., b'!'])
 }
 
-/// A name without the `!` behind it.
+/// A name without the `!` after it.
 fn unmarked(name: &str) -> &str
     ensures { result.now ≡ grammar.unmarked name.now }
 {

@@ -1,4 +1,4 @@
-use Rattle.std.proofs.Common.{[], map, string_bytes, subst, ◌||◌, ◌∙◌, ap, sym}
+use Rattle.std.proofs.Common.{[], map, string_bytes, subst, ◌||◌, ◌∙◌}
 use Rattle.grib_run_spec.specs.Seen.{seen}
 use Rattle.grib_run_spec.specs.Serving.{Serves}
 use Rattle.grib_run_spec.specs.Tasks.{Makes, writing}

@@ -1,4 +1,4 @@
-use Rattle.std.proofs.Common.{◌≡◌, [], Some, get_or, map, string_bytes, sym, ap, ◌∙◌, rules, tests}
+use Rattle.std.proofs.Common.{◌≡◌, [], Some, map, string_bytes, sym, ap, ◌∙◌}
 use Rattle.std.proofs.lemmas.List.{get_or-map}
 use Rattle.grib_cli.specs.Helping.{command_of}
 use Rattle.grib_cli.proofs.help.faults.reason_at.Goals as goal
