@@ -48,6 +48,29 @@ fn points(alloc: Global, area: Area) -> Result<Vec<u8>, AllocError> {
     Ok(lines)
 }
 
+// The octets of the binary64 number nearest to the value of this scaled integer, (X - 949) / 80. It lies between -16 and
+// -8, so that its last digit is one of 2^-49, and is never half way between two of them.
+fn nearest(number: u8) -> [u8; 8] {
+    let twice = 949u64
+        .saturating_sub(u64::from(number))
+        .saturating_mul(1 << 46);
+    let digits = twice.saturating_add(5) / 10;
+    let octets = (0xc02 << 52) | (digits & 0xf_ffff_ffff_ffff);
+    octets.to_le_bytes()
+}
+
+// The array of a field of 20 rows and 300 columns.
+fn array(alloc: Global, area: Area) -> Result<Vec<u8>, AllocError> {
+    let mut octets = b"\x93NUMPY\x01\0\x76\0".to_vec(alloc)?;
+    octets.extend_from_slice(b"{'descr': '<f8', 'fortran_order': False, 'shape': (20, 300), }")?;
+    octets.resize(127, b' ')?;
+    octets.push(b'\n')?;
+    for number in area.numbers(alloc)?.iter() {
+        octets.extend_from_slice(&nearest(*number))?;
+    }
+    Ok(octets)
+}
+
 #[test]
 fn large_messages_are_checked(rt: HostRuntime) -> Result<(), Fail> {
     // Sections 0, 1 and 3, five times Sections 4 to 7 of 34, 21, 6 and 120,005 octets, and the end.
@@ -79,6 +102,16 @@ fn points_of_many_fields_are_dumped(rt: HostRuntime) -> Result<(), Fail> {
     let lines = lines(rt.alloc(), 6_000, points.as_slice())?;
     let dumped = ran(rt.alloc(), "dump", octets.as_slice())?;
     assert!(rt; dumped.gave(Outcome::Done, lines.as_slice(), ""));
+    Ok(())
+}
+
+#[test]
+fn values_of_many_fields_are_arrays(rt: HostRuntime) -> Result<(), Fail> {
+    let octets = five_times(rt.alloc(), message(rt.alloc(), SMALL, &HOURS)?.as_slice())?;
+    let fields = five_times(rt.alloc(), array(rt.alloc(), SMALL)?.as_slice())?;
+    let arrays = five_times(rt.alloc(), fields.as_slice())?;
+    let written = ran(rt.alloc(), "values", octets.as_slice())?;
+    assert!(rt; written.gave(Outcome::Done, arrays.as_slice(), ""));
     Ok(())
 }
 
