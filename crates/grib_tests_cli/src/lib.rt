@@ -3,8 +3,6 @@
 #![tactic(auto)]
 
 #[cfg(test)]
-mod arrays;
-#[cfg(test)]
 mod editions;
 #[cfg(test)]
 mod heard;
@@ -14,7 +12,5 @@ mod helped;
 mod pages;
 #[cfg(test)]
 mod runs;
-#[cfg(test)]
-mod valued;
 #[cfg(test)]
 mod words;

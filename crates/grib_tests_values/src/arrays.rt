@@ -4,7 +4,7 @@
 use grib_engine::Outcome;
 use grib_samples::{
     FIRST_EDITION, FOUR_NUMBERS, FOUR_VALUES, GRID, IDENTIFICATION, MASKED, NO_BITMAP, PLAIN,
-    PRODUCT, REDUCED, TWO_FIELDS, edited, message_of, put,
+    PRODUCT, REDUCED, TWO_FIELDS, between, edited, message_of, put,
 };
 use grib_test_runs::{CALM, Failing, run_over};
 use std::alloc::{AllocError, Global};
@@ -240,7 +240,8 @@ fn each_write_of_an_array_may_fail(rt: HostRuntime) -> Result<(), Fail> {
     for (output, from) in [(1, 0), (2, 50), (3, 100), (4, 150)] {
         let failing = Failing { output, ..CALM };
         let ran = run_over(rt.alloc(), "values", &PLAIN, 50, failing)?;
-        assert!(rt; ran.gave(Outcome::WriteFault, &whole[..from], ""));
+        let front = between(whole.as_slice(), 0, from);
+        assert!(rt; ran.gave(Outcome::WriteFault, front, ""));
     }
     Ok(())
 }
@@ -271,13 +272,6 @@ fn what_is_refused_may_be_passed(rt: HostRuntime) -> Result<(), Fail> {
     Ok(())
 }
 
-// The octets of eight from a point on, counted from 1.
-fn word_of(octets: &[u8], point: usize) -> &[u8]
-    requires { point < 100_000 }
-{
-    octets.get(120 + 8 * point..128 + 8 * point).unwrap_or(&[])
-}
-
 #[test]
 fn a_large_field_has_all_its_values(rt: HostRuntime) -> Result<(), Fail> {
     let made = run_over(
@@ -295,14 +289,14 @@ fn a_large_field_has_all_its_values(rt: HostRuntime) -> Result<(), Fail> {
     assert!(rt; output.len() == 720_128);
     let header = array(rt.alloc(), "<f8", "(300, 300)", b"")?;
     assert!(rt; output.starts_with(header.as_slice()));
-    for (point, word) in [
-        (1, b"\0\0\0\0\0\0\x46\x40"),
-        (2, b"\0\0\0\0\0\x80\x53\x40"),
-        (96, b"\0\0\0\0\0\0\xf8\x7f"),
-        (89_998, b"\0\0\0\0\0\x08\xb5\x40"),
-        (90_000, b"\0\0\0\0\0\xba\xb5\x40"),
+    for (from, to, word) in [
+        (128, 136, b"\0\0\0\0\0\0\x46\x40"),
+        (136, 144, b"\0\0\0\0\0\x80\x53\x40"),
+        (888, 896, b"\0\0\0\0\0\0\xf8\x7f"),
+        (720_104, 720_112, b"\0\0\0\0\0\x08\xb5\x40"),
+        (720_120, 720_128, b"\0\0\0\0\0\xba\xb5\x40"),
     ] {
-        assert!(rt; word_of(output, point) == word.as_slice());
+        assert!(rt; between(output, from, to) == word.as_slice());
     }
     Ok(())
 }
