@@ -74,7 +74,7 @@ bitmap_none m w = bitmap_none_by m (has_bitmap m) refl w
 
 -- ---- the whole message
 
--- the refusal from the end mark on, from Section 4, Section 3 and Section 2 on
+-- the refusal from the End Section on, from Section 4, Section 3 and Section 2 on
 abbrev pub from_end : List ℕ → Unit {0} → Option Fault
 from_end m u = first_fault (end_rows m (end_start m))
 
@@ -171,7 +171,7 @@ inside_by m n q least rows low some w fits = record {
 pub record PartsInside (n : ℕ) (m : List ℕ) : Type 0 where
   pub before : BitmapInside n m
   pub fourth : Inside n m (data_start m)
-  -- the end mark is behind Section 4, and ends where the message does
+  -- the End Section is behind Section 4, and ends where the message does
   pub low : 1 ≤ end_start m
   pub whole : end_start m + 3 ≡ total_length_1 m
 

@@ -1,7 +1,7 @@
 -- Which octets are a message of edition 1, and why others are refused (WMO-No. 306, Volume I.2, FM 92
 -- GRIB edition 1, in the profile of docs/PROFILE.md): the rows of Section 0, then, for each section in
--- turn, the rows of its frame and its own, then those of the end mark. The first row that fails gives the
--- refusal.
+-- turn, the rows of its frame and its own, then those of the End Section. The first row that fails
+-- gives the refusal.
 use Rattle.std.specs.Prelude.{ℕ, Bool, cond, Option, Some, None, List}
 use Rattle.grib_base.specs.declared.fault.Fault.{Fault}
 use Rattle.grib_base.specs.Rows.{Row, first_fault, first_fault_at, choose}
@@ -14,7 +14,8 @@ use Rattle.grib1_sections.specs.Grid.{grid_rows, grid_points}
 use Rattle.grib1_sections.specs.Bitmap.{bitmap_rows, mask_of}
 use Rattle.grib1_sections.specs.Data.{data_rows}
 
--- Where the sections begin: Section 1 at octet 9, each other one and the end mark behind the one before.
+-- Where the sections begin: Section 1 at octet 9, each other one and the End Section behind the one
+-- before.
 abbrev pub identification : List ℕ → List ℕ
 identification message = section_at message 9
 

@@ -27,7 +27,7 @@ section_at message q = octet_list message q (q - 1 + octets message q (q + 2))
 abbrev pub after : List ℕ → ℕ → ℕ
 after message q = q + octets message q (q + 2)
 
--- rows B5.1 to B5.3, of the end mark at octet q
+-- rows B5.1 to B5.3, of the End Section at octet q
 abbrev pub end_rows : List ℕ → ℕ → List Row
 end_rows message q =
     let k = length message in

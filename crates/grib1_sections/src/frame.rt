@@ -1,4 +1,4 @@
-//! Sections one after another, and the end mark.
+//! Sections one after another, and the End Section.
 
 ghost use Rattle.std.specs.Prelude.{◌≡◌, ◌+◌, ◌-◌, ◌≤◌, ◌<◌, ◌^◌, length, Some, None, MatchResult};
 ghost use Rattle.grib_base.specs.Rows as rows;
@@ -10,7 +10,7 @@ ghost use Rattle.grib1_sections.specs.Known.{Stands};
 use grib_base::{Fault, Reason};
 use grib_bits::{u32_at, uint_at};
 
-/// The end mark `7777` as a number.
+/// The End Section, `7777`, as a number.
 const END_MARK: u32 = 0x37373737;
 
 /// A section, and the octet of the message at which it begins.
@@ -74,7 +74,8 @@ pub(crate) fn section_from<'a>(
     })
 }
 
-/// Tries the rows of the end mark, which is to begin at octet `start` of a message of `total` octets.
+/// Tries the rows of the End Section, which is to begin at octet `start` of a message of `total`
+/// octets.
 pub(crate) fn check_end(octets: &[u8], total: u64, start: usize) -> Result<(), Fault>
     requires counted { 1 ≤ start }
     requires within { start ≤ length octets.now + 1 }

@@ -1,4 +1,5 @@
--- No row on the length, the number or the contents of a section, or on an end mark, says that the octets end too early.
+-- No row on the length, the number or the contents of a section, or on an End Section, says that
+-- the octets end too early.
 use Rattle.std.proofs.Common.{◌≡◌, ◌≢◌, ℕ, zero, suc, Bool, true, false, cond, Option, Some, None, List, [], ◌∷◌, length, get_or, ◌==◌, ◌+◌, ap, ◌∙◌}
 use Rattle.grib_base.specs.declared.profile.Profile.{Profile}
 use Rattle.grib_base.specs.declared.profile.Profile.TheVariants.{Stated, Open}

@@ -38,7 +38,7 @@ abbrev pub StopsUnder : Profile → List ℕ → ReadFault → Type 0
 StopsUnder profile octets (Refused fault) = (verdict_under profile octets ≡ verdicts.Refused fault) × (fault.reason ≢ Truncated)
 StopsUnder profile octets Memory = Unit {0}
 
--- what stands where the next section or the end mark is to come
+-- what stands where the next section or the End Section is to come
 abbrev pub step_of : List ℕ → Kept → Step
 step_of octets kept = step octets kept.frame.total kept.frame.last kept.frame.place
 
@@ -50,13 +50,14 @@ pending octets kept = drop (kept.frame.place - 1) octets
 abbrev pub mark : ℕ
 mark = 926365495
 
--- a section that is no Section 7, or an end mark, that is not whole: more octets are wanted
+-- a section that is no Section 7, or an End Section, that is not whole: more octets are wanted
 pub record IsUnfinished (gathered : List ℕ) : Type 0 where
   pub goes : 4 ≤ length gathered → number_at gathered 1 4 ≢ mark
   pub wants : 5 ≤ length gathered → length gathered < number_at gathered 1 4
   pub other : 5 ≤ length gathered → number_at gathered 5 5 ≢ 7
 
--- no more than one section or one end mark, and of a Section 7 no more than its length and its number
+-- no more than one section or one End Section, and of a Section 7 no more than its length and its
+-- number
 pub record IsOne (gathered : List ℕ) : Type 0 where
   pub goes : 5 ≤ length gathered → number_at gathered 1 4 ≢ mark
   pub within : 6 ≤ length gathered → length gathered ≤ number_at gathered 1 4
@@ -70,7 +71,7 @@ pub record BeginsHeard (profile : Profile) (beginning : Beginning) (octets : Lis
   pub begins : BeginsLikeTwo octets
   pub under : beginning.profile ≡ profile
 
--- These octets of the next section or of the end mark came, and it is not whole.
+-- These octets of the next section or of the End Section came, and it is not whole.
 pub record GathersHeard (profile : Profile) (kept : Kept) (gathered : List ℕ) (octets : List ℕ) : Type 0 where
   pub before : List Placed
   pub stands : Stands profile octets before kept
@@ -99,7 +100,7 @@ pub record FeedsHeard (profile : Profile) (kept : Kept) (l : ℕ) (feed : Data) 
   pub agrees : DataAgrees (octets_in_force 5 before) kept.frame.place l (drop 5 (pending octets kept)) feed
   pub wants : length (pending octets kept) < l
 
--- The end mark came.
+-- The End Section came.
 pub record EndedHeard (profile : Profile) (kept : Kept) (octets : List ℕ) : Type 0 where
   pub before : List Placed
   pub stands : Stands profile octets before kept
@@ -117,14 +118,14 @@ StateHeard profile (Some (Ended kept)) octets = EndedHeard profile kept octets
 abbrev pub HeardUnder : Profile → Arrival → List ℕ → Type 0
 HeardUnder profile arrival octets = StateHeard profile arrival.state octets
 
--- the end mark did not come
+-- the End Section did not come
 abbrev pub IsOpen : State → Type 0
 IsOpen (Begins beginning) = Unit {0}
 IsOpen (Gathers kept gathered) = Unit {0}
 IsOpen (Feeds kept gathered l feed) = Unit {0}
 IsOpen (Ended kept) = ⊥
 
--- it is live, and the end mark did not come
+-- it is live, and the End Section did not come
 abbrev pub IsListening : Option State → Type 0
 IsListening None = ⊥
 IsListening (Some state) = IsOpen state

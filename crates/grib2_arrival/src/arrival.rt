@@ -79,7 +79,7 @@ impl Arrival {
         Ok(count)
     }
 
-    /// Whether the end mark came, or nothing is taken any more.
+    /// Whether the End Section came, or nothing is taken any more.
     fn is_ended(&self) -> bool
         ensures listens { result ≡ false → IsListening self.now.state }
         ensures ended { IsTrue result → IsListening self.now.state → ⊥ }

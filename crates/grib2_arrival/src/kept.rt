@@ -18,7 +18,7 @@ use std::alloc::Global;
 /// What is kept of Section 0 and of the sections that are whole.
 #[derive(Debug, Drop)]
 pub(crate) struct Kept {
-    /// Where the next section or the end mark begins.
+    /// Where the next section or the End Section begins.
     pub frame: Frame,
     /// What the sections have in force.
     pub force: InForce,

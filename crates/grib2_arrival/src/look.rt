@@ -1,4 +1,4 @@
-//! What stands where the next section or the end mark is to come.
+//! What stands where the next section or the End Section is to come.
 
 ghost use Rattle.std.specs.Prelude.{◌≡◌, ◌≢◌, ℕ, ◌≤◌, ◌++◌, List, length as length_of, MatchResult};
 ghost use Rattle.grib_base.specs.declared.fault.Reason.TheVariants.{Truncated};
@@ -11,12 +11,12 @@ use crate::kept::Kept;
 use grib_base::Fault;
 use grib_bits::{u8_at, u32_at};
 
-/// What was gathered of the next section or of the end mark.
+/// What was gathered of the next section or of the End Section.
 #[derive(Clone, Copy, Debug, PartialEq, Eq)]
 pub(crate) enum Look {
     /// It is not whole.
     More,
-    /// It is the end mark.
+    /// It is the End Section.
     Ends,
     /// It is a whole section, of a number from 1 to 6.
     Section,
@@ -25,7 +25,7 @@ pub(crate) enum Look {
 }
 
 impl Kept {
-    /// What was gathered of the next section or of the end mark.
+    /// What was gathered of the next section or of the End Section.
     ///
     /// # Errors
     ///

@@ -26,11 +26,11 @@ use std::alloc::Global;
 pub(crate) enum State {
     /// Section 0 is not whole.
     Begins(Beginning),
-    /// What came of the next section or of the end mark, which is not whole, is gathered.
+    /// What came of the next section or of the End Section, which is not whole, is gathered.
     Gathers(Kept, Vec<u8>),
     /// The rows of a Section 7 of this many octets are tried as they come; nothing is gathered.
     Feeds(Kept, Vec<u8>, u32, Data),
-    /// The end mark came.
+    /// The End Section came.
     Ended(Kept),
 }
 
@@ -59,7 +59,7 @@ impl State {
         }
     }
 
-    /// What describes the fields, once the end mark came.
+    /// What describes the fields, once the End Section came.
     pub fn summaries(&self) -> &[FieldSummary]
         ensures { (kept : Kept) → self.now ≡ Ended kept → result.now ≡ kept.summaries.items }
     {
@@ -86,7 +86,7 @@ impl State {
     }
 }
 
-/// Gathers the next octets, no more than one section or the end mark needs, and says how many.
+/// Gathers the next octets, no more than one section or the End Section needs, and says how many.
 fn gather(
     alloc: Global,
     kept: Kept,

@@ -72,7 +72,7 @@ ahead_next profile m at next_at start s left h e is next_is =
       shorter = omega (arith, o.way.within, o.way.longest);
     })
 
--- none at the end mark
+-- none at the End Section
 pub ahead_end : (profile : Profile) (m : List ℕ) (at : Position) (left : List Placed) → Ahead profile m at left → step_from m at ≡ End → left ≡ []
 ahead_end profile m at left h e =
     let told = tells_end (first_fault (mark_rows m at.total at.last at.place)) (ends_at m at.place) (first_fault (frame_rows m at.total at.last at.place)) (section_at m at.place) e in
@@ -200,7 +200,7 @@ module _ (profile : Profile) (m : List ℕ) (packed : List Packed) (at next_at :
         same = ap (λ (xs : List ℕ). xs ++ others) new_is ∙ append_assoc out put others ∙ ap (λ (xs : List ℕ). out ++ xs) (sym first) ∙ h.same;
       })
 
--- at the end mark
+-- at the End Section
 pub counting_end : (profile : Profile) (m : List ℕ) (packed : List Packed) (at : Position) (parts : List Packed) (total : ℕ) → Counting profile m packed at parts total → step_from m at ≡ End
     → total ≡ length (assembled m packed)
 counting_end profile m packed at parts total h e =

@@ -1,4 +1,4 @@
--- Sections one after another, and the end mark, are accepted by the walk.
+-- Sections one after another, and the End Section, are accepted by the walk.
 use Rattle.std.proofs.Common.{◌≡◌, ℕ, zero, suc, ◌+◌, ◌-◌, ◌<◌, ◌≤◌, true, false, not, IsTrue, None, List, [], ◌∷◌, ◌++◌, length, take, drop, nat_lt, ◌==◌, refl, ap, sym, ◌∙◌, arith, append_assoc, length-drop, length-append, drop-drop, take_at, drop_at, le-ltb, eq-eqb, ne_eqb}
 use Rattle.std.specs.List.{concat}
 use Rattle.std.proofs.lemmas.Bool.{and_left, and_right, or_from, not_from_true}
@@ -16,25 +16,26 @@ use Rattle.grib2_message.proofs.Passed.{AllPass, none_from_passes, mark_ends, ma
 use Rattle.grib2_message.proofs.Parts.{from, four_at, fifth_at, section_is}
 use Rattle.grib2_message.proofs.Steps.{here, after_section, at_contents, at_section, walk_is}
 
--- sections, the end mark and whatever comes after stand from octet q on, and end with octet `total`
+-- sections, the End Section and whatever comes after stand from octet q on, and end with octet
+-- `total`
 pub record Stand (m : List ℕ) (q total : ℕ) (sections : List (List ℕ)) (after : List ℕ) : Type 0 where
   pub joined : from q m ≡ (concat sections ++ end_mark) ++ after
   pub low : 1 ≤ q
   pub ends : q + length (concat sections) + 3 ≡ total
   pub most : total ≤ 268435456
 
--- the first section, the others, the end mark and what comes after it
+-- the first section, the others, the End Section and what comes after it
 apart : (s body after : List ℕ) → ((s ++ body) ++ end_mark) ++ after ≡ s ++ ((body ++ end_mark) ++ after)
 apart s body after = simp append_assoc
 
--- the message has the octets up to its end mark
+-- the message has the octets up to its End Section
 long_enough : (m : List ℕ) (q total : ℕ) (sections : List (List ℕ)) (after : List ℕ) → Stand m q total sections after → total ≤ length m
 long_enough m q total sections after h =
     let e : length (from q m) ≡ (length (concat sections) + 4) + length after =
     ap length h.joined ∙ (length-append (concat sections ++ end_mark) after ∙ ap (λ n. n + length after) (length-append (concat sections) end_mark)) in
     omega (arith, h.low, h.ends, length-drop (q - 1) m, e)
 
--- where no section is left, the end mark stands at q
+-- where no section is left, the End Section stands at q
 pub ends_here : (m : List ℕ) (q total : ℕ) (after : List ℕ) → Stand m q total [] after → ends_at m q ≡ true
 ends_here m q total after h =
     eq-eqb (octets m q (q + 3)) 926365495 (ap (num_on 0) (four_at m q) ∙ ap (λ xs. num_on 0 (take 4 xs)) h.joined)
@@ -90,7 +91,7 @@ begins m q total s sections after length_stands least h =
       };
     }
 
--- the rows of a mark pass where no end mark stands, before the end
+-- the rows of a mark pass where no End Section stands, before the end
 pub goes_pass : (m : List ℕ) (total last q : ℕ) → ends_at m q ≡ false → q + 3 < total → total ≤ length m
     → AllPass (mark_rows m total last q)
 goes_pass m total last q goes before_end long = (
@@ -132,7 +133,7 @@ goes_on profile turns m before q goes marks frame contents =
     ∙ (unless_none (first_fault (frame_rows m (total_length m) (last_number before) q)) (λ _. at_contents profile turns m before q) framed
     ∙ unless_none (section_fault_under profile before (here m q)) (λ _. after_section profile turns m before q) contents)
 
--- the walk ends at the end mark
+-- the walk ends at the End Section
 pub stops : (profile : Profile) (turns : ℕ) (m : List ℕ) (before : List Placed) (q : ℕ) → ends_at m q ≡ true
     → AllPass (mark_rows m (total_length m) (last_number before) q) → verdict_from profile (suc turns) m before q ≡ Accepted (total_length m)
 stops profile turns m before q ends marks =

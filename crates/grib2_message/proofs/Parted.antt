@@ -1,4 +1,5 @@
--- An accepted message is Section 0, its sections, each where the grammar lets it stand, and the end mark.
+-- An accepted message is Section 0, its sections, each where the grammar lets it stand, and the End
+-- Section.
 use Rattle.std.proofs.Common.{◌≡◌, ◌≢◌, ℕ, zero, suc, ◌+◌, ◌≤◌, false, List, [], ◌∷◌, ◌++◌, length, take, inl, inr, sym, ap, ◌∙◌, arith, append_assoc, length-append, take_at}
 use Rattle.std.proofs.lemmas.List.{take-append-le}
 use Rattle.std.specs.List.{concat}
@@ -87,7 +88,7 @@ message_least profile m h =
     let p = head_passes m (second_edition profile m h) (passes_from_none (head_rows m) told.0) in
     omega (arith, p.least, message_states profile m h)
 
--- Section 0, sections that may follow one another, and the end mark are in the grammar
+-- Section 0, sections that may follow one another, and the End Section are in the grammar
 pub joined_grammar : (profile : Profile) (head : List ℕ) (sections : List (List ℕ)) → IsHead head (16 + length (concat sections) + 4) → 16 + length (concat sections) + 4 ≤ 268435456
     → AreSections profile [] 17 sections → GrammarUnder profile (head ++ (concat sections ++ end_mark)) sections
 joined_grammar profile head sections h most follow =

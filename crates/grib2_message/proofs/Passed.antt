@@ -42,7 +42,7 @@ unless_tells None next total e = (refl, e)
 abbrev pub at_mark : Option Fault → Bool → ℕ → (Unit {0} → Verdict) → Verdict
 at_mark fault ends total next = unless_refused fault (λ _. choose ends (λ _. Accepted total) next)
 
--- an end mark ends what is accepted; elsewhere what comes after is accepted
+-- an End Section ends what is accepted; elsewhere what comes after is accepted
 pub mark_tells : (fault : Option Fault) (ends : Bool) (stated : ℕ) (next : Unit {0} → Verdict) (total : ℕ)
     → at_mark fault ends stated next ≡ Accepted total
     → (fault ≡ None) × (((ends ≡ true) × (stated ≡ total)) ⊎ ((ends ≡ false) × (next tt ≡ Accepted total)))
@@ -54,12 +54,12 @@ mark_tells None false stated next total e = (refl, inr (refl, e))
 pub unless_none : (fault : Option Fault) (next : Unit {0} → Verdict) → fault ≡ None → unless_refused fault next ≡ next tt
 unless_none fault next e = rw e
 
--- an end mark that is not refused is accepted
+-- an End Section that is not refused is accepted
 pub mark_ends : (fault : Option Fault) (ends : Bool) (stated : ℕ) (next : Unit {0} → Verdict)
     → fault ≡ None → ends ≡ true → at_mark fault ends stated next ≡ Accepted stated
 mark_ends fault ends stated next e on = rw (e, on)
 
--- where no end mark stands and nothing is refused, what comes after is the verdict
+-- where no End Section stands and nothing is refused, what comes after is the verdict
 pub mark_goes : (fault : Option Fault) (ends : Bool) (stated : ℕ) (next : Unit {0} → Verdict)
     → fault ≡ None → ends ≡ false → at_mark fault ends stated next ≡ next tt
 mark_goes fault ends stated next e off = rw (e, off)

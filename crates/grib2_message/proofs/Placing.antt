@@ -18,7 +18,7 @@ pub octets_placed : (q : ℕ) (sections : List (List ℕ)) → map (λ s. s.octe
 octets_placed q [] = refl
 octets_placed q (s ∷ sections) = ap (λ xs. s ∷ xs) (octets_placed (q + length s) sections)
 
--- no section is found where the end mark stands
+-- no section is found where the End Section stands
 pub none_found : (ends : Bool) (later : Unit {0} → List Placed) → ends ≡ true → choose ends (λ _. []) later ≡ []
 none_found ends later e = rw e
 

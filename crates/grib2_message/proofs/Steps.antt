@@ -48,7 +48,7 @@ walk_is profile turns m before q =
     row_by_row profile before q total (first_fault (mark_rows m total (last_number before) q)) (ends_at m q)
     (first_fault (frame_rows m total (last_number before) q)) (section_at m q) (λ s. verdict_from profile turns m (placed_at q s ∷ before) (q + length s))
 
--- the end mark stands at q
+-- the End Section stands at q
 pub record Ended (m : List ℕ) (q total : ℕ) : Type 0 where
   pub ends : ends_at m q ≡ true
   pub states : total_length m ≡ total
@@ -60,7 +60,7 @@ pub record Went (profile : Profile) (turns : ℕ) (m : List ℕ) (before : List 
   pub contents : section_fault_under profile before (here m q) ≡ None
   pub next : after_section profile turns m before q ≡ Accepted total
 
--- it is so where no end mark stands and what is said of the section is accepted
+-- it is so where no End Section stands and what is said of the section is accepted
 went : (profile : Profile) (turns : ℕ) (m : List ℕ) (before : List Placed) (q total : ℕ) → ends_at m q ≡ false → at_section profile turns m before q ≡ Accepted total
     → Went profile turns m before q total
 went profile turns m before q total goes e =

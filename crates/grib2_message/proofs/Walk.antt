@@ -1,4 +1,4 @@
--- What the walk accepts is sections one after another, and the end mark.
+-- What the walk accepts is sections one after another, and the End Section.
 use Rattle.std.proofs.Common.{◌≡◌, ℕ, zero, suc, ◌+◌, ◌-◌, ◌<◌, ◌≤◌, Bool, true, false, not, ◌&&◌, IsTrue, None, List, [], ◌∷◌, ◌++◌, length, take, drop, All, nat_lt, inl, inr, refl, ap, sym, ◌∙◌, arith, append_assoc, length-drop, length-take-le, length-append, take-append-drop, drop-drop, ltb-false, eqb-true}
 use Rattle.std.specs.List.{concat}
 use Rattle.std.proofs.lemmas.Bool.{or_parts, not-false}
@@ -57,7 +57,7 @@ frame_passes m total last q p =
       there = ltb-false (length m) (q - 1 + octets m q (q + 3)) p.1.1.1.0;
     }
 
--- sections from octet q on, and the end mark, and whatever comes after
+-- sections from octet q on, and the End Section, and whatever comes after
 pub record Found (profile : Profile) (m : List ℕ) (before : List Placed) (q total : ℕ) : Type 0 where
   pub sections : List (List ℕ)
   pub after : List ℕ
@@ -70,7 +70,7 @@ pub record Found (profile : Profile) (m : List ℕ) (before : List Placed) (q to
 last_octets : (before n whole : ℕ) (m : List ℕ) → whole ≡ before + n → drop before (take whole m) ≡ take n (drop before m)
 last_octets before n whole m e = ap (λ k. drop before (take k m)) e ∙ drop-take before n m
 
--- none but the end mark, where it stands at q
+-- none but the End Section, where it stands at q
 found_end : (profile : Profile) (m : List ℕ) (before : List Placed) (q total : ℕ) → 1 ≤ q → All (λ octet. octet < 256) (take total m) → q + 3 ≤ total_length m
     → MarkPasses m (total_length m) (last_number before) q → Ended m q total → Found profile m before q total
 found_end profile m before q total low small room p e =

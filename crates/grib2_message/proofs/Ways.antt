@@ -134,7 +134,7 @@ way_refused profile m turns before at s fault w e refused =
     way_verdict profile m turns before at (Next s) w e
     ∙ ap (λ (o : Option Fault). unless_refused o (λ _. verdict_from profile turns m (placed_at at.place s ∷ before) (at.place + length s))) refused
 
--- at the end mark
+-- at the End Section
 pub no_sections : (turns : ℕ) (m : List ℕ) (q : ℕ) → ends_at m q ≡ true → sections_from turns m q ≡ []
 no_sections zero m q ends = refl
 no_sections (suc turns) m q ends =

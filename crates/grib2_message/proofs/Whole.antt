@@ -73,7 +73,7 @@ head_pass m second there least most =
       ),
     )
 
--- a front, sections and an end mark, and what comes after
+-- a front, sections and an End Section, and what comes after
 regroup : (front body after : List ℕ) → ((front ++ body) ++ end_mark) ++ after ≡ front ++ ((body ++ end_mark) ++ after)
 regroup front body after = simp append_assoc
 

@@ -44,7 +44,7 @@ abbrev pub assembled_body_with : (List ℕ → List ℕ) → List ℕ → List P
 assembled_body_with grid message parts = concat (replaced_with grid (sections_of message) parts)
 
 -- The message with one part for each field, and with what `grid` makes of each Section 3: Section 0 with the
--- new total length, the sections, the end mark.
+-- new total length, the sections, the End Section.
 abbrev pub assembled_with : (List ℕ → List ℕ) → List ℕ → List Packed → List ℕ
 assembled_with grid message parts =
     let body = assembled_body_with grid message parts in

@@ -13,7 +13,7 @@ use Rattle.grib_packing.specs.declared.column.Column.{Column}
 use Rattle.grib_packing.specs.Entries.{column_from}
 use Rattle.grib2_message.specs.View.{is_numbered, section_in_force, octets_in_force, own_bitmap, own_bitmap_start, mask_in_force}
 
--- the sections from octet q on, up to the end mark; `turns` bounds their number
+-- the sections from octet q on, up to the End Section; `turns` bounds their number
 abbrev pub sections_from : ℕ → List ℕ → ℕ → List Placed
 sections_from zero message q = []
 sections_from (suc turns) message q =

@@ -24,7 +24,7 @@ use Rattle.grib2_message.specs.declared.in_force.Bitmap.{Bitmap}
 use Rattle.grib2_message.specs.declared.in_force.InForce.{InForce}
 use Rattle.grib2_message.specs.declared.places.Places.{Places}
 
--- a section with this number stands whole at octet `start`, before the end mark
+-- a section with this number stands whole at octet `start`, before the End Section
 pub record StandsAt (message : List ℕ) (start number : ℕ) : Type 0 where
   pub low : 1 ≤ start
   pub high : start ≤ 268435456

@@ -26,17 +26,17 @@ pub struct Instant {
     pub unit: u8,
     /// The forecast time in that unit, with its sign in the first bit: octets 19-22.
     pub time: u32,
-    /// The type of the first surface (code table 4.5): octet 23.
+    /// The type of the first fixed surface (code table 4.5): octet 23.
     pub surface1: u8,
-    /// The scale factor of the first surface, with its sign in the first bit: octet 24.
+    /// The scale factor of the first fixed surface, with its sign in the first bit: octet 24.
     pub scale1: u8,
-    /// The scaled value of the first surface: octets 25-28.
+    /// The scaled value of the first fixed surface: octets 25-28.
     pub value1: u32,
-    /// The type of the second surface (code table 4.5): octet 29.
+    /// The type of the second fixed surface (code table 4.5): octet 29.
     pub surface2: u8,
-    /// The scale factor of the second surface, with its sign in the first bit: octet 30.
+    /// The scale factor of the second fixed surface, with its sign in the first bit: octet 30.
     pub scale2: u8,
-    /// The scaled value of the second surface: octets 31-34.
+    /// The scaled value of the second fixed surface: octets 31-34.
     pub value2: u32,
 }
 

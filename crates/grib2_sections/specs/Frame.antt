@@ -21,11 +21,11 @@ successors = (1 ∷ []) ∷ (2 ∷ 3 ∷ []) ∷ (3 ∷ []) ∷ (4 ∷ []) ∷ (
 abbrev pub may_follow : ℕ → ℕ → Bool
 may_follow last next = list_any (λ n. n == next) (get_or successors last [])
 
--- the end mark follows Section 7 alone
+-- the End Section follows Section 7 alone
 abbrev pub may_end : ℕ → Bool
 may_end last = last == 7
 
--- whether the end mark stands at octet q
+-- whether the End Section stands at octet q
 abbrev pub ends_at : List ℕ → ℕ → Bool
 ends_at message q = octets message q (q + 3) == 926365495
 
@@ -53,7 +53,7 @@ opening_rows total last q l number others =
     ∷ row (not (may_follow last number)) (q + 4) SectionOrder number  -- F7
     ∷ others
 
--- rows F5 to F8, where no end mark stands
+-- rows F5 to F8, where no End Section stands
 abbrev pub frame_rows : List ℕ → ℕ → ℕ → ℕ → List Row
 frame_rows message total last q =
     let k = length message in
@@ -67,7 +67,7 @@ frame_rows message total last q =
 abbrev pub section_at : List ℕ → ℕ → List ℕ
 section_at message q = octet_list message q (q - 1 + octets message q (q + 3))
 
--- what stands at octet q of a message: the end mark, a row that fails, or the next section
+-- what stands at octet q of a message: the End Section, a row that fails, or the next section
 pub data Step : Type 0 where
   End : Step
   Fails : Fault → Step

@@ -11,7 +11,7 @@ use std::marker::Model;
 
 /// The walk over the sections of a message of edition 2 after Section 0 (WMO-No. 306, Volume I.2,
 /// FM 92 GRIB edition 2). A clause sees the total length of the message, the octet at which the next
-/// section or the end mark begins, and the number of the section before it.
+/// section or the End Section begins, and the number of the section before it.
 #[derive(Debug, Drop)]
 pub struct Frame {
     total: u64,
@@ -33,7 +33,7 @@ impl Model for Frame {
         × (frame.place + 3 ≤ frame.total) × (frame.last ≤ 7) };
 }
 
-/// The end mark `7777` as a number.
+/// The End Section, `7777`, as a number.
 const END_MARK: u32 = 0x37373737;
 
 impl Frame {
@@ -50,7 +50,7 @@ impl Frame {
         }
     }
 
-    /// The octet at which the next section or the end mark begins.
+    /// The octet at which the next section or the End Section begins.
     pub fn place(&self) -> u64
         ensures { result ≡ self.now.place }
     {
@@ -65,9 +65,9 @@ impl Frame {
     }
 
     /// The next section of the message that begins with these octets, which may go on past its end,
-    /// or nothing at the end mark. A refusal is that of the first row of the profile that fails: the
-    /// octets end too early, a section may not stand there, or a length disagrees with the total. It
-    /// and the end mark leave the frame as it was.
+    /// or nothing at the End Section. A refusal is that of the first row of the profile that fails:
+    /// the octets end too early, a section may not stand there, or a length disagrees with the
+    /// total. It and the End Section leave the frame as it was.
     pub fn next<'a>(&mut self, octets: &'a [u8]) -> Result<Option<Section<'a>>, Fault>
         ensures { MatchResult result
             (λ next. MatchOption next
@@ -95,8 +95,8 @@ impl Frame {
         self.last = number;
     }
 
-    /// Whether these four octets, which stand here, are the end mark. A refusal is that of the first row
-    /// that fails: an end mark may not stand here, or another has to.
+    /// Whether these four octets, which stand here, are the End Section. A refusal is that of the
+    /// first row that fails: an End Section may not stand here, or another has to.
     pub fn ends(&self, mark: u32) -> Result<bool, Fault>
         ensures { MatchResult result
             (λ ends. (end_fault self.now mark ≡ None) × (ends ≡ (mark == 926365495)))
@@ -134,7 +134,7 @@ impl Frame {
         Ok(())
     }
 
-    /// Whether the end mark stands here, and may.
+    /// Whether the End Section stands here, and may.
     fn is_at_end(&self, octets: &[u8]) -> Result<bool, Fault>
         ensures { MatchResult result
             (λ ends. (mark_fault octets.now self.now ≡ None)

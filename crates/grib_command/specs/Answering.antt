@@ -12,7 +12,7 @@ use Rattle.grib_command.specs.declared.answered.Answered.{Answered}
 use Rattle.grib_command.specs.declared.answered.Answered.TheVariants.{Whole, Kept, WriteFault, ShelfFault, Memory}
 use Rattle.grib_command.specs.Command.{kept_at}
 
--- what is done for a message; nothing, where it is kept
+-- what is done for a message; nothing, where it cannot be changed
 abbrev pub acts_given : Given → List Act
 acts_given (Gives acts written) = acts
 acts_given (Ends outcome) = []

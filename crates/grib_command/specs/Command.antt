@@ -65,16 +65,16 @@ given_text text = Gives (writes text) 0
 abbrev pub given_whole : List ℕ → Given
 given_whole octets = Gives (writes octets) (length octets)
 
--- message m is kept
+-- message m cannot be changed
 abbrev pub kept_at : ℕ → Cause → Outcome
 kept_at m cause = Kept (record { message = m; cause = cause })
 
--- these octets are written, or message m is kept by its cause
+-- these octets are written, or message m cannot be changed, by its cause
 abbrev pub given_unless : Option Cause → ℕ → List ℕ → Given
 given_unless None m octets = given_whole octets
 given_unless (Some cause) m octets = Ends (kept_at m cause)
 
--- message m is kept, since its edition is only read
+-- message m cannot be changed, since its edition is only read
 abbrev pub kept_first : ℕ → Given
 kept_first m = Ends (kept_at m EditionOne)
 
@@ -101,7 +101,7 @@ printing_fields first text =
     printing (λ place message. first message place.message)
     (λ place message. texts_from (text message place.message) (field_count message) 1) Silent
 
--- a message of edition 2 gives what is written in its place, and one of edition 1 is kept
+-- a message of edition 2 gives what is written in its place, and one of edition 1 cannot be changed
 abbrev pub changing : (Place → List ℕ → Given) → Command
 changing second = record {
   first = λ place message. kept_first place.message;
@@ -111,6 +111,6 @@ changing second = record {
   hears = false;
 }
 
--- these octets are written in its place, or it is kept by the cause
+-- these octets are written in its place, or it is not changed, by the cause
 abbrev pub changing_unless : (List ℕ → Option Cause) → (List ℕ → List ℕ) → Command
 changing_unless cause octets = changing (λ place message. given_unless (cause message) place.message (octets message))

@@ -16,7 +16,7 @@ ending_note Silent totals = []
 ending_note Total totals = []
 ending_note Written totals = written_note totals
 
--- where this many refusals were passed and this many messages kept
+-- where this many refusals were passed and this many messages not changed
 abbrev pub passed_ending_note : Ending → Totals → ℕ → ℕ → List ℕ
 passed_ending_note Silent totals refused kept = passed_note refused kept
 passed_ending_note Total totals refused kept = passed_note refused kept

@@ -25,7 +25,7 @@ abbrev pub HasSize : Job → Type 0
 HasSize (Make seed ni nj target) = MayBeMade seed ni nj
 HasSize job = Unit {0}
 
--- the first column and row of a box are at most its last
+-- the first column and row of a subarea are at most its last
 abbrev pub HasArea : Job → Type 0
 HasArea (Crop area) = (area.i0 ≤ area.i1) × (area.j0 ≤ area.j1)
 HasArea job = Unit {0}

@@ -1,4 +1,5 @@
--- The lines that are noted of what was changed, kept or made, each with its newline (10).
+-- The lines that are noted of what was changed, could not be changed, or was made, each with its
+-- newline (10).
 use Rattle.std.specs.Prelude.{ℕ, Option, Some, None, List, [], ◌∷◌, ◌++◌, codes}
 use Rattle.std.specs.Fmt.{decimal}
 use Rattle.grib_base.specs.declared.fault.Fault.{Fault}
@@ -13,7 +14,7 @@ use Rattle.grib_reasons.specs.declared.table.TableRefusal.{TableRefusal}
 use Rattle.grib_reasons.specs.declared.table.TableRefusal.TheVariants.{Absent, TooLarge, Row, Duplicate}
 use Rattle.grib_reasons.specs.Tables.{table_text}
 
--- what is kept, by a cause of this name at a point of a field
+-- what cannot be changed, by a cause of this name at a point of a field
 abbrev pub text_at_point : List ℕ → List ℕ → ℕ → ℕ → List ℕ
 text_at_point head name field point = head ++ codes " " ++ name ++ codes " field " ++ decimal field ++ codes " point " ++ decimal point ++ 10 ∷ []
 
@@ -39,7 +40,7 @@ text_at_key head name = head ++ codes " KeyRange " ++ name ++ 10 ∷ []
 abbrev pub text_without_key : List ℕ → List ℕ → ℕ → List ℕ
 text_without_key head name field = head ++ codes " KeyAbsent " ++ name ++ codes " field " ++ decimal field ++ 10 ∷ []
 
--- what is kept, and by what
+-- what cannot be changed, and by what
 abbrev pub kept_text : List ℕ → Cause → List ℕ
 kept_text head EditionOne = head ++ codes " EditionOne" ++ 10 ∷ []
 kept_text head (SecondaryMissing field point) = text_at_point head (codes "SecondaryMissing") field point
@@ -56,11 +57,12 @@ kept_text head (Increments field) = text_in_field head (codes "Increments") fiel
 kept_text head (DecimalRange field point) = text_at_point head (codes "DecimalRange") field point
 kept_text head (Demoted field loss) = text_of_demotion head (demotions.name_of loss) (demotions.number_of loss) field
 
--- message m is kept, and the run ends with it
+-- message m cannot be changed, and the run ends with it
 abbrev pub kept_note : ℕ → Cause → List ℕ
 kept_note m cause = kept_text (codes "kept message " ++ decimal m) cause
 
--- message m is kept, and the run goes on behind it: how many octets of the input stand before it
+-- message m cannot be changed, and the run goes on behind it: how many octets of the input stand
+-- before it
 abbrev pub kept_line : ℕ → ℕ → Cause → List ℕ
 kept_line m before cause = kept_text (codes "kept message " ++ decimal m ++ codes " at " ++ decimal before) cause
 
@@ -69,7 +71,7 @@ kept_line m before cause = kept_text (codes "kept message " ++ decimal m ++ code
 abbrev pub copied_line : ℕ → ℕ → Fault → List ℕ
 copied_line m before fault = refusal_text (codes "copied message " ++ decimal m ++ codes " at " ++ decimal before) fault
 
--- an input was read to its end, with this many refusals passed and this many messages kept
+-- an input was read to its end, with this many refusals passed and this many messages not changed
 abbrev pub passed_note : ℕ → ℕ → List ℕ
 passed_note refused kept = codes "refused " ++ decimal refused ++ codes " kept " ++ decimal kept ++ 10 ∷ []
 
@@ -90,14 +92,14 @@ written_note totals =
     codes "messages " ++ decimal totals.messages ++ codes " fields " ++ decimal totals.fields
     ++ codes " written " ++ decimal totals.written ++ 10 ∷ []
 
--- with how many refusals were passed and messages kept behind it
+-- with how many refusals were passed and messages not changed behind it
 abbrev pub written_passed_note : Totals → ℕ → ℕ → List ℕ
 written_passed_note totals refused kept =
     codes "messages " ++ decimal totals.messages ++ codes " fields " ++ decimal totals.fields
     ++ codes " written " ++ decimal totals.written ++ codes " refused " ++ decimal refused ++ codes " kept " ++ decimal kept ++ 10 ∷ []
 
 -- the octets of the message that was made, those that were written, the present points and the sum of their
--- scaled numbers
+-- scaled integers
 abbrev pub made_note : ℕ → ℕ → ℕ → ℕ → List ℕ
 made_note made written present sum =
     codes "made " ++ decimal made ++ codes " written " ++ decimal written ++ codes " present " ++ decimal present

@@ -4,7 +4,8 @@ use Rattle.std.specs.List.{concat}
 use Rattle.grib_command.specs.declared.page.Page.{Page}
 use Rattle.grib_command.specs.declared.page.Page.TheVariants.{Help, Version}
 
--- each command with the names of its words, the words on what is gone past, and where the rest is told
+-- each command with the names of its arguments, the arguments on what is gone past, and where the
+-- rest is told
 abbrev pub help_lines : List (List ℕ)
 help_lines =
     codes "grib check                                        lines on messages and input\n"

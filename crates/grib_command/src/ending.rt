@@ -47,7 +47,8 @@ impl Ending {
         }
     }
 
-    /// What is noted at the end of the input, where this many refusals were passed and this many messages kept.
+    /// What is noted at the end of the input, where this many refusals were passed and this many
+    /// messages not changed.
     pub fn passed_note(
         &self,
         alloc: Global,

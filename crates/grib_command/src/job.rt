@@ -25,11 +25,11 @@ pub enum Job {
     List,
     /// A line for each field with each key that the field has.
     Keys,
-    /// For each field how many of its points are present and missing, its least and its greatest scaled number,
-    /// and its reference line.
+    /// For each field how many of its points are present and missing, its least and its greatest
+    /// scaled integer, and its reference line.
     Stats,
-    /// For each field its list line, its reference line, and a line for each grid point, with its scaled number or
-    /// with its value as a decimal of this many places.
+    /// For each field its list line, its reference line, and a line for each grid point, with its
+    /// scaled integer or with its value as a decimal of this many places.
     Dump {
         decimals: Option<u32>,
     },
@@ -48,7 +48,7 @@ pub enum Job {
     RepackLeast,
     /// Each message with the points of its grids in the order of scanning octet 0.
     Rescan,
-    /// Each message with a box of its grids alone.
+    /// Each message with a subarea of its grids alone.
     Crop(Area),
     /// Each message of edition 1 as one of edition 2, by the tables that stand on the shelf under these names, and
     /// each message of edition 2 as it is.
@@ -63,7 +63,7 @@ pub enum Job {
     /// this name, and each message of edition 1 as it is.
     Demote {
         params: Name,
-        /// Whether octets for the centre's own use are kept.
+        /// Whether octets for the centre's own use are preserved.
         keep_local: bool,
         /// Whether the shape of the earth is not told where edition 1 has no place for it.
         any_earth: bool,

@@ -1,4 +1,4 @@
-//! The notes on what was changed, kept or made.
+//! The notes on what was changed, could not be changed, or was made.
 
 ghost use Rattle.std.specs.Prelude.{◌≡◌, string_bytes, IfOk};
 ghost use Rattle.grib_reasons.specs.declared.cause.Cause.TheVariants.{Demoted, Lost};
@@ -11,8 +11,8 @@ use grib_reasons::{Cause, Demotion, Kept, Loss, TableRefusal};
 use grib_stream::Totals;
 use std::alloc::{AllocError, Global};
 
-/// The note on words that have no reading, by the first that is not read. The only error of notes is
-/// that there is no memory.
+/// The note on arguments that are not valid, by the first that is not read. The only error of notes
+/// is that there is no memory.
 pub fn usage_note(alloc: Global, word: u64) -> Result<Vec<u8>, AllocError>
     ensures { IfOk result (λ note. note.items ≡ note_of (Usage word)) }
 {
@@ -20,7 +20,8 @@ pub fn usage_note(alloc: Global, word: u64) -> Result<Vec<u8>, AllocError>
     Ok(note.into_bytes())
 }
 
-/// The note on an input that was read to its end, with this many refusals passed and this many messages kept.
+/// The note on an input that was read to its end, with this many refusals passed and this many
+/// messages not changed.
 pub fn passed_note(alloc: Global, refused: u64, kept: u64) -> Result<Vec<u8>, AllocError>
     ensures { IfOk result (λ note. note.items ≡ notes.passed_note refused kept) }
 {
@@ -28,7 +29,7 @@ pub fn passed_note(alloc: Global, refused: u64, kept: u64) -> Result<Vec<u8>, Al
     Ok(note.into_bytes())
 }
 
-/// The note on a message that is accepted and kept from being changed.
+/// The note on a message that is accepted and cannot be changed.
 pub fn kept_note(alloc: Global, kept: &Kept) -> Result<Vec<u8>, AllocError>
     ensures { IfOk result (λ note. note.items ≡ notes.kept_note kept.now.message kept.now.cause) }
 {
@@ -38,7 +39,8 @@ pub fn kept_note(alloc: Global, kept: &Kept) -> Result<Vec<u8>, AllocError>
     Ok(text.into_bytes())
 }
 
-/// The line on a message that is kept, and behind which a run goes on, with the octets of the input before it.
+/// The line on a message that cannot be changed, and behind which a run goes on, with the octets of
+/// the input before it.
 pub fn kept_line(alloc: Global, kept: &Kept, before: u64) -> Result<Vec<u8>, AllocError>
     ensures { IfOk result (λ line. line.items ≡ notes.kept_line kept.now.message before kept.now.cause) }
 {
@@ -67,7 +69,7 @@ pub fn copied_line(
     Ok(line.into_bytes())
 }
 
-/// What is kept, and by what.
+/// What cannot be changed, and by what.
 fn kept_text(alloc: Global, head: &str, cause: &Cause) -> Result<String, AllocError>
     ensures { IfOk result (λ text. string_bytes text ≡ notes.kept_text head.now cause.now) }
 {
@@ -95,7 +97,7 @@ fn kept_text(alloc: Global, head: &str, cause: &Cause) -> Result<String, AllocEr
     }
 }
 
-/// What is kept, by a cause of this name at a point of a field.
+/// What cannot be changed, by a cause of this name at a point of a field.
 fn text_at_point(
     alloc: Global,
     head: &str,
@@ -109,7 +111,7 @@ fn text_at_point(
     Ok(text)
 }
 
-/// What is kept, by a cause of this name in a field.
+/// What cannot be changed, by a cause of this name in a field.
 fn text_in_field(alloc: Global, head: &str, name: &str, field: u32) -> Result<String, AllocError>
     ensures { IfOk result (λ text. string_bytes text ≡ notes.text_in_field head.now name.now field) }
 {
@@ -117,7 +119,7 @@ fn text_in_field(alloc: Global, head: &str, name: &str, field: u32) -> Result<St
     Ok(text)
 }
 
-/// What is kept, by this loss.
+/// What cannot be changed, by this loss.
 fn lost_text(alloc: Global, head: &str, loss: &Loss) -> Result<String, AllocError>
     ensures { IfOk result (λ text. string_bytes text ≡ notes.kept_text head.now (Lost loss.now)) }
 {
@@ -127,7 +129,7 @@ fn lost_text(alloc: Global, head: &str, loss: &Loss) -> Result<String, AllocErro
     }
 }
 
-/// What is kept, by a loss of this name that has no number.
+/// What cannot be changed, by a loss of this name that has no number.
 fn text_of_loss(alloc: Global, head: &str, name: &str) -> Result<String, AllocError>
     ensures { IfOk result (λ text. string_bytes text ≡ notes.text_of_loss head.now name.now None) }
 {
@@ -135,7 +137,7 @@ fn text_of_loss(alloc: Global, head: &str, name: &str) -> Result<String, AllocEr
     Ok(text)
 }
 
-/// What is kept, by a loss of this name with its number.
+/// What cannot be changed, by a loss of this name with its number.
 fn text_of_numbered_loss(
     alloc: Global,
     head: &str,
@@ -149,7 +151,7 @@ fn text_of_numbered_loss(
     Ok(text)
 }
 
-/// What is kept, by this loss of a field.
+/// What cannot be changed, by this loss of a field.
 fn demoted_text(
     alloc: Global,
     head: &str,
@@ -164,7 +166,7 @@ fn demoted_text(
     }
 }
 
-/// What is kept, by a loss of this name of a field that has no number.
+/// What cannot be changed, by a loss of this name of a field that has no number.
 fn text_of_demotion(alloc: Global, head: &str, name: &str, field: u32) -> Result<String, AllocError>
     ensures { IfOk result (λ text. string_bytes text ≡ notes.text_of_demotion head.now name.now None field) }
 {
@@ -172,7 +174,7 @@ fn text_of_demotion(alloc: Global, head: &str, name: &str, field: u32) -> Result
     Ok(text)
 }
 
-/// What is kept, by a loss of this name of a field, with its number.
+/// What cannot be changed, by a loss of this name of a field, with its number.
 fn text_of_numbered_demotion(
     alloc: Global,
     head: &str,
@@ -187,7 +189,7 @@ fn text_of_numbered_demotion(
     Ok(text)
 }
 
-/// What is kept, where the value of this key does not fit.
+/// What cannot be changed, where the value of this key does not fit.
 fn text_at_key(alloc: Global, head: &str, key: &str) -> Result<String, AllocError>
     ensures { IfOk result (λ text. string_bytes text ≡ notes.text_at_key head.now key.now) }
 {
@@ -195,7 +197,7 @@ fn text_at_key(alloc: Global, head: &str, key: &str) -> Result<String, AllocErro
     Ok(text)
 }
 
-/// What is kept, where a field has not this key.
+/// What cannot be changed, where a field has not this key.
 fn text_without_key(alloc: Global, head: &str, key: &str, field: u32) -> Result<String, AllocError>
     ensures { IfOk result (λ text. string_bytes text ≡ notes.text_without_key head.now key.now field) }
 {
@@ -242,7 +244,8 @@ pub(crate) fn written_note(alloc: Global, totals: &Totals) -> Result<Vec<u8>, Al
     Ok(note.into_bytes())
 }
 
-/// The note on an input that was read to its end, with all of its messages changed but those that were kept.
+/// The note on an input that was read to its end, with all of its messages changed but those that
+/// could not be.
 pub(crate) fn written_passed_note(
     alloc: Global,
     totals: &Totals,
@@ -261,7 +264,7 @@ pub(crate) fn written_passed_note(
 }
 
 /// The note on a message that was made: its octets, those that were written of it packed anew, its present
-/// points and the sum of their scaled numbers.
+/// points and the sum of their scaled integers.
 pub fn made_note(
     alloc: Global,
     made: u64,

@@ -6,7 +6,7 @@ ghost use Rattle.grib_command.specs.Pages.{text_of};
 /// A text on the program, which needs no input.
 #[derive(Clone, Copy, Debug, PartialEq, Eq)]
 pub enum Page {
-    /// The commands, each with the names of its words.
+    /// The commands, each with the names of its arguments.
     Help,
     /// The version of the program.
     Version,

@@ -71,7 +71,7 @@ values_run kept before last codes telling is is_place same within after_them kee
       went = record { points = told telling codes; counted = length-told telling codes; keeps = keeps };
     }
 
--- ---- codes that are the scaled numbers themselves
+-- ---- codes that are the scaled integers themselves
 
 abbrev pub PlainKept : {K : Type 0} → (K → List Point → K → Type 0) → K → List Code → K → Type 0
 PlainKept kept before codes last = kept before (told Plainly codes) last

@@ -390,7 +390,7 @@ module _ {K : Type 0} (kept : K → List Point → K → Type 0) (s5 : List ℕ)
         counted = told_count reads.layout reads.groups reads.telling numbers (entries_of s5 s7) (value_count s5) entries reads.counted;
       }
 
--- all packed numbers came, and they are the scaled numbers themselves
+-- all packed numbers came, and they are the scaled integers themselves
 module _ {K : Type 0} (kept : K → List Point → K → Type 0) (keeper : K) (s7 : List ℕ) (layout : Layout) (groups : List Group) (before : ℕ) (fed : Fed (PlainValues K)) (after : PlainValues K)
     (reads : PlainAgrees kept keeper (length s7) (drop 5 s7) layout groups before fed)
     (whole : packed_bits groups ≤ 8 * length (drop before (drop 5 s7)) → PlainTook kept (record { keeper = keeper }) (codes_from layout groups (bits (drop before (drop 5 s7)))) after) where

@@ -1,4 +1,4 @@
--- Lemmas on the scaled numbers of points that are passed one after another.
+-- Lemmas on the scaled integers of points that are passed one after another.
 use Rattle.std.proofs.Common.{◌≡◌, ℕ, suc, ◌+◌, ◌^◌, ◌<◌, ◌≤◌, false, ℤ, pos, nat_abs, nat_lt, List, ◌∷◌, length, drop, get_or, refl, sym, ap, ap₂, ◌∙◌, arith, drop-cons, ltb-false}
 use Rattle.std.specs.List.{list_any}
 use Rattle.std.proofs.lemmas.List.{drop_all}

@@ -67,7 +67,7 @@ module _ {S : Type 0} (took : S → List Code → S → Type 0) (l : ℕ) (octet
       ∙ sym (length-told telling codes) in
       ap₂ take count parts ∙ take-append_seam points (told (after telling codes) later)
 
--- where the codes are the scaled numbers themselves
+-- where the codes are the scaled integers themselves
 module _ {K : Type 0} (kept : K → List Point → K → Type 0) (keeper : K) (l : ℕ) (octets : List ℕ) (layout : Layout) (groups : List Group) (before : ℕ) (fed : Fed (PlainValues K))
     (reads : PlainAgrees kept keeper l octets layout groups before fed) (s7 : List ℕ) (c : Continues octets l s7) where
   pub plain_points : kept keeper (take (values_within groups (8 * (length octets - before))) (told Plainly (codes_from layout groups (bits (drop before (drop 5 s7)))))) fed.taker.keeper

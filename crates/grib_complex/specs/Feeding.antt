@@ -120,8 +120,9 @@ pub record PointsAgree {K : Type 0} (kept : K → List Point → K → Type 0) (
   pub went : PointsWent kept keeper (length points) after_them.keeper
   pub keeps : after_them.teller.beyond ≡ 0 → kept keeper points after_them.keeper
 
--- The packed numbers of these groups, which are the scaled numbers themselves, stand after the first `before` octets:
--- the points of those that came are kept, and no further number ends in these octets.
+-- The packed numbers of these groups, which are the scaled integers themselves, stand after the
+-- first `before` octets: the points of those that came are kept, and no further number ends in
+-- these octets.
 pub record PlainAgrees {K : Type 0} (kept : K → List Point → K → Type 0) (keeper : K) (l : ℕ) (octets : List ℕ) (layout : Layout) (groups : List Group) (before : ℕ) (fed : Fed (PlainValues K)) : Type 0 where
   pub came : before ≤ length octets
   pub enough : 8 * (5 + before) + packed_bits groups ≤ 8 * l

@@ -19,7 +19,7 @@ pub after-append : (telling : Telling) (codes more : List Code) → after tellin
 after-append telling [] more = refl
 after-append telling (code ∷ codes) more = after-append (telling_after telling code) codes more
 
--- codes that are the scaled numbers themselves stay so
+-- codes that are the scaled integers themselves stay so
 pub after-plainly : (codes : List Code) → after Plainly codes ≡ Plainly
 after-plainly [] = refl
 after-plainly (Present n ∷ codes) = after-plainly codes

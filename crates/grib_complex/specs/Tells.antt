@@ -37,7 +37,7 @@ pub record ValuesTook {K : Type 0} (kept : K → List Point → K → Type 0) (b
       → kept before.keeper (told (after start seen) codes) after_them.keeper
   pub went : PointsWent kept before.keeper (length codes) after_them.keeper
 
--- The points of these codes, which are the scaled numbers themselves, went to what keeps them.
+-- The points of these codes, which are the scaled integers themselves, went to what keeps them.
 abbrev pub PlainTook : {K : Type 0} → (K → List Point → K → Type 0) → PlainValues K → List Code → PlainValues K → Type 0
 PlainTook kept before codes after_them = kept before.keeper (told Plainly codes) after_them.keeper
 

@@ -6,8 +6,8 @@ use Rattle.grib_packing.specs.declared.column.Point.{Point}
 use Rattle.grib_packing.specs.declared.column.Point.TheVariants.{Scaled, Missing, Missing2}
 use Rattle.grib_packing.specs.Differences.{Descriptors, Last, next_number, last_after}
 
--- what the next code is told with: a code is the scaled number itself, or the code of a difference after
--- the last numbers
+-- what the next code is told with: a code is the scaled integer itself, or the code of a difference
+-- after the last numbers
 pub data Telling : Type 0 where
   Plainly : Telling
   After : Descriptors → Last → Telling

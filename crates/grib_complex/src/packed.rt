@@ -32,14 +32,14 @@ const BESIDE_GROUPS: u32 = 47 + 6 + 5;
 /// The octets of Sections 5 and 6 of template 5.3, and of Section 7 before its extra descriptors.
 const BESIDE_DIFFERENCES: u32 = 49 + 6 + 5;
 
-/// Sections 5, 6 and 7 of a column: its scaled numbers and missing points in the groups of 1 to 64
+/// Sections 5, 6 and 7 of a column: its scaled integers and missing points in the groups of 1 to 64
 /// points that take the fewest bits; none where a quick look shows that they have `below` octets or more. `kind`
 /// is the type of the original values (code table 5.1).
 ///
 /// # Errors
 ///
-/// A scaled number is negative, or it and the reserved codes take more than 32 bits; or there is no
-/// memory.
+/// A scaled integer is negative, or it and the reserved codes take more than 32 bits; or there is
+/// no memory.
 pub fn pack_complex(
     alloc: Global,
     column: &Column,
@@ -126,9 +126,10 @@ fn pack_plainly(
     })
 }
 
-/// Sections 5, 6 and 7 of a column: how far the differences of its scaled numbers are above the least
-/// one, and its missing points, in the groups of 1 to 64 points that take the fewest bits; none where a quick look
-/// shows that they have `below` octets or more. `kind` is the type of the original values (code table 5.1).
+/// Sections 5, 6 and 7 of a column: how far the differences of its scaled integers are above the
+/// least one, and its missing points, in the groups of 1 to 64 points that take the fewest bits;
+/// none where a quick look shows that they have `below` octets or more. `kind` is the type of the
+/// original values (code table 5.1).
 ///
 /// # Errors
 ///

@@ -1,4 +1,4 @@
-//! The values of a field whose numbers are the scaled numbers themselves, all of one width.
+//! The values of a field whose numbers are the scaled integers themselves, all of one width.
 
 ghost use Rattle.std.specs.Prelude.{◌*◌, ◌^◌, ◌<◌, ◌≤◌, length, map, pos};
 ghost use Rattle.grib_bits.specs.Bits.{bits as bits_in};

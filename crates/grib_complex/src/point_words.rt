@@ -142,7 +142,7 @@ fn told(point: Point) -> PointWord
     }
 }
 
-/// The word of a scaled number.
+/// The word of a scaled integer.
 #[inline(always)]
 fn told_number(x: i64) -> PointWord
     ensures word { result.word ≡ word_for (Scaled x) }

@@ -17,7 +17,7 @@ pub(crate) struct Steadily<K> {
     pub keeper: K,
 }
 
-/// Hands on the points of the codes of a run, which are the scaled numbers themselves.
+/// Hands on the points of the codes of a run, which are the scaled integers themselves.
 #[inline(always)]
 pub(crate) fn keep_plainly<R: CodeRun + Drop, K: Keeper>(mut run: R, mut keeper: K) -> K
     requires stands { R.stands run }
@@ -72,7 +72,7 @@ impl<K: Keeper> Steadily<K> {
     }
 }
 
-/// The point of a code, which is the scaled number itself.
+/// The point of a code, which is the scaled integer itself.
 #[inline(always)]
 pub(crate) fn plain_point(code: Code) -> Point
     requires { number_of code < 2 ^ 49 }

@@ -34,7 +34,7 @@ pub enum ComplexReading<K> {
     Begins(Beginning<K>),
     /// The extra descriptors are whole, and octets of the lists are still to come.
     Lists(Between<K>),
-    /// Packed numbers come, which are the scaled numbers themselves.
+    /// Packed numbers come, which are the scaled integers themselves.
     ReadsPlainly(Fed<PlainValues<K>>),
     /// Packed numbers come, which are those of differences.
     Reads(Fed<Values<K>>),

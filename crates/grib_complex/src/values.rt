@@ -85,7 +85,7 @@ impl<K: Keeper> RunTaker for Values<K> {
     }
 }
 
-/// Hands the point of each code on, where a code is the scaled number itself.
+/// Hands the point of each code on, where a code is the scaled integer itself.
 #[derive(Debug, Drop)]
 pub struct PlainValues<K> {
     /// What keeps the points.

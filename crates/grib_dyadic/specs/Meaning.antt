@@ -1,4 +1,4 @@
--- What the grid points of a field mean: exact values and missing marks.
+-- What the grid points of a field mean: exact values and missing values.
 use Rattle.std.specs.Prelude.{List, [], ◌∷◌}
 use Rattle.grib_dyadic.specs.Value.{Exact, Same}
 

@@ -10,7 +10,8 @@ pub record Exact : Type 0 where
   pub binary : ℤ
   pub decimal : ℤ
 
--- the value of a point with the reference value R, the scale factors E and D, and the scaled number X
+-- the value of a point with the reference value R, the scale factors E and D, and the scaled
+-- integer X
 abbrev pub value_of : Binary → ℤ → ℤ → ℤ → Exact
 value_of r e d x =
     let t = int_min r.exponent e in

@@ -58,7 +58,7 @@ fn note_at_end(ending: Ending, alloc: Global, totals: &ItemTotals) -> Result<Vec
     ending.passed_note(alloc, &totals.counted, totals.refused, totals.kept)
 }
 
-/// Whether nothing was passed and nothing was kept.
+/// Whether nothing was passed, and no message was found that cannot be changed.
 fn is_plain(totals: &ItemTotals) -> bool
     ensures { result ≡ stated.is_plain totals.now }
 {

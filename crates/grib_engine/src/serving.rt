@@ -26,9 +26,10 @@ use std::alloc::Global;
 
 /// Writes the answer to the job to `output`, and notes how the run ended. The answer is a function of the job, the
 /// input and, for `migrate` and `demote`, the tables that stand on the shelf; it does not depend on how the input comes
-/// in pieces. The run ends at the first octets that are refused, and at the first message that is kept. `make` and the
-/// pages read no input. `split` puts fields on the shelf, `migrate` and `demote` read their tables there before any
-/// input, and no other job uses the shelf. What is refused by `check` or `list` is refused in time.
+/// in pieces. The run ends at the first octets that are refused, and at the first message that
+/// cannot be changed. `make` and the pages read no input. `split` puts fields on the shelf,
+/// `migrate` and `demote` read their tables there before any input, and no other job uses the
+/// shelf. What is refused by `check` or `list` is refused in time.
 pub fn serve<S: Source, T: Sink, N: Sink, H: Shelf>(
     alloc: Global,
     job: &Job,
@@ -53,8 +54,8 @@ pub fn serve<S: Source, T: Sink, N: Sink, H: Shelf>(
 }
 
 /// Writes the answer to the job to `output`, as `serve` does, but goes past octets that are refused and past messages
-/// that are kept, as `policy` says, and notes a line of each. Under a policy that goes past anything no message is
-/// heard. `make` and the pages have nothing to go past.
+/// that cannot be changed, as `policy` says, and notes a line of each. Under a policy that goes
+/// past anything no message is heard. `make` and the pages have nothing to go past.
 pub fn serve_under<S: Source, T: Sink, N: Sink, H: Shelf>(
     alloc: Global,
     job: &Job,

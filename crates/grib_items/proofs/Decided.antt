@@ -95,7 +95,7 @@ step_passes plan more totals place octets fault instead size copied so closed so
     refused_step plan more totals place octets fault false true (Some size) so closed (ap is_some some) known
     ∙ ap (gone_past plan totals place octets fault size) (ap (λ i. is_copied i (take size octets)) some ∙ sym is)
 
--- ---- a message that ends the run, or is kept
+-- ---- a message that ends the run, or cannot be changed
 
 pub record Ended (task : Task) (at : Place) (octets : List ℕ) (outcome : Outcome) : Type 0 where
   pub total : ℕ

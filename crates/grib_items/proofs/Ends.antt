@@ -119,7 +119,7 @@ no_refusal task texts policy limit input none some =
     chosen_holds (nat_lt limit (length input)) (λ answer. is_refusal (outcome_of answer.result) ≡ false) _ _
     (passed_unrefused task texts policy true (take limit input) none passing) (passed_unrefused task texts policy false input none passing)
 
--- ---- kept messages
+-- ---- messages that cannot be changed
 
 unkept : (outcome : Outcome) → kept_of outcome ≡ None → is_kept outcome ≡ false
 unkept outcomes.Done is = refl

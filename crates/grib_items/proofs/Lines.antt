@@ -1,4 +1,4 @@
--- As many lines as refusals and kept messages are counted.
+-- As many lines as refusals and messages that cannot be changed are counted.
 use Rattle.std.proofs.Common.{◌≡◌, ℕ, suc, ◌+◌, Bool, true, false, List, [], ◌∷◌, length, take, nat_lt, Option, None, Some, Ok, Err, subst, arith}
 use Rattle.std.specs.declared.result.Result.{Result}
 use Rattle.grib_base.specs.Rows.{choose}

@@ -22,7 +22,7 @@ use Rattle.grib_items.specs.Deeds.{Deeds, deeds, no_deeds, then}
 -- ---- what was counted
 
 -- of the items before a place: messages, their fields, the octets of their results as far as they are counted,
--- refusals that were passed, and messages that were kept
+-- refusals that were passed, and messages that could not be changed
 pub record Counts : Type 0 where
   pub messages : ℕ
   pub fields : ℕ
@@ -54,7 +54,7 @@ abbrev pub one_answered : Counts → ℕ → ℕ → Counts
 one_answered counts fields written =
     record counts { messages = counts.messages + 1; fields = counts.fields + fields; written = counts.written + written }
 
--- one that was kept
+-- one that could not be changed
 abbrev pub one_kept : Counts → ℕ → ℕ → Counts
 one_kept counts fields written =
     record counts { messages = counts.messages + 1; fields = counts.fields + fields; written = counts.written + written; kept = counts.kept + 1 }
@@ -91,7 +91,7 @@ refused_instead instead octets = cond (is_copied instead octets) octets []
 abbrev pub passes : Policy → Bool
 passes policy = is_some policy.refused
 
--- the message that an outcome keeps
+-- the message that cannot be changed, of an outcome
 abbrev pub kept_of : Outcome → Option Kept
 kept_of (outcomes.Kept kept) = Some kept
 kept_of _ = None
@@ -100,7 +100,8 @@ abbrev pub keeps : Texts → Counts → Place → ℕ → List ℕ → Kept → 
 keeps texts counts place fields octets kept =
     Goes (deeds (writes octets) (texts.kept place kept ∷ [])) (one_kept counts fields (length octets))
 
--- an outcome with which a message ends the run, unless it is kept and something is written instead
+-- an outcome with which a message ends the run, unless it cannot be changed and something is
+-- written instead
 abbrev pub on_outcome : Texts → Counts → Place → ℕ → List ℕ → Outcome → Option Instead → Option Kept → Comes
 on_outcome texts counts place fields message outcome None kept = Stops outcome
 on_outcome texts counts place fields message outcome (Some instead) None = Stops outcome

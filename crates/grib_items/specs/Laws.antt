@@ -67,19 +67,19 @@ pub record IsPlain (task : Task) (answer : Answered) (plain : Answer) : Type 0 w
   pub outcome : outcome_of answer.result ≡ plain.outcome
   pub note : NotesCounted task plain.note answer.result
 
--- as many lines as refusals and kept messages are counted
+-- as many lines as refusals and messages that cannot be changed are counted
 abbrev pub CountsLines : ℕ → Result ItemTotals Outcome → Type 0
 CountsLines lines (Ok totals) = totals.refused + totals.kept ≡ lines
 CountsLines lines (Err outcome) = Unit {0}
 
 -- ---- what is copied
 
--- what is refused is copied, and so is what is kept
+-- what is refused is copied, and so is what cannot be changed
 abbrev pub copying : Policy
 copying = record { refused = Some Copy; kept = Some Copy }
 
--- what is written for an item then: what the task gives for a message, and a message that is kept as it is; and refused
--- octets as they are, but for a mark alone
+-- what is written for an item then: what the task gives for a message, and as it is a message that
+-- cannot be changed; and refused octets as they are, but for a mark alone
 abbrev pub copied_given : List ℕ → Given → List ℕ
 copied_given message (Gives acts written_octets) = written acts
 copied_given message (Ends outcome) = message
@@ -140,10 +140,10 @@ accepted_items (found ∷ later) = Accepted found ∷ accepted_items later
 abbrev pub refuses_all : List ℕ → Judgement
 refuses_all octets = Faulty (refusal 8 Edition 3)
 
--- `GRIB`, a total length of 12, edition 1, and the end mark
+-- `GRIB`, a total length of 12, edition 1, and the End Section
 abbrev pub stated_12 : List ℕ
 stated_12 = 71 ∷ 82 ∷ 73 ∷ 66 ∷ 0 ∷ 0 ∷ 12 ∷ 1 ∷ 55 ∷ 55 ∷ 55 ∷ 55 ∷ []
 
--- another mark in place of the end mark
+-- another mark in place of the End Section
 abbrev pub nested : List ℕ
 nested = 71 ∷ 82 ∷ 73 ∷ 66 ∷ 0 ∷ 0 ∷ 12 ∷ 1 ∷ 71 ∷ 82 ∷ 73 ∷ 66 ∷ []

@@ -51,7 +51,7 @@ Turns plan more totals place octets (Err outcome) before now =
 
 -- ---- what is waited for
 
--- whether the run ends at the first refusal and at the first kept message
+-- whether the run ends at the first refusal and at the first message that cannot be changed
 abbrev pub passes_nothing : Policy → Bool
 passes_nothing policy = not (is_some policy.refused) && not (is_some policy.kept)
 

@@ -67,7 +67,7 @@ pub fn items_in_order()
         → AreInOrder 0 (items task.judge passes more input).items (length input) }
 {}
 
-/// A refusal is skipped up to its stated end, where the end mark stands there.
+/// A refusal is skipped up to its stated end, where the End Section stands there.
 pub fn passed_to_the_stated_end()
     ensures whole { items refuses_all true false (0 ∷ stated_12)
         ≡ items_of (Refused (passed_after 1 (refusal 8 Edition 3) stated_12) ∷ []) (Over 13) }

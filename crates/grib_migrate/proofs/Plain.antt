@@ -1,4 +1,5 @@
--- With no table of surfaces, and local use kept or refused, the choices are those of `migrate`.
+-- With no table of surfaces, and local use preserved or refused, the choices are those of
+-- `migrate`.
 use Rattle.std.proofs.Common.{◌≡◌, ℕ, ◌&&◌, Bool, true, false, not, List, [], ◌++◌, Option, None, refl, sym, ap, ap₂, ◌∙◌, subst, unwrap_or}
 use Rattle.std.specs.Prelude.{Result, Ok, Err, MatchResult}
 use Rattle.grib_params.specs.Surfaces.{SurfaceEntries}

@@ -66,7 +66,7 @@ scaled s (Angle first) = angle (three s first)
 scaled s (Longitude first) = longitude (three s first)
 scaled s (Distance first) = distance (three s first)
 
--- the scaled numbers of a grid, by its type, in the order of their octets
+-- the angles and distances of a grid, which are scaled, by its type, in the order of their octets
 abbrev pub lat_lon_scaled : List Scaled
 lat_lon_scaled = Angle 11 ∷ Longitude 14 ∷ Angle 18 ∷ Longitude 21 ∷ []
 

@@ -76,6 +76,6 @@ abbrev pub member_by : Local → List ℕ → Option Member
 member_by Ecmwf s1 = cond (has_labels s1) (member_in s1) None
 member_by _ s1 = None
 
--- what is chosen by whether octets for local use are kept
+-- what is chosen by whether octets for local use are preserved
 abbrev pub kept_where : Bool → Local
 kept_where keep_local = cond keep_local Keep Refuse

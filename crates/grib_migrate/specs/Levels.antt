@@ -26,7 +26,7 @@ surfaces first second = record { first = first; second = second }
 abbrev pub one_surface : Surface → Surfaces
 one_surface first = surfaces first no_surface
 
--- a type of level of edition 1, and its surfaces
+-- a type of level of edition 1, and its fixed surfaces
 pub record LevelRow : Type 0 where
   pub level_type : ℕ
   pub surfaces_are : Surfaces
@@ -57,7 +57,7 @@ level_rows level top bottom =
 abbrev pub is_shared : ℕ → Bool
 is_shared level_type = nat_lt 0 level_type && nat_lt level_type 10
 
--- the surfaces of a type of level, none where the table lacks it
+-- the fixed surfaces of a type of level, none where the table lacks it
 abbrev pub surfaces_at : ℕ → ℕ → ℕ → ℕ → Option Surfaces
 surfaces_at level_type level top bottom =
     cond (is_shared level_type) (Some (one_surface (bare level_type)))

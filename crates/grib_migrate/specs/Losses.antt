@@ -56,8 +56,8 @@ coordinate_loss words = coordinate_loss_from 1 words
 abbrev pub reference_loss : List ℕ → Option Loss
 reference_loss s4 = lost_where (is_none (binary32_of (reference s4))) losses.Reference
 
--- the losses of Section 1 and of the flags of Section 2, by its parameter and its surfaces, and by whether octets for
--- local use are there and not written
+-- the losses of Section 1 and of the flags of Section 2, by its parameter and its fixed surfaces,
+-- and by whether octets for local use are there and not written
 abbrev pub front_losses_by : Option Target → Option Surfaces → Bool → List ℕ → List ℕ → List (Option Loss)
 front_losses_by target surfaces loses_local s1 s2 =
     lost_where (is_none target) losses.Parameter
@@ -70,7 +70,7 @@ front_losses_by target surfaces loses_local s1 s2 =
     ∷ lost_where (has_other_flags s2) losses.GridFlags
     ∷ []
 
--- by a parameter table alone, and by whether local use is kept
+-- by a parameter table alone, and by whether local use is preserved
 abbrev pub front_losses : Entries → Bool → List ℕ → List ℕ → List (Option Loss)
 front_losses table keep_local s1 s2 = front_losses_by (target_in table s1) (surfaces_of s1) (has_local s1 && not keep_local) s1 s2
 

@@ -27,7 +27,7 @@ no_unit = record { code = 0; seconds = 0 }
 abbrev pub no_surfaces : Surfaces
 no_surfaces = one_surface no_surface
 
--- Section 2, where the octets for the centre's own use are kept and there are any
+-- Section 2, where the octets for the centre's own use are preserved and there are any
 abbrev pub local_section : Bool → List ℕ → List ℕ
 local_section keep_local s1 = cond (keep_local && has_local s1) (section_of 2 (local_octets s1)) []
 
@@ -54,13 +54,14 @@ message_with discipline total sections =
     indicator ++ (0 ∷ 0 ∷ discipline ∷ 2 ∷ octets_of 8 total ++ (sections ++ end_mark))
 
 -- the message with these Sections 1 to 5, by Sections 3 and 4 of edition 1; its total length counts Section 0 and
--- the end mark too
+-- the End Section too
 abbrev pub whole_message : ℕ → List ℕ → Option (List ℕ) → List ℕ → ℕ → ℕ → List ℕ
 whole_message discipline front s3 s4 points values =
     let sections = front ++ (bitmap_section s3 points ++ values_section s4 values) in
     message_with discipline (16 + length sections + 4) sections
 
--- the message of edition 2 with this parameter, these surfaces, this member of an ensemble and this Section 2
+-- the message of edition 2 with this parameter, these fixed surfaces, this member of an ensemble
+-- and this Section 2
 abbrev pub migrated_by : Target → Surfaces → Option Member → List ℕ → List ℕ → List ℕ
 migrated_by target surfaces member section_2 message =
     let s1 = identification message in

@@ -113,7 +113,8 @@ fn target_in(section1: &[u8], table: &Table) -> Option<Target>
     table.lookup(u8_at(section1, 5), u8_at(section1, 4), u8_at(section1, 9))
 }
 
-/// The surfaces, by what the table of surfaces has, else by the type of level, if nothing of it is lost.
+/// The fixed surfaces, by what the table of surfaces has, else by the type of level, if nothing of
+/// it is lost.
 fn surfaces_by(section1: &[u8], named: &Option<SurfaceTarget>) -> Option<Surfaces>
     requires { 28 ≤ length section1.now }
     ensures { result ≡ chosen.surfaces_by named.now section1.now }

@@ -10,7 +10,7 @@ use grib_params::SurfaceTarget;
 /// A fixed surface: its type (code table 4.5), and its value by a scale factor and a scaled value.
 #[derive(Clone, Copy, Debug)]
 pub struct Surface {
-    /// The type, 255 where there is no surface.
+    /// The type, 255 where there is no fixed surface.
     pub kind: u8,
     /// How many decimal places the scaled value has, 255 where it is missing.
     pub scale_factor: u8,
@@ -21,13 +21,13 @@ pub struct Surface {
 /// The first and the second fixed surface of a product.
 #[derive(Clone, Copy, Debug)]
 pub struct Surfaces {
-    /// The surface, or the top of a layer.
+    /// The fixed surface, or the top of a layer.
     pub first: Surface,
     /// The bottom of a layer.
     pub second: Surface,
 }
 
-/// The surface of this kind at `scaled_value / 10^scale_factor`.
+/// The fixed surface of this kind at `scaled_value / 10^scale_factor`.
 fn valued(kind: u8, scale_factor: u8, scaled_value: u32) -> Surface
     ensures { result ≡ levels.surface kind scale_factor scaled_value }
 {
@@ -38,14 +38,14 @@ fn valued(kind: u8, scale_factor: u8, scaled_value: u32) -> Surface
     }
 }
 
-/// The surface of a kind that has no value.
+/// The fixed surface of a kind that has no value.
 fn bare(kind: u8) -> Surface
     ensures { result ≡ levels.bare kind }
 {
     valued(kind, u8::MAX, u32::MAX)
 }
 
-/// A first surface without a second.
+/// A first fixed surface without a second.
 fn one(first: Surface) -> Surfaces
     ensures { result ≡ levels.one_surface first }
 {
@@ -55,7 +55,7 @@ fn one(first: Surface) -> Surfaces
     }
 }
 
-/// The two surfaces of a layer.
+/// The two fixed surfaces of a layer.
 fn layer(kind: u8, scale_factor: u8, top: u32, bottom: u32) -> Surfaces
     ensures { result ≡ levels.surfaces (levels.surface kind scale_factor top)
         (levels.surface kind scale_factor bottom) }
@@ -66,7 +66,8 @@ fn layer(kind: u8, scale_factor: u8, top: u32, bottom: u32) -> Surfaces
     }
 }
 
-/// The surfaces of a type of level with this number, or with this top and bottom, if it has any.
+/// The fixed surfaces of a type of level with this number, or with this top and bottom, if it has
+/// any.
 pub fn surfaces_at(level_type: u8, level: u32, top: u32, bottom: u32) -> Option<Surfaces>
     requires level { level < 2 ^ 16 }
     requires top { top < 2 ^ 8 }
@@ -93,7 +94,7 @@ pub fn surfaces_at(level_type: u8, level: u32, top: u32, bottom: u32) -> Option<
     })
 }
 
-/// The surfaces of this Section 1, if nothing of its level is lost.
+/// The fixed surfaces of this Section 1, if nothing of its level is lost.
 pub(crate) fn surfaces_of(section1: &[u8]) -> Option<Surfaces>
     requires { 28 ≤ length section1.now }
     ensures { result ≡ levels.surfaces_of section1.now }
@@ -114,7 +115,7 @@ pub(crate) fn surfaces_of(section1: &[u8]) -> Option<Surfaces>
     )
 }
 
-/// The surface that a record of a table of surfaces has, without a second.
+/// The fixed surface that a record of a table of surfaces has, without a second.
 pub(crate) fn surfaces_named(named: &SurfaceTarget) -> Surfaces
     ensures { result ≡ chosen.named_surfaces named.now }
 {

@@ -70,7 +70,7 @@ group_octets target template column kind =
 abbrev pub group_bits : Target → List Point → List Bool
 group_bits target points = group_parts (management_of points) (target_codes target points) (group_lengths target points)
 
--- The codes are the scaled numbers,
+-- The codes are the scaled integers,
 abbrev pub complex_sections : Column → ℕ → Packed
 complex_sections column kind = record {
   section5 = section_of 5 (group_octets ToComplex 2 column kind);

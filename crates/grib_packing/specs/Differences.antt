@@ -49,7 +49,7 @@ undone_from d last (code ∷ codes) =
 abbrev pub undone : Descriptors → List ℕ → List ℤ
 undone d codes = undone_from d NoNumber codes
 
--- whether a number is outside plus and minus 2 ^ 60, which no scaled number may be
+-- whether a number is outside plus and minus 2 ^ 60, which no scaled integer may be
 abbrev pub is_beyond : ℤ → Bool
 is_beyond x = nat_lt (2 ^ 60) (nat_abs x)
 

@@ -57,8 +57,8 @@ present_code (Present n) = Some n
 present_code Primary = None
 present_code Secondary = None
 
--- the scaled numbers of the values that are not missing: their codes, or the numbers whose differences
--- the codes tell
+-- the scaled integers of the values that are not missing: their codes, or the numbers whose
+-- differences the codes tell
 abbrev pub numbers_of : List ℕ → List ℕ → List ℤ
 numbers_of s5 s7 =
     let present = filter_map present_code (codes_of s5 s7) in

@@ -6,8 +6,8 @@ use Rattle.grib_packing.specs.declared.column.Point.{Point}
 use Rattle.grib_packing.specs.declared.column.Point.TheVariants.{Scaled, Missing, Missing2}
 use Rattle.grib_packing.specs.Differences.{descriptors_of, difference_codes}
 
--- what is packed to: simple packing, or groups of codes, which are the scaled numbers or their spatial
--- differences of order 1 or 2
+-- what is packed to: simple packing, or groups of codes, which are the scaled integers or their
+-- spatial differences of order 1 or 2
 pub data Target : Type 0 where
   ToSimple : Target
   ToComplex : Target
@@ -40,7 +40,7 @@ scaled_of (Scaled x) = Some x
 scaled_of Missing = None
 scaled_of Missing2 = None
 
--- the scaled numbers of the points that are not missing
+-- the scaled integers of the points that are not missing
 abbrev pub scaled_numbers : List Point → List ℤ
 scaled_numbers points = filter_map scaled_of points
 

@@ -11,8 +11,8 @@ use Rattle.grib_packing.specs.declared.written.Packed.{Packed}
 use Rattle.grib_packing.specs.declared.written.PackFault.{PackFault}
 use Rattle.grib_packing.specs.declared.written.PackFault.TheVariants.{SecondaryMissing, OutOfRange, DifferenceRange, Memory}
 
--- The columns that a packing may be given: 1 to 33,554,432 points, scaled numbers within plus and minus
--- 2 ^ 60, and a reference value that is finite.
+-- The columns that a packing may be given: 1 to 33,554,432 points, scaled integers within plus and
+-- minus 2 ^ 60, and a reference value that is finite.
 pub record MayBePacked (column : Column) : Type 0 where
   pub some : 1 ≤ length column.points
   pub few : length column.points ≤ 33554432

@@ -2,11 +2,11 @@
 
 use grib_base::List;
 
-/// A grid point. Its value Y follows from its scaled number X by Y * 10^D = R + X * 2^E (WMO-No. 306,
-/// Volume I.2, FM 92 GRIB edition 2, data representation template 5.0).
+/// A grid point. Its value Y follows from its scaled integer X by Y * 10^D = R + X * 2^E
+/// (WMO-No. 306, Volume I.2, FM 92 GRIB edition 2, data representation template 5.0).
 #[derive(Clone, Copy, Debug, PartialEq, Eq)]
 pub enum Point {
-    /// The scaled number X.
+    /// The scaled integer X.
     Scaled(i64),
     /// Left out by the bitmap, or primary missing (code table 5.5).
     Missing,

@@ -21,7 +21,7 @@ pub enum PackFault {
     /// This point is secondary missing, which the packing cannot tell.
     #[error("point {0}: secondary missing")]
     SecondaryMissing(u32),
-    /// The scaled number of this point is negative or too great.
+    /// The scaled integer of this point is negative or too great.
     #[error("point {0}: the scaled number is out of range")]
     OutOfRange(u32),
     /// A first value, the minimum or a code of the spatial differences has no place.

@@ -19,7 +19,7 @@ use std::alloc::Global;
 /// 7.0).
 #[derive(Debug, Drop)]
 pub(crate) enum SimpleReading<K> {
-    /// Packed numbers come, which are the scaled numbers themselves.
+    /// Packed numbers come, which are the scaled integers themselves.
     Reads(Fed<PlainValues<K>>),
     /// No row of the profile fails, whatever comes, and no points are kept.
     Passes(K),

@@ -23,7 +23,7 @@ value_in field = if bytes_eq field (codes "-") then Some 4294967295 else long_nu
 abbrev pub SurfaceKey : Type 0
 SurfaceKey = Key × ℕ × Option ℕ
 
--- a key, a parameter of edition 2 and its surface, from their parts, where each is there
+-- a key, a parameter of edition 2 and its fixed surface, from their parts, where each is there
 abbrev pub surface_key_from : Option (Option ℕ) → Option ℕ → Option ℕ → Option ℕ → Option (Option ℕ) → Option SurfaceKey
 surface_key_from (Some centre) (Some version) (Some parameter) (Some level_type) (Some level) =
     Some ((centre, version, parameter), level_type, level)

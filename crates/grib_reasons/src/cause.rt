@@ -12,7 +12,7 @@ pub enum Cause {
     EditionOne,
     /// The packing has no code for a secondary missing value.
     SecondaryMissing { field: u32, point: u32 },
-    /// The packing has no room for a scaled number.
+    /// The packing has no room for a scaled integer.
     OutOfRange { field: u32, point: u32 },
     /// The packing has no room for the spatial differences.
     DifferenceRange { field: u32 },
@@ -30,7 +30,7 @@ pub enum Cause {
     GridKind { field: u32 },
     /// The scanning mode is one that the command does not take.
     ScanMode { field: u32 },
-    /// The box reaches beyond the last column or row of the grid.
+    /// The subarea reaches beyond the last column or row of the grid.
     OutsideBox { field: u32 },
     /// The corners of the grid are not told by its increments.
     Increments { field: u32 },
@@ -38,7 +38,7 @@ pub enum Cause {
     DecimalRange { field: u32, point: u32 },
 }
 
-/// A message that is accepted and is kept from being changed or printed as asked.
+/// A message that is accepted and cannot be changed or printed as asked.
 #[derive(Clone, Copy, Debug, PartialEq, Eq)]
 pub struct Kept {
     /// The message's number in the input, from 1.

@@ -26,7 +26,7 @@ pub enum Demotion {
     Date,
     /// The interval is not one time range that edition 1 tells, or does not end where its time range does.
     Interval,
-    /// There are octets for the centre's own use, and they are not to be kept.
+    /// There are octets for the centre's own use, and they are not to be preserved.
     LocalUse,
     /// The earth is neither of the two of edition 1, and not any earth will do.
     EarthShape,
@@ -42,7 +42,7 @@ pub enum Demotion {
     Reference,
     /// This point is secondary missing, which edition 1 cannot tell.
     SecondaryMissing(u32),
-    /// The scaled number of this point is negative or has more than 48 bits.
+    /// The scaled integer of this point is negative or has more than 48 bits.
     OutOfRange(u32),
     /// The message would have this many octets, which are more than 16,777,215.
     TooLong(u64),

@@ -10,7 +10,8 @@ use std::fmt;
 pub enum Loss {
     /// The table has no row for the centre, the version and the parameter.
     Parameter,
-    /// The type of level has no fixed surface, or has a number that the surface has no place for.
+    /// The type of level has no fixed surface, or has a number that the fixed surface has no place
+    /// for.
     LevelType,
     /// The unit of time has no place.
     TimeUnit,
@@ -20,7 +21,7 @@ pub enum Loss {
     Date,
     /// The field is an average of several, or fields are missing at a point in time.
     AverageCount,
-    /// Section 1 has octets for the centre's own use, and they are not to be kept.
+    /// Section 1 has octets for the centre's own use, and they are not to be preserved.
     LocalUse,
     /// A flag of the grid, or of its scanning mode, has no place.
     GridFlags,

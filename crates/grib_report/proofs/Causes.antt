@@ -1,4 +1,4 @@
--- The first cause by which a message is kept from being printed with its values.
+-- The first cause by which a message cannot be printed with its values.
 use Rattle.std.proofs.Common.{◌≡◌, Bool, ℕ, zero, suc, ◌+◌, ◌-◌, ◌<◌, ◌≤◌, true, false, Option, Some, None, is_some, is_none, option_map, List, [], refl, ap, ◌∙◌, arith}
 use Rattle.grib_dyadic.specs.Reference.{Binary, ieee, ibm, reduced}
 use Rattle.grib_packing.specs.declared.column.Column.{Column}

@@ -1,5 +1,5 @@
--- `stats`: for each field the line on what its points sum up to, and the line on its reference value and its scale
--- factors.
+-- `stats`: for each field the line with the summary of its points, and the line on its reference
+-- value and its scale factors.
 use Rattle.std.specs.Prelude.{ℕ, List, ◌++◌}
 use Rattle.grib_bits.specs.Bits.{bits_of, signed}
 use Rattle.grib_dyadic.specs.Reference.{Binary, ieee, ibm, reduced}

@@ -1,5 +1,5 @@
--- `dump decimals=`: as `dump`, with the value of each point as a decimal in place of its scaled number. A message with
--- a value that is too large for a text is kept.
+-- `dump decimals=`: as `dump`, with the value of each point as a decimal in place of its scaled
+-- integer. A message with a value that is too large for a text cannot be printed.
 use Rattle.std.specs.Prelude.{ℕ, zero, suc, ◌+◌, ◌*◌, ◌≤◌, ◌≡◌, true, false, Option, Some, None, option_map, List, length, ◌++◌}
 use Rattle.std.proofs.Common.{sym, ap}
 use Rattle.grib_bits.specs.Bits.{bits_of, signed}
@@ -66,7 +66,7 @@ first_cause cause (suc n) i = or_later (cause i) (λ _. first_cause cause n (i +
 abbrev pub cause_2 : ℕ → List ℕ → Option Cause
 cause_2 places message = first_cause (field_cause places message) (field_count message) 1
 
--- a text is printed, or message m is kept by its cause
+-- a text is printed, or message m cannot be printed, by its cause
 abbrev pub text_unless : Option Cause → ℕ → List ℕ → Given
 text_unless None m text = given_text text
 text_unless (Some cause) m text = Ends (kept_at m cause)

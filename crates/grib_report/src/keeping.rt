@@ -1,4 +1,4 @@
-//! What sums up the points of values as these come.
+//! The summary of the points of values, as these come.
 
 ghost use Rattle.std.specs.Prelude.{◌≤◌, List, length};
 ghost use Rattle.grib_packing.specs.declared.column.Point.{Point as point_packing};
@@ -11,7 +11,7 @@ use grib_base::MOST_POINTS;
 use grib_decimal::{Summary, Tally};
 use grib_packing::{Keeper, Point};
 
-/// The sums of the points of values. No point is kept.
+/// The summary of the points of values so far. No point is kept.
 #[derive(Debug, Drop)]
 pub(crate) struct Tallying {
     tally: Tally,

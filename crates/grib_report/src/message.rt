@@ -10,7 +10,7 @@ use grib_decimal::Summary;
 use grib2_message::Message;
 use std::alloc::{AllocError, Global};
 
-/// What the points of a field sum up to. Fields count from 1. No column is made.
+/// The summary of the points of a field. Fields count from 1. No column is made.
 ///
 /// # Errors
 ///

@@ -15,7 +15,7 @@ use grib_decimal::Summary;
 use grib1_sections::Message1;
 use std::alloc::{AllocError, Global};
 
-/// What the points of a message sum up to. No column is made.
+/// The summary of the points of a message. No column is made.
 ///
 /// # Errors
 ///

@@ -23,8 +23,8 @@ pub struct Scaling {
     pub d: u16,
 }
 
-/// Those of a field of edition 2: octets 12-19 of Section 5. Fields count from 1. No scaled number of the field
-/// is outside plus and minus 2^60.
+/// Those of a field of edition 2: octets 12-19 of Section 5. Fields count from 1. No scaled integer
+/// of the field is outside plus and minus 2^60.
 pub fn field_scaling(message: &Message<'_>, field: u32) -> Scaling
     requires first { 1 ≤ field }
     requires last { field ≤ field_count message.now }
@@ -45,8 +45,8 @@ pub fn field_scaling(message: &Message<'_>, field: u32) -> Scaling
     }
 }
 
-/// Those of a message of edition 1: octets 5-10 of Section 4 and 27-28 of Section 1. No scaled number of the
-/// message is outside plus and minus 2^60.
+/// Those of a message of edition 1: octets 5-10 of Section 4 and 27-28 of Section 1. No scaled
+/// integer of the message is outside plus and minus 2^60.
 pub fn message_scaling1(message: &Message1<'_>) -> Scaling
     ensures reference { result.reference ≡ (column1_of message.now).reference }
     ensures e { result.e ≡ (column1_of message.now).e }

@@ -1,4 +1,4 @@
-//! `stats`: for each field a line on what its points sum up to, and its reference line.
+//! `stats`: for each field a line with the summary of its points, and its reference line.
 
 ghost use Rattle.std.specs.Prelude.{◌≡◌, ◌++◌, IfOk};
 ghost use Rattle.grib_bits.specs.Bits.{bits_of, signed};
@@ -19,7 +19,7 @@ use grib2_arrival::Arrival;
 use grib2_message::Message;
 use std::alloc::{AllocError, Global};
 
-/// Prints what the points of a field sum up to, and its reference line.
+/// Prints the summary of the points of a field, and its reference line.
 #[derive(Clone, Copy, Debug)]
 pub struct Summing;
 
@@ -79,7 +79,8 @@ impl Printer for Summing {
     }
 }
 
-/// The line on what the points of a field sum up to, and the line on its reference value and its scale factors.
+/// The line with the summary of the points of a field, and the line on its reference value and its
+/// scale factors.
 fn sums_of(
     alloc: Global,
     number: u64,

@@ -120,7 +120,8 @@ impl FieldPrinter for Valuing {
     }
 }
 
-/// The cause by which a message of edition 1 is kept, if one of its values is too large for a text.
+/// The cause by which a message of edition 1 cannot be printed, if one of its values is too large
+/// for a text.
 fn first_cause(
     alloc: Global,
     message: &Message1<'_>,
@@ -137,7 +138,8 @@ fn first_cause(
     Ok(range_cause(&column, &reference, places, 1))
 }
 
-/// The cause by which a message of edition 2 is kept: its first value that is too large for a text.
+/// The cause by which a message of edition 2 cannot be printed: its first value that is too large
+/// for a text.
 fn second_cause(
     alloc: Global,
     message: &Message<'_>,

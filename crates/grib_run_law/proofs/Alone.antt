@@ -1,4 +1,5 @@
--- Commands whose results do not hang on the place of a message, but for the number of one that is kept.
+-- Commands whose results do not hang on the place of a message, but for the number of one that
+-- cannot be changed.
 use Rattle.std.proofs.Common.{◌≡◌, ◌⊎◌, inl, inr, ℕ, Bool, true, false, Option, Some, None, option_map, List, [], ◌==◌, length, refl, sym, ap, ◌∙◌}
 use Rattle.grib_base.specs.Rows.{choose}
 use Rattle.grib2_sections.specs.Head.{edition}
@@ -21,7 +22,7 @@ use Rattle.grib_edit.specs.Demoting.{demoted_cause, demoted_fields, demote_comma
 use Rattle.grib_edit.specs.Filtering.{filtered, filter_command}
 use Rattle.grib_edit.specs.Migrating.{are_octets, migrate_command}
 
--- what is given at each place is the same, or the message is kept there by the same cause
+-- what is given at each place is the same, or the message cannot be changed there by the same cause
 abbrev pub IsFixed : (Place → Given) → Type 0
 IsFixed given =
     ((acts : List Act) × (written : ℕ) × ((place : Place) → given place ≡ Gives acts written))

@@ -56,7 +56,7 @@ written_of (octet ∷ octets) = ap (λ xs. octet ∷ xs) (written_of octets)
 wrote : (octets : List ℕ) (count : ℕ) (acts : List Act) (more : ℕ) → Gives (writes octets) count ≡ Gives acts more → octets ≡ written acts
 wrote octets count acts more is = let same : writes octets ≡ acts = cc in sym (written_of octets) ∙ ap written same
 
--- where no cause keeps a message, its result is this
+-- where a message can be changed as asked, its result is this
 unless_wrote : (cause : Option Cause) (m : ℕ) (octets : List ℕ) (acts : List Act) (more : ℕ) → given_unless cause m octets ≡ Gives acts more → (cause ≡ None) × (octets ≡ written acts)
 unless_wrote None m octets acts more is = (refl, wrote octets _ acts more is)
 unless_wrote (Some cause) m octets acts more is = let no : ⊥ = cc in absurd no

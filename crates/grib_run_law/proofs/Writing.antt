@@ -48,7 +48,7 @@ module _ (Is : List ℕ → List ℕ → Type 0) (command : Command) (policy : P
     all = λ no. omega (arith, rest.all no);
   }
 
-  -- what is written for a message that is kept
+  -- what is written for a message that cannot be changed
   kept_then : (instead : Option Instead) (counts : Counts) (place : Place) (fields : ℕ) (found : Found) (kept : IsKept command found.octets) (items : List Item) (later : Counts → Answered)
       → policy.kept ≡ instead → ((counts : Counts) → Wrote items (later counts))
       → Wrote (Accepted found ∷ items)

@@ -22,14 +22,14 @@ use Rattle.grib_run_law.specs.Same.{columns_of}
 
 -- ---- the parts of an input
 
--- the items before the first message of edition 1, which is kept
+-- the items before the first message of edition 1, which cannot be changed
 abbrev pub before_first_kept : List Item → List Item
 before_first_kept [] = []
 before_first_kept (Refused refused ∷ later) = Refused refused ∷ before_first_kept later
 before_first_kept (Accepted found ∷ later) = choose (edition found.octets == 1) (λ _. []) (λ _. Accepted found ∷ before_first_kept later)
 
--- The items that are answered: all of them where something is written instead of a kept message, and else those before
--- the first that is kept.
+-- The items that are answered: all of them where something is written instead of a message that
+-- cannot be changed, and else those before the first of these.
 abbrev pub reached : Option Instead → List Item → List Item
 reached None items = before_first_kept items
 reached (Some instead) items = items

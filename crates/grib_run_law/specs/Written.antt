@@ -18,27 +18,30 @@ use Rattle.grib_run_spec.specs.Stated.{plan_by, stated_by}
 use Rattle.grib_run_spec.specs.Tasks.{Stated}
 use Rattle.grib_run_law.specs.Answered.{items_of}
 
--- a command has a result for a message, wherever it stands: no cause keeps it
+-- a command has a result for a message, wherever it stands: it can be changed as asked
 abbrev pub HasResult : Command → List ℕ → Type 0
 HasResult command message = (place : Place) → (acts : List Act) × (octets : ℕ) × (given command place message ≡ Gives acts octets)
 
--- a command keeps a message by a cause, wherever it stands
+-- a command cannot change a message, by a cause, wherever it stands
 abbrev pub IsKept : Command → List ℕ → Type 0
 IsKept command message = (cause : Cause) × ((place : Place) → given command place message ≡ Ends (kept_at place.message cause))
 
--- octets stand for a message that the command keeps: they are the message, or there are none, as the policy says
+-- octets stand for a message that the command cannot change: they are the message, or there are
+-- none, as the policy says
 abbrev pub StandsFor : Command → Option Instead → List ℕ → List ℕ → Type 0
 StandsFor command None message octets = ⊥
 StandsFor command (Some instead) message octets = IsKept command message × (octets ≡ instead_of instead message)
 
--- what is left out: nothing, or all from a message on that the command keeps, under a policy by which the run ends there
+-- what is left out: nothing, or all from a message on that the command cannot change, under a
+-- policy by which the run ends there
 abbrev pub AreLeftOut : Command → Policy → List Item → Type 0
 AreLeftOut command policy [] = Unit {0}
 AreLeftOut command policy (Accepted found ∷ later) = (policy.kept ≡ None) × IsKept command found.octets
 AreLeftOut command policy (Refused refused ∷ later) = ⊥
 
 -- For each item until the run ends, what was written: for a message of which there is a result what `Is` says, or what
--- stands for it where it is kept; for octets that are refused, what the policy has in their place.
+-- stands for it where it cannot be changed; for octets that are refused, what the policy has in
+-- their place.
 abbrev pub AreWritten : (List ℕ → List ℕ → Type 0) → Command → Policy → List Item → List (List ℕ) → Type 0
 AreWritten Is command policy items [] = AreLeftOut command policy items
 AreWritten Is command policy [] (octets ∷ later) = ⊥
@@ -49,7 +52,7 @@ AreWritten Is command policy (Refused refused ∷ items) (octets ∷ later) =
     (octets ≡ refused_instead policy.refused refused.octets) × AreWritten Is command policy items later
 
 -- Octets are what was written for the items, one after another; for all of them unless the run ended with a message that
--- is kept.
+-- cannot be changed.
 pub record WritesItems (Is : List ℕ → List ℕ → Type 0) (command : Command) (policy : Policy) (outcome : Outcome) (items : List Item) (octets : List ℕ) : Type 0 where
   pub outputs : List (List ℕ)
   pub joined : octets ≡ concat outputs

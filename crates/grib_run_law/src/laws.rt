@@ -44,7 +44,7 @@ use grib_select::laws::{what_is_cut_out_keeps_its_column, what_is_set_keeps_each
 use grib_stream::laws::each_outcome_has_its_note;
 
 /// What `repack` writes is, for each item until the run ends, a message with the same values, or what stands for a message
-/// that is kept, or what the policy has for octets that are refused.
+/// that cannot be changed, or what the policy has for octets that are refused.
 pub fn what_is_repacked_keeps_each_value()
     ensures { (target : RepackTarget) (policy : Policy) (more : Bool) (octets : List ℕ) → is_target target ≡ true
         → Writes (IfOctets SameValues) (repack_command target) policy more octets }
@@ -153,8 +153,8 @@ pub fn parts_are_written_one_after_the_other()
 {}
 
 /// Where an input of at most 2 ^ 40 octets consists of messages of the grammar, with octets between them in which
-/// none begins, where no cause keeps any of them, and where the tables, if the job reads any, are good, the run is
-/// done.
+/// none begins, where each of them can be changed as asked, and where the tables, if the job reads
+/// any, are good, the run is done.
 pub fn what_can_be_answered_is_done()
     ensures { (job : Job) (texts : Texts) (pieces : List Piece) (input : List ℕ) → length input ≤ 2 ^ 40
         → IsMadeOf pieces input → HaveResults (work_of job) texts pieces → (answer_with job texts input).outcome ≡ Done }

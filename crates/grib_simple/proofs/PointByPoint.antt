@@ -30,7 +30,7 @@ module _ (points : List Point) (i word bit : ℕ) (d : Point) (within : i < leng
   pub word_lt : word < 2 ^ i → bit_or (word * 2 ^ 1 % 2 ^ 64) bit < 2 ^ (i + 1)
   word_lt before = shl_or-lt i 1 word bit (omega arith) before small
 
--- ---- no scaled numbers
+-- ---- no scaled integers
 
 pub all_missing : (points : List Point) → list_any is_missing2 points ≡ false → length (simple_numbers points) ≡ 0
     → present_bits points ≡ replicate (length points) false
@@ -39,7 +39,7 @@ all_missing (Scaled x ∷ points) one_kind none = absurd (cc)
 all_missing (Missing ∷ points) one_kind none = ap (λ (bs : List Bool). false ∷ bs) (all_missing points one_kind none)
 all_missing (Missing2 ∷ points) one_kind none = absurd (cc)
 
--- ---- scaled numbers
+-- ---- scaled integers
 
 module _ (points : List Point) (i : ℕ) (d : Point) (within : i < length points) where
   rest_is : (point : Point) → get_or points i d ≡ point → drop i points ≡ point ∷ drop (i + 1) points

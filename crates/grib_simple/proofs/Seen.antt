@@ -101,7 +101,7 @@ module _ (test : Point → Bool) (x : Point) (rest : List Point) (found seen now
         let whole : place + suc n ≡ seen + (1 + suc n) = omega arith in
         rw (ne_eqb (suc n) 0 (λ z. omega arith)) (whole ∙ sym inner)
 
--- ---- a scaled number more
+-- ---- a scaled integer more
 
 pub number_more : (before now : Survey) (seen place : ℕ) (x : ℤ) (rest points : List Point) → place ≡ seen + 1
     → now.secondary ≡ before.secondary → now.missing ≡ before.missing → now.same ≡ before.same → now.present ≡ before.present + 1 → now.greatest ≡ max before.greatest (nat_abs x)

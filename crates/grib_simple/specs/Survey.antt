@@ -8,7 +8,7 @@ use Rattle.grib_packing.specs.Misfits.{is_missing, is_missing2, is_scaled_outsid
 use Rattle.grib_packing.specs.Packed.{simple_numbers}
 use Rattle.grib_simple.specs.declared.survey.Survey.{Survey}
 
--- the scaled numbers that do not fit 48 bits
+-- the scaled integers that do not fit 48 bits
 abbrev pub is_too_wide : Point → Bool
 is_too_wide point = is_scaled_outside (2 ^ 48 - 1) point
 

@@ -39,7 +39,7 @@ pub fn unpack_numbers(
     Ok(numbers)
 }
 
-/// Numbers as the scaled numbers of points: no vector of numbers stands
+/// Numbers as the scaled integers of points: no vector of numbers stands
 /// beside them.
 ///
 /// # Errors

@@ -16,8 +16,8 @@ use std::alloc::Global;
 ///
 /// # Errors
 ///
-/// A point is secondary missing, a scaled number is negative or has more than 48 bits, or there is no
-/// memory.
+/// A point is secondary missing, a scaled integer is negative or has more than 48 bits, or there is
+/// no memory.
 pub fn pack_simply(alloc: Global, column: &Column, kind: u8) -> Result<Packed, PackFault>
     requires { MayBePacked column.now }
     ensures { IsPacked ToSimple column.now kind result }

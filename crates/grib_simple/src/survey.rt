@@ -16,9 +16,9 @@ const MOST: u64 = (1 << 48) - 1;
 /// What the points of a column have.
 #[derive(Clone, Copy, Debug)]
 pub struct Survey {
-    /// The greatest magnitude of a scaled number, 0 for none.
+    /// The greatest magnitude of a scaled integer, 0 for none.
     pub greatest: u64,
-    /// How many scaled numbers there are.
+    /// How many scaled integers there are.
     pub present: u32,
     /// Whether a point is missing.
     pub missing: bool,
@@ -26,7 +26,7 @@ pub struct Survey {
     pub secondary: u32,
     /// The first point, from 1, whose number is negative or has more than 48 bits, 0 for none.
     pub too_wide: u32,
-    /// Whether all points are known to be the same, so that each scaled number is the greatest.
+    /// Whether all points are known to be the same, so that each scaled integer is the greatest.
     pub same: bool,
 }
 
@@ -104,7 +104,7 @@ impl Survey {
         }
     }
 
-    /// The survey with one scaled number more.
+    /// The survey with one scaled integer more.
     #[inline(always)]
     fn with_number(self, place: u32, x: i64) -> Survey
         requires { self.present < place }
@@ -141,7 +141,7 @@ impl Survey {
     }
 }
 
-/// Whether a scaled number is negative or has more than 48 bits.
+/// Whether a scaled integer is negative or has more than 48 bits.
 #[inline(always)]
 fn is_too_wide(x: i64) -> bool
     ensures { result ≡ is_outside (2 ^ 48 - 1) x }

@@ -33,7 +33,7 @@ pub fn representation_section(
 }
 
 /// Section 6, in a writer that has room for it: without a bitmap where no point is missing (WMO-No. 306,
-/// Volume I.2, FM 92 GRIB edition 2, code table 6.0). This many points have a scaled number.
+/// Volume I.2, FM 92 GRIB edition 2, code table 6.0). This many points have a scaled integer.
 pub fn bitmap_section(points: &[Point], present: u32, missing: bool, room: BitWriter) -> List<u8>
     requires few { length points.now ≤ 33554432 }
     requires one_kind { list_any is_missing2 points.now ≡ false }
@@ -66,8 +66,8 @@ fn own_bitmap(points: &[Point], present: u32, mut room: BitWriter) -> List<u8>
     octets_written(room)
 }
 
-/// Writes a bit for each point, 1 for those that are not missing. Where this many have a scaled number and
-/// these are none, no point is looked at.
+/// Writes a bit for each point, 1 for those that are not missing. Where this many have a scaled
+/// integer and these are none, no point is looked at.
 fn put_bitmap(points: &[Point], present: u32, out: &mut BitWriter)
     requires few { length points.now ≤ 33554432 }
     requires one_kind { list_any is_missing2 points.now ≡ false }
@@ -135,8 +135,9 @@ fn present_bit(point: Point) -> u64
     }
 }
 
-/// Section 7 of simple packing, in a writer that has room for this many octets: the scaled numbers, in so
-/// many bits each (WMO-No. 306, Volume I.2, FM 92 GRIB edition 2, data template 7.0).
+/// Section 7 of simple packing, in a writer that has room for this many octets: the scaled
+/// integers, in so many bits each (WMO-No. 306, Volume I.2, FM 92 GRIB edition 2, data template
+/// 7.0).
 pub fn values_section(
     points: &[Point],
     survey: Survey,
@@ -158,8 +159,8 @@ pub fn values_section(
     octets_written(room)
 }
 
-/// Writes the scaled numbers, in this many bits each: nothing, where these are none. Where the numbers are
-/// known to be the same, no point is looked at.
+/// Writes the scaled integers, in this many bits each: nothing, where these are none. Where the
+/// numbers are known to be the same, no point is looked at.
 fn put_numbers(points: &[Point], survey: Survey, bits: u32, out: &mut BitWriter)
     requires survey { IsSurvey survey points.now }
     requires width { bits ≤ 48 }
@@ -178,7 +179,7 @@ fn put_numbers(points: &[Point], survey: Survey, bits: u32, out: &mut BitWriter)
     }
 }
 
-/// Writes the scaled numbers one after another.
+/// Writes the scaled integers one after another.
 fn put_each(points: &[Point], bits: u32, out: &mut BitWriter)
     requires width { bits ≤ 48 }
     requires fits { All (λ number. number < 2 ^ bits) (simple_numbers points.now) }

@@ -7,7 +7,7 @@ ghost use Rattle.grib_spatial.specs.Order.{IsOrder};
 
 use std::marker::Model;
 
-/// A scaled number is outside plus and minus 2^60.
+/// A scaled integer is outside plus and minus 2^60.
 #[derive(Clone, Copy, Debug, PartialEq, Eq)]
 pub struct ScaledRange;
 

@@ -7,7 +7,7 @@ use Rattle.grib2_sections.specs.Head.{head_rows, head_of}
 use Rattle.grib_stream.specs.declared.place.Place.{Place}
 
 -- the line that is noted of a refusal behind which the run goes on, by whether its octets are copied and by its place,
--- and that of a kept message
+-- and that of a message that cannot be changed
 pub record Texts : Type 0 where
   pub refused : Bool → Place → Fault → List ℕ
   pub kept : Place → Kept → List ℕ
