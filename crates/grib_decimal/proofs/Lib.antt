@@ -8,4 +8,3 @@ pub mod Orders
 pub mod Positions
 pub mod Summaries
 pub mod Ranges
-pub mod Mantissas

@@ -1,4 +1,4 @@
-ghost use Rattle.std.specs.Prelude.{◌≡◌, ◌<◌, ◌^◌, ◌↔◌, pos, neg_ℤ, ◌≤ℤ◌, ◌<ℤ◌, nat_abs, IsTrue};
+ghost use Rattle.std.specs.Prelude.{◌≡◌, ◌<◌, ◌≤◌, ◌^◌, ◌↔◌, pos, neg_ℤ, ◌≤ℤ◌, ◌<ℤ◌, nat_abs, IsTrue};
 ghost use Rattle.grib_dyadic.specs.Reference.{binary, SameNumber, IsReduced};
 ghost use Rattle.grib_dyadic.specs.Sign.{signed};
 
@@ -46,6 +46,8 @@ impl Dyadic {
         requires high { exponent ≤ℤ pos 1000 }
         ensures number { SameNumber result (binary (signed negative magnitude) exponent) }
         ensures reduced { IsReduced result }
+        ensures mantissa { nat_abs result.mantissa ≤ magnitude }
+        ensures exponent { nat_abs result.exponent ≤ 2 ^ 15 }
     {
         if magnitude == 0 {
             return Self::ZERO;

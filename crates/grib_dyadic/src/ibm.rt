@@ -1,4 +1,4 @@
-ghost use Rattle.std.specs.Prelude.{◌≡◌, ℕ, ◌*◌, ◌^◌, ◌<◌, ◌≤◌, ◌↔◌, pos, ◌+ℤ◌, ◌-ℤ◌, ◌≤ℤ◌, IsSome, IfSome, IfNone};
+ghost use Rattle.std.specs.Prelude.{◌≡◌, ℕ, ◌*◌, ◌^◌, ◌<◌, ◌≤◌, ◌↔◌, pos, ◌+ℤ◌, ◌-ℤ◌, ◌≤ℤ◌, nat_abs, IsSome, IfSome, IfNone};
 ghost use Rattle.grib_dyadic.specs.Reference.{binary, ibm, ibm_a, SameNumber, IsReduced, reduced, HasIbm, HasIbmAt};
 
 use crate::dyadic::Dyadic;
@@ -10,6 +10,8 @@ impl Dyadic {
         ensures number { SameNumber result (ibm word) }
         ensures reduced { IsReduced result }
         ensures value { result ≡ reduced (ibm word) }
+        ensures mantissa { nat_abs result.mantissa < 2 ^ 24 }
+        ensures exponent { nat_abs result.exponent ≤ 2 ^ 15 }
     {
         let a = (word >> 24) & 0x7f;
         Dyadic::new(word >> 31 == 1, word & 0xff_ffff, 4 * a as i32 - 280)

@@ -1,4 +1,4 @@
-ghost use Rattle.std.specs.Prelude.{◌≡◌, ℕ, ◌+◌, ◌^◌, ◌<◌, ◌≤◌, ◌⊎◌, ◌↔◌, ◌==◌, pos, ◌+ℤ◌, if◌then◌else◌, IsOk, IsErr, IfOk, IsSome, IfSome, IfNone};
+ghost use Rattle.std.specs.Prelude.{◌≡◌, ℕ, ◌+◌, ◌^◌, ◌<◌, ◌≤◌, ◌⊎◌, ◌↔◌, ◌==◌, pos, ◌+ℤ◌, nat_abs, if◌then◌else◌, IsOk, IsErr, IfOk, IsSome, IfSome, IfNone};
 ghost use Rattle.std.specs.Int.{int_max};
 ghost use Rattle.grib_bits.specs.Binary32.{ieee_exponent};
 ghost use Rattle.grib_dyadic.specs.Reference.{binary, ieee, IsFinite, SameNumber, IsReduced, reduced, HasIeee};
@@ -18,6 +18,8 @@ impl Dyadic {
         ensures number { IfOk result (λ d. SameNumber d (ieee word)) }
         ensures reduced { IfOk result (λ d. IsReduced d) }
         ensures value { IfOk result (λ d. d ≡ reduced (ieee word)) }
+        ensures mantissa { IfOk result (λ d. nat_abs d.mantissa < 2 ^ 24) }
+        ensures exponent { IfOk result (λ d. nat_abs d.exponent ≤ 2 ^ 15) }
     {
         let field = (word >> 23) & 0xff;
         if field == 255 {

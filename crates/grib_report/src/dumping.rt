@@ -6,7 +6,7 @@ ghost use Rattle.grib_command.specs.Pending.{WritesToAllBut};
 
 use crate::points::{ROOM, append_points, append_text};
 use crate::printing::Printer;
-use crate::references::{first_reference, second_reference};
+use crate::references::ieee_reference;
 use grib_command::write_whole;
 use grib_dyadic::Dyadic;
 use grib_io::{Sink, Stop};
@@ -39,7 +39,7 @@ impl Printer for Dumping {
         output: &mut T,
     ) -> Result<(), Stop> {
         let column = message.column1(alloc)?;
-        let reference = first_reference(&column);
+        let reference = Dyadic::from_ibm(column.reference);
         let listed = list_line1(alloc, message, number)?;
         let mut lines = Vec::with_capacity(alloc, ROOM)?;
         append_dump(
@@ -63,7 +63,7 @@ impl Printer for Dumping {
         output: &mut T,
     ) -> Result<(), Stop> {
         let column = message.column(alloc, field)?;
-        let reference = second_reference(&column);
+        let reference = ieee_reference(column.reference);
         let listed = list_line(alloc, message, number, field)?;
         append_dump(alloc, listed.as_slice(), &reference, &column, lines, output)
     }

@@ -25,6 +25,7 @@ pub use message::field_sums;
 pub use message1::message_sums1;
 pub use points::{ROOM, make_room};
 pub use printing::{Printer, Printing};
+pub use references::ieee_reference;
 pub use scaling::{Scaling, field_scaling, message_scaling1};
 pub use summing::Summing;
 pub use valuing::Valuing;

@@ -7,7 +7,7 @@ ghost use Rattle.grib_text.specs.Stats.{stats_line as sums_text};
 
 use crate::points::append_text;
 use crate::printing::Printer;
-use crate::references::{ibm_reference, ieee_reference};
+use crate::references::ieee_reference;
 use crate::{Scaling, field_scaling, field_sums, message_scaling1, message_sums1};
 use grib_command::write_whole;
 use grib_decimal::Summary;
@@ -42,7 +42,7 @@ impl Printer for Summing {
     ) -> Result<(), Stop> {
         let summary = message_sums1(alloc, message)?;
         let scaling = message_scaling1(message);
-        let reference = ibm_reference(scaling.reference);
+        let reference = Dyadic::from_ibm(scaling.reference);
         let text = sums_of(alloc, number, 1, &summary, &reference, scaling)?;
         write_whole(output, text.as_slice())
     }

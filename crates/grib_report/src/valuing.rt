@@ -8,7 +8,7 @@ ghost use Rattle.grib_report.specs.Valuing as values;
 
 use crate::fields::{FieldPrinter, write_fields};
 use crate::points::{ROOM, append_text, append_values};
-use crate::references::{first_reference, ibm_reference, ieee_reference, second_reference};
+use crate::references::ieee_reference;
 use crate::{field_scaling, message_scaling1};
 use grib_base::MOST_POINTS;
 use grib_command::{Answered, Ending, Writer, printed, write_whole};
@@ -106,7 +106,7 @@ impl FieldPrinter for Valuing {
         output: &mut T,
     ) -> Result<(), Stop> {
         let column = message.column(alloc, field)?;
-        let reference = second_reference(&column);
+        let reference = ieee_reference(column.reference);
         let listed = list_line(alloc, message, number, field)?;
         append_valued(
             alloc,
@@ -134,7 +134,7 @@ fn first_cause(
         return Ok(None);
     }
     let column = message.column1(alloc)?;
-    let reference = first_reference(&column);
+    let reference = Dyadic::from_ibm(column.reference);
     Ok(range_cause(&column, &reference, places, 1))
 }
 
@@ -173,7 +173,7 @@ fn field_cause(
         return Ok(None);
     }
     let column = message.column(alloc, field)?;
-    let reference = second_reference(&column);
+    let reference = ieee_reference(column.reference);
     Ok(range_cause(&column, &reference, places, field))
 }
 
@@ -184,7 +184,7 @@ fn fits_first(message: &Message1<'_>, places: u32) -> bool
     ensures { result ≡ true → values.cause_1 places message.now ≡ None }
 {
     let scaling = message_scaling1(message);
-    let reference = ibm_reference(scaling.reference);
+    let reference = Dyadic::from_ibm(scaling.reference);
     DecimalScale::of(&reference, scaling.e, scaling.d, places).holds_all()
 }
 
@@ -227,7 +227,7 @@ fn write_first<T: Sink>(
         (values.value_text_1 places message.now number) }
 {
     let column = message.column1(alloc)?;
-    let reference = first_reference(&column);
+    let reference = Dyadic::from_ibm(column.reference);
     let listed = list_line1(alloc, message, number)?;
     let mut lines = Vec::with_capacity(alloc, ROOM)?;
     append_valued(

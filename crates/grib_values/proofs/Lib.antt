@@ -1,3 +1,2 @@
-pub mod Exponents
 pub mod Lengths
 pub mod Pieces

@@ -6,13 +6,13 @@ ghost use Rattle.grib1_sections.specs.Acceptance.{grid};
 ghost use Rattle.grib_values.specs.Shapes as shapes;
 
 use crate::appending::append_array;
-use crate::references::{ibm_reference, ieee_reference};
 use crate::shapes::{first_shape, second_shape};
 use grib_arrays::Shape;
 use grib_command::write_whole;
+use grib_dyadic::Dyadic;
 use grib_io::{Sink, Stop};
 use grib_nearest::Format;
-use grib_report::{Printer, ROOM};
+use grib_report::{Printer, ROOM, ieee_reference};
 use grib1_sections::Message1;
 use grib2_arrival::Arrival;
 use grib2_message::Message;
@@ -43,7 +43,7 @@ impl Printer for Arraying {
     ) -> Result<(), Stop> {
         let column = message.column1(alloc)?;
         let shape = shape_of_message(message);
-        let reference = ibm_reference(column.reference);
+        let reference = Dyadic::from_ibm(column.reference);
         let mut octets = Vec::with_capacity(alloc, ROOM)?;
         append_array(
             alloc,

@@ -3,7 +3,6 @@
 
 mod appending;
 mod arraying;
-mod references;
 mod shapes;
 
 pub use arraying::Arraying;

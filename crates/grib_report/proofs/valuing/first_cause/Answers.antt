@@ -7,5 +7,5 @@ use Rattle.grib_report.proofs.valuing.first_cause.Goals as goal
 pub returns : goal.returns
 returns c =
     let places = c.args.places in
-    c.range_cause.ensures ∙ ap (λ r. range_cause places 1 r c.in_ok-column.column) c.first_reference-reference.ensures.value
+    c.range_cause.ensures ∙ ap (λ r. range_cause places 1 r c.in_ok-column.column) c.from_ibm-reference.ensures.value
     ∙ ap (λ (x : Column). range_cause places 1 (reduced (ibm x.reference)) x) c.in_ok-column.ensures.column

@@ -11,6 +11,6 @@ returns c = λ holds.
     let scaling = c.message_scaling1-scaling in
     let points = (column1_of c.args.message.now).points in
     let none = c.holds_all.ensures holds points scaling.ensures.small in
-    let scale = scale_of c.args.places (column1_of c.args.message.now) ibm c.ibm_reference-reference.result scaling.result.reference scaling.result.e scaling.result.d
-    c.ibm_reference-reference.ensures.value scaling.ensures.reference scaling.ensures.e scaling.ensures.d in
+    let scale = scale_of c.args.places (column1_of c.args.message.now) ibm c.from_ibm-reference.result scaling.result.reference scaling.result.e scaling.result.d
+    c.from_ibm-reference.ensures.value scaling.ensures.reference scaling.ensures.e scaling.ensures.d in
     ap (option_map (λ point. DecimalRange 1 point)) (ap (λ s. first_too_large s points) (sym scale) ∙ ap (λ s. first_too_large s points) (sym c.of.ensures) ∙ none)

@@ -33,8 +33,8 @@ returns-in_err-append_valued g c = record {
   octets = record {
     whole = on_refused _ _ c.from_residual-in_err-append_valued.ensures.0;
     front = subst (AppendsFront (g.T.Sink.contents c.args.output.now) (g.T.Sink.contents c.append_valued.new.output))
-        (values_are_1 c.args.places c.args.message.now c.args.number c.in_ok-column.column c.as_slice.result.now c.first_reference-reference.result c.in_ok-column.ensures.column
-        (c.as_slice.ensures.value ∙ c.in_ok-listed.ensures) c.first_reference-reference.ensures.value)
+        (values_are_1 c.args.places c.args.message.now c.args.number c.in_ok-column.column c.as_slice.result.now c.from_ibm-reference.result c.in_ok-column.ensures.column
+        (c.as_slice.ensures.value ∙ c.in_ok-listed.ensures) c.from_ibm-reference.ensures.value)
         (front_from_empty _ _ c.in_ok-lines.lines.items _ c.in_ok-lines.ensures.items c.append_valued.ensures.octets.front);
   };
   counted = search rules;
@@ -45,8 +45,8 @@ pub returns : goal.returns
 returns g c = record {
   octets =
       subst (Writes c.write_whole.result (g.T.Sink.contents c.args.output.now) (g.T.Sink.contents c.write_whole.new.sink))
-      (values_are_1 c.args.places c.args.message.now c.args.number c.in_ok-column.column c.as_slice.result.now c.first_reference-reference.result c.in_ok-column.ensures.column
-      (c.as_slice.ensures.value ∙ c.in_ok-listed.ensures) c.first_reference-reference.ensures.value)
+      (values_are_1 c.args.places c.args.message.now c.args.number c.in_ok-column.column c.as_slice.result.now c.from_ibm-reference.result c.in_ok-column.ensures.column
+      (c.as_slice.ensures.value ∙ c.in_ok-listed.ensures) c.from_ibm-reference.ensures.value)
       (pending_written c.write_whole.result _ _ _ _ _ c.as_slice-2.result.now
       (from_empty _ _ c.in_ok-lines.lines.items _ _ c.in_ok-lines.ensures.items c.in_ok-append_valued.ensures.octets.whole) c.as_slice-2.ensures.value
       c.write_whole.ensures.writes.octets);
@@ -56,5 +56,5 @@ returns g c = record {
 
 pub append_valued-requires-clause-fits : goal.append_valued-requires-clause-fits
 append_valued-requires-clause-fits g c =
-    values_fit_1 c.args.places c.args.message.now c.in_ok-column.column c.first_reference-reference.result c.in_ok-column.ensures.column
-    c.first_reference-reference.ensures.value c.requires.fits
+    values_fit_1 c.args.places c.args.message.now c.in_ok-column.column c.from_ibm-reference.result c.in_ok-column.ensures.column
+    c.from_ibm-reference.ensures.value c.requires.fits

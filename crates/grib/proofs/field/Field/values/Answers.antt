@@ -1,28 +1,14 @@
 use Rattle.std.proofs.Common.{◌≡◌, ◌≤◌, length, sym, ap, ◌∙◌, subst}
 use Rattle.grib_base.specs.declared.limits.TheConstants.{MOST_POINTS}
-use Rattle.grib_decimal.proofs.Mantissas.{ibm_small, ieee_small}
 use Rattle.grib_dyadic.specs.Reference.{ieee, ibm, reduced}
 use Rattle.grib.specs.Message.{field_of}
 use Rattle.grib.specs.Field.{values_in, point_count_in}
 use Rattle.grib.specs.Values.{values_left, values_of}
 use Rattle.grib.proofs.Held.{second_last}
-use Rattle.grib.proofs.References.{ibm_near, ieee_near}
 use Rattle.grib.proofs.field.Field.values.Goals as goal
-
-pub of-requires-clause-small : goal.of-requires-clause-small
-of-requires-clause-small c = ibm_small c.in_ok-column-in-One.column.reference c.from_ibm.result c.from_ibm.ensures.value
-
-pub of-requires-clause-near : goal.of-requires-clause-near
-of-requires-clause-near c = ibm_near c.in_ok-column-in-One.column.reference c.from_ibm.result c.from_ibm.ensures.value
 
 pub column-requires-clause-last : goal.column-requires-clause-last
 column-requires-clause-last c = second_last _ _ _ (sym c.held.ensures ∙ c.in-Two.is) c.args.self.now.last
-
-pub of-requires-in-Two-clause-small : goal.of-requires-in-Two-clause-small
-of-requires-in-Two-clause-small c = ieee_small c.in_ok-column-in-Two.column.reference c.in-Ok.reference c.in-Ok.ensures.value
-
-pub of-requires-in-Two-clause-near : goal.of-requires-in-Two-clause-near
-of-requires-in-Two-clause-near c = ieee_near c.in_ok-column-in-Two.column.reference c.in-Ok.reference c.in-Ok.ensures.value
 
 pub returns-in_ok-column-in-One-clause-values : goal.returns-in_ok-column-in-One-clause-values
 returns-in_ok-column-in-One-clause-values c =

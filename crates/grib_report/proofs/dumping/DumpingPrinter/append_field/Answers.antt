@@ -12,8 +12,8 @@ returns-in_err-column g c = record {
   unfinished = search rules;
 }
 
-pub second_reference-reference-requires : goal.second_reference-reference-requires
-second_reference-reference-requires g c = record {
+pub ieee_reference-reference-requires : goal.ieee_reference-reference-requires
+ieee_reference-reference-requires g c = record {
   finite = finite_column c.args.message.now c.args.field c.in_ok-column.column c.column.ensures.passes c.in_ok-column.ensures.column;
 }
 
@@ -30,8 +30,8 @@ returns g c = record {
       subst
       (λ text. WritesAllBut c.append_dump.result (g.T.Sink.contents c.args.output.now) (g.T.Sink.contents c.append_dump.new.output) (c.args.lines.now.items ++ text)
       c.append_dump.new.lines.items)
-      (dump_is c.args.message.now c.args.number c.args.field c.in_ok-column.column c.as_slice.result.now c.second_reference-reference.result
-      c.in_ok-column.ensures.column (c.as_slice.ensures.value ∙ c.in_ok-listed.ensures) c.second_reference-reference.ensures.value)
+      (dump_is c.args.message.now c.args.number c.args.field c.in_ok-column.column c.as_slice.result.now c.ieee_reference-reference.result
+      c.in_ok-column.ensures.column (c.as_slice.ensures.value ∙ c.in_ok-listed.ensures) c.ieee_reference-reference.ensures.value)
       c.append_dump.ensures.octets;
   counted = search rules;
   unfinished = search rules;

@@ -32,8 +32,8 @@ returns-in_err-append_dump g c = record {
   octets = record {
     whole = on_refused _ _ c.from_residual-in_err-append_dump.ensures.0;
     front = subst (AppendsFront (g.T.Sink.contents c.args.output.now) (g.T.Sink.contents c.append_dump.new.output))
-        (dump_is_1 c.args.message.now c.args.number c.in_ok-column.column c.as_slice.result.now c.first_reference-reference.result c.in_ok-column.ensures.column
-        (c.as_slice.ensures.value ∙ c.in_ok-listed.ensures) c.first_reference-reference.ensures.value)
+        (dump_is_1 c.args.message.now c.args.number c.in_ok-column.column c.as_slice.result.now c.from_ibm-reference.result c.in_ok-column.ensures.column
+        (c.as_slice.ensures.value ∙ c.in_ok-listed.ensures) c.from_ibm-reference.ensures.value)
         (front_from_empty _ _ c.in_ok-lines.lines.items _ c.in_ok-lines.ensures.items c.append_dump.ensures.octets.front);
   };
   counted = search rules;
@@ -44,8 +44,8 @@ pub returns : goal.returns
 returns g c = record {
   octets =
       subst (Writes c.write_whole.result (g.T.Sink.contents c.args.output.now) (g.T.Sink.contents c.write_whole.new.sink))
-      (dump_is_1 c.args.message.now c.args.number c.in_ok-column.column c.as_slice.result.now c.first_reference-reference.result c.in_ok-column.ensures.column
-      (c.as_slice.ensures.value ∙ c.in_ok-listed.ensures) c.first_reference-reference.ensures.value)
+      (dump_is_1 c.args.message.now c.args.number c.in_ok-column.column c.as_slice.result.now c.from_ibm-reference.result c.in_ok-column.ensures.column
+      (c.as_slice.ensures.value ∙ c.in_ok-listed.ensures) c.from_ibm-reference.ensures.value)
       (pending_written c.write_whole.result _ _ _ _ _ c.as_slice-2.result.now
       (from_empty _ _ c.in_ok-lines.lines.items _ _ c.in_ok-lines.ensures.items c.in_ok-append_dump.ensures.octets.whole) c.as_slice-2.ensures.value
       c.write_whole.ensures.writes.octets);

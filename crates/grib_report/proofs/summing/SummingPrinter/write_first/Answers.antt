@@ -25,8 +25,8 @@ returns g c =
       octets =
           subst (Writes c.write_whole.result (g.T.Sink.contents c.args.output.now) (g.T.Sink.contents c.write_whole.new.sink))
           (c.as_slice.ensures.value ∙ c.in_ok-text.ensures
-          ∙ sums_are_1 c.args.message.now c.args.number c.in_ok-summary.summary c.ibm_reference-reference.result scaling.result.reference scaling.result.e scaling.result.d
-          c.in_ok-summary.ensures c.ibm_reference-reference.ensures.value scaling.ensures.reference scaling.ensures.e scaling.ensures.d)
+          ∙ sums_are_1 c.args.message.now c.args.number c.in_ok-summary.summary c.from_ibm-reference.result scaling.result.reference scaling.result.e scaling.result.d
+          c.in_ok-summary.ensures c.from_ibm-reference.ensures.value scaling.ensures.reference scaling.ensures.e scaling.ensures.d)
           c.write_whole.ensures.writes.octets;
       counted = search rules;
       unfinished = search rules;

@@ -26,8 +26,8 @@ returns-in_err-append_array g c = record {
   octets = record {
     whole = on_refused _ _ c.from_residual-in_err-append_array.ensures.0;
     front = subst (AppendsFront (g.T.Sink.contents c.args.output.now) (g.T.Sink.contents c.append_array.new.output))
-        (array_is_1 c.args.self.now.format c.args.message.now c.shape_of_message-shape.result c.ibm_reference-reference.result c.in_ok-column.column
-        c.in_ok-column.ensures.column c.shape_of_message-shape.ensures c.ibm_reference-reference.ensures.value)
+        (array_is_1 c.args.self.now.format c.args.message.now c.shape_of_message-shape.result c.from_ibm-reference.result c.in_ok-column.column
+        c.in_ok-column.ensures.column c.shape_of_message-shape.ensures c.from_ibm-reference.ensures.value)
         (front_from_empty _ _ c.in_ok-octets.octets.items _ c.in_ok-octets.ensures.items c.append_array.ensures.octets.front);
   };
   counted = search rules;
@@ -38,8 +38,8 @@ pub returns : goal.returns
 returns g c = record {
   octets =
       subst (Writes c.write_whole.result (g.T.Sink.contents c.args.output.now) (g.T.Sink.contents c.write_whole.new.sink))
-      (array_is_1 c.args.self.now.format c.args.message.now c.shape_of_message-shape.result c.ibm_reference-reference.result c.in_ok-column.column
-      c.in_ok-column.ensures.column c.shape_of_message-shape.ensures c.ibm_reference-reference.ensures.value)
+      (array_is_1 c.args.self.now.format c.args.message.now c.shape_of_message-shape.result c.from_ibm-reference.result c.in_ok-column.column
+      c.in_ok-column.ensures.column c.shape_of_message-shape.ensures c.from_ibm-reference.ensures.value)
       (pending_written c.write_whole.result _ _ _ _ _ c.as_slice.result.now
       (from_empty _ _ c.in_ok-octets.octets.items _ _ c.in_ok-octets.ensures.items c.in_ok-append_array.ensures.octets.whole) c.as_slice.ensures.value
       c.write_whole.ensures.writes.octets);
