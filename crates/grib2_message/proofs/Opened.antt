@@ -3,21 +3,21 @@
 use Rattle.std.proofs.Common.{◌≡◌, ◌≢◌, ℕ, zero, suc, ◌+◌, None, List, [], ◌∷◌, length, get_or, inl, inr, refl, sym, ap, ◌∙◌, arith, subst, add-one}
 use Rattle.grib_base.specs.Rows.{Row, first_fault, first_fault_at, located}
 use Rattle.grib_base.specs.declared.profile.Profile.{Profile}
-use Rattle.grib_base.specs.declared.profile.Profile.TheVariants.{Stated}
+use Rattle.grib_base.specs.declared.profile.Profile.TheVariants.{Stated, Open}
 use Rattle.grib2_sections.specs.Verdict.{Accepted}
 use Rattle.grib2_sections.specs.Head.{head_rows}
 use Rattle.grib2_sections.specs.Frame.{Placed, section_at, section_number, ends_at}
-use Rattle.grib2_grids.specs.Grid.{grid_rows}
+use Rattle.grib2_grids.specs.Grid.{grid_points, grid_rows}
 use Rattle.grib2_grids.proofs.Under.{same_grid_rows, grid_accepted}
 use Rattle.grib2_products.specs.Product.{product_rows}
 use Rattle.grib2_products.proofs.Under.{same_product_rows, product_accepted}
 use Rattle.grib_packing.specs.Entries.{packing_fault}
-use Rattle.grib_packing.proofs.OpaquePackings.{known_under, accepted_under}
+use Rattle.grib_packing.proofs.OpaquePackings.{known_under, accepted_under, accepted_known}
 use Rattle.grib2_message.specs.View.{points_in_force, section_count}
 use Rattle.grib2_message.specs.Acceptance.{contents_faults, no_rows, section_fault_under, verdict_from, verdict_under}
-use Rattle.grib2_message.specs.Fields.{sections_from, sections_of}
+use Rattle.grib2_message.specs.Fields.{sections_from, sections_of, part_octets}
 use Rattle.grib2_message.specs.Grammar.{HasStatedTemplate, HaveStatedTemplates}
-use Rattle.grib2_message.specs.Message.{IsMessageUnder}
+use Rattle.grib2_message.specs.Message.{IsMessageUnder, IsAnyMessage, FieldPassesUnder, AnyFieldPasses, FieldReadsUnder, HasValues}
 use Rattle.grib2_message.proofs.Passed.{unless_tells, unless_none}
 use Rattle.grib2_message.proofs.Steps.{here, step_tells}
 use Rattle.grib2_message.proofs.Sound.{none_located}
@@ -112,3 +112,33 @@ module _ (profile : Profile) where
       unless_none (first_fault (head_rows rest)) (λ _. verdict_from Stated (length rest + 1) rest [] 17) told.0
       ∙ ap (λ (t : ℕ). verdict_from Stated t rest [] 17) (add-one (length rest))
       ∙ walk_closed (length rest) rest [] 17 total h (ap (λ (t : ℕ). verdict_from profile t rest [] 17) (sym (add-one (length rest))) ∙ told.1)
+
+-- no row of the open profile refuses the sections of a field that no row of another refuses
+pub field_opened : (profile : Profile) (m : List ℕ) (i : ℕ) → FieldPassesUnder profile m i → AnyFieldPasses m i
+field_opened Open m i h = h
+field_opened Stated m i h = record {
+  identification = h.identification;
+  grid = grid_accepted Open (part_octets m i 3) h.grid;
+  product = product_accepted Open (part_octets m i 4) 1 h.product;
+  packing = accepted_under Open (part_octets m i 5) (grid_points (part_octets m i 3)) h.packing;
+  values = h.values;
+}
+
+-- and each message that a profile accepts
+pub any_message : (profile : Profile) (m : List ℕ) → IsMessageUnder profile m → IsAnyMessage m
+any_message Open m h = h
+any_message Stated m h = message_opened Open m h
+
+-- the packing of a field is a stated one
+pub field_read : (profile : Profile) (m : List ℕ) (i : ℕ) → FieldPassesUnder profile m i → HasValues m i → FieldReadsUnder profile m i
+field_read profile m i h read = record {
+  identification = h.identification;
+  grid = h.grid;
+  product = h.product;
+  packing = sym (known_under profile (part_octets m i 5) (grid_points (part_octets m i 3)) read) ∙ h.packing;
+  values = h.values;
+}
+
+-- each packing that the profile of the stated templates accepts is one
+pub stated_read : (m : List ℕ) (i : ℕ) → FieldPassesUnder Stated m i → HasValues m i
+stated_read m i h = accepted_known (part_octets m i 5) (grid_points (part_octets m i 3)) h.packing

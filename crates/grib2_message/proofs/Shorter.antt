@@ -6,18 +6,15 @@ use Rattle.std.proofs.lemmas.Option.{slice_get_within, get_or_from_slice_get, sl
 use Rattle.std.proofs.Math.ListN.{get_or-append}
 use Rattle.std.proofs.Math.Seq.{get_or-append_seam}
 use Rattle.grib_base.specs.declared.profile.Profile.{Profile}
-use Rattle.grib_base.specs.declared.profile.Profile.TheVariants.{Stated}
-use Rattle.grib2_grids.specs.Grid.{grid_points}
-use Rattle.grib_packing.proofs.OpaquePackings.{accepted_known}
 use Rattle.grib_bits.specs.Octets.{octets}
 use Rattle.grib2_sections.specs.Verdict.{Accepted}
 use Rattle.grib2_sections.specs.Head.{indicator, edition, total_length}
 use Rattle.grib2_sections.specs.Frame.{Placed, section_at}
 use Rattle.grib2_message.specs.View.{is_numbered}
 use Rattle.grib2_message.specs.Acceptance.{verdict_under}
-use Rattle.grib2_message.specs.Fields.{sections_of, field_count, field_sections, sections_up_to_field, part_octets}
+use Rattle.grib2_message.specs.Fields.{sections_of, field_count, field_sections, sections_up_to_field}
 use Rattle.grib2_message.specs.Message.{FieldPassesUnder}
-use Rattle.grib2_message.specs.Kept.{AreSound, StandsAt, ArePlaced, HasPlaces, IsField, IsRead, KeepsFields, Keeps}
+use Rattle.grib2_message.specs.Kept.{AreSound, StandsAt, ArePlaced, HasPlaces, IsField, KeepsFields, Keeps}
 use Rattle.grib2_message.specs.declared.places.Places.{Places}
 use Rattle.grib2_message.proofs.Fronts.{accepted_states, accepted_least, accepted_alone}
 use Rattle.grib2_message.proofs.Stays.{IsFront, front_of, same_octets, same_section}
@@ -140,9 +137,3 @@ module _ (profile : Profile) (m : List ℕ) (fields : List Places) (h : Keeps pr
         packing = sound.packing (omega (arith, ends));
         values = sound.values (omega (arith, ends));
       }
-
--- under the profile of the stated templates its values can be read
-pub field_read : (m : List ℕ) (fields : List Places) (h : Keeps Stated m fields) (i : ℕ) (low : 1 ≤ i) (high : i ≤ field_count m) (places : Places)
-    (is : places ≡ get_or fields (i - 1) places) → IsRead (field_sections m i)
-field_read m fields h i low high places is =
-    accepted_known (part_octets m i 5) (grid_points (part_octets m i 3)) (field_passes Stated m fields h i low high places is).packing

@@ -146,3 +146,8 @@ pub record Keeps (profile : Profile) (message : List ℕ) (fields : List Places)
   pub few : length fields ≤ 4096
   pub some : 1 ≤ length fields
   pub each : KeepsFields profile message fields
+
+-- what it keeps of them, by the profile under which it is read
+pub record KeepsUnderSome (message : List ℕ) (fields : List Places) : Type 0 where
+  pub profile : Profile
+  pub keeps : Keeps profile message fields

@@ -6,7 +6,7 @@ ghost use Rattle.grib2_sections.specs.Frame.{End, Fails, Next, step_from, positi
 ghost use Rattle.grib2_message.specs.Assembled as definitions;
 ghost use Rattle.grib2_message.specs.Assembled.{assembled, assembled_with, assembled_body_with, IsShort};
 ghost use Rattle.grib2_message.specs.Fields.{field_count, part_octets};
-ghost use Rattle.grib2_message.specs.Message.{IsMessage};
+ghost use Rattle.grib2_message.specs.Message.{IsAnyMessage};
 
 use crate::NewGrid;
 use grib_base::Section;
@@ -17,7 +17,7 @@ use std::alloc::{AllocError, Global};
 /// The number of octets of this message with the Sections 5, 6 and 7 of these parts, one for each field. It
 /// takes no memory.
 pub(crate) fn assembled_length(octets: &[u8], packed: &[Packed]) -> u64
-    requires message { IsMessage octets.now }
+    requires message { IsAnyMessage octets.now }
     requires short { All IsShort packed.now }
     ensures { result ≡ length (assembled octets.now packed.now) }
 {
@@ -39,7 +39,7 @@ pub(crate) fn put_together<G: NewGrid>(
     packed: &[Packed],
     total: u64,
 ) -> Result<Vec<u8>, AllocError>
-    requires message { IsMessage octets.now }
+    requires message { IsAnyMessage octets.now }
     requires grids { (i : ℕ) → 1 ≤ i → i ≤ field_count octets.now → G.takes grid.now (part_octets octets.now i 3) }
     requires total { total ≡ length (assembled_with (G.becomes grid.now) octets.now packed.now) }
     ensures { IfOk result (λ out. out.items ≡ assembled_with (G.becomes grid.now) octets.now packed.now) }
@@ -60,7 +60,7 @@ fn put_sections<G: NewGrid>(
     packed: &[Packed],
     out: &mut Vec<u8>,
 ) -> Result<(), AllocError>
-    requires message { IsMessage octets.now }
+    requires message { IsAnyMessage octets.now }
     requires grids { (i : ℕ) → 1 ≤ i → i ≤ field_count octets.now → G.takes grid.now (part_octets octets.now i 3) }
     ensures { IfOk result (λ _. out.new.items
         ≡ out.old.items ++ assembled_body_with (G.becomes grid.now) octets.now packed.now) }

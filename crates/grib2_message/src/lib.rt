@@ -10,6 +10,7 @@ pub mod laws;
 mod message;
 mod new_grid;
 mod places;
+mod readable;
 mod reading;
 mod summary;
 
@@ -18,5 +19,6 @@ pub use grib_base::ReadFault;
 pub use in_force::InForce;
 pub use message::Message;
 pub use new_grid::NewGrid;
+pub use readable::{OpaqueField, ReadableMessage};
 pub use reading::read_message;
 pub use summary::{FieldSummary, field_summary};

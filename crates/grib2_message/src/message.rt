@@ -1,37 +1,30 @@
 //! A message that was read.
 
-ghost use Rattle.std.specs.Prelude.{◌≡◌, ◌≢◌, ◌≤◌, ℕ, length, None, Some, MatchOption, MatchResult, IfOk, IsOk, All};
-ghost use Rattle.grib_base.specs.declared.profile.Profile.TheVariants.{Stated};
+ghost use Rattle.std.specs.Prelude.{◌≡◌, ◌≢◌, ◌≤◌, true, length, None, Some, MatchOption, IfOk, IsOk};
+ghost use Rattle.grib_base.specs.declared.profile.Profile.{Profile};
 ghost use Rattle.grib2_sections.specs.Frame.{placed_at};
-ghost use Rattle.grib2_grids.specs.Grid.{grid_points, list_octets};
+ghost use Rattle.grib2_grids.specs.Grid.{list_octets};
+ghost use Rattle.grib2_grids.specs.Opaque as opaque_grids;
 ghost use Rattle.grib2_grids.specs.Spelled as grids;
 ghost use Rattle.grib2_products.specs.Product.{coordinate_count, time_ranges};
+ghost use Rattle.grib2_products.specs.Opaque as opaque_products;
 ghost use Rattle.grib2_products.specs.Spelled as products;
-ghost use Rattle.grib_bitmap.specs.Mask.{present_count};
-ghost use Rattle.grib_packing.specs.Entries.{entries_of};
-ghost use Rattle.grib_packing.specs.Packing.{value_count};
 ghost use Rattle.grib2_message.specs.Fields as definitions;
-ghost use Rattle.grib2_message.specs.Fields.{field_count, part_octets, field_bitmap, field_bitmap_start, field_mask, column_of};
-ghost use Rattle.grib2_message.specs.Message.{IsMessage, FieldPasses};
-ghost use Rattle.grib2_message.specs.Assembled.{assembled, assembled_with, IsShort, IsAssembleFault};
-ghost use Rattle.grib2_message.specs.Kept.{Keeps};
+ghost use Rattle.grib2_message.specs.Fields.{field_count, field_sections, part_octets, field_bitmap, field_bitmap_start};
+ghost use Rattle.grib2_message.specs.Message.{IsAnyMessage, AnyFieldPasses};
+ghost use Rattle.grib2_message.specs.Kept.{IsField, Keeps};
 
-use crate::assembling::{assembled_length, put_together};
-use crate::columns::{column_at, mask_at, own_bitmap, take_values_at};
-use crate::new_grid::SameGrid;
+use crate::columns::own_bitmap;
 use crate::places::Places;
-use crate::{AssembleFault, NewGrid};
-use grib_base::{MOST_OCTETS, MOST_POINTS, Section};
-use grib_bitmap::Mask;
-use grib_packing::{Column, Keeper, Packed};
-use grib2_grids::{GridSection, grid_of};
-use grib2_products::{ProductSection, product_of};
+use grib_base::Section;
+use grib2_grids::{GridSection, grid_of, is_opaque_grid};
+use grib2_products::{ProductSection, is_opaque_product, product_of};
 use std::alloc::{AllocError, Global};
 use std::marker::Model;
 
-/// A message of edition 2 that is accepted (WMO-No. 306, Volume I.2, FM 92 GRIB edition 2, in the profile
-/// of docs/PROFILE.md). A clause sees its octets, from `GRIB` to `7777`. It keeps where the sections of
-/// each field begin.
+/// A message of edition 2 that is accepted by a profile of docs/PROFILE.md (WMO-No. 306, Volume I.2, FM 92
+/// GRIB edition 2). Its grids, products and packings may be opaque. A clause sees its octets, from `GRIB` to
+/// `7777`. It keeps where the sections of each field begin.
 #[derive(Debug, Drop)]
 pub struct Message<'a> {
     octets: &'a [u8],
@@ -43,18 +36,17 @@ impl<'a> Model for Message<'a> {
 
     ghost Value = { List ℕ };
 
-    ghost use Rattle.grib_base.specs.declared.profile.Profile.TheVariants.{Stated};
-    ghost use Rattle.grib2_message.specs.Kept.{Keeps};
+    ghost use Rattle.grib2_message.specs.Kept.{KeepsUnderSome};
 
     ghost view = { λ message. message.octets.now };
 
-    ghost invariant = { λ message. Keeps Stated message.octets.now message.fields.items };
+    ghost invariant = { λ message. KeepsUnderSome message.octets.now message.fields.items };
 }
 
 impl<'a> Message<'a> {
     /// The message of these octets, of which this was kept.
     pub(crate) fn of(octets: &'a [u8], fields: Vec<Places>) -> Message<'a>
-        requires { Keeps Stated octets.now fields.items }
+        requires { (profile : Profile) × Keeps profile octets.now fields.items }
         ensures { result ≡ octets.now }
     {
         Message { octets, fields }
@@ -76,10 +68,20 @@ impl<'a> Message<'a> {
         self.fields.len() as u32
     }
 
+    /// Where the sections in force for a field begin, and what they say. Fields count from 1.
+    pub(crate) fn places(&self, field: u32) -> &Places
+        requires first { 1 ≤ field }
+        requires last { field ≤ field_count self.now }
+        ensures kept { IsField self.now (field_sections self.now field) result.now }
+        ensures passes { AnyFieldPasses self.now field }
+    {
+        &self.fields[field as usize - 1]
+    }
+
     /// The octets from `GRIB` to `7777`.
     pub fn octets(&self) -> &'a [u8]
         ensures octets { result.now ≡ self.now }
-        ensures message { IsMessage self.now }
+        ensures message { IsAnyMessage self.now }
     {
         self.octets
     }
@@ -98,48 +100,58 @@ impl<'a> Message<'a> {
             × (found.octets.now ≡ part_octets self.now field section)
             × (found.number ≡ section)) }
         ensures present { section ≢ 2 → result ≢ None }
-        ensures passes { FieldPasses self.now field }
+        ensures passes { AnyFieldPasses self.now field }
     {
-        let places = &self.fields[field as usize - 1];
+        let places = self.places(field);
         if places.starts[section as usize] == 0 {
             return None;
         }
         Some(places.section(self.octets, section))
     }
 
-    /// The grid of a field: what the Section 3 in force for it says. Fields count from 1.
+    /// The grid of a field: what the Section 3 in force for it says. There is none exactly where the grid is
+    /// opaque. Fields count from 1.
     ///
     /// # Errors
     ///
     /// There is no memory for the list of rows, where there is one.
-    pub fn grid(&self, alloc: Global, field: u32) -> Result<GridSection, AllocError>
+    pub fn grid(&self, alloc: Global, field: u32) -> Result<Option<GridSection>, AllocError>
         requires first { 1 ≤ field }
         requires last { field ≤ field_count self.now }
-        ensures numbers { IfOk result (λ grid. grids.Spelled grid (part_octets self.now field 3)) }
+        ensures numbers { IfOk result (λ grid. MatchOption grid (opaque_grids.is_opaque_grid (part_octets self.now field 3) ≡ true)
+            (λ grid. grids.Spelled grid (part_octets self.now field 3))) }
         ensures memory { list_octets (part_octets self.now field 3) ≡ 0 → IsOk result }
     {
         let Some(section) = self.part(field, 3) else {
             unreachable!();
         };
-        grid_of(alloc, section.octets)
+        if is_opaque_grid(section.octets) {
+            return Ok(None);
+        }
+        Ok(Some(grid_of(alloc, section.octets)?))
     }
 
-    /// The product of a field: what the Section 4 in force for it says. Fields count from 1.
+    /// The product of a field: what the Section 4 in force for it says. There is none exactly where the
+    /// product is opaque. Fields count from 1.
     ///
     /// # Errors
     ///
     /// There is no memory for the time ranges or the coordinate values, where there are any.
-    pub fn product(&self, alloc: Global, field: u32) -> Result<ProductSection, AllocError>
+    pub fn product(&self, alloc: Global, field: u32) -> Result<Option<ProductSection>, AllocError>
         requires first { 1 ≤ field }
         requires last { field ≤ field_count self.now }
-        ensures numbers { IfOk result (λ product. products.Spelled product (part_octets self.now field 4)) }
+        ensures numbers { IfOk result (λ product. MatchOption product (opaque_products.is_opaque_product (part_octets self.now field 4) ≡ true)
+            (λ product. products.Spelled product (part_octets self.now field 4))) }
         ensures memory { time_ranges (part_octets self.now field 4) ≡ 0
             → coordinate_count (part_octets self.now field 4) ≡ 0 → IsOk result }
     {
         let Some(section) = self.part(field, 4) else {
             unreachable!();
         };
-        product_of(alloc, section.octets)
+        if is_opaque_product(section.octets) {
+            return Ok(None);
+        }
+        Ok(Some(product_of(alloc, section.octets)?))
     }
 
     /// The Section 6 with the bits of a field, counted from 1: that in force for it, or, where that repeats
@@ -151,114 +163,6 @@ impl<'a> Message<'a> {
         ensures start { result.start ≡ field_bitmap_start self.now field }
         ensures number { result.number ≡ 6 }
     {
-        let places = &self.fields[field as usize - 1];
-        own_bitmap(self.octets, places)
-    }
-
-    /// What a field holds, one entry for each grid point. Fields count from 1.
-    ///
-    /// # Errors
-    ///
-    /// There is no memory for the points.
-    pub fn column(&self, alloc: Global, field: u32) -> Result<Column, AllocError>
-        requires first { 1 ≤ field }
-        requires last { field ≤ field_count self.now }
-        ensures column { IfOk result (λ column. column ≡ column_of self.now field) }
-        ensures some { IfOk result (λ column. 1 ≤ length column.points) }
-        ensures few { IfOk result (λ column. length column.points ≤ MOST_POINTS) }
-        ensures long { IfOk result (λ column. length column.points ≡ grid_points (part_octets self.now field 3)) }
-        ensures passes { FieldPasses self.now field }
-    {
-        let places = &self.fields[field as usize - 1];
-        column_at(alloc, self.octets, places)
-    }
-
-    /// Which grid points of a field have a value of its Section 7. Fields count from 1.
-    ///
-    /// # Errors
-    ///
-    /// There is no memory for the mask.
-    pub fn mask(&self, alloc: Global, field: u32) -> Result<Mask, AllocError>
-        requires first { 1 ≤ field }
-        requires last { field ≤ field_count self.now }
-        ensures mask { IfOk result (λ mask. mask ≡ field_mask self.now field) }
-        ensures long { IfOk result (λ mask. length mask ≡ grid_points (part_octets self.now field 3)) }
-        ensures values { IfOk result (λ mask. present_count mask ≡ value_count (part_octets self.now field 5)) }
-        ensures passes { FieldPasses self.now field }
-    {
-        let places = &self.fields[field as usize - 1];
-        mask_at(alloc, self.octets, places)
-    }
-
-    /// Hands the points of the values of a field on, in their order: one for each grid point that its mask has.
-    /// No column is made. Fields count from 1.
-    ///
-    /// # Errors
-    ///
-    /// There is no memory. What keeps the points is dropped.
-    pub fn take_values<K: Keeper + Drop>(
-        &self,
-        alloc: Global,
-        field: u32,
-        keeper: K,
-    ) -> Result<K, AllocError>
-        requires first { 1 ≤ field }
-        requires last { field ≤ field_count self.now }
-        ensures kept { IfOk result (λ after.
-            K.kept keeper (entries_of (part_octets self.now field 5) (part_octets self.now field 7)) after) }
-        ensures count { IfOk result (λ after.
-            length (entries_of (part_octets self.now field 5) (part_octets self.now field 7))
-            ≡ value_count (part_octets self.now field 5)) }
-    {
-        let places = &self.fields[field as usize - 1];
-        take_values_at(alloc, self.octets, places, keeper)
-    }
-
-    /// The message with other Sections 5, 6 and 7, one part for each field in their order. All other
-    /// sections are copied octet for octet, and the total length is renewed. The parts are put in as they
-    /// are: where each states its length and its number and passes its rows, the message is accepted.
-    /// The length is known before any memory is taken.
-    ///
-    /// # Errors
-    ///
-    /// The message would have more than 268,435,456 octets, or there is no memory.
-    pub fn assemble(&self, alloc: Global, packed: &[Packed]) -> Result<Vec<u8>, AssembleFault>
-        requires one_each { length packed.now ≡ field_count self.now }
-        requires short { All IsShort packed.now }
-        ensures { MatchResult result
-            (λ octets. (octets.items ≡ assembled self.now packed.now)
-            × (length (assembled self.now packed.now) ≤ MOST_OCTETS))
-            (IsAssembleFault (length (assembled self.now packed.now))) }
-    {
-        self.assemble_with(alloc, &SameGrid, packed)
-    }
-
-    /// The message with another grid and other Sections 5, 6 and 7, one part for each field in their order.
-    /// All other sections are copied octet for octet, and the total length is renewed. Sections are put in
-    /// as they are: where each states its length and its number and passes its rows, the message is
-    /// accepted. The length is known before any memory is taken.
-    ///
-    /// # Errors
-    ///
-    /// The message would have more than 268,435,456 octets, or there is no memory.
-    pub fn assemble_with<G: NewGrid>(
-        &self,
-        alloc: Global,
-        grid: &G,
-        packed: &[Packed],
-    ) -> Result<Vec<u8>, AssembleFault>
-        requires grids { (i : ℕ) → 1 ≤ i → i ≤ field_count self.now → G.takes grid.now (part_octets self.now i 3) }
-        requires one_each { length packed.now ≡ field_count self.now }
-        requires short { All IsShort packed.now }
-        ensures { MatchResult result
-            (λ octets. (octets.items ≡ assembled_with (G.becomes grid.now) self.now packed.now)
-            × (length (assembled_with (G.becomes grid.now) self.now packed.now) ≤ MOST_OCTETS))
-            (IsAssembleFault (length (assembled_with (G.becomes grid.now) self.now packed.now))) }
-    {
-        let total = assembled_length(self.octets, packed);
-        if total > MOST_OCTETS {
-            return Err(AssembleFault::TooLong(total));
-        }
-        Ok(put_together(alloc, self.octets, grid, packed, total)?)
+        own_bitmap(self.octets, self.places(field))
     }
 }

@@ -4,10 +4,10 @@ ghost use Rattle.std.specs.Prelude.{◌≡◌, ◌≤◌, length, take, None, Ma
 ghost use Rattle.grib_base.specs.Rows.{first_fault};
 ghost use Rattle.grib2_sections.specs.Head.{indicator, edition, head_rows, total_length};
 ghost use Rattle.grib2_sections.specs.Verdict.{Accepted};
-ghost use Rattle.grib2_message.specs.Acceptance.{verdict_2, verdict_under};
+ghost use Rattle.grib2_message.specs.Acceptance.{verdict_under};
 ghost use Rattle.grib2_message.specs.Fields.{field_count};
 ghost use Rattle.grib2_message.specs.Kept.{Keeps};
-ghost use Rattle.grib2_message.specs.Message.{IsMessage};
+ghost use Rattle.grib2_message.specs.Message.{IsMessageUnder};
 ghost use Rattle.grib2_sections.specs.Refused.{IsVerdict};
 
 use crate::Message;
@@ -16,22 +16,26 @@ use grib_base::{Profile, ReadFault};
 use grib2_sections::{Frame, read_head};
 use std::alloc::Global;
 
-/// Reads the message of edition 2 that begins with these octets, which may go on past its end; where they
-/// end in it, they are all that there is. No column is made.
+/// Reads under this profile the message of edition 2 that begins with these octets, which may go on past its
+/// end; where they end in it, they are all that there is. No column is made.
 ///
 /// # Errors
 ///
 /// The first row of the profile that fails, or there is no memory.
-pub fn read_message<'a>(alloc: Global, octets: &'a [u8]) -> Result<Message<'a>, ReadFault>
+pub fn read_message<'a>(
+    alloc: Global,
+    profile: Profile,
+    octets: &'a [u8],
+) -> Result<Message<'a>, ReadFault>
     requires indicated { take 4 octets.now ≡ indicator }
     requires edition { edition octets.now ≡ 2 }
     ensures { MatchResult result
-        (λ message. (verdict_2 octets.now ≡ Accepted (length message))
-        × (message ≡ take (length message) octets.now) × IsMessage message)
-        (IsVerdict (verdict_2 octets.now)) }
+        (λ message. (verdict_under profile octets.now ≡ Accepted (length message))
+        × (message ≡ take (length message) octets.now) × IsMessageUnder profile message)
+        (IsVerdict (verdict_under profile octets.now)) }
 {
     let head = read_head(octets)?;
-    let fields = read_fields(alloc, Profile::Stated, octets, head.total)?;
+    let fields = read_fields(alloc, profile, octets, head.total)?;
     Ok(Message::of(&octets[..head.total as usize], fields))
 }
 

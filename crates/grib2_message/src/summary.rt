@@ -13,7 +13,7 @@ ghost use Rattle.grib2_sections.specs.Frame.{Placed, placed_at};
 ghost use Rattle.grib2_sections.specs.Identification.{identification_rows};
 ghost use Rattle.grib2_message.specs.Acceptance.{section_fault_under};
 ghost use Rattle.grib2_message.specs.Fields.{field_count, part_octets};
-ghost use Rattle.grib2_message.specs.Message.{FieldPasses};
+ghost use Rattle.grib2_message.specs.Message.{AnyFieldPasses};
 ghost use Rattle.grib2_message.specs.Summary.{bits_of_packing, identification_of, instant_octets, summary_in_force, summary_of};
 
 use crate::Message;
@@ -248,7 +248,7 @@ fn part_in<'a>(message: &Message<'a>, field: u32, number: u8) -> Section<'a>
     requires high { number ≤ 7 }
     requires present { number ≢ 2 }
     ensures octets { result.octets.now ≡ part_octets message.now field number }
-    ensures passes { FieldPasses message.now field }
+    ensures passes { AnyFieldPasses message.now field }
 {
     match message.part(field, number) {
         Some(part) => part,

@@ -36,6 +36,9 @@ pub enum Cause {
     Increments { field: u32 },
     /// A value is too large, or too small, to be printed as a decimal.
     DecimalRange { field: u32, point: u32 },
+    /// The values of a field cannot be read: its packing, by this data representation template (code table
+    /// 5.0), is opaque.
+    Packing { template: u16, field: u32 },
 }
 
 /// A message that is accepted and cannot be changed or printed as asked.

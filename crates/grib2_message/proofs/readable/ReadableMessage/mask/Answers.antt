@@ -7,7 +7,7 @@ use Rattle.grib2_grids.specs.Grid.{grid_points}
 use Rattle.grib2_message.specs.Fields.{field_sections, field_count, part_octets, field_mask}
 use Rattle.grib2_message.specs.Message.{FieldPasses}
 use Rattle.grib2_message.proofs.Shorter.{field_kept, field_passes}
-use Rattle.grib2_message.proofs.message.Message.mask.Goals as goal
+use Rattle.grib2_message.proofs.readable.ReadableMessage.mask.Goals as goal
 
 pub mask_at-requires : goal.mask_at-requires
 mask_at-requires c =

@@ -3,7 +3,7 @@ use Rattle.grib_base.specs.declared.profile.Profile.TheVariants.{Stated}
 use Rattle.grib2_message.specs.Fields.{field_count, part_octets}
 use Rattle.grib2_message.specs.Assembled.{assembled_with}
 use Rattle.grib2_message.proofs.Ahead.{assembled_as_long}
-use Rattle.grib2_message.proofs.message.Message.assemble_with.Goals as goal
+use Rattle.grib2_message.proofs.readable.ReadableMessage.assemble_with.Goals as goal
 
 pub put_together-requires-clause-total : goal.put_together-requires-clause-total
 put_together-requires-clause-total g c =

@@ -5,7 +5,7 @@ use Rattle.grib_packing.specs.Packing.{value_count}
 use Rattle.grib_base.specs.declared.profile.Profile.TheVariants.{Stated}
 use Rattle.grib2_message.specs.Fields.{field_sections, field_count, part_octets}
 use Rattle.grib2_message.proofs.Shorter.{field_kept, field_read}
-use Rattle.grib2_message.proofs.message.Message.take_values.Goals as goal
+use Rattle.grib2_message.proofs.readable.ReadableMessage.take_values.Goals as goal
 
 pub take_values_at-requires : goal.take_values_at-requires
 take_values_at-requires g c =

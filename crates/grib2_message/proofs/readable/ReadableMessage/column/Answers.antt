@@ -4,7 +4,7 @@ use Rattle.grib2_grids.specs.Grid.{grid_points}
 use Rattle.grib2_message.specs.Fields.{field_sections, field_count, part_octets, column_of}
 use Rattle.grib2_message.specs.Message.{FieldPasses}
 use Rattle.grib2_message.proofs.Shorter.{field_kept, field_passes, field_read}
-use Rattle.grib2_message.proofs.message.Message.column.Goals as goal
+use Rattle.grib2_message.proofs.readable.ReadableMessage.column.Goals as goal
 
 pub column_at-requires : goal.column_at-requires
 column_at-requires c =
