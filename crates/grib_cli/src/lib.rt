@@ -3,7 +3,6 @@
 
 mod help;
 mod running;
-mod telling;
 mod words;
 
 pub use running::run;

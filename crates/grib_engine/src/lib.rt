@@ -20,4 +20,5 @@ pub use grib_report::Checking;
 pub use grib_rescan::Area;
 pub use grib_select::{Change, Choice, Choices, Key, Test, Value, Wanted};
 pub use grib_stream::{Cause, Kept, Outcome, Place, Totals};
+pub use making::write_noted;
 pub use serving::{end_at_once, end_without_memory, serve, serve_under};

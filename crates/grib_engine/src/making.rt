@@ -68,8 +68,8 @@ pub(crate) fn serve_made<T: Sink, N: Sink>(
     }
 }
 
-/// Writes these octets, and ends a run with this note.
-pub(crate) fn write_noted<T: Sink, N: Sink>(
+/// Writes these octets, and ends a run with this note. Nothing is read.
+pub fn write_noted<T: Sink, N: Sink>(
     alloc: Global,
     octets: &[u8],
     note: &[u8],

@@ -169,7 +169,7 @@ const DONE: [(&str, &str); 6] = [
     ),
     (
         "help help list",
-        "grib help list: tells of the words behind help.\n",
+        "grib help list: tells of the words after help.\n",
     ),
 ];
 
