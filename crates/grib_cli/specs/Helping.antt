@@ -101,7 +101,8 @@ command_rule command name = own_rule name
 
 abbrev pub rule_of : Command → List ℕ → List ℕ
 rule_of command name =
-    cond (is (codes "refused") name || is (codes "kept") name) (policy_rule command) (command_rule command name)
+    cond (is (codes "profile") name) (codes "open")
+    (cond (is (codes "refused") name || is (codes "kept") name) (policy_rule command) (command_rule command name))
 
 -- ---- why a word is not read
 
@@ -277,6 +278,9 @@ deed_of Make words = codes "writes a synthetic message, made from the seed"
 deed_of Help words = codes "writes a line on each command"
 deed_of Version words = codes "writes the version of the program"
 
+abbrev pub profile_part : List (List ℕ) → List ℕ
+profile_part words = cond (has_word (codes "profile=open") words) (codes ", and accepts any grid, product and packing") []
+
 abbrev pub refused_part : List (List ℕ) → List ℕ
 refused_part words =
     cond (has_word (codes "refused=copy") words) (codes ", and copies what is refused")
@@ -290,7 +294,7 @@ kept_part words =
 -- the line on words that do this
 abbrev pub done_line : List ℕ → List (List ℕ) → List ℕ
 done_line deed words =
-    line (concat (codes "grib" ∷ spaced words ∷ codes ": " ∷ concat (deed ∷ refused_part words ∷ kept_part words ∷ codes "." ∷ []) ∷ []))
+    line (concat (codes "grib" ∷ spaced words ∷ codes ": " ∷ concat (deed ∷ profile_part words ∷ refused_part words ∷ kept_part words ∷ codes "." ∷ []) ∷ []))
 
 -- ---- what is told
 

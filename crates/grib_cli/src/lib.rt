@@ -6,4 +6,4 @@ mod running;
 mod words;
 
 pub use running::run;
-pub use words::{JobFault, job_of, policy_of};
+pub use words::{JobFault, job_of, policy_of, profile_of};

@@ -10,7 +10,7 @@ ghost use Rattle.grib_cli.specs.Helping.{told_of_words};
 ghost use Rattle.grib_cli.specs.Words as asked;
 
 use crate::help::{is_on_words, told_of_words};
-use crate::words::{JobFault, job_of, policy_of};
+use crate::words::{JobFault, job_of, policy_of, profile_of};
 use grib_engine::{Outcome, end_at_once, end_without_memory, serve_under, write_noted};
 use grib_io::{Shelf, Sink, Source};
 use grib_run_law::laws::{what_a_run_answers_is_in_the_grammar, what_a_run_leaves};
@@ -45,7 +45,16 @@ pub fn run<S: Source, T: Sink, N: Sink, H: Shelf>(
         return tell_of(alloc, &words[1..], input, output, notes, shelf);
     }
     match job_of(alloc, words) {
-        Ok(job) => serve_under(alloc, &job, policy_of(words), input, output, notes, shelf),
+        Ok(job) => serve_under(
+            alloc,
+            &job,
+            profile_of(words),
+            policy_of(words),
+            input,
+            output,
+            notes,
+            shelf,
+        ),
         Err(JobFault::Usage(word)) => end_at_once(
             alloc,
             Outcome::Usage(word),

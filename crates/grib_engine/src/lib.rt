@@ -10,6 +10,7 @@ mod serving;
 
 pub use answering::answer_message;
 pub use closing::{close, close_with_note};
+pub use grib_base::Profile;
 pub use grib_command::{
     Answered, Answerer, ByOutput, Changes, Conditions, Ending, Job, Name, Page,
 };

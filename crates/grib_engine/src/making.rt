@@ -19,7 +19,7 @@ ghost use Rattle.grib_run_spec.specs.Tasks.{Makes, writing, made_answer};
 ghost use Rattle.grib_engine.specs.Beside.{beside};
 
 use crate::closing::close_with_note;
-use grib_base::ReadFault;
+use grib_base::{Profile, ReadFault};
 use grib_command::{made_note, write_whole};
 use grib_io::{Sink, Stop};
 use grib_repack::{RepackFault, RepackTarget, repack};
@@ -29,7 +29,8 @@ use grib_synthetic::laws::{
     what_is_made_stays_short,
 };
 use grib_synthetic::{made_message, made_summary};
-use grib2_message::read_message;
+use grib2_message::laws::field_holds;
+use grib2_message::{ReadableMessage, read_message};
 use std::alloc::{AllocError, Global};
 
 /// A message that was made and packed anew, and the note on it.
@@ -158,12 +159,17 @@ fn repack_whole(alloc: Global, octets: &[u8], target: RepackTarget) -> Result<Ve
     requires fits { repack_misfit (target_of target) octets.now ≡ None }
     ensures { IfOk result (λ packed. packed.items ≡ repacked (target_of target) octets.now) }
 {
-    let message = match read_message(alloc, octets) {
+    field_holds();
+    let message = match read_message(alloc, Profile::Stated, octets) {
         Ok(message) => message,
         Err(ReadFault::Memory) => return Err(AllocError),
         Err(ReadFault::Refused(_)) => unreachable!(),
     };
-    match repack(alloc, &message, target) {
+    let readable = match ReadableMessage::of(&message) {
+        Ok(readable) => readable,
+        Err(_) => unreachable!(),
+    };
+    match repack(alloc, &readable, target) {
         Ok(packed) => Ok(packed),
         Err(RepackFault::Memory) => Err(AllocError),
         Err(

@@ -238,14 +238,16 @@ fn knows(command: Command, name: &str) -> bool
     knows_own(command, name) || knows_policy(command, name)
 }
 
-/// Whether a name is that of what a run does with what it cannot answer.
+/// Whether a name is one that stands beside a command's own, on what it cannot answer or on the profile.
 fn knows_policy(command: Command, name: &str) -> bool
     ensures { result ≡ helping.knows_policy command name.now }
 {
     match command {
         Command::Make | Command::Help | Command::Version => false,
-        Command::Check | Command::List | Command::Keys | Command::Stats => name == "refused",
-        _ => matches!(name, "refused" | "kept"),
+        Command::Check | Command::List | Command::Keys | Command::Stats => {
+            matches!(name, "refused" | "profile")
+        }
+        _ => matches!(name, "refused" | "kept" | "profile"),
     }
 }
 
@@ -278,6 +280,9 @@ fn knows_own(command: Command, name: &str) -> bool
 fn rule_of(command: Command, name: &str) -> &'static str
     ensures { result.now ≡ helping.rule_of command name.now }
 {
+    if name == "profile" {
+        return "open";
+    }
     if matches!(name, "refused" | "kept") {
         return policy_rule(command);
     }
