@@ -140,6 +140,7 @@ impl<P: Printer> Writer for Printing<P> {
 }
 
 /// The fields of the message with this number, as they are printed.
+#[derive(Drop)]
 struct PrintedFields<'a, P> {
     printer: &'a P,
     number: u64,

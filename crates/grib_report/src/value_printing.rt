@@ -118,6 +118,7 @@ impl<P: ValuePrinter> Writer for PrintingValues<P> {
 }
 
 /// The fields of the message with this number, as they are printed by their values.
+#[derive(Drop)]
 struct ReadFields<'a, P> {
     printer: &'a P,
     number: u64,

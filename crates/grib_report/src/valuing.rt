@@ -210,6 +210,7 @@ fn write_second<T: Sink>(
 
 /// The fields of the message with this number, as they are printed with values of this many places, which all
 /// have texts.
+#[derive(Drop)]
 struct ValuedFields<'a> {
     places: u32,
     number: u64,

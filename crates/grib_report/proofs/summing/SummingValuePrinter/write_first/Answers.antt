@@ -2,7 +2,7 @@ use Rattle.std.proofs.Common.{◌∙◌, rules, subst}
 use Rattle.grib_command.specs.Pending.{Writes}
 use Rattle.grib_command.proofs.Outside.{front_none}
 use Rattle.grib_report.proofs.Pending.{sums_are_1}
-use Rattle.grib_report.proofs.summing.SummingPrinter.write_first.Goals as goal
+use Rattle.grib_report.proofs.summing.SummingValuePrinter.write_first.Goals as goal
 
 pub returns-in_err-summary : goal.returns-in_err-summary
 returns-in_err-summary g c = record {

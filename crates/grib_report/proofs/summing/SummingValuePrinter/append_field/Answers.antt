@@ -3,7 +3,7 @@ use Rattle.grib_command.specs.Pending.{WritesAllBut}
 use Rattle.grib_report.proofs.Finite.{finite_reference}
 use Rattle.grib_command.proofs.Outside.{front_none}
 use Rattle.grib_report.proofs.Pending.{sums_are}
-use Rattle.grib_report.proofs.summing.SummingPrinter.append_field.Goals as goal
+use Rattle.grib_report.proofs.summing.SummingValuePrinter.append_field.Goals as goal
 
 pub returns-in_err-summary : goal.returns-in_err-summary
 returns-in_err-summary g c = record {

@@ -4,7 +4,7 @@ use Rattle.grib_command.specs.Pending.{Writes}
 use Rattle.grib_command.proofs.Outside.{front_none}
 use Rattle.grib_report.proofs.Pending.{dump_is_1, from_empty, front_from_empty, pending_written}
 use Rattle.grib_command.proofs.Passing.{on_refused}
-use Rattle.grib_report.proofs.dumping.DumpingPrinter.write_first.Goals as goal
+use Rattle.grib_report.proofs.dumping.DumpingValuePrinter.write_first.Goals as goal
 
 pub returns-in_err-column : goal.returns-in_err-column
 returns-in_err-column g c = record {
