@@ -1,6 +1,6 @@
 use Rattle.std.proofs.Common.{refl, ◌∙◌}
 use Rattle.grib_command.proofs.Answers.{by_octets}
-use Rattle.grib_edit.proofs.shrinking.ShrinkingChanger.change.Goals as goal
+use Rattle.grib_edit.proofs.shrinking.ShrinkingValueChanger.change_values.Goals as goal
 
 pub returns-in-Ok : goal.returns-in-Ok
 returns-in-Ok g c = λ place.

@@ -2,7 +2,7 @@ use Rattle.std.proofs.Common.{option_map, ap, ◌∙◌}
 use Rattle.grib_edit.specs.Repacking.{cause_of}
 use Rattle.grib_command.proofs.Answers.{target_stands, by_octets}
 use Rattle.grib_edit.proofs.KeptBy.{by_cause, not_repacked}
-use Rattle.grib_edit.proofs.repacking.RepackingChanger.change.Goals as goal
+use Rattle.grib_edit.proofs.repacking.RepackingValueChanger.change_values.Goals as goal
 
 pub repack-requires : goal.repack-requires
 repack-requires g c = target_stands c.args.self.now.target c.args.self.now.target_stands

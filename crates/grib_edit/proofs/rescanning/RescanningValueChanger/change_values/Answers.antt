@@ -2,7 +2,7 @@ use Rattle.std.proofs.Common.{option_map, ap, ◌∙◌}
 use Rattle.grib_edit.specs.Rescanning.{edit_cause}
 use Rattle.grib_command.proofs.Answers.{by_octets}
 use Rattle.grib_edit.proofs.KeptBy.{by_cause, not_edited}
-use Rattle.grib_edit.proofs.rescanning.RescanningChanger.change.Goals as goal
+use Rattle.grib_edit.proofs.rescanning.RescanningValueChanger.change_values.Goals as goal
 
 pub returns-in-Ok : goal.returns-in-Ok
 returns-in-Ok g c = λ place.

@@ -3,7 +3,7 @@ use Rattle.grib_command.specs.Pending.{WritesAllBut}
 use Rattle.grib_command.proofs.Outside.{front_none}
 use Rattle.grib_report.proofs.Finite.{finite_column}
 use Rattle.grib_values.proofs.Pieces.{array_is}
-use Rattle.grib_values.proofs.arraying.ArrayingPrinter.append_field.Goals as goal
+use Rattle.grib_values.proofs.arraying.ArrayingValuePrinter.append_field.Goals as goal
 
 pub returns-in_err-column : goal.returns-in_err-column
 returns-in_err-column g c = record {

@@ -5,7 +5,7 @@ use Rattle.grib_command.proofs.Outside.{front_none}
 use Rattle.grib_command.proofs.Passing.{on_refused}
 use Rattle.grib_report.proofs.Pending.{from_empty, front_from_empty, pending_written}
 use Rattle.grib_values.proofs.Pieces.{array_is_1}
-use Rattle.grib_values.proofs.arraying.ArrayingPrinter.write_first.Goals as goal
+use Rattle.grib_values.proofs.arraying.ArrayingValuePrinter.write_first.Goals as goal
 
 pub returns-in_err-column : goal.returns-in_err-column
 returns-in_err-column g c = record {
