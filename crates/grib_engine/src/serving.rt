@@ -17,11 +17,13 @@ use crate::making::{serve_made, write_noted};
 use crate::reading::{serve_demoted, serve_messages, serve_migrated};
 use grib_base::Profile;
 use grib_command::{ByOutput, Job};
-use grib_edit::{Changing, Filtering, Repacking, Rescanning, Setting, Shrinking, Splitting};
+use grib_edit::{
+    Changing, Filtering, OfValues, Repacking, Rescanning, Setting, Shrinking, Splitting,
+};
 use grib_io::{Shelf, Sink, Source};
 use grib_items::Policy;
 use grib_reorder::GridEdit;
-use grib_report::{Checking, Dumping, Keying, Listing, Printing, Summing, Valuing};
+use grib_report::{Checking, Dumping, Keying, Listing, Printing, PrintingValues, Summing, Valuing};
 use grib_stream::Outcome;
 use grib_values::Arraying;
 use std::alloc::Global;
@@ -99,11 +101,11 @@ pub fn serve_under<S: Source, T: Sink, N: Sink, H: Shelf>(
             serve_messages(&keying, alloc, profile, policy, input, output, notes, shelf)
         }
         Job::Stats => {
-            let summing = ByOutput(Printing(Summing));
+            let summing = ByOutput(PrintingValues(Summing));
             serve_messages(&summing, alloc, profile, policy, input, output, notes, shelf)
         }
         Job::Dump { decimals: None } => {
-            let dumping = ByOutput(Printing(Dumping));
+            let dumping = ByOutput(PrintingValues(Dumping));
             serve_messages(&dumping, alloc, profile, policy, input, output, notes, shelf)
         }
         Job::Dump {
@@ -113,7 +115,7 @@ pub fn serve_under<S: Source, T: Sink, N: Sink, H: Shelf>(
             serve_messages(&valuing, alloc, profile, policy, input, output, notes, shelf)
         }
         Job::Values(format) => {
-            let arraying = ByOutput(Printing(Arraying { format: *format }));
+            let arraying = ByOutput(PrintingValues(Arraying { format: *format }));
             serve_messages(&arraying, alloc, profile, policy, input, output, notes, shelf)
         }
         Job::Filter(conditions) => {
@@ -131,21 +133,21 @@ pub fn serve_under<S: Source, T: Sink, N: Sink, H: Shelf>(
             serve_messages(&setting, alloc, profile, policy, input, output, notes, shelf)
         }
         Job::Repack(target) => {
-            let repacking = ByOutput(Changing(Repacking { target: *target }));
+            let repacking = ByOutput(Changing(OfValues(Repacking { target: *target })));
             serve_messages(&repacking, alloc, profile, policy, input, output, notes, shelf)
         }
         Job::RepackLeast => {
-            let shrinking = ByOutput(Changing(Shrinking));
+            let shrinking = ByOutput(Changing(OfValues(Shrinking)));
             serve_messages(&shrinking, alloc, profile, policy, input, output, notes, shelf)
         }
         Job::Rescan => {
             let edit = GridEdit::Rescan;
-            let rescanning = ByOutput(Changing(Rescanning { edit }));
+            let rescanning = ByOutput(Changing(OfValues(Rescanning { edit })));
             serve_messages(&rescanning, alloc, profile, policy, input, output, notes, shelf)
         }
         Job::Crop(area) => {
             let edit = GridEdit::Crop(*area);
-            let cropping = ByOutput(Changing(Rescanning { edit }));
+            let cropping = ByOutput(Changing(OfValues(Rescanning { edit })));
             serve_messages(&cropping, alloc, profile, policy, input, output, notes, shelf)
         }
         Job::Migrate {
