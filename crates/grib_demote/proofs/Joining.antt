@@ -106,6 +106,10 @@ first_false : (a b : Bool) → (a || b) ≡ false → a ≡ false
 first_false true b e = cc e
 first_false false b e = refl
 
+second_false : (a b : Bool) → (a || b) ≡ false → b ≡ false
+second_false true b e = cc e
+second_false false b e = e
+
 by_template : (t : ℕ) → not ((t == 0) || (t == 8)) ≡ false → not (is_template product_templates t) ≡ false
 by_template t known = grind (arith, nat_tests)
 
@@ -130,6 +134,10 @@ stated_product s4 known = by_template (product_template s4) known
 -- nor is such a grid
 pub stated_grid : (s3 : List ℕ) → loses_grid s3 ≡ false → is_opaque_grid s3 ≡ false
 stated_grid s3 known = first_false (is_opaque_grid s3) (is_none (type_of (grid_template s3))) known
+
+-- and its template has a type of grid
+pub typed_grid : (s3 : List ℕ) → loses_grid s3 ≡ false → is_none (type_of (grid_template s3)) ≡ false
+typed_grid s3 known = second_false (is_opaque_grid s3) (is_none (type_of (grid_template s3))) known
 
 pub demoted_holds : (table : Entries) (matching : TableMatch) (field : Field) (found : ℕ × ℕ × Level) (unit : ℕ) → Holds field.identification.now field.grid.now field.product.now field.packing.now
     → IsParameter table matching field found → AreTimes field.identification.now field.product.now unit → IsDemoted field
