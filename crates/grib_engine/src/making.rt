@@ -30,7 +30,7 @@ use grib_synthetic::laws::{
 };
 use grib_synthetic::{made_message, made_summary};
 use grib2_message::laws::field_holds;
-use grib2_message::{ReadableMessage, read_message};
+use grib2_message::{Message, ReadableMessage, read_message};
 use std::alloc::{AllocError, Global};
 
 /// A message that was made and packed anew, and the note on it.
@@ -159,17 +159,12 @@ fn repack_whole(alloc: Global, octets: &[u8], target: RepackTarget) -> Result<Ve
     requires fits { repack_misfit (target_of target) octets.now ≡ None }
     ensures { IfOk result (λ packed. packed.items ≡ repacked (target_of target) octets.now) }
 {
-    field_holds();
     let message = match read_message(alloc, Profile::Stated, octets) {
         Ok(message) => message,
         Err(ReadFault::Memory) => return Err(AllocError),
         Err(ReadFault::Refused(_)) => unreachable!(),
     };
-    let readable = match ReadableMessage::of(&message) {
-        Ok(readable) => readable,
-        Err(_) => unreachable!(),
-    };
-    match repack(alloc, &readable, target) {
+    match repack(alloc, &readable(&message), target) {
         Ok(packed) => Ok(packed),
         Err(RepackFault::Memory) => Err(AllocError),
         Err(
@@ -178,5 +173,17 @@ fn repack_whole(alloc: Global, octets: &[u8], target: RepackTarget) -> Result<Ve
             | RepackFault::DifferenceRange { .. }
             | RepackFault::OutputTooLong(_),
         ) => unreachable!(),
+    }
+}
+
+/// A message that the stated profile accepts, whose values can be read.
+fn readable<'a>(message: &'a Message<'a>) -> ReadableMessage<'a>
+    requires { IsMessage message.now }
+    ensures { result ≡ message.now }
+{
+    field_holds();
+    match ReadableMessage::of(message) {
+        Ok(readable) => readable,
+        Err(_opaque) => unreachable!(),
     }
 }

@@ -90,11 +90,15 @@ pub fn serve_under<S: Source, T: Sink, N: Sink, H: Shelf>(
     match job {
         Job::Check => {
             let checking = ByOutput(Checking);
-            serve_messages(&checking, alloc, profile, policy, input, output, notes, shelf)
+            serve_messages(
+                &checking, alloc, profile, policy, input, output, notes, shelf,
+            )
         }
         Job::List => {
             let listing = ByOutput(Printing(Listing));
-            serve_messages(&listing, alloc, profile, policy, input, output, notes, shelf)
+            serve_messages(
+                &listing, alloc, profile, policy, input, output, notes, shelf,
+            )
         }
         Job::Keys => {
             let keying = ByOutput(Printing(Keying));
@@ -102,53 +106,82 @@ pub fn serve_under<S: Source, T: Sink, N: Sink, H: Shelf>(
         }
         Job::Stats => {
             let summing = ByOutput(PrintingValues(Summing));
-            serve_messages(&summing, alloc, profile, policy, input, output, notes, shelf)
+            serve_messages(
+                &summing, alloc, profile, policy, input, output, notes, shelf,
+            )
         }
         Job::Dump { decimals: None } => {
             let dumping = ByOutput(PrintingValues(Dumping));
-            serve_messages(&dumping, alloc, profile, policy, input, output, notes, shelf)
+            serve_messages(
+                &dumping, alloc, profile, policy, input, output, notes, shelf,
+            )
         }
         Job::Dump {
             decimals: Some(places),
         } => {
             let valuing = ByOutput(Valuing { places: *places });
-            serve_messages(&valuing, alloc, profile, policy, input, output, notes, shelf)
+            serve_messages(
+                &valuing, alloc, profile, policy, input, output, notes, shelf,
+            )
         }
         Job::Values(format) => {
             let arraying = ByOutput(PrintingValues(Arraying { format: *format }));
-            serve_messages(&arraying, alloc, profile, policy, input, output, notes, shelf)
+            serve_messages(
+                &arraying, alloc, profile, policy, input, output, notes, shelf,
+            )
         }
         Job::Filter(conditions) => {
             let conditions = conditions.as_slice();
             let filtering = ByOutput(Changing(Filtering { conditions }));
-            serve_messages(&filtering, alloc, profile, policy, input, output, notes, shelf)
+            serve_messages(
+                &filtering, alloc, profile, policy, input, output, notes, shelf,
+            )
         }
         Job::Split(name) => {
             let splitting = Splitting { name };
-            serve_messages(&splitting, alloc, profile, policy, input, output, notes, shelf)
+            serve_messages(
+                &splitting, alloc, profile, policy, input, output, notes, shelf,
+            )
         }
         Job::Set(changes) => {
             let changes = changes.as_slice();
             let setting = ByOutput(Changing(Setting { changes }));
-            serve_messages(&setting, alloc, profile, policy, input, output, notes, shelf)
+            serve_messages(
+                &setting, alloc, profile, policy, input, output, notes, shelf,
+            )
         }
         Job::Repack(target) => {
             let repacking = ByOutput(Changing(OfValues(Repacking { target: *target })));
-            serve_messages(&repacking, alloc, profile, policy, input, output, notes, shelf)
+            serve_messages(
+                &repacking, alloc, profile, policy, input, output, notes, shelf,
+            )
         }
         Job::RepackLeast => {
             let shrinking = ByOutput(Changing(OfValues(Shrinking)));
-            serve_messages(&shrinking, alloc, profile, policy, input, output, notes, shelf)
+            serve_messages(
+                &shrinking, alloc, profile, policy, input, output, notes, shelf,
+            )
         }
         Job::Rescan => {
             let edit = GridEdit::Rescan;
             let rescanning = ByOutput(Changing(OfValues(Rescanning { edit })));
-            serve_messages(&rescanning, alloc, profile, policy, input, output, notes, shelf)
+            serve_messages(
+                &rescanning,
+                alloc,
+                profile,
+                policy,
+                input,
+                output,
+                notes,
+                shelf,
+            )
         }
         Job::Crop(area) => {
             let edit = GridEdit::Crop(*area);
             let cropping = ByOutput(Changing(OfValues(Rescanning { edit })));
-            serve_messages(&cropping, alloc, profile, policy, input, output, notes, shelf)
+            serve_messages(
+                &cropping, alloc, profile, policy, input, output, notes, shelf,
+            )
         }
         Job::Migrate {
             params,
@@ -165,8 +198,8 @@ pub fn serve_under<S: Source, T: Sink, N: Sink, H: Shelf>(
         } => {
             let (keep_local, any_earth, matching) = (*keep_local, *any_earth, *matching);
             serve_demoted(
-                alloc, params, matching, keep_local, any_earth, profile, policy, input, output, notes,
-                shelf,
+                alloc, params, matching, keep_local, any_earth, profile, policy, input, output,
+                notes, shelf,
             )
         }
         Job::Make {

@@ -40,7 +40,7 @@ module _ (profile : Profile) where
   ItemsStand = (policy : Policy) (more : Bool) (octets : List ℕ) → All (StandsIn (judge_under profile) more octets) (items_of profile policy more octets).items
 
   -- as the law on items says of any task
-  pub stands : ((task : Task) (passes more : Bool) (octets : List ℕ) → IsLawful task → All (StandsIn task.(judge_under profile) more octets) (items task.(judge_under profile) passes more octets).items) → ItemsStand
+  pub stands : ((task : Task) (passes more : Bool) (octets : List ℕ) → IsLawful task → All (StandsIn task.judge more octets) (items task.judge passes more octets).items) → ItemsStand
   stands law policy more octets =
       law (task (under profile check_command)) (passes policy) more octets (lawful (under profile check_command) (under_lawful profile check_command check_lawful))
 

@@ -221,7 +221,10 @@ const TEXTS: [(&str, &str); 6] = [
 ];
 
 const PAGES: [(&str, &str); 4] = [
-    ("help keys", "keys [refused=pass] [profile=open]: For each field every key"),
+    (
+        "help keys",
+        "keys [refused=pass] [profile=open]: For each field every key",
+    ),
     (
         "help refusals",
         "refusals are the reasons in a line refused message",
