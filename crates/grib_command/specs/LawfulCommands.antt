@@ -100,8 +100,8 @@ not_found p (suc n) i is j low high =
     ⊎_elim
     (λ (there : p i ≡ true). let no : ⊥ = cc in absurd no)
     (λ (none : p i ≡ false).
-    let later : find p (range_with_len (suc i) n) ≡ None = sym (ap (λ b. cond b (Some i) (find p (range_with_len (suc i) n))) none) ∙ is in
-    ⊎_elim (λ (more : i < j). not_found p n (suc i) later j (omega arith) (omega arith)) (λ (here : j ≤ i). (let e : j ≡ i = omega arith in ap p e ∙ none)) (cases_lt i j))
+    let later : find p (range_with_len (i + 1) n) ≡ None = sym (ap (λ b. cond b (Some i) (find p (range_with_len (i + 1) n))) none) ∙ is in
+    ⊎_elim (λ (more : i < j). not_found p n (i + 1) later j (omega arith) (omega arith)) (λ (here : j ≤ i). (let e : j ≡ i = omega arith in ap p e ∙ none)) (cases_lt i j))
     (cases_Bool (p i))
 
 -- a message without a field of an opaque packing can be read

@@ -2,20 +2,20 @@
 
 /// What each command does, behind its words.
 pub(crate) const COMMANDS: [&str; 17] = [
-    "check [refused=pass]: A line for each message, with its place, edition, octets and fields, and a line on the input.\n",
-    "list [refused=pass]: A line for each field.\n",
-    "keys [refused=pass]: For each field every key that it has, with its value, as filter takes it; of a message of edition 1 the numbers of Section 1.\n",
-    "dump [decimals=0..18] [refused=pass] [kept=pass]: For each field its list line, a line with R, E and D, and a line for each grid point with its scaled integer X: the value is (R + X * 2^E) / 10^D. With decimals= the value itself, rounded half to even to so many places.\n",
-    "values [as=f8|f4] [refused=pass] [kept=pass]: For each field an array in the form .npy of NumPy: the value of each grid point as the nearest number of 8 octets (f8, also without as=) or of 4 (f4), and a missing value as NaN.\n",
-    "stats [refused=pass]: For each field the number of points with and without a value, the smallest and the largest scaled integer with the first grid point of each, and the line with R, E and D.\n",
-    "filter KEY=VALUES .. KEY!=VALUES .. [refused=copy|pass] [kept=copy|pass]: The fields that have these values, copied octet for octet.\nVALUES is a value, a list as 1,2 or a range as 0..24. A value is a whole number, as 98, 0 or -5, or missing.\nAll keys: grib help keys. The values that the fields of a file have: grib keys < FILE\nExample: grib filter surface1=100 surface1Scale=0 surface1Value=50000 < FILE > level500\n",
-    "set KEY=VALUE .. [refused=copy|pass] [kept=copy|pass]: Each message with new values of these keys, all other octets copied.\n",
-    "split out=NAME [refused=copy|pass] [kept=copy|pass]: The n-th field of the input becomes the file NAME.n; nothing goes to standard output.\n",
-    "repack to=0|2|3|least [order=1|2] [refused=copy|pass] [kept=copy|pass]: Each message in simple packing (to=0), complex packing (to=2) or complex packing with spatial differencing (to=3 with order=1 or order=2), or each field in the smallest of these, or as it is (to=least). Every value and every missing value is preserved.\n",
-    "rescan [refused=copy|pass] [kept=copy|pass]: Each message with its points from west to east and from north to south, on regular latitude/longitude grids.\n",
-    "crop i0=N i1=N j0=N j1=N [refused=copy|pass] [kept=copy|pass]: The grid columns i0 to i1 and the rows j0 to j1 of each message on such a grid in that order, counted from 0.\n",
-    "migrate params=FILE [surfaces=FILE] [local=keep|ecmwf] [refused=copy|pass] [kept=copy|pass]: Each message of edition 1 as one of edition 2 with the same values, by a parameter table; messages of edition 2 are copied. With surfaces= a second table gives parameters and fixed surfaces whose name says a level. With local=keep the local part of Section 1 becomes Section 2, with local=ecmwf the labels of ECMWF as edition 2 has them.\n",
-    "demote params=FILE [local=keep] [earth=any] [tables=any] [refused=copy|pass] [kept=copy|pass]: Each field of edition 2 as a message of edition 1 with the same values, by a parameter table; messages of edition 1 are copied. With local=keep Section 2 becomes the local part of Section 1, with earth=any the shape of the Earth may be dropped, with tables=any the versions of the tables do not matter.\n",
+    "check [refused=pass] [profile=open]: A line for each message, with its place, edition, octets and fields, and a line on the input.\n",
+    "list [refused=pass] [profile=open]: A line for each field.\n",
+    "keys [refused=pass] [profile=open]: For each field every key that it has, with its value, as filter takes it; of a message of edition 1 the numbers of Section 1.\n",
+    "dump [decimals=0..18] [refused=pass] [kept=pass] [profile=open]: For each field its list line, a line with R, E and D, and a line for each grid point with its scaled integer X: the value is (R + X * 2^E) / 10^D. With decimals= the value itself, rounded half to even to so many places.\n",
+    "values [as=f8|f4] [refused=pass] [kept=pass] [profile=open]: For each field an array in the form .npy of NumPy: the value of each grid point as the nearest number of 8 octets (f8, also without as=) or of 4 (f4), and a missing value as NaN.\n",
+    "stats [refused=pass] [profile=open]: For each field the number of points with and without a value, the smallest and the largest scaled integer with the first grid point of each, and the line with R, E and D.\n",
+    "filter KEY=VALUES .. KEY!=VALUES .. [refused=copy|pass] [kept=copy|pass] [profile=open]: The fields that have these values, copied octet for octet.\nVALUES is a value, a list as 1,2 or a range as 0..24. A value is a whole number, as 98, 0 or -5, or missing.\nAll keys: grib help keys. The values that the fields of a file have: grib keys < FILE\nExample: grib filter surface1=100 surface1Scale=0 surface1Value=50000 < FILE > level500\n",
+    "set KEY=VALUE .. [refused=copy|pass] [kept=copy|pass] [profile=open]: Each message with new values of these keys, all other octets copied.\n",
+    "split out=NAME [refused=copy|pass] [kept=copy|pass] [profile=open]: The n-th field of the input becomes the file NAME.n; nothing goes to standard output.\n",
+    "repack to=0|2|3|least [order=1|2] [refused=copy|pass] [kept=copy|pass] [profile=open]: Each message in simple packing (to=0), complex packing (to=2) or complex packing with spatial differencing (to=3 with order=1 or order=2), or each field in the smallest of these, or as it is (to=least). Every value and every missing value is preserved.\n",
+    "rescan [refused=copy|pass] [kept=copy|pass] [profile=open]: Each message with its points from west to east and from north to south, on regular latitude/longitude grids.\n",
+    "crop i0=N i1=N j0=N j1=N [refused=copy|pass] [kept=copy|pass] [profile=open]: The grid columns i0 to i1 and the rows j0 to j1 of each message on such a grid in that order, counted from 0.\n",
+    "migrate params=FILE [surfaces=FILE] [local=keep|ecmwf] [refused=copy|pass] [kept=copy|pass] [profile=open]: Each message of edition 1 as one of edition 2 with the same values, by a parameter table; messages of edition 2 are copied. With surfaces= a second table gives parameters and fixed surfaces whose name says a level. With local=keep the local part of Section 1 becomes Section 2, with local=ecmwf the labels of ECMWF as edition 2 has them.\n",
+    "demote params=FILE [local=keep] [earth=any] [tables=any] [refused=copy|pass] [kept=copy|pass] [profile=open]: Each field of edition 2 as a message of edition 1 with the same values, by a parameter table; messages of edition 1 are copied. With local=keep Section 2 becomes the local part of Section 1, with earth=any the shape of the Earth may be dropped, with tables=any the versions of the tables do not matter.\n",
     "make seed=N ni=N nj=N to=0|2|3 [order=1|2]: A synthetic message, generated from the seed, for testing; reads no input.\n",
     "help [WORDS ..]: A line on each command. With words: what grib would make of them, and where it would not read them, why not. With the name of a command, key, refusal or cause: what it is. Pages: grib help keys, refusals, causes, commands.\n",
     "version takes no word: the version of the program; reads no input.\n",
@@ -119,7 +119,7 @@ pub(crate) const REFUSALS: [&str; 38] = [
 ];
 
 /// Why a message that is accepted is not changed or printed as asked.
-pub(crate) const CAUSES: [&str; 15] = [
+pub(crate) const CAUSES: [&str; 16] = [
     "causes are what stands in a line kept message <m> <cause>:\n",
     "EditionOne          kept by filter, split, set, repack, rescan and crop: the message is of edition 1; migrate it first\n",
     "KeyRange            kept by set: the value does not fit the key, as month=256, or is missing for a key that is never missing\n",
@@ -135,6 +135,7 @@ pub(crate) const CAUSES: [&str; 15] = [
     "DecimalRange        kept by dump decimals=: the value is too large to be printed with so many places; fewer places, or dump without decimals=\n",
     "Loss                kept by migrate: edition 2 cannot express something, which the name behind it tells\n",
     "Demotion            kept by demote: edition 1 cannot express something, which the name behind it tells\n",
+    "Packing             kept by dump, values, stats, repack, rescan, crop and demote: the values of a field cannot be read, since its packing template, which is the number, is not supported; only under profile=open\n",
 ];
 
 /// What of a message of edition 1 has no place in edition 2.
