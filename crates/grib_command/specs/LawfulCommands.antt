@@ -91,27 +91,7 @@ unless_lawful cause octets few =
 
 -- ---- what reads the values of messages
 
-<<<<<<< HEAD
--- what is sought from i on and not found holds of none
-not_found : (p : ℕ → Bool) (n i : ℕ) → find p (range_with_len i n) ≡ None → (j : ℕ) → i ≤ j → j < i + n → p j ≡ false
-not_found p zero i is j low high = absurd (omega arith)
-not_found p (suc n) i is j low high =
-    ⊎_elim
-    (λ (there : p i ≡ true). let no : ⊥ = cc in absurd no)
-    (λ (none : p i ≡ false).
-    let later : find p (range_with_len (i + 1) n) ≡ None = sym (ap (λ b. cond b (Some i) (find p (range_with_len (i + 1) n))) none) ∙ is in
-    ⊎_elim (λ (more : i < j). not_found p n (i + 1) later j (omega arith) (omega arith)) (λ (here : j ≤ i). (let e : j ≡ i = omega arith in ap p e ∙ none)) (cases_lt i j))
-    (cases_Bool (p i))
-
--- a message without a field of an opaque packing can be read
-pub none_opaque : (message : List ℕ) → first_opaque message ≡ None → IsReadable message
-none_opaque message is i low high =
-    not_found (λ i. is_opaque_packing (part_octets message i 5)) (field_count message) 1 is i low (omega arith)
-
--- and gives what it gives where values are read
-=======
 -- a message that can be read gives what it gives where values are read
->>>>>>> 9f0a7116b6d11894a012f62c8fb7bd776849fcfe
 pub given_read : (second : Place → List ℕ → Given) (place : Place) (message : List ℕ) → first_opaque message ≡ None → of_values second place message ≡ second place message
 given_read second place message is = ap (λ o. given_readable o message place (λ _. second place message)) is
 
