@@ -197,7 +197,7 @@ const TEXTS: [(&str, &str); 5] = [
 ];
 
 const PAGES: [(&str, &str); 4] = [
-    ("help keys", "keys [refused=pass]: For each field every key"),
+    ("help keys", "keys [refused=pass] [profile=open]: For each field every key"),
     (
         "help refusals",
         "refusals are the reasons in a line refused message",
@@ -208,7 +208,7 @@ const PAGES: [(&str, &str); 4] = [
     ),
     (
         "help filter",
-        "filter KEY=VALUES .. KEY!=VALUES .. [refused=copy|pass] [kept=copy|pass]: The fields",
+        "filter KEY=VALUES .. KEY!=VALUES .. [refused=copy|pass] [kept=copy|pass] [profile=open]: The fields",
     ),
 ];
 
