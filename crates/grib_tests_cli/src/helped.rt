@@ -197,7 +197,10 @@ const TEXTS: [(&str, &str); 5] = [
 ];
 
 const PAGES: [(&str, &str); 4] = [
-    ("help keys", "keys [refused=pass] [profile=open]: For each field every key"),
+    (
+        "help keys",
+        "keys [refused=pass] [profile=open]: For each field every key",
+    ),
     (
         "help refusals",
         "refusals are the reasons in a line refused message",
