@@ -63,7 +63,7 @@ def opened(words, octets):
 
 def hold(so, name, what):
     if not so:
-        findings.append(f"{name}: {what}")
+        findings.append(" ".join(f"{name}: {what}".split()))
 
 
 def tool(words, octets):
@@ -270,22 +270,23 @@ def ordered(sections):
 
 
 def compare_keys(name, octets, own):
-    """The keys by ecCodes, as far as it has a name for them and reads the message."""
+    """The keys by ecCodes, as far as it has a name for them and reads the message. Those of the first field that it reads."""
     rules = 'print "field";\n' + "".join(f'if (defined({name})) {{ print "{key}=[{name}:i!1]"; }}\n' for key, name in NAMES.items())
     text = printed(rules, octets)
     theirs = [dict(line.split("=") for line in field.split() if "=" in line) for field in text.split("field\n")[1:]] if text else []
     if len(theirs) != len(own):
-        unasked["keys that ecCodes does not read"] += 1
-        return
+        unasked["messages of which ecCodes reads no keys"] += 1
+        return []
     for sections, theirs_of in zip(own, theirs):
         values = keys_of(sections)
         for key, value in theirs_of.items():
             if key in values and values[key] != "missing":
                 counts["keys as ecCodes reads them"] += 1
                 hold(values[key] == value, name, f"{key} is {values[key]}, by ecCodes {value}")
+    return list(theirs[0])
 
 
-def compare_picked(name, octets, own):
+def compare_picked(name, octets, own, read):
     """`filter` for each key of the first field, and `split`."""
     parts = list(cut(octets))
     for key, value in keys_of(own[0]).items():
@@ -293,7 +294,7 @@ def compare_picked(name, octets, own):
     for key in ("category", "packing"):
         value = keys_of(own[0])[key]
         compare_filter(name, octets, f"{key}!={value}", parts, [keys_of(sections)[key] != value for sections in own])
-        if len(own) == 1:
+        if len(own) == 1 and key in read:
             compare_copied(name, octets, f"{NAMES[key]}:i={value}", octets)
             compare_copied(name, octets, f"{NAMES[key]}:i!={value}", None)
     with tempfile.TemporaryDirectory() as folder:
@@ -391,8 +392,7 @@ def compare(name, octets):
     counts["fields"] += len(own)
     if not compare_lines(name, octets, own):
         return False
-    compare_keys(name, octets, own)
-    compare_picked(name, octets, own)
+    compare_picked(name, octets, own, compare_keys(name, octets, own))
     compare_set(name, octets, own)
     compare_values(name, octets, own)
     return True

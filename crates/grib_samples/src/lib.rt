@@ -136,11 +136,13 @@ pub const UNSTRUCTURED_GRID: &[u8] = b"\0\0\0\x23\x03\0\0\0\0\x04\0\0\0\x65\x06\
 \xa2\x7b\x8d\xe6\x18\xc4\x11\xe4\x82\x0a\xb5\xb0\x98\xc6\xa5\xc0";
 
 /// A Section 4 of template 4.15, which begins as 4.0: statistics over an area at a point in time.
-pub const AREA_PRODUCT: &[u8] = b"\0\0\0\x25\x04\0\0\0\x0f\0\0\x02\xff\x01\0\0\0\x01\0\0\0\x06\x67\0\0\0\0\x02\
+pub const AREA_PRODUCT: &[u8] =
+    b"\0\0\0\x25\x04\0\0\0\x0f\0\0\x02\xff\x01\0\0\0\x01\0\0\0\x06\x67\0\0\0\0\x02\
 \xff\xff\xff\xff\xff\xff\0\0\x01";
 
 /// A Section 4 of template 4.40, which has a constituent in octets 12 and 13: the mass mixing ratio of carbon monoxide.
-pub const CHEMICAL_PRODUCT: &[u8] = b"\0\0\0\x24\x04\0\0\0\x28\x14\x02\0\x04\x02\xff\x01\0\0\0\x01\0\0\0\x06\
+pub const CHEMICAL_PRODUCT: &[u8] =
+    b"\0\0\0\x24\x04\0\0\0\x28\x14\x02\0\x04\x02\xff\x01\0\0\0\x01\0\0\0\x06\
 \x67\0\0\0\0\x02\xff\xff\xff\xff\xff\xff";
 
 /// A Section 4 of template 4.254, which has a category, a number, and how many characters there are.

@@ -28,7 +28,7 @@ fn what_has_the_values_is_copied(rt: HostRuntime) -> Result<(), Fail> {
     Ok(())
 }
 
-// The octets 19 to 22 of template 4.0 are zeros and a 1 in 4.40, whose forecast time stands two octets later.
+// Octets 19 to 22, the forecast time of template 4.0, are 0, 1, 0 and 0 in 4.40, where it stands two octets later.
 #[test]
 fn a_field_without_the_key_fulfils_no_condition(rt: HostRuntime) -> Result<(), Fail> {
     let alloc = rt.alloc();

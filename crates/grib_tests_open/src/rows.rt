@@ -204,7 +204,7 @@ fn nothing_is_asked_of_opaque_data(rt: HostRuntime) -> Result<(), Fail> {
     let octets = with_data(alloc, [least.as_slice(), NO_BITMAP, &none])?;
     let text = "message 1 at 0 edition 2 octets 169 fields 1\nmessages 1 fields 1 skipped 0\n";
     assert!(rt; prints(alloc, OPEN, octets.as_slice(), text)?);
-    // Of simple packing they are: four numbers of eight bits take nine octets with the head of the section.
+    // Of simple packing they are: four numbers of nine bits have no room in a section of nine octets.
     let octets = edited(alloc, &PLAIN, &[(163, 9)])?;
     assert!(rt; refuses(alloc, OPEN, octets.as_slice(), 171, Reason::DataTooShort, 9)?);
     Ok(())
@@ -216,9 +216,10 @@ fn an_opaque_message_has_to_be_whole(rt: HostRuntime) -> Result<(), Fail> {
     let octets = opaque(alloc)?;
     let octets = octets.as_slice();
     for length in [40, 75, 115, 130, 150] {
-        let first = between(octets, 0, length as usize);
-        let reason = Reason::Truncated;
-        assert!(rt; refuses(alloc, OPEN, first, length + 1, reason, length)?);
+        let there = length as u64;
+        let next = there.saturating_add(1);
+        let first = between(octets, 0, length);
+        assert!(rt; refuses(alloc, OPEN, first, next, Reason::Truncated, there)?);
     }
     // 777G stands where 7777 is to be.
     let octets = edited(alloc, octets, &[(152, b'G')])?;

@@ -128,7 +128,7 @@ fn values_on_opaque_grids_and_of_opaque_products_are_printed(rt: HostRuntime) ->
     );
     let text = "1.1 ed=2 centre=98 time=2024-01-15T12:00:00 grid=3.0 points=4 product=4.40 \
                 param=0.20.2 unit=1 ahead=6 surface=103:0:2 packing=5.0 bits=8 values=4\n\
-                reference -949*2^-3 binary -3 decimal 1\n1 -11.863\n2 -11.850\n3 -11.838\n4 -8.675\n";
+                reference -949*2^-3 binary -3 decimal 1\n1 -11.862\n2 -11.850\n3 -11.838\n4 -8.675\n";
     let words = "dump decimals=3 profile=open";
     assert!(rt; prints(alloc, words, chemical(alloc)?.as_slice(), text)?);
     let text = "1.1 present 4 missing 0 missing2 0 least 0 at 1 greatest 255 at 4\n\
