@@ -68,7 +68,11 @@ fn least_forms(alloc: Global, message: &ReadableMessage<'_>) -> Result<Vec<Packe
 }
 
 /// The form in which one field is written, counted from 1.
-fn least_form(alloc: Global, message: &ReadableMessage<'_>, field: u32) -> Result<Packed, AllocError>
+fn least_form(
+    alloc: Global,
+    message: &ReadableMessage<'_>,
+    field: u32,
+) -> Result<Packed, AllocError>
     requires message { IsAnyMessage message.now }
     requires first { 1 ≤ field }
     requires last { field ≤ field_count message.now }
