@@ -17,6 +17,7 @@ use Rattle.grib_select.specs.Changed.{new_number, with_keys, first_without, chan
 use Rattle.grib_select.specs.Values.{key_value_of}
 use Rattle.grib2_sections.specs.Head.{edition}
 use Rattle.grib2_message.specs.Message.{IsMessage, IsMessageUnder, first_opaque}
+use Rattle.grib2_message.proofs.FirstOpaque.{none_opaque}
 use Rattle.grib2_message.proofs.Opened.{any_message}
 use Rattle.grib2_message.specs.Fields.{field_count}
 use Rattle.grib_packing.specs.Written.{IsTarget}
@@ -35,7 +36,6 @@ use Rattle.grib_stream.specs.Acts.{Act, Writes, Makes, Adds, writes, written}
 use Rattle.grib_stream.specs.Stream.{Found}
 use Rattle.grib_stream.specs.Task.{Given, Gives}
 use Rattle.grib_command.specs.Command.{Command, given, given_readable, given_unless, under}
-use Rattle.grib_command.specs.LawfulCommands.{none_opaque}
 use Rattle.grib_edit.specs.Filtering.{filtered, filter_command, all_fulfil}
 use Rattle.grib_edit.specs.Migrating.{are_octets, migrate_command}
 use Rattle.grib_edit.specs.Repacking.{cause_of, repack_command}
