@@ -7,7 +7,7 @@ use Rattle.grib_keys.specs.Keys.{name_of}
 use Rattle.grib_text.specs.Notes.{refusal_text}
 use Rattle.grib_stream.specs.declared.place.Totals.{Totals}
 use Rattle.grib_reasons.specs.declared.cause.Cause.{Cause}
-use Rattle.grib_reasons.specs.declared.cause.Cause.TheVariants.{EditionOne, SecondaryMissing, OutOfRange, DifferenceRange, OutputTooLong, KeyRange, KeyAbsent, Lost, GridKind, ScanMode, OutsideBox, Increments, DecimalRange, Demoted}
+use Rattle.grib_reasons.specs.declared.cause.Cause.TheVariants.{EditionOne, SecondaryMissing, OutOfRange, DifferenceRange, OutputTooLong, KeyRange, KeyAbsent, Lost, GridKind, ScanMode, OutsideBox, Increments, DecimalRange, Demoted, Packing}
 use Rattle.grib_reasons.specs.Losses as losses
 use Rattle.grib_reasons.specs.Demotions as demotions
 use Rattle.grib_reasons.specs.declared.table.TableRefusal.{TableRefusal}
@@ -40,6 +40,10 @@ text_at_key head name = head ++ codes " KeyRange " ++ name ++ 10 ∷ []
 abbrev pub text_without_key : List ℕ → List ℕ → ℕ → List ℕ
 text_without_key head name field = head ++ codes " KeyAbsent " ++ name ++ codes " field " ++ decimal field ++ 10 ∷ []
 
+-- by the packing of a field, of this template
+abbrev pub text_of_packing : List ℕ → ℕ → ℕ → List ℕ
+text_of_packing head template field = head ++ codes " Packing " ++ decimal template ++ codes " field " ++ decimal field ++ 10 ∷ []
+
 -- what cannot be changed, and by what
 abbrev pub kept_text : List ℕ → Cause → List ℕ
 kept_text head EditionOne = head ++ codes " EditionOne" ++ 10 ∷ []
@@ -56,6 +60,7 @@ kept_text head (OutsideBox field) = text_in_field head (codes "OutsideBox") fiel
 kept_text head (Increments field) = text_in_field head (codes "Increments") field
 kept_text head (DecimalRange field point) = text_at_point head (codes "DecimalRange") field point
 kept_text head (Demoted field loss) = text_of_demotion head (demotions.name_of loss) (demotions.number_of loss) field
+kept_text head (Packing template field) = text_of_packing head template field
 
 -- message m cannot be changed, and the run ends with it
 abbrev pub kept_note : ℕ → Cause → List ℕ

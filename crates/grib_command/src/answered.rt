@@ -1,10 +1,13 @@
 //! What comes of a message.
 
 ghost use Rattle.std.specs.Prelude.{◌≡◌};
+ghost use Rattle.grib_reasons.specs.declared.cause.Cause.TheVariants.{Packing};
+ghost use Rattle.grib_command.specs.declared.answered.Answered.TheVariants.{Kept};
 ghost use Rattle.grib_command.specs.Answering.{answered_printed, answered_stopped, answered_written};
 
 use grib_io::Stop;
 use grib_stream::Cause;
+use grib2_message::OpaqueField;
 
 /// What came of a message.
 #[derive(Clone, Copy, Debug, PartialEq, Eq)]
@@ -40,6 +43,16 @@ pub fn written(octets: Result<u64, Stop>) -> Answered
         Ok(count) => Answered::Whole(count),
         Err(stop) => stopped(stop),
     }
+}
+
+/// What comes of a message whose values cannot be read, for this field.
+pub fn unreadable(opaque: OpaqueField) -> Answered
+    ensures { result ≡ Kept (Packing opaque.template opaque.field) }
+{
+    Answered::Kept(Cause::Packing {
+        template: opaque.template,
+        field: opaque.field,
+    })
 }
 
 /// What came of a message within whose result the output stopped.

@@ -2,8 +2,9 @@
 
 ghost use Rattle.std.specs.Prelude.{◌≡◌, ℕ, ◌≤◌, ◌^◌, true, false, List, length};
 ghost use Rattle.grib2_sections.specs.Verdict.{Accepted};
-ghost use Rattle.grib2_message.specs.Acceptance.{verdict_2};
-ghost use Rattle.grib2_arrival.specs.Heard.{Heard};
+ghost use Rattle.grib_base.specs.declared.profile.Profile.{Profile};
+ghost use Rattle.grib2_message.specs.Acceptance.{verdict_under};
+ghost use Rattle.grib2_arrival.specs.Heard.{HeardUnder};
 ghost use Rattle.grib_command.specs.Answering.{AnswersMessage, AnswersByOutput};
 ghost use Rattle.grib_command.specs.Command.{Command, IsLawfulCommand};
 
@@ -63,10 +64,11 @@ pub trait Answerer {
         arrival: &Arrival,
         output: &mut T,
     ) -> Answered
-        requires whole { (octets : List ℕ) × Heard arrival.now octets
-            × (verdict_2 octets ≡ Accepted (length octets)) }
+        requires whole { (profile : Profile) × (octets : List ℕ) × HeardUnder profile arrival.now octets
+            × (verdict_under profile octets ≡ Accepted (length octets)) }
         ensures { (definition self.now).hears ≡ true
-            → (octets : List ℕ) → Heard arrival.now octets → verdict_2 octets ≡ Accepted (length octets)
+            → (profile : Profile) (octets : List ℕ) → HeardUnder profile arrival.now octets
+            → verdict_under profile octets ≡ Accepted (length octets)
             → AnswersByOutput T.contents T.faults T.settled result place.now.message
             ((definition self.now).second place.now octets) output.old output.new };
 
@@ -117,10 +119,11 @@ pub trait Writer {
         arrival: &Arrival,
         output: &mut T,
     ) -> Answered
-        requires whole { (octets : List ℕ) × Heard arrival.now octets
-            × (verdict_2 octets ≡ Accepted (length octets)) }
+        requires whole { (profile : Profile) × (octets : List ℕ) × HeardUnder profile arrival.now octets
+            × (verdict_under profile octets ≡ Accepted (length octets)) }
         ensures { (definition self.now).hears ≡ true
-            → (octets : List ℕ) → Heard arrival.now octets → verdict_2 octets ≡ Accepted (length octets)
+            → (profile : Profile) (octets : List ℕ) → HeardUnder profile arrival.now octets
+            → verdict_under profile octets ≡ Accepted (length octets)
             → AnswersByOutput T.contents T.faults T.settled result place.now.message
             ((definition self.now).second place.now octets) output.old output.new };
 

@@ -10,7 +10,7 @@ mod notes;
 mod page;
 mod writing;
 
-pub use answered::{Answered, printed, written};
+pub use answered::{Answered, printed, unreadable, written};
 pub use answerer::{Answerer, ByOutput, Writer};
 pub use ending::Ending;
 pub use job::{Changes, Conditions, Job};

@@ -94,7 +94,21 @@ fn kept_text(alloc: Global, head: &str, cause: &Cause) -> Result<String, AllocEr
         Cause::DecimalRange { field, point } => {
             text_at_point(alloc, head, "DecimalRange", field, point)
         }
+        Cause::Packing { template, field } => text_of_packing(alloc, head, template, field),
     }
+}
+
+/// What cannot be changed, by the packing of a field, of this template.
+fn text_of_packing(
+    alloc: Global,
+    head: &str,
+    template: u16,
+    field: u32,
+) -> Result<String, AllocError>
+    ensures { IfOk result (λ text. string_bytes text ≡ notes.text_of_packing head.now template field) }
+{
+    let text = format!(in alloc; "{head} Packing {template} field {field}\n")?;
+    Ok(text)
 }
 
 /// What cannot be changed, by a cause of this name at a point of a field.

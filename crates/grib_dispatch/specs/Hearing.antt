@@ -5,8 +5,9 @@ use Rattle.std.specs.declared.option.Option.{Option}
 use Rattle.std.specs.declared.result.Result.{Result}
 use Rattle.grib_stream.specs.Reading.{Takes}
 use Rattle.grib_base.specs.declared.fault.Refusal.{Refusal}
+use Rattle.grib_base.specs.declared.profile.Profile.{Profile}
 use Rattle.grib2_sections.specs.Head.{indicator, edition}
-use Rattle.grib2_message.specs.Acceptance.{verdict_2}
+use Rattle.grib2_message.specs.Acceptance.{verdict_under}
 use Rattle.grib_stream.specs.declared.outcome.Outcome.{Outcome}
 use Rattle.grib_stream.specs.declared.outcome.Outcome.TheVariants as outcomes
 use Rattle.grib_stream.specs.declared.place.Place.{Place}
@@ -18,11 +19,11 @@ use Rattle.grib_stream.specs.Soon.{StandsAt}
 use Rattle.grib_command.specs.declared.answered.Answered.{Answered}
 use Rattle.grib_command.specs.declared.answered.Answered.TheVariants.{Whole, Kept, WriteFault, ShelfFault, Memory}
 use Rattle.grib_command.specs.Command.{Command, kept_at}
-use Rattle.grib_command.specs.Judging.{judge, judged}
+use Rattle.grib_command.specs.Judging.{judge_under, judged}
 
--- what octets are as a message of edition 2
-abbrev pub judge_2 : List ℕ → Judgement
-judge_2 octets = judged (verdict_2 octets)
+-- what octets are as a message of edition 2, by a profile
+abbrev pub judge_2_under : Profile → List ℕ → Judgement
+judge_2_under profile octets = judged (verdict_under profile octets)
 
 -- whether a message that begins with these eight octets is one of edition 2
 abbrev pub is_second : List ℕ → Bool
@@ -44,16 +45,16 @@ hears_by hears first = hears && is_second first
 abbrev pub IfHears : Command → Type 0 → Type 0
 IfHears command P = command.hears ≡ true → P
 
--- Of these octets message n is refused. Where it is not of edition 1, they go on for no more than one read, 65536
+-- Of these octets message n is refused by a profile. Where it is not of edition 1, they go on for no more than one read, 65536
 -- octets, behind the first of them by which it is.
-pub record IsRefusedSoon (taken : List ℕ) (n : ℕ) : Type 0 where
+pub record IsRefusedSoon (profile : Profile) (taken : List ℕ) (n : ℕ) : Type 0 where
   pub before : ℕ
   pub rest : List ℕ
-  pub place : StandsAt judge taken n before rest
-  pub bound : edition rest ≢ 1 → (k : ℕ) → is_closed (judge (take k rest)) ≡ true → length taken ≤ before + k + 65536
+  pub place : StandsAt (judge_under profile) taken n before rest
+  pub bound : edition rest ≢ 1 → (k : ℕ) → is_closed (judge_under profile (take k rest)) ≡ true → length taken ≤ before + k + 65536
 
--- a run that ends with a refusal for another reason than the end of the input took no more than that
-abbrev pub RefusesInTime : Outcome → Option (List ℕ) → Option (List ℕ) → Type 0
-RefusesInTime outcome left left_now =
+-- a run by a profile that ends with a refusal for another reason than the end of the input took no more than that
+abbrev pub RefusesInTime : Profile → Outcome → Option (List ℕ) → Option (List ℕ) → Type 0
+RefusesInTime profile outcome left left_now =
     (refusal : Refusal) → outcome ≡ outcomes.Refused refusal → is_truncated refusal.fault.reason ≡ false
-    → (taken : List ℕ) × Takes left left_now taken × IsRefusedSoon taken refusal.message
+    → (taken : List ℕ) × Takes left left_now taken × IsRefusedSoon profile taken refusal.message

@@ -3,11 +3,11 @@ use Rattle.std.proofs.Common.{◌≡◌, ◌≢◌, ℕ, ◌+◌, ◌<◌, ◌�
 use Rattle.std.proofs.lemmas.Bool.{cases_lt, false≢true}
 use Rattle.std.proofs.lemmas.List.{take-append-le}
 use Rattle.std.specs.Str.{bytes_eq}
-use Rattle.grib_base.specs.Rows.{choose}
+use Rattle.grib_base.specs.declared.profile.Profile.{Profile}
 use Rattle.grib2_sections.specs.Head.{indicator, edition}
-use Rattle.grib_command.specs.Judging.{judge, judged}
+use Rattle.grib_command.specs.Judging.{judge_under}
 use Rattle.grib_dispatch.specs.Lawful.{same_edition, short_edition, other}
-use Rattle.grib_dispatch.specs.Hearing.{judge_2, is_second, hears_by}
+use Rattle.grib_dispatch.specs.Hearing.{judge_2_under, is_second, hears_by}
 
 pub both : (a b : Bool) → (a && b) ≡ true → (a ≡ true) × (b ≡ true)
 both true b is = (refl, is)
@@ -27,8 +27,8 @@ not_one octets more second =
     ap (λ n. n == 1) (whole ∙ (ap edition (sym front) ∙ two)))
     (cases_lt (length octets) 8)
 
-pub alike : (hears : Bool) (octets more : List ℕ) → hears_by hears (take 8 (octets ++ more)) ≡ true
-    → (is_second (take 8 (octets ++ more)) ≡ true) × (judge octets ≡ judge_2 octets)
-alike hears octets more heard =
+pub alike : (profile : Profile) (hears : Bool) (octets more : List ℕ) → hears_by hears (take 8 (octets ++ more)) ≡ true
+    → (is_second (take 8 (octets ++ more)) ≡ true) × (judge_under profile octets ≡ judge_2_under profile octets)
+alike profile hears octets more heard =
     let second = (both hears (is_second (take 8 (octets ++ more))) heard).1 in
-    (second, other octets (not_one octets more second))
+    (second, other profile octets (not_one octets more second))

@@ -10,7 +10,7 @@ use Rattle.grib_base.specs.declared.fault.Reason.{Reason}
 use Rattle.grib_base.specs.declared.fault.Reason.TheVariants.{Truncated}
 use Rattle.grib_base.specs.Rows.{choose, first_fault}
 use Rattle.grib_base.specs.declared.limits.TheConstants.{MOST_OCTETS}
-use Rattle.grib_base.specs.declared.profile.Profile.TheVariants.{Stated}
+use Rattle.grib_base.specs.declared.profile.Profile.{Profile}
 use Rattle.grib2_sections.specs.Verdict.{Verdict, Accepted, Refused}
 use Rattle.grib2_sections.specs.Head.{edition, head_rows}
 use Rattle.grib2_sections.specs.Frame.{ends_at, section_at, placed_at}
@@ -18,9 +18,10 @@ use Rattle.grib1_sections.specs.Acceptance.{verdict_1}
 use Rattle.grib1_sections.proofs.Stays.{accepted_stays as first_stays, refused_stays as first_refused_stays}
 use Rattle.grib1_sections.proofs.Fronts.{accepted_least as first_least, accepted_there as first_there, accepted_alone as first_alone}
 use Rattle.grib2_message.specs.View.{is_numbered}
-use Rattle.grib2_message.specs.Acceptance.{unless_refused, verdict_2}
+use Rattle.grib2_message.specs.Acceptance.{unless_refused, verdict_under}
 use Rattle.grib2_message.specs.Fields.{sections_from, sections_of, field_count}
-use Rattle.grib2_message.specs.Message.{IsMessage}
+use Rattle.grib2_message.specs.Message.{IsMessageUnder}
+use Rattle.grib2_message.proofs.Opened.{any_message}
 use Rattle.grib1_sections.specs.Message.{IsMessage1}
 use Rattle.grib2_message.proofs.Passed.{passes_from_none}
 use Rattle.grib2_message.proofs.Whole.{head_passes}
@@ -34,15 +35,15 @@ use Rattle.grib_stream.specs.Acts.{Act}
 use Rattle.grib_stream.specs.declared.place.Place.{Place}
 use Rattle.grib_stream.specs.declared.outcome.Outcome.{Outcome}
 use Rattle.grib_command.specs.Command.{Command, IsLawfulCommand, given, task}
-use Rattle.grib_command.specs.Judging.{judged, judge, fields_of}
+use Rattle.grib_command.specs.Judging.{judged, judge_under, fields_of}
 
 -- ---- the judgement, by the edition
 
-first : (octets : List ℕ) → (edition octets == 1) ≡ true → judge octets ≡ judged (verdict_1 octets)
-first octets is = ap (λ b. choose b (λ _. judged (verdict_1 octets)) (λ _. judged (verdict_2 octets))) is
+first : (profile : Profile) (octets : List ℕ) → (edition octets == 1) ≡ true → judge_under profile octets ≡ judged (verdict_1 octets)
+first profile octets is = ap (λ b. choose b (λ _. judged (verdict_1 octets)) (λ _. judged (verdict_under profile octets))) is
 
-pub other : (octets : List ℕ) → (edition octets == 1) ≡ false → judge octets ≡ judged (verdict_2 octets)
-other octets is = ap (λ b. choose b (λ _. judged (verdict_1 octets)) (λ _. judged (verdict_2 octets))) is
+pub other : (profile : Profile) (octets : List ℕ) → (edition octets == 1) ≡ false → judge_under profile octets ≡ judged (verdict_under profile octets)
+other profile octets is = ap (λ b. choose b (λ _. judged (verdict_1 octets)) (λ _. judged (verdict_under profile octets))) is
 
 -- an octet that is only stands
 pub short_edition : (octets : List ℕ) → length octets < 8 → edition octets ≡ 0
@@ -63,9 +64,9 @@ pub record IsFirst (octets : List ℕ) (verdict : Verdict) : Type 0 where
   pub edition_is : edition octets ≡ 1
   pub verdict_is : verdict_1 octets ≡ verdict
 
-pub record IsOther (octets : List ℕ) (verdict : Verdict) : Type 0 where
+pub record IsOther (profile : Profile) (octets : List ℕ) (verdict : Verdict) : Type 0 where
   pub other_edition : (edition octets == 1) ≡ false
-  pub verdict_is : verdict_2 octets ≡ verdict
+  pub verdict_is : verdict_under profile octets ≡ verdict
 
 pub message_of : (v : Verdict) (total : ℕ) → judged v ≡ Message total → v ≡ Accepted total
 message_of (Accepted n) total is = let e : n ≡ total = cc in ap Accepted e
@@ -76,18 +77,18 @@ refusal_of (Accepted n) fault is = let no : ⊥ = cc in absurd no
 refusal_of (Refused f) fault is = let e : f ≡ fault = cc in ap Refused e
 
 -- a verdict of the edition that is only
-judged_by : (octets : List ℕ) (j : Judgement) (v : Verdict) → judge octets ≡ j → ((w : Verdict) → judged w ≡ j → w ≡ v) → IsFirst octets v ⊎ IsOther octets v
-judged_by octets j v is only =
+judged_by : (profile : Profile) (octets : List ℕ) (j : Judgement) (v : Verdict) → judge_under profile octets ≡ j → ((w : Verdict) → judged w ≡ j → w ≡ v) → IsFirst octets v ⊎ IsOther profile octets v
+judged_by profile octets j v is only =
     ⊎_elim
-    (λ one. inl (record { first_edition = one; edition_is = eqb-true (edition octets) 1 one; verdict_is = only (verdict_1 octets) (sym (first octets one) ∙ is) }))
-    (λ not_one. inr (record { other_edition = not_one; verdict_is = only (verdict_2 octets) (sym (other octets not_one) ∙ is) }))
+    (λ one. inl (record { first_edition = one; edition_is = eqb-true (edition octets) 1 one; verdict_is = only (verdict_1 octets) (sym (first profile octets one) ∙ is) }))
+    (λ not_one. inr (record { other_edition = not_one; verdict_is = only (verdict_under profile octets) (sym (other profile octets not_one) ∙ is) }))
     (cases_Bool (edition octets == 1))
 
-pub message_judged : (octets : List ℕ) (total : ℕ) → judge octets ≡ Message total → IsFirst octets (Accepted total) ⊎ IsOther octets (Accepted total)
-message_judged octets total is = judged_by octets (Message total) (Accepted total) is (λ w judged_w. message_of w total judged_w)
+pub message_judged : (profile : Profile) (octets : List ℕ) (total : ℕ) → judge_under profile octets ≡ Message total → IsFirst octets (Accepted total) ⊎ IsOther profile octets (Accepted total)
+message_judged profile octets total is = judged_by profile octets (Message total) (Accepted total) is (λ w judged_w. message_of w total judged_w)
 
-pub refusal_judged : (octets : List ℕ) (fault : Fault) → judge octets ≡ Faulty fault → IsFirst octets (Refused fault) ⊎ IsOther octets (Refused fault)
-refusal_judged octets fault is = judged_by octets (Faulty fault) (Refused fault) is (λ w judged_w. refusal_of w fault judged_w)
+pub refusal_judged : (profile : Profile) (octets : List ℕ) (fault : Fault) → judge_under profile octets ≡ Faulty fault → IsFirst octets (Refused fault) ⊎ IsOther profile octets (Refused fault)
+refusal_judged profile octets fault is = judged_by profile octets (Faulty fault) (Refused fault) is (λ w judged_w. refusal_of w fault judged_w)
 
 pub not_first : (octets : List ℕ) → (edition octets == 1) ≡ false → edition octets ≢ 1
 not_first octets not_one e = false≢true (sym not_one ∙ eq-eqb (edition octets) 1 e)
@@ -103,45 +104,45 @@ edition_alone octets total least there =
 
 -- ---- the laws
 
-pub least_message : (octets : List ℕ) (total : ℕ) → judge octets ≡ Message total → 12 ≤ total
-least_message octets total is =
+pub least_message : (profile : Profile) (octets : List ℕ) (total : ℕ) → judge_under profile octets ≡ Message total → 12 ≤ total
+least_message profile octets total is =
     ⊎_elim
     (λ (m : IsFirst octets (Accepted total)). first_least octets total m.edition_is m.verdict_is)
-    (λ (m : IsOther octets (Accepted total)). omega (arith, accepted_least Stated octets total (not_first octets m.other_edition) m.verdict_is))
-    (message_judged octets total is)
+    (λ (m : IsOther profile octets (Accepted total)). omega (arith, accepted_least profile octets total (not_first octets m.other_edition) m.verdict_is))
+    (message_judged profile octets total is)
 
-pub there_message : (octets : List ℕ) (total : ℕ) → judge octets ≡ Message total → total ≤ length octets
-there_message octets total is =
+pub there_message : (profile : Profile) (octets : List ℕ) (total : ℕ) → judge_under profile octets ≡ Message total → total ≤ length octets
+there_message profile octets total is =
     ⊎_elim
     (λ (m : IsFirst octets (Accepted total)). first_there octets total m.edition_is m.verdict_is)
-    (λ (m : IsOther octets (Accepted total)). accepted_there Stated octets total (not_first octets m.other_edition) m.verdict_is)
-    (message_judged octets total is)
+    (λ (m : IsOther profile octets (Accepted total)). accepted_there profile octets total (not_first octets m.other_edition) m.verdict_is)
+    (message_judged profile octets total is)
 
-long_message : (octets : List ℕ) (total : ℕ) → judge octets ≡ Message total → 8 ≤ length octets
-long_message octets total is = omega (arith, least_message octets total is, there_message octets total is)
+long_message : (profile : Profile) (octets : List ℕ) (total : ℕ) → judge_under profile octets ≡ Message total → 8 ≤ length octets
+long_message profile octets total is = omega (arith, least_message profile octets total is, there_message profile octets total is)
 
-pub message_stays : (octets more : List ℕ) (total : ℕ) → judge octets ≡ Message total → judge (octets ++ more) ≡ Message total
-message_stays octets more total is =
-    let long = long_message octets total is in
+pub message_stays : (profile : Profile) (octets more : List ℕ) (total : ℕ) → judge_under profile octets ≡ Message total → judge_under profile (octets ++ more) ≡ Message total
+message_stays profile octets more total is =
+    let long = long_message profile octets total is in
     ⊎_elim
     (λ (m : IsFirst octets (Accepted total)).
-    first (octets ++ more) (still octets more true long m.first_edition) ∙ ap judged (first_stays octets more total m.edition_is m.verdict_is))
-    (λ (m : IsOther octets (Accepted total)).
-    other (octets ++ more) (still octets more false long m.other_edition)
-    ∙ ap judged (accepted_stays Stated octets more total (not_first octets m.other_edition) m.verdict_is))
-    (message_judged octets total is)
+    first profile (octets ++ more) (still octets more true long m.first_edition) ∙ ap judged (first_stays octets more total m.edition_is m.verdict_is))
+    (λ (m : IsOther profile octets (Accepted total)).
+    other profile (octets ++ more) (still octets more false long m.other_edition)
+    ∙ ap judged (accepted_stays profile octets more total (not_first octets m.other_edition) m.verdict_is))
+    (message_judged profile octets total is)
 
 -- a refusal of fewer octets than eight is that of their end
-pub short_verdict : (octets : List ℕ) → length octets < 8 → verdict_2 octets ≡ Refused (record { octet = length octets + 1; reason = Truncated; detail = length octets })
-short_verdict octets short =
+pub short_verdict : (profile : Profile) (octets : List ℕ) → length octets < 8 → verdict_under profile octets ≡ Refused (record { octet = length octets + 1; reason = Truncated; detail = length octets })
+short_verdict profile octets short =
     let first_row : nat_lt (length octets) 8 ≡ true = lt-ltb (length octets) 8 short in
     rw first_row refl
 
-long_enough : (octets : List ℕ) (fault : Fault) → verdict_2 octets ≡ Refused fault → is_truncated fault.reason ≡ false → 8 ≤ length octets
-long_enough octets fault is whole =
+long_enough : (profile : Profile) (octets : List ℕ) (fault : Fault) → verdict_under profile octets ≡ Refused fault → is_truncated fault.reason ≡ false → 8 ≤ length octets
+long_enough profile octets fault is whole =
     ⊎_elim
     (λ short.
-    let same : Refused (record { octet = length octets + 1; reason = Truncated; detail = length octets }) ≡ Refused fault = sym (short_verdict octets short) ∙ is in
+    let same : Refused (record { octet = length octets + 1; reason = Truncated; detail = length octets }) ≡ Refused fault = sym (short_verdict profile octets short) ∙ is in
     let fault_is : record { octet = length octets + 1; reason = Truncated; detail = length octets } ≡ fault = cc in
     absurd (false≢true (sym whole ∙ sym (ap (λ f. is_truncated f.reason) fault_is))))
     (λ long. long) (cases_lt (length octets) 8)
@@ -149,28 +150,28 @@ long_enough octets fault is whole =
 reason_other : (reason : Reason) → is_truncated reason ≡ false → reason ≢ Truncated
 reason_other reason whole e = false≢true (sym whole ∙ ap is_truncated e)
 
-refusal_stays : (octets more : List ℕ) (fault : Fault) → judge octets ≡ Faulty fault → is_truncated fault.reason ≡ false → judge (octets ++ more) ≡ Faulty fault
-refusal_stays octets more fault is whole =
+refusal_stays : (profile : Profile) (octets more : List ℕ) (fault : Fault) → judge_under profile octets ≡ Faulty fault → is_truncated fault.reason ≡ false → judge_under profile (octets ++ more) ≡ Faulty fault
+refusal_stays profile octets more fault is whole =
     ⊎_elim
     (λ (m : IsFirst octets (Refused fault)).
-    first (octets ++ more) (still octets more true (first_is_long octets m.edition_is) m.first_edition)
+    first profile (octets ++ more) (still octets more true (first_is_long octets m.edition_is) m.first_edition)
     ∙ ap judged (first_refused_stays octets more fault m.edition_is m.verdict_is (reason_other fault.reason whole)))
-    (λ (m : IsOther octets (Refused fault)).
-    other (octets ++ more) (still octets more false (long_enough octets fault m.verdict_is whole) m.other_edition)
-    ∙ ap judged (refused_stays Stated octets more fault (not_first octets m.other_edition) m.verdict_is (reason_other fault.reason whole)))
-    (refusal_judged octets fault is)
+    (λ (m : IsOther profile octets (Refused fault)).
+    other profile (octets ++ more) (still octets more false (long_enough profile octets fault m.verdict_is whole) m.other_edition)
+    ∙ ap judged (refused_stays profile octets more fault (not_first octets m.other_edition) m.verdict_is (reason_other fault.reason whole)))
+    (refusal_judged profile octets fault is)
 
-alone : (octets : List ℕ) (total : ℕ) → judge octets ≡ Message total → judge (take total octets) ≡ Message total
-alone octets total is =
-    let least = least_message octets total is in
-    let same = ap (λ n. n == 1) (edition_alone octets total (omega arith) (there_message octets total is)) in
+alone : (profile : Profile) (octets : List ℕ) (total : ℕ) → judge_under profile octets ≡ Message total → judge_under profile (take total octets) ≡ Message total
+alone profile octets total is =
+    let least = least_message profile octets total is in
+    let same = ap (λ n. n == 1) (edition_alone octets total (omega arith) (there_message profile octets total is)) in
     ⊎_elim
     (λ (m : IsFirst octets (Accepted total)).
-    first (take total octets) (same ∙ m.first_edition) ∙ ap judged (first_alone octets total m.edition_is m.verdict_is))
-    (λ (m : IsOther octets (Accepted total)).
-    other (take total octets) (same ∙ m.other_edition)
-    ∙ ap judged (accepted_alone Stated octets total (not_first octets m.other_edition) m.verdict_is))
-    (message_judged octets total is)
+    first profile (take total octets) (same ∙ m.first_edition) ∙ ap judged (first_alone octets total m.edition_is m.verdict_is))
+    (λ (m : IsOther profile octets (Accepted total)).
+    other profile (take total octets) (same ∙ m.other_edition)
+    ∙ ap judged (accepted_alone profile octets total (not_first octets m.other_edition) m.verdict_is))
+    (message_judged profile octets total is)
 
 -- fields are fewer than octets
 few_sections : (turns : ℕ) (message : List ℕ) (q : ℕ) → length (sections_from turns message q) ≤ turns
@@ -208,18 +209,18 @@ pub head_none : (first : Option Fault) (next : Unit {0} → Verdict) (total : �
 head_none None next total is = refl
 head_none (Some fault) next total is = let no : ⊥ = cc in absurd no
 
-pub message_alone : (rest : List ℕ) (total : ℕ) → begins rest ≡ true → IsOther rest (Accepted total) → IsMessage (take total rest)
-message_alone rest total begun m =
+pub message_alone : (profile : Profile) (rest : List ℕ) (total : ℕ) → begins rest ≡ true → IsOther profile rest (Accepted total) → IsMessageUnder profile (take total rest)
+message_alone profile rest total begun m =
     let other = not_first rest m.other_edition in
-    let least : 20 ≤ total = accepted_least Stated rest total other m.verdict_is in
-    let there : total ≤ length rest = accepted_there Stated rest total other m.verdict_is in
+    let least : 20 ≤ total = accepted_least profile rest total other m.verdict_is in
+    let there : total ≤ length rest = accepted_there profile rest total other m.verdict_is in
     let size : length (take total rest) ≡ total = length-take-le total rest there in
     let head = head_none (first_fault (head_rows rest)) _ total m.verdict_is in
     let second : edition rest ≡ 2 = (head_passes rest other (passes_from_none (head_rows rest) head)).second_edition in
     record {
       indicated = sym (take-append-le 4 (take total rest) (drop total rest) (omega arith)) ∙ (ap (take 4) (take-append-drop total rest) ∙ begins_is rest begun);
       edition_stands = edition_alone rest total (omega arith) there ∙ second;
-      accepted = accepted_alone Stated rest total other m.verdict_is ∙ ap Accepted (sym size);
+      accepted = accepted_alone profile rest total other m.verdict_is ∙ ap Accepted (sym size);
     }
 
 pub first_alone_message : (rest : List ℕ) (total : ℕ) → begins rest ≡ true → IsFirst rest (Accepted total) → IsMessage1 (take total rest)
@@ -241,21 +242,21 @@ given_other : (command : Command) (place : Place) (message : List ℕ) → (edit
 given_other command place message not_one = ap (λ b. choose b (λ _. command.first place message) (λ _. command.second place message)) not_one
 
 few_given : (command : Command) → IsLawfulCommand command → (place : Place) (octets : List ℕ) (total : ℕ) (acts : List Act) (written : ℕ) → begins octets ≡ true
-    → judge octets ≡ Message total → given command place (take total octets) ≡ Gives acts written → 20 * written ≤ MOST_OCTETS * total
+    → judge_under command.profile octets ≡ Message total → given command place (take total octets) ≡ Gives acts written → 20 * written ≤ MOST_OCTETS * total
 few_given command law place octets total acts written begun is gives =
     let message = take total octets in
-    let least = least_message octets total is in
-    let there = there_message octets total is in
+    let least = least_message command.profile octets total is in
+    let there = there_message command.profile octets total is in
     let size : length message ≡ total = length-take-le total octets there in
     let same = ap (λ n. n == 1) (edition_alone octets total (omega arith) there) in
     ⊎_elim
     (λ (m : IsFirst octets (Accepted total)).
     let few = law.few_first place message acts written (first_alone_message octets total begun m) (sym (given_first command place message (same ∙ m.first_edition)) ∙ gives) in
     omega arith)
-    (λ (m : IsOther octets (Accepted total)).
-    let few = law.few_second place message acts written (message_alone octets total begun m) (sym (given_other command place message (same ∙ m.other_edition)) ∙ gives) in
+    (λ (m : IsOther command.profile octets (Accepted total)).
+    let few = law.few_second place message acts written (any_message command.profile message (message_alone command.profile octets total begun m)) (sym (given_other command place message (same ∙ m.other_edition)) ∙ gives) in
     omega arith)
-    (message_judged octets total is)
+    (message_judged command.profile octets total is)
 
 ends_given : (command : Command) → IsLawfulCommand command → (place : Place) (message : List ℕ) (outcome : Outcome) → given command place message ≡ Ends outcome
     → is_of_message outcome ≡ true
@@ -267,14 +268,14 @@ ends_given command law place message outcome is =
 
 pub lawful : (command : Command) → IsLawfulCommand command → IsLawful (task command)
 lawful command law = record {
-  message_stays = message_stays;
-  refusal_stays = refusal_stays;
-  least = λ octets total is. omega (arith, least_message octets total is);
-  there = there_message;
-  alone = alone;
+  message_stays = message_stays command.profile;
+  refusal_stays = refusal_stays command.profile;
+  least = λ octets total is. omega (arith, least_message command.profile octets total is);
+  there = there_message command.profile;
+  alone = alone command.profile;
   few_fields = λ octets total is.
-      let size = length-take-le total octets (there_message octets total is) in
-      let some : 1 ≤ length (take total octets) = omega (arith, least_message octets total is) in
+      let size = length-take-le total octets (there_message command.profile octets total is) in
+      let some : 1 ≤ length (take total octets) = omega (arith, least_message command.profile octets total is) in
       omega (arith, few_fields (take total octets) some);
   few_written = few_given command law;
   ends_at_message = ends_given command law;

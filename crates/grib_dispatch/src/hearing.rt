@@ -1,7 +1,6 @@
 //! Messages of edition 2 that are judged as their octets come, and answered by what was found of them.
 
 ghost use Rattle.std.specs.Prelude.{◌≡◌};
-ghost use Rattle.grib2_arrival.specs.Heard.{Heard};
 ghost use Rattle.grib_dispatch.specs.Hearing.{heard_of};
 
 use grib_base::{Fault, ReadFault};
@@ -16,14 +15,14 @@ pub struct SecondHearer {
 }
 
 impl Hearer for SecondHearer {
-    ghost use Rattle.grib_dispatch.specs.Hearing.{judge_2, is_second};
-    ghost use Rattle.grib2_arrival.specs.Heard.{Heard};
-
-    ghost judge = { judge_2 };
+    ghost use Rattle.std.specs.Prelude.{◌≡◌};
+    ghost use Rattle.grib_base.specs.declared.profile.Profile.{Profile};
+    ghost use Rattle.grib_dispatch.specs.Hearing.{judge_2_under, is_second};
+    ghost use Rattle.grib2_arrival.specs.Heard.{HeardUnder};
 
     ghost hears = { is_second };
 
-    ghost heard = { λ hearer octets. Heard hearer.arrival octets };
+    ghost heard = { λ judge hearer octets. (profile : Profile) × (judge ≡ judge_2_under profile) × HeardUnder profile hearer.arrival octets };
 
     fn push(&mut self, piece: &[u8]) -> Result<usize, HearStop> {
         match self.arrival.push(piece) {

@@ -16,19 +16,22 @@ use std::alloc::{AllocError, Global};
 #[derive(Debug, Drop)]
 pub struct Answering<'a, C> {
     pub answerer: &'a C,
+    /// By which messages of edition 2 are accepted.
+    pub profile: Profile,
 }
 
 impl<C: Answerer> Performer for Answering<'_, C> {
     ghost use Rattle.grib_command.specs.Command as commands;
     ghost use Rattle.grib_command.specs.Texts as lines;
-    ghost use Rattle.grib_dispatch.specs.Hearing.{hears_by};
+    ghost use Rattle.grib_command.specs.LawfulCommands as command_laws;
+    ghost use Rattle.grib_dispatch.specs.Hearing.{hears_by, judge_2_under};
     ghost use Rattle.grib_dispatch.specs.Lawful as laws;
     ghost use Rattle.grib_dispatch.specs.HearingLaws as heard_laws;
     ghost use Rattle.grib_dispatch.specs.Stated as stated_laws;
 
     type Hearer = SecondHearer;
 
-    ghost task = { λ answering. commands.task (C.definition answering.answerer.now) };
+    ghost task = { λ answering. commands.task (commands.under answering.profile (C.definition answering.answerer.now)) };
 
     ghost texts = { λ answering. lines.texts };
 
@@ -36,11 +39,14 @@ impl<C: Answerer> Performer for Answering<'_, C> {
 
     ghost hears = { λ answering. hears_by (C.definition answering.answerer.now).hears };
 
-    ghost states = { λ answering octets total is. stated_laws.states octets total is };
+    ghost states = { λ answering octets total is. stated_laws.states answering.profile octets total is };
 
-    ghost lawful = { λ answering. laws.lawful (C.definition answering.answerer.now) (C.lawful answering.answerer.now) };
+    ghost lawful = { λ answering. laws.lawful (commands.under answering.profile (C.definition answering.answerer.now))
+        (command_laws.under_lawful answering.profile (C.definition answering.answerer.now) (C.lawful answering.answerer.now)) };
 
-    ghost alike = { λ answering. heard_laws.alike (C.definition answering.answerer.now).hears };
+    ghost alike = { λ answering. heard_laws.alike answering.profile (C.definition answering.answerer.now).hears };
+
+    ghost judges = { λ answering. judge_2_under answering.profile };
 
     fn is_heard(&self, octets: &[u8]) -> bool {
         self.answerer.hears() && octets[..4] == [b'G', b'R', b'I', b'B'] && octets[7] == 2
@@ -48,7 +54,7 @@ impl<C: Answerer> Performer for Answering<'_, C> {
 
     fn hear(&self, alloc: Global) -> SecondHearer {
         SecondHearer {
-            arrival: Arrival::new(alloc, Profile::Stated),
+            arrival: Arrival::new(alloc, self.profile),
         }
     }
 
@@ -60,7 +66,7 @@ impl<C: Answerer> Performer for Answering<'_, C> {
         output: &mut T,
         shelf: &mut H,
     ) -> Performed {
-        let held = match read_held(alloc, octets) {
+        let held = match read_held(alloc, self.profile, octets) {
             Ok(held) => held,
             Err(ReadFault::Refused(fault)) => return Performed::Refused(fault),
             Err(ReadFault::Memory) => return Performed::Ends(Outcome::Memory),
@@ -96,7 +102,7 @@ impl<C: Answerer> Performer for Answering<'_, C> {
     }
 
     fn whole(&self, alloc: Global, octets: &[u8]) -> Result<Extent, AllocError> {
-        match read_held(alloc, octets) {
+        match read_held(alloc, self.profile, octets) {
             Ok(held) => {
                 let message = counted(&held, 0);
                 Ok(Extent {

@@ -19,25 +19,22 @@ pub enum HearStop {
 pub trait Hearer: Drop {
     ghost use Rattle.grib_stream.specs.Hearing.{CanHear, Hears, Cuts};
 
-    /// What octets are.
-    ghost judge: { List ℕ → Judgement };
-
     /// Whether a message that begins with these eight octets can be judged incrementally.
     ghost hears: { List ℕ → Bool };
 
-    /// The octets that were taken.
-    ghost heard: { Self → List ℕ → Type 0 };
+    /// The octets that were taken, which are judged so.
+    ghost heard: { (List ℕ → Judgement) → Self → List ℕ → Type 0 };
 
     /// Takes a piece after what was taken, up to the end of the message. It is refused exactly where it
     /// makes the octets refused whatever follows.
     fn push(&mut self, piece: &[u8]) -> Result<usize, HearStop>
-        requires { CanHear judge hears (heard self.old) piece.now }
-        ensures { Hears judge (heard self.old) (heard self.new) piece.now result };
+        requires { (judge : List ℕ → Judgement) × CanHear judge hears (heard judge self.old) piece.now }
+        ensures { (judge : List ℕ → Judgement) → Hears judge (heard judge self.old) (heard judge self.new) piece.now result };
 
     /// Nothing where the message is whole, and else why it is refused where the input ends here.
     fn cut(&self) -> Option<Fault>
-        requires { (octets : List ℕ) × heard self.now octets × (4 ≤ length octets) }
-        ensures { (octets : List ℕ) → heard self.now octets → 4 ≤ length octets
+        requires { (judge : List ℕ → Judgement) × (octets : List ℕ) × heard judge self.now octets × (4 ≤ length octets) }
+        ensures { (judge : List ℕ → Judgement) (octets : List ℕ) → heard judge self.now octets → 4 ≤ length octets
             → Cuts (judge octets) (length octets) result };
 }
 
@@ -46,14 +43,12 @@ pub trait Hearer: Drop {
 pub struct Deaf;
 
 impl Hearer for Deaf {
-    ghost use Rattle.std.specs.Prelude.{true};
+    ghost use Rattle.std.specs.Prelude.{◌≡◌, true};
     ghost use Rattle.grib_stream.specs.Hearing.{judged_deaf};
-
-    ghost judge = { judged_deaf };
 
     ghost hears = { λ first. true };
 
-    ghost heard = { λ deaf octets. Unit {0} };
+    ghost heard = { λ judge deaf octets. judge ≡ judged_deaf };
 
     fn push(&mut self, piece: &[u8]) -> Result<usize, HearStop> {
         Ok(piece.len())

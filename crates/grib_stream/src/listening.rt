@@ -44,7 +44,7 @@ pub(crate) fn listen<K: Performer, S: Source>(
     requires long { 8 ≤ length window.old.octets }
     requires short { length window.old.octets ≤ 65536 }
     requires heard { K.hears performer.now (take 8 window.old.octets) ≡ true }
-    ensures listens { Listens K.Hearer.heard (K.task performer.now).judge result
+    ensures listens { Listens (K.Hearer.heard (K.judges performer.now)) (K.task performer.now).judge result
         (S.left input.old) (S.left input.new) window.old.octets window.new.octets left.old left.new }
     ensures short { length window.new.octets ≤ 65536 }
     ensures counted { CountsStops result (S.faults input.old) (S.faults input.new) }

@@ -3,7 +3,7 @@
 ghost use Rattle.std.specs.Prelude.{◌≡◌, ◌≢◌, ℕ, ◌≤◌, ◌<◌, ◌+◌, ◌^◌, Bool, true, false, Option, List, [], ◌++◌, length, take, Err, OnOk, OnErr, IfOk, IfErr};
 ghost use Rattle.grib_io.specs.Outside.{Counted, Unfinished};
 ghost use Rattle.grib_io.specs.Shelves.{Held};
-ghost use Rattle.grib_stream.specs.Stream.{begins, Message};
+ghost use Rattle.grib_stream.specs.Stream.{begins, Judgement, Message};
 ghost use Rattle.grib_stream.specs.Acts.{world, Did, DidFront};
 ghost use Rattle.grib_stream.specs.Task.{Task, IsLawful, next_of};
 ghost use Rattle.grib_stream.specs.Outcomes.{is_cut_short};
@@ -67,6 +67,9 @@ pub trait Performer {
     /// Whether a message that begins with these eight octets is judged incrementally, so that it need not be held whole.
     ghost hears: { Self → List ℕ → Bool };
 
+    /// By what such messages are judged.
+    ghost judges: { Self → List ℕ → Judgement };
+
     /// Whether the message that begins with these octets, eight at least, is judged incrementally.
     fn is_heard(&self, octets: &[u8]) -> bool
         requires { 8 ≤ length octets.now }
@@ -74,7 +77,7 @@ pub trait Performer {
 
     /// What is to judge a message incrementally, and has taken nothing yet.
     fn hear(&self, alloc: Global) -> Self::Hearer
-        ensures { Self.Hearer.heard result [] };
+        ensures { Self.Hearer.heard (judges self.now) result [] };
 
     /// Answers the message that these octets begin with, which begin with `GRIB`.
     fn perform<T: Sink, H: Shelf>(
@@ -110,12 +113,12 @@ pub trait Performer {
         hearer: &Self::Hearer,
         output: &mut T,
     ) -> Result<Whole, Outcome>
-        requires whole { (octets : List ℕ) × Self.Hearer.heard hearer.now octets
-            × (Self.Hearer.judge octets ≡ Message (length octets)) }
+        requires whole { (octets : List ℕ) × Self.Hearer.heard (judges self.now) hearer.now octets
+            × (judges self.now octets ≡ Message (length octets)) }
         requires message { place.now.message ≤ 2 ^ 41 }
         requires before { place.now.before ≤ 2 ^ 41 }
         requires fields { place.now.fields ≤ 2 ^ 41 }
-        ensures performs { (octets more : List ℕ) (names : Option Held) → Self.Hearer.heard hearer.now octets
+        ensures performs { (octets more : List ℕ) (names : Option Held) → Self.Hearer.heard (judges self.now) hearer.now octets
             → hears self.now (take 8 (octets ++ more)) ≡ true → (task self.now).judge octets ≡ Message (length octets)
             → Performs (next_of (task self.now) place.now octets) (performed_of result)
             (world (T.contents output.old) names) (world (T.contents output.new) names) }
@@ -167,5 +170,5 @@ pub trait Performer {
 
     /// Of a message that is judged incrementally, the hearer judges each prefix as the task does.
     ghost alike: { (performer : Self) (octets more : List ℕ) → hears performer (take 8 (octets ++ more)) ≡ true
-        → (Self.Hearer.hears (take 8 (octets ++ more)) ≡ true) × ((task performer).judge octets ≡ Self.Hearer.judge octets) };
+        → (Self.Hearer.hears (take 8 (octets ++ more)) ≡ true) × ((task performer).judge octets ≡ judges performer octets) };
 }
