@@ -48,7 +48,11 @@ pub fn rescan(alloc: Global, message: &ReadableMessage<'_>) -> Result<Vec<u8>, R
 /// octet is not 0; the subarea does not lie in the grid; the increments do not lead from the first point to the
 /// last; the field does not fit its packing. Else the new message would have more than 268,435,456 octets;
 /// or there is no memory.
-pub fn crop(alloc: Global, message: &ReadableMessage<'_>, area: &Area) -> Result<Vec<u8>, RescanFault>
+pub fn crop(
+    alloc: Global,
+    message: &ReadableMessage<'_>,
+    area: &Area,
+) -> Result<Vec<u8>, RescanFault>
     requires columns { area.now.i0 ≤ area.now.i1 }
     requires rows { area.now.j0 ≤ area.now.j1 }
     ensures { MatchResult result
