@@ -16,6 +16,7 @@ pub mod Parts
 pub mod Passed
 pub mod Placing
 pub mod PutTogether
+pub mod FirstOpaque
 pub mod Replaced
 pub mod Shorter
 pub mod Sound

@@ -1,6 +1,6 @@
 -- The mask of a field, by its Section 6 or an earlier one.
 use Rattle.std.proofs.Common.{◌≡◌, ◌≢◌, ℕ, suc, ◌+◌, ◌*◌, ◌<◌, ◌≤◌, Bool, true, false, not, cond, Option, Some, None, List, [], ◌∷◌, length, drop, replicate, nat_lt, ◌==◌, is_none, unwrap_or, inl, inr, refl, sym, ap, ◌∙◌, arith, subst, eq-eqb, eqb-true, ltb-false, lt-ltb, length-drop, length-take-le}
-use Rattle.std.proofs.lemmas.Bool.{not-false, cases_eq, or_parts, eqb-false}
+use Rattle.std.proofs.lemmas.Bool.{not-false, cases_eq}
 use Rattle.std.proofs.lemmas.List.{length-replicate}
 use Rattle.grib_bits.specs.Bits.{bits}
 use Rattle.grib_bits.proofs.OctetBits.{length-bits}

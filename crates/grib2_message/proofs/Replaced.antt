@@ -1,7 +1,7 @@
 -- The sections of a message with other Sections 3, 5, 6 and 7 may follow one another, and each field has its part.
 use Rattle.std.proofs.Common.{◌≡◌, ◌≢◌, ℕ, zero, suc, ◌+◌, ◌<◌, ◌≤◌, Bool, cond, Option, Some, None, List, [], ◌∷◌, length, get_or, slice_get, ◌==◌, inl, inr, refl, sym, ap, ap₂, ◌∙◌, arith, subst, eq-eqb, ne_eqb, eqb-true}
 use Rattle.std.specs.List.{count_by}
-use Rattle.std.proofs.lemmas.Bool.{cases_eq, ltb-false}
+use Rattle.std.proofs.lemmas.Bool.{cases_eq}
 use Rattle.std.proofs.lemmas.Option.{same_Some, slice_get_within}
 use Rattle.grib_bits.specs.Octets.{StatesItself}
 use Rattle.grib_base.specs.declared.profile.Profile.{Profile}
@@ -28,7 +28,6 @@ use Rattle.grib2_message.proofs.Along.{Along, MayReplace, replaces, last_along, 
 use Rattle.grib2_message.proofs.Bitmaps.{mask_alone}
 use Rattle.grib2_message.proofs.Latest.{octets_same, octets_other}
 use Rattle.grib2_message.proofs.Order.{Follows, next, skips, again, follows_tells, in_range, one_below}
-use Rattle.grib2_message.proofs.Passed.{passes_from_none}
 use Rattle.grib2_message.proofs.Placing.{placed_from}
 use Rattle.grib2_message.proofs.Sound.{none_located, fault_of, mask_here, mask_kept, points_kept, count_same, count_other, sound_after}
 use Rattle.grib2_message.proofs.Ways.{up_here, up_more, up_other}

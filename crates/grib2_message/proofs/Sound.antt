@@ -1,6 +1,6 @@
 -- What is known of sections that no row refused, after one more.
 use Rattle.std.proofs.Common.{◌≡◌, ◌≢◌, ℕ, ◌+◌, ◌≤◌, Bool, cond, ◌&&◌, Option, Some, None, is_some, IsSome, List, [], ◌∷◌, get_or, ◌==◌, inl, inr, refl, sym, ap, ap₂, ◌∙◌, arith, zero-add, eq-eqb, ne_eqb}
-use Rattle.std.proofs.lemmas.Bool.{cases_eq, eqb-false}
+use Rattle.std.proofs.lemmas.Bool.{cases_eq}
 use Rattle.std.proofs.lemmas.List.Sums.{sum_by-cons}
 use Rattle.grib_base.specs.declared.profile.Profile.{Profile}
 use Rattle.grib_base.specs.declared.fault.Fault.{Fault}
@@ -17,7 +17,6 @@ use Rattle.grib_packing.specs.Entries.{packing_fault_under, data_fault}
 use Rattle.grib2_message.specs.View.{is_numbered, last_number, section_in_force, octets_in_force, points_in_force, earlier_bitmap, bitmap_mask, earlier_mask, mask_in_force, section_count}
 use Rattle.grib2_message.specs.Acceptance.{no_rows, section_fault_under, contents_faults}
 use Rattle.grib2_message.specs.Kept.{AreSound, begun}
-use Rattle.grib2_message.proofs.Passed.{passes_from_none, none_from_passes}
 use Rattle.grib2_message.proofs.Latest.{in_force_same, in_force_other, octets_same, octets_other}
 use Rattle.grib2_message.proofs.Order.{Follows, next, skips, again, in_range, one_below, begun_none}
 use Rattle.grib2_message.proofs.Bitmaps.{mask_alone, rows_alone}

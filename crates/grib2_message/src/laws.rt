@@ -1,6 +1,6 @@
 //! Laws over the definitions, under each profile.
 
-ghost use Rattle.std.specs.Prelude.{◌≡◌, ◌≢◌, ℕ, ◌+◌, ◌<◌, ◌≤◌, List, ◌++◌, Some, None, length, take, map, slice_get, All};
+ghost use Rattle.std.specs.Prelude.{◌≡◌, ◌≢◌, ◌↔◌, ℕ, ◌+◌, ◌<◌, ◌≤◌, List, ◌++◌, Some, None, length, take, map, slice_get, All};
 ghost use Rattle.grib_base.specs.declared.fault.Fault.{Fault};
 ghost use Rattle.grib_base.specs.declared.fault.Reason.TheVariants.{Truncated};
 ghost use Rattle.grib_base.specs.declared.profile.Profile.{Profile};
@@ -10,7 +10,7 @@ ghost use Rattle.grib2_sections.specs.Verdict.{Accepted, Refused};
 ghost use Rattle.grib2_message.specs.Acceptance.{verdict_under};
 ghost use Rattle.grib2_message.specs.Grammar.{GrammarUnder, HaveStatedTemplates};
 ghost use Rattle.grib2_message.specs.Fields.{sections_of, field_count, field_mask, part_octets, column_of};
-ghost use Rattle.grib2_message.specs.Message.{IsMessageUnder, FieldPassesUnder};
+ghost use Rattle.grib2_message.specs.Message.{IsMessageUnder, FieldPassesUnder, FieldReadsUnder, HasValues, IsReadable, first_opaque};
 ghost use Rattle.grib2_message.specs.Assembled.{assembled, assembled_with, MayBeAssembledUnder, MayBeAssembledWithUnder};
 ghost use Rattle.grib2_grids.specs.Grid.{grid_points};
 ghost use Rattle.grib_bitmap.specs.Mask.{mask_of};
@@ -65,10 +65,15 @@ pub fn accepted_length()
 {}
 
 /// The sections in force for each field of an accepted message pass their rows, and the mask of the field has
-/// one bit for each grid point.
+/// one bit for each grid point. The values of each message that the profile of the stated templates accepts can be
+/// read.
 pub fn field_holds()
     ensures passes { (profile : Profile) (message : List ℕ) (i : ℕ) → IsMessageUnder profile message
         → 1 ≤ i → i ≤ field_count message → FieldPassesUnder profile message i }
+    ensures reads { (profile : Profile) (message : List ℕ) (i : ℕ) → IsMessageUnder profile message → HasValues message i
+        → 1 ≤ i → i ≤ field_count message → FieldReadsUnder profile message i }
+    ensures stated { (message : List ℕ) → IsMessageUnder Stated message → IsReadable message }
+    ensures opaque { (message : List ℕ) → (first_opaque message ≡ None) ↔ IsReadable message }
     ensures mask { (profile : Profile) (message : List ℕ) (i : ℕ) → IsMessageUnder profile message
         → All (λ octet. octet < 256) message → 1 ≤ i → i ≤ field_count message
         → length (field_mask message i) ≡ grid_points (part_octets message i 3) }

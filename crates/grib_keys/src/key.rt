@@ -2,7 +2,7 @@
 
 ghost use Rattle.std.specs.Prelude.{◌≡◌, Some};
 ghost use Rattle.grib_keys.specs.declared.table.Layout.{Layout};
-ghost use Rattle.grib_keys.specs.declared.table.Place.TheVariants.{At, FirstPoint, Ensemble, Interval, FirstRange};
+ghost use Rattle.grib_keys.specs.declared.table.Place.TheVariants.{At, Stated, FirstPoint, Instant, Ensemble, Interval, FirstRange};
 ghost use Rattle.grib_keys.specs.Keys.{row_of, octets_by, name_of, keys, can_set, key_named};
 
 use crate::table::{Kind, Octets, Place, Row};
@@ -148,27 +148,27 @@ impl Key {
             Key::Second => row("second", 1, at(19, 19), UNSIGNED),
             Key::Status => row("status", 1, at(20, 20), UNSIGNED),
             Key::DataType => row("dataType", 1, at(21, 21), UNSIGNED),
-            Key::EarthShape => row("earthShape", 3, at(15, 15), UNSIGNED),
+            Key::EarthShape => row("earthShape", 3, stated(15, 15), UNSIGNED),
             Key::Points => row("points", 3, at(7, 10), FIXED),
             Key::GridTemplate => row("gridTemplate", 3, at(13, 14), FIXED),
-            Key::Ni => row("ni", 3, at(31, 34), FIXED_OR_MISSING),
-            Key::Nj => row("nj", 3, at(35, 38), FIXED_OR_MISSING),
+            Key::Ni => row("ni", 3, stated(31, 34), FIXED_OR_MISSING),
+            Key::Nj => row("nj", 3, stated(35, 38), FIXED_OR_MISSING),
             Key::Scanning => row("scanning", 3, Place::ScanningMode, UNSIGNED),
             Key::La1 => row("la1", 3, first_point(47, 39), SIGNED),
             Key::Lo1 => row("lo1", 3, first_point(51, 43), UNSIGNED),
             Key::ProductTemplate => row("productTemplate", 4, at(8, 9), FIXED),
             Key::Category => row("category", 4, at(10, 10), UNSIGNED),
             Key::Number => row("number", 4, at(11, 11), UNSIGNED),
-            Key::Process => row("process", 4, at(12, 12), UNSIGNED),
-            Key::Generator => row("generator", 4, at(14, 14), UNSIGNED),
-            Key::TimeUnit => row("timeUnit", 4, at(18, 18), UNSIGNED),
-            Key::ForecastTime => row("forecastTime", 4, at(19, 22), SIGNED),
-            Key::Surface1 => row("surface1", 4, at(23, 23), UNSIGNED_OR_MISSING),
-            Key::Surface1Scale => row("surface1Scale", 4, at(24, 24), SIGNED_OR_MISSING),
-            Key::Surface1Value => row("surface1Value", 4, at(25, 28), UNSIGNED_OR_MISSING),
-            Key::Surface2 => row("surface2", 4, at(29, 29), UNSIGNED_OR_MISSING),
-            Key::Surface2Scale => row("surface2Scale", 4, at(30, 30), SIGNED_OR_MISSING),
-            Key::Surface2Value => row("surface2Value", 4, at(31, 34), UNSIGNED_OR_MISSING),
+            Key::Process => row("process", 4, of_instant(12, 12), UNSIGNED),
+            Key::Generator => row("generator", 4, of_instant(14, 14), UNSIGNED),
+            Key::TimeUnit => row("timeUnit", 4, of_instant(18, 18), UNSIGNED),
+            Key::ForecastTime => row("forecastTime", 4, of_instant(19, 22), SIGNED),
+            Key::Surface1 => row("surface1", 4, of_instant(23, 23), UNSIGNED_OR_MISSING),
+            Key::Surface1Scale => row("surface1Scale", 4, of_instant(24, 24), SIGNED_OR_MISSING),
+            Key::Surface1Value => row("surface1Value", 4, of_instant(25, 28), UNSIGNED_OR_MISSING),
+            Key::Surface2 => row("surface2", 4, of_instant(29, 29), UNSIGNED_OR_MISSING),
+            Key::Surface2Scale => row("surface2Scale", 4, of_instant(30, 30), SIGNED_OR_MISSING),
+            Key::Surface2Value => row("surface2Value", 4, of_instant(31, 34), UNSIGNED_OR_MISSING),
             Key::EnsembleType => row("ensembleType", 4, of_ensemble(35, 35), UNSIGNED),
             Key::EnsembleNumber => row("ensembleNumber", 4, of_ensemble(36, 36), UNSIGNED),
             Key::EnsembleMembers => row("ensembleMembers", 4, of_ensemble(37, 37), UNSIGNED),
@@ -183,7 +183,7 @@ impl Key {
             Key::RangeUnit => row("rangeUnit", 4, of_range(49, 49), UNSIGNED),
             Key::RangeLength => row("rangeLength", 4, of_range(50, 53), UNSIGNED),
             Key::Packing => row("packing", 5, at(10, 11), FIXED),
-            Key::Bits => row("bits", 5, at(20, 20), FIXED),
+            Key::Bits => row("bits", 5, stated(20, 20), FIXED),
         }
     }
 
@@ -267,6 +267,20 @@ fn at(first: usize, last: usize) -> Place
     ensures { result ≡ At (record { first = first; last = last }) }
 {
     Place::At(Octets { first, last })
+}
+
+/// The octets from `first` to `last`, in every stated template.
+fn stated(first: usize, last: usize) -> Place
+    ensures { result ≡ Stated (record { first = first; last = last }) }
+{
+    Place::Stated(Octets { first, last })
+}
+
+/// A number of template 4.0 beyond the parameter, at the octets from `first` to `last` of that template.
+fn of_instant(first: u8, last: u8) -> Place
+    ensures { result ≡ Instant first last }
+{
+    Place::Instant { first, last }
 }
 
 /// A number of an ensemble, at the octets from `first` to `last`.

@@ -8,13 +8,13 @@ use Rattle.grib_base.specs.declared.limits.TheConstants.{MOST_OCTETS}
 use Rattle.grib_packing.specs.Entries.{column_from}
 use Rattle.grib_bitmap.specs.Mask.{bitmap_indicator}
 use Rattle.grib_bits.specs.Encoding.{octets_of}
-use Rattle.grib_base.specs.declared.profile.Profile.TheVariants.{Stated}
+use Rattle.grib_base.specs.declared.profile.Profile.{Profile}
 use Rattle.grib2_sections.specs.Head.{end_mark}
 use Rattle.grib2_sections.specs.Frame.{Placed, placed_at, section_number, may_follow}
 use Rattle.grib2_message.specs.View.{is_numbered, octets_in_force, earlier_bitmap, first_octets, own_bitmap, mask_in_force}
-use Rattle.grib2_message.specs.Grammar.{Grammar2, IsSection, AreSections}
+use Rattle.grib2_message.specs.Grammar.{GrammarUnder, IsSection, AreSections}
 use Rattle.grib2_message.specs.Fields.{field_count, field_sections, sections_up_to_field, part_octets, column_of}
-use Rattle.grib2_message.specs.Message.{IsMessage}
+use Rattle.grib2_message.specs.Message.{IsMessageUnder}
 use Rattle.grib2_message.proofs.Placing.{placed_from}
 use Rattle.grib2_message.proofs.Latest.{octets_same, octets_other, own_alone, own_repeated}
 use Rattle.grib2_message.proofs.Sound.{bitmap_own, bitmap_kept, bitmap_not_own, count_other}
@@ -108,11 +108,11 @@ size_short k (s ∷ before) =
     ]
 
 -- and what stands in a message of one field
-pub part_short : (m : List ℕ) (i k : ℕ) → IsMessage m → 1 ≤ i → i ≤ field_count m → length (field_part m i k) ≤ MOST_OCTETS
-part_short m i k h low high =
+pub part_short : (profile : Profile) (m : List ℕ) (i k : ℕ) → IsMessageUnder profile m → 1 ≤ i → i ≤ field_count m → length (field_part m i k) ≤ MOST_OCTETS
+part_short profile m i k h low high =
     let xs = field_sections m i in
-    let up = field_up_to m i h low high in
-    let most = message_most m h in
+    let up = field_up_to profile m i h low high in
+    let most = message_most profile m h in
     let part = size_short k xs in
     let own = short_own xs in
     elim (cases_eq k 6) [
@@ -123,29 +123,29 @@ part_short m i k h low high =
 -- ---- the sections of the new message
 
 -- what is known of it
-pub record Cut (m : List ℕ) (i : ℕ) (sections : List (List ℕ)) (head : List Placed) (q : ℕ) : Type 0 where
+pub record Cut (profile : Profile) (m : List ℕ) (i : ℕ) (sections : List (List ℕ)) (head : List Placed) (q : ℕ) : Type 0 where
   pub body : first_parts m i 7 ≡ concat sections
-  pub follow : AreSections Stated [] 17 sections
+  pub follow : AreSections profile [] 17 sections
   pub count : count_by (is_numbered 7) (placed_from 17 sections) ≡ 1
   pub field : sections_up_to_field 1 [] (placed_from 17 sections) ≡ all_parts head q (part_octets m i 3) (part_octets m i 4) (part_octets m i 5) (own_bitmap (field_sections m i)) (part_octets m i 7)
 
-module _ (m : List ℕ) (i : ℕ) (h : IsMessage m) (low : 1 ≤ i) (high : i ≤ field_count m) where
-  up : UpTo (field_sections m i) (length m - 20)
-  up = field_up_to m i h low high
+module _ (profile : Profile) (m : List ℕ) (i : ℕ) (h : IsMessageUnder profile m) (low : 1 ≤ i) (high : i ≤ field_count m) where
+  up : UpTo profile (field_sections m i) (length m - 20)
+  up = field_up_to profile m i h low high
 
   b : StandsAlone (field_sections m i) (own_bitmap (field_sections m i))
-  b = stands_alone (field_sections m i) up.accepted up.ends
+  b = stands_alone profile (field_sections m i) up.accepted up.ends
 
-  pub parts : Parts (part_octets m i 3) (part_octets m i 4) (part_octets m i 5) (own_bitmap (field_sections m i)) (part_octets m i 7)
+  pub parts : Parts profile (part_octets m i 3) (part_octets m i 4) (part_octets m i 5) (own_bitmap (field_sections m i)) (part_octets m i 7)
   parts =
       let xs = field_sections m i in
-      let sound = sound_of xs up.accepted in
+      let sound = sound_of profile xs up.accepted in
       record {
-        itself_3 = part_itself 3 xs up.accepted (omega arith) (omega (arith, up.ends)) (λ e. absurd (omega arith));
-        itself_4 = part_itself 4 xs up.accepted (omega arith) (omega (arith, up.ends)) (λ e. absurd (omega arith));
-        itself_5 = part_itself 5 xs up.accepted (omega arith) (omega (arith, up.ends)) (λ e. absurd (omega arith));
+        itself_3 = part_itself profile 3 xs up.accepted (omega arith) (omega (arith, up.ends)) (λ e. absurd (omega arith));
+        itself_4 = part_itself profile 4 xs up.accepted (omega arith) (omega (arith, up.ends)) (λ e. absurd (omega arith));
+        itself_5 = part_itself profile 5 xs up.accepted (omega arith) (omega (arith, up.ends)) (λ e. absurd (omega arith));
         itself_6 = b.itself;
-        itself_7 = part_itself 7 xs up.accepted (omega arith) (omega (arith, up.ends)) (λ e. absurd (omega arith));
+        itself_7 = part_itself profile 7 xs up.accepted (omega arith) (omega (arith, up.ends)) (λ e. absurd (omega arith));
         grid = sound.grid (omega (arith, up.ends));
         product = sound.product (omega (arith, up.ends));
         packing = sound.packing (omega (arith, up.ends));
@@ -155,18 +155,18 @@ module _ (m : List ℕ) (i : ℕ) (h : IsMessage m) (low : 1 ≤ i) (high : i �
       }
 
   itself_1 : StatesItself 1 (part_octets m i 1)
-  itself_1 = part_itself 1 (field_sections m i) up.accepted (omega arith) (omega (arith, up.ends)) (λ e. absurd (omega arith))
+  itself_1 = part_itself profile 1 (field_sections m i) up.accepted (omega arith) (omega (arith, up.ends)) (λ e. absurd (omega arith))
 
-  first_stands : IsSection Stated [] 17 (part_octets m i 1)
+  first_stands : IsSection profile [] 17 (part_octets m i 1)
   first_stands =
-      stands_here [] 17 1 (part_octets m i 1) itself_1 refl (ap (located 17) ((sound_of (field_sections m i) up.accepted).identification (omega (arith, up.ends))))
+      stands_here profile [] 17 1 (part_octets m i 1) itself_1 refl (ap (located 17) ((sound_of profile (field_sections m i) up.accepted).identification (omega (arith, up.ends))))
 
   not_1 : (k : ℕ) → 1 ≢ k → section_number (part_octets m i 1) ≢ k
   not_1 k other same = other (sym itself_1.number_stands ∙ same)
 
   -- where Section 2 is absent
   cut_without : part_octets m i 2 ≡ []
-      → Cut m i (part_octets m i 1 ∷ part_octets m i 3 ∷ part_octets m i 4 ∷ part_octets m i 5 ∷ own_bitmap (field_sections m i) ∷ part_octets m i 7 ∷ [])
+      → Cut profile m i (part_octets m i 1 ∷ part_octets m i 3 ∷ part_octets m i 4 ∷ part_octets m i 5 ∷ own_bitmap (field_sections m i) ∷ part_octets m i 7 ∷ [])
       (placed_at 17 (part_octets m i 1) ∷ []) (17 + length (part_octets m i 1))
   cut_without none =
       let p1 = part_octets m i 1 in
@@ -183,15 +183,15 @@ module _ (m : List ℕ) (i : ℕ) (h : IsMessage m) (low : 1 ≤ i) (high : i �
         body = ap (λ (x : List ℕ). p1 ++ (x ++ (p3 ++ (p4 ++ (p5 ++ (p6 ++ (p7 ++ []))))))) none;
         follow = (
           first_stands,
-          parts_follow head q p3 p4 p5 p6 p7 parts (ap (λ (n : ℕ). may_follow n 3) itself_1.number_stands) (count_other s1 [] 4 (not_1 4 (λ e. absurd (omega arith)))),
+          parts_follow profile head q p3 p4 p5 p6 p7 parts (ap (λ (n : ℕ). may_follow n 3) itself_1.number_stands) (count_other s1 [] 4 (not_1 4 (λ e. absurd (omega arith)))),
         );
-        count = count_none s1 found (not_1 7 (λ e. absurd (omega arith))) ∙ one_end head q p3 p4 p5 p6 p7 parts;
-        field = up_other s1 [] found 0 (not_1 7 (λ e. absurd (omega arith))) ∙ up_to_end head q p3 p4 p5 p6 p7 parts;
+        count = count_none s1 found (not_1 7 (λ e. absurd (omega arith))) ∙ one_end profile head q p3 p4 p5 p6 p7 parts;
+        field = up_other s1 [] found 0 (not_1 7 (λ e. absurd (omega arith))) ∙ up_to_end profile head q p3 p4 p5 p6 p7 parts;
       }
 
   -- where it is there
   cut_with : StatesItself 2 (part_octets m i 2)
-      → Cut m i (part_octets m i 1 ∷ part_octets m i 2 ∷ part_octets m i 3 ∷ part_octets m i 4 ∷ part_octets m i 5 ∷ own_bitmap (field_sections m i) ∷ part_octets m i 7 ∷ [])
+      → Cut profile m i (part_octets m i 1 ∷ part_octets m i 2 ∷ part_octets m i 3 ∷ part_octets m i 4 ∷ part_octets m i 5 ∷ own_bitmap (field_sections m i) ∷ part_octets m i 7 ∷ [])
       (placed_at (17 + length (part_octets m i 1)) (part_octets m i 2) ∷ placed_at 17 (part_octets m i 1) ∷ []) (17 + length (part_octets m i 1) + length (part_octets m i 2))
   cut_with itself_2 =
       let p1 = part_octets m i 1 in
@@ -212,17 +212,17 @@ module _ (m : List ℕ) (i : ℕ) (h : IsMessage m) (low : 1 ≤ i) (high : i �
         follow = (
           first_stands,
           (
-            stands_here (s1 ∷ []) (17 + length p1) 2 p2 itself_2 (ap (λ (n : ℕ). may_follow n 2) itself_1.number_stands) refl,
-            parts_follow head q p3 p4 p5 p6 p7 parts (ap (λ (n : ℕ). may_follow n 3) itself_2.number_stands)
+            stands_here profile (s1 ∷ []) (17 + length p1) 2 p2 itself_2 (ap (λ (n : ℕ). may_follow n 2) itself_1.number_stands) refl,
+            parts_follow profile head q p3 p4 p5 p6 p7 parts (ap (λ (n : ℕ). may_follow n 3) itself_2.number_stands)
                 (count_other s2 (s1 ∷ []) 4 (not_2 4 (λ e. absurd (omega arith))) ∙ count_other s1 [] 4 (not_1 4 (λ e. absurd (omega arith)))),
           ),
         );
         count =
             count_none s1 (s2 ∷ found) (not_1 7 (λ e. absurd (omega arith))) ∙ count_none s2 found (not_2 7 (λ e. absurd (omega arith)))
-            ∙ one_end head q p3 p4 p5 p6 p7 parts;
+            ∙ one_end profile head q p3 p4 p5 p6 p7 parts;
         field =
             up_other s1 [] (s2 ∷ found) 0 (not_1 7 (λ e. absurd (omega arith))) ∙ up_other s2 (s1 ∷ []) found 0 (not_2 7 (λ e. absurd (omega arith)))
-            ∙ up_to_end head q p3 p4 p5 p6 p7 parts;
+            ∙ up_to_end profile head q p3 p4 p5 p6 p7 parts;
       }
 
   -- the sections, and where those from Section 3 on stand
@@ -230,10 +230,10 @@ module _ (m : List ℕ) (i : ℕ) (h : IsMessage m) (low : 1 ≤ i) (high : i �
     pub sections : List (List ℕ)
     pub head : List Placed
     pub place : ℕ
-    pub cut : Cut m i sections head place
+    pub cut : Cut profile m i sections head place
 
   some_cut : SomeCut
-  some_cut = elim (local_itself (field_sections m i) up.accepted) [
+  some_cut = elim (local_itself profile (field_sections m i) up.accepted) [
     | inl none ↦ record { sections = _; head = _; place = _; cut = cut_without none }
     | inr itself_2 ↦ record { sections = _; head = _; place = _; cut = cut_with itself_2 }
   ]
@@ -242,7 +242,7 @@ module _ (m : List ℕ) (i : ℕ) (h : IsMessage m) (low : 1 ≤ i) (high : i �
   short : 16 + length (first_parts m i 7) + 4 ≤ length m
   short =
       let xs = field_sections m i in
-      let least = message_least Stated m h in
+      let least = message_least profile m h in
       let p1 = part_octets m i 1 in
       let p2 = part_octets m i 2 in
       let p3 = part_octets m i 3 in
@@ -261,27 +261,27 @@ module _ (m : List ℕ) (i : ℕ) (h : IsMessage m) (low : 1 ≤ i) (high : i �
       let all = up.short in
       omega arith
 
-  grammar : (c : SomeCut) → Grammar2 (single_of m i) c.sections
+  grammar : (c : SomeCut) → GrammarUnder profile (single_of m i) c.sections
   grammar c =
       let n = 16 + length (first_parts m i 7) + 4 in
       let same : n ≡ 16 + length (concat c.sections) + 4 = ap (λ (xs : List ℕ). 16 + length xs + 4) c.cut.body in
-      let few : n ≤ MOST_OCTETS = omega (arith, short, message_most m h) in
+      let few : n ≤ MOST_OCTETS = omega (arith, short, message_most profile m h) in
       let head_octets : List ℕ = take 8 m ++ octets_of 8 n in
       let is : single_of m i ≡ head_octets ++ (concat c.sections ++ end_mark) =
       sym (append_assoc (take 8 m) (octets_of 8 n) (first_parts m i 7 ++ end_mark))
       ∙ ap (λ (xs : List ℕ). head_octets ++ (xs ++ end_mark)) c.cut.body in
-      subst (λ (x : List ℕ). Grammar2 x c.sections) (sym is)
-      (joined_grammar Stated head_octets c.sections (subst (λ (x : ℕ). IsHead head_octets x) same (head_of Stated m n h few)) (omega (arith, few, same)) c.cut.follow)
+      subst (λ (x : List ℕ). GrammarUnder profile x c.sections) (sym is)
+      (joined_grammar profile head_octets c.sections (subst (λ (x : ℕ). IsHead head_octets x) same (head_of profile m n h few)) (omega (arith, few, same)) c.cut.follow)
 
-  pub single_accepted : IsMessage (single_of m i)
-  single_accepted = message_in_grammar (single_of m i) some_cut.sections (grammar some_cut)
+  pub single_accepted : IsMessageUnder profile (single_of m i)
+  single_accepted = message_in_grammar profile (single_of m i) some_cut.sections (grammar some_cut)
 
   pub single_count : field_count (single_of m i) ≡ 1
-  single_count = ap (count_by (is_numbered 7)) (sections_alone Stated (single_of m i) some_cut.sections (grammar some_cut)) ∙ some_cut.cut.count
+  single_count = ap (count_by (is_numbered 7)) (sections_alone profile (single_of m i) some_cut.sections (grammar some_cut)) ∙ some_cut.cut.count
 
   single_field : (c : SomeCut) → field_sections (single_of m i) 1
       ≡ all_parts c.head c.place (part_octets m i 3) (part_octets m i 4) (part_octets m i 5) (own_bitmap (field_sections m i)) (part_octets m i 7)
-  single_field c = ap (sections_up_to_field 1 []) (sections_alone Stated (single_of m i) c.sections (grammar c)) ∙ c.cut.field
+  single_field c = ap (sections_up_to_field 1 []) (sections_alone profile (single_of m i) c.sections (grammar c)) ∙ c.cut.field
 
   single_column_by : (c : SomeCut) → column_of (single_of m i) 1 ≡ column_of m i
   single_column_by c =
@@ -290,9 +290,9 @@ module _ (m : List ℕ) (i : ℕ) (h : IsMessage m) (low : 1 ≤ i) (high : i �
       let p5 = part_octets m i 5 in
       let p6 = own_bitmap (field_sections m i) in
       let p7 = part_octets m i 7 in
-      let five = five_all c.head c.place p3 p4 p5 p6 p7 parts in
-      let seven = seven_all c.head c.place p3 p4 p5 p6 p7 parts in
-      let mask = mask_all c.head c.place p3 p4 p5 p6 p7 parts ∙ b.mask in
+      let five = five_all profile c.head c.place p3 p4 p5 p6 p7 parts in
+      let seven = seven_all profile c.head c.place p3 p4 p5 p6 p7 parts in
+      let mask = mask_all profile c.head c.place p3 p4 p5 p6 p7 parts ∙ b.mask in
       ap (λ (xs : List Placed). column_from (octets_in_force 5 xs) (mask_in_force xs) (octets_in_force 7 xs)) (single_field c)
       ∙ (λ j. column_from (five j) (mask j) (seven j))
 

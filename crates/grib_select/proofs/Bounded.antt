@@ -10,11 +10,12 @@ use Rattle.grib_bits.proofs.OctetNumbers.{AreOctets-take, AreOctets-octet_list, 
 use Rattle.grib_bits.proofs.Listed.{AreOctets-from_All}
 use Rattle.grib_bits.proofs.Signs.{signed-clear, signed-set}
 use Rattle.grib_base.specs.Rows.{choose}
-use Rattle.grib_base.specs.declared.profile.Profile.TheVariants.{Stated}
+use Rattle.grib_base.specs.declared.profile.Profile.{Profile}
 use Rattle.grib2_sections.specs.Frame.{Placed, placed_at, ends_at, section_at}
 use Rattle.grib2_message.specs.View.{is_numbered, section_in_force, octets_in_force}
 use Rattle.grib2_message.specs.Fields.{sections_from, sections_of, sections_up_to_field, field_sections, field_count, part_octets}
-use Rattle.grib2_message.specs.Message.{IsMessage, FieldPasses}
+use Rattle.grib2_message.specs.Message.{IsMessageUnder, FieldPassesUnder}
+use Rattle.grib2_message.proofs.Opened.{field_opened}
 use Rattle.grib2_message.proofs.Parted.{message_least}
 use Rattle.grib_keys.specs.declared.key.Key.{Key}
 use Rattle.grib_keys.specs.declared.key.Key.TheVariants.{Discipline}
@@ -124,14 +125,14 @@ not_there : (b : Bool) → not b ≡ true → b ≡ false
 not_there true e = sym e
 not_there false e = refl
 
-keys_stand : (m : List ℕ) (i : ℕ) (key : Key) → IsMessage m → 1 ≤ i → i ≤ field_count m → HasKeys (row_of key).section (key_section m i (row_of key).section)
-keys_stand m i key h low high =
+keys_stand : (profile : Profile) (m : List ℕ) (i : ℕ) (key : Key) → IsMessageUnder profile m → 1 ≤ i → i ≤ field_count m → HasKeys (row_of key).section (key_section m i (row_of key).section)
+keys_stand profile m i key h low high =
     let n = (row_of key).section in
     let small : n < 6 = ltb-true n 6 (and_first (nat_lt n 6) (not (n == 2)) (section_small key)) in
     let not_2 : n ≢ 2 = eqb-false n 2 (not_there (n == 2) (and_second (nat_lt n 6) (not (n == 2)) (section_small key))) in
-    let up = field_up_to m i h low high in
-    let sound = sound_of (field_sections m i) up.accepted in
-    let passes : FieldPasses m i = record {
+    let up = field_up_to profile m i h low high in
+    let sound = sound_of profile (field_sections m i) up.accepted in
+    let passes : FieldPassesUnder profile m i = record {
       identification = sound.identification (omega (arith, up.ends));
       grid = sound.grid (omega (arith, up.ends));
       product = sound.product (omega (arith, up.ends));
@@ -140,12 +141,12 @@ keys_stand m i key h low high =
     } in
     elim (cases_eq n 0) [
       | inl e ↦
-          let least = message_least Stated m h in
+          let least = message_least profile m h in
           subst (λ (k : ℕ). HasKeys k (key_section m i k)) (sym e)
           (has_keys 0 (take 16 m) (head_within (take 16 m) (omega (arith, length-take-le 16 m (omega arith)))) (λ f. omega (arith, f)))
       | inr not_0 ↦
           subst (λ (b : Bool). HasKeys n (choose b (λ _. take 16 m) (λ _. part_octets m i n))) (sym (ne_eqb n 0 not_0))
-          (part_keys m i n passes (omega arith) not_2 not_0)
+          (part_keys m i n (field_opened profile m i passes) (omega arith) not_2 not_0)
     ]
 
 some_value : (kind : Kind) (s : List ℕ) (o : Option Octets) (value : Value) → option_map (value_at kind s) o ≡ Some value
@@ -153,13 +154,13 @@ some_value : (kind : Kind) (s : List ℕ) (o : Option Octets) (value : Value) �
 some_value kind s None value e each = absurd (cc)
 some_value kind s (Some p) value e each = (let same : value_at kind s p ≡ value = cc in subst IsWithin64 same (each p refl))
 
-pub values_within : (m : List ℕ) (i : ℕ) (key : Key) (value : Value) → IsMessage m → All (λ octet. octet < 256) m → 1 ≤ i → i ≤ field_count m
+pub values_within : (profile : Profile) (m : List ℕ) (i : ℕ) (key : Key) (value : Value) → IsMessageUnder profile m → All (λ octet. octet < 256) m → 1 ≤ i → i ≤ field_count m
     → key_value_of m i key ≡ Some value → IsWithin64 value
-values_within m i key value h small low high has =
+values_within profile m i key value h small low high has =
     let n = (row_of key).section in
     let s = key_section m i n in
     let known = section_octets m i n (AreOctets-from_All m small) in
-    let stand = keys_stand m i key h low high in
+    let stand = keys_stand profile m i key h low high in
     some_value (row_of key).kind s ((row_of key).place (layout_of n s)) value has
     (λ p at.
     let shape = shape_tells key (layout_of n s) p at in

@@ -1,5 +1,5 @@
 -- A section with changes is like the section outside the keys that can be set.
-use Rattle.std.proofs.Common.{◌≡◌, ◌≢◌, ℕ, ◌+◌, ◌-◌, ◌≤◌, ◌<◌, Bool, true, false, not, cond, ◌&&◌, ◌||◌, ◌==◌, ◌⊎◌, nat_lt, Option, Some, None, unwrap_or, List, [], ◌∷◌, length, inl, inr, refl, sym, ap, ap₂, ◌∙◌, arith, subst, ltb-false, ltb-true, eq-eqb, ne_eqb, eqb-true}
+use Rattle.std.proofs.Common.{◌≡◌, ◌≢◌, ℕ, ◌+◌, ◌-◌, ◌≤◌, ◌<◌, Bool, true, false, not, cond, ◌&&◌, ◌||◌, ◌==◌, ◌⊎◌, nat_lt, option_map, Option, Some, None, unwrap_or, List, [], ◌∷◌, length, inl, inr, refl, sym, ap, ap₂, ◌∙◌, arith, subst, ltb-false, ltb-true, eq-eqb, ne_eqb, eqb-true}
 use Rattle.std.specs.Option.{option_map_or}
 use Rattle.std.proofs.lemmas.Bool.{cases_eq}
 use Rattle.grib_bits.specs.Octets.{octets, num_on}
@@ -7,16 +7,17 @@ use Rattle.grib_base.specs.Rows.{choose}
 use Rattle.grib_bits.specs.Encoding.{octets_of}
 use Rattle.grib_bits.proofs.Encoding.{length-octets_of}
 use Rattle.grib_keys.specs.declared.key.Key.{Key}
-use Rattle.grib_keys.specs.declared.key.Key.TheVariants.{Discipline, Scanning, La1, Lo1, EnsembleType, EnsembleNumber, EnsembleMembers, EndYear, EndMonth, EndDay, EndHour, EndMinute, EndSecond, RangeProcess, RangeIncrementType, RangeUnit, RangeLength}
+use Rattle.grib_keys.specs.declared.key.Key.TheVariants.{Discipline, EarthShape, Ni, Nj, Bits, Process, Generator, TimeUnit, ForecastTime, Surface1, Surface1Scale, Surface1Value, Surface2, Surface2Scale, Surface2Value, Scanning, La1, Lo1, EnsembleType, EnsembleNumber, EnsembleMembers, EndYear, EndMonth, EndDay, EndHour, EndMinute, EndSecond, RangeProcess, RangeIncrementType, RangeUnit, RangeLength}
 use Rattle.grib_keys.specs.declared.condition.Change.{Change}
 use Rattle.grib_keys.specs.declared.table.Layout.{Layout}
 use Rattle.grib_keys.specs.declared.table.Octets.{Octets}
 use Rattle.grib2_products.specs.Product.{time_ranges}
+use Rattle.grib2_products.specs.Opaque.{is_shifted, begins_as_template_0}
 use Rattle.grib_keys.specs.Keys.{row_of, can_set, at, is_of, is_by_angles}
-use Rattle.grib_select.specs.Values.{template_of, ranges_of, count_octet, layout_of, octet_count, HasKeys, IsWithin}
+use Rattle.grib_select.specs.Values.{template_of, is_opaque, ranges_of, count_octet, layout_of, octet_count, HasKeys, IsWithin}
 use Rattle.grib_select.specs.Changed.{key_octets, new_number, put, put_number, with_key, with_changes}
 use Rattle.grib_select.proofs.Puts.{length-put, put-before, put-behind}
-use Rattle.grib_select.proofs.Stand.{outside, is_fixed, KeepsFixed, AreAlike, alike_self, alike_then, template_stays}
+use Rattle.grib_select.proofs.Stand.{outside, is_fixed, KeepsFixed, AreAlike, alike_self, alike_then, template_stays, opaque_stays}
 use Rattle.grib_select.proofs.Within.{KeysWithin, laid_out, or_parts_true, and_first, and_second}
 
 -- ---- the keys that can be set stand where nothing else is read
@@ -44,23 +45,27 @@ shape count key o =
     o true
 
 abbrev any : Layout
-any = record { template = 0; ranges = 0 }
+any = record { template = 0; is_opaque = false; ranges = 0 }
 
-scanning_shape : (n : ℕ) (a b c : Bool) → shape n Scanning (cond a (at 72 72 any) (cond b (at 60 60 any) (cond c (at 65 65 any) None))) ≡ true
-scanning_shape n true b c = refl
-scanning_shape n false true c = refl
-scanning_shape n false false true = refl
-scanning_shape n false false false = refl
+-- by whether the grid is opaque
+scanning_shape : (n : ℕ) (o a b c : Bool) → shape n Scanning (cond o None (cond a (at 72 72 any) (cond b (at 60 60 any) (cond c (at 65 65 any) None)))) ≡ true
+scanning_shape n true a b c = refl
+scanning_shape n false true b c = refl
+scanning_shape n false false true c = refl
+scanning_shape n false false false true = refl
+scanning_shape n false false false false = refl
 
-la1_shape : (n : ℕ) (a b : Bool) → shape n La1 (cond a (at 47 50 any) (cond b (at 39 42 any) None)) ≡ true
-la1_shape n true b = refl
-la1_shape n false true = refl
-la1_shape n false false = refl
+la1_shape : (n : ℕ) (o a b : Bool) → shape n La1 (cond o None (cond a (at 47 50 any) (cond b (at 39 42 any) None))) ≡ true
+la1_shape n true a b = refl
+la1_shape n false true b = refl
+la1_shape n false false true = refl
+la1_shape n false false false = refl
 
-lo1_shape : (n : ℕ) (a b : Bool) → shape n Lo1 (cond a (at 51 54 any) (cond b (at 43 46 any) None)) ≡ true
-lo1_shape n true b = refl
-lo1_shape n false true = refl
-lo1_shape n false false = refl
+lo1_shape : (n : ℕ) (o a b : Bool) → shape n Lo1 (cond o None (cond a (at 51 54 any) (cond b (at 43 46 any) None))) ≡ true
+lo1_shape n true a b = refl
+lo1_shape n false true b = refl
+lo1_shape n false false true = refl
+lo1_shape n false false false = refl
 
 -- the octet with the number of time ranges, by whether the template is 4.8 and whether it is 4.11
 abbrev count_by : Bool → Bool → ℕ
@@ -78,6 +83,22 @@ module _ (key : Key) (o : Option Octets) (in_8 : shape 42 key o ≡ true) (in_11
   ensemble_shape e f true = each_shape e f
   ensemble_shape e f false = refl
 
+  -- a place in the stated templates, by whether the section is opaque
+  stated_shape : (e f b : Bool) → shape (count_by e f) key (cond b None o) ≡ true
+  stated_shape e f true = refl
+  stated_shape e f false = each_shape e f
+
+-- a place of template 4.0, as far as it is shifted
+abbrev later : ℕ → ℕ → ℕ → Octets
+later first last k = record { first = first + k; last = last + k }
+
+module _ (key : Key) (first last : ℕ) (late : (e f : Bool) → shape (count_by e f) key (Some (later first last 2)) ≡ true)
+    (early : (e f : Bool) → shape (count_by e f) key (Some (later first last 0)) ≡ true) where
+  instant_shape : (e f a b : Bool) → shape (count_by e f) key (option_map (later first last) (cond a (Some 2) (cond b (Some 0) None))) ≡ true
+  instant_shape e f true b = late e f
+  instant_shape e f false true = early e f
+  instant_shape e f false false = refl
+
 -- a place of an interval, and of its first time range
 module _ (key : Key) (first last : ℕ) (in_8 : shape 42 key (at first last any) ≡ true) (in_11 : shape 45 key (at (first + 3) (last + 3) any) ≡ true) where
   interval_shape : (e f : Bool) → shape (count_by e f) key (cond e (at first last any) (cond f (at (first + 3) (last + 3) any) None)) ≡ true
@@ -90,9 +111,9 @@ module _ (key : Key) (first last : ℕ) (in_8 : shape 42 key (at first last any)
   range_shape e f false = interval_shape e f
 
 pub shaped : (l : Layout) (key : Key) → shape (count_octet l.template) key ((row_of key).place l) ≡ true
-shaped l Scanning = scanning_shape (count_octet l.template) (is_by_angles l.template) (is_of (10 ∷ []) l.template) (is_of (20 ∷ 30 ∷ []) l.template)
-shaped l La1 = la1_shape (count_octet l.template) (is_by_angles l.template) (is_of (10 ∷ 20 ∷ 30 ∷ []) l.template)
-shaped l Lo1 = lo1_shape (count_octet l.template) (is_by_angles l.template) (is_of (10 ∷ 20 ∷ 30 ∷ []) l.template)
+shaped l Scanning = scanning_shape (count_octet l.template) l.is_opaque (is_by_angles l.template) (is_of (10 ∷ []) l.template) (is_of (20 ∷ 30 ∷ []) l.template)
+shaped l La1 = la1_shape (count_octet l.template) l.is_opaque (is_by_angles l.template) (is_of (10 ∷ 20 ∷ 30 ∷ []) l.template)
+shaped l Lo1 = lo1_shape (count_octet l.template) l.is_opaque (is_by_angles l.template) (is_of (10 ∷ 20 ∷ 30 ∷ []) l.template)
 shaped l EnsembleType = ensemble_shape EnsembleType (at 35 35 any) refl refl refl (l.template == 8) (l.template == 11) (is_of (1 ∷ 11 ∷ []) l.template)
 shaped l EnsembleNumber = ensemble_shape EnsembleNumber (at 36 36 any) refl refl refl (l.template == 8) (l.template == 11) (is_of (1 ∷ 11 ∷ []) l.template)
 shaped l EnsembleMembers = ensemble_shape EnsembleMembers (at 37 37 any) refl refl refl (l.template == 8) (l.template == 11) (is_of (1 ∷ 11 ∷ []) l.template)
@@ -106,6 +127,40 @@ shaped l RangeProcess = range_shape RangeProcess 47 47 refl refl (l.template == 
 shaped l RangeIncrementType = range_shape RangeIncrementType 48 48 refl refl (l.template == 8) (l.template == 11) (l.ranges == 0)
 shaped l RangeUnit = range_shape RangeUnit 49 49 refl refl (l.template == 8) (l.template == 11) (l.ranges == 0)
 shaped l RangeLength = range_shape RangeLength 50 53 refl refl (l.template == 8) (l.template == 11) (l.ranges == 0)
+shaped l EarthShape = stated_shape EarthShape (at 15 15 any) refl refl refl (l.template == 8) (l.template == 11) l.is_opaque
+shaped l Ni = stated_shape Ni (at 31 34 any) refl refl refl (l.template == 8) (l.template == 11) l.is_opaque
+shaped l Nj = stated_shape Nj (at 35 38 any) refl refl refl (l.template == 8) (l.template == 11) l.is_opaque
+shaped l Bits = stated_shape Bits (at 20 20 any) refl refl refl (l.template == 8) (l.template == 11) l.is_opaque
+shaped l Process =
+    instant_shape Process 12 12 (each_shape Process (Some (later 12 12 2)) refl refl refl) (each_shape Process (Some (later 12 12 0)) refl refl refl)
+    (l.template == 8) (l.template == 11) (is_shifted l.template) (begins_as_template_0 l.template)
+shaped l Generator =
+    instant_shape Generator 14 14 (each_shape Generator (Some (later 14 14 2)) refl refl refl) (each_shape Generator (Some (later 14 14 0)) refl refl refl)
+    (l.template == 8) (l.template == 11) (is_shifted l.template) (begins_as_template_0 l.template)
+shaped l TimeUnit =
+    instant_shape TimeUnit 18 18 (each_shape TimeUnit (Some (later 18 18 2)) refl refl refl) (each_shape TimeUnit (Some (later 18 18 0)) refl refl refl)
+    (l.template == 8) (l.template == 11) (is_shifted l.template) (begins_as_template_0 l.template)
+shaped l ForecastTime =
+    instant_shape ForecastTime 19 22 (each_shape ForecastTime (Some (later 19 22 2)) refl refl refl) (each_shape ForecastTime (Some (later 19 22 0)) refl refl refl)
+    (l.template == 8) (l.template == 11) (is_shifted l.template) (begins_as_template_0 l.template)
+shaped l Surface1 =
+    instant_shape Surface1 23 23 (each_shape Surface1 (Some (later 23 23 2)) refl refl refl) (each_shape Surface1 (Some (later 23 23 0)) refl refl refl)
+    (l.template == 8) (l.template == 11) (is_shifted l.template) (begins_as_template_0 l.template)
+shaped l Surface1Scale =
+    instant_shape Surface1Scale 24 24 (each_shape Surface1Scale (Some (later 24 24 2)) refl refl refl) (each_shape Surface1Scale (Some (later 24 24 0)) refl refl refl)
+    (l.template == 8) (l.template == 11) (is_shifted l.template) (begins_as_template_0 l.template)
+shaped l Surface1Value =
+    instant_shape Surface1Value 25 28 (each_shape Surface1Value (Some (later 25 28 2)) refl refl refl) (each_shape Surface1Value (Some (later 25 28 0)) refl refl refl)
+    (l.template == 8) (l.template == 11) (is_shifted l.template) (begins_as_template_0 l.template)
+shaped l Surface2 =
+    instant_shape Surface2 29 29 (each_shape Surface2 (Some (later 29 29 2)) refl refl refl) (each_shape Surface2 (Some (later 29 29 0)) refl refl refl)
+    (l.template == 8) (l.template == 11) (is_shifted l.template) (begins_as_template_0 l.template)
+shaped l Surface2Scale =
+    instant_shape Surface2Scale 30 30 (each_shape Surface2Scale (Some (later 30 30 2)) refl refl refl) (each_shape Surface2Scale (Some (later 30 30 0)) refl refl refl)
+    (l.template == 8) (l.template == 11) (is_shifted l.template) (begins_as_template_0 l.template)
+shaped l Surface2Value =
+    instant_shape Surface2Value 31 34 (each_shape Surface2Value (Some (later 31 34 2)) refl refl refl) (each_shape Surface2Value (Some (later 31 34 0)) refl refl refl)
+    (l.template == 8) (l.template == 11) (is_shifted l.template) (begins_as_template_0 l.template)
 shaped l Discipline = refl
 shaped l key = each_shape key ((row_of key).place l) refl refl refl (l.template == 8) (l.template == 11)
 
@@ -296,10 +351,11 @@ module _ (number : ℕ) (s : List ℕ) (p : Octets) (xs : List ℕ) (within : Is
   pub put_alike : AreAlike number s t
   put_alike =
       let same : template_of number t ≡ template_of number s = template_stays number s t put_fixed in
+      let opaque : is_opaque number t ≡ is_opaque number s = opaque_stays number s t put_fixed in
       record {
         long = length-put s p.first xs within.low room;
         fixed = put_fixed;
-        layout = λ i. laid_out (same i) (put_ranges i);
+        layout = λ i. laid_out (same i) (opaque i) (put_ranges i);
       }
 
 -- a change

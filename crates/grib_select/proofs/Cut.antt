@@ -6,11 +6,12 @@ use Rattle.grib_bits.specs.Octets.{StatesItself}
 use Rattle.grib_base.specs.Rows.{first_fault, located}
 use Rattle.grib_bitmap.specs.Mask.{bitmap_indicator, bitmap_rows, mask_of, own_mask, present_count}
 use Rattle.grib_packing.specs.Packing.{value_count}
-use Rattle.grib_packing.specs.Entries.{packing_fault, data_fault}
-use Rattle.grib_base.specs.declared.profile.Profile.TheVariants.{Stated}
+use Rattle.grib_packing.specs.Entries.{packing_fault_under, data_fault}
+use Rattle.grib_base.specs.declared.profile.Profile.{Profile}
 use Rattle.grib2_sections.specs.Frame.{Placed, placed_at, section_number, may_follow, may_end}
-use Rattle.grib2_grids.specs.Grid.{grid_rows, grid_points}
-use Rattle.grib2_products.specs.Product.{product_rows}
+use Rattle.grib2_grids.specs.Grid.{grid_points}
+use Rattle.grib2_grids.specs.Opaque.{grid_rows_under}
+use Rattle.grib2_products.specs.Opaque.{product_rows_under}
 use Rattle.grib2_message.specs.View.{is_numbered, last_number, octets_in_force, points_in_force, earlier_bitmap, first_octets, own_bitmap, bitmap_mask, earlier_mask, mask_in_force, section_count}
 use Rattle.grib2_message.specs.Acceptance.{no_rows, contents_faults}
 use Rattle.grib2_message.specs.Grammar.{IsSection, AreSections}
@@ -27,26 +28,26 @@ use Rattle.grib_select.proofs.Accepted.{AreAccepted, sound_of, part_itself, coun
 -- ---- the bitmap with the bits of a field
 
 -- the last Section 6 with bits of its own
-pub record EarlierBitmap (before : List Placed) : Type 0 where
+pub record EarlierBitmap (profile : Profile) (before : List Placed) : Type 0 where
   pub first : Placed
   pub rest : List Placed
   pub is : earlier_bitmap before ≡ first ∷ rest
   pub own : bitmap_indicator first.octets ≡ 0
-  pub section : IsSection Stated rest first.start first.octets
+  pub section : IsSection profile rest first.start first.octets
   pub numbered : section_number first.octets ≡ 6
 
-behind : (s : Placed) (before : List Placed) → earlier_bitmap (s ∷ before) ≡ earlier_bitmap before → EarlierBitmap before → EarlierBitmap (s ∷ before)
-behind s before e r = record { first = r.first; rest = r.rest; is = e ∙ r.is; own = r.own; section = r.section; numbered = r.numbered }
+behind : (profile : Profile) (s : Placed) (before : List Placed) → earlier_bitmap (s ∷ before) ≡ earlier_bitmap before → EarlierBitmap profile before → EarlierBitmap profile (s ∷ before)
+behind profile s before e r = record { first = r.first; rest = r.rest; is = e ∙ r.is; own = r.own; section = r.section; numbered = r.numbered }
 
-pub earlier_accepted : (before : List Placed) → AreAccepted before → earlier_mask before ≢ None → EarlierBitmap before
-earlier_accepted [] h some = absurd (some refl)
-earlier_accepted (s ∷ before) h some =
+pub earlier_accepted : (profile : Profile) (before : List Placed) → AreAccepted profile before → earlier_mask before ≢ None → EarlierBitmap profile before
+earlier_accepted profile [] h some = absurd (some refl)
+earlier_accepted profile (s ∷ before) h some =
     elim (cases_eq (section_number s.octets) 6) [
       | inl six ↦ elim (cases_eq (bitmap_indicator s.octets) 0) [
         | inl own ↦ record { first = s; rest = before; is = bitmap_own s before six own; own = own; section = h.0; numbered = six }
-        | inr other ↦ behind s before (bitmap_not_own s before six other) (earlier_accepted before h.1 (λ none. some (earlier_not_own s before six other ∙ none)))
+        | inr other ↦ behind profile s before (bitmap_not_own s before six other) (earlier_accepted profile before h.1 (λ none. some (earlier_not_own s before six other ∙ none)))
       ]
-      | inr other ↦ behind s before (bitmap_kept s before other) (earlier_accepted before h.1 (λ none. some (earlier_kept s before other ∙ none)))
+      | inr other ↦ behind profile s before (bitmap_kept s before other) (earlier_accepted profile before h.1 (λ none. some (earlier_kept s before other ∙ none)))
     ]
 
 -- it needs no other section for its mask, which is that of the field
@@ -56,15 +57,15 @@ pub record StandsAlone (before : List Placed) (b : List ℕ) : Type 0 where
   pub rows : first_fault (bitmap_rows b (points_in_force before) (value_count (octets_in_force 5 before)) None) ≡ None
   pub mask : mask_of b (points_in_force before) None ≡ mask_in_force before
 
-module _ (before : List Placed) (h : AreAccepted before) (ends : last_number before ≡ 7) where
+module _ (profile : Profile) (before : List Placed) (h : AreAccepted profile before) (ends : last_number before ≡ 7) where
   alone_in_force : bitmap_indicator (octets_in_force 6 before) ≢ 254 → StandsAlone before (octets_in_force 6 before)
   alone_in_force other =
       let s = octets_in_force 6 before in
       let points = points_in_force before in
       let values = value_count (octets_in_force 5 before) in
-      let sound = sound_of before h in
+      let sound = sound_of profile before h in
       record {
-        itself = part_itself 6 before h (omega arith) (omega (arith, ends)) (λ e. absurd (omega arith));
+        itself = part_itself profile 6 before h (omega arith) (omega (arith, ends)) (λ e. absurd (omega arith));
         alone = other;
         rows = rows_alone s points values other None (earlier_mask before) ∙ sound.bitmap (omega (arith, ends));
         mask = mask_alone s points 0 other None (earlier_mask before) ∙ sym (sound.mask (omega (arith, ends)));
@@ -73,17 +74,17 @@ module _ (before : List Placed) (h : AreAccepted before) (ends : last_number bef
   there_is : bitmap_indicator (octets_in_force 6 before) ≡ 254 → earlier_mask before ≢ None
   there_is repeats none =
       let s = octets_in_force 6 before in
-      let rows = passes_from_none (bitmap_rows s (points_in_force before) (value_count (octets_in_force 5 before)) (earlier_mask before)) ((sound_of before h).bitmap (omega (arith, ends))) in
+      let rows = passes_from_none (bitmap_rows s (points_in_force before) (value_count (octets_in_force 5 before)) (earlier_mask before)) ((sound_of profile before h).bitmap (omega (arith, ends))) in
       let off : is_none (earlier_mask before) ≡ false = second_fails (bitmap_indicator s == 254) (is_none (earlier_mask before)) rows.1.1.0 (eq-eqb _ 254 repeats) in
       let on : is_none (earlier_mask before) ≡ true = ap is_none none in
       absurd (cc)
 
-  alone_earlier : bitmap_indicator (octets_in_force 6 before) ≡ 254 → (e : EarlierBitmap before) → StandsAlone before e.first.octets
+  alone_earlier : bitmap_indicator (octets_in_force 6 before) ≡ 254 → (e : EarlierBitmap profile before) → StandsAlone before e.first.octets
   alone_earlier repeats e =
       let s = octets_in_force 6 before in
       let points = points_in_force before in
       let values = value_count (octets_in_force 5 before) in
-      let sound = sound_of before h in
+      let sound = sound_of profile before h in
       let none : first_fault (bitmap_rows s points values (earlier_mask before)) ≡ None = sound.bitmap (omega (arith, ends)) in
       let rows = passes_from_none (bitmap_rows s points values (earlier_mask before)) none in
       let b = e.first.octets in
@@ -94,7 +95,7 @@ module _ (before : List Placed) (h : AreAccepted before) (ends : last_number bef
       let its_rows : first_fault (bitmap_rows b its_points its_values None) ≡ None =
       rows_alone b its_points its_values other None (earlier_mask e.rest)
       ∙ none_located e.first.start (first_fault (bitmap_rows b its_points its_values (earlier_mask e.rest)))
-      (sym (fault_of Stated e.rest e.first 6 e.numbered) ∙ e.section.rows_hold) in
+      (sym (fault_of profile e.rest e.first 6 e.numbered) ∙ e.section.rows_hold) in
       let told = own_tells b its_points its_values e.own its_rows in
       let force : mask_of s points (earlier_mask before) ≡ unwrap_or (earlier_mask before) [] =
       ap (λ (i : ℕ). cond (i == 255) (replicate points true) (cond (i == 254) (unwrap_or (earlier_mask before) []) (own_mask s points))) repeats in
@@ -115,32 +116,32 @@ module _ (before : List Placed) (h : AreAccepted before) (ends : last_number bef
   pub stands_alone : StandsAlone before (own_bitmap before)
   stands_alone = elim (cases_eq (bitmap_indicator (octets_in_force 6 before)) 254) [
     | inl repeats ↦
-        let e = earlier_accepted before h (there_is repeats) in
+        let e = earlier_accepted profile before h (there_is repeats) in
         subst (λ b. StandsAlone before b) (sym (own_repeated before repeats ∙ ap first_octets e.is)) (alone_earlier repeats e)
     | inr other ↦ subst (λ b. StandsAlone before b) (sym (own_alone before other)) (alone_in_force other)
   ]
 
 -- ---- Sections 3 to 7 of a field after Section 1 or 2
 
-pub stands_here : (before : List Placed) (q n : ℕ) (s : List ℕ) → StatesItself n s → IsTrue (may_follow (last_number before) n)
-    → get_or (contents_faults Stated) n no_rows before (placed_at q s) ≡ None → IsSection Stated before q s
-stands_here before q n s itself follows rows = record {
+pub stands_here : (profile : Profile) (before : List Placed) (q n : ℕ) (s : List ℕ) → StatesItself n s → IsTrue (may_follow (last_number before) n)
+    → get_or (contents_faults profile) n no_rows before (placed_at q s) ≡ None → IsSection profile before q s
+stands_here profile before q n s itself follows rows = record {
   length_stands = itself.length_stands;
   least = itself.least;
   follows = ap (may_follow (last_number before)) itself.number_stands ∙ follows;
-  rows_hold = fault_of Stated before (placed_at q s) n itself.number_stands ∙ rows;
+  rows_hold = fault_of profile before (placed_at q s) n itself.number_stands ∙ rows;
 }
 
 -- sections that no row refuses
-pub record Parts (p3 p4 p5 p6 p7 : List ℕ) : Type 0 where
+pub record Parts (profile : Profile) (p3 p4 p5 p6 p7 : List ℕ) : Type 0 where
   pub itself_3 : StatesItself 3 p3
   pub itself_4 : StatesItself 4 p4
   pub itself_5 : StatesItself 5 p5
   pub itself_6 : StatesItself 6 p6
   pub itself_7 : StatesItself 7 p7
-  pub grid : first_fault (grid_rows p3) ≡ None
-  pub product : first_fault (product_rows p4 1) ≡ None
-  pub packing : packing_fault p5 (grid_points p3) ≡ None
+  pub grid : first_fault (grid_rows_under profile p3) ≡ None
+  pub product : first_fault (product_rows_under profile p4 1) ≡ None
+  pub packing : packing_fault_under profile p5 (grid_points p3) ≡ None
   pub alone : bitmap_indicator p6 ≢ 254
   pub bitmap : first_fault (bitmap_rows p6 (grid_points p3) (value_count p5) None) ≡ None
   pub values : data_fault p5 p7 ≡ None
@@ -151,7 +152,7 @@ all_parts head q p3 p4 p5 p6 p7 =
     placed_at (q + length p3 + length p4 + length p5 + length p6) p7 ∷ placed_at (q + length p3 + length p4 + length p5) p6
     ∷ placed_at (q + length p3 + length p4) p5 ∷ placed_at (q + length p3) p4 ∷ placed_at q p3 ∷ head
 
-module _ (head : List Placed) (q : ℕ) (p3 p4 p5 p6 p7 : List ℕ) (h : Parts p3 p4 p5 p6 p7) where
+module _ (profile : Profile) (head : List Placed) (q : ℕ) (p3 p4 p5 p6 p7 : List ℕ) (h : Parts profile p3 p4 p5 p6 p7) where
   -- the places
   abbrev q4 : ℕ
   q4 = q + length p3
@@ -211,24 +212,24 @@ module _ (head : List Placed) (q : ℕ) (p3 p4 p5 p6 p7 : List ℕ) (h : Parts p
   after : (n m : ℕ) (s : List ℕ) → StatesItself n s → may_follow n m ≡ true → IsTrue (may_follow (section_number s) m)
   after n m s itself e = ap (λ (k : ℕ). may_follow k m) itself.number_stands ∙ e
 
-  pub parts_follow : IsTrue (may_follow (last_number head) 3) → section_count 4 head ≡ 0 → AreSections Stated head q (p3 ∷ p4 ∷ p5 ∷ p6 ∷ p7 ∷ [])
+  pub parts_follow : IsTrue (may_follow (last_number head) 3) → section_count 4 head ≡ 0 → AreSections profile head q (p3 ∷ p4 ∷ p5 ∷ p6 ∷ p7 ∷ [])
   parts_follow follows none =
       let count : section_count 4 (s3 ∷ head) + 1 ≡ 1 =
       ap (λ (n : ℕ). n + 1) (count_other s3 head 4 (is_not 3 4 p3 h.itself_3 (λ e. absurd (omega arith))) ∙ none) in (
-        stands_here head q 3 p3 h.itself_3 follows (ap (located q) h.grid),
+        stands_here profile head q 3 p3 h.itself_3 follows (ap (located q) h.grid),
         (
-          stands_here (s3 ∷ head) q4 4 p4 h.itself_4 (after 3 4 p3 h.itself_3 refl)
-              (ap (λ (n : ℕ). located q4 (first_fault (product_rows p4 n))) count ∙ ap (located q4) h.product),
+          stands_here profile (s3 ∷ head) q4 4 p4 h.itself_4 (after 3 4 p3 h.itself_3 refl)
+              (ap (λ (n : ℕ). located q4 (first_fault (product_rows_under profile p4 n))) count ∙ ap (located q4) h.product),
           (
-            stands_here (s4 ∷ s3 ∷ head) q5 5 p5 h.itself_5 (after 4 5 p4 h.itself_4 refl)
-                (ap (λ (n : ℕ). located q5 (packing_fault p5 n)) points_4 ∙ ap (located q5) h.packing),
+            stands_here profile (s4 ∷ s3 ∷ head) q5 5 p5 h.itself_5 (after 4 5 p4 h.itself_4 refl)
+                (ap (λ (n : ℕ). located q5 (packing_fault_under profile p5 n)) points_4 ∙ ap (located q5) h.packing),
             (
-              stands_here (s5 ∷ s4 ∷ s3 ∷ head) q6 6 p6 h.itself_6 (after 5 6 p5 h.itself_5 refl)
+              stands_here profile (s5 ∷ s4 ∷ s3 ∷ head) q6 6 p6 h.itself_6 (after 5 6 p5 h.itself_5 refl)
                   (ap (located q6)
                   ((λ i. first_fault (bitmap_rows p6 (points_5 i) (value_count (five_5 i)) (earlier_mask (s5 ∷ s4 ∷ s3 ∷ head))))
                   ∙ rows_alone p6 (grid_points p3) (value_count p5) h.alone (earlier_mask (s5 ∷ s4 ∷ s3 ∷ head)) None ∙ h.bitmap)),
               (
-                stands_here (s6 ∷ s5 ∷ s4 ∷ s3 ∷ head) q7 7 p7 h.itself_7 (after 6 7 p6 h.itself_6 refl)
+                stands_here profile (s6 ∷ s5 ∷ s4 ∷ s3 ∷ head) q7 7 p7 h.itself_7 (after 6 7 p6 h.itself_6 refl)
                     (ap (located q7) (ap (λ x. data_fault x p7) five_6 ∙ h.values)),
                 ap may_end h.itself_7.number_stands,
               ),

@@ -7,17 +7,17 @@ use Rattle.std.proofs.lemmas.List.Elements.{All-tail}
 use Rattle.grib_base.specs.Rows.{first_fault, located}
 use Rattle.grib_bitmap.specs.Mask.{bitmap_indicator, bitmap_rows, mask_of, own_mask}
 use Rattle.grib_packing.specs.Packing.{value_count}
-use Rattle.grib_packing.specs.Entries.{packing_fault, data_fault, column_from}
-use Rattle.grib_base.specs.declared.profile.Profile.TheVariants.{Stated}
+use Rattle.grib_packing.specs.Entries.{packing_fault_under, data_fault, column_from}
+use Rattle.grib_base.specs.declared.profile.Profile.{Profile}
 use Rattle.grib2_sections.specs.Frame.{Placed, placed_at, section_number, may_end}
 use Rattle.grib2_sections.specs.Head.{end_mark}
 use Rattle.grib2_grids.specs.Grid.{grid_points}
-use Rattle.grib2_products.specs.Product.{product_rows}
+use Rattle.grib2_products.specs.Opaque.{product_rows_under}
 use Rattle.grib2_message.specs.View.{last_number, octets_in_force, points_in_force, earlier_mask, mask_in_force, section_count}
-use Rattle.grib2_message.specs.Acceptance.{section_fault, contents_faults, no_rows}
-use Rattle.grib2_message.specs.Grammar.{IsSection, AreSections, Grammar2}
+use Rattle.grib2_message.specs.Acceptance.{section_fault_under, contents_faults, no_rows}
+use Rattle.grib2_message.specs.Grammar.{IsSection, AreSections, GrammarUnder}
 use Rattle.grib2_message.specs.Fields.{sections_of, field_count, field_sections, column_of}
-use Rattle.grib2_message.specs.Message.{IsMessage}
+use Rattle.grib2_message.specs.Message.{IsMessageUnder}
 use Rattle.grib2_message.proofs.Along.{Along, MayReplace, replaces, last_along, count_along, octets_along, up_to_along}
 use Rattle.grib2_message.proofs.Order.{follows_tells, in_range}
 use Rattle.grib2_message.proofs.Parted.{Parted, message_parted, message_states, message_least, IsHead, joined_grammar}
@@ -30,7 +30,7 @@ use Rattle.grib_select.specs.Changed.{with_changes, changed, with_keys}
 use Rattle.grib_select.proofs.Composed.{message_in_grammar, message_most}
 use Rattle.grib_select.proofs.Changes.{CanBeSet, changes_alike, unchanged, ready}
 use Rattle.grib_select.proofs.Sections.{section_keys}
-use Rattle.grib_select.proofs.Stand.{is_fixed, AreAlike, alike_octets, alike_identification, alike_grid, alike_product, points_3}
+use Rattle.grib_select.proofs.Stand.{is_fixed, AreAlike, alike_octets, alike_identification, alike_grid_under, alike_product_under, points_3}
 use Rattle.grib_select.proofs.Within.{has_keys, head_within}
 
 -- the changes can be made
@@ -118,35 +118,35 @@ masks_same (s ∷ before) (t ∷ others) h =
 
 -- ---- the rows of a section with its changes
 
-module _ (before others : List Placed) (q : ℕ) (s t : List ℕ) (is : IsSection Stated before q s) (along : Along Fits before others) (f : Fits (placed_at q s) (placed_at q t)) where
-  as_number : (n : ℕ) → section_number s ≡ n → get_or (contents_faults Stated) n no_rows before (placed_at q s) ≡ None
-  as_number n e = sym (fault_of Stated before (placed_at q s) n e) ∙ is.rows_hold
+module _ (profile : Profile) (before others : List Placed) (q : ℕ) (s t : List ℕ) (is : IsSection profile before q s) (along : Along Fits before others) (f : Fits (placed_at q s) (placed_at q t)) where
+  as_number : (n : ℕ) → section_number s ≡ n → get_or (contents_faults profile) n no_rows before (placed_at q s) ≡ None
+  as_number n e = sym (fault_of profile before (placed_at q s) n e) ∙ is.rows_hold
 
   like : (n : ℕ) → section_number s ≡ n → AreAlike n s t
   like n e = subst (λ (k : ℕ). AreAlike k s t) e f.alike
 
-  rows_by : (n : ℕ) → section_number s ≡ n → get_or (contents_faults Stated) n no_rows others (placed_at q t) ≡ get_or (contents_faults Stated) n no_rows before (placed_at q s)
-      → section_fault others (placed_at q t) ≡ None
-  rows_by n e same = fault_of Stated others (placed_at q t) n (f.numbered ∙ e) ∙ same ∙ as_number n e
+  rows_by : (n : ℕ) → section_number s ≡ n → get_or (contents_faults profile) n no_rows others (placed_at q t) ≡ get_or (contents_faults profile) n no_rows before (placed_at q s)
+      → section_fault_under profile others (placed_at q t) ≡ None
+  rows_by n e same = fault_of profile others (placed_at q t) n (f.numbered ∙ e) ∙ same ∙ as_number n e
 
-  rows_of : (n : ℕ) → section_number s ≡ n → 1 ≤ n → n ≤ 7 → section_fault others (placed_at q t) ≡ None
+  rows_of : (n : ℕ) → section_number s ≡ n → 1 ≤ n → n ≤ 7 → section_fault_under profile others (placed_at q t) ≡ None
   rows_of n e low high = elim (cases_eq n 1) [
     | inl one ↦ (let e' : section_number s ≡ 1 = e ∙ one in rows_by 1 e' (ap (λ rows. located q (first_fault rows)) (alike_identification s t (like 1 e'))))
     | inr not_1 ↦ elim (cases_eq n 2) [
       | inl two ↦ rows_by 2 (e ∙ two) refl
       | inr not_2 ↦ elim (cases_eq n 3) [
-        | inl three ↦ (let e' : section_number s ≡ 3 = e ∙ three in rows_by 3 e' (ap (λ rows. located q (first_fault rows)) (alike_grid s t (like 3 e'))))
+        | inl three ↦ (let e' : section_number s ≡ 3 = e ∙ three in rows_by 3 e' (ap (λ rows. located q (first_fault rows)) (alike_grid_under profile s t (like 3 e'))))
         | inr not_3 ↦ elim (cases_eq n 4) [
           | inl four ↦
               let e' : section_number s ≡ 4 = e ∙ four in
-              rows_by 4 e' (ap (λ (k : ℕ). located q (first_fault (product_rows t (k + 1)))) (count_along Fits fits_number 4 before others along)
-              ∙ ap (λ rows. located q (first_fault rows)) (alike_product s t (section_count 4 before + 1) (like 4 e')))
+              rows_by 4 e' (ap (λ (k : ℕ). located q (first_fault (product_rows_under profile t (k + 1)))) (count_along Fits fits_number 4 before others along)
+              ∙ ap (λ rows. located q (first_fault rows)) (alike_product_under profile s t (section_count 4 before + 1) (like 4 e')))
           | inr not_4 ↦ elim (cases_eq n 5) [
             | inl five ↦
                 let e' : section_number s ≡ 5 = e ∙ five in
                 let same : t ≡ s = f.same (inr (inl e')) in
                 let points = points_same before others along in
-                rows_by 5 e' (λ i. located q (packing_fault (same i) (points i)))
+                rows_by 5 e' (λ i. located q (packing_fault_under profile (same i) (points i)))
             | inr not_5 ↦ elim (cases_eq n 6) [
               | inl six ↦
                   let e' : section_number s ≡ 6 = e ∙ six in
@@ -167,7 +167,7 @@ module _ (before others : List Placed) (q : ℕ) (s t : List ℕ) (is : IsSectio
     ]
   ]
 
-  may_replace : MayReplace Stated others q s t
+  may_replace : MayReplace profile others q s t
   may_replace =
       let n = section_number s in
       let range = in_range (last_number before) n (follows_tells (last_number before) n is.follows) in
@@ -179,11 +179,11 @@ module _ (before others : List Placed) (q : ℕ) (s t : List ℕ) (is : IsSectio
       }
 
 -- a section with changes fits it
-changed_fits : (changes : List Change) (before : List Placed) (q : ℕ) (s : List ℕ) → CanBeSet changes → IsSection Stated before q s → Fits (placed_at q s) (placed_at q (changed changes s))
-changed_fits changes before q s set is =
+changed_fits : (profile : Profile) (changes : List Change) (before : List Placed) (q : ℕ) (s : List ℕ) → CanBeSet changes → IsSection profile before q s → Fits (placed_at q s) (placed_at q (changed changes s))
+changed_fits profile changes before q s set is =
     let n = section_number s in
     let range = in_range (last_number before) n (follows_tells (last_number before) n is.follows) in
-    let alike = changes_alike changes n s (ready n s (section_keys before (placed_at q s) n refl range.0 range.1 is.rows_hold)) set in
+    let alike = changes_alike changes n s (ready n s (section_keys profile before (placed_at q s) n refl range.0 range.1 is.rows_hold)) set in
     record {
       numbered = alike_octets n 5 5 s (changed changes s) alike (omega arith) (omega arith) (fixed_number n);
       alike = alike;
@@ -192,22 +192,22 @@ changed_fits changes before q s set is =
 
 -- ---- all sections
 
-pub record Rebuilt (changes : List Change) (others : List Placed) (q p : ℕ) (sections : List (List ℕ)) : Type 0 where
-  pub follow : AreSections Stated others p (map (changed changes) sections)
+pub record Rebuilt (profile : Profile) (changes : List Change) (others : List Placed) (q p : ℕ) (sections : List (List ℕ)) : Type 0 where
+  pub follow : AreSections profile others p (map (changed changes) sections)
   pub along : Along Fits (placed_from q sections) (placed_from p (map (changed changes) sections))
   pub long : length (concat (map (changed changes) sections)) ≡ length (concat sections)
 
-pub rebuilt : (changes : List Change) (sections : List (List ℕ)) (before others : List Placed) (q : ℕ) → CanBeSet changes → AreSections Stated before q sections → Along Fits before others
-    → Rebuilt changes others q q sections
-rebuilt changes [] before others q set follow along = record { follow = ap may_end (last_along Fits fits_number before others along) ∙ follow; along = tt; long = refl }
-rebuilt changes (s ∷ sections) before others q set follow along =
+pub rebuilt : (profile : Profile) (changes : List Change) (sections : List (List ℕ)) (before others : List Placed) (q : ℕ) → CanBeSet changes → AreSections profile before q sections → Along Fits before others
+    → Rebuilt profile changes others q q sections
+rebuilt profile changes [] before others q set follow along = record { follow = ap may_end (last_along Fits fits_number before others along) ∙ follow; along = tt; long = refl }
+rebuilt profile changes (s ∷ sections) before others q set follow along =
     let t = changed changes s in
-    let f = changed_fits changes before q s set follow.0 in
-    let rest = rebuilt changes sections (placed_at q s ∷ before) (placed_at q t ∷ others) (q + length s) set follow.1 (f, along) in
+    let f = changed_fits profile changes before q s set follow.0 in
+    let rest = rebuilt profile changes sections (placed_at q s ∷ before) (placed_at q t ∷ others) (q + length s) set follow.1 (f, along) in
     let place : q + length s ≡ q + length t = ap (λ (n : ℕ). q + n) (sym f.alike.long) in
-    let there = subst (λ (p : ℕ). Rebuilt changes (placed_at q t ∷ others) (q + length s) p sections) place rest in
+    let there = subst (λ (p : ℕ). Rebuilt profile changes (placed_at q t ∷ others) (q + length s) p sections) place rest in
     record {
-      follow = (replaces Stated before others q q s t (last_along Fits fits_number before others along) follow.0 (may_replace before others q s t follow.0 along f), there.follow);
+      follow = (replaces profile before others q q s t (last_along Fits fits_number before others along) follow.0 (may_replace profile before others q s t follow.0 along f), there.follow);
       along = (f, there.along);
       long = length-append t (concat (map (changed changes) sections)) ∙ ap₂ (λ (m n : ℕ). m + n) f.alike.long rest.long ∙ sym (length-append s (concat sections));
     }
@@ -233,16 +233,16 @@ changed_each changes q p (s ∷ sections) h =
 
 -- ---- the message
 
-module _ (m : List ℕ) (changes : List Change) (h : IsMessage m) (set : CanBeSet changes) where
-  old : Parted Stated m [] 17 (length m)
-  old = message_parted Stated m h
+module _ (profile : Profile) (m : List ℕ) (changes : List Change) (h : IsMessageUnder profile m) (set : CanBeSet changes) where
+  old : Parted profile m [] 17 (length m)
+  old = message_parted profile m h
 
-  again : (p : Parted Stated m [] 17 (length m)) → Rebuilt changes [] 17 17 p.sections
-  again p = rebuilt changes p.sections [] [] 17 set p.follow tt
+  again : (p : Parted profile m [] 17 (length m)) → Rebuilt profile changes [] 17 17 p.sections
+  again p = rebuilt profile changes p.sections [] [] 17 set p.follow tt
 
   head : IsHead (with_changes changes 0 (take 16 m)) (length m)
   head =
-      let least = message_least Stated m h in
+      let least = message_least profile m h in
       let s = take 16 m in
       let sixteen : length s ≡ 16 = length-take-le 16 m (omega arith) in
       let alike = changes_alike changes 0 s (ready 0 s (has_keys 0 s (head_within s (omega arith)) (λ e. omega (arith, e)))) set in
@@ -253,22 +253,22 @@ module _ (m : List ℕ) (changes : List Change) (h : IsMessage m) (set : CanBeSe
         edition_stands = alike_octets 0 8 8 s t alike (omega arith) (omega arith) refl
             ∙ octets_of_front m 16 8 8 (omega arith) (omega arith) (omega arith) ∙ h.edition_stands;
         total_stands = alike_octets 0 9 16 s t alike (omega arith) (omega arith) refl
-            ∙ octets_of_front m 16 9 16 (omega arith) (omega arith) (omega arith) ∙ message_states Stated m h;
+            ∙ octets_of_front m 16 9 16 (omega arith) (omega arith) (omega arith) ∙ message_states profile m h;
       }
 
-  grammar : (p : Parted Stated m [] 17 (length m)) → Grammar2 (with_keys m changes) (map (changed changes) p.sections)
+  grammar : (p : Parted profile m [] 17 (length m)) → GrammarUnder profile (with_keys m changes) (map (changed changes) p.sections)
   grammar p =
       let r = again p in
       let first = with_changes changes 0 (take 16 m) in
-      let total : 16 + length (concat (map (changed changes) p.sections)) + 4 ≡ length m = omega (arith, r.long, p.ends, message_states Stated m h) in
+      let total : 16 + length (concat (map (changed changes) p.sections)) + 4 ≡ length m = omega (arith, r.long, p.ends, message_states profile m h) in
       let is : with_keys m changes ≡ first ++ (concat (map (changed changes) p.sections) ++ end_mark) =
       ap (λ (xs : List (List ℕ)). first ++ (concat xs ++ end_mark))
       (ap (map (λ s. changed changes s.octets)) p.found ∙ changed_placed changes 17 p.sections) in
-      subst (λ (x : List ℕ). Grammar2 x (map (changed changes) p.sections)) (sym is)
-      (joined_grammar Stated first (map (changed changes) p.sections) (subst (λ (n : ℕ). IsHead first n) (sym total) head) (omega (arith, total, message_most m h)) r.follow)
+      subst (λ (x : List ℕ). GrammarUnder profile x (map (changed changes) p.sections)) (sym is)
+      (joined_grammar profile first (map (changed changes) p.sections) (subst (λ (n : ℕ). IsHead first n) (sym total) head) (omega (arith, total, message_most profile m h)) r.follow)
 
-  pub changed_accepted : IsMessage (with_keys m changes)
-  changed_accepted = message_in_grammar (with_keys m changes) (map (changed changes) old.sections) (grammar old)
+  pub changed_accepted : IsMessageUnder profile (with_keys m changes)
+  changed_accepted = message_in_grammar profile (with_keys m changes) (map (changed changes) old.sections) (grammar old)
 
   -- the sections of both go along one another
   pub sections_along : Along Fits (sections_of m) (sections_of (with_keys m changes))
@@ -276,7 +276,7 @@ module _ (m : List ℕ) (changes : List Change) (h : IsMessage m) (set : CanBeSe
       let p = old in
       subst (λ (xs : List Placed). Along Fits xs (sections_of (with_keys m changes))) (sym p.found)
       (subst (λ (xs : List Placed). Along Fits (placed_from 17 p.sections) xs)
-      (sym (sections_alone Stated (with_keys m changes) (map (changed changes) p.sections) (grammar p))) (again p).along)
+      (sym (sections_alone profile (with_keys m changes) (map (changed changes) p.sections) (grammar p))) (again p).along)
 
   pub changed_fields : field_count (with_keys m changes) ≡ field_count m
   changed_fields = count_along Fits fits_number 7 (sections_of m) (sections_of (with_keys m changes)) sections_along
@@ -300,4 +300,4 @@ module _ (m : List ℕ) (changes : List Change) (h : IsMessage m) (set : CanBeSe
       up_to_along (IsChanged changes) (changed_number changes) i [] [] (sections_of m) (sections_of (with_keys m changes)) tt
       (subst (λ (xs : List Placed). Along (IsChanged changes) xs (sections_of (with_keys m changes))) (sym p.found)
       (subst (λ (xs : List Placed). Along (IsChanged changes) (placed_from 17 p.sections) xs)
-      (sym (sections_alone Stated (with_keys m changes) (map (changed changes) p.sections) (grammar p))) both))
+      (sym (sections_alone profile (with_keys m changes) (map (changed changes) p.sections) (grammar p))) both))

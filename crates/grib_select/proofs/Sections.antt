@@ -5,16 +5,16 @@ use Rattle.std.proofs.lemmas.Bool.{cases_eq}
 use Rattle.std.proofs.lemmas.List.{take_rest, drop_all}
 use borrow.Rule.Slice.PartMut.{put_mid, post_of}
 use Rattle.grib_base.specs.Rows.{first_fault}
-use Rattle.grib_packing.specs.Entries.{packing_fault}
+use Rattle.grib_packing.specs.Entries.{packing_fault_under}
 use Rattle.grib_bits.specs.Encoding.{octets_of}
-use Rattle.grib_base.specs.declared.profile.Profile.TheVariants.{Stated}
+use Rattle.grib_base.specs.declared.profile.Profile.{Profile}
 use Rattle.grib2_sections.specs.Frame.{Placed, placed_at, section_number}
 use Rattle.grib2_sections.specs.Identification.{identification_rows}
 use Rattle.grib_bits.proofs.Encoding.{length-octets_of}
-use Rattle.grib2_grids.specs.Grid.{grid_rows}
-use Rattle.grib2_products.specs.Product.{product_rows}
+use Rattle.grib2_grids.specs.Opaque.{grid_rows_under}
+use Rattle.grib2_products.specs.Opaque.{product_rows_under}
 use Rattle.grib2_message.specs.View.{points_in_force, section_count}
-use Rattle.grib2_message.specs.Acceptance.{section_fault}
+use Rattle.grib2_message.specs.Acceptance.{section_fault_under}
 use Rattle.grib2_message.proofs.Sound.{none_located, fault_of}
 use Rattle.grib_keys.specs.declared.key.Key.{Key}
 use Rattle.grib_keys.specs.declared.key.Key.TheVariants.{Discipline}
@@ -47,25 +47,25 @@ none_there n s nowhere other = record {
   counted = λ e. absurd (other e);
 }
 
-pub section_keys : (before : List Placed) (p : Placed) (n : ℕ) → section_number p.octets ≡ n → 1 ≤ n → n ≤ 7 → section_fault before p ≡ None → HasKeys n p.octets
-section_keys before p n is low high none =
+pub section_keys : (profile : Profile) (before : List Placed) (p : Placed) (n : ℕ) → section_number p.octets ≡ n → 1 ≤ n → n ≤ 7 → section_fault_under profile before p ≡ None → HasKeys n p.octets
+section_keys profile before p n is low high none =
     let s = p.octets in
     let P : ℕ → Type 0 = λ k. HasKeys k s in
-    let fault = λ (k : ℕ) (e : n ≡ k). sym (fault_of Stated before p k (is ∙ e)) ∙ none in
+    let fault = λ (k : ℕ) (e : n ≡ k). sym (fault_of profile before p k (is ∙ e)) ∙ none in
     elim (cases_eq n 1) [
       | inl e ↦ subst P (sym e) (has_keys 1 s (identification_within s (none_located p.start (first_fault (identification_rows s)) (fault 1 e))) (λ f. omega (arith, f)))
       | inr not_1 ↦ elim (cases_eq n 2) [
         | inl e ↦ subst P (sym e) (none_there 2 s nowhere_2 (λ f. omega (arith, f)))
         | inr not_2 ↦ elim (cases_eq n 3) [
-          | inl e ↦ subst P (sym e) (has_keys 3 s (grid_within s (none_located p.start (first_fault (grid_rows s)) (fault 3 e))) (λ f. omega (arith, f)))
+          | inl e ↦ subst P (sym e) (has_keys 3 s (grid_within profile s (none_located p.start (first_fault (grid_rows_under profile s)) (fault 3 e))) (λ f. omega (arith, f)))
           | inr not_3 ↦ elim (cases_eq n 4) [
             | inl e ↦
-                subst P (sym e) (product_has_keys s (section_count 4 before + 1)
-                (none_located p.start (first_fault (product_rows s (section_count 4 before + 1))) (fault 4 e)))
+                subst P (sym e) (product_has_keys profile s (section_count 4 before + 1)
+                (none_located p.start (first_fault (product_rows_under profile s (section_count 4 before + 1))) (fault 4 e)))
             | inr not_4 ↦ elim (cases_eq n 5) [
               | inl e ↦
-                  subst P (sym e) (has_keys 5 s (packing_within s (points_in_force before)
-                  (none_located p.start (packing_fault s (points_in_force before)) (fault 5 e))) (λ f. omega (arith, f)))
+                  subst P (sym e) (has_keys 5 s (packing_within profile s (points_in_force before)
+                  (none_located p.start (packing_fault_under profile s (points_in_force before)) (fault 5 e))) (λ f. omega (arith, f)))
               | inr not_5 ↦ elim (cases_eq n 6) [
                 | inl e ↦ subst P (sym e) (none_there 6 s nowhere_6 (λ f. omega (arith, f)))
                 | inr not_6 ↦ (let e : n ≡ 7 = omega arith in subst P (sym e) (none_there 7 s nowhere_7 (λ f. omega (arith, f))))

@@ -5,14 +5,19 @@ use Rattle.std.specs.List.{range_with_len}
 use Rattle.std.proofs.lemmas.Bool.{cases_eq}
 use Rattle.grib_bits.specs.Octets.{octets, octet_list, num_on}
 use Rattle.grib_base.specs.declared.fault.Reason.TheVariants.{SectionLength, GridSource, GridTemplate, PointCount, ListShape, FieldCount, ProductTemplate}
+use Rattle.grib_base.specs.declared.profile.Profile.{Profile}
+use Rattle.grib_base.specs.declared.profile.Profile.TheVariants.{Stated, Open}
 use Rattle.grib_base.specs.Rows.{Row, row}
 use Rattle.grib_base.specs.declared.limits.TheConstants.{MOST_POINTS}
 use Rattle.grib2_sections.specs.Template.{is_template, least_length}
 use Rattle.grib2_sections.specs.Identification.{identification_rows}
 use Rattle.grib2_grids.specs.Grid.{grid_rows, grid_points, grid_template, grid_templates, list_octets, list_start, row_list, ni, nj, may_have_list}
+use Rattle.grib2_grids.specs.Opaque.{is_opaque_grid, grid_rows_under}
+use Rattle.grib2_products.specs.Opaque.{is_opaque_product, opaque_least, product_rows_under}
+use Rattle.grib_packing.specs.Entries.{is_packing, is_opaque_packing}
 use Rattle.grib2_products.specs.Product.{product_rows, product_templates, time_ranges}
 use Rattle.grib_keys.specs.declared.table.Layout.{Layout}
-use Rattle.grib_select.specs.Values.{template_of, layout_of}
+use Rattle.grib_select.specs.Values.{template_of, is_opaque, layout_of}
 
 -- whether octets a to b are outside the octets first to last
 abbrev pub outside : ℕ → ℕ → ℕ → ℕ → Bool
@@ -68,6 +73,31 @@ template_stays number s t h = elim (cases_eq number 3) [
       | inr not_5 ↦
           let other : (u : List ℕ) → template_of number u ≡ 0 =
           λ u. λ i. cond (ne_eqb number 3 not_3 i) (octets u 13 14) (cond (ne_eqb number 4 not_4 i) (octets u 8 9) (cond (ne_eqb number 5 not_5 i) (octets u 10 11) 0)) in
+          other t ∙ sym (other s)
+    ]
+  ]
+]
+
+-- whether the section is opaque
+pub opaque_stays : (number : ℕ) (s t : List ℕ) → KeepsFixed number s t → is_opaque number t ≡ is_opaque number s
+opaque_stays number s t h = elim (cases_eq number 3) [
+  | inl e ↦
+      subst (λ (n : ℕ). KeepsFixed n s t → is_opaque n t ≡ is_opaque n s) (sym e)
+      (λ k.
+      let source : octets t 6 6 ≡ octets s 6 6 = ap (num_on 0) (k 6 6 (omega arith) (omega arith) refl) in
+      let template : octets t 13 14 ≡ octets s 13 14 = ap (num_on 0) (k 13 14 (omega arith) (omega arith) refl) in
+      λ i. not (source i == 0) || not (is_template grid_templates (template i))) h
+  | inr not_3 ↦ elim (cases_eq number 4) [
+    | inl e ↦
+        subst (λ (n : ℕ). KeepsFixed n s t → is_opaque n t ≡ is_opaque n s) (sym e)
+        (λ k. ap (λ (xs : List ℕ). not (is_template product_templates (num_on 0 xs))) (k 8 9 (omega arith) (omega arith) refl)) h
+    | inr not_4 ↦ elim (cases_eq number 5) [
+      | inl e ↦
+          subst (λ (n : ℕ). KeepsFixed n s t → is_opaque n t ≡ is_opaque n s) (sym e)
+          (λ k. ap (λ (xs : List ℕ). not (is_packing (num_on 0 xs))) (k 10 11 (omega arith) (omega arith) refl)) h
+      | inr not_5 ↦
+          let other : (u : List ℕ) → is_opaque number u ≡ false =
+          λ u. λ i. cond (ne_eqb number 3 not_3 i) (is_opaque_grid u) (cond (ne_eqb number 4 not_4 i) (is_opaque_product u) (cond (ne_eqb number 5 not_5 i) (is_opaque_packing u) false)) in
           other t ∙ sym (other s)
     ]
   ]
@@ -160,6 +190,18 @@ alike_grid s t h =
     let meaning = alike_octets 3 12 12 s t h (omega arith) (omega arith) refl in
     λ i. grid_by (h.long i) (source i) (template_3 s t h i) (points_3 s t h i) (size_3 s t h i) (meaning i) (ni_3 s t h i) (nj_3 s t h i) (list_3 s t h i)
 
+-- under a profile
+opaque_grid_by : ℕ → ℕ → List Row
+opaque_grid_by l points = row (nat_lt l 14) 1 SectionLength l ∷ row (points == 0 || nat_lt MOST_POINTS points) 7 PointCount points ∷ []
+
+pub alike_grid_under : (profile : Profile) (s t : List ℕ) → AreAlike 3 s t → grid_rows_under profile t ≡ grid_rows_under profile s
+unfolding opaque_grid_by
+alike_grid_under Stated s t h = alike_grid s t h
+alike_grid_under Open s t h =
+    let opaque : is_opaque_grid t ≡ is_opaque_grid s = ap (λ (l : Layout). l.is_opaque) h.layout in
+    let rows = alike_grid s t h in
+    λ i. cond (opaque i) (opaque_grid_by (h.long i) (points_3 s t h i)) (rows i)
+
 -- ---- Section 4
 
 product_by : ℕ → ℕ → ℕ → ℕ → ℕ → List Row
@@ -178,3 +220,17 @@ alike_product s t n h =
     let coordinates = alike_octets 4 6 7 s t h (omega arith) (omega arith) refl in
     let ranges : time_ranges t ≡ time_ranges s = ap (λ (l : Layout). l.ranges) h.layout in
     λ i. product_by (h.long i) (template i) n (coordinates i) (ranges i)
+
+-- under a profile
+opaque_product_by : ℕ → ℕ → ℕ → List Row
+opaque_product_by l t n =
+    row (nat_lt l 9) 1 SectionLength l ∷ row (n == 4097) 1 FieldCount 4097 ∷ row (nat_lt l (opaque_least t)) 1 SectionLength l ∷ []
+
+pub alike_product_under : (profile : Profile) (s t : List ℕ) (n : ℕ) → AreAlike 4 s t → product_rows_under profile t n ≡ product_rows_under profile s n
+unfolding opaque_product_by
+alike_product_under Stated s t n h = alike_product s t n h
+alike_product_under Open s t n h =
+    let opaque : is_opaque_product t ≡ is_opaque_product s = ap (λ (l : Layout). l.is_opaque) h.layout in
+    let template = alike_octets 4 8 9 s t h (omega arith) (omega arith) refl in
+    let rows = alike_product s t n h in
+    λ i. cond (opaque i) (opaque_product_by (h.long i) (template i) n) (rows i)

@@ -4,10 +4,11 @@ use Rattle.std.specs.Prelude.{All, AllPairs, option_map}
 use Rattle.std.specs.List.{range_with_len}
 use Rattle.std.proofs.lemmas.Bool.{cases_eq, eqb-false}
 use Rattle.grib_base.specs.Rows.{choose}
-use Rattle.grib_base.specs.declared.profile.Profile.TheVariants.{Stated}
+use Rattle.grib_base.specs.declared.profile.Profile.{Profile}
 use Rattle.grib2_message.specs.Fields.{field_count, field_sections, part_octets}
-use Rattle.grib2_message.specs.Message.{IsMessage, FieldPasses}
+use Rattle.grib2_message.specs.Message.{IsMessageUnder, FieldPassesUnder}
 use Rattle.grib2_message.proofs.Along.{octets_along}
+use Rattle.grib2_message.proofs.Opened.{field_opened}
 use Rattle.grib2_message.proofs.Parted.{message_least}
 use Rattle.grib_keys.specs.declared.key.Key.{Key}
 use Rattle.grib_keys.specs.declared.key.Key.TheVariants.{Discipline}
@@ -93,11 +94,11 @@ pub record Changed (m : List ℕ) (changes : List Change) (i n : ℕ) : Type 0 w
   pub is : key_section (with_keys m changes) i n ≡ with_changes changes n (key_section m i n)
   pub ready : IsReady n (key_section m i n)
 
-module _ (m : List ℕ) (changes : List Change) (h : IsMessage m) (set : CanBeSet changes) (i : ℕ) (low : 1 ≤ i) (high : i ≤ field_count m) where
-  passes : FieldPasses m i
+module _ (profile : Profile) (m : List ℕ) (changes : List Change) (h : IsMessageUnder profile m) (set : CanBeSet changes) (i : ℕ) (low : 1 ≤ i) (high : i ≤ field_count m) where
+  passes : FieldPassesUnder profile m i
   passes =
-      let up = field_up_to m i h low high in
-      let sound = sound_of (field_sections m i) up.accepted in
+      let up = field_up_to profile m i h low high in
+      let sound = sound_of profile (field_sections m i) up.accepted in
       record {
         identification = sound.identification (omega (arith, up.ends));
         grid = sound.grid (omega (arith, up.ends));
@@ -109,7 +110,7 @@ module _ (m : List ℕ) (changes : List Change) (h : IsMessage m) (set : CanBeSe
   in_head : Changed m changes i 0
   in_head =
       let s = take 16 m in
-      let least = message_least Stated m h in
+      let least = message_least profile m h in
       let keys = ready 0 s (has_keys 0 s (head_within s (omega (arith, length-take-le 16 m (omega arith)))) (λ e. omega (arith, e))) in
       let alike = changes_alike changes 0 s keys set in
       record {
@@ -122,19 +123,19 @@ module _ (m : List ℕ) (changes : List Change) (h : IsMessage m) (set : CanBeSe
 
   in_part : (n : ℕ) → n ≢ 0 → n ≢ 2 → n ≤ 5 → Changed m changes i n
   in_part n not_0 not_2 few =
-      let up = field_up_to m i h low high in
+      let up = field_up_to profile m i h low high in
       let s = part_octets m i n in
       let w = with_keys m changes in
-      let itself = part_itself n (field_sections m i) up.accepted (omega arith) (omega (arith, up.ends)) not_2 in
+      let itself = part_itself profile n (field_sections m i) up.accepted (omega arith) (omega (arith, up.ends)) not_2 in
       let like = octets_along (IsChanged changes) (changed_number changes) n (λ xs ys. (ys ≡ with_changes changes n xs) ⊎ (xs ≡ [])) (inr refl)
-      (λ x y f e. inl (f.is ∙ ap (λ (k : ℕ). with_changes changes k x.octets) e)) (field_sections m i) (field_sections w i) (changed_along m changes h set i) in
+      (λ x y f e. inl (f.is ∙ ap (λ (k : ℕ). with_changes changes k x.octets) e)) (field_sections m i) (field_sections w i) (changed_along profile m changes h set i) in
       let is : part_octets w i n ≡ with_changes changes n s = elim like [
         | inl e ↦ e
         | inr none ↦ (let long = ap length none in absurd (omega (arith, itself.least)))
       ] in
       record {
         is = as_part n w not_0 ∙ is ∙ ap (with_changes changes n) (sym (as_part n m not_0));
-        ready = subst (λ (x : List ℕ). IsReady n x) (sym (as_part n m not_0)) (ready n s (part_keys m i n passes few not_2 not_0));
+        ready = subst (λ (x : List ℕ). IsReady n x) (sym (as_part n m not_0)) (ready n s (part_keys m i n (field_opened profile m i passes) few not_2 not_0));
       }
 
   in_section : (key : Key) → Changed m changes i (row_of key).section

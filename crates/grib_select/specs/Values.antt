@@ -14,7 +14,10 @@ use Rattle.grib_keys.specs.declared.table.Octets.{Octets}
 use Rattle.grib_keys.specs.declared.table.Kind.{Kind}
 use Rattle.grib_keys.specs.Keys.{row_of}
 use Rattle.grib_keys.specs.Wanted.{Holds, holds}
+use Rattle.grib_packing.specs.Entries.{is_opaque_packing}
+use Rattle.grib2_grids.specs.Opaque.{is_opaque_grid}
 use Rattle.grib2_products.specs.Product.{time_ranges}
+use Rattle.grib2_products.specs.Opaque.{is_opaque_product}
 use Rattle.grib2_message.specs.Fields.{part_octets}
 
 -- the section with this number that is in force for field i; Section 0 is the same for all fields
@@ -35,9 +38,15 @@ ranges_of number s = cond (number == 4) (time_ranges s) 0
 abbrev pub count_octet : ℕ → ℕ
 count_octet template = cond (template == 8) 42 (cond (template == 11) 45 0)
 
+-- whether a section with this number is opaque: its template is not stated, or octets 13-14 of Section 3 do not
+-- define the grid; Sections 0 and 1 have no template
+abbrev pub is_opaque : ℕ → List ℕ → Bool
+is_opaque number s =
+    cond (number == 3) (is_opaque_grid s) (cond (number == 4) (is_opaque_product s) (cond (number == 5) (is_opaque_packing s) false))
+
 -- the layout of a section with this number
 abbrev pub layout_of : ℕ → List ℕ → Layout
-layout_of number s = record { template = template_of number s; ranges = ranges_of number s }
+layout_of number s = record { template = template_of number s; is_opaque = is_opaque number s; ranges = ranges_of number s }
 
 -- how many octets a number has
 abbrev pub octet_count : Octets → ℕ

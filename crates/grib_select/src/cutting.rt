@@ -2,7 +2,7 @@
 
 ghost use Rattle.std.specs.Prelude.{◌≡◌, ◌+◌, ◌≤◌, length, IfOk};
 ghost use Rattle.grib2_message.specs.Fields.{field_count};
-ghost use Rattle.grib2_message.specs.Message.{IsMessage};
+ghost use Rattle.grib2_message.specs.Message.{IsAnyMessage};
 ghost use Rattle.grib_select.specs.Single as definitions;
 ghost use Rattle.grib_select.specs.Single.{first_parts, single_of};
 
@@ -39,7 +39,7 @@ pub fn single(alloc: Global, message: &Message<'_>, field: u32) -> Result<Vec<u8
 
 /// The number of octets of that message.
 fn single_length(message: &Message<'_>, field: u32) -> u64
-    requires message { IsMessage message.now }
+    requires message { IsAnyMessage message.now }
     requires first { 1 ≤ field }
     requires last { field ≤ field_count message.now }
     ensures { result ≡ 16 + length (first_parts message.now field 7) + 4 }
@@ -53,7 +53,7 @@ fn single_length(message: &Message<'_>, field: u32) -> u64
 
 /// What stands in it for the section with this number, nothing where Section 2 is absent.
 fn field_part<'a>(message: &Message<'a>, field: u32, number: u8) -> &'a [u8]
-    requires message { IsMessage message.now }
+    requires message { IsAnyMessage message.now }
     requires first { 1 ≤ field }
     requires last { field ≤ field_count message.now }
     requires low { 1 ≤ number }

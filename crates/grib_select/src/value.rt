@@ -10,7 +10,10 @@ ghost use Rattle.grib_select.specs.Values.{key_value_of, HasKeys, IsWithin, octe
 use crate::number::is_all_ones;
 use grib_bits::{signed_of, u16_at, uint_at};
 use grib_keys::{Key, Kind, Layout, Octets, Value};
+use grib_packing::is_opaque;
+use grib2_grids::is_opaque_grid;
 use grib2_message::Message;
+use grib2_products::is_opaque_product;
 
 /// The value that a key has in a field, counted from 1: the number at its place in the section that is in
 /// force for the field, or missing; `None` exactly where the section has no such key by its template and the
@@ -70,14 +73,32 @@ fn ranges_of(number: u8, template: u16, section: &[u8]) -> u8
     }
 }
 
+/// Whether a section with this number is opaque. Sections 0 and 1 never are.
+fn is_opaque_section(number: u8, section: &[u8]) -> bool
+    requires { HasKeys number section.now }
+    ensures { result ≡ definitions.is_opaque number section.now }
+{
+    match number {
+        3 => is_opaque_grid(section),
+        4 => is_opaque_product(section),
+        5 => is_opaque(section),
+        _ => false,
+    }
+}
+
 /// The layout of a section with this number.
 fn layout_of(number: u8, section: &[u8]) -> Layout
     requires { HasKeys number section.now }
     ensures { result ≡ definitions.layout_of number section.now }
 {
     let template = template_of(number, section);
+    let is_opaque = is_opaque_section(number, section);
     let ranges = ranges_of(number, template, section);
-    Layout { template, ranges }
+    Layout {
+        template,
+        is_opaque,
+        ranges,
+    }
 }
 
 /// Where the key stands in a section with its number, `None` where the section lacks it.

@@ -7,7 +7,7 @@ use Rattle.grib_base.specs.Reason.{name_of}
 use Rattle.grib_dyadic.specs.Reference.{Binary}
 use Rattle.grib_text.specs.Words.{filled_decimal}
 use Rattle.grib2_message.specs.declared.summary.FieldSummary.{FieldSummary}
-use Rattle.grib_text.specs.Lines.{reference_line, time_of, time_text, origin_of, grid_of, product_of, product_text, packing_of, summary_line}
+use Rattle.grib_text.specs.Lines.{reference_line, time_of, time_text, origin_of, grid_of, instant_of, product_text, known_bits, packing_of, summary_line}
 use Rattle.grib_text.specs.Notes.{refusal_text}
 
 refusal_text-regroup : (a b c d : List ℕ) → a ++ (codes " octet " ++ (b ++ (codes " " ++ (c ++ (codes " " ++ (d ++ 10 ∷ [])))))) ≡ a ++ codes " octet " ++ b ++ codes " " ++ c ++ codes " " ++ d ++ 10 ∷ []
@@ -61,14 +61,13 @@ time_of-pieces y m d h i s ys ms ds hs is ss t =
 summary_line-regroup : (m i o g p k : List ℕ) → m ++ (codes "." ++ (i ++ (codes " ed=2 " ++ (o ++ (codes " " ++ (g ++ (codes " " ++ (p ++ (codes " " ++ (k ++ 10 ∷ [])))))))))) ≡ m ++ codes "." ++ i ++ codes " ed=2 " ++ o ++ codes " " ++ g ++ codes " " ++ p ++ codes " " ++ k ++ 10 ∷ []
 summary_line-regroup m i o g p k = simp append_assoc
 
-pub summary_line-pieces : (m i : ℕ) (s : FieldSummary) (o g p k : List ℕ) → o ≡ origin_of s.identification.centre (time_text s.identification) → g ≡ grid_of s.grid s.points → p ≡ product_text s → k ≡ packing_of s.packing s.bits s.values
+pub summary_line-pieces : (m i : ℕ) (s : FieldSummary) (o g p k : List ℕ) → o ≡ origin_of s.identification.centre (time_text s.identification) → g ≡ grid_of s.grid s.points → p ≡ product_text s → k ≡ packing_of s.packing (known_bits s) s.values
     → decimal m ++ (codes "." ++ (decimal i ++ (codes " ed=2 " ++ (o ++ (codes " " ++ (g ++ (codes " " ++ (p ++ (codes " " ++ (k ++ 10 ∷ [])))))))))) ≡ summary_line s m i
 summary_line-pieces m i s o g p k e f h j =
-    rw (e, f, h, j) (summary_line-regroup (decimal m) (decimal i) (origin_of s.identification.centre (time_text s.identification)) (grid_of s.grid s.points) (product_text s) (packing_of s.packing s.bits s.values))
+    rw (e, f, h, j) (summary_line-regroup (decimal m) (decimal i) (origin_of s.identification.centre (time_text s.identification)) (grid_of s.grid s.points) (product_text s) (packing_of s.packing (known_bits s) s.values))
 
-product_of-regroup : (t p u a s : List ℕ) → codes "product=4." ++ (t ++ (codes " param=" ++ (p ++ (codes " unit=" ++ (u ++ (codes " ahead=" ++ (a ++ (codes " surface=" ++ s)))))))) ≡ codes "product=4." ++ t ++ codes " param=" ++ p ++ codes " unit=" ++ u ++ codes " ahead=" ++ a ++ codes " surface=" ++ s
-product_of-regroup t p u a s = simp append_assoc
+instant_of-regroup : (u a s : List ℕ) → codes "unit=" ++ (u ++ (codes " ahead=" ++ (a ++ (codes " surface=" ++ s)))) ≡ codes "unit=" ++ u ++ codes " ahead=" ++ a ++ codes " surface=" ++ s
+instant_of-regroup u a s = simp append_assoc
 
-pub product_of-pieces : (template : ℕ) (p : List ℕ) (unit : ℕ) (x ahead : ℤ) (s : List ℕ) → x ≡ ahead → codes "product=4." ++ (decimal template ++ (codes " param=" ++ (p ++ (codes " unit=" ++ (decimal unit ++ (codes " ahead=" ++ (signed_decimal x ++ (codes " surface=" ++ s)))))))) ≡ product_of template p unit ahead s
-product_of-pieces template p unit x ahead s e =
-    rw e (product_of-regroup (decimal template) p (decimal unit) (signed_decimal ahead) s)
+pub instant_of-pieces : (unit : ℕ) (x ahead : ℤ) (s : List ℕ) → x ≡ ahead → codes "unit=" ++ (decimal unit ++ (codes " ahead=" ++ (signed_decimal x ++ (codes " surface=" ++ s)))) ≡ instant_of unit ahead s
+instant_of-pieces unit x ahead s e = rw e (instant_of-regroup (decimal unit) (signed_decimal ahead) s)

@@ -1,8 +1,10 @@
 -- The lines that `check`, `list` and `dump` print, with their newline (10).
-use Rattle.std.specs.Prelude.{ℕ, ◌+◌, Option, List, [], ◌∷◌, ◌++◌, codes, ℤ}
+use Rattle.std.specs.Prelude.{ℕ, ◌+◌, cond, Option, Some, None, option_map, List, [], ◌∷◌, ◌++◌, codes, ℤ}
 use Rattle.std.specs.Fmt.{decimal, signed_decimal}
 use Rattle.grib_bits.specs.Bits.{bits_of, signed}
 use Rattle.grib_dyadic.specs.Reference.{Binary}
+use Rattle.grib2_products.specs.Opaque.{instant_shift}
+use Rattle.grib_packing.specs.Entries.{is_packing}
 use Rattle.grib_packing.specs.declared.column.Point.{Point}
 use Rattle.grib_packing.specs.declared.column.Point.TheVariants.{Scaled, Missing, Missing2}
 use Rattle.grib2_sections.specs.declared.identification.Identification.{Identification}
@@ -52,20 +54,34 @@ origin_of centre time = codes "centre=" ++ decimal centre ++ codes " time=" ++ t
 abbrev pub grid_of : ℕ → ℕ → List ℕ
 grid_of template points = codes "grid=3." ++ decimal template ++ codes " points=" ++ decimal points
 
--- the template, the text of the parameter, the forecast time with its unit, and the text of the surface
-abbrev pub product_of : ℕ → List ℕ → ℕ → ℤ → List ℕ → List ℕ
-product_of template parameter unit ahead surface =
-    codes "product=4." ++ decimal template ++ codes " param=" ++ parameter
-    ++ codes " unit=" ++ decimal unit ++ codes " ahead=" ++ signed_decimal ahead ++ codes " surface=" ++ surface
+-- the forecast time with its unit, and the text of the surface
+abbrev pub instant_of : ℕ → ℤ → List ℕ → List ℕ
+instant_of unit ahead surface =
+    codes "unit=" ++ decimal unit ++ codes " ahead=" ++ signed_decimal ahead ++ codes " surface=" ++ surface
 
--- the product; the forecast time has its sign in the first of 32 bits
+-- what a product that begins as template 4.0 says of time and surface; the forecast time has its sign in the
+-- first of 32 bits
+abbrev pub instant_text : FieldSummary → Option (List ℕ)
+instant_text s =
+    option_map (λ shift. instant_of s.unit (signed (bits_of 32 s.time)) (surface_text s)) (instant_shift s.product)
+
+-- the template, the text of the parameter, and that of time and surface where the template has them
+abbrev pub product_of : ℕ → List ℕ → Option (List ℕ) → List ℕ
+product_of template parameter None = codes "product=4." ++ decimal template ++ codes " param=" ++ parameter
+product_of template parameter (Some instant) =
+    codes "product=4." ++ decimal template ++ codes " param=" ++ parameter ++ codes " " ++ instant
+
 abbrev pub product_text : FieldSummary → List ℕ
-product_text s =
-    product_of s.product (parameter_of s.discipline s.category s.number) s.unit (signed (bits_of 32 s.time)) (surface_text s)
+product_text s = product_of s.product (parameter_of s.discipline s.category s.number) (instant_text s)
 
--- the template, the bits of each number and how many values there are
-abbrev pub packing_of : ℕ → ℕ → ℕ → List ℕ
-packing_of template bits values =
+-- the bits of each number, which an opaque packing does not tell
+abbrev pub known_bits : FieldSummary → Option ℕ
+known_bits s = cond (is_packing s.packing) (Some s.bits) None
+
+-- the template, the bits of each number where they are known, and how many values there are
+abbrev pub packing_of : ℕ → Option ℕ → ℕ → List ℕ
+packing_of template None values = codes "packing=5." ++ decimal template ++ codes " values=" ++ decimal values
+packing_of template (Some bits) values =
     codes "packing=5." ++ decimal template ++ codes " bits=" ++ decimal bits ++ codes " values=" ++ decimal values
 
 -- of field i of message m, by what describes it
@@ -73,7 +89,7 @@ abbrev pub summary_line : FieldSummary → ℕ → ℕ → List ℕ
 summary_line s m i =
     decimal m ++ codes "." ++ decimal i ++ codes " ed=2 " ++ origin_of s.identification.centre (time_text s.identification)
     ++ codes " " ++ grid_of s.grid s.points ++ codes " " ++ product_text s
-    ++ codes " " ++ packing_of s.packing s.bits s.values ++ 10 ∷ []
+    ++ codes " " ++ packing_of s.packing (known_bits s) s.values ++ 10 ∷ []
 
 -- of field i of message m
 abbrev pub list_line : List ℕ → ℕ → ℕ → List ℕ

@@ -1,6 +1,7 @@
 //! The grid and the packing of a field.
 
 ghost use Rattle.std.specs.Prelude.{◌≡◌, Some};
+ghost use Rattle.grib_packing.specs.Entries.{is_packing};
 ghost use Rattle.grib_text.specs.Lines as lines;
 
 use grib2_message::FieldSummary;
@@ -35,11 +36,11 @@ impl fmt::Display for Grid {
     }
 }
 
-/// A packing: its template, the bits of each number, and how many values it has.
+/// A packing: its template, the bits of each number unless it is opaque, and how many values it has.
 #[derive(Clone, Copy, Debug)]
 pub(crate) struct Packing {
     template: u16,
-    bits: u8,
+    bits: Option<u8>,
     values: u32,
 }
 
@@ -47,12 +48,12 @@ impl Packing {
     /// The packing of a field.
     pub(crate) fn of(summary: &FieldSummary) -> Self
         ensures template { result.template ≡ summary.now.packing }
-        ensures bits { result.bits ≡ summary.now.bits }
+        ensures bits { result.bits ≡ lines.known_bits summary.now }
         ensures values { result.values ≡ summary.now.values }
     {
         Packing {
             template: summary.packing,
-            bits: summary.bits,
+            bits: is_stated(summary.packing).then_some(summary.bits),
             values: summary.values,
         }
     }
@@ -67,6 +68,16 @@ impl fmt::Display for Packing {
             bits,
             values,
         } = *self;
-        write!(f, "packing=5.{template} bits={bits} values={values}")
+        match bits {
+            Some(bits) => write!(f, "packing=5.{template} bits={bits} values={values}"),
+            None => write!(f, "packing=5.{template} values={values}"),
+        }
     }
+}
+
+/// Whether a packing with this template (code table 5.0) is not opaque.
+fn is_stated(template: u16) -> bool
+    ensures { result ≡ is_packing template }
+{
+    matches!(template, 0 | 2 | 3)
 }

@@ -1,29 +1,30 @@
 //! What a field is of, for when and where.
 
-ghost use Rattle.std.specs.Prelude.{◌≡◌, Some};
+ghost use Rattle.std.specs.Prelude.{◌≡◌, Some, option_map};
 ghost use Rattle.grib_text.specs.Lines as lines;
 
 use crate::missing::OrMissing;
 use grib_bits::signed_of;
 use grib2_message::FieldSummary;
+use grib2_products::instant_shift;
 use std::fmt;
 
-/// A product: its template, what it is of, and for when and where.
+/// A product: its template, what it is of, and for when and where, if the template is known to say that as
+/// template 4.0 does.
 #[derive(Clone, Copy, Debug)]
 pub(crate) struct Product {
     template: u16,
     parameter: Parameter,
-    unit: u8,
-    ahead: i64,
-    surface: Surface,
+    instant: Option<Instant>,
 }
 
 impl Product {
     /// The product of a field.
     pub(crate) fn of(summary: &FieldSummary) -> Self
         ensures { lines.product_of result.template (lines.parameter_of result.parameter.discipline
-            result.parameter.category result.parameter.number) result.unit result.ahead
-            (lines.surface_of result.surface.kind.0 result.surface.scale.0 result.surface.value.0)
+            result.parameter.category result.parameter.number)
+            (option_map (λ i. lines.instant_of i.unit i.ahead
+            (lines.surface_of i.surface.kind.0 i.surface.scale.0 i.surface.value.0)) result.instant)
             ≡ lines.product_text summary.now }
     {
         Product {
@@ -33,13 +34,7 @@ impl Product {
                 category: summary.category,
                 number: summary.number,
             },
-            unit: summary.unit,
-            ahead: signed_of(u64::from(summary.time), 32),
-            surface: Surface {
-                kind: OrMissing::octet(summary.surface),
-                scale: OrMissing::signed_octet(summary.scale),
-                value: OrMissing::word(summary.value),
-            },
+            instant: Instant::of(summary),
         }
     }
 }
@@ -47,20 +42,61 @@ impl Product {
 impl fmt::Display for Product {
     ghost output = { λ p. Some (lines.product_of p.template
         (lines.parameter_of p.parameter.discipline p.parameter.category p.parameter.number)
-        p.unit p.ahead (lines.surface_of p.surface.kind.0 p.surface.scale.0 p.surface.value.0)) };
+        (option_map (λ i. lines.instant_of i.unit i.ahead
+        (lines.surface_of i.surface.kind.0 i.surface.scale.0 i.surface.value.0)) p.instant)) };
 
     fn fmt<W: fmt::Write>(&self, f: &mut fmt::Formatter<W>) -> fmt::Result {
         let Product {
             template,
             parameter,
+            instant,
+        } = *self;
+        match instant {
+            Some(instant) => write!(f, "product=4.{template} param={parameter} {instant}"),
+            None => write!(f, "product=4.{template} param={parameter}"),
+        }
+    }
+}
+
+/// For when and where a product is: its forecast time with the unit, and its first fixed surface.
+#[derive(Clone, Copy, Debug)]
+struct Instant {
+    unit: u8,
+    ahead: i64,
+    surface: Surface,
+}
+
+impl Instant {
+    /// That of a field, `None` where the product is not known to have it.
+    fn of(summary: &FieldSummary) -> Option<Self>
+        ensures { option_map (λ i. lines.instant_of i.unit i.ahead
+            (lines.surface_of i.surface.kind.0 i.surface.scale.0 i.surface.value.0)) result
+            ≡ lines.instant_text summary.now }
+    {
+        instant_shift(summary.product)?;
+        Some(Instant {
+            unit: summary.unit,
+            ahead: signed_of(u64::from(summary.time), 32),
+            surface: Surface {
+                kind: OrMissing::octet(summary.surface),
+                scale: OrMissing::signed_octet(summary.scale),
+                value: OrMissing::word(summary.value),
+            },
+        })
+    }
+}
+
+impl fmt::Display for Instant {
+    ghost output = { λ i. Some (lines.instant_of i.unit i.ahead
+        (lines.surface_of i.surface.kind.0 i.surface.scale.0 i.surface.value.0)) };
+
+    fn fmt<W: fmt::Write>(&self, f: &mut fmt::Formatter<W>) -> fmt::Result {
+        let Instant {
             unit,
             ahead,
             surface,
         } = *self;
-        write!(
-            f,
-            "product=4.{template} param={parameter} unit={unit} ahead={ahead} surface={surface}"
-        )
+        write!(f, "unit={unit} ahead={ahead} surface={surface}")
     }
 }
 

@@ -1,4 +1,4 @@
-use Rattle.std.proofs.Common.{◌≡◌, List, ℕ, length, refl, sym, ap, ◌∙◌, arith}
+use Rattle.std.proofs.Common.{◌≡◌, List, ℕ, None, length, refl, sym, ap, ◌∙◌, arith}
 use Rattle.grib_base.specs.Rows.{first_fault_at, located}
 use Rattle.grib2_grids.specs.Grid.{grid_points}
 use Rattle.grib2_sections.specs.Identification.{identification_rows}
@@ -7,8 +7,10 @@ use Rattle.grib2_message.specs.Summary.{summary_of}
 use Rattle.grib2_products.specs.Product.{product_template}
 use Rattle.grib2_products.specs.Opaque.{instant_shift}
 use Rattle.grib2_products.proofs.Under.{product_parameter_length, product_instant_length}
+use Rattle.grib_packing.specs.Entries.{is_opaque_packing, packing_fault}
 use Rattle.grib_packing.proofs.Packings.{packing_passes}
-use Rattle.grib_base.specs.declared.profile.Profile.TheVariants.{Stated}
+use Rattle.grib_packing.proofs.OpaquePackings.{known_under, passes_under}
+use Rattle.grib_base.specs.declared.profile.Profile.TheVariants.{Open}
 use Rattle.grib2_message.proofs.summary.field_summary.Goals as goal
 
 pub with_identification-requires : goal.with_identification-requires
@@ -26,15 +28,23 @@ with_product-requires c =
     let passes = c.part_in-3.ensures.passes.product in
     let long = ap length is in
     record {
-      least = omega (arith, product_parameter_length Stated s4 1 passes, long);
-      instant = λ shift has. omega (arith, product_instant_length Stated s4 1 shift passes (ap (λ (s : List ℕ). instant_shift (product_template s)) (sym is) ∙ has), long);
+      least = omega (arith, product_parameter_length Open s4 1 passes, long);
+      instant = λ shift has. omega (arith, product_instant_length Open s4 1 shift passes (ap (λ (s : List ℕ). instant_shift (product_template s)) (sym is) ∙ has), long);
     }
 
 pub with_representation-requires : goal.with_representation-requires
 with_representation-requires c =
-    let least = (packing_passes (part_octets c.args.message.now c.args.field 5) (grid_points (part_octets c.args.message.now c.args.field 3)) c.part_in-4.ensures.passes.packing).long in
-    let long = ap length c.part_in-4.ensures.octets in
-    record { least = omega (arith, least, long); known = λ known. omega (arith, least, long) }
+    let s5 = part_octets c.args.message.now c.args.field 5 in
+    let points = grid_points (part_octets c.args.message.now c.args.field 3) in
+    let passes = c.part_in-4.ensures.passes.packing in
+    let is = c.part_in-4.ensures.octets in
+    let long = ap length is in
+    record {
+      least = omega (arith, (passes_under Open s5 points passes).long, long);
+      known = λ known.
+          let stated : packing_fault s5 points ≡ None = sym (known_under Open s5 points (ap is_opaque_packing (sym is) ∙ known)) ∙ passes in
+          omega (arith, (packing_passes s5 points stated).long, long);
+    }
 
 pub returns : goal.returns
 returns c =

@@ -1,6 +1,6 @@
 use Rattle.std.proofs.Common.{◌≡◌, ◌-◌, ◌++◌, List, map}
 use Rattle.std.specs.List.{concat}
-use Rattle.grib_base.specs.declared.profile.Profile.TheVariants.{Stated}
+use Rattle.grib_base.specs.declared.profile.Profile.TheVariants.{Open}
 use Rattle.grib2_sections.specs.Head.{end_mark}
 use Rattle.grib2_sections.specs.Frame.{Placed}
 use Rattle.grib2_message.proofs.Ahead.{Ahead}
@@ -11,7 +11,7 @@ use Rattle.grib_select.proofs.changing.write_changed.Given as goal
 abbrev pub invariant-loop-section : goal.invariant-loop-section
 invariant-loop-section l = record {
   left : List Placed;
-  ahead : Ahead Stated l.octets l.frame left;
+  ahead : Ahead Open l.octets l.frame left;
   written : l.out.items ++ (concat (map (λ s. changed l.changes s.octets) left) ++ end_mark) ≡ with_keys l.message l.changes;
 }
 

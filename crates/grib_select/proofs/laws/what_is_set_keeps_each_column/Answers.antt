@@ -4,8 +4,8 @@ use Rattle.grib_select.proofs.laws.what_is_set_keeps_each_column.Goals as goal
 
 pub returns : goal.returns
 returns c = record {
-  accepted = λ m changes h set. changed_accepted m changes h (can_be_set changes set);
-  fields = λ m changes h set. changed_fields m changes h (can_be_set changes set);
-  columns = λ m changes i h set. changed_column m changes h (can_be_set changes set) i;
-  values = λ m changes i h set once none low high. all_told m changes h (can_be_set changes set) i low high none (stand_once changes once);
+  accepted = λ profile m changes h set. changed_accepted profile m changes h (can_be_set changes set);
+  fields = λ profile m changes h set. changed_fields profile m changes h (can_be_set changes set);
+  columns = λ profile m changes i h set. changed_column profile m changes h (can_be_set changes set) i;
+  values = λ profile m changes i h set once none low high. all_told profile m changes h (can_be_set changes set) i low high none (stand_once changes once);
 }

@@ -10,8 +10,8 @@ pub returns-clause-kept : goal.returns-clause-kept
 returns-clause-kept c =
     let m = c.self.inside.octets.now in
     let last = subst (λ (x : List ℕ). c.args.field ≤ field_count x) (sym c.self.view_is) c.requires.last in
-    subst (λ (x : List ℕ). IsField x (field_sections x c.args.field) c.index-result.result.now) c.self.view_is
-    (field_kept c.self.invariant.profile m c.self.inside.fields.items c.self.invariant.keeps c.args.field c.requires.first last _ c.index-result.ensures)
+    subst (λ (x : List ℕ). IsField x (field_sections x c.args.field) c.index.result.now) c.self.view_is
+    (field_kept c.self.invariant.profile m c.self.inside.fields.items c.self.invariant.keeps c.args.field c.requires.first last _ c.index.ensures)
 
 pub returns-clause-passes : goal.returns-clause-passes
 returns-clause-passes c =
@@ -19,4 +19,4 @@ returns-clause-passes c =
     let last = subst (λ (x : List ℕ). c.args.field ≤ field_count x) (sym c.self.view_is) c.requires.last in
     subst (λ (x : List ℕ). AnyFieldPasses x c.args.field) c.self.view_is
     (field_opened c.self.invariant.profile m c.args.field
-    (field_passes c.self.invariant.profile m c.self.inside.fields.items c.self.invariant.keeps c.args.field c.requires.first last _ c.index-result.ensures))
+    (field_passes c.self.invariant.profile m c.self.inside.fields.items c.self.invariant.keeps c.args.field c.requires.first last _ c.index.ensures))
