@@ -192,7 +192,7 @@ module _ (text : List ℕ) (table : Entries) (matching : TableMatch) (keep any :
       let passes = accepted.passes table matching keep any message i may in
       let few = accepted.few_words table matching keep any message i may in
       let stands = may_stand s3 words passes.grid kept.product.template kept.shape.numbers kept.shape.rows few (is_listed s3) refl in
-      grid_same (grid2.grid_points s3) b s3 (back.grid_back table matching keep any message i may) (small 3) kept.product.template (back.holds table matching keep any message i may).grid
+      grid_same (grid2.grid_points s3) b s3 (back.grid_back table matching keep any message i may) (small 3) kept.product.template (back.grid_whole table matching keep any message i may)
       (type_stands (length words) _ _ _ _ _ _ _ _ stands)
 
   points_key : octets w3 7 10 ≡ octets (part 3) 7 10
@@ -236,7 +236,7 @@ module _ (text : List ℕ) (table : Entries) (matching : TableMatch) (keep any :
       by : (x : Bool) → is_interval (part 4) ≡ x → SameInterval w4 (part 4)
       by true on =
           let h = back.holds table matching keep any message i may in
-          with_interval told bitmapped (part 1) (part 4) (part 5) local (coordinates1.coordinate_list b) target kept.times.interval (small 1) h.identification (small 4) h.product.long kept.times.date
+          with_interval told bitmapped (part 1) (part 4) (part 5) local (coordinates1.coordinate_list b) target kept.times.interval (small 1) h.identification (small 4) (back.product_whole table matching keep any message i may).long kept.times.date
           kept.times.unit refl template on
       by false off = no_interval w4 (part 4) (template ∙ instant_template off) (instant_template off)
 
@@ -258,7 +258,7 @@ module _ (text : List ℕ) (table : Entries) (matching : TableMatch) (keep any :
       let x4 = part_octets new 1 4 in
       let h = back.holds table matching keep any message i may in
       let long_1 = h.identification in
-      let long_4 = h.product.least in
+      let long_4 = (back.product_whole table matching keep any message i may).least in
       let centred = centre_small s1 kept.product.centre in
       let interval = kept.times.interval in
       let has = not-false (has_process s4) kept.times.process in
